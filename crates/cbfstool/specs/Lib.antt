@@ -1,0 +1,5 @@
+pub mod Numbers
+pub mod Output
+pub mod Rows
+pub mod Seen
+pub mod Outcomes

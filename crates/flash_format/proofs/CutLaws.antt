@@ -1,0 +1,93 @@
+-- A region is its cells joined, and a rest, in one way.
+use Rattle.std.proofs.Common.{◌≡◌, ℕ, zero, suc, ◌%◌, ◌<◌, ◌≤◌, List, [], ◌∷◌, ◌++◌, length, take, drop, sym, ◌∙◌, ap, subst, refl, arith, All, append_assoc, length-append, length-drop, take-append-drop}
+use Rattle.std.specs.List.{concat}
+use Rattle.std.proofs.lemmas.List.{take_at, drop_at, take-take, take_all, length-take-le}
+use Rattle.std.proofs.lemmas.List.Elements.{All-nil, All-cons, All-head, All-tail}
+use Rattle.flash_format.specs.Entry.{Entry, absent, damaged, cell, entry}
+use Rattle.flash_format.specs.Cut.{Cut, End, complete, tail, damage, ends, after, cut, IsCell, EndsAt, IsCut}
+use Rattle.flash_format.proofs.CutSteps.{cell_span, cut_empty, cut_absent, cut_damaged, cut_cell}
+use Rattle.flash_format.proofs.EntryLaws.{entry_alike}
+
+-- a cell in front of anything
+cell_before : (c z : List ℕ) → IsCell c → entry (c ++ z) ≡ cell (length c)
+cell_before c z is =
+    entry_alike c (c ++ z) (length c) is (omega arith) (omega (arith, length-append c z)) (take_all (length c) c (omega arith) ∙ sym (take_at c z (length c) refl))
+
+-- the front of what begins with a cell is that cell
+front_cell : (x : List ℕ) (span : ℕ) → entry x ≡ cell span → span ≤ length x → IsCell (take span x)
+front_cell x span is fits =
+    let len : length (take span x) ≡ span = length-take-le span x fits in
+    subst (λ n. entry (take span x) ≡ cell n) (sym len)
+    (entry_alike x (take span x) span is fits (omega (arith, len)) (sym (take-take span span x (omega arith))))
+
+cut_before : (c z : List ℕ) → IsCell c → cut (c ++ z) ≡ after c (cut z)
+cut_before c z is =
+    let long : 64 ≤ length c = (cell_span c (length c) is).positive in
+    cut_cell (c ++ z) (length c) (omega (arith, long, length-append c z)) (cell_before c z is)
+    ∙ ap (λ (l : List ℕ). after l (cut (drop (length c) (c ++ z)))) (take_at c z (length c) refl)
+    ∙ ap (λ (l : List ℕ). after c (cut l)) (drop_at c z (length c) refl)
+
+-- what ends the cells is the cut of the rest
+cut_rest : (rest : List ℕ) (e : End) → EndsAt rest e → cut rest ≡ ends e
+cut_rest rest complete at = cut_empty rest (ap (λ (l : List ℕ). length l) at)
+cut_rest rest tail at = cut_absent rest at.0 at.1
+cut_rest rest (damage kind) at = cut_damaged rest kind at.0 at.1
+
+pub cut_unique : (x : List ℕ) (cells : List (List ℕ)) (rest : List ℕ) (e : End) → IsCut x cells rest e → cut x ≡ record { cells = cells; end = e }
+cut_unique x cells rest e is = ap (λ (l : List ℕ). cut l) is.whole ∙ go cells is.each
+  where
+    go : (all : List (List ℕ)) → All IsCell all → cut (concat all ++ rest) ≡ record { cells = all; end = e }
+    go [] each = cut_rest rest e is.last
+    go (c ∷ all) each =
+        ap (λ (l : List ℕ). cut l) (append_assoc c (concat all) rest)
+        ∙ cut_before c (concat all ++ rest) (All-head IsCell c all each)
+        ∙ ap (λ (l : Cut). after c l) (go all (All-tail IsCell c all each))
+
+-- ---- every region has a cut
+
+record SomeCut (x : List ℕ) : Type 0 where
+  cells : List (List ℕ)
+  rest : List ℕ
+  end : End
+  is : IsCut x cells rest end
+
+no_cells : (x : List ℕ) (e : End) → EndsAt x e → SomeCut x
+no_cells x e at = record { cells = []; rest = x; end = e; is = record { whole = refl; each = All-nil IsCell; last = at } }
+
+behind_cell : (x : List ℕ) (span : ℕ) → entry x ≡ cell span → span ≤ length x → SomeCut (drop span x) → SomeCut x
+behind_cell x span is fits behind = record {
+  cells = take span x ∷ behind.cells;
+  rest = behind.rest;
+  end = behind.end;
+  is = record {
+    whole = sym (take-append-drop span x) ∙ ap (λ (l : List ℕ). take span x ++ l) behind.is.whole ∙ sym (append_assoc (take span x) (concat behind.cells) behind.rest);
+    each = All-cons IsCell (take span x) behind.cells (front_cell x span is fits) behind.is.each;
+    last = behind.is.last;
+  };
+}
+
+-- by what stands at the front, given a cut of what is behind a cell
+by_front : (x : List ℕ) → 0 < length x → length x % 64 ≡ 0 → ((span : ℕ) → 64 ≤ span → span % 64 ≡ 0 → span ≤ length x → SomeCut (drop span x)) → (e : Entry) → entry x ≡ e → SomeCut x
+by_front x some whole behind absent is = no_cells x tail (some, is)
+by_front x some whole behind (damaged kind) is = no_cells x (damage kind) (some, is)
+by_front x some whole behind (cell span) is =
+    let s = cell_span x span is in
+    let fits : span ≤ length x = s.inside whole in
+    behind_cell x span is fits (behind span s.positive s.whole fits)
+
+shorter : (x : List ℕ) (span bound : ℕ) → 64 ≤ span → span ≤ length x → length x ≤ suc bound → length (drop span x) ≤ bound
+shorter x span bound some fits below = omega (arith, length-drop span x)
+
+within : (bound : ℕ) (x : List ℕ) → length x ≤ bound → length x % 64 ≡ 0 → SomeCut x
+within bound [] below whole = no_cells [] complete refl
+within zero (b ∷ x) below whole = absurd (omega arith)
+within (suc bound) (b ∷ x) below whole =
+    by_front (b ∷ x) (omega arith) whole
+    (λ span some multiple fits. within bound (drop span (b ∷ x)) (shorter (b ∷ x) span bound some fits below) (omega (arith, length-drop span (b ∷ x), multiple)))
+    (entry (b ∷ x)) refl
+
+pub cut_exists : (x : List ℕ) → length x % 64 ≡ 0 → (rest : List ℕ) × IsCut x (cut x).cells rest (cut x).end
+cut_exists x whole =
+    let some = within (length x) x (omega arith) whole in
+    let same = cut_unique x some.cells some.rest some.end some.is in
+    (some.rest, subst (λ (c : Cut). IsCut x c.cells some.rest c.end) (sym same) some.is)

@@ -1,0 +1,164 @@
+-- How a cut goes on from cell to cell, whatever bounded its recursion.
+use Rattle.std.proofs.Common.{◌≡◌, ℕ, zero, suc, pred, ◌+◌, ◌%◌, ◌<◌, ◌≤◌, Bool, true, false, cond, List, [], ◌∷◌, length, take, drop, Option, Some, None, Result, Ok, Err, refl, sym, ap, ◌∙◌, arith, ltb, not, ◌&&◌, ◌⊎◌, inl, inr}
+use Rattle.std.proofs.lemmas.Bool.{ltb-false}
+use Rattle.flash_format.specs.declared.head.Head.{Head}
+use Rattle.flash_format.specs.declared.head.Extent.{Extent}
+use Rattle.flash_format.specs.declared.head.DamageKind.{DamageKind}
+use Rattle.flash_format.specs.declared.head.DamageKind.TheVariants as kinds
+use Rattle.flash_format.specs.Head.{head_of, head_at, is_free, attributes_misplaced, checked, round64}
+use Rattle.flash_format.specs.Entry.{Entry, absent, damaged, cell, entry, present, under, front, component}
+use Rattle.flash_format.specs.Cut.{Cut, complete, tail, damage, ends, after, by_entry, cut, cut_after}
+
+-- what is known of the length of a cell
+pub record IsSpan (x : List ℕ) (span : ℕ) : Type 0 where
+  pub positive : 64 ≤ span
+  pub whole : span % 64 ≡ 0
+  pub inside : length x % 64 ≡ 0 → span ≤ length x
+
+-- what the checks of a head say where all of them pass
+pub record IsChecked (h : Head) (left : ℕ) (e : Extent) : Type 0 where
+  pub front : 24 ≤ h.offset
+  pub behind : is_free h ≡ false → 25 ≤ h.offset
+  pub placed : is_free h ≡ false → attributes_misplaced h ≡ false
+  pub inside : h.offset + h.len ≤ left
+  pub content : e.content ≡ h.offset
+  pub span : e.span ≡ round64 (h.offset + h.len)
+
+chosen : {A : Type 0} (b : Bool) (x y z : A) → cond b x y ≡ z → ((b ≡ true) × (x ≡ z)) ⊎ ((b ≡ false) × (y ≡ z))
+chosen true x y z e = inl (refl, e)
+chosen false x y z e = inr (refl, e)
+
+-- a test that did not fail
+abbrev refused : DamageKind → Result Extent DamageKind
+refused k = Err k
+
+passed : (b : Bool) (k : DamageKind) (r : Result Extent DamageKind) (e : Extent) → cond b (refused k) r ≡ Ok e → (b ≡ false) × (r ≡ Ok e)
+passed true k r e h = absurd cc
+passed false k r e h = (refl, h)
+
+extent_is : (d e : Extent) → (let r : Result Extent DamageKind = Ok d in r) ≡ Ok e → d ≡ e
+extent_is d e h = cc
+
+least : (free : Bool) (n : ℕ) → ltb n (cond free 24 25) ≡ false → 24 ≤ n
+least true n e = ltb-false _ _ e
+least false n e = let h : 25 ≤ n = ltb-false _ _ e in omega arith
+
+least_behind : (free : Bool) (n : ℕ) → free ≡ false → ltb n (cond free 24 25) ≡ false → 25 ≤ n
+least_behind true n f e = absurd cc
+least_behind false n f e = ltb-false _ _ e
+
+rest_fails : (free b : Bool) → free ≡ false → (not free && b) ≡ false → b ≡ false
+rest_fails true b f e = absurd cc
+rest_fails false b f e = e
+
+pub checked_ok : (h : Head) (left : ℕ) (e : Extent) → checked h left ≡ Ok e → IsChecked h left e
+unfolding checked
+checked_ok h left e ok =
+    let a = passed (ltb h.offset (cond (is_free h) 24 25)) kinds.Offset _ e ok in
+    let b = passed (not (is_free h) && attributes_misplaced h) kinds.AttrOffset _ e a.1 in
+    let d = passed (ltb left (h.offset + h.len)) kinds.Extent _ e b.1 in
+    let same = extent_is _ e d.1 in
+    record {
+      front = least (is_free h) h.offset a.0;
+      behind = λ f. least_behind (is_free h) h.offset f a.0;
+      placed = λ f. rest_fails (is_free h) (attributes_misplaced h) f b.0;
+      inside = ltb-false _ _ d.0;
+      content = ap (λ (y : Extent). y.content) (sym same);
+      span = ap (λ (y : Extent). y.span) (sym same);
+    }
+
+-- what stands where there is a cell
+pub record IsCell (x : List ℕ) (span : ℕ) : Type 0 where
+  pub long : 24 ≤ length x
+  pub head : head_at x ≡ Some (head_of x)
+  pub extent : Extent
+  pub checks : checked (head_of x) (length x) ≡ Ok extent
+  pub spans : extent.span ≡ span
+
+abbrev cell_of : ℕ → Entry
+cell_of n = cell n
+
+present_cell : (h : Head) (x : List ℕ) (r : Result Extent DamageKind) (span : ℕ) → present h x r ≡ cell span → (e : Extent) × (r ≡ Ok e) × (e.span ≡ span)
+present_cell h x (Err k) span p = absurd cc
+present_cell h x (Ok e) span p = (e, refl, go (is_free h) p)
+  where
+    inner : (a b : Bool) → cond (not a) (damaged kinds.Name) (cond (not b) (damaged kinds.AttrLength) (cell_of e.span)) ≡ cell span → e.span ≡ span
+    inner false b q = absurd cc
+    inner true false q = absurd cc
+    inner true true q = cc
+
+    go : (b : Bool) → cond b (cell_of e.span) (component h x e.span) ≡ cell span → e.span ≡ span
+    go true q = cc
+    go false q = inner _ _ q
+
+pub front_some : (x : List ℕ) (h : Head) → front x ≡ Some h → (24 ≤ length x) × (head_at x ≡ Some h) × (h ≡ head_of x)
+front_some x h e = short (ltb (length x) 24) refl e
+  where
+    magic : (m : Bool) → cond m (Some (head_of x)) None ≡ Some h → h ≡ head_of x
+    magic true q = cc
+    magic false q = absurd cc
+
+    short : (b : Bool) → ltb (length x) 24 ≡ b → cond b None (head_at x) ≡ Some h → (24 ≤ length x) × (head_at x ≡ Some h) × (h ≡ head_of x)
+    short true l q = absurd cc
+    short false l q = (ltb-false _ _ l, q, magic _ q)
+
+pub cell_is : (x : List ℕ) (span : ℕ) → entry x ≡ cell span → IsCell x span
+unfolding entry
+cell_is x span e = go (front x) refl e
+  where
+    go : (o : Option Head) → front x ≡ o → under x o ≡ cell span → IsCell x span
+    go None f p = absurd cc
+    go (Some h) f p =
+        let s = front_some x h f in
+        let q = present_cell h x (checked h (length x)) span p in
+        record { long = s.0; head = s.1 ∙ ap (λ (y : Head). Some y) s.2; extent = q.0; checks = ap (λ (y : Head). checked y (length x)) (sym s.2) ∙ q.1; spans = q.2 }
+
+pub cell_span : (x : List ℕ) (span : ℕ) → entry x ≡ cell span → IsSpan x span
+cell_span x span e =
+    let c = cell_is x span e in
+    let k = checked_ok (head_of x) (length x) c.extent c.checks in
+    let s : span ≡ round64 ((head_of x).offset + (head_of x).len) = sym c.spans ∙ k.span in
+    let some : 24 ≤ (head_of x).offset + (head_of x).len = omega (arith, k.front) in
+    let r = rounds (length x) ((head_of x).offset + (head_of x).len) some k.inside in
+    rw s (record { positive = r.0; whole = r.1; inside = r.2 })
+  where
+    rounds : (left n : ℕ) → 24 ≤ n → n ≤ left → (64 ≤ round64 n) × (round64 n % 64 ≡ 0) × (left % 64 ≡ 0 → round64 n ≤ left)
+    rounds left n some le = (omega arith, omega arith, λ h. omega arith)
+
+-- ---- the equations of `cut`
+
+-- the bytes that belong to the cell before don't count
+pub cut_after-drop : (k : ℕ) (x : List ℕ) → cut_after k x ≡ cut (drop k x)
+unfolding cut_after
+cut_after-drop zero x = refl
+cut_after-drop (suc k) [] = refl
+cut_after-drop (suc k) (b ∷ x) = cut_after-drop k x
+
+drop-pred : (b : ℕ) (x : List ℕ) (n : ℕ) → 0 < n → drop (pred n) x ≡ drop n (b ∷ x)
+drop-pred b x zero some = absurd (omega arith)
+drop-pred b x (suc n) some = refl
+
+-- by what stands at the front
+pub cut_step : (x : List ℕ) (e : Entry) → 0 < length x → entry x ≡ e → cut x ≡ by_entry e x (λ span. cut_after (pred span) (drop 1 x))
+unfolding cut_after
+cut_step [] e some is = absurd (omega arith)
+cut_step (b ∷ x) e some is = ap (λ (v : Entry). by_entry v (b ∷ x) (λ span. cut_after (pred span) x)) is
+
+pub cut_empty : (x : List ℕ) → length x ≡ 0 → cut x ≡ ends complete
+unfolding cut_after
+cut_empty [] e = refl
+cut_empty (b ∷ x) e = absurd (omega arith)
+
+pub cut_absent : (x : List ℕ) → 0 < length x → entry x ≡ absent → cut x ≡ ends tail
+cut_absent x some is = cut_step x absent some is
+
+pub cut_damaged : (x : List ℕ) (kind : DamageKind) → 0 < length x → entry x ≡ damaged kind → cut x ≡ ends (damage kind)
+cut_damaged x kind some is = cut_step x (damaged kind) some is
+
+pub cut_cell : (x : List ℕ) (span : ℕ) → 0 < length x → entry x ≡ cell span → cut x ≡ after (take span x) (cut (drop span x))
+unfolding cut_after
+cut_cell [] span some is = absurd (omega arith)
+cut_cell (b ∷ x) span some is =
+    let s = cell_span (b ∷ x) span is in
+    ap (λ (v : Entry). by_entry v (b ∷ x) (λ n. cut_after (pred n) x)) is
+    ∙ ap (λ (c : Cut). after (take span (b ∷ x)) c) (cut_after-drop (pred span) x ∙ ap (λ (l : List ℕ). cut l) (drop-pred b x span (omega (arith, s.positive))))

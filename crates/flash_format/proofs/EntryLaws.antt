@@ -1,0 +1,108 @@
+-- The laws of `entry`: which bytes bear on what it is.
+use Rattle.std.proofs.Common.{◌≡◌, ℕ, ◌+◌, ◌%◌, ◌≤◌, Bool, true, false, cond, List, [], length, take, Option, Some, None, Result, Ok, refl, sym, ap, ◌∙◌, arith, eqb, ltb, not, ◌&&◌, ◌||◌, inl, inr}
+use Rattle.std.specs.Prelude.{slice_range, is_some}
+use Rattle.std.proofs.lemmas.Bool.{le-ltb, cases_Bool, ltb-false, or_parts}
+use Rattle.flash_format.specs.declared.head.Head.{Head}
+use Rattle.flash_format.specs.declared.head.Extent.{Extent}
+use Rattle.flash_format.specs.declared.head.DamageKind.{DamageKind}
+use Rattle.flash_format.specs.declared.head.DamageKind.TheVariants as kinds
+use Rattle.flash_format.specs.Head.{head_of, head_at, is_free, attributes_misplaced, checked, round64}
+use Rattle.flash_format.specs.Entry.{Entry, damaged, cell, entry, present, under, component, name_end, name_field, attribute_field, has_name}
+use Rattle.flash_format.specs.Attributes.{attributes}
+use Rattle.flash_format.proofs.Fronts.{range-take, head_of-take, head_at-take}
+use Rattle.flash_format.proofs.CutSteps.{IsCell, cell_is, checked_ok, cell_span}
+
+-- ---- the head
+
+same_head : (x y : List ℕ) (n : ℕ) → 24 ≤ n → take n x ≡ take n y → head_of x ≡ head_of y
+same_head x y n long same = sym (head_of-take x n long) ∙ ap (λ (l : List ℕ). head_of l) same ∙ head_of-take y n long
+
+same_head_at : (x y : List ℕ) (n : ℕ) → 24 ≤ n → take n x ≡ take n y → head_at x ≡ head_at y
+same_head_at x y n long same = sym (head_at-take x n long) ∙ ap (λ (l : List ℕ). head_at l) same ∙ head_at-take y n long
+
+-- of what is left only counts that the content fits
+checked_alike : (h : Head) (left other : ℕ) → h.offset + h.len ≤ left → h.offset + h.len ≤ other → checked h other ≡ checked h left
+unfolding checked
+checked_alike h left other fits here = rw (le-ltb left (h.offset + h.len) fits, le-ltb other (h.offset + h.len) here) refl
+
+-- ---- the fields behind the head
+
+range_alike : (x y : List ℕ) (n a b : ℕ) → b ≤ n → take n x ≡ take n y → slice_range x a b ≡ slice_range y a b
+range_alike x y n a b le same = sym (range-take x n a b le) ∙ ap (λ (l : List ℕ). slice_range l a b) same ∙ range-take y n a b le
+
+name_ends : (h : Head) → attributes_misplaced h ≡ false → name_end h ≤ h.offset
+name_ends h placed = go (eqb h.attributes_offset 0) placed
+  where
+    go : (b : Bool) → (not b && (ltb h.attributes_offset 25 || ltb h.offset h.attributes_offset)) ≡ false → cond b h.offset h.attributes_offset ≤ h.offset
+    go true p = omega arith
+    go false p = ltb-false _ _ (or_parts (ltb h.attributes_offset 25) (ltb h.offset h.attributes_offset) p).1
+
+component_alike : (h : Head) (x y : List ℕ) (n span : ℕ) → name_end h ≤ n → h.offset ≤ n → take n x ≡ take n y → component h x span ≡ component h y span
+component_alike h x y n span named placed same =
+    let name : name_field h x ≡ name_field h y = range_alike x y n 24 (name_end h) named same in
+    let list : attribute_field h x ≡ attribute_field h y =
+    ap (λ (l : List ℕ). cond (eqb h.attributes_offset 0) [] l) (range_alike x y n h.attributes_offset h.offset placed same) in
+    ap (λ (l : List ℕ). cond (not (has_name l)) (damaged kinds.Name) (cond (not (is_some (attributes (attribute_field h x)))) (damaged kinds.AttrLength) (cell span))) name
+    ∙ ap (λ (l : List ℕ). cond (not (has_name (name_field h y))) (damaged kinds.Name) (cond (not (is_some (attributes l))) (damaged kinds.AttrLength) (cell span))) list
+
+-- ---- the entry
+-- what stands where the head is there
+from_head : (x : List ℕ) (h : Head) → 24 ≤ length x → head_at x ≡ Some h → entry x ≡ present h x (checked h (length x))
+unfolding entry
+from_head x h long e = ap (λ (b : Bool). under x (cond b None (head_at x))) (le-ltb (length x) 24 long) ∙ ap (λ (o : Option Head). under x o) e
+
+-- what stands where the head of a cell of other bytes is there, and the content has room
+as_under : (x y : List ℕ) (span : ℕ) → (c : IsCell x span) → 24 ≤ length y → head_at y ≡ head_at x → (head_of x).offset + (head_of x).len ≤ length y
+    → entry y ≡ present (head_of x) y (Ok c.extent)
+as_under x y span c long head fits =
+    let h = head_of x in
+    let inside : h.offset + h.len ≤ length x = (checked_ok h (length x) c.extent c.checks).inside in
+    from_head y h long (head ∙ c.head)
+    ∙ ap (λ (r : Result Extent DamageKind). present h y r) (checked_alike h (length x) (length y) inside fits ∙ c.checks)
+
+up : (n : ℕ) → n ≤ round64 n
+up n = omega arith
+
+-- the content ends inside the cell
+content_within : (x : List ℕ) (span : ℕ) → IsCell x span → (head_of x).offset + (head_of x).len ≤ span
+content_within x span c =
+    let k = checked_ok (head_of x) (length x) c.extent c.checks in
+    omega (arith, up ((head_of x).offset + (head_of x).len), k.span, c.spans)
+
+present_free : (h : Head) (x : List ℕ) (e : Extent) → is_free h ≡ true → present h x (Ok e) ≡ cell e.span
+present_free h x e free = ap (λ (b : Bool). cond b (cell e.span) (component h x e.span)) free
+
+present_alike : (h : Head) (x y : List ℕ) (n : ℕ) (e : Extent) → h.offset ≤ n → (is_free h ≡ false → attributes_misplaced h ≡ false) → take n x ≡ take n y → present h y (Ok e) ≡ present h x (Ok e)
+present_alike h x y n e fits placed same = elim (cases_Bool (is_free h)) [
+  | inl free ↦ present_free h y e free ∙ sym (present_free h x e free)
+  | inr other ↦
+      let named : name_end h ≤ n = omega (arith, name_ends h (placed other)) in
+      ap (λ (v : Entry). cond (is_free h) (cell e.span) v) (sym (component_alike h x y n e.span named fits same))
+]
+
+pub entry_alike : (x y : List ℕ) (span : ℕ) → entry x ≡ cell span → span ≤ length x → span ≤ length y → take span x ≡ take span y → entry y ≡ cell span
+entry_alike x y span e in_x in_y same =
+    let c = cell_is x span e in
+    let k = checked_ok (head_of x) (length x) c.extent c.checks in
+    let long : 24 ≤ span = omega (arith, (cell_span x span e).positive) in
+    let ends = content_within x span c in
+    let fits : (head_of x).offset ≤ span = omega (arith, ends) in
+    as_under x y span c (omega arith) (sym (same_head_at x y span long same)) (omega (arith, ends))
+    ∙ present_alike (head_of x) x y span c.extent fits k.placed same
+    ∙ sym (as_under x x span c c.long refl k.inside)
+    ∙ e
+
+pub entry_free : (x y : List ℕ) (span : ℕ) → entry x ≡ cell span → is_free (head_of x) ≡ true → take 24 x ≡ take 24 y → span ≤ length y → entry y ≡ cell span
+entry_free x y span e free same in_y =
+    let c = cell_is x span e in
+    let large = (cell_span x span e).positive in
+    let ends = content_within x span c in
+    as_under x y span c (omega arith) (sym (same_head_at x y 24 (omega arith) same)) (omega (arith, ends))
+    ∙ present_free (head_of x) y c.extent free
+    ∙ ap (λ (n : ℕ). cell n) c.spans
+
+pub entry_large : (x : List ℕ) (span : ℕ) → entry x ≡ cell span → (64 ≤ span) × (span % 64 ≡ 0)
+entry_large x span e = let s = cell_span x span e in (s.positive, s.whole)
+
+pub entry_fits : (x : List ℕ) (span : ℕ) → entry x ≡ cell span → length x % 64 ≡ 0 → span ≤ length x
+entry_fits x span e whole = (cell_span x span e).inside whole

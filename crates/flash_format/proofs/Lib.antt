@@ -1,0 +1,8 @@
+pub mod CutSteps
+pub mod Fronts
+pub mod MapSteps
+pub mod AttributeSteps
+pub mod EntryLaws
+pub mod CutLaws
+pub mod MapLaws
+mod Examples

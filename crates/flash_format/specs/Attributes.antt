@@ -1,0 +1,71 @@
+-- The attributes of a component: records of a tag, a length that counts the eight bytes of both, and data.
+-- They are those of `struct cbfs_file_attribute` in coreboot's sources; where a list ends and which lengths are
+-- well formed is this project's own.
+use Rattle.std.specs.Prelude.{ℕ, zero, suc, pred, Bool, ◌||◌, List, [], ◌∷◌, length, slice_range, Option, Some, None, nat_lt, ◌==◌, if◌then◌else◌}
+use Rattle.std.specs.Option.{option_map, option_or}
+use Rattle.flash_format.specs.declared.attribute.AttrHead.{AttrHead}
+use Rattle.flash_format.specs.Head.{be32}
+
+unfoldable pub attr_head_of : List ℕ → AttrHead
+attr_head_of x = record { tag = be32 0 x; len = be32 4 x }
+
+pub record Attribute : Type 0 where
+  pub tag : ℕ
+  pub contents : List ℕ
+
+-- the tag of a compression attribute: a value, then the size of the content once decompressed
+abbrev pub COMPRESSION : ℕ
+COMPRESSION = 0x42435a4c
+
+-- the tag of a hash attribute: an algorithm, then the digest
+abbrev pub HASH : ℕ
+HASH = 0x68736148
+
+-- tags that are no attribute and come last
+abbrev pub is_unused : ℕ → Bool
+is_unused tag = tag == 0 || tag == 0xffffffff
+
+-- an attribute of this tag has at least so many bytes
+abbrev pub least_len : ℕ → ℕ
+least_len tag = if tag == COMPRESSION then 16 else (if tag == HASH then 12 else 8)
+
+-- the list ends here: no head of an attribute is left, or its tag is unused
+abbrev pub ends_list : List ℕ → Bool
+ends_list x = nat_lt (length x) 8 || is_unused (attr_head_of x).tag
+
+-- an attribute is too short for its tag, or longer than the bytes that are left
+abbrev pub has_bad_len : AttrHead → ℕ → Bool
+has_bad_len h left = nat_lt h.len (least_len h.tag) || nat_lt left h.len
+
+abbrev pub is_malformed : List ℕ → Bool
+is_malformed x = has_bad_len (attr_head_of x) (length x)
+
+-- the attribute at the front
+abbrev pub attribute : List ℕ → Attribute
+attribute x = let h = attr_head_of x in record { tag = h.tag; contents = slice_range x 8 h.len }
+
+-- an attribute at the front before the list behind so many bytes
+abbrev pub by_attribute : List ℕ → (ℕ → Option (List Attribute)) → Option (List Attribute)
+by_attribute x behind =
+    if ends_list x then Some []
+    else (if is_malformed x then None
+    else option_map (λ others. attribute x ∷ others) (behind (attr_head_of x).len))
+
+-- The attributes in bytes of which the first `skip` still belong to the one before.
+unfoldable pub attributes_after : ℕ → List ℕ → Option (List Attribute)
+attributes_after skip [] = Some []
+attributes_after (suc skip) (b ∷ rest) = attributes_after skip rest
+attributes_after zero (b ∷ rest) = by_attribute (b ∷ rest) (λ len. attributes_after (pred len) rest)
+
+-- the attributes in these bytes, or None where one is malformed
+abbrev pub attributes : List ℕ → Option (List Attribute)
+attributes x = attributes_after 0 x
+
+-- the value of an attribute of compression
+abbrev pub packing_of : Attribute → Option ℕ
+packing_of a = if a.tag == COMPRESSION then Some (be32 0 a.contents) else None
+
+-- that of the first such attribute
+abbrev pub packing_in : List Attribute → Option ℕ
+packing_in [] = None
+packing_in (a ∷ others) = option_or (packing_of a) (packing_in others)

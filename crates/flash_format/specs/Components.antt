@@ -1,0 +1,55 @@
+-- The components of a region: its cells that are no free space.
+use Rattle.std.specs.Prelude.{ℕ, ◌+◌, Bool, not, List, [], ◌∷◌, length, slice_range, unwrap_or, ◌==◌, if◌then◌else◌}
+use Rattle.flash_format.specs.Head.{head_of, is_free}
+use Rattle.flash_format.specs.Attributes.{Attribute, attributes, packing_in}
+use Rattle.flash_format.specs.Entry.{name_field, name_of, attribute_field}
+use Rattle.flash_format.specs.Cut.{cut}
+
+-- where a component stands in its region, what is read from its cell, and all the cell's bytes
+pub record Component : Type 0 where
+  pub at : ℕ
+  pub name : List ℕ
+  pub kind : ℕ
+  pub attributes : List Attribute
+  pub content : List ℕ
+  pub bytes : List ℕ
+
+-- the name of a component's cell
+abbrev pub cell_name : List ℕ → List ℕ
+cell_name x = name_of (name_field (head_of x) x)
+
+-- the attributes of a component's cell, which are well formed in every cell of a cut
+abbrev pub cell_attributes : List ℕ → List Attribute
+cell_attributes x = unwrap_or (attributes (attribute_field (head_of x) x)) []
+
+-- the content of a cell
+abbrev pub cell_content : List ℕ → List ℕ
+cell_content x = let h = head_of x in slice_range x h.offset (h.offset + h.len)
+
+-- the value of the first compression attribute, 0 without one
+abbrev pub packing : List Attribute → ℕ
+packing all = unwrap_or (packing_in all) 0
+
+-- the content is stored compressed
+abbrev pub is_packed : List Attribute → Bool
+is_packed all = not (packing all == 0)
+
+abbrev pub component_at : ℕ → List ℕ → Component
+component_at at x = record {
+  at = at;
+  name = cell_name x;
+  kind = (head_of x).kind;
+  attributes = cell_attributes x;
+  content = cell_content x;
+  bytes = x;
+}
+
+-- the components among cells of which the first stands at this place
+unfoldable pub components_from : ℕ → List (List ℕ) → List Component
+components_from at [] = []
+components_from at (x ∷ cells) =
+    let others = components_from (at + length x) cells in
+    if is_free (head_of x) then others else component_at at x ∷ others
+
+abbrev pub components : List ℕ → List Component
+components x = components_from 0 (cut x).cells

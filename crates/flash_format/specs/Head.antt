@@ -1,0 +1,47 @@
+-- The 24 bytes at the front of a CBFS entry, and the checks of them that need no other byte.
+-- The fields are those of `struct cbfs_file` in coreboot's documentation of CBFS, and its numbers are big-endian.
+-- The order of the checks and their limits are this project's own.
+use Rattle.std.specs.Prelude.{ℕ, ◌+◌, ◌*◌, ◌/◌, Bool, not, ◌&&◌, ◌||◌, List, slice_range, Option, Some, None, Result, Ok, Err, nat_eq, nat_lt, ◌==◌, if◌then◌else◌}
+use Rattle.std.specs.List.{starts_with}
+use Rattle.byteorder.specs.Endian.{big_number}
+use lib.Chars.{codes}
+use Rattle.flash_format.specs.declared.head.Head.{Head}
+use Rattle.flash_format.specs.declared.head.Extent.{Extent}
+use Rattle.flash_format.specs.declared.head.DamageKind.{DamageKind}
+use Rattle.flash_format.specs.declared.head.DamageKind.TheVariants as kinds
+
+-- the least multiple of 64 that is at least n
+abbrev pub round64 : ℕ → ℕ
+round64 n = (n + 63) / 64 * 64
+
+-- the big-endian number in the four bytes from a place on
+abbrev pub be32 : ℕ → List ℕ → ℕ
+be32 at x = big_number 4 (slice_range x at (at + 4))
+
+-- the four numbers behind the magic
+unfoldable pub head_of : List ℕ → Head
+head_of x = record { len = be32 8 x; kind = be32 12 x; attributes_offset = be32 16 x; offset = be32 20 x }
+
+unfoldable pub has_magic : List ℕ → Bool
+has_magic x = starts_with nat_eq x (codes "LARCHIVE")
+
+-- the head of 24 bytes, where they begin with the magic
+abbrev pub head_at : List ℕ → Option Head
+head_at x = if has_magic x then Some (head_of x) else None
+
+-- the types deleted and null are free space
+abbrev pub is_free : Head → Bool
+is_free h = h.kind == 0 || h.kind == 0xffffffff
+
+-- there are attributes, and they begin before the name has room for a NUL, or behind the content's begin
+abbrev pub attributes_misplaced : Head → Bool
+attributes_misplaced h = not (h.attributes_offset == 0) && (nat_lt h.attributes_offset 25 || nat_lt h.offset h.attributes_offset)
+
+-- The first check of a head that fails, with so many bytes from the entry up to the region's end, or else where
+-- the content begins and how long the cell is.
+unfoldable pub checked : Head → ℕ → Result Extent DamageKind
+checked h left =
+    if nat_lt h.offset (if is_free h then 24 else 25) then Err kinds.Offset
+    else (if not (is_free h) && attributes_misplaced h then Err kinds.AttrOffset
+    else (if nat_lt left (h.offset + h.len) then Err kinds.Extent
+    else Ok (record { content = h.offset; span = round64 (h.offset + h.len) })))

@@ -1,0 +1,102 @@
+//! The head of a CBFS entry, and the checks of it that need no other byte.
+
+ghost use Rattle.std.specs.Prelude.{◌≡◌};
+ghost use Rattle.flash_format.specs.Head.{head_at, is_free, attributes_misplaced, checked};
+
+use byteorder::{BigEndian, ByteOrder};
+
+const MAGIC: [u8; 8] = *b"LARCHIVE";
+
+const DELETED: u32 = 0;
+
+const NULL: u32 = 0xffff_ffff;
+
+/// Why an entry is damaged: the first of these checks that fails.
+#[derive(Clone, Copy, Debug, PartialEq, Eq)]
+pub enum DamageKind {
+    /// The content begins inside the head, or leaves a component no room for a name.
+    Offset = 1,
+    /// The attributes begin before the name has room, or behind the content's begin.
+    AttrOffset = 2,
+    /// The content ends behind the region's end.
+    Extent = 3,
+    /// The name has no NUL within its field's first 256 bytes.
+    Name = 4,
+    /// An attribute is too short for its tag, or ends behind the content's begin.
+    AttrLength = 5,
+}
+
+/// Where an entry's content begins, counted from the entry, and how many bytes its cell has.
+#[derive(Clone, Copy, Debug, PartialEq, Eq)]
+pub struct Extent {
+    pub content: u64,
+    pub span: u64,
+}
+
+/// The numbers at the front of an entry, behind its magic (`struct cbfs_file`).
+#[derive(Clone, Copy, Debug, PartialEq, Eq)]
+pub struct Head {
+    /// How many bytes of content there are.
+    pub len: u32,
+    /// The type; 0 and 0xffffffff are free space.
+    pub kind: u32,
+    /// Where the attributes begin, counted from the entry; 0 for none.
+    pub attributes_offset: u32,
+    /// Where the content begins, counted from the entry.
+    pub offset: u32,
+}
+
+impl Head {
+    /// The head in these bytes, or `None` without the magic.
+    #[tactic(auto, unfolding(crate::specs::Head::head_of, crate::specs::Head::has_magic))]
+    pub fn read(bytes: &[u8; 24]) -> Option<Head>
+        ensures { result ≡ head_at bytes.now }
+    {
+        if !bytes.starts_with(&MAGIC) {
+            return None;
+        }
+        Some(Head {
+            len: BigEndian::read_u32(&bytes[8..12]),
+            kind: BigEndian::read_u32(&bytes[12..16]),
+            attributes_offset: BigEndian::read_u32(&bytes[16..20]),
+            offset: BigEndian::read_u32(&bytes[20..24]),
+        })
+    }
+
+    /// Whether the entry is free space.
+    pub fn is_free(&self) -> bool
+        ensures { result ≡ is_free self.now }
+    {
+        self.kind == DELETED || self.kind == NULL
+    }
+
+    /// Where the content lies, with `left` bytes from the entry up to the region's end, or what is wrong with
+    /// the head. The name and the attributes aren't looked at.
+    #[tactic(auto, unfolding(crate::specs::Head::checked))]
+    pub fn check(&self, left: u64) -> Result<Extent, DamageKind>
+        ensures { result ≡ checked self.now left }
+    {
+        let free = self.is_free();
+        if self.offset < if free { 24 } else { 25 } {
+            return Err(DamageKind::Offset);
+        }
+        if !free && self.attributes_misplaced() {
+            return Err(DamageKind::AttrOffset);
+        }
+        let end = u64::from(self.offset) + u64::from(self.len);
+        if left < end {
+            return Err(DamageKind::Extent);
+        }
+        Ok(Extent {
+            content: u64::from(self.offset),
+            span: (end + 63) / 64 * 64,
+        })
+    }
+
+    fn attributes_misplaced(&self) -> bool
+        ensures { result ≡ attributes_misplaced self.now }
+    {
+        self.attributes_offset != 0
+            && (self.attributes_offset < 25 || self.offset < self.attributes_offset)
+    }
+}

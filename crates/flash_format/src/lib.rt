@@ -1,0 +1,20 @@
+//! The bytes of CBFS entries and of flashmaps: heads, attributes, areas and the names of types.
+//!
+//! No call takes memory. The definitions of the formats, which every other crate's contracts speak of, lie in
+//! `specs/`; docs/FORMAT.md says them in words.
+#![tactic(auto)]
+
+mod attribute;
+mod flashmap;
+mod head;
+mod laws;
+mod type_names;
+
+pub use attribute::AttrHead;
+pub use flashmap::{Area, FmapHead};
+pub use head::{DamageKind, Extent, Head};
+pub use laws::{cuts_are_made_of_cells, entries_are_read_alike, maps_are_the_lowest};
+pub use type_names::type_name;
+
+#[cfg(test)]
+mod tests;
