@@ -14,6 +14,10 @@ use Rattle.flash_format.specs.declared.head.DamageKind.TheVariants as kinds
 abbrev pub round64 : ℕ → ℕ
 round64 n = (n + 63) / 64 * 64
 
+-- how many bytes of an empty entry stand before the space that it describes
+abbrev pub header_length : ℕ
+header_length = 40
+
 -- the big-endian number in the four bytes from a place on
 abbrev pub be32 : ℕ → List ℕ → ℕ
 be32 at x = big_number 4 (slice_range x at (at + 4))

@@ -1,6 +1,6 @@
 //! The head and the areas of a flashmap.
 
-ghost use Rattle.std.specs.Prelude.{◌≡◌, length, Some, None, if◌then◌else◌};
+ghost use Rattle.std.specs.Prelude.{◌≡◌, ◌≤◌, length, Some, None, if◌then◌else◌};
 ghost use Rattle.std.specs.List.{list_any, list_all, position};
 ghost use Rattle.flash_format.specs.Entry.{is_nul};
 ghost use Rattle.flash_format.specs.Flashmap.{fmap_head_of, has_signature, is_named, is_valid_head, area_of, is_area, text_of, is_printing};
@@ -43,6 +43,14 @@ impl FmapHead {
         })
     }
 
+    /// The name's bytes before its first NUL, or all 32.
+    pub fn text(&self) -> &[u8]
+        ensures value { result.now ≡ text_of self.now.name }
+        ensures short { length result.now ≤ 32 }
+    {
+        text_of(&self.name)
+    }
+
     /// Whether a table with this head is valid, with `left` bytes up to the image's end.
     #[tactic(auto, unfolding(crate::specs::Flashmap::is_valid_head))]
     pub fn is_valid(&self, left: u64) -> bool
@@ -77,11 +85,19 @@ impl Area {
         }
     }
 
+    /// The name's bytes before its first NUL, or all 32.
+    pub fn text(&self) -> &[u8]
+        ensures value { result.now ≡ text_of self.now.name }
+        ensures short { length result.now ≤ 32 }
+    {
+        text_of(self.name.as_slice())
+    }
+
     /// Whether this is the area's name.
     pub fn name_is(&self, name: &[u8]) -> bool
         ensures { result ≡ is_area name.now self.now }
     {
-        name == text_of(&self.name)
+        name == self.text()
     }
 }
 
@@ -102,7 +118,8 @@ fn first_nul(name: &[u8]) -> Option<usize>
 
 /// The bytes before the first NUL, or all.
 fn text_of(name: &[u8]) -> &[u8]
-    ensures { result.now ≡ text_of name.now }
+    ensures value { result.now ≡ text_of name.now }
+    ensures short { length result.now ≤ length name.now }
 {
     match first_nul(name) {
         Some(end) => &name[..end],

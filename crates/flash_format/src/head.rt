@@ -11,6 +11,9 @@ const DELETED: u32 = 0;
 
 const NULL: u32 = 0xffff_ffff;
 
+/// How many bytes of an empty entry stand before the space that it describes: its head and an empty name.
+pub const HEADER_LENGTH: usize = 40;
+
 /// Why an entry is damaged: the first of these checks that fails.
 #[derive(Clone, Copy, Debug, PartialEq, Eq)]
 pub enum DamageKind {

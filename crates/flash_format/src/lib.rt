@@ -12,7 +12,7 @@ mod type_names;
 
 pub use attribute::AttrHead;
 pub use flashmap::{Area, FmapHead};
-pub use head::{DamageKind, Extent, Head};
+pub use head::{DamageKind, Extent, HEADER_LENGTH, Head};
 pub use laws::{cuts_are_made_of_cells, entries_are_read_alike, maps_are_the_lowest};
 pub use type_names::type_name;
 

@@ -128,6 +128,7 @@ fn reads_the_head_of_a_map(rt: HostRuntime) {
         nareas: 3,
     };
     assert_eq!(rt; FmapHead::read(&TABLE), Some(head));
+    assert_eq!(rt; head.text(), b"FLASH".as_slice());
     let mut other = TABLE;
     other[7] = b'-';
     assert_eq!(rt; FmapHead::read(&other), None);
@@ -165,6 +166,7 @@ fn reads_an_area(rt: HostRuntime) {
         flags: 4,
     };
     assert_eq!(rt; Area::read(&REST), area);
+    assert_eq!(rt; area.text(), b"REST".as_slice());
 }
 
 #[test]
