@@ -1,4 +1,4 @@
--- Examples of the outcome of `print`, computed over whole images.
+-- Examples of the outcomes of commands, computed over whole images.
 use Rattle.std.proofs.Common.{◌≡◌, ℕ, List, [], ◌∷◌, ◌++◌, ◌-◌, replicate, refl, length, Ok, Err, take}
 use lib.Chars.{codes}
 use Rattle.std.specs.Int.{w16, w32, w64, to_le_bytes, to_be_bytes}
@@ -6,13 +6,18 @@ use Rattle.std.specs.Fmt.{digits}
 use Rattle.flash_format.specs.declared.head.DamageKind.TheVariants as kinds
 use Rattle.flash_format.specs.Head.{head_of, has_magic, checked}
 use Rattle.flash_format.specs.Attributes.{attr_head_of, attributes_after}
+use Rattle.flash_format.specs.Components.{components_from}
 use Rattle.flash_format.specs.Entry.{entry}
 use Rattle.flash_format.specs.Cut.{cut_after}
 use Rattle.flash_format.specs.Flashmap.{has_signature, fmap_head_of, area_of, is_valid_head, is_map, map_from, areas_from}
 use Rattle.flash_format.specs.TypeNames.{name_of_type}
+use Rattle.flash_store.specs.Regions.{region_of}
+use Rattle.cbfs_walk.specs.Finding.{component_in}
 use Rattle.cbfstool.specs.Rows.{hexadecimal, printed_byte, printed_type, printed_packing, row_text, rows_from, label, compression}
-use Rattle.cbfstool.specs.declared.refusal.Refusal.TheVariants.{RegionOutside, Damaged, NoFmap, NoRegion, NotCbfs}
-use Rattle.cbfstool.specs.Outcomes.{Outcome, Answer, region_of, print_region, print}
+use Rattle.cbfstool.specs.Layouts.{layout, map_row, area_row}
+use Rattle.cbfstool.specs.declared.refusal.Refusal.TheVariants.{RegionOutside, Damaged, NoFmap, NoRegion, NotCbfs, NotFound, Compressed, SourceSize}
+use Rattle.cbfstool.specs.Told.{Answer, Told, shows, refuses}
+use Rattle.cbfstool.specs.Outcomes.{print, print_region, extract, read, write}
 
 -- an area of a flashmap
 abbrev area : ℕ → ℕ → List ℕ → List ℕ
@@ -46,7 +51,7 @@ abbrev packed : ℕ → ℕ → List ℕ
 packed tag value =
     head 30 0x50 40 56 ++ codes "p" ++ replicate 15 0 ++ to_be_bytes w32 tag ++ to_be_bytes w32 16 ++ to_be_bytes w32 value ++ to_be_bytes w32 100 ++ replicate 72 120
 
-abbrev prints : List ℕ → Answer → Outcome
+abbrev prints : List ℕ → Answer → Told
 prints text answer = record { written = text; answer = answer }
 
 abbrev coreboot : List ℕ
@@ -95,3 +100,43 @@ no_cbfs_region = refl
 no_map : print (replicate 4096 0xff) coreboot ≡ prints [] (Err NoFmap)
 unfolding print print_region region_of has_signature fmap_head_of area_of is_valid_head is_map map_from areas_from
 no_map = refl
+
+layout_of_an_image : layout (image_of (free 468 512)) ≡ shows (codes "fmap\t0x0\tFLASH\t4096\t3\nFMAP\t0x0\t512\t0x0\nCOREBOOT\t0x200\t512\t0x0\nREST\t0x400\t3072\t0x0\n")
+unfolding layout map_row area_row has_signature fmap_head_of area_of is_valid_head is_map map_from areas_from hexadecimal printed_byte digits
+layout_of_an_image = refl
+
+layout_without_a_map : layout (replicate 4096 0xff) ≡ refuses NoFmap
+unfolding layout has_signature fmap_head_of is_valid_head is_map map_from
+layout_without_a_map = refl
+
+content_of_a_component : extract (image_of (component (codes "a") 0x50 ++ free 404 448)) coreboot (codes "a") ≡ shows (codes "0123456789")
+unfolding extract component_in components_from region_of has_signature fmap_head_of area_of is_valid_head is_map map_from areas_from entry has_magic checked head_of attr_head_of attributes_after cut_after
+content_of_a_component = refl
+
+no_such_component : extract (image_of (component (codes "a") 0x50 ++ free 404 448)) coreboot (codes "z") ≡ refuses NotFound
+unfolding extract component_in components_from region_of has_signature fmap_head_of area_of is_valid_head is_map map_from areas_from entry has_magic checked head_of attr_head_of attributes_after cut_after
+no_such_component = refl
+
+damage_behind_the_component : extract (image_of (component (codes "a") 0x50 ++ free 0xffffffff 448)) coreboot (codes "a") ≡ shows (codes "0123456789")
+unfolding extract component_in components_from region_of has_signature fmap_head_of area_of is_valid_head is_map map_from areas_from entry has_magic checked head_of attr_head_of attributes_after cut_after
+damage_behind_the_component = refl
+
+damage_before_the_component : extract (image_of (component (codes "a") 0x50 ++ free 0xffffffff 448)) coreboot (codes "z") ≡ refuses (Damaged 64 kinds.Extent)
+unfolding extract component_in components_from region_of has_signature fmap_head_of area_of is_valid_head is_map map_from areas_from entry has_magic checked head_of attr_head_of attributes_after cut_after
+damage_before_the_component = refl
+
+compressed_component : extract (image_of (packed 0x42435a4c 1 ++ free 340 384)) coreboot (codes "p") ≡ refuses Compressed
+unfolding extract component_in components_from region_of has_signature fmap_head_of area_of is_valid_head is_map map_from areas_from entry has_magic checked head_of attr_head_of attributes_after cut_after
+compressed_component = refl
+
+bytes_of_a_region : read (image_of (free 468 512)) coreboot ≡ shows (free 468 512)
+unfolding read region_of has_signature fmap_head_of area_of is_valid_head is_map map_from areas_from
+bytes_of_a_region = refl
+
+region_written : write (image_of (free 468 512)) coreboot (replicate 512 7) ≡ record { written = []; image = image_of (replicate 512 7); answer = Ok tt }
+unfolding write region_of has_signature fmap_head_of area_of is_valid_head is_map map_from areas_from
+region_written = refl
+
+source_of_another_size : write (image_of (free 468 512)) coreboot (replicate 511 7) ≡ record { written = []; image = image_of (free 468 512); answer = Err SourceSize }
+unfolding write region_of has_signature fmap_head_of area_of is_valid_head is_map map_from areas_from
+source_of_another_size = refl

@@ -1,8 +1,8 @@
-mod Scan
 mod Digits
-mod Names
-mod Cells
-mod Printing
-mod Maps
 mod RowLemmas
+mod Telling
+mod Devices
+mod Areas
+mod Printing
+mod Meeting
 mod Examples

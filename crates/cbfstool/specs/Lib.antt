@@ -1,5 +1,6 @@
-pub mod Numbers
-pub mod Output
+pub mod Lines
+pub mod Refusals
 pub mod Rows
-pub mod Seen
+pub mod Told
+pub mod Layouts
 pub mod Outcomes

@@ -1,23 +1,28 @@
-//! Lists CBFS regions of a flash image, as coreboot's cbfstool does.
+//! Lists and changes the regions of a flash image, as coreboot's cbfstool does.
 #![tactic(auto)]
 
-mod counter;
+mod command;
+mod engine;
+mod extract;
+mod layout;
+mod line;
 mod print;
+mod read;
 mod refusal;
-mod region;
 mod row;
-mod sink;
 #[cfg(test)]
 mod tests;
-mod walk;
+mod words;
+mod write;
 
-pub use print::print_image;
+pub use command::Command;
+pub use engine::run;
+use flash_store::{FileFlash, FileSource, MemSource, OpenFault, Paged, WriteSink};
+pub use line::{Line, read_line};
 pub use refusal::Refusal;
-pub use sink::{Sink, SinkFault, WriteSink};
-use std::alloc::AllocError;
 use std::env;
 use std::fs::File;
-use std::io::{self, ErrorKind, Read};
+use std::io::{self, ErrorKind};
 use std::process::ExitCode;
 
 const USAGE: &str = "\
@@ -25,60 +30,89 @@ usage: cbfstool IMAGE COMMAND [OPTIONS]
 commands: print layout extract add remove read write create
 ";
 
-/// The most bytes that an image may have, for now.
-const MOST_BYTES: u64 = 16_777_216;
+/// The refusal of a file that can't be opened; `failed` where neither its size nor memory is the cause.
+fn open_refusal(fault: OpenFault, failed: Refusal) -> Refusal {
+    match fault {
+        OpenFault::Failed => failed,
+        OpenFault::TooLarge => Refusal::TooLarge,
+        OpenFault::Memory => Refusal::Memory,
+    }
+}
 
-/// The region that is listed.
-const REGION: &[u8] = b"COREBOOT";
-
-/// All bytes of a file: refused where it can't be read, is too large, or memory is wanting.
-fn read_image(rt: &HostRuntime, path: &str) -> Result<Vec<u8>, Refusal> {
-    let Ok(file) = File::open(rt, path) else {
-        return Err(Refusal::Device);
-    };
-    let mut bytes = Vec::new(rt.alloc());
-    match file.take(MOST_BYTES + 1).read_to_end(&mut bytes) {
-        Ok(_) if bytes.len() as u64 > MOST_BYTES => Err(Refusal::TooLarge),
-        Ok(_) => Ok(bytes),
+/// Makes or truncates an output file.
+fn create_output(rt: &HostRuntime, path: &str) -> Result<WriteSink<File>, Refusal> {
+    match File::create(rt, path) {
+        Ok(file) => Ok(WriteSink::new(file)),
         Err(fault) if fault.kind() == ErrorKind::OutOfMemory => Err(Refusal::Memory),
-        Err(_) => Err(Refusal::Device),
+        Err(_) => Err(Refusal::Output),
+    }
+}
+
+/// Opens the image and the file of a line, and runs its command.
+fn execute(rt: &HostRuntime, line: &Line) -> Result<(), Refusal> {
+    let command = line.command()?;
+    let image = match FileFlash::open(rt, line.image()) {
+        Ok(image) => image,
+        Err(fault) => return Err(open_refusal(fault, Refusal::Device)),
+    };
+    let mut paged = Paged::new(image);
+    let mut nothing = MemSource::new(&[]);
+    match (command, line.file()) {
+        (Command::Write { .. }, Some(path)) => match FileSource::open(rt, path) {
+            Ok(mut source) => run(
+                &mut paged,
+                &command,
+                &mut source,
+                &mut WriteSink::new(io::writer(rt)),
+            ),
+            Err(fault) => Err(open_refusal(fault, Refusal::Source)),
+        },
+        (_, Some(path)) => run(
+            &mut paged,
+            &command,
+            &mut nothing,
+            &mut create_output(rt, path)?,
+        ),
+        (_, None) => run(
+            &mut paged,
+            &command,
+            &mut nothing,
+            &mut WriteSink::new(io::writer(rt)),
+        ),
     }
 }
 
 /// The words after the program's name.
 fn read_words(rt: &HostRuntime) -> Result<Vec<String>, Refusal> {
-    match env::args(rt) {
-        Ok(words) => match words.skip(1).collect(rt.alloc()) {
-            Ok(words) => Ok(words),
-            Err(AllocError) => Err(Refusal::Memory),
-        },
-        Err(fault) if fault.kind() == ErrorKind::OutOfMemory => Err(Refusal::Memory),
-        Err(_) => Err(Refusal::Usage),
-    }
+    let words = match env::args(rt) {
+        Ok(words) => words,
+        Err(fault) if fault.kind() == ErrorKind::OutOfMemory => return Err(Refusal::Memory),
+        Err(_) => return Err(Refusal::Usage),
+    };
+    words
+        .skip(1)
+        .collect(rt.alloc())
+        .map_err(|_| Refusal::Memory)
 }
 
-/// Does what the words say.
-fn execute(rt: &HostRuntime, words: &[String]) -> Result<(), Refusal> {
-    match words {
-        [] => rt.print(USAGE).map_err(|_| Refusal::Output),
-        [image, command] if command.as_str() == "print" => {
-            let image = read_image(rt, image.as_str())?;
-            print_image(
-                image.as_slice(),
-                REGION,
-                &mut WriteSink::new(io::writer(rt)),
-            )
-        }
-        _ => Err(Refusal::Usage),
+/// Does what the words say; without words prints the usage.
+fn obey(rt: &HostRuntime) -> Result<(), Refusal> {
+    let words = read_words(rt)?;
+    if words.is_empty() {
+        return rt.print(USAGE).map_err(|_| Refusal::Output);
     }
+    let mut texts: Vec<&str> = Vec::new(rt.alloc());
+    for word in &words {
+        if texts.push(word.as_str()).is_err() {
+            return Err(Refusal::Memory);
+        }
+    }
+    let line = read_line(rt.alloc(), texts.as_slice())?;
+    execute(rt, &line)
 }
 
 fn main(rt: HostRuntime) -> ExitCode {
-    let done = match read_words(&rt) {
-        Ok(words) => execute(&rt, words.as_slice()),
-        Err(refusal) => Err(refusal),
-    };
-    let Err(refusal) = done else {
+    let Err(refusal) = obey(&rt) else {
         return ExitCode::SUCCESS;
     };
     let _told = eprintln!(&rt; "cbfstool: {refusal}");

@@ -1,77 +1,117 @@
 //! The command `print`.
 
-ghost use Rattle.std.specs.Prelude.{◌≡◌, ◌%◌, ◌<◌, ◌≤◌, length, IsErrOf};
-ghost use Rattle.cbfstool.specs.Outcomes.{Meets, print, print_cells, print_region, has_bad_size, is_absent};
-ghost use Rattle.cbfstool.specs.Seen.{seen};
+ghost use Rattle.std.specs.Prelude.{◌≡◌, ◌+◌, ◌*◌, ◌/◌, ◌<◌, ◌≤◌, length, IsTrue, IsErrOf, OnErr, IfOk};
+ghost use Rattle.flash_store.specs.Device.{Reads};
+ghost use Rattle.flash_store.specs.Regions.{LiesIn, bytes_in};
+ghost use Rattle.cbfs_walk.specs.Cells.{IsCellIn, cell_in};
+ghost use Rattle.cbfs_walk.specs.Walks.{StandsIn};
+ghost use Rattle.cbfstool.specs.Outcomes.{print, print_region};
+ghost use Rattle.cbfstool.specs.Rows.{row};
+ghost use Rattle.cbfstool.specs.Told.{Tells, shows};
 
-use crate::refusal::Refusal;
-use crate::region::region_of;
-use crate::sink::{Sink, put_all};
-use crate::walk::{Entry, entry_at, row};
+use crate::refusal::{Refusal, store_refusal, walk_refusal};
+use crate::row::{Row, put_row, row_text};
+use cbfs_walk::{Cell, Step, Walk, cells_stand_in_their_image, name, packing};
+use flash_store::{Flash, FlashFault, Paged, Region, Sink};
 
-/// Writes a row for each cell.
-fn print_cells<W: Sink>(region: &[u8], out: &mut W) -> Result<(), Refusal>
-    requires { length region.now % 64 ≡ 0 }
-    ensures faults { W.faults out.old ≤ W.faults out.new }
-    ensures cause { IsErrOf result Refusal.Output → W.faults out.old < W.faults out.new }
-    ensures outcome { Meets (W.contents out.old) (W.contents out.new) result (print_cells region.now) }
+/// The row of a cell.
+fn cell_row<F: Flash>(paged: &mut Paged<F>, region: Region, cell: &Cell) -> Result<Row, FlashFault>
+    requires region { LiesIn region (F.facts paged.old.device).content }
+    requires cell { IsCellIn region.size cell.now }
+
+    ensures reads { Reads (1 + cell.now.span / 8) (F.facts paged.old.device) (F.facts paged.new.device) }
+    ensures cause { OnErr result ((F.facts paged.old.device).faults < (F.facts paged.new.device).faults) }
+    ensures row { IsTrue (F.facts paged.old.device).honest →
+        StandsIn (bytes_in region (F.facts paged.old.device).content) cell.now → IfOk result (λ shown. shown.items
+        ≡ row cell.now.at (cell_in (bytes_in region (F.facts paged.old.device).content) cell.now)) }
 {
-    let mut at = 0;
-    let mut rest = region;
-    while !rest.is_empty() {
-        match entry_at(rest) {
-            Entry::Absent => break,
-            Entry::Damaged(kind) => return Err(Refusal::Damaged { at, kind }),
-            Entry::Cell(head, span) => {
-                let (cell, others) = rest.split_at(span as usize);
-                match put_all(out, row(at, &head, cell).as_slice()) {
-                    Ok(()) => {}
-                    Err(_) => return Err(Refusal::Output),
-                }
-                at += span;
-                rest = others;
-            }
+    cells_stand_in_their_image();
+    if cell.head.is_free() {
+        return Ok(row_text(cell.at, &cell.head, &[], 0));
+    }
+    let mut field = [0; 256];
+    let len = name(paged, region, cell, &mut field)?;
+    let value = packing(paged, region, cell)?;
+    Ok(row_text(cell.at, &cell.head, &field[..len], value))
+}
+
+/// Writes the row of a cell.
+fn print_cell<F: Flash, W: Sink>(
+    paged: &mut Paged<F>,
+    region: Region,
+    cell: &Cell,
+    out: &mut W,
+) -> Result<(), Refusal>
+    requires region { LiesIn region (F.facts paged.old.device).content }
+    requires cell { IsCellIn region.size cell.now }
+
+    ensures reads { Reads (1 + cell.now.span / 8) (F.facts paged.old.device) (F.facts paged.new.device) }
+    ensures device { IsErrOf result Refusal.Device →
+        (F.facts paged.old.device).faults < (F.facts paged.new.device).faults }
+    ensures faults { W.faults out.old ≤ W.faults out.new }
+    ensures output { IsErrOf result Refusal.Output → W.faults out.old < W.faults out.new }
+    ensures no_other { IsErrOf result Refusal.Source → ⊥ }
+    ensures told { IsTrue (F.facts paged.old.device).honest →
+        StandsIn (bytes_in region (F.facts paged.old.device).content) cell.now →
+        Tells (W.contents out.old) (W.contents out.new) result
+        (shows (row cell.now.at (cell_in (bytes_in region (F.facts paged.old.device).content) cell.now))) }
+{
+    match cell_row(paged, region, cell) {
+        Ok(row) => put_row(out, &row),
+        Err(_) => Err(Refusal::Device),
+    }
+}
+
+/// Writes a row for each cell of a region.
+fn print_region<F: Flash, W: Sink>(
+    paged: &mut Paged<F>,
+    region: Region,
+    out: &mut W,
+) -> Result<(), Refusal>
+    requires { LiesIn region (F.facts paged.old.device).content }
+
+    ensures reads { Reads (region.size / 2 + 3) (F.facts paged.old.device) (F.facts paged.new.device) }
+    ensures device { IsErrOf result Refusal.Device →
+        (F.facts paged.old.device).faults < (F.facts paged.new.device).faults }
+    ensures faults { W.faults out.old ≤ W.faults out.new }
+    ensures output { IsErrOf result Refusal.Output → W.faults out.old < W.faults out.new }
+    ensures no_other { IsErrOf result Refusal.Source → ⊥ }
+    ensures told { IsTrue (F.facts paged.old.device).honest → Tells (W.contents out.old) (W.contents out.new) result
+        (print_region (bytes_in region (F.facts paged.old.device).content)) }
+{
+    let mut walk = Walk::new(region);
+    loop {
+        match walk.next(paged) {
+            Ok(Step::Cell(cell)) => match print_cell(paged, region, &cell, out) {
+                Ok(()) => {}
+                Err(refusal) => return Err(refusal),
+            },
+            Ok(Step::Tail(_)) => return Ok(()),
+            Ok(Step::End) => return Ok(()),
+            Err(fault) => return Err(walk_refusal(fault)),
         }
     }
-    Ok(())
 }
 
-fn has_bad_size(region: &[u8]) -> bool
-    ensures { result ≡ has_bad_size region.now }
-{
-    region.is_empty() || region.len() % 64 != 0
-}
-
-fn is_absent(entry: Entry) -> bool
-    ensures { result ≡ is_absent (seen entry) }
-{
-    matches!(entry, Entry::Absent)
-}
-
-#[tactic(auto, unfolding(crate::specs::Outcomes::print_region))]
-fn print_region<W: Sink>(region: &[u8], out: &mut W) -> Result<(), Refusal>
-    ensures faults { W.faults out.old ≤ W.faults out.new }
-    ensures cause { IsErrOf result Refusal.Output → W.faults out.old < W.faults out.new }
-    ensures outcome { Meets (W.contents out.old) (W.contents out.new) result (print_region region.now) }
-{
-    if has_bad_size(region) {
-        return Err(Refusal::RegionShape);
-    }
-    if is_absent(entry_at(region)) {
-        return Err(Refusal::NotCbfs);
-    }
-    print_cells(region, out)
-}
-
-/// Lists the cells of a region of an image: a row for each, as the outcome of `print` says.
+/// Lists the cells of a region.
 #[tactic(auto, unfolding(crate::specs::Outcomes::print))]
-pub fn print_image<W: Sink>(image: &[u8], region: &[u8], out: &mut W) -> Result<(), Refusal>
+pub fn print<F: Flash, W: Sink>(
+    paged: &mut Paged<F>,
+    name: &[u8],
+    out: &mut W,
+) -> Result<(), Refusal>
+    ensures reads { Reads (2 * length (F.facts paged.old.device).content + 64)
+        (F.facts paged.old.device) (F.facts paged.new.device) }
+    ensures device { IsErrOf result Refusal.Device →
+        (F.facts paged.old.device).faults < (F.facts paged.new.device).faults }
     ensures faults { W.faults out.old ≤ W.faults out.new }
-    ensures cause { IsErrOf result Refusal.Output → W.faults out.old < W.faults out.new }
-    ensures outcome { Meets (W.contents out.old) (W.contents out.new) result (print image.now region.now) }
+    ensures output { IsErrOf result Refusal.Output → W.faults out.old < W.faults out.new }
+    ensures no_other { IsErrOf result Refusal.Source → ⊥ }
+    ensures told { IsTrue (F.facts paged.old.device).honest → Tells (W.contents out.old) (W.contents out.new) result
+        (print (F.facts paged.old.device).content name.now) }
 {
-    match region_of(image, region) {
-        Ok(region) => print_region(region, out),
-        Err(refusal) => Err(refusal),
+    match flash_store::region(paged, name) {
+        Ok(region) => print_region(paged, region, out),
+        Err(fault) => Err(store_refusal(fault)),
     }
 }

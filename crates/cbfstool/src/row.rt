@@ -1,12 +1,15 @@
 //! The printed row of a cell.
 
-ghost use Rattle.std.specs.Prelude.{◌≡◌, ◌+◌, ◌*◌, ◌<◌, ◌≤◌, ◌++◌, ◌∷◌, [], false, true, length, drop, Some, None};
+ghost use Rattle.std.specs.Prelude.{◌≡◌, ◌+◌, ◌*◌, ◌<◌, ◌≤◌, ◌++◌, ◌∷◌, [], false, true, length, drop, Some, None, Err, OnErr};
 ghost use Rattle.std.specs.Fmt.{digit_glyph, digits, decimal};
 ghost use Rattle.arrayvec.specs.ArrayVec.{array_vec_len};
 ghost use Rattle.cbfstool.specs.Rows.{printed_byte, printed_name, hexadecimal, printed_type, printed_packing, label, compression, row_text};
+ghost use Rattle.cbfstool.specs.Told.{Tells, shows};
 
+use crate::refusal::Refusal;
 use arrayvec::ArrayVec;
 use flash_format::{Head, type_name};
+use flash_store::{Sink, put_all};
 use itoa::Buffer;
 
 /// Room for the longest row: a name of 255 bytes, each escaped, and the other fields.
@@ -14,7 +17,7 @@ const ROW_LEN: usize = 1152;
 
 pub type Row = ArrayVec<u8, ROW_LEN>;
 
-fn push_text(row: &mut Row, text: &[u8])
+pub fn push_text(row: &mut Row, text: &[u8])
     requires { array_vec_len row.old + length text.now ≤ ROW_LEN }
     ensures items { row.new.items ≡ row.old.items ++ text.now }
     ensures len { array_vec_len row.new ≡ array_vec_len row.old + length text.now }
@@ -47,7 +50,7 @@ fn push_byte(row: &mut Row, byte: u8)
     }
 }
 
-fn push_name(row: &mut Row, name: &[u8])
+pub fn push_name(row: &mut Row, name: &[u8])
     requires { array_vec_len row.old + 4 * length name.now ≤ ROW_LEN }
     ensures items { row.new.items ≡ row.old.items ++ printed_name name.now }
     ensures len { array_vec_len row.new ≤ array_vec_len row.old + 4 * length name.now }
@@ -74,7 +77,7 @@ fn write_digits(n: u64, text: &mut [u8; 16]) -> usize
 }
 
 #[tactic(auto, unfolding(crate::specs::Rows::hexadecimal))]
-fn push_hexadecimal(row: &mut Row, n: u64)
+pub fn push_hexadecimal(row: &mut Row, n: u64)
     requires { array_vec_len row.old + 18 ≤ ROW_LEN }
     ensures items { row.new.items ≡ row.old.items ++ hexadecimal n }
     ensures len { array_vec_len row.new ≤ array_vec_len row.old + 18 }
@@ -85,7 +88,7 @@ fn push_hexadecimal(row: &mut Row, n: u64)
     push_text(row, &text[start..]);
 }
 
-fn push_decimal(row: &mut Row, n: u32)
+pub fn push_decimal(row: &mut Row, n: u32)
     requires { array_vec_len row.old + 40 ≤ ROW_LEN }
     ensures items { row.new.items ≡ row.old.items ++ decimal n }
     ensures len { array_vec_len row.new ≤ array_vec_len row.old + 40 }
@@ -166,4 +169,17 @@ pub fn row_text(at: u64, head: &Head, name: &[u8], packing: u32) -> Row
     push_compression(&mut row, head, packing);
     push_text(&mut row, b"\n");
     row
+}
+
+/// Writes a row.
+pub fn put_row<W: Sink>(out: &mut W, row: &Row) -> Result<(), Refusal>
+    ensures faults { W.faults out.old ≤ W.faults out.new }
+    ensures output { OnErr result (W.faults out.old < W.faults out.new) }
+    ensures only { OnErr result (result ≡ Err Refusal.Output) }
+    ensures told { Tells (W.contents out.old) (W.contents out.new) result (shows row.now.items) }
+{
+    match put_all(out, row.as_slice()) {
+        Ok(()) => Ok(()),
+        Err(_) => Err(Refusal::Output),
+    }
 }

@@ -1,0 +1,93 @@
+-- What a walk answers at a place, by what stands there.
+use Rattle.std.proofs.Common.{◌≡◌, ℕ, ◌+◌, ◌%◌, ◌<◌, ◌≤◌, Some, Bool, true, false, IsTrue, List, length, drop, Ok, Err, refl, ap, ◌∙◌, arith, eqb, length-drop}
+use Rattle.std.specs.Prelude.{IsErrOf}
+use Rattle.std.proofs.lemmas.Grind.{common_steps}
+use Rattle.flash_format.specs.declared.head.Head.{Head}
+use Rattle.flash_format.specs.declared.head.DamageKind.{DamageKind}
+use Rattle.flash_format.specs.Head.{head_of}
+use Rattle.flash_format.specs.Entry.{Entry, absent, damaged, cell, entry}
+use Rattle.flash_store.specs.Device.{Device}
+use Rattle.flash_store.specs.Device.{Reads}
+use Rattle.cbfs_walk.specs.Walks.{Answer, Walking, EndsWalk, GivesCellAt, moved, has_bad_size, answer_by, answer_at}
+use Rattle.cbfs_walk.specs.declared.walk.Step.TheVariants as steps
+use Rattle.cbfs_walk.specs.declared.walk.WalkFault.TheVariants as faults
+
+-- a device stays honest
+pub honest_still : {a b : Bool} → b ≡ a → IsTrue a → IsTrue b
+honest_still e h = rw e h
+
+pub good_size : (size : ℕ) → false ≡ has_bad_size size → size % 64 ≡ 0
+good_size size e = grind (arith, common_steps)
+
+pub answer_shape : (x : List ℕ) (at size : ℕ) → length x ≡ size → true ≡ has_bad_size size → Err faults.RegionShape ≡ answer_at x at
+unfolding answer_at
+answer_shape x at size len bad = rw (len, ← bad) refl
+
+pub answer_end : (x : List ℕ) (at size : ℕ) → length x ≡ size → false ≡ has_bad_size size → at ≡ size → Ok steps.End ≡ answer_at x at
+unfolding answer_at
+answer_end x at size len good end =
+    let none : length (drop at x) ≡ 0 = omega (arith, length-drop at x) in
+    rw (len, ← good, none) refl
+
+pub answer_entry : (x : List ℕ) (at size : ℕ) (e : Entry) → length x ≡ size → false ≡ has_bad_size size → at < size → e ≡ entry (drop at x) → answer_by (drop at x) at e ≡ answer_at x at
+unfolding answer_at
+answer_entry x at size e len good inside is =
+    let some : eqb (length (drop at x)) 0 ≡ false = let l : 0 < length (drop at x) = omega (arith, length-drop at x) in grind (arith, common_steps) in
+    rw (len, ← good, some) (ap (answer_by (drop at x) at) is)
+
+pub answer_absent : (x : List ℕ) (at size : ℕ) → length x ≡ size → false ≡ has_bad_size size → at < size → absent ≡ entry (drop at x) → at ≡ 0 → Err faults.NotCbfs ≡ answer_at x at
+answer_absent x at size len good inside is first =
+    let e : eqb at 0 ≡ true = grind (arith, common_steps) in
+    rw (← answer_entry x at size absent len good inside is, e) refl
+
+pub answer_tail : (x : List ℕ) (at size : ℕ) → length x ≡ size → false ≡ has_bad_size size → at < size → absent ≡ entry (drop at x) → 0 < at → Ok (steps.Tail at) ≡ answer_at x at
+answer_tail x at size len good inside is later =
+    let e : eqb at 0 ≡ false = grind (arith, common_steps) in
+    rw (← answer_entry x at size absent len good inside is, e) refl
+
+pub answer_damaged : (x : List ℕ) (at size : ℕ) (k : DamageKind) → length x ≡ size → false ≡ has_bad_size size → at < size → damaged k ≡ entry (drop at x) → Err (faults.Damaged at k) ≡ answer_at x at
+answer_damaged x at size k len good inside is = answer_entry x at size (damaged k) len good inside is
+
+pub answer_cell : (x : List ℕ) (at size span : ℕ) (h : Head) → length x ≡ size → false ≡ has_bad_size size → at < size → cell span ≡ entry (drop at x) → h ≡ head_of (drop at x)
+    → Ok (steps.Cell (record { at = at; head = h; span = span })) ≡ answer_at x at
+answer_cell x at size span h len good inside is head =
+    ap (λ (k : Head). Ok (steps.Cell (record { at = at; head = k; span = span }))) head ∙ answer_entry x at size (cell span) len good inside is
+
+-- one call of reads behind another
+pub Reads-then : (m n k : ℕ) (old mid new : Device) → m + n ≤ k → Reads m old mid → Reads n mid new → Reads k old new
+Reads-then m n k old mid new le a b = record {
+  calls = record {
+    no_fewer = omega (arith, a.calls.no_fewer, b.calls.no_fewer);
+    no_more = omega (arith, a.calls.no_more, b.calls.no_more, le);
+    faults = omega (arith, a.calls.faults, b.calls.faults);
+    same_honesty = b.calls.same_honesty ∙ a.calls.same_honesty;
+    same_length = b.calls.same_length ∙ a.calls.same_length;
+  };
+  unchanged = λ h. b.unchanged (honest_still a.calls.same_honesty h) ∙ a.unchanged h;
+}
+
+-- ---- a walk that has ended
+
+pub ends_cause : {T : Type 0} (a : Answer) → EndsWalk a → IsErrOf a faults.Device → T
+ends_cause (Ok (steps.Cell c)) e is = absurd e
+ends_cause (Ok steps.End) e is = absurd cc
+ends_cause (Ok (steps.Tail at)) e is = absurd cc
+ends_cause (Err faults.Device) e is = absurd e
+ends_cause (Err faults.RegionShape) e is = absurd cc
+ends_cause (Err faults.NotCbfs) e is = absurd cc
+ends_cause (Err (faults.Damaged at kind)) e is = absurd cc
+
+pub ends_cell : (size at : ℕ) (a : Answer) → EndsWalk a → GivesCellAt size at a
+ends_cell size at (Ok (steps.Cell c)) e = absurd e
+ends_cell size at (Ok steps.End) e = tt
+ends_cell size at (Ok (steps.Tail place)) e = tt
+ends_cell size at (Err fault) e = tt
+
+pub ends_moved : (w : Walking) (a : Answer) → EndsWalk a → w.ended ≡ Some a → w ≡ moved w a
+ends_moved w (Ok (steps.Cell c)) e is = absurd e
+ends_moved w (Ok steps.End) e is = ap (λ o. record w { ended = o }) is
+ends_moved w (Ok (steps.Tail at)) e is = ap (λ o. record w { ended = o }) is
+ends_moved w (Err faults.Device) e is = absurd e
+ends_moved w (Err faults.RegionShape) e is = ap (λ o. record w { ended = o }) is
+ends_moved w (Err faults.NotCbfs) e is = ap (λ o. record w { ended = o }) is
+ends_moved w (Err (faults.Damaged at kind)) e is = ap (λ o. record w { ended = o }) is

@@ -1,0 +1,78 @@
+-- What the checks of a head say, and how they make an entry.
+use Rattle.std.proofs.Common.{◌≡◌, ℕ, ◌+◌, ◌%◌, ◌≤◌, Bool, true, false, cond, not, ◌&&◌, ◌||◌, List, length, Some, None, Ok, Err, refl, sym, ap, ◌∙◌, arith, eqb, ltb}
+use Rattle.std.proofs.lemmas.Bool.{ltb-false}
+use Rattle.flash_format.specs.declared.head.Head.{Head}
+use Rattle.flash_format.specs.declared.head.Extent.{Extent}
+use Rattle.flash_format.specs.declared.head.DamageKind.{DamageKind}
+use Rattle.flash_format.specs.Head.{is_free, attributes_misplaced, checked, round64}
+use Rattle.flash_format.specs.Entry.{Entry, absent, damaged, cell, entry, under, front, present, component, name_end}
+use Rattle.flash_format.proofs.CutSteps.{checked_ok}
+use Rattle.cbfs_walk.specs.Cells as cells
+use Rattle.cbfs_walk.specs.Cells.{IsCellIn}
+
+pub record IsGood (left : ℕ) (h : Head) (span : ℕ) : Type 0 where
+  pub front : 24 ≤ h.offset
+  pub fits : h.offset + h.len ≤ span
+  pub inside : h.offset + h.len ≤ left
+  pub positive : 64 ≤ span
+  pub whole : span % 64 ≡ 0
+  pub within : left % 64 ≡ 0 → span ≤ left
+  pub name_low : is_free h ≡ false → 24 ≤ name_end h
+  pub name_high : is_free h ≡ false → name_end h ≤ h.offset
+  pub placed : is_free h ≡ false → attributes_misplaced h ≡ false
+  pub attributes : is_free h ≡ false → h.attributes_offset ≤ h.offset
+
+pub placed_parts : (h : Head) → attributes_misplaced h ≡ false → 24 ≤ h.offset → (24 ≤ name_end h) × (name_end h ≤ h.offset) × (h.attributes_offset ≤ h.offset)
+placed_parts h e front = go (eqb h.attributes_offset 0) (ltb h.attributes_offset 25) refl refl e
+  where
+    go : (none low : Bool) → eqb h.attributes_offset 0 ≡ none → ltb h.attributes_offset 25 ≡ low → (not none && (low || ltb h.offset h.attributes_offset)) ≡ false
+        → (24 ≤ cond none h.offset h.attributes_offset) × (cond none h.offset h.attributes_offset ≤ h.offset) × (h.attributes_offset ≤ h.offset)
+    go true low a b p = let zero_is : h.attributes_offset ≡ 0 = grind (arith, a) in (front, omega arith, omega arith)
+    go false true a b p = absurd cc
+    go false false a b p = let high = ltb-false _ _ p in let low = ltb-false _ _ b in (omega (arith, low), high, high)
+
+pub checks_give : (left : ℕ) (h : Head) (span : ℕ) → cells.IsChecked left h span → IsGood left h span
+checks_give left h span ok =
+    let k = checked_ok h left (record { content = h.offset; span = span }) ok in
+    let some : 24 ≤ h.offset + h.len = omega (arith, k.front) in
+    let r = rounds left (h.offset + h.len) some k.inside in
+    rw k.span (record {
+      front = k.front;
+      fits = r.3;
+      inside = k.inside;
+      positive = r.0;
+      whole = r.1;
+      within = r.2;
+      name_low = λ used. (placed_parts h (k.placed used) k.front).0;
+      name_high = λ used. (placed_parts h (k.placed used) k.front).1;
+      placed = k.placed;
+      attributes = λ used. (placed_parts h (k.placed used) k.front).2;
+    })
+  where
+    rounds : (left n : ℕ) → 24 ≤ n → n ≤ left → (64 ≤ round64 n) × (round64 n % 64 ≡ 0) × (left % 64 ≡ 0 → round64 n ≤ left) × (n ≤ round64 n)
+    rounds left n some le = (omega arith, omega arith, λ h. omega arith, omega arith)
+
+pub checked_extent : (h : Head) (left : ℕ) (e : Extent) → Ok e ≡ checked h left → cells.IsChecked left h e.span
+checked_extent h left e is =
+    let k = checked_ok h left e (sym is) in
+    sym is ∙ ap (λ n. Ok (record { content = n; span = e.span })) k.content
+
+-- ---- entries
+
+pub entry_absent : (x : List ℕ) → None ≡ front x → absent ≡ entry x
+unfolding entry
+entry_absent x f = ap (under x) f
+
+pub entry_damaged : (x : List ℕ) (h : Head) (left : ℕ) (k : DamageKind) → Some h ≡ front x → length x ≡ left → Err k ≡ checked h left → damaged k ≡ entry x
+unfolding entry
+entry_damaged x h left k f n e = ap (present h x) (e ∙ ap (checked h) (sym n)) ∙ ap (under x) f
+
+pub entry_free : (x : List ℕ) (h : Head) (left : ℕ) (e : Extent) → Some h ≡ front x → length x ≡ left → Ok e ≡ checked h left → true ≡ is_free h → cell e.span ≡ entry x
+unfolding entry
+entry_free x h left e f n ok free =
+    ap (λ b. cond b (cell e.span) (component h x e.span)) free ∙ ap (present h x) (ok ∙ ap (checked h) (sym n)) ∙ ap (under x) f
+
+pub entry_used : (x : List ℕ) (h : Head) (left : ℕ) (e : Extent) (s : Entry) → Some h ≡ front x → length x ≡ left → Ok e ≡ checked h left → false ≡ is_free h → s ≡ component h x e.span → s ≡ entry x
+unfolding entry
+entry_used x h left e s f n ok used is =
+    is ∙ ap (λ b. cond b (cell e.span) (component h x e.span)) used ∙ ap (present h x) (ok ∙ ap (checked h) (sym n)) ∙ ap (under x) f

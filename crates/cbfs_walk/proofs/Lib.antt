@@ -1,0 +1,10 @@
+pub mod Parts
+pub mod Checks
+pub mod Answering
+pub mod Shapes
+pub mod CutLaws
+pub mod Texts
+pub mod CellNames
+pub mod Listing
+pub mod Scanning
+pub mod Searching

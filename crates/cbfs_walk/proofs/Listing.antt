@@ -1,0 +1,198 @@
+-- What a list of attributes has at its front, and how it goes on.
+use Rattle.std.proofs.Common.{◌≡◌, ℕ, ◌+◌, ◌-◌, ◌≤◌, min, Bool, true, false, cond, List, [], ◌∷◌, length, take, drop, Option, Some, None, refl, sym, ap, subst, ◌∙◌, arith, eqb, ltb}
+use Rattle.std.specs.Prelude.{slice_range, is_some, unwrap_or}
+use Rattle.std.specs.Option.{option_map}
+use Rattle.std.proofs.lemmas.Bool.{le-ltb}
+use Rattle.flash_format.specs.declared.attribute.AttrHead.{AttrHead}
+use Rattle.flash_format.specs.declared.head.Head.{Head}
+use Rattle.flash_format.specs.Head.{head_of, is_free}
+use Rattle.flash_format.specs.Attributes.{Attribute, attribute, attributes, attr_head_of, ends_list, is_malformed, is_unused, has_bad_len}
+use Rattle.flash_format.specs.Entry.{attribute_field, name_end}
+use Rattle.flash_format.specs.Components.{cell_attributes}
+use Rattle.flash_format.proofs.Fronts.{attr_head_of-take}
+use Rattle.flash_format.proofs.AttributeSteps.{attribute_len, attributes_end, attributes_malformed, attributes_more}
+use Rattle.flash_store.specs.Regions.{Range, LiesIn, bytes_in}
+use Rattle.cbfs_walk.specs.Cells.{cell_in}
+use Rattle.cbfs_walk.specs.Walks.{StandsIn}
+use Rattle.cbfs_walk.specs.AttrWalks.{AttrWalking, attr_walk_of, attributes_left, first_head, behind_first}
+use Rattle.cbfs_walk.specs.Listed.{listed_in}
+use Rattle.cbfs_walk.specs.declared.cell.Cell.{Cell}
+use Rattle.cbfs_walk.specs.declared.attribute_walk.Listed as declared
+use Rattle.cbfs_walk.specs.declared.attribute_walk.Listed.TheVariants.{End, Malformed}
+use Rattle.cbfs_walk.specs.declared.attribute_walk.Listed.TheVariants as listed
+use Rattle.cbfs_walk.proofs.Parts.{length-region, length-range, range-take, range-behind, range-drop}
+use Rattle.cbfs_walk.proofs.CutLaws.{standing, standing_good, cell_head, cell_part, component_whole}
+
+-- ---- what is read at a place
+
+-- a head that is read where it stands says what the list has there
+listed_by : (x : List ℕ) (at end : ℕ) (h : AttrHead) → at + 8 ≤ end → end ≤ length x → h ≡ attr_head_of (slice_range x at (at + 8))
+    → cond (is_unused h.tag) End (cond (has_bad_len h (end - at)) Malformed (listed.Attribute h)) ≡ listed_in (slice_range x at end)
+listed_by x at end h room inside e =
+    let rest = slice_range x at end in
+    let len : length rest ≡ end - at = length-range x at end inside in
+    let same : h ≡ attr_head_of rest = e ∙ ap attr_head_of (sym (range-take x at end 8 room)) ∙ attr_head_of-take rest 8 (omega arith) in
+    let long : ltb (length rest) 8 ≡ false = le-ltb (length rest) 8 (omega (arith, len, room)) in
+    let f = λ (k : AttrHead) (left : ℕ). let v : declared.Listed = cond (is_unused k.tag) End (cond (has_bad_len k left) Malformed (listed.Attribute k)) in v in
+    ap (λ k. f k (end - at)) same ∙ ap (f (attr_head_of rest)) (sym len) ∙ rw long refl
+
+-- what a read of the head tells, by the two tests of it
+module _ (r : Range) (image : List ℕ) (at end : ℕ) (h : AttrHead) (lies : LiesIn r image) (inside : end ≤ r.size) (room : 8 ≤ end - at)
+    (head : h ≡ attr_head_of (slice_range (bytes_in r image) at (at + 8))) where
+  told : cond (is_unused h.tag) End (cond (has_bad_len h (end - at)) Malformed (listed.Attribute h)) ≡ listed_in (slice_range (bytes_in r image) at end)
+  told = listed_by (bytes_in r image) at end h (omega (arith, room)) (omega (arith, length-region r image lies, inside)) head
+
+  pub listed_unused : true ≡ is_unused h.tag → End ≡ listed_in (slice_range (bytes_in r image) at end)
+  listed_unused unused = ap (λ b. cond b End (cond (has_bad_len h (end - at)) Malformed (listed.Attribute h))) unused ∙ told
+
+  pub listed_bad : false ≡ is_unused h.tag → true ≡ has_bad_len h (end - at) → Malformed ≡ listed_in (slice_range (bytes_in r image) at end)
+  listed_bad used bad = ap (λ b. cond b Malformed (listed.Attribute h)) bad ∙ ap (λ b. cond b End (cond (has_bad_len h (end - at)) Malformed (listed.Attribute h))) used ∙ told
+
+  pub listed_good : false ≡ is_unused h.tag → false ≡ has_bad_len h (end - at) → listed.Attribute h ≡ listed_in (slice_range (bytes_in r image) at end)
+  listed_good used good = ap (λ b. cond b Malformed (listed.Attribute h)) good ∙ ap (λ b. cond b End (cond (has_bad_len h (end - at)) Malformed (listed.Attribute h))) used ∙ told
+
+-- ---- how the list goes on
+
+inverted : (a b : Bool) (k h : AttrHead) → (let v : declared.Listed = cond a End (cond b Malformed (listed.Attribute k)) in listed.Attribute h ≡ v) → (a ≡ false) × (b ≡ false) × (h ≡ k)
+inverted true b k h e = absurd cc
+inverted false true k h e = absurd cc
+inverted false false k h e = (refl, refl, cc)
+
+inverted_end : (a b : Bool) (k : AttrHead) → (let v : declared.Listed = cond a End (cond b Malformed (listed.Attribute k)) in End ≡ v) → a ≡ true
+inverted_end true b k e = refl
+inverted_end false true k e = absurd cc
+inverted_end false false k e = absurd cc
+
+inverted_malformed : (a b : Bool) (k : AttrHead) → (let v : declared.Listed = cond a End (cond b Malformed (listed.Attribute k)) in Malformed ≡ v) → (a ≡ false) × (b ≡ true)
+inverted_malformed true b k e = absurd cc
+inverted_malformed false true k e = (refl, refl)
+inverted_malformed false false k e = absurd cc
+
+-- an attribute at the front, and the others behind it
+pub record Goes (y : List ℕ) (h : AttrHead) : Type 0 where
+  pub head : h ≡ attr_head_of y
+  pub least : 8 ≤ h.len
+  pub inside : h.len ≤ length y
+  pub all : attributes y ≡ option_map (λ others. attribute y ∷ others) (attributes (drop h.len y))
+
+pub goes : (y : List ℕ) (h : AttrHead) → listed.Attribute h ≡ listed_in y → Goes y h
+goes y h e =
+    let v = inverted (ends_list y) (is_malformed y) (attr_head_of y) h e in
+    let len = attribute_len y v.1 in
+    let n : (attr_head_of y).len ≡ h.len = ap (λ (k : AttrHead). k.len) (sym v.2) in
+    record {
+      head = v.2;
+      least = omega (arith, len.head, n);
+      inside = omega (arith, len.inside, n);
+      all = attributes_more y v.0 v.1 ∙ ap (λ k. option_map (λ others. attribute y ∷ others) (attributes (drop k y))) n;
+    }
+
+pub goes_end : (y : List ℕ) → End ≡ listed_in y → attributes y ≡ Some []
+goes_end y e = attributes_end y (inverted_end (ends_list y) (is_malformed y) (attr_head_of y) e)
+
+pub goes_malformed : (y : List ℕ) → Malformed ≡ listed_in y → attributes y ≡ None
+goes_malformed y e = let v = inverted_malformed (ends_list y) (is_malformed y) (attr_head_of y) e in attributes_malformed y v.0 v.1
+
+-- where all attributes are well formed
+pub record GoesOn (y : List ℕ) (h : AttrHead) (all : List Attribute) : Type 0 where
+  pub first : all ≡ attribute y ∷ behind_first all
+  pub rest : attributes (drop h.len y) ≡ Some (behind_first all)
+
+pub goes_on : (y : List ℕ) (h : AttrHead) (all : List Attribute) → Goes y h → attributes y ≡ Some all → GoesOn y h all
+goes_on y h all g e = go (attributes (drop h.len y)) refl (sym g.all ∙ e)
+  where
+    go : (o : Option (List Attribute)) → attributes (drop h.len y) ≡ o → option_map (λ others. attribute y ∷ others) o ≡ Some all → GoesOn y h all
+    go None is p = absurd cc
+    go (Some others) is p =
+        let same : attribute y ∷ others ≡ all = cc in
+        record {
+          first = sym same ∙ ap (λ (l : List Attribute). attribute y ∷ behind_first l) same;
+          rest = is ∙ ap (λ (l : List Attribute). Some (behind_first l)) same;
+        }
+
+pub goes_head : (y : List ℕ) (h : AttrHead) (all : List Attribute) → Goes y h → attributes y ≡ Some all → Some h ≡ first_head all
+goes_head y h all g e =
+    let on = goes_on y h all g e in
+    let len : h.len ≡ 8 + length (slice_range y 8 h.len) = omega (arith, g.least, g.inside, length-range y 8 h.len g.inside) in
+    let f = λ (n : ℕ) (k : AttrHead). let v : Option AttrHead = Some (record { tag = k.tag; len = n }) in v in
+    ap (λ n. f n h) len
+    ∙ ap (λ (k : AttrHead). f (8 + length (slice_range y 8 k.len)) k) g.head
+    ∙ ap first_head (sym on.first)
+
+pub goes_none : (y : List ℕ) (all : List Attribute) → attributes y ≡ Some [] → attributes y ≡ Some all → all ≡ []
+goes_none y all e f = let same : (let o : Option (List Attribute) = Some [] in o) ≡ Some all = sym e ∙ f in cc
+
+-- ---- a walk over the attributes of a component
+
+attribute_field_is : (h : Head) (x : List ℕ) → attribute_field h x ≡ slice_range x (name_end h) h.offset
+attribute_field_is h x = go (eqb h.attributes_offset 0)
+  where
+    go : (none : Bool) → cond none [] (slice_range x h.attributes_offset h.offset) ≡ slice_range x (cond none h.offset h.attributes_offset) h.offset
+    go true = ap (λ n. take n (drop h.offset x)) {x = 0} {y = h.offset - h.offset} (omega arith)
+    go false = refl
+
+some_is : {A : Type 0} (o : Option A) (other : A) → is_some o ≡ true → o ≡ Some (unwrap_or o other)
+some_is None other e = absurd cc
+some_is (Some a) other e = refl
+
+-- the attributes of a component that stands in a region are well formed, and lie between the name and the content
+pub listed_all : (x : List ℕ) (c : Cell) → StandsIn x c → is_free c.head ≡ false
+    → attributes (slice_range x (c.at + name_end c.head) (c.at + c.head.offset)) ≡ Some (cell_attributes (cell_in x c))
+listed_all x c stands used =
+    let s = standing x c stands in
+    let k = standing_good x c s in
+    let rest = drop c.at x in
+    let whole = component_whole rest c.span s.entry (ap is_free (sym s.head) ∙ used) in
+    let there : attribute_field (head_of rest) rest ≡ slice_range x (c.at + name_end c.head) (c.at + c.head.offset) =
+    ap (λ (h : Head). attribute_field h rest) (sym s.head) ∙ attribute_field_is c.head rest ∙ range-drop x c.at (name_end c.head) c.head.offset in
+    let here : attribute_field (head_of (cell_in x c)) (cell_in x c) ≡ slice_range x (c.at + name_end c.head) (c.at + c.head.offset) =
+    ap (λ (h : Head). attribute_field h (cell_in x c)) (cell_head x c s k.positive) ∙ attribute_field_is c.head (cell_in x c)
+    ∙ cell_part x c (name_end c.head) c.head.offset (omega (arith, k.fits)) in
+    some_is (attributes (slice_range x (c.at + name_end c.head) (c.at + c.head.offset))) [] (ap (λ l. is_some (attributes l)) (sym there) ∙ whole.formed)
+    ∙ ap (λ l. Some (unwrap_or (attributes l) [])) (sym here)
+
+pub walk_all : (x : List ℕ) (c : Cell) → StandsIn x c → is_free c.head ≡ false → attributes_left x (attr_walk_of c) ≡ Some (cell_attributes (cell_in x c))
+walk_all x c stands used =
+    let k = standing_good x c (standing x c stands) in
+    let high = k.name_high used in
+    ap (λ n. attributes (slice_range x (c.at + n) (c.at + c.head.offset))) {x = min (name_end c.head) c.head.offset} {y = name_end c.head} (omega (arith, high))
+    ∙ listed_all x c stands used
+
+-- what a walk that stood at a place gives, and what is left behind it
+abbrev pub GivesListed : List ℕ → Cell → ℕ → List Attribute → declared.Listed → Type 0
+GivesListed x k a all (listed.Attribute h) = (Some h ≡ first_head all) × (attributes_left x (record { cell = k; at = a + h.len }) ≡ Some (behind_first all))
+GivesListed x k a all End = (None ≡ first_head all) × (attributes_left x (record { cell = k; at = k.head.offset }) ≡ Some (behind_first all))
+GivesListed x k a all Malformed = ⊥
+
+stepped : (x : List ℕ) (k : Cell) (a p q : ℕ) (w : AttrWalking) (l : declared.Listed) → w ≡ record { cell = k; at = a } → p ≡ k.at + a → q ≡ k.at + k.head.offset → q ≤ length x
+    → l ≡ listed_in (slice_range x p q) → (all : List Attribute) → attributes_left x w ≡ Some all → GivesListed x k a all l
+stepped x k a p q w l view from to inside is all left = go l is
+  where
+    here : attributes (slice_range x p q) ≡ Some all
+    here = ap (λ n. attributes (slice_range x n q)) from ∙ ap (λ n. attributes (slice_range x (k.at + a) n)) to ∙ ap (attributes_left x) (sym view) ∙ left
+
+    none_left : attributes_left x (record { cell = k; at = k.head.offset }) ≡ Some []
+    none_left = ap (λ n. attributes (take n (drop (k.at + k.head.offset) x))) {x = k.at + k.head.offset - (k.at + k.head.offset)} {y = 0} (omega arith) ∙ attributes_end [] refl
+
+    go : (m : declared.Listed) → m ≡ listed_in (slice_range x p q) → GivesListed x k a all m
+    go (listed.Attribute h) is =
+        let g = goes (slice_range x p q) h is in
+        let on = goes_on (slice_range x p q) h all g here in
+        let fits : p + h.len ≤ q = omega (arith, g.least, g.inside, length-range x p q inside) in (
+          goes_head (slice_range x p q) h all g here,
+          ap (λ n. attributes (slice_range x n (k.at + k.head.offset))) {x = k.at + (a + h.len)} {y = p + h.len} (omega (arith, from))
+              ∙ ap (λ n. attributes (slice_range x (p + h.len) n)) (sym to)
+              ∙ ap (λ y. attributes y) (sym (range-behind x p q h.len fits))
+              ∙ on.rest,
+        )
+    go End is =
+        let none : all ≡ [] = goes_none (slice_range x p q) all (goes_end (slice_range x p q) is) here in
+        (ap first_head (sym none), none_left ∙ ap (λ (l : List Attribute). Some (behind_first l)) (sym none))
+    go Malformed is = let e : (let o : Option (List Attribute) = None in o) ≡ Some all = sym (goes_malformed (slice_range x p q) is) ∙ here in absurd cc
+
+pub walk_step : (r : Range) (image : List ℕ) (k : Cell) (a p q : ℕ) (w : AttrWalking) (l : declared.Listed) → LiesIn r image → w.cell.at + w.cell.head.offset ≤ r.size → w ≡ record { cell = k; at = a }
+    → p ≡ k.at + a → q ≡ k.at + k.head.offset → l ≡ listed_in (slice_range (bytes_in r image) p q)
+    → (all : List Attribute) → attributes_left (bytes_in r image) w ≡ Some all → GivesListed (bytes_in r image) k a all l
+walk_step r image k a p q w l lies inside view from to is all left =
+    let fits : k.at + k.head.offset ≤ r.size = subst (λ (v : AttrWalking). v.cell.at + v.cell.head.offset ≤ r.size) view inside in
+    stepped (bytes_in r image) k a p q w l view from to (omega (arith, to, fits, length-region r image lies)) is all left

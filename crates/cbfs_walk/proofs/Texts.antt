@@ -1,0 +1,71 @@
+-- Text before its first NUL.
+use Rattle.std.proofs.Common.{◌≡◌, ℕ, zero, suc, ◌+◌, ◌<◌, ◌≤◌, min, Bool, true, false, cond, not, ◌||◌, List, [], ◌∷◌, length, take, refl, sym, ap, ◌∙◌, arith, ltb, length-take, ◌⊎◌, inl, inr}
+use Rattle.std.specs.List.{list_any, before_first, position_or_len}
+use Rattle.std.specs.Str.{bytes_eq}
+use Rattle.std.proofs.lemmas.List.{take-take}
+use Rattle.std.proofs.lemmas.List.Folds.{length-prefix_len}
+use Rattle.std.proofs.lemmas.List.Sums.{prefix_len-le-length}
+use Rattle.std.proofs.lemmas.Bool.{cases_lt, ltb-true, lt-ltb, le-ltb, false_from_ne_true}
+use Rattle.std.proofs.lemmas.Slice.Eq.{bytes_eq-Decides}
+use Rattle.flash_format.specs.Entry.{is_nul}
+
+pub any_len : (x : List ℕ) → list_any is_nul x ≡ ltb (position_or_len is_nul x) (length x)
+any_len [] = refl
+any_len (b ∷ x) = go (is_nul b) (any_len x)
+  where
+    next : (cases : (position_or_len is_nul x < length x) ⊎ (length x ≤ position_or_len is_nul x)) → ltb (position_or_len is_nul x) (length x) ≡ ltb (1 + position_or_len is_nul x) (suc (length x))
+    next (inl lt) = lt-ltb _ _ lt ∙ sym (lt-ltb _ _ (omega (arith, lt)))
+    next (inr le) = le-ltb _ _ le ∙ sym (le-ltb _ _ (omega (arith, le)))
+
+    go : (nul : Bool) → list_any is_nul x ≡ ltb (position_or_len is_nul x) (length x) → (nul || list_any is_nul x) ≡ ltb (cond (not nul) (1 + position_or_len is_nul x) 0) (suc (length x))
+    go true e = sym (lt-ltb _ _ (omega arith))
+    go false e = e ∙ next (cases_lt _ _)
+
+len_front : (k : ℕ) (x : List ℕ) → position_or_len is_nul (take k x) ≡ min (position_or_len is_nul x) k
+len_front zero x = omega arith
+len_front (suc k) [] = omega arith
+len_front (suc k) (b ∷ x) = go (is_nul b) (len_front k x)
+  where
+    go : (nul : Bool) → position_or_len is_nul (take k x) ≡ min (position_or_len is_nul x) k
+        → cond (not nul) (1 + position_or_len is_nul (take k x)) 0 ≡ min (cond (not nul) (1 + position_or_len is_nul x) 0) (suc k)
+    go true e = omega arith
+    go false e = omega arith
+
+pub text_len : (x : List ℕ) → length (before_first is_nul x) ≡ position_or_len is_nul x
+text_len x = length-prefix_len (λ b. not (is_nul b)) x
+
+pub text_most : (x : List ℕ) → position_or_len is_nul x ≤ length x
+text_most x = prefix_len-le-length (λ b. not (is_nul b)) x
+
+-- a NUL among the first bytes stands behind fewer
+pub text_within : (k : ℕ) (x : List ℕ) → list_any is_nul (take k x) ≡ true → (position_or_len is_nul x < k) × (position_or_len is_nul x < length x)
+text_within k x e =
+    let some : position_or_len is_nul (take k x) < length (take k x) = ltb-true _ _ (sym (any_len (take k x)) ∙ e) in
+    let n = len_front k x in
+    let m = length-take k x in
+    (omega (arith, some, n, m), omega (arith, some, n, m))
+
+-- the text is read alike from enough of the first bytes
+pub text_front : (k : ℕ) (x : List ℕ) → position_or_len is_nul x ≤ k → before_first is_nul (take k x) ≡ before_first is_nul x
+text_front k x le =
+    ap (λ n. take n (take k x)) {x = position_or_len is_nul (take k x)} {y = position_or_len is_nul x} (omega (arith, len_front k x, le))
+    ∙ take-take (position_or_len is_nul x) k x le
+
+-- two texts of different lengths are no equals
+texts_differ : (x y : List ℕ) → (length x ≡ length y → ⊥) → bytes_eq x y ≡ false
+texts_differ x y ne = false_from_ne_true (bytes_eq x y) (λ e. ne (ap length ((bytes_eq-Decides x y).0 e)))
+
+-- whether a text is a name shows in as many bytes as the name has, and one more
+pub text_is : (x name : List ℕ) (k : ℕ) → length name < k → position_or_len is_nul x < length x → bytes_eq (before_first is_nul (take k x)) name ≡ bytes_eq (before_first is_nul x) name
+text_is x name k lt some = go (cases_lt k (position_or_len is_nul x))
+  where
+    go : (k < position_or_len is_nul x) ⊎ (position_or_len is_nul x ≤ k) → bytes_eq (before_first is_nul (take k x)) name ≡ bytes_eq (before_first is_nul x) name
+    go (inl more) =
+        let front : length (before_first is_nul (take k x)) ≡ k = text_len (take k x) ∙ omega (arith, len_front k x, more) in
+        let all = text_len x in
+        texts_differ _ name (λ e. omega (arith, e, front, lt)) ∙ sym (texts_differ _ name (λ e. omega (arith, e, all, more, lt)))
+    go (inr less) = ap (λ t. bytes_eq t name) (text_front k x less)
+
+-- a text is shorter than a name that has no room
+pub text_is_not : (x name : List ℕ) → position_or_len is_nul x < length name → false ≡ bytes_eq (before_first is_nul x) name
+text_is_not x name lt = let all = text_len x in sym (texts_differ _ name (λ e. omega (arith, e, all, lt)))

@@ -1,0 +1,70 @@
+use Rattle.std.proofs.Common.{arith, ap, ◌∙◌, sym, ◌-◌, ◌+◌, ◌/◌}
+use Rattle.flash_format.specs.Head.{checked}
+use Rattle.std.proofs.lemmas.Result.{err_from_is_err_and}
+use Rattle.cbfs_walk.proofs.Parts.{length-rest}
+use Rattle.cbfs_walk.proofs.Checks.{checked_extent, entry_absent, entry_damaged, entry_free, entry_used, checks_give}
+use Rattle.cbfs_walk.proofs.Answering.{honest_still, Reads-then}
+use Rattle.cbfs_walk.proofs.entry.entry_at.Goals as goal
+
+pub returns-in_default-clause-entry : goal.returns-in_default-clause-entry
+returns-in_default-clause-entry g c = λ h. entry_absent _ (rw c.in_default.is at (c.in_ok-head.ensures.head h))
+
+pub returns-then-is_free-clause-checks : goal.returns-then-is_free-clause-checks
+returns-then-is_free-clause-checks g c = checked_extent _ _ c.in-Ok.extent (c.in-Ok.ensures ∙ ap (λ n. checked c.in-Some.head (n - c.args.at)) c.size.ensures)
+
+pub returns-in-Err-clause-entry : goal.returns-in-Err-clause-entry
+returns-in-Err-clause-entry g c = λ h.
+    let len = length-rest c.args.region (g.F.Flash.facts c.args.paged.now.device).content c.args.at c.requires.region in
+    entry_damaged _ c.in-Some.head _ c.in-Err.kind (rw c.in-Some.is at (c.in_ok-head.ensures.head h)) len (c.in-Err.ensures ∙ ap (λ n. checked c.in-Some.head (n - c.args.at)) c.size.ensures)
+
+pub returns-then-is_free-clause-entry : goal.returns-then-is_free-clause-entry
+returns-then-is_free-clause-entry g c = λ h.
+    let len = length-rest c.args.region (g.F.Flash.facts c.args.paged.now.device).content c.args.at c.requires.region in
+    entry_free _ c.in-Some.head _ c.in-Ok.extent (rw c.in-Some.is at (c.in_ok-head.ensures.head h)) len (c.in-Ok.ensures ∙ ap (λ n. checked c.in-Some.head (n - c.args.at)) c.size.ensures) c.if-is_free.ensures
+
+pub damage_in-requires-clause-inside : goal.damage_in-requires-clause-inside
+damage_in-requires-clause-inside g c =
+    let k = checks_give _ _ _ (checked_extent _ _ c.in-Ok.extent (c.in-Ok.ensures ∙ ap (λ n. checked c.in-Some.head (n - c.args.at)) c.size.ensures)) in
+    omega (arith, k.inside, c.requires.inside)
+
+pub damage_in-requires-clause-front : goal.damage_in-requires-clause-front
+damage_in-requires-clause-front g c = (checks_give _ _ _ (checked_extent _ _ c.in-Ok.extent c.in-Ok.ensures)).front
+
+pub damage_in-requires-clause-placed : goal.damage_in-requires-clause-placed
+damage_in-requires-clause-placed g c = (checks_give _ _ _ (checked_extent _ _ c.in-Ok.extent c.in-Ok.ensures)).placed (sym c.if-is_free.ensures)
+
+pub returns-in_err-kind-in-Ok-clause-reads : goal.returns-in_err-kind-in-Ok-clause-reads
+returns-in_err-kind-in-Ok-clause-reads g c =
+    let k = checks_give _ _ _ (checked_extent _ _ c.in-Ok.extent (c.in-Ok.ensures ∙ ap (λ n. checked c.in-Some.head (n - c.args.at)) c.size.ensures)) in
+    let all = Reads-then 1 (1 + c.in-Some.head.offset / 8) (2 + (c.args.region.size - c.args.at) / 8) _ _ _ (omega (arith, k.inside)) c.head_at.ensures.reads c.damage_in.ensures.reads in
+    let passed = err_from_is_err_and c.from_residual-in_err-kind-in-Ok.result c.from_residual-in_err-kind-in-Ok.ensures.1 in
+    rw passed.1 all
+
+pub returns-in-Some-2-clause-reads : goal.returns-in-Some-2-clause-reads
+returns-in-Some-2-clause-reads g c =
+    let k = checks_give _ _ _ (checked_extent _ _ c.in-Ok.extent (c.in-Ok.ensures ∙ ap (λ n. checked c.in-Some.head (n - c.args.at)) c.size.ensures)) in
+    Reads-then 1 (1 + c.in-Some.head.offset / 8) (2 + (c.args.region.size - c.args.at) / 8) _ _ _ (omega (arith, k.inside)) c.head_at.ensures.reads c.damage_in.ensures.reads
+
+pub returns-in-None-clause-reads : goal.returns-in-None-clause-reads
+returns-in-None-clause-reads g c =
+    let k = checks_give _ _ _ (checked_extent _ _ c.in-Ok.extent (c.in-Ok.ensures ∙ ap (λ n. checked c.in-Some.head (n - c.args.at)) c.size.ensures)) in
+    Reads-then 1 (1 + c.in-Some.head.offset / 8) (2 + c.in-Ok.extent.span / 8) _ _ _ (omega (arith, k.fits)) c.head_at.ensures.reads c.damage_in.ensures.reads
+
+pub returns-in-None-clause-checks : goal.returns-in-None-clause-checks
+returns-in-None-clause-checks g c = checked_extent _ _ c.in-Ok.extent (c.in-Ok.ensures ∙ ap (λ n. checked c.in-Some.head (n - c.args.at)) c.size.ensures)
+
+pub returns-in-Some-2-clause-entry : goal.returns-in-Some-2-clause-entry
+returns-in-Some-2-clause-entry g c = λ h.
+    let image = (g.F.Flash.facts c.args.paged.now.device).content in
+    let len = length-rest c.args.region image c.args.at c.requires.region in
+    let k = honest_still c.head_at.ensures.reads.calls.same_honesty h in
+    let told = rw (c.in-Some-2.is, c.head_at.ensures.reads.unchanged h) at (c.in_ok-kind-in-Ok.ensures.damage k) in
+    entry_used _ c.in-Some.head _ c.in-Ok.extent _ (rw c.in-Some.is at (c.in_ok-head.ensures.head h)) len (c.in-Ok.ensures ∙ ap (λ n. checked c.in-Some.head (n - c.args.at)) c.size.ensures) c.if-is_free.ensures (told c.in-Ok.extent.span)
+
+pub returns-in-None-clause-entry : goal.returns-in-None-clause-entry
+returns-in-None-clause-entry g c = λ h.
+    let image = (g.F.Flash.facts c.args.paged.now.device).content in
+    let len = length-rest c.args.region image c.args.at c.requires.region in
+    let k = honest_still c.head_at.ensures.reads.calls.same_honesty h in
+    let told = rw (c.in-None.is, c.head_at.ensures.reads.unchanged h) at (c.in_ok-kind-in-Ok.ensures.damage k) in
+    entry_used _ c.in-Some.head _ c.in-Ok.extent _ (rw c.in-Some.is at (c.in_ok-head.ensures.head h)) len (c.in-Ok.ensures ∙ ap (λ n. checked c.in-Some.head (n - c.args.at)) c.size.ensures) c.if-is_free.ensures (told c.in-Ok.extent.span)

@@ -1,0 +1,9 @@
+use Rattle.std.proofs.Common.{arith}
+use Rattle.cbfs_walk.proofs.Parts.{front_read, length-region}
+use Rattle.cbfs_walk.proofs.entry.head_at.Goals as goal
+
+pub returns-clause-head : goal.returns-clause-head
+returns-clause-head g c = λ h.
+    let image = (g.F.Flash.facts c.args.paged.now.device).content in
+    let size = length-region c.args.region image c.requires.region in
+    front_read _ c.args.at _ _ c.read.ensures (c.in_ok-read_in.ensures.read h) (omega (arith, size, c.requires.inside, c.if-size-at-lt24.false, c.size.ensures))

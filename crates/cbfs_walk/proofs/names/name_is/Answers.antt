@@ -1,0 +1,31 @@
+use Rattle.std.proofs.Common.{arith, inl, inr}
+use Rattle.flash_store.specs.Regions.{bytes_in}
+use Rattle.cbfs_walk.proofs.Parts.{length-region}
+use Rattle.cbfs_walk.proofs.CellNames.{has_field, name_compared, name_too_long}
+use Rattle.cbfs_walk.proofs.names.name_is.Goals.{then-name-gt-LONGEST-via-then-name-gt-LONGEST, then-name-gt-LONGEST-via-else-name-gt-LONGEST+then-name-name_room}
+use Rattle.cbfs_walk.proofs.names.name_is.Goals as goal
+
+pub name_room-requires : goal.name_room-requires
+name_room-requires g c = (has_field c.args.region.size c.args.cell.now c.requires.cell c.requires.component).low
+
+pub returns-then-name-gt-LONGEST-clause-named : goal.returns-then-name-gt-LONGEST-clause-named
+returns-then-name-gt-LONGEST-clause-named g c = λ h stands.
+    let image = (g.F.Flash.facts c.args.paged.now.device).content in
+    let len = length-region c.args.region image c.requires.region in
+    name_too_long (bytes_in c.args.region image) c.args.region.size c.args.cell.now c.requires.cell c.requires.component len c.args.name.now
+    (elim c.then-name-gt-LONGEST.branch [
+      | then-name-gt-LONGEST-via-then-name-gt-LONGEST w ↦ inl (omega (arith, w.if-name-gt-LONGEST.true))
+      | then-name-gt-LONGEST-via-else-name-gt-LONGEST+then-name-name_room w ↦ inr (omega (arith, w.if-name-name_room.true, w.name_room.ensures))
+    ]) stands
+
+pub is_text_at-requires-clause-inside : goal.is_text_at-requires-clause-inside
+is_text_at-requires-clause-inside g c =
+    let f = has_field c.args.region.size c.args.cell.now c.requires.cell c.requires.component in
+    omega (arith, f.inside, c.name_room.ensures)
+
+pub returns-clause-named : goal.returns-clause-named
+returns-clause-named g c = λ h stands.
+    let image = (g.F.Flash.facts c.args.paged.now.device).content in
+    let len = length-region c.args.region image c.requires.region in
+    name_compared (bytes_in c.args.region image) c.args.region.size c.args.cell.now c.requires.cell c.requires.component len
+    c.is_text_at.result _ c.args.name.now c.name_room.ensures c.if-name-name_room.false stands (c.is_text_at.ensures.same h)

@@ -1,0 +1,9 @@
+use Rattle.std.proofs.Common.{◌-◌}
+use Rattle.cbfs_walk.proofs.Searching.{Searching}
+use Rattle.cbfs_walk.proofs.search.find.Given as goal
+
+abbrev pub invariant-loop-cell : goal.invariant-loop-cell
+invariant-loop-cell g l = Searching l.fn.region l.name l.walk (g.F.Flash.facts l.initial.paged.device) (g.F.Flash.facts l.paged.device)
+
+abbrev pub decreases-loop-cell : goal.decreases-loop-cell
+decreases-loop-cell g l = l.walk.region.size - l.walk.at

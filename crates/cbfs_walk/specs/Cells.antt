@@ -1,0 +1,22 @@
+-- A cell of a region as a walk gives it: its place, its head and its length.
+use Rattle.std.specs.Prelude.{◌≡◌, ℕ, ◌+◌, ◌-◌, ◌%◌, ◌≤◌, List, slice_range, Ok}
+use Rattle.flash_format.specs.declared.head.Head.{Head}
+use Rattle.flash_format.specs.Head.{checked}
+use Rattle.cbfs_walk.specs.declared.cell.Cell.{Cell}
+
+-- a head passes its checks with so many bytes left, and its cell has this span
+abbrev pub IsChecked : ℕ → Head → ℕ → Type 0
+IsChecked left head span = checked head left ≡ Ok (record { content = head.offset; span = span })
+
+-- a cell that lies in a region of this size, and its content in the cell
+pub record IsCellIn (size : ℕ) (c : Cell) : Type 0 where
+  pub aligned : c.at % 64 ≡ 0
+  pub positive : 64 ≤ c.span
+  pub whole : c.span % 64 ≡ 0
+  pub inside : c.at + c.span ≤ size
+  pub content : c.head.offset + c.head.len ≤ c.span
+  pub checks : IsChecked (size - c.at) c.head c.span
+
+-- the bytes of a cell, of all those of its region
+abbrev pub cell_in : List ℕ → Cell → List ℕ
+cell_in x c = slice_range x c.at (c.at + c.span)

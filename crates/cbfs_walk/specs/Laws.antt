@@ -1,0 +1,45 @@
+-- The laws by which callers go on from what a walk gives.
+use Rattle.std.specs.Prelude.{◌≡◌, ℕ, ◌+◌, ◌%◌, ◌≤◌, List, length, drop, slice_range, Ok, Err, IsTrue}
+use Rattle.flash_format.specs.Head.{head_of}
+use Rattle.flash_format.specs.Entry.{entry, absent}
+use Rattle.flash_format.specs.Cut.{Cut, complete, tail, damage, ends, after, cut}
+use Rattle.flash_format.specs.Components.{cell_content}
+use Rattle.flash_store.specs.Regions.{Range, LiesIn, bytes_in}
+use Rattle.cbfs_walk.specs.Cells.{IsCellIn, cell_in}
+use Rattle.cbfs_walk.specs.Walks.{Answer, has_bad_size, answer_at, StandsIn}
+use Rattle.cbfs_walk.specs.Shaped.{shaped, ReadsCells, by_answer}
+use Rattle.cbfs_walk.specs.declared.cell.Cell.{Cell}
+use Rattle.cbfs_walk.specs.declared.walk.Step.TheVariants as steps
+use Rattle.cbfs_walk.specs.declared.walk.WalkFault.{WalkFault}
+use Rattle.cbfs_walk.specs.declared.walk.WalkFault.TheVariants as faults
+
+-- how a region's cut goes on from a place, where a walk gives this answer
+abbrev pub GoesOn : List ℕ → ℕ → Answer → Type 0
+GoesOn x at (Ok (steps.Cell c)) = (c.at ≡ at) × (cut (drop at x) ≡ after (cell_in x c) (cut (drop (at + c.span) x)))
+GoesOn x at (Ok steps.End) = (at ≡ length x) × (cut (drop at x) ≡ ends complete)
+GoesOn x at (Ok (steps.Tail place)) = (place ≡ at) × (cut (drop at x) ≡ ends tail)
+GoesOn x at (Err (faults.Damaged place kind)) = (place ≡ at) × (cut (drop at x) ≡ ends (damage kind))
+GoesOn x at (Err faults.RegionShape) = IsTrue (has_bad_size (length x))
+GoesOn x at (Err faults.NotCbfs) = (at ≡ 0) × (entry x ≡ absent)
+GoesOn x at (Err faults.Device) = ⊥
+
+-- the cells that a walk gives, then the cut of the rest, are the cut of the whole
+abbrev pub WalksFollowTheCut : Type 0
+WalksFollowTheCut = (x : List ℕ) (at : ℕ) → at ≤ length x → at % 64 ≡ 0 → GoesOn x at (answer_at x at)
+
+-- a reading that goes from cell to cell goes on by what a walk answers
+abbrev pub ReadingsTakeSteps : Type 0 → Type 0
+ReadingsTakeSteps A = (refuse : WalkFault → A) (read : ℕ → Cut → A) (each : List ℕ → Cell → A → A) → ReadsCells read each
+    → (x : List ℕ) (at : ℕ) → at ≤ length x → at % 64 ≡ 0 → shaped refuse read x at ≡ by_answer refuse read each x (answer_at x at)
+
+-- what is known of the bytes of a cell that stands in a region
+pub record CellBytes (region : Range) (image : List ℕ) (c : Cell) : Type 0 where
+  pub head : head_of (cell_in (bytes_in region image) c) ≡ c.head
+  pub span : length (cell_in (bytes_in region image) c) ≡ c.span
+  pub content : cell_content (cell_in (bytes_in region image) c)
+      ≡ slice_range image (region.start + c.at + c.head.offset) (region.start + c.at + c.head.offset + c.head.len)
+
+-- a cell of a region, its head and its content are parts of the image
+abbrev pub CellsStandInTheirImage : Type 0
+CellsStandInTheirImage = (region : Range) (image : List ℕ) (c : Cell) → LiesIn region image → IsCellIn region.size c → StandsIn (bytes_in region image) c
+    → CellBytes region image c

@@ -1,0 +1,95 @@
+-- A walk from cell to cell of a region.
+use Rattle.std.specs.Prelude.{◌≡◌, ℕ, ◌+◌, ◌-◌, Bool, not, ◌||◌, ◌%◌, List, length, drop, Option, Some, None, Result, Ok, Err, ◌==◌, if◌then◌else◌, ⊤}
+use Rattle.flash_format.specs.Head.{head_of}
+use Rattle.flash_format.specs.Entry.{Entry, absent, damaged, cell, entry}
+use Rattle.flash_store.specs.Regions.{Range}
+use Rattle.cbfs_walk.specs.Cells.{IsCellIn}
+use Rattle.cbfs_walk.specs.Entries.{reads_over}
+use Rattle.cbfs_walk.specs.declared.cell.Cell.{Cell}
+use Rattle.cbfs_walk.specs.declared.walk.Step.{Step}
+use Rattle.cbfs_walk.specs.declared.walk.Step.TheVariants as steps
+use Rattle.cbfs_walk.specs.declared.walk.WalkFault.{WalkFault}
+use Rattle.cbfs_walk.specs.declared.walk.WalkFault.TheVariants as faults
+
+abbrev pub Answer : Type 0
+Answer = Result Step WalkFault
+
+-- what contracts see of a walk: its region, where it stands, how many cells it gave, and the answer with which it ended
+pub record Walking : Type 0 where
+  pub region : Range
+  pub at : ℕ
+  pub steps : ℕ
+  pub ended : Option Answer
+
+abbrev pub walk_of : Range → Walking
+walk_of region = record { region = region; at = 0; steps = 0; ended = None }
+
+-- ---- what a walk answers
+
+abbrev pub has_bad_size : ℕ → Bool
+has_bad_size size = size == 0 || not (size % 64 == 0)
+
+abbrev pub answer_by : List ℕ → ℕ → Entry → Answer
+answer_by rest at absent = if at == 0 then Err faults.NotCbfs else Ok (steps.Tail at)
+answer_by rest at (damaged kind) = Err (faults.Damaged at kind)
+answer_by rest at (cell span) = Ok (steps.Cell (record { at = at; head = head_of rest; span = span }))
+
+-- the answer at a place of a region of these bytes
+unfoldable pub answer_at : List ℕ → ℕ → Answer
+answer_at x at =
+    let rest = drop at x in
+    if has_bad_size (length x) then Err faults.RegionShape
+    else if length rest == 0 then Ok steps.End
+    else answer_by rest at (entry rest)
+
+-- the cell is what a walk gives at its place in a region of these bytes
+abbrev pub StandsIn : List ℕ → Cell → Type 0
+StandsIn x c = answer_at x c.at ≡ Ok (steps.Cell c)
+
+-- ---- what an answer makes of a walk
+
+-- a cell goes on, a device's fault changes nothing, and every other answer ends the walk
+abbrev pub moved : Walking → Answer → Walking
+moved w (Ok (steps.Cell c)) = record w { at = w.at + c.span; steps = w.steps + 1 }
+moved w (Ok steps.End) = record w { ended = Some (Ok steps.End) }
+moved w (Ok (steps.Tail at)) = record w { ended = Some (Ok (steps.Tail at)) }
+moved w (Err faults.Device) = w
+moved w (Err faults.RegionShape) = record w { ended = Some (Err faults.RegionShape) }
+moved w (Err faults.NotCbfs) = record w { ended = Some (Err faults.NotCbfs) }
+moved w (Err (faults.Damaged at kind)) = record w { ended = Some (Err (faults.Damaged at kind)) }
+
+-- a cell stands at this place and lies in a region of this size
+abbrev pub GivesCellAt : ℕ → ℕ → Answer → Type 0
+GivesCellAt size at (Ok (steps.Cell c)) = IsCellIn size c × (c.at ≡ at)
+GivesCellAt size at (Ok steps.End) = ⊤
+GivesCellAt size at (Ok (steps.Tail place)) = ⊤
+GivesCellAt size at (Err fault) = ⊤
+
+-- every cell lies in the region, where the walk stood
+abbrev pub GivesCell : Walking → Answer → Type 0
+GivesCell w answer = GivesCellAt w.region.size w.at answer
+
+-- the answers with which a walk ends
+abbrev pub EndsWalk : Answer → Type 0
+EndsWalk (Ok (steps.Cell c)) = ⊥
+EndsWalk (Ok steps.End) = ⊤
+EndsWalk (Ok (steps.Tail at)) = ⊤
+EndsWalk (Err faults.Device) = ⊥
+EndsWalk (Err faults.RegionShape) = ⊤
+EndsWalk (Err faults.NotCbfs) = ⊤
+EndsWalk (Err (faults.Damaged at kind)) = ⊤
+
+-- the answer of a walk, once it has ended
+abbrev pub HasEnded : Walking → Answer → Type 0
+HasEnded w answer = (a : Answer) → w.ended ≡ Some a → answer ≡ a
+
+-- ---- how many reads an answer takes at most
+
+abbrev pub reads_at : ℕ → ℕ → Answer → ℕ
+reads_at size at (Ok (steps.Cell c)) = reads_over c.span
+reads_at size at (Ok steps.End) = reads_over (size - at)
+reads_at size at (Ok (steps.Tail place)) = reads_over (size - at)
+reads_at size at (Err fault) = reads_over (size - at)
+
+abbrev pub reads_of : Walking → Answer → ℕ
+reads_of w answer = reads_at w.region.size w.at answer

@@ -1,0 +1,22 @@
+//! Walks from cell to cell of a CBFS region on a device, and finds its components.
+//!
+//! No call takes memory. What a device that isn't honest answers never leads a walk out of its region.
+#![tactic(auto)]
+
+mod attribute_walk;
+mod cell;
+mod entry;
+mod laws;
+mod names;
+mod read;
+mod search;
+#[cfg(test)]
+mod tests;
+mod walk;
+
+pub use attribute_walk::{AttrWalk, attributes, packing};
+pub use cell::Cell;
+pub use laws::{cells_stand_in_their_image, readings_take_steps, walks_follow_the_cut};
+pub use names::{name, name_is};
+pub use search::find;
+pub use walk::{Step, Walk, WalkFault};

@@ -1,0 +1,207 @@
+//! The names of components.
+ghost use Rattle.std.specs.Prelude.{◌≡◌, ◌+◌, ◌<◌, ◌≤◌, false, length, take, drop, slice_range, IsTrue, OnOk, OnErr, IfOk};
+ghost use Rattle.std.specs.List.{list_any, before_first};
+ghost use Rattle.std.specs.Str.{bytes_eq};
+ghost use Rattle.flash_format.specs.Head.{is_free};
+ghost use Rattle.flash_format.specs.Entry.{name_field, name_end, has_name, is_nul};
+ghost use Rattle.flash_format.specs.Components.{cell_name};
+ghost use Rattle.flash_store.specs.Device.{Reads};
+ghost use Rattle.flash_store.specs.Regions.{LiesIn, bytes_in};
+ghost use Rattle.cbfs_walk.specs.Cells.{IsCellIn, cell_in};
+ghost use Rattle.cbfs_walk.specs.Walks.{StandsIn};
+
+use crate::cell::Cell;
+use crate::read::read_in;
+use flash_format::Head;
+use flash_store::{Flash, FlashFault, Paged, Region};
+
+/// The most bytes of a name.
+const LONGEST: usize = 255;
+
+/// Writes the name of a component to the front of `out`, and answers its length. The rest of `out`, and all of it
+/// after a fault, may hold anything.
+pub fn name<F: Flash>(
+    paged: &mut Paged<F>,
+    region: Region,
+    cell: &Cell,
+    out: &mut [u8; 256],
+) -> Result<usize, FlashFault>
+    requires region { LiesIn region (F.facts paged.old.device).content }
+    requires cell { IsCellIn region.size cell.now }
+    requires component { is_free cell.now.head ≡ false }
+
+    // On any device.
+    ensures reads { Reads 1 (F.facts paged.old.device) (F.facts paged.new.device) }
+    ensures cause { OnErr result ((F.facts paged.old.device).faults < (F.facts paged.new.device).faults) }
+    ensures short { IfOk result (λ n. n ≤ 255) }
+
+    // On an honest device.
+    ensures name { IsTrue (F.facts paged.old.device).honest →
+        StandsIn (bytes_in region (F.facts paged.old.device).content) cell.now → IfOk result (λ n. take n out.new
+        ≡ cell_name (cell_in (bytes_in region (F.facts paged.old.device).content) cell.now)) }
+    ensures len { IsTrue (F.facts paged.old.device).honest →
+        StandsIn (bytes_in region (F.facts paged.old.device).content) cell.now → IfOk result (λ n. n
+        ≡ length (cell_name (cell_in (bytes_in region (F.facts paged.old.device).content) cell.now))) }
+{
+    let _len = paged.len();
+    let n = name_room(&cell.head).min(LONGEST);
+    read_text(paged, region, cell.at + 24, &mut out[..n])
+}
+
+/// Whether a component has this name.
+pub fn name_is<F: Flash>(
+    paged: &mut Paged<F>,
+    region: Region,
+    cell: &Cell,
+    name: &[u8],
+) -> Result<bool, FlashFault>
+    requires region { LiesIn region (F.facts paged.old.device).content }
+    requires cell { IsCellIn region.size cell.now }
+    requires component { is_free cell.now.head ≡ false }
+
+    // On any device.
+    ensures reads { Reads 1 (F.facts paged.old.device) (F.facts paged.new.device) }
+    ensures cause { OnErr result ((F.facts paged.old.device).faults < (F.facts paged.new.device).faults) }
+
+    // On an honest device.
+    ensures named { IsTrue (F.facts paged.old.device).honest →
+        StandsIn (bytes_in region (F.facts paged.old.device).content) cell.now → IfOk result (λ named. named
+        ≡ bytes_eq (cell_name (cell_in (bytes_in region (F.facts paged.old.device).content) cell.now)) name.now) }
+{
+    let _len = paged.len();
+    if name.len() > LONGEST || name.len() >= name_room(&cell.head) {
+        return Ok(false);
+    }
+    is_text_at(paged, region, cell.at + 24, name)
+}
+
+/// Whether the name of a component ends within its field's first 256 bytes.
+pub fn is_named<F: Flash>(
+    paged: &mut Paged<F>,
+    region: Region,
+    at: u64,
+    head: &Head,
+) -> Result<bool, FlashFault>
+    requires region { LiesIn region (F.facts paged.old.device).content }
+    requires inside { at + name_end head.now ≤ region.size }
+    requires order { 24 ≤ name_end head.now }
+
+    ensures reads { Reads 1 (F.facts paged.old.device) (F.facts paged.new.device) }
+    ensures cause { OnErr result ((F.facts paged.old.device).faults < (F.facts paged.new.device).faults) }
+    ensures named { IsTrue (F.facts paged.old.device).honest → IfOk result (λ named. named
+        ≡ has_name (name_field head.now (drop at (bytes_in region (F.facts paged.old.device).content)))) }
+{
+    let _len = paged.len();
+    let mut field = [0; 256];
+    let n = name_room(head).min(field.len());
+    shows_nul(paged, region, at + 24, &mut field[..n])
+}
+
+/// Where the name field of a component ends, and its attributes begin.
+pub fn name_end(head: &Head) -> u32
+    ensures { result ≡ name_end head.now }
+{
+    if head.attributes_offset == 0 {
+        head.offset
+    } else {
+        head.attributes_offset
+    }
+}
+
+/// How many bytes the name field has.
+fn name_room(head: &Head) -> usize
+    requires { 24 ≤ name_end head.now }
+    ensures { result + 24 ≡ name_end head.now }
+{
+    name_end(head) as usize - 24
+}
+
+/// Whether the text at a place is this one, which it shows with its NUL.
+fn is_text_at<F: Flash>(
+    paged: &mut Paged<F>,
+    region: Region,
+    at: u64,
+    text: &[u8],
+) -> Result<bool, FlashFault>
+    requires region { LiesIn region (F.facts paged.old.device).content }
+    requires inside { at + (length text.now + 1) ≤ region.size }
+    requires short { length text.now ≤ 255 }
+
+    ensures reads { Reads 1 (F.facts paged.old.device) (F.facts paged.new.device) }
+    ensures cause { OnErr result ((F.facts paged.old.device).faults < (F.facts paged.new.device).faults) }
+    ensures same { IsTrue (F.facts paged.old.device).honest → IfOk result (λ same. same
+        ≡ bytes_eq (before_first is_nul (slice_range (bytes_in region (F.facts paged.old.device).content) at
+        (at + (length text.now + 1)))) text.now) }
+{
+    let mut field = [0; 256];
+    has_text(paged, region, at, &mut field[..text.len() + 1], text)
+}
+
+/// Reads bytes, and answers whether those before the first NUL are this text.
+fn has_text<F: Flash>(
+    paged: &mut Paged<F>,
+    region: Region,
+    at: u64,
+    field: &mut [u8],
+    text: &[u8],
+) -> Result<bool, FlashFault>
+    requires region { LiesIn region (F.facts paged.old.device).content }
+    requires inside { at + length field.old ≤ region.size }
+    requires short { length field.old ≤ 4096 }
+
+    ensures reads { Reads 1 (F.facts paged.old.device) (F.facts paged.new.device) }
+    ensures cause { OnErr result ((F.facts paged.old.device).faults < (F.facts paged.new.device).faults) }
+    ensures same { IsTrue (F.facts paged.old.device).honest → IfOk result (λ same. same
+        ≡ bytes_eq (before_first is_nul (slice_range (bytes_in region (F.facts paged.old.device).content) at
+        (at + length field.old))) text.now) }
+{
+    let end = read_text(paged, region, at, field)?;
+    Ok(&field[..end] == text)
+}
+
+/// Reads bytes, and answers whether a NUL is among them.
+fn shows_nul<F: Flash>(
+    paged: &mut Paged<F>,
+    region: Region,
+    at: u64,
+    field: &mut [u8],
+) -> Result<bool, FlashFault>
+    requires region { LiesIn region (F.facts paged.old.device).content }
+    requires inside { at + length field.old ≤ region.size }
+    requires short { length field.old ≤ 4096 }
+
+    ensures reads { Reads 1 (F.facts paged.old.device) (F.facts paged.new.device) }
+    ensures cause { OnErr result ((F.facts paged.old.device).faults < (F.facts paged.new.device).faults) }
+    ensures nul { IsTrue (F.facts paged.old.device).honest → IfOk result (λ nul. nul ≡ list_any is_nul
+        (slice_range (bytes_in region (F.facts paged.old.device).content) at (at + length field.old))) }
+{
+    let end = read_text(paged, region, at, field)?;
+    Ok(end < field.len())
+}
+
+/// Reads bytes, and answers how many of them stand before the first NUL, or all.
+fn read_text<F: Flash>(
+    paged: &mut Paged<F>,
+    region: Region,
+    at: u64,
+    out: &mut [u8],
+) -> Result<usize, FlashFault>
+    requires region { LiesIn region (F.facts paged.old.device).content }
+    requires inside { at + length out.old ≤ region.size }
+    requires short { length out.old ≤ 4096 }
+
+    ensures reads { Reads 1 (F.facts paged.old.device) (F.facts paged.new.device) }
+    ensures cause { OnErr result ((F.facts paged.old.device).faults < (F.facts paged.new.device).faults) }
+    ensures len { IfOk result (λ n. n ≡ length (before_first is_nul out.new)) }
+    ensures read { IsTrue (F.facts paged.old.device).honest → OnOk result (out.new
+        ≡ slice_range (bytes_in region (F.facts paged.old.device).content) at (at + length out.old)) }
+{
+    read_in(paged, region, at, out)?;
+    Ok(text_len(out))
+}
+
+fn text_len(bytes: &[u8]) -> usize
+    ensures { result ≡ length (before_first is_nul bytes.now) }
+{
+    bytes.iter().take_while(|b| **b != 0).count()
+}

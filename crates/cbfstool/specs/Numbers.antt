@@ -1,7 +1,0 @@
-use Rattle.std.specs.Prelude.{ℕ, ◌+◌}
-use Rattle.cbfstool.specs.declared.counter.Number.{Number, Zero, Next'}
-
--- the number that stands behind it
-abbrev pub number_of : Number → ℕ
-number_of Zero = 0
-number_of (Next' shape before) = number_of before + 1

@@ -1,0 +1,118 @@
+//! The command line: IMAGE, a subcommand, and its options.
+
+ghost use Rattle.std.specs.Prelude.{◌≡◌, Some, IfOk, option_map, slice_get};
+ghost use Rattle.cbfstool.specs.Lines.{Words, command_of, seen};
+
+use crate::command::Command;
+use crate::refusal::Refusal;
+use crate::words::whole_command;
+use clap::error::ErrorKind;
+use clap::{ArgMatches, Error};
+use std::alloc::Global;
+use std::marker::Model;
+
+/// The region that a command names without `-r`.
+const DEFAULT_REGION: &str = "COREBOOT";
+
+/// A command line that was read: the image's path, the subcommand and the texts of its options.
+#[derive(Drop)]
+pub struct Line<'a> {
+    image: &'a str,
+    subcommand: &'a str,
+    region: Option<&'a str>,
+    name: Option<&'a str>,
+    file: Option<&'a str>,
+}
+
+impl<'a> Model for Line<'a> {
+    ghost use Rattle.std.specs.Prelude.{option_map};
+    ghost use Rattle.cbfstool.specs.Lines.{Words};
+
+    ghost Value = { Words };
+
+    ghost view = { λ l. record {
+      image = l.image.now;
+      subcommand = l.subcommand.now;
+      region = option_map (λ t. t.now) l.region;
+      name = option_map (λ t. t.now) l.name;
+      file = option_map (λ t. t.now) l.file;
+    } };
+}
+
+impl<'a> Line<'a> {
+    /// The path of the image: the first word.
+    pub fn image(&self) -> &'a str
+        ensures { result.now ≡ self.now.image }
+    {
+        self.image
+    }
+
+    /// The path that `-f` gives.
+    pub fn file(&self) -> Option<&'a str>
+        ensures { option_map (λ t. t.now) result ≡ self.now.file }
+    {
+        self.file
+    }
+
+    /// The command that the words ask for. Refused as a bad command line where the subcommand is none of
+    /// ours, or where an option that it requires is missing.
+    pub fn command(&self) -> Result<Command<'a>, Refusal>
+        ensures { seen result ≡ command_of self.now }
+    {
+        let region = self.region.unwrap_or(DEFAULT_REGION).as_bytes();
+        match self.subcommand {
+            "print" => Ok(Command::Print { region }),
+            "layout" => Ok(Command::Layout),
+            "extract" => match (self.name, self.file) {
+                (Some(name), Some(_)) => Ok(Command::Extract {
+                    region,
+                    name: name.as_bytes(),
+                }),
+                _ => Err(Refusal::Usage),
+            },
+            "read" if self.file.is_some() => Ok(Command::Read { region }),
+            "write" if self.file.is_some() => Ok(Command::Write { region }),
+            _ => Err(Refusal::Usage),
+        }
+    }
+}
+
+fn refusal_of(error: Error) -> Refusal {
+    match error.kind() {
+        ErrorKind::OutOfMemory => Refusal::Memory,
+        _ => Refusal::Usage,
+    }
+}
+
+/// The line of these matches; refused without a subcommand.
+fn line_of<'a>(image: &'a str, matches: &ArgMatches<'a>) -> Result<Line<'a>, Refusal>
+    ensures { IfOk result (λ line. line.image ≡ image.entry.now) }
+{
+    let Some((subcommand, options)) = matches.subcommand() else {
+        return Err(Refusal::Usage);
+    };
+    Ok(Line {
+        image,
+        subcommand,
+        region: options.get_str("region"),
+        name: options.get_str("name"),
+        file: options.get_str("file"),
+    })
+}
+
+/// Reads the words after the program's name. Refused as a bad command line where clap doesn't take them, also
+/// where they ask for its help, and for want of memory.
+pub fn read_line<'a>(alloc: Global, words: &'a [&'a str]) -> Result<Line<'a>, Refusal>
+    ensures { IfOk result (λ line. option_map (λ w. w.now) (slice_get words.entry.now 0) ≡ Some line.image) }
+{
+    let Some((image, rest)) = words.split_first() else {
+        return Err(Refusal::Usage);
+    };
+    let Ok(command) = whole_command(alloc) else {
+        return Err(Refusal::Memory);
+    };
+    match command.try_get_matches_from(rest) {
+        Ok(matches) => line_of(image, &matches),
+        Err(error) => Err(refusal_of(error)),
+    }
+}

@@ -1,0 +1,259 @@
+-- The search for a table, piece by piece.
+use Rattle.std.specs.Option.{option_map}
+use Rattle.std.proofs.Common.{⊎_elim, le_refl, zero-le, zero, suc, ◌≡◌, ◌∙◌, ℕ, ◌+◌, ◌-◌, ◌*◌, ◌<◌, ◌≤◌, IsTrue, List, Option, Some, None, length, take, drop, sym, ap, subst, arith}
+use Rattle.std.specs.Prelude.{slice_range, slice_index}
+use Rattle.std.proofs.lemmas.Bool.{and_parts, cases_lt, cases_eq}
+use Rattle.std.proofs.lemmas.Slice.Eq.{bytes_eq-Decides}
+use Rattle.std.proofs.lemmas.List.{get_or-take, get_or-drop, length-take}
+use Rattle.std.proofs.lemmas.List.Prefix.{at_from_reads}
+use lib.Chars.{codes}
+use Rattle.memchr.specs.Find.{Nowhere, IsFirst, OccursAt, FindsNeedle}
+use Rattle.flash_store.specs.Device.{Device, OneCall, Reads}
+use Rattle.flash_store.specs.Fmap.{HasSignatureAt, map_head, map_head_in, found_in}
+use Rattle.flash_format.specs.declared.flashmap.FmapHead.{FmapHead}
+use Rattle.flash_format.specs.declared.flashmap.Area.{Area}
+use Rattle.flash_format.specs.Flashmap.{is_map, map_of, map_from, fmap_head_of, has_signature, is_valid_head, area_of, table_len}
+use Rattle.flash_format.proofs.Fronts.{has_signature-take, fmap_head_of-take, area_of-take}
+use Rattle.flash_format.proofs.MapSteps.{map_step, map_end, not_map_short}
+use Rattle.std.proofs.Common.{Bool, true, false, cond, refl, length-drop}
+use Rattle.std.proofs.lemmas.Bool.{leb-true, le-leb}
+use Rattle.flash_store.proofs.CopyLemmas.{slice_range_is, length-slice_range, honest_still}
+
+-- the bytes that a table begins with
+abbrev pub signature : List ℕ
+signature = codes "__FMAP__"
+
+-- a valid table stands at q
+abbrev pub IsTableAt : List ℕ → ℕ → Type 0
+IsTableAt image q = is_map (drop q image) ≡ true
+
+-- a byte of a part
+pub index-slice_range : (xs : List ℕ) (at n i : ℕ) → i < n → slice_index (slice_range xs at (at + n)) i ≡ slice_index xs (at + i)
+index-slice_range xs at n i below =
+    let size : at + n - at ≡ n = omega arith in
+    get_or-take (at + n - at) (drop at xs) i 0 (omega arith) ∙ get_or-drop at xs i 0
+
+-- what occurs in a part occurs in the whole
+pub OccursAt-whole : (xs needle : List ℕ) (at n k : ℕ) → at + n ≤ length xs → OccursAt (slice_range xs at (at + n)) needle k → OccursAt xs needle (at + k)
+OccursAt-whole xs needle at n k within occurs =
+    let fits : k + length needle ≤ n = rw (length-slice_range xs at n within) at occurs.fits in
+    record {
+      fits = omega (arith, fits, within);
+      reads = λ j below. ap (slice_index xs) {x = at + k + j} {y = at + (k + j)} (omega arith) ∙ sym (index-slice_range xs at n (k + j) (omega (arith, fits, below))) ∙ occurs.reads j below;
+    }
+
+-- and the other way round, where the part holds all of it
+pub OccursAt-part : (xs needle : List ℕ) (at n k : ℕ) → at + n ≤ length xs → k + length needle ≤ n → OccursAt xs needle (at + k) → OccursAt (slice_range xs at (at + n)) needle k
+OccursAt-part xs needle at n k within fits occurs = record {
+  fits = rw (length-slice_range xs at n within) fits;
+  reads = λ j below. index-slice_range xs at n (k + j) (omega (arith, fits, below)) ∙ ap (slice_index xs) {x = at + (k + j)} {y = at + k + j} (omega arith) ∙ occurs.reads j below;
+}
+
+-- a table's bytes lie inside the image and begin with the signature
+pub IsTableAt-parts : (image : List ℕ) (q : ℕ) → IsTableAt image q → (q + 56 ≤ length image) × (has_signature (drop q image) ≡ true)
+unfolding is_map
+IsTableAt-parts image q table =
+    let parts = and_parts _ _ table in
+    let long : 56 ≤ length (drop q image) = leb-true _ _ parts.0 in
+    (omega (arith, length-drop q image, long), (and_parts _ _ parts.1).0)
+
+pub IsTableAt-signature : (image : List ℕ) (q : ℕ) → IsTableAt image q → HasSignatureAt image q
+IsTableAt-signature image q table = (IsTableAt-parts image q table).1
+
+-- a front of n bytes has as many behind it
+long_enough : (front x : List ℕ) (n : ℕ) → front ≡ take n x → length front ≡ n → n ≤ length x
+long_enough front x n same size = grind (arith, ap length same, length-take)
+
+-- the signature as a needle that occurs
+pub HasSignatureAt-occurs : (image : List ℕ) (q : ℕ) → HasSignatureAt image q → OccursAt image signature q
+unfolding has_signature
+HasSignatureAt-occurs image q here =
+    let same : signature ≡ take 8 (drop q image) = (bytes_eq-Decides signature (take 8 (drop q image))).0 here in
+    let long : 8 ≤ length (drop q image) = long_enough signature (drop q image) 8 same refl in record {
+      fits = omega (arith, long, length-drop q image);
+      reads = λ j below. sym (get_or-drop q image j 0) ∙ sym (get_or-take 8 (drop q image) j 0 below) ∙ ap (λ xs. slice_index xs j) (sym same);
+    }
+
+pub OccursAt-signature : (image : List ℕ) (q : ℕ) → OccursAt image signature q → HasSignatureAt image q
+unfolding has_signature
+OccursAt-signature image q occurs = rw (at_from_reads 0 image signature q occurs.fits occurs.reads) refl
+
+-- where two signatures lie over each other, their bytes agree
+agree : (image : List ℕ) (p q i j : ℕ) → OccursAt image signature p → OccursAt image signature q → i < 8 → j < 8 → p + i ≡ q + j → slice_index signature i ≡ slice_index signature j
+agree image p q i j first second i_below j_below e = sym (first.reads i i_below) ∙ ap (slice_index image) e ∙ second.reads j j_below
+
+apart : (image : List ℕ) (q d : ℕ) → OccursAt image signature q → OccursAt image signature (q + d) → 0 < d → d < 6 → ⊥
+apart image q zero first second above below = absurd (omega (arith, above))
+apart image q (suc zero) first second above below =
+    let e : 70 ≡ 95 = agree image q (q + 1) 2 1 first second (omega arith) (omega arith) (omega arith) in absurd (omega (arith, e))
+apart image q (suc (suc zero)) first second above below =
+    let e : 70 ≡ 95 = agree image q (q + 2) 2 0 first second (omega arith) (omega arith) (omega arith) in absurd (omega (arith, e))
+apart image q (suc (suc (suc zero))) first second above below =
+    let e : 77 ≡ 95 = agree image q (q + 3) 3 0 first second (omega arith) (omega arith) (omega arith) in absurd (omega (arith, e))
+apart image q (suc (suc (suc (suc zero)))) first second above below =
+    let e : 65 ≡ 95 = agree image q (q + 4) 4 0 first second (omega arith) (omega arith) (omega arith) in absurd (omega (arith, e))
+apart image q (suc (suc (suc (suc (suc zero))))) first second above below =
+    let e : 80 ≡ 95 = agree image q (q + 5) 5 0 first second (omega arith) (omega arith) (omega arith) in absurd (omega (arith, e))
+apart image q (suc (suc (suc (suc (suc (suc d)))))) first second above below = absurd (omega (arith, below))
+
+-- a signature excludes one at the next five places
+pub signature-apart : (image : List ℕ) (q k : ℕ) → HasSignatureAt image q → q < k → k < q + 6 → HasSignatureAt image k → ⊥
+signature-apart image q k first above below second =
+    let k_is : k ≡ q + (k - q) = omega (arith, above) in
+    apart image q (k - q) (HasSignatureAt-occurs image q first) (HasSignatureAt-occurs image (q + (k - q)) (subst (HasSignatureAt image) k_is second)) (omega (arith, above)) (omega (arith, below, above))
+
+-- the search of a part, as a search of the whole
+pub finds_in_whole : (image : List ℕ) (at n : ℕ) (r : Option ℕ) → at + n ≤ length image → FindsNeedle (slice_range image at (at + n)) signature 0 r → IsFirst (HasSignatureAt image) at (at + n - 7) (option_map (λ k. at + k) r)
+finds_in_whole image at n None within none = λ k above below here.
+    let k_is : k ≡ at + (k - at) = omega (arith, above) in
+    let room : n ≤ length (slice_range image at (at + n)) = rw (length-slice_range image at n within) (le_refl n) in
+    none (k - at) (omega arith) (omega (arith, room, below, above)) (OccursAt-part image signature at n (k - at) within (omega (arith, below, above)) (subst (OccursAt image signature) k_is (HasSignatureAt-occurs image k here)))
+finds_in_whole image at n (Some p) within found =
+    let fits : p + 8 ≤ n = rw (length-slice_range image at n within) at found.1.fits in (
+      record {
+        low = omega arith;
+        high = omega (arith, fits);
+        before = λ k above below here.
+            let k_is : k ≡ at + (k - at) = omega (arith, above) in
+            found.0.before (k - at) (omega arith) (omega (arith, below, above)) (OccursAt-part image signature at n (k - at) within (omega (arith, below, above, fits)) (subst (OccursAt image signature) k_is (HasSignatureAt-occurs image k here)));
+      },
+      OccursAt-signature image (at + p) (OccursAt-whole image signature at n p within found.1),
+    )
+
+-- where no signature stands, no table does
+pub no_tables : (image : List ℕ) (place end : ℕ) → Nowhere (IsTableAt image) 0 place → Nowhere (HasSignatureAt image) place end → Nowhere (IsTableAt image) 0 end
+no_tables image place end before none k above below table =
+    ⊎_elim (λ earlier. before k above earlier table) (λ later. none k later below (IsTableAt-signature image k table)) (cases_lt k place)
+
+-- nor just behind a signature that begins no table
+pub no_tables_behind : (image : List ℕ) (q : ℕ) → Nowhere (IsTableAt image) 0 q → HasSignatureAt image q → ¬ IsTableAt image q → Nowhere (IsTableAt image) 0 (q + 6)
+no_tables_behind image q before occurs no_table k above below table =
+    ⊎_elim (λ earlier. before k above earlier table)
+    (λ later. ⊎_elim (λ same. no_table (subst (IsTableAt image) same table)) (λ other. signature-apart image q k occurs (omega (arith, later, other)) below (IsTableAt-signature image k table)) (cases_eq k q))
+    (cases_lt k q)
+
+-- no table stands before this place, and at most two calls were made for each six bytes before it
+pub record SearchedTo (place : ℕ) (old new : Device) : Type 0 where
+  pub no_fewer : old.calls ≤ new.calls
+  pub within : place ≤ length old.content
+  pub no_more : 3 * new.calls ≤ 3 * old.calls + place
+  pub faults : old.faults ≤ new.faults
+  pub same_honesty : new.honest ≡ old.honest
+  pub same_length : length new.content ≡ length old.content
+  pub unchanged : IsTrue old.honest → new.content ≡ old.content
+  pub none : IsTrue old.honest → Nowhere (IsTableAt old.content) 0 place
+
+-- the search goes on behind a part with no signature
+pub SearchedTo-part : (old mid new : Device) (place size : ℕ) → place + size ≤ length old.content → 56 ≤ size → SearchedTo place old mid → OneCall mid new
+    → (IsTrue mid.honest → new.content ≡ mid.content) → (IsTrue mid.honest → IsFirst (HasSignatureAt mid.content) place (place + size - 7) None)
+    → SearchedTo (place + (size - 7)) old new
+SearchedTo-part old mid new place size within long so_far call kept none = record {
+  no_fewer = omega (arith, so_far.no_fewer, call.calls);
+  within = omega (arith, within, long);
+  no_more = omega (arith, so_far.no_more, call.calls, long);
+  faults = omega (arith, so_far.faults, call.faults);
+  same_honesty = call.same_honesty ∙ so_far.same_honesty;
+  same_length = call.same_length ∙ so_far.same_length;
+  unchanged = λ h. kept (honest_still so_far.same_honesty h) ∙ so_far.unchanged h;
+  none = λ h.
+      let here : Nowhere (HasSignatureAt old.content) place (place + size - 7) = rw (so_far.unchanged h) at (none (honest_still so_far.same_honesty h)) in
+      let end : place + (size - 7) ≡ place + size - 7 = omega (arith, long) in
+      rw end (no_tables old.content place (place + size - 7) (so_far.none h) here);
+}
+
+-- and behind a signature that begins no table
+pub SearchedTo-signature : (old mid new last : Device) (place q e : ℕ) → q + 8 ≤ length old.content → place ≤ q → SearchedTo place old mid → OneCall mid new → Reads 1 new last
+    → (IsTrue mid.honest → new.content ≡ mid.content)
+    → (IsTrue mid.honest → IsFirst (HasSignatureAt mid.content) place e (Some q)) → (IsTrue new.honest → ¬ IsTableAt new.content q)
+    → SearchedTo (q + 6) old last
+SearchedTo-signature old mid new last place q e within above so_far call probe kept first no_table = record {
+  no_fewer = omega (arith, so_far.no_fewer, call.calls, probe.calls.no_fewer);
+  within = omega (arith, within);
+  no_more = omega (arith, so_far.no_more, call.calls, probe.calls.no_more, above);
+  faults = omega (arith, so_far.faults, call.faults, probe.calls.faults);
+  same_honesty = probe.calls.same_honesty ∙ call.same_honesty ∙ so_far.same_honesty;
+  same_length = probe.calls.same_length ∙ call.same_length ∙ so_far.same_length;
+  unchanged = λ h.
+      let h' = honest_still so_far.same_honesty h in
+      probe.unchanged (honest_still call.same_honesty h') ∙ kept h' ∙ so_far.unchanged h;
+  none = λ h.
+      let h' = honest_still so_far.same_honesty h in
+      let found = rw (so_far.unchanged h) at (first h') in
+      let same : new.content ≡ old.content = kept h' ∙ so_far.unchanged h in
+      let none_here : ¬ IsTableAt old.content q = rw same at (no_table (honest_still call.same_honesty h')) in
+      no_tables_behind old.content q (no_tables old.content place q (so_far.none h) found.0.before) found.1 none_here;
+}
+
+-- no table before a place: the lowest is sought from there on
+pub map_from-skip : (image : List ℕ) (k : ℕ) → k ≤ length image → Nowhere (IsTableAt image) 0 k → map_of image ≡ map_from k (drop k image)
+map_from-skip image zero le none = refl
+map_from-skip image (suc k) le none =
+    let before = map_from-skip image k (omega arith) (λ j above below. none j above (omega arith)) in
+    let next : k + 1 ≡ suc k = omega arith in
+    let here : is_map (drop k image) ≡ false = no_table (is_map (drop k image)) (none k zero-le (omega arith)) in
+    before ∙ map_step image k false (omega arith) here ∙ ap (λ j. map_from j (drop j image)) next
+  where
+    no_table : (b : Bool) → ¬ (b ≡ true) → b ≡ false
+    no_table true none = absurd (none refl)
+    no_table false none = refl
+
+pub found_none : (image : List ℕ) (k : ℕ) → k ≤ length image → length image < k + 56 → Nowhere (IsTableAt image) 0 k → None ≡ found_in image
+found_none image k le short none =
+    let all : Nowhere (IsTableAt image) 0 (length image) = λ j above below table. ⊎_elim (λ earlier. none j above earlier table) (λ later. absurd (omega (arith, short, later, (IsTableAt-parts image j table).0))) (cases_lt j k) in
+    rw (map_from-skip image (length image) (omega arith) all, map_end (length image) image (omega arith)) refl
+
+pub found_some : (image : List ℕ) (q : ℕ) (h : FmapHead) → Nowhere (IsTableAt image) 0 q → IsTableAt image q → h ≡ fmap_head_of (drop q image) → Some (record { at = q; head = h }) ≡ found_in image
+found_some image q h none table e =
+    let inside : q < length image = omega (arith, (IsTableAt-parts image q table).0) in
+    let m : map_of image ≡ Some q = map_from-skip image q (omega arith) none ∙ map_step image q true inside table in
+    rw (m, e) refl
+
+pub head_none : (x : List ℕ) → None ≡ map_head x → ¬ (is_map x ≡ true)
+head_none x e table = go (is_map x) table e
+  where
+    go : (b : Bool) → b ≡ true → None ≡ cond b (Some (fmap_head_of x)) None → ⊥
+    go true t e = absurd cc
+    go false t e = absurd cc
+
+pub head_some : (x : List ℕ) (h : FmapHead) → Some h ≡ map_head x → (is_map x ≡ true) × (h ≡ fmap_head_of x)
+head_some x h e = go (is_map x) refl e
+  where
+    go : (b : Bool) → is_map x ≡ b → Some h ≡ cond b (Some (fmap_head_of x)) None → (is_map x ≡ true) × (h ≡ fmap_head_of x)
+    go true m p = (m, cc)
+    go false m p = absurd cc
+
+-- a head that is read from its own bytes
+pub map_head-take : (x : List ℕ) → 56 ≤ length x → map_head_in (take 56 x) (length x) ≡ map_head x
+unfolding is_map
+map_head-take x long = rw (has_signature-take x 56 (omega arith), fmap_head_of-take x 56 (omega arith), le-leb 56 (length x) long) refl
+
+pub map_head-short : (x : List ℕ) → length x < 56 → None ≡ map_head x
+map_head-short x short = rw (not_map_short x short) refl
+
+pub map_head-slice : (xs : List ℕ) (at : ℕ) → at + 56 ≤ length xs → map_head_in (slice_range xs at (at + 56)) (length xs - at) ≡ map_head (drop at xs)
+map_head-slice xs at inside =
+    rw (slice_range_is xs at 56, sym (length-drop at xs)) (map_head-take (drop at xs) (omega (arith, length-drop at xs)))
+
+pub area-slice : (xs : List ℕ) (at : ℕ) → area_of (slice_range xs at (at + 42)) ≡ area_of (drop at xs)
+area-slice xs at = rw (slice_range_is xs at 42) (area_of-take (drop at xs) 42 (omega arith))
+
+pub area_read : (bytes image : List ℕ) (p q : ℕ) (a : Area) → a ≡ area_of bytes → bytes ≡ slice_range image p (p + 42) → p ≡ q → a ≡ area_of (drop q image)
+area_read bytes image p q a e read same = e ∙ ap area_of read ∙ area-slice image p ∙ ap (λ k. area_of (drop k image)) same
+
+pub head_read : (bytes image : List ℕ) (len p : ℕ) (h : Option FmapHead) → h ≡ map_head_in bytes (len - p) → bytes ≡ slice_range image p (p + 56) → len ≡ length image → p + 56 ≤ len → h ≡ map_head (drop p image)
+head_read bytes image len p h e read same inside = e ∙ ap (λ b. map_head_in b (len - p)) read ∙ ap (λ n. map_head_in (slice_range image p (p + 56)) (n - p)) same ∙ map_head-slice image p (omega (arith, same, inside))
+
+pub valid_fits : (h : FmapHead) (left : ℕ) → is_valid_head h left ≡ true → table_len h ≤ left
+unfolding is_valid_head
+valid_fits h left e = leb-true _ _ (and_parts _ _ (and_parts _ _ e).1).1
+
+-- or ends at the table that a signature begins
+pub SearchedTo-table : (old mid new : Device) (place q e : ℕ) (h : FmapHead) → SearchedTo place old mid → OneCall mid new → (IsTrue mid.honest → new.content ≡ mid.content)
+    → (IsTrue mid.honest → IsFirst (HasSignatureAt mid.content) place e (Some q)) → (IsTrue new.honest → Some h ≡ map_head (drop q new.content))
+    → IsTrue old.honest → Some (record { at = q; head = h }) ≡ found_in old.content
+SearchedTo-table old mid new place q e h so_far call kept first table honest =
+    let h' = honest_still so_far.same_honesty honest in
+    let found = rw (so_far.unchanged honest) at (first h') in
+    let same : new.content ≡ old.content = kept h' ∙ so_far.unchanged honest in
+    let here = head_some (drop q old.content) h (rw same at (table (honest_still call.same_honesty h'))) in
+    found_some old.content q h (no_tables old.content place q (so_far.none honest) found.0.before) here.0 here.1

@@ -1,0 +1,4 @@
+pub mod BytesLemmas
+pub mod CopyLemmas
+pub mod FmapLemmas
+pub mod AreaLemmas

@@ -1,0 +1,13 @@
+use Rattle.std.proofs.Common.{◌≡◌, ◌-◌, ◌+◌, ◌*◌, drop, IsTrue}
+use Rattle.std.specs.List.{find}
+use Rattle.flash_format.specs.Flashmap.{areas_from, is_area}
+use Rattle.flash_store.specs.Device.{Reads}
+use Rattle.flash_store.proofs.fmap.area_named.Given as goal
+
+abbrev pub invariant-loop-i : goal.invariant-loop-i
+invariant-loop-i g l =
+    let old = g.F.Flash.facts l.initial.paged.device in
+    let new = g.F.Flash.facts l.paged.device in
+    Reads l.i old new
+    × (IsTrue old.honest → find (is_area l.name) (areas_from (l.map.head.nareas - l.i) (drop (l.map.at + 56 + 42 * l.i) old.content))
+    ≡ find (is_area l.name) (areas_from l.map.head.nareas (drop (l.map.at + 56) old.content)))

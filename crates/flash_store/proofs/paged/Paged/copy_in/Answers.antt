@@ -1,0 +1,26 @@
+use Rattle.std.proofs.Common.{◌∙◌, arith}
+use Rattle.flash_store.proofs.BytesLemmas.{SameOutside-trans}
+use Rattle.flash_store.proofs.CopyLemmas.{CallsSoFar-more, CallsSoFar-at_most, Copied-more, honest_still}
+use Rattle.flash_store.proofs.paged.Paged.copy_in.Goals as goal
+
+pub loop-done-preserved : goal.loop-done-preserved
+loop-done-preserved g c =
+    let had = c.loop-done.invariant in
+    let size = c.min-size.ensures in
+    let left = c.loop-done-test.true in
+    let piece = c.copy_piece_in.ensures in record {
+      within = omega (arith, size, left);
+      dropped = piece.dropped;
+      calls = CallsSoFar-at_most _ _ _ _ _ _ left size had.calls piece.call;
+      source_calls = CallsSoFar-more _ _ _ _ _ _ left size had.source_calls piece.source_call;
+      same_source = λ h. piece.same_source (honest_still had.source_calls.same_honesty h) ∙ had.same_source h;
+      copied = λ h s.
+          let now = c.in_ok-copy_piece_in.ensures.copied (honest_still had.calls.same_honesty h) (honest_still had.source_calls.same_honesty s) in
+          Copied-more _ _ _ _ c.args.at c.loop-done.done c.min-size.result (omega (arith, left, c.requires.in_source)) (omega (arith, left, c.requires.inside)) (had.copied h s) (rw (had.same_source s) at now);
+      outside = λ h. SameOutside-trans _ _ _ c.args.at c.args.n c.loop-done.done c.min-size.result (omega (arith, size, left)) (had.outside h) (piece.outside (honest_still had.calls.same_honesty h));
+    }
+
+pub returns-in_err-copy_piece_in-clause-outside : goal.returns-in_err-copy_piece_in-clause-outside
+returns-in_err-copy_piece_in-clause-outside g c = λ h.
+    let had = c.loop-done.invariant in
+    SameOutside-trans _ _ _ c.args.at c.args.n c.loop-done.done c.min-size.result (omega (arith, c.min-size.ensures, c.loop-done-test.true)) (had.outside h) (c.copy_piece_in.ensures.outside (honest_still had.calls.same_honesty h))

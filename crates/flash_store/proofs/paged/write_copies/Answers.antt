@@ -1,0 +1,38 @@
+use Rattle.std.proofs.Common.{◌≤◌, length, replicate, arith}
+use Rattle.std.proofs.lemmas.List.{length-replicate}
+use Rattle.flash_store.proofs.BytesLemmas.{SameOutside-overwritten}
+use Rattle.flash_store.proofs.CopyLemmas.{CallsSoFar-more, Filled-more, Filled-part, Filled-outside, OnErr-from, honest_still}
+use Rattle.flash_store.proofs.paged.write_copies.Goals as goal
+
+pub loop-done-preserved : goal.loop-done-preserved
+loop-done-preserved g c =
+    let had = c.loop-done.invariant in
+    let size = c.min-size.ensures in
+    let left = c.loop-done-test.true in record {
+      within = omega (arith, size, left);
+      calls = CallsSoFar-more _ _ _ _ _ _ left size had.calls c.write_at.ensures.call;
+      filled = λ h.
+          let now = c.in_ok-write_at.ensures.written (honest_still had.calls.same_honesty h) in
+          Filled-more _ _ _ c.args.at c.loop-done.done c.min-size.result c.args.byte (omega (arith, size)) (omega (arith, size, left, c.requires.inside)) (had.filled h) (rw c.requires.all at now);
+    }
+
+pub returns-in_err-write_at-clause-part : goal.returns-in_err-write_at-clause-part
+returns-in_err-write_at-clause-part g c = λ h. OnErr-from c.from_residual.result (
+    let had = c.loop-done.invariant in
+    let size = c.min-size.ensures in
+    let torn = rw c.requires.all at (c.write_at.ensures.torn (honest_still had.calls.same_honesty h)) in
+    Filled-part _ _ _ c.args.at c.loop-done.done c.min-size.result c.args.n c.args.byte (omega (arith, size)) (omega (arith, size, c.loop-done-test.true)) (had.filled h) torn
+    )
+
+pub returns-in_err-write_at-clause-outside : goal.returns-in_err-write_at-clause-outside
+returns-in_err-write_at-clause-outside g c = λ h.
+    let had = c.loop-done.invariant in
+    let size = c.min-size.ensures in
+    let torn = rw c.requires.all at (c.write_at.ensures.torn (honest_still had.calls.same_honesty h)) in
+    Filled-outside _ _ _ c.args.at c.loop-done.done c.min-size.result c.args.n c.args.byte (omega (arith, size)) (omega (arith, size, c.loop-done-test.true)) c.requires.inside (had.filled h) torn
+
+pub returns-clause-outside : goal.returns-clause-outside
+returns-clause-outside g c = λ h.
+    let had = c.loop-done.invariant in
+    let short : length (replicate c.loop-done.done c.args.byte) ≤ c.args.n = rw (length-replicate c.loop-done.done c.args.byte) had.within in
+    rw (had.filled h) (SameOutside-overwritten _ c.args.at c.args.n _ short (omega (arith, c.requires.inside)))

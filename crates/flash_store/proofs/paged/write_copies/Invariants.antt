@@ -1,0 +1,17 @@
+use Rattle.std.specs.Prelude.{◌≡◌, ◌≤◌, ◌-◌, IsTrue, replicate}
+use Rattle.flash_store.specs.Bytes.{overwritten}
+use Rattle.flash_store.proofs.CopyLemmas.{CallsSoFar}
+use Rattle.flash_store.proofs.paged.write_copies.Given as goal
+
+abbrev pub invariant-loop-done : goal.invariant-loop-done
+invariant-loop-done g l =
+    let old = g.F.Flash.facts l.initial.device in
+    let new = g.F.Flash.facts l.device in
+    record {
+      within : l.done ≤ l.n;
+      calls : CallsSoFar l.done l.n old new;
+      filled : IsTrue old.honest → new.content ≡ overwritten old.content l.at (replicate l.done l.byte);
+    }
+
+abbrev pub decreases-loop-done : goal.decreases-loop-done
+decreases-loop-done g l = l.n - l.done

@@ -1,0 +1,22 @@
+-- The search for an image's map.
+use Rattle.std.specs.Prelude.{◌≡◌, ℕ, true, ◌&&◌, List, Option, Some, None, drop, if◌then◌else◌}
+use Rattle.std.specs.Option.{option_map}
+use Rattle.flash_format.specs.declared.flashmap.FmapHead.{FmapHead}
+use Rattle.flash_format.specs.Flashmap.{is_map, map_of, fmap_head_of, has_signature, is_valid_head}
+use Rattle.flash_store.specs.declared.fmap.FoundMap.{FoundMap}
+
+-- the signature of a table stands at q
+abbrev pub HasSignatureAt : List ℕ → ℕ → Type 0
+HasSignatureAt image q = has_signature (drop q image) ≡ true
+
+-- the head of the valid table at the front
+abbrev pub map_head : List ℕ → Option FmapHead
+map_head x = if is_map x then Some (fmap_head_of x) else None
+
+-- the same from the first 56 bytes, with so many bytes up to the image's end
+abbrev pub map_head_in : List ℕ → ℕ → Option FmapHead
+map_head_in bytes left = if has_signature bytes && is_valid_head (fmap_head_of bytes) left then Some (fmap_head_of bytes) else None
+
+-- the image's map with its head
+abbrev pub found_in : List ℕ → Option FoundMap
+found_in image = option_map (λ q. record { at = q; head = fmap_head_of (drop q image) }) (map_of image)

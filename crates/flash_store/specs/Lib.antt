@@ -1,0 +1,9 @@
+pub mod Bytes
+pub mod Device
+pub mod Failing
+pub mod Fmap
+pub mod Numbers
+pub mod Opening
+pub mod Output
+pub mod Pages
+pub mod Regions

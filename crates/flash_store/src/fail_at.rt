@@ -1,0 +1,188 @@
+//! A device for tests, which refuses every call after the first few.
+ghost use Rattle.std.specs.Prelude.{◌≡◌, ◌+◌, ◌-◌, ◌<◌, ◌≤◌, ◌⊎◌, length, take, true, false, IsTrue, IsErr, OnOk, OnErr, slice_range};
+ghost use Rattle.flash_store.specs.Bytes.{overwritten, SameOutside};
+ghost use Rattle.flash_store.specs.Device.{OneCall};
+ghost use Rattle.flash_format.specs.Head.{header_length};
+ghost use Rattle.flash_store.specs.Failing.{facts_over, Passed, TornOnce, refused_once};
+
+use crate::counter::Counter;
+use crate::flash::{Flash, FlashFault};
+use flash_format::HEADER_LENGTH;
+use std::marker::Model;
+
+#[derive(Drop)]
+pub struct FailAt<F: Flash> {
+    device: F,
+    left: u64,
+    part: usize,
+    tears: bool,
+    calls: Counter,
+    faults: Counter,
+}
+
+impl<F: Flash> Model for FailAt<F> {
+    ghost use Rattle.flash_store.specs.Failing.{Failing};
+
+    ghost Value = { Failing F };
+
+    ghost view = { λ f. record {
+      device = f.device;
+      left = f.left;
+      part = f.part;
+      tears = f.tears;
+      calls = f.calls;
+      faults = f.faults;
+    } };
+}
+
+impl<F: Flash> FailAt<F> {
+    /// The first `k` calls pass. The first refused write first writes `part` bytes.
+    pub fn new(device: F, k: u64, part: usize) -> FailAt<F>
+        ensures { result ≡ record {
+          device = device;
+          left = k;
+          part = part;
+          tears = true;
+          calls = 0;
+          faults = 0;
+        } }
+    {
+        FailAt {
+            device,
+            left: k,
+            part,
+            tears: true,
+            calls: Counter::new(),
+            faults: Counter::new(),
+        }
+    }
+
+    pub fn into_inner(self) -> F
+        ensures { result ≡ self.device }
+    {
+        let FailAt { device, .. } = self;
+        device
+    }
+
+    /// Counts a call, and says whether it passes.
+    fn admits(&mut self) -> bool
+        ensures passed { IsTrue result → (0 < self.old.left)
+            × (self.new ≡ record self.old { left = self.old.left - 1; calls = self.old.calls + 1 }) }
+        ensures refused { result ≡ false → (self.old.left ≡ 0)
+            × (self.new ≡ record self.old { calls = self.old.calls + 1; faults = self.old.faults + 1 }) }
+    {
+        self.calls.tick();
+        if self.left == 0 {
+            self.faults.tick();
+            return false;
+        }
+        self.left -= 1;
+        true
+    }
+}
+
+impl<F: Flash> Flash for FailAt<F> {
+    ghost facts = { facts_over F.facts };
+
+    fn len(&self) -> u64 {
+        self.device.len()
+    }
+
+    fn read_at(&mut self, at: u64, out: &mut [u8]) -> Result<(), FlashFault>
+        requires inside { at + length out.old ≤ length (F.facts self.old.device).content }
+        requires short { length out.old ≤ 4096 }
+
+        // As of every device.
+        ensures call { OneCall (facts_over F.facts self.old) (facts_over F.facts self.new) }
+        ensures cause { OnErr result
+            ((facts_over F.facts self.old).faults < (facts_over F.facts self.new).faults) }
+        ensures read { IsTrue (F.facts self.old.device).honest →
+            OnOk result (out.new ≡ slice_range (F.facts self.old.device).content at (at + length out.old)) }
+        ensures unchanged { IsTrue (F.facts self.old.device).honest →
+            (F.facts self.new.device).content ≡ (F.facts self.old.device).content }
+
+        ensures passed { 0 < self.old.left → Passed F.facts self.old self.new result }
+        ensures refused { self.old.left ≡ 0 → IsErr result }
+        ensures nothing_done { self.old.left ≡ 0 → self.new ≡ refused_once self.old }
+    {
+        if self.admits() {
+            self.device.read_at(at, out)
+        } else {
+            Err(FlashFault)
+        }
+    }
+
+    fn write_at(&mut self, at: u64, bytes: &[u8]) -> Result<(), FlashFault>
+        requires inside { at + length bytes.now ≤ length (F.facts self.old.device).content }
+        requires short { length bytes.now ≤ 4096 }
+
+        // As of every device.
+        ensures call { OneCall (facts_over F.facts self.old) (facts_over F.facts self.new) }
+        ensures cause { OnErr result
+            ((facts_over F.facts self.old).faults < (facts_over F.facts self.new).faults) }
+        ensures written { IsTrue (F.facts self.old.device).honest →
+            OnOk result ((F.facts self.new.device).content
+            ≡ overwritten (F.facts self.old.device).content at bytes.now) }
+        ensures torn { IsTrue (F.facts self.old.device).honest →
+            SameOutside at (length bytes.now) (F.facts self.old.device).content
+            (F.facts self.new.device).content }
+
+        ensures passed { 0 < self.old.left → Passed F.facts self.old self.new result }
+        ensures refused { self.old.left ≡ 0 → IsErr result }
+        ensures first_refused { self.old.left ≡ 0 → IsTrue self.old.tears →
+            TornOnce F.facts at bytes.now self.old self.new }
+        ensures nothing_done { self.old.left ≡ 0 → self.old.tears ≡ false →
+            self.new ≡ refused_once self.old }
+    {
+        if self.admits() {
+            return self.device.write_at(at, bytes);
+        }
+        if self.tears {
+            self.tears = false;
+            write_part(&mut self.device, at, bytes, self.part);
+        }
+        Err(FlashFault)
+    }
+
+    fn commit_at(&mut self, at: u64, bytes: &[u8; HEADER_LENGTH]) -> Result<(), FlashFault>
+        requires { at + header_length ≤ length (F.facts self.old.device).content }
+
+        // As of every device.
+        ensures call { OneCall (facts_over F.facts self.old) (facts_over F.facts self.new) }
+        ensures cause { OnErr result
+            ((facts_over F.facts self.old).faults < (facts_over F.facts self.new).faults) }
+        ensures written { IsTrue (F.facts self.old.device).honest →
+            OnOk result ((F.facts self.new.device).content
+            ≡ overwritten (F.facts self.old.device).content at bytes.now) }
+        ensures whole { IsTrue (F.facts self.old.device).honest →
+            ((F.facts self.new.device).content ≡ (F.facts self.old.device).content)
+            ⊎ ((F.facts self.new.device).content
+            ≡ overwritten (F.facts self.old.device).content at bytes.now) }
+
+        ensures passed { 0 < self.old.left → Passed F.facts self.old self.new result }
+        ensures refused { self.old.left ≡ 0 → IsErr result }
+        ensures nothing_done { self.old.left ≡ 0 → self.new ≡ refused_once self.old }
+    {
+        if self.admits() {
+            self.device.commit_at(at, bytes)
+        } else {
+            Err(FlashFault)
+        }
+    }
+}
+
+/// Writes the first `part` bytes, whatever comes of it.
+fn write_part<F: Flash>(device: &mut F, at: u64, bytes: &[u8], part: usize)
+    requires inside { at + length bytes.now ≤ length (F.facts device.old).content }
+    requires short { length bytes.now ≤ 4096 }
+
+    ensures call { OneCall (F.facts device.old) (F.facts device.new) }
+    ensures torn { IsTrue (F.facts device.old).honest →
+        SameOutside at (length bytes.now) (F.facts device.old).content (F.facts device.new).content }
+    ensures written { IsTrue (F.facts device.old).honest →
+        (F.facts device.new).faults ≡ (F.facts device.old).faults →
+        (F.facts device.new).content ≡ overwritten (F.facts device.old).content at (take part bytes.now) }
+{
+    let first = &bytes[..part.min(bytes.len())];
+    let _ = device.write_at(at, first);
+}

@@ -1,0 +1,95 @@
+//! A device in a file. That a file is honest is a premise: no contract says it or denies it.
+ghost use Rattle.std.specs.Prelude.{◌≡◌, ◌<◌, OnErr, IfOk};
+ghost use Rattle.flash_store.specs.Device.{OneCall};
+
+use crate::counter::Counter;
+use crate::flash::{Flash, FlashFault};
+use crate::open_fault::{OpenFault, checked_length};
+use flash_format::HEADER_LENGTH;
+use std::fs::{File, OpenOptions};
+use std::io;
+use std::marker::Model;
+use std::os::unix::fs::FileExt;
+use std::rt::Files;
+use std::snapshot::Snapshot;
+
+#[derive(Drop)]
+pub struct FileFlash {
+    file: File,
+    len: u32,
+    calls: Counter,
+    faults: Counter,
+    honest: Snapshot<bool>,
+}
+
+impl Model for FileFlash {
+    ghost use Rattle.std.specs.Prelude.{◌≡◌, replicate, false};
+    ghost use Rattle.flash_store.specs.Device.{Device};
+
+    ghost Value = { Device };
+
+    // No clause ties what a file gives to a list of bytes, so this one can promise nothing of its bytes.
+    ghost view = { λ f. record {
+      content = replicate f.len 0;
+      calls = f.calls;
+      faults = f.faults;
+      honest = f.honest.value;
+    } };
+
+    ghost invariant = { λ f. f.honest.value ≡ false };
+}
+
+impl FileFlash {
+    /// Opens a file for reading and writing, so one that may not be written is `Failed`.
+    pub fn open<R: Files<File = File>>(rt: &R, path: &str) -> Result<FileFlash, OpenFault>
+        ensures { IfOk result (λ device. (device.calls ≡ 0) × (device.faults ≡ 0)) }
+    {
+        let file = OpenOptions::new().read(true).write(true).open(rt, path)?;
+        let len = checked_length(file.metadata()?.len())?;
+        Ok(FileFlash {
+            file,
+            len,
+            calls: Counter::new(),
+            faults: Counter::new(),
+            honest: Snapshot::of(&false),
+        })
+    }
+
+    /// Counts a call, and the fault where it failed.
+    fn counted(&mut self, answer: io::Result<()>) -> Result<(), FlashFault>
+        ensures call { OneCall self.old self.new }
+        ensures cause { OnErr result (self.old.faults < self.new.faults) }
+    {
+        self.calls.tick();
+        match answer {
+            Ok(()) => Ok(()),
+            Err(_) => {
+                self.faults.tick();
+                Err(FlashFault)
+            }
+        }
+    }
+}
+
+impl Flash for FileFlash {
+    ghost facts = { λ f. f };
+
+    fn len(&self) -> u64 {
+        u64::from(self.len)
+    }
+
+    fn read_at(&mut self, at: u64, out: &mut [u8]) -> Result<(), FlashFault> {
+        let answer = self.file.read_exact_at(out, at);
+        self.counted(answer)
+    }
+
+    fn write_at(&mut self, at: u64, bytes: &[u8]) -> Result<(), FlashFault> {
+        let answer = self.file.write_all_at(bytes, at);
+        self.counted(answer)
+    }
+
+    fn commit_at(&mut self, at: u64, bytes: &[u8; HEADER_LENGTH]) -> Result<(), FlashFault> {
+        let answer = self.file.write_all_at(bytes, at);
+        self.counted(answer)
+    }
+}

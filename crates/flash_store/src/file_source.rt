@@ -1,0 +1,73 @@
+//! A source in a file. That a file is honest is a premise: no contract says it or denies it.
+ghost use Rattle.std.specs.Prelude.{◌≡◌, IfOk};
+
+use crate::counter::Counter;
+use crate::open_fault::{OpenFault, checked_length};
+use crate::source::{Source, SourceFault};
+use std::fs::{File, OpenOptions};
+use std::marker::Model;
+use std::os::unix::fs::FileExt;
+use std::rt::Files;
+use std::snapshot::Snapshot;
+
+#[derive(Drop)]
+pub struct FileSource {
+    file: File,
+    len: u32,
+    calls: Counter,
+    faults: Counter,
+    honest: Snapshot<bool>,
+}
+
+impl Model for FileSource {
+    ghost use Rattle.std.specs.Prelude.{◌≡◌, replicate, false};
+    ghost use Rattle.flash_store.specs.Device.{Device};
+
+    ghost Value = { Device };
+
+    // No clause ties what a file gives to a list of bytes, so this one can promise nothing of its bytes.
+    ghost view = { λ f. record {
+      content = replicate f.len 0;
+      calls = f.calls;
+      faults = f.faults;
+      honest = f.honest.value;
+    } };
+
+    ghost invariant = { λ f. f.honest.value ≡ false };
+}
+
+impl FileSource {
+    /// Opens a file for reading.
+    pub fn open<R: Files<File = File>>(rt: &R, path: &str) -> Result<FileSource, OpenFault>
+        ensures { IfOk result (λ source. (source.calls ≡ 0) × (source.faults ≡ 0)) }
+    {
+        let file = OpenOptions::new().read(true).open(rt, path)?;
+        let len = checked_length(file.metadata()?.len())?;
+        Ok(FileSource {
+            file,
+            len,
+            calls: Counter::new(),
+            faults: Counter::new(),
+            honest: Snapshot::of(&false),
+        })
+    }
+}
+
+impl Source for FileSource {
+    ghost facts = { λ f. f };
+
+    fn len(&self) -> u64 {
+        u64::from(self.len)
+    }
+
+    fn read_at(&mut self, at: u64, out: &mut [u8]) -> Result<(), SourceFault> {
+        self.calls.tick();
+        match self.file.read_exact_at(out, at) {
+            Ok(()) => Ok(()),
+            Err(_) => {
+                self.faults.tick();
+                Err(SourceFault)
+            }
+        }
+    }
+}

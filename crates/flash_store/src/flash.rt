@@ -1,0 +1,66 @@
+//! What every device promises.
+ghost use Rattle.std.specs.Prelude.{◌≡◌, ℕ, ◌+◌, ◌^◌, ◌<◌, ◌≤◌, ◌⊎◌, length, IsTrue, OnOk, OnErr, slice_range};
+ghost use Rattle.flash_store.specs.Bytes.{overwritten, SameOutside};
+ghost use Rattle.flash_store.specs.Device.{Device, OneCall};
+ghost use Rattle.flash_format.specs.Head.{header_length};
+
+use flash_format::HEADER_LENGTH;
+
+/// The most bytes that one call moves.
+pub const PIECE: usize = 4096;
+
+/// A call to a device that was refused.
+#[derive(Clone, Copy, Debug, PartialEq, Eq, Drop)]
+pub struct FlashFault;
+
+/// A chip, a file or a list of bytes that is read and written by position.
+pub trait Flash: Drop {
+    /// Its bytes, the calls but `len` and the faults so far, and whether it is honest.
+    ghost facts: { Self → Device };
+
+    fn len(&self) -> u64
+        ensures length { result ≡ length (facts self.now).content }
+        ensures below { result < 2 ^ 32 };
+
+    /// Reads the bytes from `at` on. After a fault `out` may hold anything.
+    fn read_at(&mut self, at: u64, out: &mut [u8]) -> Result<(), FlashFault>
+        requires inside { at + length out.old ≤ length (facts self.old).content }
+        requires short { length out.old ≤ 4096 }
+
+        ensures call { OneCall (facts self.old) (facts self.new) }
+        ensures cause { OnErr result ((facts self.old).faults < (facts self.new).faults) }
+
+        // On an honest device.
+        ensures read { IsTrue (facts self.old).honest →
+            OnOk result (out.new ≡ slice_range (facts self.old).content at (at + length out.old)) }
+        ensures unchanged { IsTrue (facts self.old).honest →
+            (facts self.new).content ≡ (facts self.old).content };
+
+    /// Replaces the bytes from `at` on. A failed write may leave anything in its range.
+    fn write_at(&mut self, at: u64, bytes: &[u8]) -> Result<(), FlashFault>
+        requires inside { at + length bytes.now ≤ length (facts self.old).content }
+        requires short { length bytes.now ≤ 4096 }
+
+        ensures call { OneCall (facts self.old) (facts self.new) }
+        ensures cause { OnErr result ((facts self.old).faults < (facts self.new).faults) }
+
+        // On an honest device, the second whatever it answers.
+        ensures written { IsTrue (facts self.old).honest →
+            OnOk result ((facts self.new).content ≡ overwritten (facts self.old).content at bytes.now) }
+        ensures torn { IsTrue (facts self.old).honest →
+            SameOutside at (length bytes.now) (facts self.old).content (facts self.new).content };
+
+    /// Replaces the bytes of a header, whole or not at all.
+    fn commit_at(&mut self, at: u64, bytes: &[u8; HEADER_LENGTH]) -> Result<(), FlashFault>
+        requires { at + header_length ≤ length (facts self.old).content }
+
+        ensures call { OneCall (facts self.old) (facts self.new) }
+        ensures cause { OnErr result ((facts self.old).faults < (facts self.new).faults) }
+
+        // On an honest device, the second whatever it answers.
+        ensures written { IsTrue (facts self.old).honest →
+            OnOk result ((facts self.new).content ≡ overwritten (facts self.old).content at bytes.now) }
+        ensures whole { IsTrue (facts self.old).honest →
+            ((facts self.new).content ≡ (facts self.old).content)
+            ⊎ ((facts self.new).content ≡ overwritten (facts self.old).content at bytes.now) };
+}

@@ -1,0 +1,36 @@
+//! Why a file was not opened.
+ghost use Rattle.std.specs.Prelude.{◌≡◌, ◌^◌, ◌<◌, ◌≤◌};
+
+use std::io;
+
+#[derive(Clone, Copy, Debug, PartialEq, Eq, Drop)]
+pub enum OpenFault {
+    /// It isn't there, or may not be used in this way.
+    Failed,
+    /// It has 2^32 bytes or more.
+    TooLarge,
+    /// Memory was refused.
+    Memory,
+}
+
+impl From<io::Error> for OpenFault {
+    ghost use Rattle.std.specs.IoError.{error_kind};
+    ghost use Rattle.flash_store.specs.Opening.{open_fault_of};
+
+    ghost from_gives = { λ error fault. fault ≡ open_fault_of (error_kind error) };
+
+    fn from(error: io::Error) -> OpenFault {
+        match error.kind() {
+            io::ErrorKind::OutOfMemory => OpenFault::Memory,
+            _ => OpenFault::Failed,
+        }
+    }
+}
+
+/// The length of a file that can be opened.
+pub fn checked_length(length: u64) -> Result<u32, OpenFault>
+    ensures below { length < 2 ^ 32 → result ≡ Ok length }
+    ensures too_large { 2 ^ 32 ≤ length → result ≡ Err OpenFault.TooLarge }
+{
+    u32::try_from(length).map_err(|_| OpenFault::TooLarge)
+}

@@ -1,0 +1,446 @@
+//! A device and one buffer, through which everything passes in pieces.
+ghost use Rattle.std.specs.Prelude.{◌≡◌, ◌+◌, ◌/◌, ◌^◌, ◌<◌, ◌≤◌, ◌⊎◌, length, take, None, Some, IsTrue, IsSomeAnd, IfSome, OnOk, OnErr, IfOk, IsErrOf, slice_range, replicate};
+ghost use Rattle.flash_store.specs.Bytes.{overwritten, SameOutside, FirstWritten, PartWritten};
+ghost use Rattle.flash_store.specs.Device.{Calls, OneCall};
+ghost use Rattle.flash_format.specs.Head.{header_length};
+ghost use Rattle.flash_store.specs.Output.{AppendsPart, AppendsPieces};
+ghost use Rattle.std.specs.Io.KnownBytes.{Appends, Keeps};
+
+use crate::flash::{Flash, FlashFault, PIECE};
+use crate::sink::{Sink, SinkFault, put_all};
+use crate::source::{Source, SourceFault};
+use flash_format::HEADER_LENGTH;
+use std::marker::Model;
+
+/// Why a copy stopped.
+#[derive(Clone, Copy, Debug, PartialEq, Eq, Drop)]
+pub enum CopyFault {
+    Device,
+    Output,
+    Source,
+}
+
+impl From<FlashFault> for CopyFault {
+    ghost use Rattle.flash_store.specs.declared.paged.CopyFault.TheVariants.{Device};
+
+    ghost from_gives = { λ _ fault. fault ≡ Device };
+
+    fn from(_: FlashFault) -> CopyFault {
+        CopyFault::Device
+    }
+}
+
+impl From<SinkFault> for CopyFault {
+    ghost use Rattle.flash_store.specs.declared.paged.CopyFault.TheVariants.{Output};
+
+    ghost from_gives = { λ _ fault. fault ≡ Output };
+
+    fn from(_: SinkFault) -> CopyFault {
+        CopyFault::Output
+    }
+}
+
+impl From<SourceFault> for CopyFault {
+    ghost use Rattle.flash_store.specs.declared.paged.CopyFault.TheVariants.{Source};
+
+    ghost from_gives = { λ _ fault. fault ≡ Source };
+
+    fn from(_: SourceFault) -> CopyFault {
+        CopyFault::Source
+    }
+}
+
+#[derive(Drop)]
+pub struct Paged<F: Flash> {
+    device: F,
+    buffer: [u8; PIECE],
+    held: Option<usize>,
+}
+
+impl<F: Flash> Model for Paged<F> {
+    ghost use Rattle.std.specs.Prelude.{◌≤◌, take};
+    ghost use Rattle.std.specs.Option.{option_map, ForSome};
+    ghost use Rattle.flash_store.specs.Pages.{Pages};
+
+    ghost Value = { Pages F };
+
+    ghost view = { λ p. record { device = p.device; held = option_map (λ n. take n p.buffer) p.held } };
+
+    ghost invariant = { λ p. ForSome p.held (λ n. n ≤ 4096) };
+}
+
+impl<F: Flash> Paged<F> {
+    ghost use Rattle.std.specs.Borrow.{sem};
+    ghost use Rattle.std.specs.Io.BufRead.{Rests};
+    ghost use Rattle.flash_store.specs.Pages.{HasRead, HasPulled};
+    ghost use Rattle.flash_store.specs.contracts.paged.Paged.{the_row};
+
+    pub fn new(device: F) -> Paged<F>
+        ensures { result ≡ record { device = device; held = None } }
+    {
+        Paged {
+            device,
+            buffer: [0; PIECE],
+            held: None,
+        }
+    }
+
+    pub fn len(&self) -> u64
+        ensures length { result ≡ length (F.facts self.now.device).content }
+        ensures below { result < 2 ^ 32 }
+    {
+        self.device.len()
+    }
+
+    pub fn flash(&self) -> &F
+        ensures { result.now ≡ self.now.device }
+    {
+        &self.device
+    }
+
+    pub fn into_flash(self) -> F
+        ensures { result ≡ self.device }
+    {
+        let Paged { device, .. } = self;
+        device
+    }
+
+    /// From here on no piece is held.
+    fn forget_piece(&mut self)
+        ensures { self.new ≡ record self.old { held = None } }
+    {
+        self.held = None;
+    }
+
+    /// Reads at most 4096 bytes straight into `out`.
+    pub fn read_small(&mut self, at: u64, out: &mut [u8]) -> Result<(), FlashFault>
+        requires inside { at + length out.old ≤ length (F.facts self.old.device).content }
+        requires short { length out.old ≤ 4096 }
+
+        ensures after { HasRead F.facts self.old self.new result }
+        ensures read { IsTrue (F.facts self.old.device).honest →
+            OnOk result (out.new ≡ slice_range (F.facts self.old.device).content at (at + length out.old)) }
+    {
+        self.held = None;
+        self.device.read_at(at, out)
+    }
+
+    /// The n bytes from `at` on.
+    pub fn piece(&mut self, at: u64, n: usize) -> Result<&[u8], FlashFault>
+        requires inside { at + n ≤ length (F.facts self.old.device).content }
+        requires short { n ≤ 4096 }
+
+        ensures* after { sem 𝓛 (Rests (the_row F.row F.Flash) self.entry (λ new.
+            HasRead F.facts self.old new result)) }
+        ensures size { IfOk result (λ bytes. length bytes.now ≡ n) }
+        ensures read { IsTrue (F.facts self.old.device).honest →
+            IfOk result (λ bytes. bytes.now ≡ slice_range (F.facts self.old.device).content at (at + n)) }
+    {
+        self.held = None;
+        load(&mut self.device, &mut self.buffer, at, n)?;
+        Ok(&self.buffer[..n])
+    }
+
+    /// Loads n bytes of a source, from `from` on.
+    pub fn pull<S: Source>(
+        &mut self,
+        source: &mut S,
+        from: u64,
+        n: usize,
+    ) -> Result<&[u8], SourceFault>
+        requires inside { from + n ≤ length (S.facts source.old).content }
+        requires short { n ≤ 4096 }
+
+        ensures call { OneCall (S.facts source.old) (S.facts source.new) }
+        ensures cause { OnErr result ((S.facts source.old).faults < (S.facts source.new).faults) }
+        ensures* after { sem 𝓛 (Rests (the_row F.row F.Flash) self.entry (λ new.
+            HasPulled self.old new result)) }
+        ensures size { IfOk result (λ bytes. length bytes.now ≡ n) }
+
+        // From an honest source.
+        ensures read { IsTrue (S.facts source.old).honest →
+            IfOk result (λ bytes. bytes.now ≡ slice_range (S.facts source.old).content from (from + n)) }
+        ensures unchanged { IsTrue (S.facts source.old).honest →
+            (S.facts source.new).content ≡ (S.facts source.old).content }
+    {
+        self.held = None;
+        load_from(source, &mut self.buffer, from, n)?;
+        self.held = Some(n);
+        Ok(&self.buffer[..n])
+    }
+
+    /// Writes the piece that is held.
+    pub fn push(&mut self, at: u64) -> Result<(), FlashFault>
+        requires { IsSomeAnd self.old.held (λ bytes. at + length bytes ≤ length (F.facts self.old.device).content) }
+
+        ensures call { OneCall (F.facts self.old.device) (F.facts self.new.device) }
+        ensures cause { OnErr result ((F.facts self.old.device).faults < (F.facts self.new.device).faults) }
+        ensures same_piece { self.new.held ≡ self.old.held }
+
+        // On an honest device, the second whatever it answers.
+        ensures written { IsTrue (F.facts self.old.device).honest → IfSome self.old.held (λ bytes.
+            OnOk result ((F.facts self.new.device).content
+            ≡ overwritten (F.facts self.old.device).content at bytes)) }
+        ensures torn { IsTrue (F.facts self.old.device).honest → IfSome self.old.held (λ bytes.
+            SameOutside at (length bytes) (F.facts self.old.device).content
+            (F.facts self.new.device).content) }
+    {
+        let n = self.held.unwrap();
+        self.device.write_at(at, &self.buffer[..n])
+    }
+
+    /// Replaces the bytes of a header, whole or not at all.
+    pub fn commit(&mut self, at: u64, bytes: &[u8; HEADER_LENGTH]) -> Result<(), FlashFault>
+        requires { at + header_length ≤ length (F.facts self.old.device).content }
+
+        ensures call { OneCall (F.facts self.old.device) (F.facts self.new.device) }
+        ensures cause { OnErr result ((F.facts self.old.device).faults < (F.facts self.new.device).faults) }
+        ensures dropped { self.new.held ≡ None }
+
+        // On an honest device, the second whatever it answers.
+        ensures written { IsTrue (F.facts self.old.device).honest →
+            OnOk result ((F.facts self.new.device).content
+            ≡ overwritten (F.facts self.old.device).content at bytes.now) }
+        ensures whole { IsTrue (F.facts self.old.device).honest →
+            ((F.facts self.new.device).content ≡ (F.facts self.old.device).content)
+            ⊎ ((F.facts self.new.device).content
+            ≡ overwritten (F.facts self.old.device).content at bytes.now) }
+    {
+        self.held = None;
+        self.device.commit_at(at, bytes)
+    }
+
+    /// Writes n times the same byte. Where a write fails, its piece may hold anything.
+    pub fn fill(&mut self, at: u64, n: u64, byte: u8) -> Result<(), FlashFault>
+        requires { at + n ≤ length (F.facts self.old.device).content }
+
+        ensures calls { Calls ((n + 4095) / 4096) (F.facts self.old.device) (F.facts self.new.device) }
+        ensures cause { OnErr result ((F.facts self.old.device).faults < (F.facts self.new.device).faults) }
+        ensures dropped { self.new.held ≡ None }
+
+        // On an honest device, the last whatever it answers.
+        ensures filled { IsTrue (F.facts self.old.device).honest →
+            OnOk result ((F.facts self.new.device).content
+            ≡ overwritten (F.facts self.old.device).content at (replicate n byte)) }
+        ensures part { IsTrue (F.facts self.old.device).honest →
+            OnErr result (PartWritten at (replicate n byte) (F.facts self.old.device).content
+            (F.facts self.new.device).content) }
+        ensures outside { IsTrue (F.facts self.old.device).honest →
+            SameOutside at n (F.facts self.old.device).content (F.facts self.new.device).content }
+    {
+        self.held = None;
+        self.buffer = [byte; PIECE];
+        write_copies(&mut self.device, at, n, &self.buffer, byte)
+    }
+
+    /// Writes the first n bytes of a source. Where a write fails, its piece may hold anything.
+    pub fn copy_in<S: Source>(&mut self, at: u64, n: u64, source: &mut S) -> Result<(), CopyFault>
+        requires inside { at + n ≤ length (F.facts self.old.device).content }
+        requires in_source { n ≤ length (S.facts source.old).content }
+
+        ensures calls { Calls ((n + 4095) / 4096) (F.facts self.old.device) (F.facts self.new.device) }
+        ensures source_calls { Calls ((n + 4095) / 4096) (S.facts source.old) (S.facts source.new) }
+        ensures device { IsErrOf result CopyFault.Device →
+            (F.facts self.old.device).faults < (F.facts self.new.device).faults }
+        ensures source { IsErrOf result CopyFault.Source →
+            (S.facts source.old).faults < (S.facts source.new).faults }
+        ensures no_output { IsErrOf result CopyFault.Output → ⊥ }
+        ensures dropped { self.new.held ≡ None }
+        ensures same_source { IsTrue (S.facts source.old).honest →
+            (S.facts source.new).content ≡ (S.facts source.old).content }
+
+        // On an honest device, from an honest source.
+        ensures copied { IsTrue (F.facts self.old.device).honest → IsTrue (S.facts source.old).honest →
+            OnOk result ((F.facts self.new.device).content
+            ≡ overwritten (F.facts self.old.device).content at (take n (S.facts source.old).content)) }
+        ensures stopped { IsTrue (F.facts self.old.device).honest → IsTrue (S.facts source.old).honest →
+            IsErrOf result CopyFault.Source → FirstWritten at (take n (S.facts source.old).content)
+            (F.facts self.old.device).content (F.facts self.new.device).content }
+        ensures part { IsTrue (F.facts self.old.device).honest → IsTrue (S.facts source.old).honest →
+            IsErrOf result CopyFault.Device → PartWritten at (take n (S.facts source.old).content)
+            (F.facts self.old.device).content (F.facts self.new.device).content }
+
+        // On an honest device, whatever the source.
+        ensures outside { IsTrue (F.facts self.old.device).honest →
+            SameOutside at n (F.facts self.old.device).content (F.facts self.new.device).content }
+    {
+        self.forget_piece();
+        let _len = self.len();
+        let mut done = 0;
+        while done < n {
+            let size = (n - done).min(PIECE as u64);
+            self.copy_piece_in(at + done, done, size as usize, source)?;
+            done += size;
+        }
+        Ok(())
+    }
+
+    /// The same of at most 4096 bytes, from a place in the source on.
+    fn copy_piece_in<S: Source>(
+        &mut self,
+        at: u64,
+        from: u64,
+        n: usize,
+        source: &mut S,
+    ) -> Result<(), CopyFault>
+        requires inside { at + n ≤ length (F.facts self.old.device).content }
+        requires in_source { from + n ≤ length (S.facts source.old).content }
+        requires short { n ≤ 4096 }
+
+        ensures call { Calls 1 (F.facts self.old.device) (F.facts self.new.device) }
+        ensures source_call { OneCall (S.facts source.old) (S.facts source.new) }
+        ensures device { IsErrOf result CopyFault.Device →
+            (F.facts self.old.device).faults < (F.facts self.new.device).faults }
+        ensures source { IsErrOf result CopyFault.Source →
+            (S.facts source.old).faults < (S.facts source.new).faults }
+        ensures no_output { IsErrOf result CopyFault.Output → ⊥ }
+        ensures dropped { self.new.held ≡ None }
+        ensures same_source { IsTrue (S.facts source.old).honest →
+            (S.facts source.new).content ≡ (S.facts source.old).content }
+
+        ensures copied { IsTrue (F.facts self.old.device).honest → IsTrue (S.facts source.old).honest →
+            OnOk result ((F.facts self.new.device).content
+            ≡ overwritten (F.facts self.old.device).content at
+            (slice_range (S.facts source.old).content from (from + n))) }
+        ensures stopped { IsTrue (F.facts self.old.device).honest → IsErrOf result CopyFault.Source →
+            (F.facts self.new.device).content ≡ (F.facts self.old.device).content }
+        ensures outside { IsTrue (F.facts self.old.device).honest →
+            SameOutside at n (F.facts self.old.device).content (F.facts self.new.device).content }
+    {
+        self.held = None;
+        load_from(source, &mut self.buffer, from, n)?;
+        self.device.write_at(at, &self.buffer[..n])?;
+        Ok(())
+    }
+
+    /// Puts the n bytes from `at` on into a sink. Where it stops, the sink has taken some of the first of them.
+    pub fn copy_out<W: Sink>(&mut self, at: u64, n: u64, out: &mut W) -> Result<(), CopyFault>
+        requires { at + n ≤ length (F.facts self.old.device).content }
+
+        ensures calls { Calls ((n + 4095) / 4096) (F.facts self.old.device) (F.facts self.new.device) }
+        ensures device { IsErrOf result CopyFault.Device →
+            (F.facts self.old.device).faults < (F.facts self.new.device).faults }
+        ensures dropped { self.new.held ≡ None }
+        ensures unchanged { IsTrue (F.facts self.old.device).honest →
+            (F.facts self.new.device).content ≡ (F.facts self.old.device).content }
+
+        ensures faults { W.faults out.old ≤ W.faults out.new }
+        ensures output { IsErrOf result CopyFault.Output → W.faults out.old < W.faults out.new }
+        ensures no_source { IsErrOf result CopyFault.Source → ⊥ }
+        ensures copied { IsTrue (F.facts self.old.device).honest →
+            OnOk result (Appends (W.contents out.old) (W.contents out.new)
+            (slice_range (F.facts self.old.device).content at (at + n))) }
+        ensures part { IsTrue (F.facts self.old.device).honest →
+            OnErr result (AppendsPart (W.contents out.old) (W.contents out.new)
+            (slice_range (F.facts self.old.device).content at (at + n))) }
+        ensures pieces { IsTrue (F.facts self.old.device).honest → IsErrOf result CopyFault.Device →
+            AppendsPieces (W.contents out.old) (W.contents out.new)
+            (slice_range (F.facts self.old.device).content at (at + n)) }
+    {
+        self.forget_piece();
+        let _len = self.len();
+        let mut done = 0;
+        while done < n {
+            let size = (n - done).min(PIECE as u64);
+            self.copy_piece(at + done, size as usize, out)?;
+            done += size;
+        }
+        Ok(())
+    }
+
+    /// The same of at most 4096 bytes, and at least one.
+    fn copy_piece<W: Sink>(&mut self, at: u64, n: usize, out: &mut W) -> Result<(), CopyFault>
+        requires inside { at + n ≤ length (F.facts self.old.device).content }
+        requires short { n ≤ 4096 }
+        requires some { 0 < n }
+
+        ensures call { OneCall (F.facts self.old.device) (F.facts self.new.device) }
+        ensures device { IsErrOf result CopyFault.Device →
+            (F.facts self.old.device).faults < (F.facts self.new.device).faults }
+        ensures dropped { self.new.held ≡ None }
+        ensures unchanged { IsTrue (F.facts self.old.device).honest →
+            (F.facts self.new.device).content ≡ (F.facts self.old.device).content }
+
+        ensures faults { W.faults out.old ≤ W.faults out.new }
+        ensures output { IsErrOf result CopyFault.Output → W.faults out.old < W.faults out.new }
+        ensures no_source { IsErrOf result CopyFault.Source → ⊥ }
+        ensures copied { IsTrue (F.facts self.old.device).honest →
+            OnOk result (Appends (W.contents out.old) (W.contents out.new)
+            (slice_range (F.facts self.old.device).content at (at + n))) }
+        ensures part { IsTrue (F.facts self.old.device).honest →
+            OnErr result (AppendsPart (W.contents out.old) (W.contents out.new)
+            (slice_range (F.facts self.old.device).content at (at + n))) }
+        ensures none { IsErrOf result CopyFault.Device → Keeps (W.contents out.old) (W.contents out.new) }
+    {
+        let bytes = self.piece(at, n)?;
+        put_all(out, bytes)?;
+        Ok(())
+    }
+}
+
+/// Reads n bytes into the front of the buffer.
+fn load<F: Flash>(device: &mut F, buffer: &mut [u8], at: u64, n: usize) -> Result<(), FlashFault>
+    requires inside { at + n ≤ length (F.facts device.old).content }
+    requires short { n ≤ 4096 }
+    requires room { n ≤ length buffer.old }
+
+    ensures call { OneCall (F.facts device.old) (F.facts device.new) }
+    ensures cause { OnErr result ((F.facts device.old).faults < (F.facts device.new).faults) }
+    ensures read { IsTrue (F.facts device.old).honest →
+        OnOk result (take n buffer.new ≡ slice_range (F.facts device.old).content at (at + n)) }
+    ensures unchanged { IsTrue (F.facts device.old).honest →
+        (F.facts device.new).content ≡ (F.facts device.old).content }
+{
+    device.read_at(at, &mut buffer[..n])
+}
+
+/// The same from a source.
+fn load_from<S: Source>(
+    source: &mut S,
+    buffer: &mut [u8],
+    at: u64,
+    n: usize,
+) -> Result<(), SourceFault>
+    requires inside { at + n ≤ length (S.facts source.old).content }
+    requires short { n ≤ 4096 }
+    requires room { n ≤ length buffer.old }
+
+    ensures call { OneCall (S.facts source.old) (S.facts source.new) }
+    ensures cause { OnErr result ((S.facts source.old).faults < (S.facts source.new).faults) }
+    ensures read { IsTrue (S.facts source.old).honest →
+        OnOk result (take n buffer.new ≡ slice_range (S.facts source.old).content at (at + n)) }
+    ensures unchanged { IsTrue (S.facts source.old).honest →
+        (S.facts source.new).content ≡ (S.facts source.old).content }
+{
+    source.read_at(at, &mut buffer[..n])
+}
+
+/// Writes n bytes, piece by piece, each the front of the same 4096 bytes.
+fn write_copies<F: Flash>(
+    device: &mut F,
+    at: u64,
+    n: u64,
+    copies: &[u8],
+    byte: u8,
+) -> Result<(), FlashFault>
+    requires inside { at + n ≤ length (F.facts device.old).content }
+    requires all { copies.now ≡ replicate 4096 byte }
+
+    ensures calls { Calls ((n + 4095) / 4096) (F.facts device.old) (F.facts device.new) }
+    ensures cause { OnErr result ((F.facts device.old).faults < (F.facts device.new).faults) }
+    ensures filled { IsTrue (F.facts device.old).honest →
+        OnOk result ((F.facts device.new).content ≡ overwritten (F.facts device.old).content at (replicate n byte)) }
+    ensures part { IsTrue (F.facts device.old).honest →
+        OnErr result (PartWritten at (replicate n byte) (F.facts device.old).content (F.facts device.new).content) }
+    ensures outside { IsTrue (F.facts device.old).honest →
+        SameOutside at n (F.facts device.old).content (F.facts device.new).content }
+{
+    let _len = device.len();
+    let mut done = 0;
+    while done < n {
+        let size = (n - done).min(PIECE as u64);
+        device.write_at(at + done, &copies[..size as usize])?;
+        done += size;
+    }
+    Ok(())
+}

@@ -1,0 +1,31 @@
+//! Where input comes from.
+ghost use Rattle.std.specs.Prelude.{◌≡◌, ◌+◌, ◌^◌, ◌<◌, ◌≤◌, length, IsTrue, OnOk, OnErr, slice_range};
+ghost use Rattle.flash_store.specs.Device.{Device, OneCall};
+
+/// A call to a source that was refused.
+#[derive(Clone, Copy, Debug, PartialEq, Eq, Drop)]
+pub struct SourceFault;
+
+/// A file or a list of bytes that is read by position.
+pub trait Source: Drop {
+    /// Its bytes, the calls but `len` and the faults so far, and whether it is honest.
+    ghost facts: { Self → Device };
+
+    fn len(&self) -> u64
+        ensures length { result ≡ length (facts self.now).content }
+        ensures below { result < 2 ^ 32 };
+
+    /// Reads the bytes from `at` on. After a fault `out` may hold anything.
+    fn read_at(&mut self, at: u64, out: &mut [u8]) -> Result<(), SourceFault>
+        requires inside { at + length out.old ≤ length (facts self.old).content }
+        requires short { length out.old ≤ 4096 }
+
+        ensures call { OneCall (facts self.old) (facts self.new) }
+        ensures cause { OnErr result ((facts self.old).faults < (facts self.new).faults) }
+
+        // On an honest source.
+        ensures read { IsTrue (facts self.old).honest →
+            OnOk result (out.new ≡ slice_range (facts self.old).content at (at + length out.old)) }
+        ensures unchanged { IsTrue (facts self.old).honest →
+            (facts self.new).content ≡ (facts self.old).content };
+}
