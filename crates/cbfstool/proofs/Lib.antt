@@ -6,3 +6,6 @@ mod Areas
 mod Printing
 mod Meeting
 mod Examples
+mod Subcommands
+mod Matching
+mod LineExamples

@@ -1,3 +1,4 @@
+pub mod CommandLine
 pub mod Lines
 pub mod Refusals
 pub mod Rows

@@ -1,6 +1,8 @@
 //! The command line: IMAGE, a subcommand, and its options.
 
-ghost use Rattle.std.specs.Prelude.{◌≡◌, Some, IfOk, option_map, slice_get};
+ghost use Rattle.std.specs.Prelude.{◌≡◌, ◌≢◌, ◌⊎◌, [], Some, IfOk, IfErr, drop, map, option_map, true};
+ghost use Rattle.clap.specs.Words.{fault_of, has_subcommand, kind_of, subcommand_rows_of};
+ghost use Rattle.cbfstool.specs.CommandLine.{command_line, line_by, line_of, refusal_by};
 ghost use Rattle.cbfstool.specs.Lines.{Words, command_of, seen};
 
 use crate::command::Command;
@@ -77,33 +79,40 @@ impl<'a> Line<'a> {
     }
 }
 
-fn refusal_of(error: Error) -> Refusal {
+/// The refusal of words that clap doesn't take.
+fn refusal_of(error: Error) -> Refusal
+    ensures { result ≡ refusal_by (kind_of error) }
+{
     match error.kind() {
         ErrorKind::OutOfMemory => Refusal::Memory,
         _ => Refusal::Usage,
     }
 }
 
-/// The line of these matches; refused without a subcommand.
-fn line_of<'a>(image: &'a str, matches: &ArgMatches<'a>) -> Result<Line<'a>, Refusal>
-    ensures { IfOk result (λ line. line.image ≡ image.entry.now) }
+/// The line of these matches.
+fn line_of<'a>(image: &'a str, matches: &ArgMatches<'a>) -> Line<'a>
+    requires { has_subcommand matches.now ≡ true }
+    ensures { Some result ≡ line_by image.entry.now (subcommand_rows_of matches.now) }
 {
-    let Some((subcommand, options)) = matches.subcommand() else {
-        return Err(Refusal::Usage);
-    };
-    Ok(Line {
+    let (subcommand, options) = matches.subcommand().unwrap();
+    Line {
         image,
         subcommand,
         region: options.get_str("region"),
         name: options.get_str("name"),
         file: options.get_str("file"),
-    })
+    }
 }
 
-/// Reads the words after the program's name. Refused as a bad command line where clap doesn't take them, also
-/// where they ask for its help, and for want of memory.
+/// Reads the words after the program's name: IMAGE, and a command line in which clap finds no fault. Refused as a
+/// bad command line without any word, and where clap finds one, which a wish for its help is too; and for want of
+/// memory.
 pub fn read_line<'a>(alloc: Global, words: &'a [&'a str]) -> Result<Line<'a>, Refusal>
-    ensures { IfOk result (λ line. option_map (λ w. w.now) (slice_get words.entry.now 0) ≡ Some line.image) }
+    ensures line { IfOk result (λ line. Some line ≡ line_of (map (λ w. w.now) words.entry.now)) }
+    ensures refusals { IfErr result (λ refusal. (refusal ≡ Refusal.Usage) ⊎ (refusal ≡ Refusal.Memory)) }
+    ensures faultless { IfOk result (λ _. fault_of command_line (map (λ w. w.now) (drop 1 words.entry.now)) ≡ []) }
+    ensures usage { words.entry.now ≢ [] → fault_of command_line (map (λ w. w.now) (drop 1 words.entry.now)) ≡ [] →
+        IfErr result (λ refusal. refusal ≡ Refusal.Memory) }
 {
     let Some((image, rest)) = words.split_first() else {
         return Err(Refusal::Usage);
@@ -112,7 +121,7 @@ pub fn read_line<'a>(alloc: Global, words: &'a [&'a str]) -> Result<Line<'a>, Re
         return Err(Refusal::Memory);
     };
     match command.try_get_matches_from(rest) {
-        Ok(matches) => line_of(image, &matches),
+        Ok(matches) => Ok(line_of(image, &matches)),
         Err(error) => Err(refusal_of(error)),
     }
 }

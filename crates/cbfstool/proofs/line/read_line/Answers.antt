@@ -1,0 +1,25 @@
+use Rattle.std.proofs.Common.{◌≡◌, ◌∙◌, ap, drop, sym, List, ℕ, map}
+use Rattle.std.specs.Borrow.{Bor}
+use Rattle.clap.specs.Words.{App, fault_of, is_simple_and_free}
+use Rattle.clap.specs.declared.error.kind.ErrorKind.{ErrorKind}
+use Rattle.cbfstool.specs.CommandLine.{refusal_by, command_line}
+use Rattle.cbfstool.proofs.Matching.{simple, faultless}
+use Rattle.cbfstool.proofs.line.read_line.Goals as goal
+
+pub returns-in-Err-clause-usage : goal.returns-in-Err-clause-usage
+returns-in-Err-clause-usage c = λ some none.
+    let texts = λ (l : List (Bor (List ℕ))). map (λ w. w.now) l in
+    let rest : c.in-Some.rest.now ≡ drop 1 c.args.words.now = sym (ap (λ (l : List (Bor (List ℕ))). drop 1 l) c.in-Some.ensures.cases.0) in
+    let shape = c.in-Ok.ensures.shape in
+    let told = c.in-Err.ensures.kinds (ap (λ (a : App). is_simple_and_free a) shape ∙ simple) in
+    let same = ap (λ (a : App). fault_of a (texts c.in-Some.rest.now)) shape ∙ ap (λ (l : List (Bor (List ℕ))). fault_of command_line (texts l)) rest in
+    c.refusal_of.ensures ∙ ap (λ (k : ErrorKind). refusal_by k) (faultless _ c.in-Err.error told (same ∙ none))
+
+pub returns-in-Ok-try_get_matches_from-clause-faultless : goal.returns-in-Ok-try_get_matches_from-clause-faultless
+returns-in-Ok-try_get_matches_from-clause-faultless c =
+    let texts = λ (l : List (Bor (List ℕ))). map (λ w. w.now) l in
+    let rest : c.in-Some.rest.now ≡ drop 1 c.args.words.now = sym (ap (λ (l : List (Bor (List ℕ))). drop 1 l) c.in-Some.ensures.cases.0) in
+    let shape = c.in-Ok.ensures.shape in
+    let told = c.in-Ok-try_get_matches_from.ensures.kinds (ap (λ (a : App). is_simple_and_free a) shape ∙ simple) in
+    let same = ap (λ (a : App). fault_of a (texts c.in-Some.rest.now)) shape ∙ ap (λ (l : List (Bor (List ℕ))). fault_of command_line (texts l)) rest in
+    sym same ∙ told
