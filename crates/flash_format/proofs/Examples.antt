@@ -3,12 +3,12 @@ use Rattle.std.proofs.Common.{◌≡◌, ℕ, true, false, List, [], ◌∷◌, 
 use lib.Chars.{codes}
 use Rattle.byteorder.specs.Endian.{big_bytes}
 use Rattle.flash_format.specs.declared.head.DamageKind.TheVariants as kinds
-use Rattle.flash_format.specs.Head.{head_of, has_magic, checked}
+use Rattle.flash_format.specs.Head.{head_of, head_bytes, has_magic, checked}
 use Rattle.flash_format.specs.Attributes.{attr_head_of, attributes, attributes_after}
 use Rattle.flash_format.specs.Entry.{Entry, absent, damaged, cell, entry}
 use Rattle.flash_format.specs.Cut.{complete, tail, damage, cut, cut_after}
 use Rattle.flash_format.specs.Components.{components, components_from, cell_attributes, packing, is_packed}
-use Rattle.flash_format.specs.Flashmap.{has_signature, fmap_head_of, area_of, is_valid_head, is_map, map_of, map_from, areas_from, area_in}
+use Rattle.flash_format.specs.Flashmap.{has_signature, fmap_head_of, fmap_head_bytes, area_of, area_bytes, is_valid_head, is_map, map_of, map_from, areas_from, area_in}
 use Rattle.flash_format.specs.TypeNames.{name_of_type}
 
 -- ---- entries
@@ -37,6 +37,11 @@ abbrev fresh : List ℕ
 fresh =
     (0x4c ∷ 0x41 ∷ 0x52 ∷ 0x43 ∷ 0x48 ∷ 0x49 ∷ 0x56 ∷ 0x45 ∷ 0 ∷ 0 ∷ 1 ∷ 0xd4 ∷ 0xff ∷ 0xff ∷ 0xff ∷ 0xff ∷ 0 ∷ 0 ∷ 0 ∷ 0 ∷ 0 ∷ 0 ∷ 0 ∷ 0x28 ∷ [])
     ++ replicate 16 0 ++ replicate 472 0xff
+
+the_head_of_a_fresh_region : head_bytes (record { len = 468; kind = null; attributes_offset = 0; offset = 40 })
+    ≡ 0x4c ∷ 0x41 ∷ 0x52 ∷ 0x43 ∷ 0x48 ∷ 0x49 ∷ 0x56 ∷ 0x45 ∷ 0 ∷ 0 ∷ 1 ∷ 0xd4 ∷ 0xff ∷ 0xff ∷ 0xff ∷ 0xff ∷ 0 ∷ 0 ∷ 0 ∷ 0 ∷ 0 ∷ 0 ∷ 0 ∷ 0x28 ∷ []
+unfolding head_bytes
+the_head_of_a_fresh_region = refl
 
 a_fresh_region_is_one_cell : cut fresh ≡ record { cells = fresh ∷ []; end = complete }
 unfolding entry has_magic checked head_of cut_after
@@ -198,6 +203,18 @@ in_4096 front = front ++ replicate (4096 - length front) 0xff
 the_fields_of_a_map : fmap_head_of table ≡ record { major = 1; minor = 1; base = 0xff000000; size = 4096; name = codes "FLASH" ++ replicate 27 0; nareas = 3 }
 unfolding fmap_head_of
 the_fields_of_a_map = refl
+
+-- the head of a flash of 4096 bytes at 0xff000000, with two areas
+the_bytes_of_a_map : fmap_head_bytes (record { major = 1; minor = 1; base = 0xff000000; size = 0x1000; name = codes "FLASH" ++ replicate 27 0; nareas = 2 })
+    ≡ (0x5f ∷ 0x5f ∷ 0x46 ∷ 0x4d ∷ 0x41 ∷ 0x50 ∷ 0x5f ∷ 0x5f ∷ 1 ∷ 1 ∷ 0 ∷ 0 ∷ 0 ∷ 0xff ∷ 0 ∷ 0 ∷ 0 ∷ 0 ∷ 0 ∷ 0x10 ∷ 0 ∷ 0 ∷ [])
+    ++ codes "FLASH" ++ replicate 27 0 ++ (2 ∷ 0 ∷ [])
+unfolding fmap_head_bytes
+the_bytes_of_a_map = refl
+
+the_bytes_of_an_area : area_bytes (record { offset = 0x200; size = 0xe00; name = codes "COREBOOT" ++ replicate 24 0; flags = 0 })
+    ≡ (0 ∷ 2 ∷ 0 ∷ 0 ∷ 0 ∷ 0xe ∷ 0 ∷ 0 ∷ []) ++ codes "COREBOOT" ++ replicate 24 0 ++ (0 ∷ 0 ∷ [])
+unfolding area_bytes
+the_bytes_of_an_area = refl
 
 a_map_at_the_front : map_of (in_4096 table) ≡ Some 0
 unfolding has_signature fmap_head_of is_valid_head is_map map_from

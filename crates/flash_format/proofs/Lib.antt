@@ -5,4 +5,5 @@ pub mod AttributeSteps
 pub mod EntryLaws
 pub mod CutLaws
 pub mod MapLaws
+pub mod Writing
 mod Examples

@@ -1,9 +1,9 @@
 -- The flashmap: a head and its areas, which name ranges of an image.
 -- The fields are those of `struct fmap` and `struct fmap_area` of FMAP 1.1, and its numbers are little-endian.
 -- What makes a map valid, and that an image's map is the lowest valid one, is this project's own.
-use Rattle.std.specs.Prelude.{ℕ, zero, suc, ◌+◌, ◌*◌, Bool, ◌&&◌, List, [], ◌∷◌, length, drop, slice_index, slice_range, Option, Some, None, nat_eq, nat_le, ◌==◌, if◌then◌else◌}
+use Rattle.std.specs.Prelude.{ℕ, zero, suc, ◌+◌, ◌*◌, Bool, ◌&&◌, List, [], ◌∷◌, ◌++◌, length, drop, slice_index, slice_range, Option, Some, None, nat_eq, nat_le, ◌==◌, if◌then◌else◌}
 use Rattle.std.specs.List.{starts_with, list_any, list_all, before_first, find}
-use Rattle.byteorder.specs.Endian.{little_number}
+use Rattle.byteorder.specs.Endian.{little_number, little_bytes}
 use Rattle.std.specs.Str.{bytes_eq}
 use lib.Chars.{codes}
 use Rattle.flash_format.specs.declared.flashmap.FmapHead.{FmapHead}
@@ -21,8 +21,16 @@ has_signature x = starts_with nat_eq x (codes "__FMAP__")
 unfoldable pub fmap_head_of : List ℕ → FmapHead
 fmap_head_of x = record { major = slice_index x 8; minor = slice_index x 9; base = le 8 10 x; size = le 4 18 x; name = slice_range x 22 54; nareas = le 2 54 x }
 
+-- the bytes of `struct fmap`: the signature and the fields, in order
+unfoldable pub fmap_head_bytes : FmapHead → List ℕ
+fmap_head_bytes h = codes "__FMAP__" ++ (h.major ∷ h.minor ∷ []) ++ little_bytes 8 h.base ++ little_bytes 4 h.size ++ h.name ++ little_bytes 2 h.nareas
+
 unfoldable pub area_of : List ℕ → Area
 area_of x = record { offset = le 4 0 x; size = le 4 4 x; name = slice_range x 8 40; flags = le 2 40 x }
+
+-- the bytes of `struct fmap_area`: the fields, in order
+unfoldable pub area_bytes : Area → List ℕ
+area_bytes a = little_bytes 4 a.offset ++ little_bytes 4 a.size ++ a.name ++ little_bytes 2 a.flags
 
 -- the bytes before the first NUL, or all
 abbrev pub text_of : List ℕ → List ℕ

@@ -1,9 +1,9 @@
 -- The 24 bytes at the front of a CBFS entry, and the checks of them that need no other byte.
 -- The fields are those of `struct cbfs_file` in coreboot's documentation of CBFS, and its numbers are big-endian.
 -- The order of the checks and their limits are this project's own.
-use Rattle.std.specs.Prelude.{ℕ, ◌+◌, ◌*◌, ◌/◌, Bool, not, ◌&&◌, ◌||◌, List, slice_range, Option, Some, None, Result, Ok, Err, nat_eq, nat_lt, ◌==◌, if◌then◌else◌}
+use Rattle.std.specs.Prelude.{ℕ, ◌+◌, ◌*◌, ◌/◌, Bool, not, ◌&&◌, ◌||◌, List, ◌++◌, slice_range, Option, Some, None, Result, Ok, Err, nat_eq, nat_lt, ◌==◌, if◌then◌else◌}
 use Rattle.std.specs.List.{starts_with}
-use Rattle.byteorder.specs.Endian.{big_number}
+use Rattle.byteorder.specs.Endian.{big_number, big_bytes}
 use lib.Chars.{codes}
 use Rattle.flash_format.specs.declared.head.Head.{Head}
 use Rattle.flash_format.specs.declared.head.Extent.{Extent}
@@ -32,6 +32,10 @@ has_magic x = starts_with nat_eq x (codes "LARCHIVE")
 -- the head of 24 bytes, where they begin with the magic
 abbrev pub head_at : List ℕ → Option Head
 head_at x = if has_magic x then Some (head_of x) else None
+
+-- the bytes of `struct cbfs_file`: the magic and the four numbers, in order
+unfoldable pub head_bytes : Head → List ℕ
+head_bytes h = codes "LARCHIVE" ++ big_bytes 4 h.len ++ big_bytes 4 h.kind ++ big_bytes 4 h.attributes_offset ++ big_bytes 4 h.offset
 
 -- the types deleted and null are free space
 abbrev pub is_free : Head → Bool

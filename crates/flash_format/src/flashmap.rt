@@ -1,9 +1,9 @@
 //! The head and the areas of a flashmap.
 
-ghost use Rattle.std.specs.Prelude.{◌≡◌, ◌≤◌, length, Some, None, if◌then◌else◌};
+ghost use Rattle.std.specs.Prelude.{◌≡◌, ◌≤◌, length, true, Some, None, if◌then◌else◌};
 ghost use Rattle.std.specs.List.{list_any, list_all, position};
 ghost use Rattle.flash_format.specs.Entry.{is_nul};
-ghost use Rattle.flash_format.specs.Flashmap.{fmap_head_of, has_signature, is_named, is_valid_head, area_of, is_area, text_of, is_printing};
+ghost use Rattle.flash_format.specs.Flashmap.{fmap_head_of, fmap_head_bytes, has_signature, is_named, is_valid_head, area_of, area_bytes, is_area, text_of, is_printing};
 
 use byteorder::{ByteOrder, LittleEndian};
 
@@ -41,6 +41,31 @@ impl FmapHead {
             name: name_field(&bytes[22..54]),
             nareas: LittleEndian::read_u16(&bytes[54..56]),
         })
+    }
+
+    /// The bytes of `struct fmap` of FMAP 1.1 with these fields, whose numbers are little-endian.
+    pub fn write(&self) -> [u8; 56]
+        ensures bytes { result ≡ fmap_head_bytes self.now }
+        ensures signature { has_signature result ≡ true }
+        ensures read_back { fmap_head_of result ≡ self.now }
+    {
+        let FmapHead {
+            major,
+            minor,
+            base,
+            size,
+            name,
+            nareas,
+        } = *self;
+        let mut out = [0; 56];
+        out[..8].copy_from_slice(&SIGNATURE);
+        out[8] = major;
+        out[9] = minor;
+        LittleEndian::write_u64(&mut out[10..18], base);
+        LittleEndian::write_u32(&mut out[18..22], size);
+        out[22..54].copy_from_slice(&name);
+        LittleEndian::write_u16(&mut out[54..56], nareas);
+        out
     }
 
     /// The name's bytes before its first NUL, or all 32.
@@ -83,6 +108,25 @@ impl Area {
             name: name_field(&bytes[8..40]),
             flags: LittleEndian::read_u16(&bytes[40..42]),
         }
+    }
+
+    /// The bytes of `struct fmap_area` of FMAP 1.1 with these fields, whose numbers are little-endian.
+    pub fn write(&self) -> [u8; 42]
+        ensures bytes { result ≡ area_bytes self.now }
+        ensures read_back { area_of result ≡ self.now }
+    {
+        let Area {
+            offset,
+            size,
+            name,
+            flags,
+        } = *self;
+        let mut out = [0; 42];
+        LittleEndian::write_u32(&mut out[..4], offset);
+        LittleEndian::write_u32(&mut out[4..8], size);
+        out[8..40].copy_from_slice(&name);
+        LittleEndian::write_u16(&mut out[40..42], flags);
+        out
     }
 
     /// The name's bytes before its first NUL, or all 32.

@@ -1,7 +1,7 @@
 //! The head of a CBFS entry, and the checks of it that need no other byte.
 
-ghost use Rattle.std.specs.Prelude.{◌≡◌};
-ghost use Rattle.flash_format.specs.Head.{head_at, is_free, attributes_misplaced, checked};
+ghost use Rattle.std.specs.Prelude.{◌≡◌, Some};
+ghost use Rattle.flash_format.specs.Head.{head_at, head_bytes, is_free, attributes_misplaced, checked};
 
 use byteorder::{BigEndian, ByteOrder};
 
@@ -64,6 +64,27 @@ impl Head {
             attributes_offset: BigEndian::read_u32(&bytes[16..20]),
             offset: BigEndian::read_u32(&bytes[20..24]),
         })
+    }
+
+    /// The bytes of `struct cbfs_file` with these numbers, which are big-endian.
+    #[tactic(auto, unfolding(crate::specs::Head::head_bytes))]
+    pub fn write(&self) -> [u8; 24]
+        ensures bytes { result ≡ head_bytes self.now }
+        ensures read_back { head_at result ≡ Some self.now }
+    {
+        let Head {
+            len,
+            kind,
+            attributes_offset,
+            offset,
+        } = *self;
+        let mut out = [0; 24];
+        out[..8].copy_from_slice(&MAGIC);
+        BigEndian::write_u32(&mut out[8..12], len);
+        BigEndian::write_u32(&mut out[12..16], kind);
+        BigEndian::write_u32(&mut out[16..20], attributes_offset);
+        BigEndian::write_u32(&mut out[20..24], offset);
+        out
     }
 
     /// Whether the entry is free space.

@@ -170,6 +170,16 @@ fn reads_an_area(rt: HostRuntime) {
 }
 
 #[test]
+fn writes_the_bytes_that_were_read(rt: HostRuntime) {
+    assert_eq!(rt; Head::read(&FRESH).map(|head| head.write()), Some(FRESH));
+    assert_eq!(rt;
+        FmapHead::read(&TABLE).map(|head| head.write()),
+        Some(TABLE)
+    );
+    assert_eq!(rt; Area::read(&REST).write(), REST);
+}
+
+#[test]
 fn an_area_has_the_name_before_its_first_nul(rt: HostRuntime) {
     let area = Area::read(&REST);
     assert!(rt; area.name_is(b"REST"));
