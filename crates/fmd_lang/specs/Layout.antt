@@ -1,0 +1,71 @@
+-- Where the sections of a descriptor lie: each row of siblings as equations over their places. That an offset counts
+-- from the parent's start, and that a size may be omitted, is coreboot's (Documentation/lib/flashmap.md); which
+-- sizes may be, and what they then are, is this project's own.
+use Rattle.std.specs.Prelude.{◌≡◌, ℕ, ◌+◌, ◌-◌, ◌<◌, ◌≤◌, Bool, true, false, ◌&&◌, ◌||◌, not, if◌then◌else◌, IsTrue, List, [], ◌∷◌, unwrap_or, is_some, IfSome, IfNone}
+use Rattle.fmd_lang.specs.Tree.{Tree, section, Forest, none, some}
+use Rattle.fmd_lang.specs.declared.row.Sibling.{Sibling}
+use Rattle.fmd_lang.specs.declared.row.Place.{Place}
+
+abbrev pub end_of : Place → ℕ
+end_of q = q.start + q.size
+
+-- A run is the first sibling, or one with an offset, and the siblings after it without one. This is
+-- where the run goes on to, whose places before these end at `at`.
+abbrev pub run_end : ℕ → List Sibling → List Place → ℕ
+run_end at [] qs = at
+run_end at (p ∷ ps) [] = at
+run_end at (p ∷ ps) (q ∷ qs) = if is_some p.offset then at else run_end (end_of q) ps qs
+
+-- the bound of the run that goes on with these: the start of the next run, or the parent's size
+abbrev pub bound : ℕ → List Sibling → ℕ
+bound parent [] = parent
+bound parent (p ∷ ps) = unwrap_or p.offset (bound parent ps)
+
+-- What holds of one place, where the sibling before it ends at `from`.
+pub record IsPlaced (parent from : ℕ) (p : Sibling) (q : Place) : Type 0 where
+  pub offset : q.start ≡ unwrap_or p.offset from
+  pub size : IfSome p.size (λ n. q.size ≡ n)
+  pub in_order : from ≤ q.start
+  pub non_empty : 0 < q.size
+  pub inside : end_of q ≤ parent
+
+-- The places of siblings. One that omits its size makes its run end at the bound.
+abbrev pub ArePlaced : ℕ → ℕ → List Sibling → List Place → Type 0
+ArePlaced parent from [] qs = qs ≡ []
+ArePlaced parent from (p ∷ ps) [] = ⊥
+ArePlaced parent from (p ∷ ps) (q ∷ qs) = IsPlaced parent from p q
+    × IfNone p.size (run_end (end_of q) ps qs ≡ bound parent ps)
+    × ArePlaced parent (end_of q) ps qs
+
+-- Each run omits at most one size. The flag says that the run has omitted one before.
+abbrev pub is_clear : Bool → List Sibling → Bool
+is_clear omitted [] = true
+is_clear omitted (p ∷ ps) =
+    let before = omitted && not (is_some p.offset) in
+    (is_some p.size || not before) && is_clear (before || not (is_some p.size)) ps
+
+-- the places of all siblings of a parent of this size
+abbrev pub Laid : ℕ → List Sibling → List Place → Type 0
+Laid parent ps qs = IsTrue (is_clear false ps) × ArePlaced parent 0 ps qs
+
+-- The refusals also speak of rows that can't be laid. An omitted size is what the bound leaves, and 0
+-- where that is negative.
+abbrev pub sizes_ahead : List Sibling → ℕ
+sizes_ahead [] = 0
+sizes_ahead (p ∷ ps) = if is_some p.offset then 0 else unwrap_or p.size 0 + sizes_ahead ps
+
+abbrev pub size_at : ℕ → ℕ → Sibling → List Sibling → ℕ
+size_at parent start p ps = unwrap_or p.size (bound parent ps - (start + sizes_ahead ps))
+
+abbrev pub filled : ℕ → ℕ → List Sibling → List Place
+filled parent from [] = []
+filled parent from (p ∷ ps) =
+    let start = unwrap_or p.offset from in
+    record { start = start; size = size_at parent start p ps } ∷ filled parent (start + size_at parent start p ps) ps
+
+abbrev pub sibling : Tree → Sibling
+sibling (section name flags offset size parts) = record { offset = offset; size = size }
+
+abbrev pub siblings : Forest → List Sibling
+siblings none = []
+siblings (some t ts) = sibling t ∷ siblings ts

@@ -1,0 +1,83 @@
+-- What is refused of the layout of a descriptor, and in which order (this project's own).
+use Rattle.std.specs.Prelude.{ℕ, zero, suc, ◌+◌, ◌*◌, nat_lt, nat_eq, Bool, not, if◌then◌else◌, List, [], ◌∷◌, length, ◌-◌, Option, Some, None, unwrap_or, option_map, codes, drop}
+use Rattle.std.specs.Option.{option_or}
+use Rattle.std.specs.List.{list_any}
+use Rattle.std.specs.Str.{bytes_eq}
+use Rattle.fmd_lang.specs.Tree.{Tree, section, Forest, none, some, section_count, names, size_of}
+use Rattle.fmd_lang.specs.Layout.{filled, siblings}
+use Rattle.fmd_lang.specs.Names.{duplicate}
+use Rattle.fmd_lang.specs.Row.{row_fault}
+use Rattle.fmd_lang.specs.Table.{fmap_size}
+use Rattle.fmd_lang.specs.declared.row.Place.{Place}
+use Rattle.fmd_lang.specs.declared.row.RowFault.{RowFault}
+use Rattle.fmd_lang.specs.declared.row.RowFault.TheVariants as row
+use Rattle.fmd_lang.specs.declared.fault.FmdFault.{FmdFault}
+use Rattle.fmd_lang.specs.declared.fault.FmdFault.TheVariants as faults
+
+-- the number of the part with this index, where that of the first is `n`
+abbrev pub number_of : ℕ → Forest → ℕ → ℕ
+number_of n none i = n
+number_of n (some t ts) zero = n
+number_of n (some t ts) (suc i) = number_of (n + section_count t) ts i
+
+-- a row's refusal, by the section's number
+abbrev pub numbered : ℕ → Forest → RowFault → FmdFault
+numbered n ts row.Memory = faults.Memory
+numbered n ts (row.Ambiguous i) = faults.Ambiguous (number_of n ts i)
+numbered n ts (row.EmptySection i) = faults.EmptySection (number_of n ts i)
+numbered n ts (row.Overlap i) = faults.Overlap (number_of n ts i)
+numbered n ts (row.Outside i) = faults.Outside (number_of n ts i)
+
+-- what is refused of the row of a section's parts, the section being numbered `n`
+abbrev pub row_fault_of : ℕ → ℕ → Tree → Option FmdFault
+row_fault_of n size (section name flags offset given parts) = option_map (numbered (suc n) parts) (row_fault size (siblings parts))
+
+-- what is refused of the parts of a parent, and below them, each parent in preorder
+abbrev mutual
+  pub parent_fault : ℕ → ℕ → Tree → Option FmdFault
+  parent_fault n size (section name flags offset given parts) =
+      option_or (option_map (numbered (suc n) parts) (row_fault size (siblings parts)))
+      (parts_fault (suc n) (filled size 0 (siblings parts)) parts)
+
+  pub parts_fault : ℕ → List Place → Forest → Option FmdFault
+  parts_fault n qs none = None
+  parts_fault n [] (some t ts) = None
+  parts_fault n (q ∷ qs) (some t ts) = option_or (parent_fault n q.size t) (parts_fault (n + section_count t) qs ts)
+
+abbrev pub flag : Bool → FmdFault → Option FmdFault
+flag b fault = if b then Some fault else None
+
+abbrev pub is_fmap : List ℕ → Bool
+is_fmap name = bytes_eq name (codes "FMAP")
+
+-- of the names of the sections but the root: none is FMAP; they are too many
+abbrev pub areas_fault : List (List ℕ) → Option FmdFault
+areas_fault ns = option_or (flag (not (list_any is_fmap ns)) faults.NoFmap) (flag (nat_lt 65535 (length ns)) faults.TooManyAreas)
+
+-- of all names in preorder: the lowest that an earlier one equals comes first
+abbrev pub names_fault : List (List ℕ) → Option FmdFault
+names_fault ns = option_or (option_map faults.Duplicate (duplicate 0 [] ns)) (areas_fault (drop 1 ns))
+
+-- the root's size
+abbrev pub size_fault : Option ℕ → Option FmdFault
+size_fault None = Some (faults.Ambiguous 0)
+size_fault (Some n) = flag (nat_eq n 0) (faults.EmptySection 0)
+
+-- the bytes of a table with this many areas
+abbrev pub table_len : ℕ → ℕ
+table_len areas = 56 + 42 * areas
+
+-- the section FMAP holds fewer bytes than the table
+abbrev pub table_fault : ℕ → Tree → Option FmdFault
+table_fault size t = flag (nat_lt (fmap_size size t) (table_len (section_count t - 1))) faults.FmapTooSmall
+
+-- what is refused of the places: the root's size, then the parents, then the table
+abbrev pub places_fault : Tree → Option FmdFault
+places_fault t =
+    option_or (size_fault (size_of t))
+    (option_or (parent_fault 0 (unwrap_or (size_of t) 0) t)
+    (table_fault (unwrap_or (size_of t) 0) t))
+
+-- the refusal of a layout
+unfoldable pub layout_fault : Tree → Option FmdFault
+layout_fault t = option_or (names_fault (names t)) (places_fault t)

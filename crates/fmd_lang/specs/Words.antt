@@ -1,0 +1,106 @@
+-- The words of a descriptor's text, with their places. The language is that of coreboot's flashmap descriptors
+-- (Documentation/lib/flashmap.md); which bytes make a word, a blank and a comment is this project's own.
+use Rattle.std.specs.Prelude.{ℕ, suc, nat_le, nat_eq, Bool, true, false, ◌&&◌, not, if◌then◌else◌, drop, List, [], ◌∷◌, Option, Some, None, codes}
+use Rattle.std.specs.List.{list_any, slice_index, take_while}
+
+-- space, tab, line feed, carriage return
+abbrev pub is_blank : ℕ → Bool
+is_blank b = list_any (nat_eq b) (32 ∷ 9 ∷ 10 ∷ 13 ∷ [])
+
+-- the marks
+abbrev pub open_paren : ℕ
+open_paren = 40
+
+abbrev pub close_paren : ℕ
+close_paren = 41
+
+abbrev pub at_mark : ℕ
+at_mark = 64
+
+abbrev pub open_brace : ℕ
+open_brace = 123
+
+abbrev pub close_brace : ℕ
+close_brace = 125
+
+-- one of `(`, `)`, `@`, `{`, `}`
+abbrev pub is_mark : ℕ → Bool
+is_mark b = list_any (nat_eq b) (codes "@{}()")
+
+abbrev pub is_digit : ℕ → Bool
+is_digit b = nat_le 48 b && nat_le b 57
+
+-- what names and numbers are made of: the printable bytes but for the marks and `#`
+abbrev pub is_plain : ℕ → Bool
+is_plain b = (nat_le 0x21 b && nat_le b 0x7e) && not (list_any (nat_eq b) (codes "#@{}()"))
+
+-- The text with each byte of a comment turned into a space. A comment is a `#` and what follows it on
+-- its line. The flag says that a comment goes on.
+abbrev pub without_comments : Bool → List ℕ → List ℕ
+without_comments inside [] = []
+without_comments false (b ∷ bs) = if nat_eq b 35 then 32 ∷ without_comments true bs else b ∷ without_comments false bs
+without_comments true (b ∷ bs) = if nat_eq b 10 then 10 ∷ without_comments false bs else 32 ∷ without_comments true bs
+
+-- a word, and the place of its first byte in the text
+pub record Word : Type 0 where
+  pub place : ℕ
+  pub bytes : List ℕ
+
+abbrev pub word : ℕ → List ℕ → Word
+word place bytes = record { place = place; bytes = bytes }
+
+-- The word that begins with these bytes, after the byte before them: a mark; a longest row of plain
+-- bytes; or one byte that no word may have.
+abbrev pub word_at : ℕ → List ℕ → Option (List ℕ)
+word_at before [] = None
+word_at before (b ∷ bs) =
+    if is_blank b then None
+    else (if not (is_plain b) then Some (b ∷ [])
+    else (if is_plain before then None else Some (take_while is_plain (b ∷ bs))))
+
+abbrev pub put : ℕ → Option (List ℕ) → List Word → List Word
+put place None ws = ws
+put place (Some bytes) ws = record { place = place; bytes = bytes } ∷ ws
+
+-- the words that begin in these bytes, which stand at a place, after a byte
+abbrev pub words_from : ℕ → ℕ → List ℕ → List Word
+words_from place before [] = []
+words_from place before (b ∷ bs) = put place (word_at before (b ∷ bs)) (words_from (suc place) b bs)
+
+-- the words of a text
+unfoldable pub words : List ℕ → List Word
+words text = words_from 0 32 (without_comments false text)
+
+-- a word's first byte says what it is
+abbrev pub first_byte : Word → ℕ
+first_byte w = slice_index w.bytes 0
+
+-- a byte that no word may have
+abbrev pub is_bad : Word → Bool
+is_bad w = not (is_mark (first_byte w)) && not (is_plain (first_byte w))
+
+-- this mark
+abbrev pub is_the_mark : ℕ → Word → Bool
+is_the_mark m w = nat_eq (first_byte w) m
+
+-- a plain word that begins with a digit
+abbrev pub is_number : Word → Bool
+is_number w = is_digit (first_byte w)
+
+-- a plain word that begins with no digit
+abbrev pub is_name : Word → Bool
+is_name w = is_plain (first_byte w) && not (is_digit (first_byte w))
+
+-- the words from a place of the text on, where neither a word nor a comment goes on
+unfoldable pub words_after : List ℕ → ℕ → List Word
+words_after text at = words_from at 32 (without_comments false (drop at text))
+
+abbrev pub is_comment : ℕ → Bool
+is_comment b = nat_eq b 35
+
+-- the plain bytes of the text from a place on, and the words after them, where a word goes on
+unfoldable pub plain_after : List ℕ → ℕ → List ℕ
+plain_after text at = take_while is_plain (without_comments false (drop at text))
+
+unfoldable pub words_inside : List ℕ → ℕ → List Word
+words_inside text at = words_from at 65 (without_comments false (drop at text))

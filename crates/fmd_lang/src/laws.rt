@@ -1,0 +1,40 @@
+//! What ties the definitions together. The functions do nothing: their contracts are the laws.
+
+ghost use Rattle.std.specs.Prelude.{◌≡◌, None};
+ghost use Rattle.fmd_lang.specs.Tree.{Tree};
+ghost use Rattle.fmd_lang.specs.Words.{words};
+ghost use Rattle.fmd_lang.specs.Grammar.{IsSection};
+ghost use Rattle.fmd_lang.specs.Faults.{first_fault};
+ghost use Rattle.fmd_lang.specs.WordFaults.{first_word_fault};
+ghost use Rattle.fmd_lang.specs.Table.{IsTable};
+ghost use Rattle.fmd_lang.specs.LayoutFaults.{parent_fault};
+
+use crate::table::Table;
+
+/// A text has one tree.
+pub fn one_tree(text: &[u8])
+    ensures { (t u : Tree) → IsSection t (words text.now) → IsSection u (words text.now) → t ≡ u }
+{}
+
+/// A text that has a tree has no misplaced word: its first fault is that of a word by itself, or that it is too long.
+pub fn trees_have_no_misplaced_word(text: &[u8])
+    ensures { (t : Tree) → IsSection t (words text.now) → first_fault text.now ≡ first_word_fault text.now }
+{}
+
+/// A text without a fault has a tree.
+pub fn faultless_texts_have_a_tree(text: &[u8])
+    requires { first_fault text.now ≡ None }
+    ensures { (t : Tree) × IsSection t (words text.now) }
+{}
+
+/// Sections that are laid have no fault of their places.
+pub fn laid_sections_have_no_fault(table: &Table)
+    ensures { (t : Tree) → IsTable t table.now → parent_fault 0 table.now.size t ≡ None }
+{}
+
+/// A tree has one table.
+pub fn one_table(one: &Table, other: &Table)
+    ensures { (t : Tree) → IsTable t one.now → IsTable t other.now
+        → (one.now.base ≡ other.now.base) × (one.now.size ≡ other.now.size) × (one.now.name ≡ other.now.name)
+        × (one.now.areas.items ≡ other.now.areas.items) }
+{}

@@ -1,0 +1,183 @@
+//! The layout of a whole descriptor.
+
+ghost use Rattle.std.specs.Prelude.{◌≡◌, ◌≤◌, ◌<◌, ◌+◌, ◌*◌, ◌^◌, ◌⊎◌, ◌++◌, [], ℕ, length, map, vec_len, Some, None, suc, codes, OnOk, IfOk, IfErr, IsTrue, nat_le};
+ghost use Rattle.std.specs.List.{list_all, list_any};
+ghost use Rattle.fmd_lang.specs.Layout.{end_of};
+ghost use Rattle.fmd_lang.specs.declared.section.Section.{out-Section};
+ghost use Rattle.fmd_lang.specs.Tree.{section_count, sections_count, parts_of, size_of, names};
+ghost use Rattle.fmd_lang.specs.View.{view, views};
+ghost use Rattle.fmd_lang.specs.Layout as spec;
+ghost use Rattle.fmd_lang.specs.Table.{areas_below, size_named, IsTable};
+ghost use Rattle.fmd_lang.specs.LayoutFaults as faults;
+ghost use Rattle.fmd_lang.specs.LayoutFaults.{layout_fault};
+
+use crate::fault::FmdFault;
+use crate::names::{check_names_of, name_field};
+use crate::row::{Place, RowFault, Sibling, lay_row};
+use crate::section::Section;
+use crate::table::{AREA_LEN, HEAD_LEN, Table};
+use flash_format::Area;
+use std::alloc::Global;
+
+/// What the parts' text says of their places.
+fn siblings(alloc: Global, parts: &[Section]) -> Result<Vec<Sibling>, FmdFault>
+    ensures ok { IfOk result (λ row. row.items ≡ spec.siblings (views parts.now)) }
+    ensures err { IfErr result (λ fault. fault ≡ FmdFault.Memory) }
+{
+    let mut row = Vec::new(alloc);
+    for part in parts {
+        let sibling = Sibling {
+            offset: part.offset,
+            size: part.size,
+        };
+        if row.push(sibling).is_err() {
+            return Err(FmdFault::Memory);
+        }
+    }
+    Ok(row)
+}
+
+/// How many sections there are, this one included.
+fn count(section: &Section) -> usize
+    requires { section_count (view section.now) < 2 ^ 32 }
+    ensures { result ≡ section_count (view section.now) }
+{
+    let mut all = 1;
+    for part in &section.parts {
+        all += count(part);
+    }
+    all
+}
+
+/// The number of a part, where that of the first is `first`.
+fn number_of(first: u32, parts: &[Section], index: usize) -> u32
+    requires { first + sections_count (views parts.now) < 2 ^ 32 }
+    ensures { result ≡ faults.number_of first (views parts.now) index }
+{
+    let mut number = first;
+    for (at, part) in parts.iter().enumerate() {
+        if at == index {
+            return number;
+        }
+        number += count(part) as u32;
+    }
+    number
+}
+
+/// A row's refusal, by the section's number.
+fn numbered(first: u32, parts: &[Section], fault: RowFault) -> FmdFault
+    requires { first + sections_count (views parts.now) < 2 ^ 32 }
+    ensures { result ≡ faults.numbered first (views parts.now) fault }
+{
+    match fault {
+        RowFault::Memory => FmdFault::Memory,
+        RowFault::Ambiguous(index) => FmdFault::Ambiguous {
+            section: number_of(first, parts, index),
+        },
+        RowFault::EmptySection(index) => FmdFault::EmptySection {
+            section: number_of(first, parts, index),
+        },
+        RowFault::Overlap(index) => FmdFault::Overlap {
+            section: number_of(first, parts, index),
+        },
+        RowFault::Outside(index) => FmdFault::Outside {
+            section: number_of(first, parts, index),
+        },
+    }
+}
+
+/// The places of a section's parts.
+fn places(alloc: Global, section: &Section, number: u32, size: u32) -> Result<Vec<Place>, FmdFault>
+    requires { number + section_count (view section.now) ≤ 65536 }
+    ensures ok { IfOk result (λ row. row.items ≡ spec.filled size 0 (spec.siblings (parts_of (view section.now)))) }
+    ensures len { IfOk result (λ row. length row.items ≡ length (out-Section section.now).parts.items) }
+    ensures inside { IfOk result (λ row. IsTrue (list_all (λ q. nat_le (end_of q) size) row.items)) }
+    ensures clear { OnOk result (faults.row_fault_of number size (view section.now) ≡ None) }
+    ensures refused { IfErr result (λ fault. (fault ≡ FmdFault.Memory) ⊎ (faults.row_fault_of number size (view section.now) ≡ Some fault)) }
+{
+    let row = siblings(alloc, &section.parts)?;
+    match lay_row(alloc, size, &row) {
+        Ok(places) => Ok(places),
+        Err(fault) => Err(numbered(number + 1, &section.parts, fault)),
+    }
+}
+
+/// Pushes the areas below the section that `areas` numbers, which begins at `at`.
+fn push_areas(
+    alloc: Global,
+    section: &Section,
+    at: u32,
+    size: u32,
+    areas: &mut Vec<Area>,
+) -> Result<(), FmdFault>
+    requires count { length areas.old.items + section_count (view section.now) ≤ 65536 }
+    requires inside { at + size < 2 ^ 32 }
+    ensures ok { OnOk result (areas.new.items ≡ areas.old.items ++ areas_below at size (view section.now)) }
+    ensures count { OnOk result (length areas.new.items + 1 ≡ length areas.old.items + section_count (view section.now)) }
+    ensures clear { OnOk result (faults.parent_fault (length areas.old.items) size (view section.now) ≡ None) }
+    ensures refused { IfErr result (λ fault. (fault ≡ FmdFault.Memory) ⊎ (faults.parent_fault (length areas.old.items) size (view section.now) ≡ Some fault)) }
+{
+    let places = places(alloc, section, areas.len() as u32, size)?;
+    for (index, part) in section.parts.iter().enumerate() {
+        let place = places[index];
+        let area = Area {
+            offset: at + place.start,
+            size: place.size,
+            name: name_field(&part.name),
+            flags: part.flags,
+        };
+        if areas.push(area).is_err() {
+            return Err(FmdFault::Memory);
+        }
+        push_areas(alloc, part, at + place.start, place.size, areas)?;
+    }
+    Ok(())
+}
+
+/// The root's size.
+fn root_size(root: &Section) -> Result<u32, FmdFault>
+    ensures ok { IfOk result (λ size. (size_of (view root.now) ≡ Some size) × (faults.size_fault (size_of (view root.now)) ≡ None)) }
+    ensures err { IfErr result (λ fault. faults.size_fault (size_of (view root.now)) ≡ Some fault) }
+{
+    match root.size {
+        None => Err(FmdFault::Ambiguous { section: 0 }),
+        Some(0) => Err(FmdFault::EmptySection { section: 0 }),
+        Some(size) => Ok(size),
+    }
+}
+
+/// The size of the area FMAP, and 0 without one.
+fn fmap_size(areas: &[Area]) -> u32
+    ensures { result ≡ size_named (codes "FMAP") areas.now }
+{
+    for area in areas {
+        if area.name_is(b"FMAP") {
+            return area.size;
+        }
+    }
+    0
+}
+
+/// The table of a tree: where its sections lie. The first refusal is that of the names (a duplicate, no FMAP, too
+/// many), then of the places, parent by parent in preorder, then of the size of FMAP. It goes as deep as the tree,
+/// and a tree that `parse` answers has at most 33 levels.
+pub fn lay_out(alloc: Global, root: &Section) -> Result<Table, FmdFault>
+    ensures table { IfOk result (λ table. IsTable (view root.now) table) }
+    ensures faultless { OnOk result (layout_fault (view root.now) ≡ None) }
+    ensures few { IfOk result (λ table. length table.areas.items ≤ 65535) }
+    ensures refused { IfErr result (λ fault. (fault ≡ FmdFault.Memory) ⊎ (layout_fault (view root.now) ≡ Some fault)) }
+{
+    check_names_of(alloc, root)?;
+    let size = root_size(root)?;
+    let mut areas = Vec::new(alloc);
+    push_areas(alloc, root, 0, size, &mut areas)?;
+    if (fmap_size(&areas) as usize) < HEAD_LEN + AREA_LEN * areas.len() {
+        return Err(FmdFault::FmapTooSmall);
+    }
+    Ok(Table {
+        base: root.offset.unwrap_or(0) as u64,
+        size,
+        name: name_field(&root.name),
+        areas,
+    })
+}

@@ -1,0 +1,22 @@
+//! The language of flashmap descriptors (`.fmd`): words, grammar, layout, and the table that a descriptor compiles to.
+#![tactic(auto)]
+
+mod fault;
+pub mod laws;
+mod layout;
+mod names;
+mod number;
+mod parser;
+mod row;
+mod section;
+mod table;
+mod word;
+
+pub use fault::{Expected, FmdFault};
+pub use layout::lay_out;
+pub use parser::parse;
+pub use section::Section;
+pub use table::{Table, encode};
+
+#[cfg(test)]
+mod tests;

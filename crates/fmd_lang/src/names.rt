@@ -1,0 +1,120 @@
+//! The names of a descriptor's sections.
+
+ghost use Rattle.std.specs.Prelude.{◌≡◌, ◌≤◌, ◌⊎◌, ◌++◌, [], None, Some, map, length, OnOk, IfOk, IfErr};
+ghost use Rattle.std.specs.List.{list_any};
+ghost use Rattle.fmd_lang.specs.Tree.{names, section_count};
+ghost use Rattle.fmd_lang.specs.View.{view};
+ghost use Rattle.fmd_lang.specs.LayoutFaults.{is_fmap, areas_fault, names_fault};
+ghost use Rattle.fmd_lang.specs.Names.{duplicate, field_of};
+
+use crate::fault::FmdFault;
+use crate::section::Section;
+use std::alloc::Global;
+use std::collections::BTreeSet;
+
+/// Pushes the names of a section and of all below it, in preorder.
+fn push_names<'s>(section: &'s Section, all: &mut Vec<&'s [u8]>) -> Result<(), FmdFault>
+    ensures ok { OnOk result (map (λ r. r.now) all.new.items ≡ map (λ r. r.now) all.old.items ++ names (view section.now)) }
+    ensures err { IfErr result (λ fault. fault ≡ FmdFault.Memory) }
+{
+    if all.push(section.name.as_slice()).is_err() {
+        return Err(FmdFault::Memory);
+    }
+    for part in &section.parts {
+        push_names(part, all)?;
+    }
+    Ok(())
+}
+
+/// The number of the first name that an earlier one equals.
+fn first_duplicate(alloc: Global, names: &[&[u8]]) -> Result<Option<usize>, FmdFault>
+    ensures ok { IfOk result (λ found. found ≡ duplicate 0 [] (map (λ r. r.now) names.now)) }
+    ensures err { IfErr result (λ fault. fault ≡ FmdFault.Memory) }
+{
+    let mut seen = BTreeSet::new(alloc);
+    for (number, name) in names.iter().enumerate() {
+        match seen.insert(*name) {
+            Ok(true) => (),
+            Ok(false) => return Ok(Some(number)),
+            Err(_) => return Err(FmdFault::Memory),
+        }
+    }
+    Ok(None)
+}
+
+/// Whether one of these names is FMAP.
+fn has_fmap(names: &[&[u8]]) -> bool
+    ensures { result ≡ list_any is_fmap (map (λ r. r.now) names.now) }
+{
+    for name in names {
+        if *name == b"FMAP".as_slice() {
+            return true;
+        }
+    }
+    false
+}
+
+/// The most areas that a table has.
+const AREA_LIMIT: usize = 65_535;
+
+/// Refuses parts none of which is named FMAP, and too many of them.
+fn check_parts(parts: &[&[u8]]) -> Result<(), FmdFault>
+    ensures clear { OnOk result (areas_fault (map (λ r. r.now) parts.now) ≡ None) }
+    ensures few { OnOk result (length parts.now ≤ 65535) }
+    ensures refused { IfErr result (λ fault. areas_fault (map (λ r. r.now) parts.now) ≡ Some fault) }
+{
+    if !has_fmap(parts) {
+        return Err(FmdFault::NoFmap);
+    }
+    if parts.len() > AREA_LIMIT {
+        return Err(FmdFault::TooManyAreas);
+    }
+    Ok(())
+}
+
+/// The refusal of the section of this number, whose name an earlier one has. A tree whose sections 32 bits can't
+/// count takes more memory than there is.
+fn duplicate(number: usize) -> FmdFault
+    ensures { (result ≡ FmdFault.Memory) ⊎ (result ≡ FmdFault.Duplicate number) }
+{
+    match u32::try_from(number) {
+        Ok(section) => FmdFault::Duplicate { section },
+        Err(_) => FmdFault::Memory,
+    }
+}
+
+/// Refuses a name that stands twice, and what `check_parts` refuses.
+fn check_names(alloc: Global, names: &[&[u8]]) -> Result<(), FmdFault>
+    ensures clear { OnOk result (names_fault (map (λ r. r.now) names.now) ≡ None) }
+    ensures few { OnOk result (length names.now ≤ 65536) }
+    ensures refused { IfErr result (λ fault. (fault ≡ FmdFault.Memory) ⊎ (names_fault (map (λ r. r.now) names.now) ≡ Some fault)) }
+{
+    if let Some(number) = first_duplicate(alloc, names)? {
+        return Err(duplicate(number));
+    }
+    match names {
+        [_, parts @ ..] => check_parts(parts),
+        [] => Err(FmdFault::NoFmap),
+    }
+}
+
+/// Refuses a tree by its names: one that stands twice, no FMAP, too many.
+pub fn check_names_of(alloc: Global, root: &Section) -> Result<(), FmdFault>
+    ensures clear { OnOk result (names_fault (names (view root.now)) ≡ None) }
+    ensures few { OnOk result (section_count (view root.now) ≤ 65536) }
+    ensures refused { IfErr result (λ fault. (fault ≡ FmdFault.Memory) ⊎ (names_fault (names (view root.now)) ≡ Some fault)) }
+{
+    let mut all = Vec::new(alloc);
+    push_names(root, &mut all)?;
+    check_names(alloc, &all)
+}
+
+/// A name as the table has it.
+pub fn name_field(name: &[u8]) -> [u8; 32]
+    ensures { result ≡ field_of name.now }
+{
+    let mut field = [0; 32];
+    let len = name.len().min(32);
+    field[..len].copy_from_slice(&name[..len]);
+    field
+}

@@ -1,0 +1,56 @@
+//! The table of a descriptor, and its bytes.
+
+ghost use Rattle.std.specs.Prelude.{◌≡◌, ◌≤◌, ◌<◌, ◌⊎◌, length, OnOk, IfOk, IfErr};
+ghost use Rattle.fmd_lang.specs.Bytes.{table_bytes, area_limit};
+
+use crate::fault::FmdFault;
+use flash_format::{Area, FmapHead};
+use std::alloc::Global;
+
+/// How many bytes the head of a table has.
+pub const HEAD_LEN: usize = 56;
+
+/// How many bytes an area of a table has.
+pub const AREA_LEN: usize = 42;
+
+/// The table that a descriptor compiles to: the head's fields, and the areas in preorder.
+#[derive(Debug, Drop)]
+pub struct Table {
+    /// The flash's base address: the root's offset, or 0.
+    pub base: u64,
+    /// The root's size.
+    pub size: u32,
+    /// The root's name, with NULs behind it.
+    pub name: [u8; 32],
+    /// All sections but the root; an offset is that from the root's start.
+    pub areas: Vec<Area>,
+}
+
+/// The bytes of a table: the head of FMAP 1.1, and the areas. More areas than the head can count are refused.
+pub fn encode(alloc: Global, table: &Table) -> Result<Vec<u8>, FmdFault>
+    ensures bytes { IfOk result (λ bytes. bytes.items ≡ table_bytes table.now) }
+    ensures few { OnOk result (length table.now.areas.items ≤ area_limit) }
+    ensures refused { IfErr result (λ fault. (fault ≡ FmdFault.Memory) ⊎ ((fault ≡ FmdFault.TooManyAreas) × (area_limit < length table.now.areas.items))) }
+{
+    let Ok(nareas) = u16::try_from(table.areas.len()) else {
+        return Err(FmdFault::TooManyAreas);
+    };
+    let head = FmapHead {
+        major: 1,
+        minor: 1,
+        base: table.base,
+        size: table.size,
+        name: table.name,
+        nareas,
+    };
+    let mut bytes = Vec::new(alloc);
+    if bytes.extend_from_slice(&head.write()).is_err() {
+        return Err(FmdFault::Memory);
+    }
+    for area in &table.areas {
+        if bytes.extend_from_slice(&area.write()).is_err() {
+            return Err(FmdFault::Memory);
+        }
+    }
+    Ok(bytes)
+}
