@@ -1,20 +1,14 @@
 -- What a walk answers at a place, by what stands there.
-use Rattle.std.proofs.Common.{◌≡◌, ℕ, ◌+◌, ◌%◌, ◌<◌, ◌≤◌, Some, Bool, true, false, IsTrue, List, length, drop, Ok, Err, refl, ap, ◌∙◌, arith, eqb, length-drop}
+use Rattle.std.proofs.Common.{◌≡◌, ℕ, ◌%◌, ◌<◌, Some, true, false, List, length, drop, Ok, Err, refl, ap, ◌∙◌, arith, eqb, length-drop}
 use Rattle.std.specs.Prelude.{IsErrOf}
 use Rattle.std.proofs.lemmas.Grind.{common_steps}
 use Rattle.flash_format.specs.declared.head.Head.{Head}
 use Rattle.flash_format.specs.declared.head.DamageKind.{DamageKind}
 use Rattle.flash_format.specs.Head.{head_of}
 use Rattle.flash_format.specs.Entry.{Entry, absent, damaged, cell, entry}
-use Rattle.flash_store.specs.Device.{Device}
-use Rattle.flash_store.specs.Device.{Reads}
 use Rattle.cbfs_walk.specs.Walks.{Answer, Walking, EndsWalk, GivesCellAt, moved, has_bad_size, answer_by, answer_at}
 use Rattle.cbfs_walk.specs.declared.walk.Step.TheVariants as steps
 use Rattle.cbfs_walk.specs.declared.walk.WalkFault.TheVariants as faults
-
--- a device stays honest
-pub honest_still : {a b : Bool} → b ≡ a → IsTrue a → IsTrue b
-honest_still e h = rw e h
 
 pub good_size : (size : ℕ) → false ≡ has_bad_size size → size % 64 ≡ 0
 good_size size e = grind (arith, common_steps)
@@ -52,19 +46,6 @@ pub answer_cell : (x : List ℕ) (at size span : ℕ) (h : Head) → length x �
     → Ok (steps.Cell (record { at = at; head = h; span = span })) ≡ answer_at x at
 answer_cell x at size span h len good inside is head =
     ap (λ (k : Head). Ok (steps.Cell (record { at = at; head = k; span = span }))) head ∙ answer_entry x at size (cell span) len good inside is
-
--- one call of reads behind another
-pub Reads-then : (m n k : ℕ) (old mid new : Device) → m + n ≤ k → Reads m old mid → Reads n mid new → Reads k old new
-Reads-then m n k old mid new le a b = record {
-  calls = record {
-    no_fewer = omega (arith, a.calls.no_fewer, b.calls.no_fewer);
-    no_more = omega (arith, a.calls.no_more, b.calls.no_more, le);
-    faults = omega (arith, a.calls.faults, b.calls.faults);
-    same_honesty = b.calls.same_honesty ∙ a.calls.same_honesty;
-    same_length = b.calls.same_length ∙ a.calls.same_length;
-  };
-  unchanged = λ h. b.unchanged (honest_still a.calls.same_honesty h) ∙ a.unchanged h;
-}
 
 -- ---- a walk that has ended
 

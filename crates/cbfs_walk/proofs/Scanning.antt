@@ -18,7 +18,7 @@ use Rattle.cbfs_walk.specs.AttrWalks.{IsAttrIn, behind_first}
 use Rattle.cbfs_walk.specs.Listed.{listed_in}
 use Rattle.cbfs_walk.specs.declared.cell.Cell.{Cell}
 use Rattle.cbfs_walk.specs.declared.attribute_walk.Listed.TheVariants as listed
-use Rattle.cbfs_walk.proofs.Answering.{honest_still}
+use Rattle.flash_store.proofs.DeviceLemmas.{honest_still}
 use Rattle.cbfs_walk.proofs.Parts.{range-inner, range-behind}
 use Rattle.cbfs_walk.proofs.CellNames.{has_field}
 use Rattle.cbfs_walk.proofs.Listing.{Goes, goes, goes_end, goes_malformed, goes_on, listed_all}

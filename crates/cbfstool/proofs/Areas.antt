@@ -13,7 +13,7 @@ use Rattle.cbfstool.specs.Layouts.{area_row, map_row, layout, layout_under}
 use Rattle.cbfstool.specs.declared.refusal.Refusal.{Refusal}
 use Rattle.cbfstool.specs.Told.{Answer, Tells, shows}
 use Rattle.cbfstool.proofs.Telling.{tells-behind, tells-stopped, told-text}
-use Rattle.cbfstool.proofs.Devices.{honest_still, Reads-then}
+use Rattle.flash_store.proofs.DeviceLemmas.{honest_still, Reads-then}
 
 -- the rows of n areas from a place on
 abbrev pub rows_of : List ℕ → ℕ → ℕ → List ℕ

@@ -1,7 +1,6 @@
 mod Digits
 mod RowLemmas
 mod Telling
-mod Devices
 mod Areas
 mod Printing
 mod Meeting

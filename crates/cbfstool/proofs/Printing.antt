@@ -22,7 +22,7 @@ use Rattle.cbfstool.specs.Outcomes.{print_cut, print_region}
 use Rattle.cbfstool.specs.Refusals.{walk_refusal}
 use Rattle.cbfstool.specs.Rows.{row, rows_from}
 use Rattle.cbfstool.specs.Told.{Told, shows, refuses, behind, Tells}
-use Rattle.cbfstool.proofs.Devices.{honest_still, Reads-none, Reads-then, Reads-within, length-bytes_in}
+use Rattle.flash_store.proofs.DeviceLemmas.{honest_still, Reads-none, Reads-then, Reads-within, length-bytes_in}
 use Rattle.cbfstool.proofs.Telling.{tells-behind, tells-stopped}
 
 -- what is printed of a region from a place on

@@ -1,5 +1,5 @@
 -- Copies that go on piece by piece: their calls so far, and what was put, filled or copied.
-use Rattle.std.proofs.Common.{Bool, IsTrue, replicate, ◌≡◌, ℕ, ◌+◌, ◌-◌, ◌*◌, ◌%◌, ◌<◌, ◌≤◌, ◌++◌, List, Option, None, Some, min, length, take, drop, sym, ap, subst, ◌∙◌, arith}
+use Rattle.std.proofs.Common.{replicate, ◌≡◌, ℕ, ◌+◌, ◌-◌, ◌*◌, ◌%◌, ◌<◌, ◌≤◌, ◌++◌, List, Option, None, Some, min, length, take, drop, sym, ap, subst, ◌∙◌, arith}
 use Rattle.std.specs.Prelude.{slice_range, Result, Ok, Err, OnErr}
 use Rattle.std.specs.Io.KnownBytes.{Appends, Keeps}
 use Rattle.std.proofs.KnownBytes.{Appends-trans}
@@ -114,10 +114,6 @@ pub Filled-outside : (old mid new : List ℕ) (at done size n byte : ℕ) → si
 Filled-outside old mid new at done size n byte short within inside so_far torn =
     let first : SameOutside at n old mid = rw so_far (SameOutside-overwritten old at n (replicate done byte) (rw (length-replicate done byte) (omega (arith, within))) (omega (arith, inside))) in
     SameOutside-trans old mid new at n done size within first (subst (λ k. SameOutside (at + done) k mid new) (length-copies size byte short) torn)
-
--- an honest device stays honest
-pub honest_still : {old new : Bool} → new ≡ old → IsTrue old → IsTrue new
-honest_still same h = subst IsTrue (sym same) h
 
 -- the same, where the piece may have made no call
 pub CallsSoFar-at_most : (done n size : ℕ) (old mid new : Device) → done < n → size ≡ min (n - done) 4096 → CallsSoFar done n old mid → Calls 1 mid new → CallsSoFar (done + size) n old new

@@ -17,7 +17,8 @@ use Rattle.flash_format.proofs.Fronts.{has_signature-take, fmap_head_of-take, ar
 use Rattle.flash_format.proofs.MapSteps.{map_step, map_end, not_map_short}
 use Rattle.std.proofs.Common.{Bool, true, false, cond, refl, length-drop}
 use Rattle.std.proofs.lemmas.Bool.{leb-true, le-leb}
-use Rattle.flash_store.proofs.CopyLemmas.{slice_range_is, length-slice_range, honest_still}
+use Rattle.flash_store.proofs.CopyLemmas.{slice_range_is, length-slice_range}
+use Rattle.flash_store.proofs.DeviceLemmas.{honest_still}
 
 -- the bytes that a table begins with
 abbrev pub signature : List ℕ

@@ -1,3 +1,4 @@
+pub mod DeviceLemmas
 pub mod BytesLemmas
 pub mod CopyLemmas
 pub mod FmapLemmas

@@ -3,7 +3,7 @@ use Rattle.flash_format.specs.Head.{checked}
 use Rattle.std.proofs.lemmas.Result.{err_from_is_err_and}
 use Rattle.cbfs_walk.proofs.Parts.{length-rest}
 use Rattle.cbfs_walk.proofs.Checks.{checked_extent, entry_absent, entry_damaged, entry_free, entry_used, checks_give}
-use Rattle.cbfs_walk.proofs.Answering.{honest_still, Reads-then}
+use Rattle.flash_store.proofs.DeviceLemmas.{honest_still, Reads-then, Reads-within}
 use Rattle.cbfs_walk.proofs.entry.entry_at.Goals as goal
 
 pub returns-in_default-clause-entry : goal.returns-in_default-clause-entry
@@ -36,19 +36,19 @@ damage_in-requires-clause-placed g c = (checks_give _ _ _ (checked_extent _ _ c.
 pub returns-in_err-kind-in-Ok-clause-reads : goal.returns-in_err-kind-in-Ok-clause-reads
 returns-in_err-kind-in-Ok-clause-reads g c =
     let k = checks_give _ _ _ (checked_extent _ _ c.in-Ok.extent (c.in-Ok.ensures ∙ ap (λ n. checked c.in-Some.head (n - c.args.at)) c.size.ensures)) in
-    let all = Reads-then 1 (1 + c.in-Some.head.offset / 8) (2 + (c.args.region.size - c.args.at) / 8) _ _ _ (omega (arith, k.inside)) c.head_at.ensures.reads c.damage_in.ensures.reads in
+    let all = Reads-within (1 + (1 + c.in-Some.head.offset / 8)) (2 + (c.args.region.size - c.args.at) / 8) _ _ (omega (arith, k.inside)) (Reads-then 1 (1 + c.in-Some.head.offset / 8) _ _ _ c.head_at.ensures.reads c.damage_in.ensures.reads) in
     let passed = err_from_is_err_and c.from_residual-in_err-kind-in-Ok.result c.from_residual-in_err-kind-in-Ok.ensures.1 in
     rw passed.1 all
 
 pub returns-in-Some-2-clause-reads : goal.returns-in-Some-2-clause-reads
 returns-in-Some-2-clause-reads g c =
     let k = checks_give _ _ _ (checked_extent _ _ c.in-Ok.extent (c.in-Ok.ensures ∙ ap (λ n. checked c.in-Some.head (n - c.args.at)) c.size.ensures)) in
-    Reads-then 1 (1 + c.in-Some.head.offset / 8) (2 + (c.args.region.size - c.args.at) / 8) _ _ _ (omega (arith, k.inside)) c.head_at.ensures.reads c.damage_in.ensures.reads
+    Reads-within (1 + (1 + c.in-Some.head.offset / 8)) (2 + (c.args.region.size - c.args.at) / 8) _ _ (omega (arith, k.inside)) (Reads-then 1 (1 + c.in-Some.head.offset / 8) _ _ _ c.head_at.ensures.reads c.damage_in.ensures.reads)
 
 pub returns-in-None-clause-reads : goal.returns-in-None-clause-reads
 returns-in-None-clause-reads g c =
     let k = checks_give _ _ _ (checked_extent _ _ c.in-Ok.extent (c.in-Ok.ensures ∙ ap (λ n. checked c.in-Some.head (n - c.args.at)) c.size.ensures)) in
-    Reads-then 1 (1 + c.in-Some.head.offset / 8) (2 + c.in-Ok.extent.span / 8) _ _ _ (omega (arith, k.fits)) c.head_at.ensures.reads c.damage_in.ensures.reads
+    Reads-within (1 + (1 + c.in-Some.head.offset / 8)) (2 + c.in-Ok.extent.span / 8) _ _ (omega (arith, k.fits)) (Reads-then 1 (1 + c.in-Some.head.offset / 8) _ _ _ c.head_at.ensures.reads c.damage_in.ensures.reads)
 
 pub returns-in-None-clause-checks : goal.returns-in-None-clause-checks
 returns-in-None-clause-checks g c = checked_extent _ _ c.in-Ok.extent (c.in-Ok.ensures ∙ ap (λ n. checked c.in-Some.head (n - c.args.at)) c.size.ensures)

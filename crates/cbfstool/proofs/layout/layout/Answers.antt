@@ -1,6 +1,6 @@
 use Rattle.std.proofs.Common.{sym, ◌∙◌}
 use Rattle.cbfstool.proofs.Areas.{listed}
-use Rattle.cbfstool.proofs.Devices.{honest_still}
+use Rattle.flash_store.proofs.DeviceLemmas.{honest_still}
 use Rattle.cbfstool.proofs.layout.layout.Goals as goal
 
 pub returns-in-Ok-clause-told : goal.returns-in-Ok-clause-told

@@ -1,7 +1,7 @@
 use Rattle.std.proofs.Common.{refl, [], inl}
 use Rattle.std.proofs.KnownBytes.{Appends-nil}
 use Rattle.cbfstool.specs.Told.{shows}
-use Rattle.cbfstool.proofs.Devices.{honest_still}
+use Rattle.flash_store.proofs.DeviceLemmas.{honest_still}
 use Rattle.cbfstool.proofs.Printing.{step_told, printing_start, printing_more, printing_stops, printing_ends, printing_err}
 use Rattle.cbfstool.proofs.Telling.{told-text}
 use Rattle.cbfstool.proofs.print.print_region.Goals as goal

@@ -1,7 +1,8 @@
 use Rattle.std.proofs.Common.{◌∙◌, ◌+◌, ◌*◌, arith, ap}
 use Rattle.std.proofs.Common.{◌≡◌, ◌-◌}
-use Rattle.flash_store.proofs.CopyLemmas.{honest_still}
-use Rattle.flash_store.proofs.AreaLemmas.{named_from, area_found, area_more, area_none, Reads-more}
+use Rattle.flash_store.proofs.DeviceLemmas.{honest_still}
+use Rattle.flash_store.proofs.AreaLemmas.{named_from, area_found, area_more, area_none}
+use Rattle.flash_store.proofs.DeviceLemmas.{Reads-more}
 use Rattle.flash_store.proofs.fmap.area_named.Goals as goal
 
 pub returns-then-name_is-clause-first : goal.returns-then-name_is-clause-first

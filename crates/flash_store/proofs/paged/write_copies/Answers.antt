@@ -1,7 +1,8 @@
 use Rattle.std.proofs.Common.{◌≤◌, length, replicate, arith}
 use Rattle.std.proofs.lemmas.List.{length-replicate}
 use Rattle.flash_store.proofs.BytesLemmas.{SameOutside-overwritten}
-use Rattle.flash_store.proofs.CopyLemmas.{CallsSoFar-more, Filled-more, Filled-part, Filled-outside, OnErr-from, honest_still}
+use Rattle.flash_store.proofs.CopyLemmas.{CallsSoFar-more, Filled-more, Filled-part, Filled-outside, OnErr-from}
+use Rattle.flash_store.proofs.DeviceLemmas.{honest_still}
 use Rattle.flash_store.proofs.paged.write_copies.Goals as goal
 
 pub loop-done-preserved : goal.loop-done-preserved

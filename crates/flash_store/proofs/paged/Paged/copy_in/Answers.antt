@@ -1,6 +1,7 @@
 use Rattle.std.proofs.Common.{◌∙◌, arith}
 use Rattle.flash_store.proofs.BytesLemmas.{SameOutside-trans}
-use Rattle.flash_store.proofs.CopyLemmas.{CallsSoFar-more, CallsSoFar-at_most, Copied-more, honest_still}
+use Rattle.flash_store.proofs.CopyLemmas.{CallsSoFar-more, CallsSoFar-at_most, Copied-more}
+use Rattle.flash_store.proofs.DeviceLemmas.{honest_still}
 use Rattle.flash_store.proofs.paged.Paged.copy_in.Goals as goal
 
 pub loop-done-preserved : goal.loop-done-preserved

@@ -1,5 +1,6 @@
 use Rattle.std.proofs.Common.{◌∙◌, arith, rules}
-use Rattle.flash_store.proofs.CopyLemmas.{CallsSoFar-more, Appends-more, AppendsPart-more, AppendsPieces-kept, OnErr-from, honest_still}
+use Rattle.flash_store.proofs.CopyLemmas.{CallsSoFar-more, Appends-more, AppendsPart-more, AppendsPieces-kept, OnErr-from}
+use Rattle.flash_store.proofs.DeviceLemmas.{honest_still}
 use Rattle.flash_store.proofs.paged.Paged.copy_out.Goals as goal
 
 pub loop-done-preserved : goal.loop-done-preserved
