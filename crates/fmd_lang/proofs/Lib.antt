@@ -10,3 +10,4 @@ pub mod UniqueLemmas
 pub mod AgreeLemmas
 pub mod PlaceLemmas
 pub mod FaultlessLemmas
+mod Examples
