@@ -89,10 +89,13 @@ fn read_words(rt: &HostRuntime) -> Result<Vec<String>, Refusal> {
         Err(fault) if fault.kind() == ErrorKind::OutOfMemory => return Err(Refusal::Memory),
         Err(_) => return Err(Refusal::Usage),
     };
-    words
-        .skip(1)
-        .collect(rt.alloc())
-        .map_err(|_| Refusal::Memory)
+    let mut all = Vec::new(rt.alloc());
+    for word in words.skip(1) {
+        if all.push(word).is_err() {
+            return Err(Refusal::Memory);
+        }
+    }
+    Ok(all)
 }
 
 /// Does what the words say; without words prints the usage.

@@ -1,6 +1,6 @@
 //! The names of a descriptor's sections.
 
-ghost use Rattle.std.specs.Prelude.{◌≡◌, ◌≤◌, ◌⊎◌, ◌++◌, [], None, Some, map, length, OnOk, IfOk, IfErr};
+ghost use Rattle.std.specs.Prelude.{◌≡◌, ◌≤◌, ◌<◌, ◌^◌, ◌⊎◌, ◌++◌, [], None, Some, map, length, OnOk, IfOk, IfErr};
 ghost use Rattle.std.specs.List.{list_any};
 ghost use Rattle.fmd_lang.specs.Tree.{names, section_count};
 ghost use Rattle.fmd_lang.specs.View.{view};
@@ -75,7 +75,8 @@ fn check_parts(parts: &[&[u8]]) -> Result<(), FmdFault>
 /// The refusal of the section of this number, whose name an earlier one has. A tree whose sections 32 bits can't
 /// count takes more memory than there is.
 fn duplicate(number: usize) -> FmdFault
-    ensures { (result ≡ FmdFault.Memory) ⊎ (result ≡ FmdFault.Duplicate number) }
+    ensures counted { number < 2 ^ 32 → result ≡ FmdFault.Duplicate number }
+    ensures uncounted { 2 ^ 32 ≤ number → result ≡ FmdFault.Memory }
 {
     match u32::try_from(number) {
         Ok(section) => FmdFault::Duplicate { section },
