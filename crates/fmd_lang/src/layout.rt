@@ -19,86 +19,39 @@ use crate::table::{AREA_LEN, HEAD_LEN, Table};
 use flash_format::Area;
 use std::alloc::Global;
 
-/// What the parts' text says of their places.
-fn siblings(alloc: Global, parts: &[Section]) -> Result<Vec<Sibling>, FmdFault>
-    ensures ok { IfOk result (λ row. row.items ≡ spec.siblings (views parts.now)) }
-    ensures err { IfErr result (λ fault. fault ≡ FmdFault.Memory) }
+/// The table of a tree: where its sections lie. The first refusal is that of the names (a duplicate, no FMAP, too
+/// many), then of the places, parent by parent in preorder, then of the size of FMAP. It goes as deep as the tree,
+/// and a tree that `parse` answers has at most 33 levels.
+pub fn lay_out(alloc: Global, root: &Section) -> Result<Table, FmdFault>
+    ensures table { IfOk result (λ table. IsTable (view root.now) table) }
+    ensures faultless { OnOk result (layout_fault (view root.now) ≡ None) }
+    ensures few { IfOk result (λ table. length table.areas.items ≤ 65535) }
+    ensures refused { IfErr result (λ fault. (fault ≡ FmdFault.Memory) ⊎ (layout_fault (view root.now) ≡ Some fault)) }
 {
-    let mut row = Vec::new(alloc);
-    for part in parts {
-        let sibling = Sibling {
-            offset: part.offset,
-            size: part.size,
-        };
-        if row.push(sibling).is_err() {
-            return Err(FmdFault::Memory);
-        }
+    check_names_of(alloc, root)?;
+    let size = root_size(root)?;
+    let mut areas = Vec::new(alloc);
+    push_areas(alloc, root, 0, size, &mut areas)?;
+    if (fmap_size(&areas) as usize) < HEAD_LEN + AREA_LEN * areas.len() {
+        return Err(FmdFault::FmapTooSmall);
     }
-    Ok(row)
+    Ok(Table {
+        base: root.offset.unwrap_or(0) as u64,
+        size,
+        name: name_field(&root.name),
+        areas,
+    })
 }
 
-/// How many sections there are, this one included.
-fn count(section: &Section) -> usize
-    requires { section_count (view section.now) < 2 ^ 32 }
-    ensures { result ≡ section_count (view section.now) }
+/// The root's size.
+fn root_size(root: &Section) -> Result<u32, FmdFault>
+    ensures ok { IfOk result (λ size. (size_of (view root.now) ≡ Some size) × (faults.size_fault (size_of (view root.now)) ≡ None)) }
+    ensures err { IfErr result (λ fault. faults.size_fault (size_of (view root.now)) ≡ Some fault) }
 {
-    let mut all = 1;
-    for part in &section.parts {
-        all += count(part);
-    }
-    all
-}
-
-/// The number of a part, where that of the first is `first`.
-fn number_of(first: u32, parts: &[Section], index: usize) -> u32
-    requires { first + sections_count (views parts.now) < 2 ^ 32 }
-    ensures { result ≡ faults.number_of first (views parts.now) index }
-{
-    let mut number = first;
-    for (at, part) in parts.iter().enumerate() {
-        if at == index {
-            return number;
-        }
-        number += count(part) as u32;
-    }
-    number
-}
-
-/// A row's refusal, by the section's number.
-fn numbered(first: u32, parts: &[Section], fault: RowFault) -> FmdFault
-    requires { first + sections_count (views parts.now) < 2 ^ 32 }
-    ensures { result ≡ faults.numbered first (views parts.now) fault }
-{
-    match fault {
-        RowFault::Memory => FmdFault::Memory,
-        RowFault::Ambiguous(index) => FmdFault::Ambiguous {
-            section: number_of(first, parts, index),
-        },
-        RowFault::EmptySection(index) => FmdFault::EmptySection {
-            section: number_of(first, parts, index),
-        },
-        RowFault::Overlap(index) => FmdFault::Overlap {
-            section: number_of(first, parts, index),
-        },
-        RowFault::Outside(index) => FmdFault::Outside {
-            section: number_of(first, parts, index),
-        },
-    }
-}
-
-/// The places of a section's parts.
-fn places(alloc: Global, section: &Section, number: u32, size: u32) -> Result<Vec<Place>, FmdFault>
-    requires { number + section_count (view section.now) ≤ 65536 }
-    ensures ok { IfOk result (λ row. row.items ≡ spec.filled size 0 (spec.siblings (parts_of (view section.now)))) }
-    ensures len { IfOk result (λ row. length row.items ≡ length (out-Section section.now).parts.items) }
-    ensures inside { IfOk result (λ row. IsTrue (list_all (λ q. nat_le (end_of q) size) row.items)) }
-    ensures clear { OnOk result (faults.row_fault_of number size (view section.now) ≡ None) }
-    ensures refused { IfErr result (λ fault. (fault ≡ FmdFault.Memory) ⊎ (faults.row_fault_of number size (view section.now) ≡ Some fault)) }
-{
-    let row = siblings(alloc, &section.parts)?;
-    match lay_row(alloc, size, &row) {
-        Ok(places) => Ok(places),
-        Err(fault) => Err(numbered(number + 1, &section.parts, fault)),
+    match root.size {
+        None => Err(FmdFault::Ambiguous { section: 0 }),
+        Some(0) => Err(FmdFault::EmptySection { section: 0 }),
+        Some(size) => Ok(size),
     }
 }
 
@@ -134,16 +87,87 @@ fn push_areas(
     Ok(())
 }
 
-/// The root's size.
-fn root_size(root: &Section) -> Result<u32, FmdFault>
-    ensures ok { IfOk result (λ size. (size_of (view root.now) ≡ Some size) × (faults.size_fault (size_of (view root.now)) ≡ None)) }
-    ensures err { IfErr result (λ fault. faults.size_fault (size_of (view root.now)) ≡ Some fault) }
+/// The places of a section's parts.
+fn places(alloc: Global, section: &Section, number: u32, size: u32) -> Result<Vec<Place>, FmdFault>
+    requires { number + section_count (view section.now) ≤ 65536 }
+    ensures ok { IfOk result (λ row. row.items ≡ spec.filled size 0 (spec.siblings (parts_of (view section.now)))) }
+    ensures len { IfOk result (λ row. length row.items ≡ length (out-Section section.now).parts.items) }
+    ensures inside { IfOk result (λ row. IsTrue (list_all (λ q. nat_le (end_of q) size) row.items)) }
+    ensures clear { OnOk result (faults.row_fault_of number size (view section.now) ≡ None) }
+    ensures refused { IfErr result (λ fault. (fault ≡ FmdFault.Memory) ⊎ (faults.row_fault_of number size (view section.now) ≡ Some fault)) }
 {
-    match root.size {
-        None => Err(FmdFault::Ambiguous { section: 0 }),
-        Some(0) => Err(FmdFault::EmptySection { section: 0 }),
-        Some(size) => Ok(size),
+    let row = siblings(alloc, &section.parts)?;
+    match lay_row(alloc, size, &row) {
+        Ok(places) => Ok(places),
+        Err(fault) => Err(numbered(number + 1, &section.parts, fault)),
     }
+}
+
+/// What the parts' text says of their places.
+fn siblings(alloc: Global, parts: &[Section]) -> Result<Vec<Sibling>, FmdFault>
+    ensures ok { IfOk result (λ row. row.items ≡ spec.siblings (views parts.now)) }
+    ensures err { IfErr result (λ fault. fault ≡ FmdFault.Memory) }
+{
+    let mut row = Vec::new(alloc);
+    for part in parts {
+        let sibling = Sibling {
+            offset: part.offset,
+            size: part.size,
+        };
+        if row.push(sibling).is_err() {
+            return Err(FmdFault::Memory);
+        }
+    }
+    Ok(row)
+}
+
+/// A row's refusal, by the section's number.
+fn numbered(first: u32, parts: &[Section], fault: RowFault) -> FmdFault
+    requires { first + sections_count (views parts.now) < 2 ^ 32 }
+    ensures { result ≡ faults.numbered first (views parts.now) fault }
+{
+    match fault {
+        RowFault::Memory => FmdFault::Memory,
+        RowFault::Ambiguous(index) => FmdFault::Ambiguous {
+            section: number_of(first, parts, index),
+        },
+        RowFault::EmptySection(index) => FmdFault::EmptySection {
+            section: number_of(first, parts, index),
+        },
+        RowFault::Overlap(index) => FmdFault::Overlap {
+            section: number_of(first, parts, index),
+        },
+        RowFault::Outside(index) => FmdFault::Outside {
+            section: number_of(first, parts, index),
+        },
+    }
+}
+
+/// The number of a part, where that of the first is `first`.
+fn number_of(first: u32, parts: &[Section], index: usize) -> u32
+    requires { first + sections_count (views parts.now) < 2 ^ 32 }
+    ensures { result ≡ faults.number_of first (views parts.now) index }
+{
+    let mut number = first;
+    for (at, part) in parts.iter().enumerate() {
+        if at == index {
+            return number;
+        }
+        number += count(part) as u32;
+    }
+    number
+}
+
+/// How many sections there are, this one included.
+fn count(section: &Section) -> usize
+    requires { section_count (view section.now) < 2 ^ 32 }
+    ensures { result ≡ section_count (view section.now) }
+{
+    let mut all = 1;
+    for part in &section.parts {
+        all += count(part);
+    }
+    all
 }
 
 /// The size of the area FMAP, and 0 without one.
@@ -156,28 +180,4 @@ fn fmap_size(areas: &[Area]) -> u32
         }
     }
     0
-}
-
-/// The table of a tree: where its sections lie. The first refusal is that of the names (a duplicate, no FMAP, too
-/// many), then of the places, parent by parent in preorder, then of the size of FMAP. It goes as deep as the tree,
-/// and a tree that `parse` answers has at most 33 levels.
-pub fn lay_out(alloc: Global, root: &Section) -> Result<Table, FmdFault>
-    ensures table { IfOk result (λ table. IsTable (view root.now) table) }
-    ensures faultless { OnOk result (layout_fault (view root.now) ≡ None) }
-    ensures few { IfOk result (λ table. length table.areas.items ≤ 65535) }
-    ensures refused { IfErr result (λ fault. (fault ≡ FmdFault.Memory) ⊎ (layout_fault (view root.now) ≡ Some fault)) }
-{
-    check_names_of(alloc, root)?;
-    let size = root_size(root)?;
-    let mut areas = Vec::new(alloc);
-    push_areas(alloc, root, 0, size, &mut areas)?;
-    if (fmap_size(&areas) as usize) < HEAD_LEN + AREA_LEN * areas.len() {
-        return Err(FmdFault::FmapTooSmall);
-    }
-    Ok(Table {
-        base: root.offset.unwrap_or(0) as u64,
-        size,
-        name: name_field(&root.name),
-        areas,
-    })
 }

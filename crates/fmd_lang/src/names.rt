@@ -12,6 +12,20 @@ use crate::section::Section;
 use std::alloc::Global;
 use std::collections::BTreeSet;
 
+/// The most areas that a table has.
+const AREA_LIMIT: usize = 65_535;
+
+/// Refuses a tree by its names: one that stands twice, no FMAP, too many.
+pub fn check_names_of(alloc: Global, root: &Section) -> Result<(), FmdFault>
+    ensures clear { OnOk result (names_fault (names (view root.now)) ≡ None) }
+    ensures few { OnOk result (section_count (view root.now) ≤ 65536) }
+    ensures refused { IfErr result (λ fault. (fault ≡ FmdFault.Memory) ⊎ (names_fault (names (view root.now)) ≡ Some fault)) }
+{
+    let mut all = Vec::new(alloc);
+    push_names(root, &mut all)?;
+    check_names(alloc, &all)
+}
+
 /// Pushes the names of a section and of all below it, in preorder.
 fn push_names<'s>(section: &'s Section, all: &mut Vec<&'s [u8]>) -> Result<(), FmdFault>
     ensures ok { OnOk result (map (λ r. r.now) all.new.items ≡ map (λ r. r.now) all.old.items ++ names (view section.now)) }
@@ -24,6 +38,21 @@ fn push_names<'s>(section: &'s Section, all: &mut Vec<&'s [u8]>) -> Result<(), F
         push_names(part, all)?;
     }
     Ok(())
+}
+
+/// Refuses a name that stands twice, and what `check_parts` refuses.
+fn check_names(alloc: Global, names: &[&[u8]]) -> Result<(), FmdFault>
+    ensures clear { OnOk result (names_fault (map (λ r. r.now) names.now) ≡ None) }
+    ensures few { OnOk result (length names.now ≤ 65536) }
+    ensures refused { IfErr result (λ fault. (fault ≡ FmdFault.Memory) ⊎ (names_fault (map (λ r. r.now) names.now) ≡ Some fault)) }
+{
+    if let Some(number) = first_duplicate(alloc, names)? {
+        return Err(duplicate(number));
+    }
+    match names {
+        [_, parts @ ..] => check_parts(parts),
+        [] => Err(FmdFault::NoFmap),
+    }
 }
 
 /// The number of the first name that an earlier one equals.
@@ -42,20 +71,17 @@ fn first_duplicate(alloc: Global, names: &[&[u8]]) -> Result<Option<usize>, FmdF
     Ok(None)
 }
 
-/// Whether one of these names is FMAP.
-fn has_fmap(names: &[&[u8]]) -> bool
-    ensures { result ≡ list_any is_fmap (map (λ r. r.now) names.now) }
+/// The refusal of the section of this number, whose name an earlier one has. A tree whose sections 32 bits can't
+/// count takes more memory than there is.
+fn duplicate(number: usize) -> FmdFault
+    ensures counted { number < 2 ^ 32 → result ≡ FmdFault.Duplicate number }
+    ensures uncounted { 2 ^ 32 ≤ number → result ≡ FmdFault.Memory }
 {
-    for name in names {
-        if *name == b"FMAP".as_slice() {
-            return true;
-        }
+    match u32::try_from(number) {
+        Ok(section) => FmdFault::Duplicate { section },
+        Err(_) => FmdFault::Memory,
     }
-    false
 }
-
-/// The most areas that a table has.
-const AREA_LIMIT: usize = 65_535;
 
 /// Refuses parts none of which is named FMAP, and too many of them.
 fn check_parts(parts: &[&[u8]]) -> Result<(), FmdFault>
@@ -72,42 +98,16 @@ fn check_parts(parts: &[&[u8]]) -> Result<(), FmdFault>
     Ok(())
 }
 
-/// The refusal of the section of this number, whose name an earlier one has. A tree whose sections 32 bits can't
-/// count takes more memory than there is.
-fn duplicate(number: usize) -> FmdFault
-    ensures counted { number < 2 ^ 32 → result ≡ FmdFault.Duplicate number }
-    ensures uncounted { 2 ^ 32 ≤ number → result ≡ FmdFault.Memory }
+/// Whether one of these names is FMAP.
+fn has_fmap(names: &[&[u8]]) -> bool
+    ensures { result ≡ list_any is_fmap (map (λ r. r.now) names.now) }
 {
-    match u32::try_from(number) {
-        Ok(section) => FmdFault::Duplicate { section },
-        Err(_) => FmdFault::Memory,
+    for name in names {
+        if *name == b"FMAP".as_slice() {
+            return true;
+        }
     }
-}
-
-/// Refuses a name that stands twice, and what `check_parts` refuses.
-fn check_names(alloc: Global, names: &[&[u8]]) -> Result<(), FmdFault>
-    ensures clear { OnOk result (names_fault (map (λ r. r.now) names.now) ≡ None) }
-    ensures few { OnOk result (length names.now ≤ 65536) }
-    ensures refused { IfErr result (λ fault. (fault ≡ FmdFault.Memory) ⊎ (names_fault (map (λ r. r.now) names.now) ≡ Some fault)) }
-{
-    if let Some(number) = first_duplicate(alloc, names)? {
-        return Err(duplicate(number));
-    }
-    match names {
-        [_, parts @ ..] => check_parts(parts),
-        [] => Err(FmdFault::NoFmap),
-    }
-}
-
-/// Refuses a tree by its names: one that stands twice, no FMAP, too many.
-pub fn check_names_of(alloc: Global, root: &Section) -> Result<(), FmdFault>
-    ensures clear { OnOk result (names_fault (names (view root.now)) ≡ None) }
-    ensures few { OnOk result (section_count (view root.now) ≤ 65536) }
-    ensures refused { IfErr result (λ fault. (fault ≡ FmdFault.Memory) ⊎ (names_fault (names (view root.now)) ≡ Some fault)) }
-{
-    let mut all = Vec::new(alloc);
-    push_names(root, &mut all)?;
-    check_names(alloc, &all)
+    false
 }
 
 /// A name as the table has it.

@@ -16,6 +16,9 @@ use crate::section::Section;
 use crate::word::{Word, next_word};
 use std::alloc::Global;
 
+/// The longest text that is read.
+const TEXT_LIMIT: usize = 1_048_576;
+
 /// The most braces that may be open.
 const DEPTH_LIMIT: u32 = 32;
 
@@ -29,191 +32,45 @@ struct Token<'t> {
     value: Option<u32>,
 }
 
-/// The value of a word, which numbers alone have; or its refusal by itself, while `depth` braces are open.
-fn value_of(word: &Word<'_>, depth: u32) -> Result<Option<u32>, FmdFault>
-    ensures clear { OnOk result (own_fault depth (word_of word.now) ≡ None) }
-    ensures value { IfOk result (λ value. IfSome value (λ n. HasValue n (word_of word.now))) }
-    ensures other { IfOk result (λ value. IfNone value (is_number (word_of word.now) ≡ false)) }
-    ensures refused { IfErr result (λ fault. own_fault depth (word_of word.now) ≡ Some fault) }
+/// The tree of a descriptor.
+pub fn parse(alloc: Global, text: &[u8]) -> Result<Section, FmdFault>
+    // A tree is the text's, and the text then has no fault.
+    ensures tree { IfOk result (λ t. IsSection (view t) (spec.words text.now)) }
+    ensures faultless { IfOk result (λ t. first_fault text.now ≡ None) }
+    // A refusal is the text's first, unless memory ran out.
+    ensures refused { IfErr result (λ fault. (fault ≡ FmdFault.Memory) ⊎ (first_fault text.now ≡ Some fault)) }
 {
-    let at = word.place;
-    if word.is_bad() {
-        return Err(FmdFault::BadByte { at });
+    if text.len() > TEXT_LIMIT {
+        return Err(FmdFault::TextTooLong);
     }
-    if word.is_number() {
-        return match read_number(word.bytes) {
-            Ok(value) => Ok(Some(value)),
-            Err(NumberFault::Bad) => Err(FmdFault::BadNumber { at }),
-            Err(NumberFault::TooLarge) => Err(FmdFault::NumberTooLarge { at }),
-        };
-    }
-    if word.is_name() && word.bytes.len() > NAME_LIMIT {
-        return Err(FmdFault::NameTooLong { at });
-    }
-    if word.is_mark(b'{') && depth >= DEPTH_LIMIT {
-        return Err(FmdFault::TooDeep);
-    }
-    Ok(None)
+    tree(alloc, text)
 }
 
-/// The next word.
-fn peek<'t>(text: &'t [u8], from: usize, depth: u32) -> Result<Option<Token<'t>>, FmdFault>
-    requires { from ≤ length text.now }
-    ensures some { IfOk result (λ found. IfSome found (λ t. words_after text.now from ≡ word_of t.word ∷ words_after text.now (t.word.place + length t.word.bytes.now))) }
-    ensures clear { IfOk result (λ found. IfSome found (λ t. own_fault depth (word_of t.word) ≡ None)) }
-    ensures value { IfOk result (λ found. IfSome found (λ t. IfSome t.value (λ n. HasValue n (word_of t.word)))) }
-    ensures other { IfOk result (λ found. IfSome found (λ t. IfNone t.value (is_number (word_of t.word) ≡ false))) }
-    ensures inside { IfOk result (λ found. IfSome found (λ t. t.word.place + length t.word.bytes.now ≤ length text.now)) }
-    ensures ahead { IfOk result (λ found. IfSome found (λ t. from < t.word.place + length t.word.bytes.now)) }
-    ensures none { IfOk result (λ found. IfNone found (words_after text.now from ≡ [])) }
-    ensures refused { IfErr result (λ fault. (s : Stage) → fault_from s depth (length text.now) (words_after text.now from) ≡ Some fault) }
+/// The tree of a text, whatever its length.
+fn tree(alloc: Global, text: &[u8]) -> Result<Section, FmdFault>
+    ensures tree { IfOk result (λ t. IsSection (view t) (words_after text.now 0)) }
+    ensures faultless { IfOk result (λ t. fault_from start 0 (length text.now) (words_after text.now 0) ≡ None) }
+    ensures refused { IfErr result (λ fault. (fault ≡ FmdFault.Memory) ⊎ (fault_from start 0 (length text.now) (words_after text.now 0) ≡ Some fault)) }
 {
-    let Some(word) = next_word(text, from) else {
-        return Ok(None);
-    };
-    match value_of(&word, depth) {
-        Ok(value) => Ok(Some(Token { word, value })),
-        Err(fault) => Err(fault),
+    let (tree, to) = root(alloc, text)?;
+    match peek(text, to, 0)? {
+        None => Ok(tree),
+        Some(token) => Err(expected(token.word.place, Expected::End)),
     }
 }
 
-/// A section's size.
-fn size(text: &[u8], from: usize, depth: u32) -> Result<(Option<u32>, usize), FmdFault>
-    requires { from ≤ length text.now }
-    ensures inside { IfOk result (λ r. (from ≤ r.1) × (r.1 ≤ length text.now)) }
-    ensures size { Parses IsSize placed depth sized depth text.now from result }
+/// The root, at the text's start, and the place behind it.
+fn root(alloc: Global, text: &[u8]) -> Result<(Section, usize), FmdFault>
+    ensures inside { IfOk result (λ r. r.1 ≤ length text.now) }
+    ensures root { Parses (λ t ws. IsSection (view t) ws) start 0 whole 0 text.now 0 result }
 {
-    match peek(text, from, depth)? {
-        Some(token) => match token.value {
-            Some(size) => Ok((Some(size), token.word.end())),
-            None => Ok((None, from)),
-        },
-        None => Ok((None, from)),
-    }
-}
-
-/// A number that has to stand here.
-fn number(text: &[u8], from: usize, depth: u32) -> Result<(u32, usize), FmdFault>
-    requires { from ≤ length text.now }
-    ensures inside { IfOk result (λ r. (from ≤ r.1) × (r.1 ≤ length text.now)) }
-    ensures number { Parses IsNumber at_sign depth placed depth text.now from result }
-{
-    match peek(text, from, depth)? {
-        Some(token) => match token.value {
-            Some(number) => Ok((number, token.word.end())),
-            None => Err(expected(token.word.place, Expected::Number)),
-        },
-        None => Err(expected(text.len(), Expected::Number)),
-    }
-}
-
-fn expected(at: usize, what: Expected) -> FmdFault
-    ensures { result ≡ FmdFault.Expected at what }
-{
-    FmdFault::Expected { at, what }
-}
-
-/// A section's offset.
-fn offset(text: &[u8], from: usize, depth: u32) -> Result<(Option<u32>, usize), FmdFault>
-    requires { from ≤ length text.now }
-    ensures inside { IfOk result (λ r. (from ≤ r.1) × (r.1 ≤ length text.now)) }
-    ensures offset { Parses IsOffset closed_annotations depth placed depth text.now from result }
-{
-    match peek(text, from, depth)? {
-        Some(mark) if mark.word.is_mark(b'@') => {
-            let (value, to) = number(text, mark.word.end(), depth)?;
-            Ok((Some(value), to))
-        }
-        _ => Ok((None, from)),
-    }
-}
-
-/// A copy of bytes.
-fn copied(alloc: Global, bytes: &[u8]) -> Result<Vec<u8>, FmdFault>
-    ensures ok { IfOk result (λ v. v.items ≡ bytes.now) }
-    ensures err { IfErr result (λ fault. fault ≡ FmdFault.Memory) }
-{
-    match bytes.to_vec(alloc) {
-        Ok(copy) => Ok(copy),
-        Err(_) => Err(FmdFault::Memory),
-    }
-}
-
-/// Whether an annotation is PRESERVE.
-fn annotation_of(word: &Word<'_>) -> Option<bool>
-    ensures { result ≡ grammar.annotation_of (word_of word.now) }
-{
-    if word.bytes == b"PRESERVE".as_slice() {
-        Some(true)
-    } else if word.bytes == b"CBFS".as_slice() {
-        Some(false)
-    } else {
-        None
-    }
-}
-
-/// A section's annotations.
-fn annotations(text: &[u8], from: usize, depth: u32) -> Result<(u16, usize), FmdFault>
-    requires { from ≤ length text.now }
-    ensures inside { IfOk result (λ r. (from ≤ r.1) × (r.1 ≤ length text.now)) }
-    ensures annotations { Parses AreAnnotations named depth closed_annotations depth text.now from result }
-{
-    match peek(text, from, depth)? {
-        Some(mark) if mark.word.is_mark(b'(') => {
-            let (preserve, to) = first_annotation(text, mark.word.end(), depth)?;
-            Ok((if preserve { 8 } else { 0 }, to))
-        }
-        _ => Ok((0, from)),
-    }
-}
-
-/// One annotation, which has to stand here, and more.
-fn first_annotation(text: &[u8], from: usize, depth: u32) -> Result<(bool, usize), FmdFault>
-    requires { from ≤ length text.now }
-    ensures inside { IfOk result (λ r. (from ≤ r.1) × (r.1 ≤ length text.now)) }
-    ensures annotations { Parses EndsAnnotations in_annotations depth closed_annotations depth text.now from result }
-{
-    let Some(token) = peek(text, from, depth)? else {
-        return Err(expected(text.len(), Expected::Annotation));
+    let Some(token) = peek(text, 0, 0)? else {
+        return Err(expected(text.len(), Expected::Section));
     };
     if !token.word.is_name() {
-        return Err(expected(token.word.place, Expected::Annotation));
+        return Err(expected(token.word.place, Expected::Section));
     }
-    match annotation_of(&token.word) {
-        Some(preserve) => more_annotations(text, token.word.end(), depth, preserve),
-        None => Err(expected(token.word.place, Expected::Annotation)),
-    }
-}
-
-/// The annotations behind the first, and the `)`.
-fn more_annotations(
-    text: &[u8],
-    from: usize,
-    depth: u32,
-    first: bool,
-) -> Result<(bool, usize), FmdFault>
-    requires { from ≤ length text.now }
-    ensures inside { IfOk result (λ r. (from ≤ r.1) × (r.1 ≤ length text.now)) }
-    ensures annotations { Parses (EndsMoreAnnotations first) annotated depth closed_annotations depth text.now from result }
-{
-    let mut preserve = first;
-    let mut at = from;
-    loop {
-        let Some(token) = peek(text, at, depth)? else {
-            return Err(expected(text.len(), Expected::CloseParen));
-        };
-        if token.word.is_mark(b')') {
-            return Ok((preserve, token.word.end()));
-        }
-        if !token.word.is_name() {
-            return Err(expected(token.word.place, Expected::CloseParen));
-        }
-        match annotation_of(&token.word) {
-            Some(is_preserve) => preserve = preserve || is_preserve,
-            None => return Err(expected(token.word.place, Expected::Annotation)),
-        }
-        at = token.word.end();
-    }
+    section(alloc, text, &token.word, 0)
 }
 
 /// The rest of a section, behind its name.
@@ -295,46 +152,189 @@ fn sections(
     Err(expected(text.len(), Expected::SectionOrClose))
 }
 
-/// The root, at the text's start, and the place behind it.
-fn root(alloc: Global, text: &[u8]) -> Result<(Section, usize), FmdFault>
-    ensures inside { IfOk result (λ r. r.1 ≤ length text.now) }
-    ensures root { Parses (λ t ws. IsSection (view t) ws) start 0 whole 0 text.now 0 result }
+/// A section's annotations.
+fn annotations(text: &[u8], from: usize, depth: u32) -> Result<(u16, usize), FmdFault>
+    requires { from ≤ length text.now }
+    ensures inside { IfOk result (λ r. (from ≤ r.1) × (r.1 ≤ length text.now)) }
+    ensures annotations { Parses AreAnnotations named depth closed_annotations depth text.now from result }
 {
-    let Some(token) = peek(text, 0, 0)? else {
-        return Err(expected(text.len(), Expected::Section));
+    match peek(text, from, depth)? {
+        Some(mark) if mark.word.is_mark(b'(') => {
+            let (preserve, to) = first_annotation(text, mark.word.end(), depth)?;
+            Ok((if preserve { 8 } else { 0 }, to))
+        }
+        _ => Ok((0, from)),
+    }
+}
+
+/// One annotation, which has to stand here, and more.
+fn first_annotation(text: &[u8], from: usize, depth: u32) -> Result<(bool, usize), FmdFault>
+    requires { from ≤ length text.now }
+    ensures inside { IfOk result (λ r. (from ≤ r.1) × (r.1 ≤ length text.now)) }
+    ensures annotations { Parses EndsAnnotations in_annotations depth closed_annotations depth text.now from result }
+{
+    let Some(token) = peek(text, from, depth)? else {
+        return Err(expected(text.len(), Expected::Annotation));
     };
     if !token.word.is_name() {
-        return Err(expected(token.word.place, Expected::Section));
+        return Err(expected(token.word.place, Expected::Annotation));
     }
-    section(alloc, text, &token.word, 0)
-}
-
-/// The tree of a text, whatever its length.
-fn tree(alloc: Global, text: &[u8]) -> Result<Section, FmdFault>
-    ensures tree { IfOk result (λ t. IsSection (view t) (words_after text.now 0)) }
-    ensures faultless { IfOk result (λ t. fault_from start 0 (length text.now) (words_after text.now 0) ≡ None) }
-    ensures refused { IfErr result (λ fault. (fault ≡ FmdFault.Memory) ⊎ (fault_from start 0 (length text.now) (words_after text.now 0) ≡ Some fault)) }
-{
-    let (tree, to) = root(alloc, text)?;
-    match peek(text, to, 0)? {
-        None => Ok(tree),
-        Some(token) => Err(expected(token.word.place, Expected::End)),
+    match annotation_of(&token.word) {
+        Some(preserve) => more_annotations(text, token.word.end(), depth, preserve),
+        None => Err(expected(token.word.place, Expected::Annotation)),
     }
 }
 
-/// The longest text that is read.
-const TEXT_LIMIT: usize = 1_048_576;
-
-/// The tree of a descriptor.
-pub fn parse(alloc: Global, text: &[u8]) -> Result<Section, FmdFault>
-    // A tree is the text's, and the text then has no fault.
-    ensures tree { IfOk result (λ t. IsSection (view t) (spec.words text.now)) }
-    ensures faultless { IfOk result (λ t. first_fault text.now ≡ None) }
-    // A refusal is the text's first, unless memory ran out.
-    ensures refused { IfErr result (λ fault. (fault ≡ FmdFault.Memory) ⊎ (first_fault text.now ≡ Some fault)) }
+/// The annotations behind the first, and the `)`.
+fn more_annotations(
+    text: &[u8],
+    from: usize,
+    depth: u32,
+    first: bool,
+) -> Result<(bool, usize), FmdFault>
+    requires { from ≤ length text.now }
+    ensures inside { IfOk result (λ r. (from ≤ r.1) × (r.1 ≤ length text.now)) }
+    ensures annotations { Parses (EndsMoreAnnotations first) annotated depth closed_annotations depth text.now from result }
 {
-    if text.len() > TEXT_LIMIT {
-        return Err(FmdFault::TextTooLong);
+    let mut preserve = first;
+    let mut at = from;
+    loop {
+        let Some(token) = peek(text, at, depth)? else {
+            return Err(expected(text.len(), Expected::CloseParen));
+        };
+        if token.word.is_mark(b')') {
+            return Ok((preserve, token.word.end()));
+        }
+        if !token.word.is_name() {
+            return Err(expected(token.word.place, Expected::CloseParen));
+        }
+        match annotation_of(&token.word) {
+            Some(is_preserve) => preserve = preserve || is_preserve,
+            None => return Err(expected(token.word.place, Expected::Annotation)),
+        }
+        at = token.word.end();
     }
-    tree(alloc, text)
+}
+
+/// Whether an annotation is PRESERVE.
+fn annotation_of(word: &Word<'_>) -> Option<bool>
+    ensures { result ≡ grammar.annotation_of (word_of word.now) }
+{
+    if word.bytes == b"PRESERVE".as_slice() {
+        Some(true)
+    } else if word.bytes == b"CBFS".as_slice() {
+        Some(false)
+    } else {
+        None
+    }
+}
+
+/// A section's offset.
+fn offset(text: &[u8], from: usize, depth: u32) -> Result<(Option<u32>, usize), FmdFault>
+    requires { from ≤ length text.now }
+    ensures inside { IfOk result (λ r. (from ≤ r.1) × (r.1 ≤ length text.now)) }
+    ensures offset { Parses IsOffset closed_annotations depth placed depth text.now from result }
+{
+    match peek(text, from, depth)? {
+        Some(mark) if mark.word.is_mark(b'@') => {
+            let (value, to) = number(text, mark.word.end(), depth)?;
+            Ok((Some(value), to))
+        }
+        _ => Ok((None, from)),
+    }
+}
+
+/// A number that has to stand here.
+fn number(text: &[u8], from: usize, depth: u32) -> Result<(u32, usize), FmdFault>
+    requires { from ≤ length text.now }
+    ensures inside { IfOk result (λ r. (from ≤ r.1) × (r.1 ≤ length text.now)) }
+    ensures number { Parses IsNumber at_sign depth placed depth text.now from result }
+{
+    match peek(text, from, depth)? {
+        Some(token) => match token.value {
+            Some(number) => Ok((number, token.word.end())),
+            None => Err(expected(token.word.place, Expected::Number)),
+        },
+        None => Err(expected(text.len(), Expected::Number)),
+    }
+}
+
+/// A section's size.
+fn size(text: &[u8], from: usize, depth: u32) -> Result<(Option<u32>, usize), FmdFault>
+    requires { from ≤ length text.now }
+    ensures inside { IfOk result (λ r. (from ≤ r.1) × (r.1 ≤ length text.now)) }
+    ensures size { Parses IsSize placed depth sized depth text.now from result }
+{
+    match peek(text, from, depth)? {
+        Some(token) => match token.value {
+            Some(size) => Ok((Some(size), token.word.end())),
+            None => Ok((None, from)),
+        },
+        None => Ok((None, from)),
+    }
+}
+
+/// The next word.
+fn peek<'t>(text: &'t [u8], from: usize, depth: u32) -> Result<Option<Token<'t>>, FmdFault>
+    requires { from ≤ length text.now }
+    ensures some { IfOk result (λ found. IfSome found (λ t. words_after text.now from ≡ word_of t.word ∷ words_after text.now (t.word.place + length t.word.bytes.now))) }
+    ensures clear { IfOk result (λ found. IfSome found (λ t. own_fault depth (word_of t.word) ≡ None)) }
+    ensures value { IfOk result (λ found. IfSome found (λ t. IfSome t.value (λ n. HasValue n (word_of t.word)))) }
+    ensures other { IfOk result (λ found. IfSome found (λ t. IfNone t.value (is_number (word_of t.word) ≡ false))) }
+    ensures inside { IfOk result (λ found. IfSome found (λ t. t.word.place + length t.word.bytes.now ≤ length text.now)) }
+    ensures ahead { IfOk result (λ found. IfSome found (λ t. from < t.word.place + length t.word.bytes.now)) }
+    ensures none { IfOk result (λ found. IfNone found (words_after text.now from ≡ [])) }
+    ensures refused { IfErr result (λ fault. (s : Stage) → fault_from s depth (length text.now) (words_after text.now from) ≡ Some fault) }
+{
+    let Some(word) = next_word(text, from) else {
+        return Ok(None);
+    };
+    match value_of(&word, depth) {
+        Ok(value) => Ok(Some(Token { word, value })),
+        Err(fault) => Err(fault),
+    }
+}
+
+/// The value of a word, which numbers alone have; or its refusal by itself, while `depth` braces are open.
+fn value_of(word: &Word<'_>, depth: u32) -> Result<Option<u32>, FmdFault>
+    ensures clear { OnOk result (own_fault depth (word_of word.now) ≡ None) }
+    ensures value { IfOk result (λ value. IfSome value (λ n. HasValue n (word_of word.now))) }
+    ensures other { IfOk result (λ value. IfNone value (is_number (word_of word.now) ≡ false)) }
+    ensures refused { IfErr result (λ fault. own_fault depth (word_of word.now) ≡ Some fault) }
+{
+    let at = word.place;
+    if word.is_bad() {
+        return Err(FmdFault::BadByte { at });
+    }
+    if word.is_number() {
+        return match read_number(word.bytes) {
+            Ok(value) => Ok(Some(value)),
+            Err(NumberFault::Bad) => Err(FmdFault::BadNumber { at }),
+            Err(NumberFault::TooLarge) => Err(FmdFault::NumberTooLarge { at }),
+        };
+    }
+    if word.is_name() && word.bytes.len() > NAME_LIMIT {
+        return Err(FmdFault::NameTooLong { at });
+    }
+    if word.is_mark(b'{') && depth >= DEPTH_LIMIT {
+        return Err(FmdFault::TooDeep);
+    }
+    Ok(None)
+}
+
+fn expected(at: usize, what: Expected) -> FmdFault
+    ensures { result ≡ FmdFault.Expected at what }
+{
+    FmdFault::Expected { at, what }
+}
+
+/// A copy of bytes.
+fn copied(alloc: Global, bytes: &[u8]) -> Result<Vec<u8>, FmdFault>
+    ensures ok { IfOk result (λ v. v.items ≡ bytes.now) }
+    ensures err { IfErr result (λ fault. fault ≡ FmdFault.Memory) }
+{
+    match bytes.to_vec(alloc) {
+        Ok(copy) => Ok(copy),
+        Err(_) => Err(FmdFault::Memory),
+    }
 }

@@ -12,36 +12,23 @@ pub struct Word<'t> {
     pub bytes: &'t [u8],
 }
 
-fn is_blank(byte: u8) -> bool
-    ensures { result ≡ spec.is_blank byte }
-{
-    matches!(byte, b' ' | b'\t' | b'\n' | b'\r')
-}
-
-fn is_mark(byte: u8) -> bool
-    ensures { result ≡ spec.is_mark byte }
-{
-    matches!(byte, b'@' | b'{' | b'}' | b'(' | b')')
-}
-
-fn is_plain(byte: u8) -> bool
-    ensures { result ≡ spec.is_plain byte }
-{
-    matches!(byte, 0x21..=0x7e) && !is_mark(byte) && byte != b'#'
-}
-
-/// Where the comment ends that goes on at `from`: at its line feed, or at the text's end.
-fn comment_end(text: &[u8], from: usize) -> usize
+/// The first word from `from` on, where neither a word nor a comment goes on.
+pub fn next_word<'t>(text: &'t [u8], from: usize) -> Option<Word<'t>>
     requires { from ≤ length text.now }
-    ensures inside { result ≤ length text.now }
-    ensures ahead { from ≤ result }
-    ensures same { spec.words_from from 32 (spec.without_comments true (drop from text.now)) ≡ words_after text.now result }
+    ensures some { IfSome result (λ w. words_after text.now from ≡ word_of w ∷ words_after text.now (w.place + length w.bytes.now)) }
+    ensures inside { IfSome result (λ w. w.place + length w.bytes.now ≤ length text.now) }
+    ensures ahead { IfSome result (λ w. from < w.place + length w.bytes.now) }
+    ensures none { IfNone result (words_after text.now from ≡ []) }
 {
-    let mut at = from;
-    while at < text.len() && text[at] != b'\n' {
-        at += 1;
+    let place = skip_blanks(text, from);
+    if place == text.len() {
+        return None;
     }
-    at
+    let end = word_end(text, place);
+    Some(Word {
+        place,
+        bytes: &text[place..end],
+    })
 }
 
 /// Where the next word begins, or the text's end.
@@ -67,16 +54,15 @@ fn skip_blanks(text: &[u8], from: usize) -> usize
     at
 }
 
-/// Where the row of plain bytes ends that goes on at `from`.
-fn plain_end(text: &[u8], from: usize) -> usize
+/// Where the comment ends that goes on at `from`: at its line feed, or at the text's end.
+fn comment_end(text: &[u8], from: usize) -> usize
     requires { from ≤ length text.now }
     ensures inside { result ≤ length text.now }
     ensures ahead { from ≤ result }
-    ensures row { spec.plain_after text.now from ≡ slice_range text.now from result }
-    ensures same { spec.words_inside text.now from ≡ words_after text.now result }
+    ensures same { spec.words_from from 32 (spec.without_comments true (drop from text.now)) ≡ words_after text.now result }
 {
     let mut at = from;
-    while at < text.len() && is_plain(text[at]) {
+    while at < text.len() && text[at] != b'\n' {
         at += 1;
     }
     at
@@ -98,23 +84,37 @@ fn word_end(text: &[u8], place: usize) -> usize
     }
 }
 
-/// The first word from `from` on, where neither a word nor a comment goes on.
-pub fn next_word<'t>(text: &'t [u8], from: usize) -> Option<Word<'t>>
+/// Where the row of plain bytes ends that goes on at `from`.
+fn plain_end(text: &[u8], from: usize) -> usize
     requires { from ≤ length text.now }
-    ensures some { IfSome result (λ w. words_after text.now from ≡ word_of w ∷ words_after text.now (w.place + length w.bytes.now)) }
-    ensures inside { IfSome result (λ w. w.place + length w.bytes.now ≤ length text.now) }
-    ensures ahead { IfSome result (λ w. from < w.place + length w.bytes.now) }
-    ensures none { IfNone result (words_after text.now from ≡ []) }
+    ensures inside { result ≤ length text.now }
+    ensures ahead { from ≤ result }
+    ensures row { spec.plain_after text.now from ≡ slice_range text.now from result }
+    ensures same { spec.words_inside text.now from ≡ words_after text.now result }
 {
-    let place = skip_blanks(text, from);
-    if place == text.len() {
-        return None;
+    let mut at = from;
+    while at < text.len() && is_plain(text[at]) {
+        at += 1;
     }
-    let end = word_end(text, place);
-    Some(Word {
-        place,
-        bytes: &text[place..end],
-    })
+    at
+}
+
+fn is_blank(byte: u8) -> bool
+    ensures { result ≡ spec.is_blank byte }
+{
+    matches!(byte, b' ' | b'\t' | b'\n' | b'\r')
+}
+
+fn is_mark(byte: u8) -> bool
+    ensures { result ≡ spec.is_mark byte }
+{
+    matches!(byte, b'@' | b'{' | b'}' | b'(' | b')')
+}
+
+fn is_plain(byte: u8) -> bool
+    ensures { result ≡ spec.is_plain byte }
+{
+    matches!(byte, 0x21..=0x7e) && !is_mark(byte) && byte != b'#'
 }
 
 impl Word<'_> {
