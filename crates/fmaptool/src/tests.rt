@@ -235,52 +235,8 @@ fn an_empty_text_is_no_section(rt: HostRuntime) -> Result<(), Fail> {
 
 #[test]
 fn refusals_are_told_by_their_texts(rt: HostRuntime) -> Result<(), Fail> {
-    for (fault, text) in [
-        (FmdFault::Memory, "out of memory"),
-        (FmdFault::TextTooLong, "text too long"),
-        (FmdFault::BadByte { at: 7 }, "bad byte at 7"),
-        (FmdFault::BadNumber { at: 8 }, "bad number at 8"),
-        (FmdFault::NumberTooLarge { at: 9 }, "number too large at 9"),
-        (FmdFault::TooDeep, "nested too deep"),
-        (
-            FmdFault::NameTooLong { at: 1_048_575 },
-            "name too long at 1048575",
-        ),
-        (
-            FmdFault::Ambiguous { section: 0 },
-            "ambiguous size of section 0",
-        ),
-        (FmdFault::EmptySection { section: 1 }, "empty section 1"),
-        (FmdFault::Overlap { section: 2 }, "overlap at section 2"),
-        (
-            FmdFault::Outside { section: 3 },
-            "section 3 outside its parent",
-        ),
-        (
-            FmdFault::Duplicate { section: 65536 },
-            "duplicate name of section 65536",
-        ),
-        (FmdFault::NoFmap, "no FMAP section"),
-        (FmdFault::FmapTooSmall, "FMAP section too small"),
-        (FmdFault::TooManyAreas, "too many areas"),
-    ] {
-        let refusal = Refusal::Descriptor(fault);
-        let told = format!(in rt.alloc(); "{refusal}")?;
-        assert_eq!(rt; told.as_str(), text);
-    }
-    for (what, text) in [
-        (Expected::Section, "expected section at 12"),
-        (Expected::Annotation, "expected annotation at 12"),
-        (Expected::CloseParen, "expected ) at 12"),
-        (Expected::Number, "expected number at 12"),
-        (Expected::SectionOrClose, "expected section or } at 12"),
-        (Expected::End, "expected end at 12"),
-    ] {
-        let refusal = Refusal::Descriptor(FmdFault::Expected { at: 12, what });
-        let told = format!(in rt.alloc(); "{refusal}")?;
-        assert_eq!(rt; told.as_str(), text);
-    }
     for (refusal, text) in [
+        (Refusal::Descriptor(FmdFault::NoFmap), "no FMAP section"),
         (Refusal::Read, "read fault"),
         (Refusal::Output, "output fault"),
     ] {
