@@ -44,9 +44,6 @@ length-filled (p ∷ ps) parent from = ap suc (length-filled ps parent _)
 pub view-count : (s : Section) → section_count (view s) ≡ suc (sections_count (views (out-Section s).parts.items))
 view-count s = rw (view-is s) refl
 
-pub view-parts : (s : Section) → parts_of (view s) ≡ views (out-Section s).parts.items
-view-parts s = rw (view-is s) refl
-
 pub row_fault_of-is : (n size : ℕ) (s : Section) → row_fault_of n size (view s) ≡ option_map (numbered (suc n) (views (out-Section s).parts.items)) (row_fault size (siblings (views (out-Section s).parts.items)))
 row_fault_of-is n size s = rw (view-is s) refl
 
@@ -95,9 +92,6 @@ pub faults-first : (n k : ℕ) (qs : List Place) (ss : List Section) (q : Place)
 faults-first n k qs ss q s fault hq hs eq es first = faults-more n k qs ss q s hq hs eq es ∙ rw first refl
 
 -- the names of a tree
-pub names-parts : (t : Tree) → drop 1 (names t) ≡ names_of (parts_of t)
-names-parts (section name flags offset size parts) = refl
-
 mutual
   pub names-length : (t : Tree) → length (names t) ≡ section_count t
   names-length (section name flags offset size parts) = ap suc (names_of-length parts)

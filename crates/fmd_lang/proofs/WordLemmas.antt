@@ -1,5 +1,5 @@
 -- The words of a text, one byte at a time.
-use Rattle.std.proofs.Common.{◌≡◌, ◌≢◌, ℕ, suc, nat_eq, ◌+◌, ◌-◌, ◌<◌, ◌≤◌, true, false, cond, List, [], ◌∷◌, ◌++◌, length, get_or, drop, take, refl, sym, ap, rules, arith, slice_index, slice_range, add-one, append_assoc}
+use Rattle.std.proofs.Common.{◌≡◌, ℕ, suc, ◌+◌, ◌-◌, ◌<◌, ◌≤◌, true, false, cond, List, [], ◌∷◌, ◌++◌, length, get_or, drop, take, refl, sym, ap, arith, slice_index, slice_range, add-one, append_assoc}
 use Rattle.std.proofs.Math.Seq.{drop-cons}
 use Rattle.std.proofs.lemmas.List.{drop_all, take_more}
 use Rattle.std.proofs.lemmas.Grind.{common_steps}
@@ -39,12 +39,6 @@ words_after-blank text at h blank =
 pub words_after-comment : (text : List ℕ) (at : ℕ) → at < length text → is_comment (slice_index text at) ≡ true → words_after text at ≡ words_from (at + 1) 32 (without_comments true (drop (at + 1) text))
 unfolding words_after
 words_after-comment text at h comment = rw (here text at h, comment, add-one) refl
-
-pub comment-byte : (text : List ℕ) (at : ℕ) → at < length text → slice_index text at ≢ 10 →
-    words_from at 32 (without_comments true (drop at text)) ≡ words_from (at + 1) 32 (without_comments true (drop (at + 1) text))
-comment-byte text at h no_feed =
-    let goes_on : nat_eq (slice_index text at) 10 ≡ false = search (rules, no_feed) in
-    rw (here text at h, goes_on, add-one) refl
 
 pub comment-feed : (text : List ℕ) (at : ℕ) → at < length text → slice_index text at ≡ 10 →
     words_from at 32 (without_comments true (drop at text)) ≡ words_after text at
