@@ -1,17 +1,22 @@
 -- What a walk answers at a place, by what stands there.
-use Rattle.std.proofs.Common.{◌≡◌, ℕ, ◌%◌, ◌<◌, Some, true, false, List, length, drop, Ok, Err, refl, ap, ◌∙◌, arith, eqb, length-drop}
+use Rattle.std.proofs.Common.{◌≡◌, ℕ, ◌%◌, ◌<◌, Some, Bool, true, false, ◌&&◌, List, length, drop, Ok, Err, refl, sym, ap, ◌∙◌, arith, eqb, length-drop, true≢false}
 use Rattle.std.specs.Prelude.{IsErrOf}
+use Rattle.std.proofs.lemmas.Bool.{eqb-true, ne_eqb}
 use Rattle.std.proofs.lemmas.Grind.{common_steps}
 use Rattle.flash_format.specs.declared.head.Head.{Head}
 use Rattle.flash_format.specs.declared.head.DamageKind.{DamageKind}
 use Rattle.flash_format.specs.Head.{head_of}
 use Rattle.flash_format.specs.Entry.{Entry, absent, damaged, cell, entry}
-use Rattle.cbfs_walk.specs.Walks.{Answer, Walking, EndsWalk, GivesCellAt, moved, has_bad_size, answer_by, answer_at}
+use Rattle.cbfs_walk.specs.Shapes.{has_bad_size, is_absent}
+use Rattle.cbfs_walk.specs.Walks.{Answer, Walking, EndsWalk, GivesCellAt, moved, answer_by, answer_at}
 use Rattle.cbfs_walk.specs.declared.walk.Step.TheVariants as steps
 use Rattle.cbfs_walk.specs.declared.walk.WalkFault.TheVariants as faults
 
 pub good_size : (size : ℕ) → false ≡ has_bad_size size → size % 64 ≡ 0
 good_size size e = grind (arith, common_steps)
+
+pub good_some : (size : ℕ) → false ≡ has_bad_size size → size ≡ 0 → ⊥
+good_some size e z = true≢false (sym (e ∙ ap has_bad_size z))
 
 pub answer_shape : (x : List ℕ) (at size : ℕ) → length x ≡ size → true ≡ has_bad_size size → Err faults.RegionShape ≡ answer_at x at
 unfolding answer_at
@@ -21,31 +26,46 @@ pub answer_end : (x : List ℕ) (at size : ℕ) → length x ≡ size → false 
 unfolding answer_at
 answer_end x at size len good end =
     let none : length (drop at x) ≡ 0 = omega (arith, length-drop at x) in
-    rw (len, ← good, none) refl
+    let later : eqb at 0 ≡ false = ne_eqb at 0 (λ z. good_some size good (sym end ∙ z)) in
+    rw (len, ← good, later, none) refl
 
-pub answer_entry : (x : List ℕ) (at size : ℕ) (e : Entry) → length x ≡ size → false ≡ has_bad_size size → at < size → e ≡ entry (drop at x) → answer_by (drop at x) at e ≡ answer_at x at
+-- at the region's start stands the region's first entry
+first_entry : (x : List ℕ) (at : ℕ) (e : Entry) → e ≡ entry (drop at x) → (eqb at 0 && is_absent (entry x)) ≡ (eqb at 0 && is_absent e)
+first_entry x at e is = go (eqb at 0) refl
+  where
+    go : (b : Bool) → eqb at 0 ≡ b → (b && is_absent (entry x)) ≡ (b && is_absent e)
+    go true z = let zero_is : at ≡ 0 = eqb-true at 0 z in ap (λ n. is_absent (entry (drop n x))) (sym zero_is) ∙ ap is_absent (sym is)
+    go false z = refl
+
+and_false : (b : Bool) → (b && false) ≡ false
+and_false true = refl
+and_false false = refl
+
+pub answer_entry : (x : List ℕ) (at size : ℕ) (e : Entry) → length x ≡ size → false ≡ has_bad_size size → at < size → e ≡ entry (drop at x) → (eqb at 0 && is_absent e) ≡ false
+    → answer_by (drop at x) at e ≡ answer_at x at
 unfolding answer_at
-answer_entry x at size e len good inside is =
+answer_entry x at size e len good inside is other =
     let some : eqb (length (drop at x)) 0 ≡ false = let l : 0 < length (drop at x) = omega (arith, length-drop at x) in grind (arith, common_steps) in
-    rw (len, ← good, some) (ap (answer_by (drop at x) at) is)
+    rw (len, ← good, first_entry x at e is ∙ other, some) (ap (answer_by (drop at x) at) is)
 
-pub answer_absent : (x : List ℕ) (at size : ℕ) → length x ≡ size → false ≡ has_bad_size size → at < size → absent ≡ entry (drop at x) → at ≡ 0 → Err faults.NotCbfs ≡ answer_at x at
-answer_absent x at size len good inside is first =
-    let e : eqb at 0 ≡ true = grind (arith, common_steps) in
-    rw (← answer_entry x at size absent len good inside is, e) refl
+pub answer_absent : (x : List ℕ) (at size : ℕ) → length x ≡ size → false ≡ has_bad_size size → absent ≡ entry (drop at x) → at ≡ 0 → Err faults.NotCbfs ≡ answer_at x at
+unfolding answer_at
+answer_absent x at size len good is first =
+    let here : (eqb at 0 && is_absent (entry x)) ≡ true = first_entry x at absent is ∙ ap (λ n. eqb n 0 && true) first in
+    rw (len, ← good, here) refl
 
 pub answer_tail : (x : List ℕ) (at size : ℕ) → length x ≡ size → false ≡ has_bad_size size → at < size → absent ≡ entry (drop at x) → 0 < at → Ok (steps.Tail at) ≡ answer_at x at
 answer_tail x at size len good inside is later =
     let e : eqb at 0 ≡ false = grind (arith, common_steps) in
-    rw (← answer_entry x at size absent len good inside is, e) refl
+    answer_entry x at size absent len good inside is (ap (λ b. b && true) e)
 
 pub answer_damaged : (x : List ℕ) (at size : ℕ) (k : DamageKind) → length x ≡ size → false ≡ has_bad_size size → at < size → damaged k ≡ entry (drop at x) → Err (faults.Damaged at k) ≡ answer_at x at
-answer_damaged x at size k len good inside is = answer_entry x at size (damaged k) len good inside is
+answer_damaged x at size k len good inside is = answer_entry x at size (damaged k) len good inside is (and_false (eqb at 0))
 
 pub answer_cell : (x : List ℕ) (at size span : ℕ) (h : Head) → length x ≡ size → false ≡ has_bad_size size → at < size → cell span ≡ entry (drop at x) → h ≡ head_of (drop at x)
     → Ok (steps.Cell (record { at = at; head = h; span = span })) ≡ answer_at x at
 answer_cell x at size span h len good inside is head =
-    ap (λ (k : Head). Ok (steps.Cell (record { at = at; head = k; span = span }))) head ∙ answer_entry x at size (cell span) len good inside is
+    ap (λ (k : Head). Ok (steps.Cell (record { at = at; head = k; span = span }))) head ∙ answer_entry x at size (cell span) len good inside is (and_false (eqb at 0))
 
 -- ---- a walk that has ended
 
@@ -72,3 +92,14 @@ ends_moved w (Err faults.Device) e is = absurd e
 ends_moved w (Err faults.RegionShape) e is = ap (λ o. record w { ended = o }) is
 ends_moved w (Err faults.NotCbfs) e is = ap (λ o. record w { ended = o }) is
 ends_moved w (Err (faults.Damaged at kind)) e is = ap (λ o. record w { ended = o }) is
+
+-- ---- what an answer leaves of a walk
+
+pub moved-region : (w : Walking) (a : Answer) → (moved w a).region ≡ w.region
+moved-region w (Ok (steps.Cell c)) = refl
+moved-region w (Ok steps.End) = refl
+moved-region w (Ok (steps.Tail at)) = refl
+moved-region w (Err faults.Device) = refl
+moved-region w (Err faults.RegionShape) = refl
+moved-region w (Err faults.NotCbfs) = refl
+moved-region w (Err (faults.Damaged at kind)) = refl

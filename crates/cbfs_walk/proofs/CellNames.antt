@@ -15,7 +15,7 @@ use Rattle.cbfs_walk.specs.declared.cell.Cell.{Cell}
 use Rattle.cbfs_walk.proofs.Parts.{range-drop, range-take, length-range, name_read}
 use Rattle.cbfs_walk.proofs.Checks.{checks_give}
 use Rattle.cbfs_walk.proofs.CutLaws.{standing, cell_head, cell_part, component_whole}
-use Rattle.cbfs_walk.proofs.Texts.{any_len, text_len, text_most, text_within, text_front, text_is, text_is_not}
+use Rattle.cbfs_walk.proofs.Texts.{any_len, text_len, text_most, text_within, text_prefix, text_is, text_is_not}
 
 -- what the checks of a component's head say of its name field
 pub record HasField (size : ℕ) (c : Cell) : Type 0 where
@@ -34,13 +34,13 @@ has_field size c is used =
 abbrev pub field_of : List ℕ → Cell → List ℕ
 field_of x c = slice_range x (c.at + 24) (c.at + name_end c.head)
 
-pub record IsNamed (x : List ℕ) (c : Cell) : Type 0 where
+pub record ShowsName (x : List ℕ) (c : Cell) : Type 0 where
   pub name : cell_name (cell_in x c) ≡ before_first is_nul (field_of x c)
   pub short : position_or_len is_nul (field_of x c) < 256
   pub within : position_or_len is_nul (field_of x c) < length (field_of x c)
 
-pub is_named : (x : List ℕ) (size : ℕ) (c : Cell) → IsCellIn size c → is_free c.head ≡ false → StandsIn x c → IsNamed x c
-is_named x size c is used stands =
+pub shows_name : (x : List ℕ) (size : ℕ) (c : Cell) → IsCellIn size c → is_free c.head ≡ false → StandsIn x c → ShowsName x c
+shows_name x size c is used stands =
     let s = standing x c stands in
     let f = has_field size c is used in
     let whole = component_whole (drop c.at x) c.span s.entry (ap is_free (sym s.head) ∙ used) in
@@ -57,8 +57,8 @@ is_named x size c is used stands =
     }
 
 -- the first bytes of the field, as they are read
-field_front : (x : List ℕ) (c : Cell) (n : ℕ) → 24 + n ≤ name_end c.head → take n (field_of x c) ≡ slice_range x (c.at + 24) (c.at + 24 + n)
-field_front x c n room = range-take x (c.at + 24) (c.at + name_end c.head) n (omega (arith, room))
+field_prefix : (x : List ℕ) (c : Cell) (n : ℕ) → 24 + n ≤ name_end c.head → take n (field_of x c) ≡ slice_range x (c.at + 24) (c.at + 24 + n)
+field_prefix x c n room = range-take x (c.at + 24) (c.at + name_end c.head) n (omega (arith, room))
 
 module _ (x : List ℕ) (size : ℕ) (c : Cell) (is : IsCellIn size c) (used : is_free c.head ≡ false) (len : length x ≡ size) where
   length-field : length (field_of x c) + 24 ≡ name_end c.head
@@ -66,16 +66,16 @@ module _ (x : List ℕ) (size : ℕ) (c : Cell) (is : IsCellIn size c) (used : i
       let f = has_field size c is used in
       omega (arith, length-range x (c.at + 24) (c.at + name_end c.head) (omega (arith, f.inside, len)), f.low)
 
-  -- the text at the front of what is read of the field
+  -- the text that stands first in what is read of the field
   read_name : (n m room : ℕ) (out : List ℕ) → room + 24 ≡ name_end c.head → n ≡ min room 255 → m ≡ n → StandsIn x c → out ≡ slice_range x (c.at + 24) (c.at + 24 + m)
       → before_first is_nul out ≡ cell_name (cell_in x c)
   read_name n m room out fits is_min same stands read =
-      let named = is_named x size c is used stands in
+      let named = shows_name x size c is used stands in
       let field = length-field in
-      let front : out ≡ take n (field_of x c) =
-      read ∙ ap (λ j. slice_range x (c.at + 24) (c.at + 24 + j)) same ∙ sym (field_front x c n (omega (arith, fits, is_min))) in
-      ap (before_first is_nul) front
-      ∙ text_front n (field_of x c) (omega (arith, fits, is_min, named.short, named.within, field))
+      let prefix : out ≡ take n (field_of x c) =
+      read ∙ ap (λ j. slice_range x (c.at + 24) (c.at + 24 + j)) same ∙ sym (field_prefix x c n (omega (arith, fits, is_min))) in
+      ap (before_first is_nul) prefix
+      ∙ text_prefix n (field_of x c) (omega (arith, fits, is_min, named.short, named.within, field))
       ∙ sym named.name
 
   pub name_written : (r : Result ℕ FlashFault) (n m room : ℕ) (out rest : List ℕ) → room + 24 ≡ name_end c.head → n ≡ min room 255 → m ≡ n → StandsIn x c
@@ -100,15 +100,15 @@ module _ (x : List ℕ) (size : ℕ) (c : Cell) (is : IsCellIn size c) (used : i
       → IfOk r (λ s. s ≡ bytes_eq (cell_name (cell_in x c)) name)
   name_compared (Err e) room name fits shorter stands told = tt
   name_compared (Ok s) room name fits shorter stands told =
-      let named = is_named x size c is used stands in
+      let named = shows_name x size c is used stands in
       told
-      ∙ ap (λ l. bytes_eq (before_first is_nul l) name) (sym (field_front x c (length name + 1) (omega (arith, fits, shorter))))
+      ∙ ap (λ l. bytes_eq (before_first is_nul l) name) (sym (field_prefix x c (length name + 1) (omega (arith, fits, shorter))))
       ∙ text_is (field_of x c) name (length name + 1) (omega arith) named.within
       ∙ ap (λ t. bytes_eq t name) (sym named.name)
 
   pub name_too_long : (name : List ℕ) → (255 < length name) ⊎ (name_end c.head ≤ length name + 24) → StandsIn x c → false ≡ bytes_eq (cell_name (cell_in x c)) name
   name_too_long name long stands =
-      let named = is_named x size c is used stands in
+      let named = shows_name x size c is used stands in
       let field = length-field in
       text_is_not (field_of x c) name (longer long named.short (omega (arith, named.within, field))) ∙ ap (λ t. bytes_eq t name) (sym named.name)
     where
@@ -120,7 +120,7 @@ pub name_short : (r : Result ℕ FlashFault) (out : List ℕ) (most : ℕ) → I
 name_short (Err e) out most told le = tt
 name_short (Ok k) out most told le = omega (arith, told ∙ text_len out, text_most out, le)
 
--- a NUL shows in front of the end of what is read
+-- a NUL shows before the end of what is read
 pub nul_shown : (out all : List ℕ) (k : ℕ) → k ≡ length (before_first is_nul out) → out ≡ all → ltb k (length out) ≡ list_any is_nul all
 nul_shown out all k told read = ap (λ j. ltb j (length out)) (told ∙ text_len out) ∙ sym (any_len out) ∙ ap (list_any is_nul) read
 

@@ -11,7 +11,7 @@ use Rattle.cbfs_walk.specs.Cells as cells
 use Rattle.cbfs_walk.specs.Cells.{IsCellIn}
 
 pub record IsGood (left : ℕ) (h : Head) (span : ℕ) : Type 0 where
-  pub front : 24 ≤ h.offset
+  pub room : 24 ≤ h.offset
   pub fits : h.offset + h.len ≤ span
   pub inside : h.offset + h.len ≤ left
   pub positive : 64 ≤ span
@@ -23,11 +23,11 @@ pub record IsGood (left : ℕ) (h : Head) (span : ℕ) : Type 0 where
   pub attributes : is_free h ≡ false → h.attributes_offset ≤ h.offset
 
 pub placed_parts : (h : Head) → attributes_misplaced h ≡ false → 24 ≤ h.offset → (24 ≤ name_end h) × (name_end h ≤ h.offset) × (h.attributes_offset ≤ h.offset)
-placed_parts h e front = go (eqb h.attributes_offset 0) (ltb h.attributes_offset 25) refl refl e
+placed_parts h e room = go (eqb h.attributes_offset 0) (ltb h.attributes_offset 25) refl refl e
   where
     go : (none low : Bool) → eqb h.attributes_offset 0 ≡ none → ltb h.attributes_offset 25 ≡ low → (not none && (low || ltb h.offset h.attributes_offset)) ≡ false
         → (24 ≤ cond none h.offset h.attributes_offset) × (cond none h.offset h.attributes_offset ≤ h.offset) × (h.attributes_offset ≤ h.offset)
-    go true low a b p = let zero_is : h.attributes_offset ≡ 0 = grind (arith, a) in (front, omega arith, omega arith)
+    go true low a b p = let zero_is : h.attributes_offset ≡ 0 = grind (arith, a) in (room, omega arith, omega arith)
     go false true a b p = absurd cc
     go false false a b p = let high = ltb-false _ _ p in let low = ltb-false _ _ b in (omega (arith, low), high, high)
 
@@ -37,7 +37,7 @@ checks_give left h span ok =
     let some : 24 ≤ h.offset + h.len = omega (arith, k.front) in
     let r = rounds left (h.offset + h.len) some k.inside in
     rw k.span (record {
-      front = k.front;
+      room = k.front;
       fits = r.3;
       inside = k.inside;
       positive = r.0;

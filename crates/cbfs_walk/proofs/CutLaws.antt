@@ -1,7 +1,8 @@
 -- What a walk answers at a place, against the cut of the region.
-use Rattle.std.proofs.Common.{◌≡◌, ℕ, ◌+◌, ◌-◌, ◌<◌, ◌≤◌, Bool, true, false, cond, List, length, drop, Option, Some, None, Result, Ok, Err, refl, sym, ap, subst, ◌∙◌, arith, eqb, length-take, length-drop, not}
+use Rattle.std.proofs.Common.{◌≡◌, ℕ, ◌+◌, ◌-◌, ◌<◌, ◌≤◌, Bool, true, false, cond, List, length, drop, Option, Some, None, Result, Ok, Err, refl, sym, ap, subst, ◌∙◌, arith, eqb, length-take, length-drop, not, ◌&&◌}
 use Rattle.std.specs.Prelude.{slice_range, is_some}
 use Rattle.std.proofs.lemmas.List.{drop-drop}
+use Rattle.std.proofs.lemmas.Bool.{eqb-true}
 use Rattle.std.proofs.lemmas.Grind.{common_steps}
 use Rattle.flash_format.specs.declared.head.Head.{Head}
 use Rattle.flash_format.specs.declared.head.Extent.{Extent}
@@ -15,7 +16,8 @@ use Rattle.flash_format.proofs.CutSteps.{cell_is, cut_empty, cut_absent, cut_dam
 use Rattle.flash_format.proofs.Fronts.{head_of-take, range-take}
 use Rattle.flash_store.specs.Regions.{Range, bytes_in}
 use Rattle.cbfs_walk.specs.Cells.{IsCellIn, cell_in}
-use Rattle.cbfs_walk.specs.Walks.{Answer, has_bad_size, answer_at, answer_by, StandsIn}
+use Rattle.cbfs_walk.specs.Shapes.{has_bad_size, is_absent, refused_or}
+use Rattle.cbfs_walk.specs.Walks.{Answer, answer_at, answer_by, StandsIn}
 use Rattle.cbfs_walk.specs.Laws.{GoesOn, WalksFollowTheCut, CellsStandInTheirImage}
 use Rattle.cbfs_walk.specs.declared.cell.Cell.{Cell}
 use Rattle.cbfs_walk.specs.declared.walk.Step.TheVariants as steps
@@ -23,27 +25,41 @@ use Rattle.cbfs_walk.specs.declared.walk.WalkFault.TheVariants as walk
 use Rattle.cbfs_walk.proofs.Checks.{IsGood, checks_give, checked_extent}
 use Rattle.cbfs_walk.proofs.Parts.{range_is, range-drop, part-in, length-region}
 
+none_first : (at : ℕ) (e : Entry) → (eqb at 0 && is_absent e) ≡ true → (at ≡ 0) × (e ≡ absent)
+none_first at absent z = (eqb-true at 0 (go (eqb at 0) z), refl)
+  where
+    go : (b : Bool) → (b && true) ≡ true → b ≡ true
+    go true z = refl
+    go false z = z
+none_first at (damaged k) z = absurd (go (eqb at 0) z)
+  where
+    go : (b : Bool) → (b && false) ≡ true → ⊥
+    go true z = absurd cc
+    go false z = absurd cc
+none_first at (cell span) z = absurd (go (eqb at 0) z)
+  where
+    go : (b : Bool) → (b && false) ≡ true → ⊥
+    go true z = absurd cc
+    go false z = absurd cc
+
 pub walks_follow : WalksFollowTheCut
 unfolding answer_at
-walks_follow x at inside aligned = go (has_bad_size (length x)) (eqb (length (drop at x)) 0) refl refl
+walks_follow x at inside aligned = go (has_bad_size (length x)) (eqb at 0 && is_absent (entry x)) (eqb (length (drop at x)) 0) refl refl refl
   where
-    by_first : (b : Bool) → eqb at 0 ≡ b → 0 < length (drop at x) → entry (drop at x) ≡ absent → GoesOn x at (cond b (Err walk.NotCbfs) (Ok (steps.Tail at)))
-    by_first true z some is = let zero_is : at ≡ 0 = grind (arith, common_steps) in (zero_is, ap (λ n. entry (drop n x)) (sym zero_is) ∙ is)
-    by_first false z some is = (refl, cut_absent (drop at x) some is)
-
     by_entry : (e : Entry) → entry (drop at x) ≡ e → 0 < length (drop at x) → GoesOn x at (answer_by (drop at x) at e)
-    by_entry absent is some = by_first (eqb at 0) refl some is
+    by_entry absent is some = (refl, cut_absent (drop at x) some is)
     by_entry (damaged k) is some = (refl, cut_damaged (drop at x) k some is)
     by_entry (cell span) is some =
         (refl, cut_cell (drop at x) span some is ∙ ap (λ c. after c (cut (drop span (drop at x)))) (sym (range_is x at span)) ∙ ap (λ l. after (slice_range x at (at + span)) (cut l)) (drop-drop span at x))
 
-    go : (b n : Bool) → has_bad_size (length x) ≡ b → eqb (length (drop at x)) 0 ≡ n
-        → GoesOn x at (cond b (Err walk.RegionShape) (cond n (Ok steps.End) (answer_by (drop at x) at (entry (drop at x)))))
-    go true n e f = e
-    go false true e f =
+    go : (b m n : Bool) → has_bad_size (length x) ≡ b → (eqb at 0 && is_absent (entry x)) ≡ m → eqb (length (drop at x)) 0 ≡ n
+        → GoesOn x at (refused_or (λ fault. Err fault) (cond b (Some walk.RegionShape) (cond m (Some walk.NotCbfs) None)) (cond n (Ok steps.End) (answer_by (drop at x) at (entry (drop at x)))))
+    go true m n e z f = e
+    go false true n e z f = none_first at (entry x) z
+    go false false true e z f =
         let none : length (drop at x) ≡ 0 = grind (arith, common_steps) in
         (omega (arith, length-drop at x, inside), cut_empty (drop at x) none)
-    go false false e f = by_entry (entry (drop at x)) refl (grind (arith, common_steps))
+    go false false false e z f = by_entry (entry (drop at x)) refl (grind (arith, common_steps))
 
 -- ---- a cell that stands in a region
 
@@ -54,14 +70,10 @@ pub record Standing (x : List ℕ) (c : Cell) : Type 0 where
 
 pub standing : (x : List ℕ) (c : Cell) → StandsIn x c → Standing x c
 unfolding answer_at
-standing x c e = go (has_bad_size (length x)) (eqb (length (drop c.at x)) 0) refl e
+standing x c e = go (has_bad_size (length x)) (eqb c.at 0 && is_absent (entry x)) (eqb (length (drop c.at x)) 0) refl e
   where
-    first : (b : Bool) → (let a : Answer = cond b (Err walk.NotCbfs) (Ok (steps.Tail c.at)) in a ≡ Ok (steps.Cell c)) → Standing x c
-    first true p = absurd cc
-    first false p = absurd cc
-
     by_entry : (f : Entry) → entry (drop c.at x) ≡ f → 0 < length (drop c.at x) → answer_by (drop c.at x) c.at f ≡ Ok (steps.Cell c) → Standing x c
-    by_entry absent is some p = first (eqb c.at 0) p
+    by_entry absent is some p = absurd cc
     by_entry (damaged k) is some p = absurd cc
     by_entry (cell span) is some p =
         let same : (let d : Cell = record { at = c.at; head = head_of (drop c.at x); span = span } in d) ≡ c = cc in
@@ -71,11 +83,12 @@ standing x c e = go (has_bad_size (length x)) (eqb (length (drop c.at x)) 0) ref
           head = ap (λ (d : Cell). d.head) (sym same);
         }
 
-    go : (b n : Bool) → eqb (length (drop c.at x)) 0 ≡ n
-        → (let a : Answer = cond b (Err walk.RegionShape) (cond n (Ok steps.End) (answer_by (drop c.at x) c.at (entry (drop c.at x)))) in a ≡ Ok (steps.Cell c)) → Standing x c
-    go true n f p = absurd cc
-    go false true f p = absurd cc
-    go false false f p = by_entry (entry (drop c.at x)) refl (grind (arith, common_steps)) p
+    go : (b m n : Bool) → eqb (length (drop c.at x)) 0 ≡ n
+        → (let a : Answer = refused_or (λ fault. Err fault) (cond b (Some walk.RegionShape) (cond m (Some walk.NotCbfs) None)) (cond n (Ok steps.End) (answer_by (drop c.at x) c.at (entry (drop c.at x)))) in a ≡ Ok (steps.Cell c)) → Standing x c
+    go true m n f p = absurd cc
+    go false true n f p = absurd cc
+    go false false true f p = absurd cc
+    go false false false f p = by_entry (entry (drop c.at x)) refl (grind (arith, common_steps)) p
 
 -- the head of a cell is the one in its bytes
 pub cell_head : (x : List ℕ) (c : Cell) → Standing x c → 64 ≤ c.span → head_of (cell_in x c) ≡ c.head

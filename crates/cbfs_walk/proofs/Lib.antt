@@ -1,4 +1,5 @@
 pub mod Parts
+pub mod Reading
 pub mod Checks
 pub mod Answering
 pub mod Shapes

@@ -1,12 +1,12 @@
--- What a list of attributes has at its front, and how it goes on.
-use Rattle.std.proofs.Common.{◌≡◌, ℕ, ◌+◌, ◌-◌, ◌≤◌, min, Bool, true, false, cond, List, [], ◌∷◌, length, take, drop, Option, Some, None, refl, sym, ap, subst, ◌∙◌, arith, eqb, ltb}
+-- What a list of attributes has at its start, and how it goes on.
+use Rattle.std.proofs.Common.{◌≡◌, ℕ, ◌+◌, ◌-◌, ◌≤◌, min, Bool, true, false, cond, List, [], ◌∷◌, length, take, drop, Option, Some, None, Ok, Err, refl, sym, ap, subst, ◌∙◌, arith, eqb, ltb}
 use Rattle.std.specs.Prelude.{slice_range, is_some, unwrap_or}
 use Rattle.std.specs.Option.{option_map}
 use Rattle.std.proofs.lemmas.Bool.{le-ltb}
 use Rattle.flash_format.specs.declared.attribute.AttrHead.{AttrHead}
 use Rattle.flash_format.specs.declared.head.Head.{Head}
 use Rattle.flash_format.specs.Head.{head_of, is_free}
-use Rattle.flash_format.specs.Attributes.{Attribute, attribute, attributes, attr_head_of, ends_list, is_malformed, is_unused, has_bad_len}
+use Rattle.flash_format.specs.Attributes.{Attribute, attribute, attributes, attr_head_of, ends_list, is_malformed, is_unused, has_bad_len, least_len}
 use Rattle.flash_format.specs.Entry.{attribute_field, name_end}
 use Rattle.flash_format.specs.Components.{cell_attributes}
 use Rattle.flash_format.proofs.Fronts.{attr_head_of-take}
@@ -14,13 +14,13 @@ use Rattle.flash_format.proofs.AttributeSteps.{attribute_len, attributes_end, at
 use Rattle.flash_store.specs.Regions.{Range, LiesIn, bytes_in}
 use Rattle.cbfs_walk.specs.Cells.{cell_in}
 use Rattle.cbfs_walk.specs.Walks.{StandsIn}
-use Rattle.cbfs_walk.specs.AttrWalks.{AttrWalking, attr_walk_of, attributes_left, first_head, behind_first}
+use Rattle.cbfs_walk.specs.AttrWalks.{AttrWalking, AttrAnswer, attr_walk_of, attr_moved, attributes_left, first_head, after_first}
 use Rattle.cbfs_walk.specs.Listed.{listed_in}
 use Rattle.cbfs_walk.specs.declared.cell.Cell.{Cell}
 use Rattle.cbfs_walk.specs.declared.attribute_walk.Listed as declared
 use Rattle.cbfs_walk.specs.declared.attribute_walk.Listed.TheVariants.{End, Malformed}
 use Rattle.cbfs_walk.specs.declared.attribute_walk.Listed.TheVariants as listed
-use Rattle.cbfs_walk.proofs.Parts.{length-region, length-range, range-take, range-behind, range-drop}
+use Rattle.cbfs_walk.proofs.Parts.{length-region, length-range, range-take, range-after, range-drop}
 use Rattle.cbfs_walk.proofs.CutLaws.{standing, standing_good, cell_head, cell_part, component_whole}
 
 -- ---- what is read at a place
@@ -68,10 +68,11 @@ inverted_malformed true b k e = absurd cc
 inverted_malformed false true k e = (refl, refl)
 inverted_malformed false false k e = absurd cc
 
--- an attribute at the front, and the others behind it
+-- an attribute that stands first, and the others after it
 pub record Goes (y : List ℕ) (h : AttrHead) : Type 0 where
   pub head : h ≡ attr_head_of y
   pub least : 8 ≤ h.len
+  pub enough : least_len h.tag ≤ h.len
   pub inside : h.len ≤ length y
   pub all : attributes y ≡ option_map (λ others. attribute y ∷ others) (attributes (drop h.len y))
 
@@ -83,6 +84,7 @@ goes y h e =
     record {
       head = v.2;
       least = omega (arith, len.head, n);
+      enough = subst (λ (k : AttrHead). least_len k.tag ≤ k.len) (sym v.2) len.least;
       inside = omega (arith, len.inside, n);
       all = attributes_more y v.0 v.1 ∙ ap (λ k. option_map (λ others. attribute y ∷ others) (attributes (drop k y))) n;
     }
@@ -95,8 +97,8 @@ goes_malformed y e = let v = inverted_malformed (ends_list y) (is_malformed y) (
 
 -- where all attributes are well formed
 pub record GoesOn (y : List ℕ) (h : AttrHead) (all : List Attribute) : Type 0 where
-  pub first : all ≡ attribute y ∷ behind_first all
-  pub rest : attributes (drop h.len y) ≡ Some (behind_first all)
+  pub first : all ≡ attribute y ∷ after_first all
+  pub rest : attributes (drop h.len y) ≡ Some (after_first all)
 
 pub goes_on : (y : List ℕ) (h : AttrHead) (all : List Attribute) → Goes y h → attributes y ≡ Some all → GoesOn y h all
 goes_on y h all g e = go (attributes (drop h.len y)) refl (sym g.all ∙ e)
@@ -106,8 +108,8 @@ goes_on y h all g e = go (attributes (drop h.len y)) refl (sym g.all ∙ e)
     go (Some others) is p =
         let same : attribute y ∷ others ≡ all = cc in
         record {
-          first = sym same ∙ ap (λ (l : List Attribute). attribute y ∷ behind_first l) same;
-          rest = is ∙ ap (λ (l : List Attribute). Some (behind_first l)) same;
+          first = sym same ∙ ap (λ (l : List Attribute). attribute y ∷ after_first l) same;
+          rest = is ∙ ap (λ (l : List Attribute). Some (after_first l)) same;
         }
 
 pub goes_head : (y : List ℕ) (h : AttrHead) (all : List Attribute) → Goes y h → attributes y ≡ Some all → Some h ≡ first_head all
@@ -158,10 +160,10 @@ walk_all x c stands used =
     ap (λ n. attributes (slice_range x (c.at + n) (c.at + c.head.offset))) {x = min (name_end c.head) c.head.offset} {y = name_end c.head} (omega (arith, high))
     ∙ listed_all x c stands used
 
--- what a walk that stood at a place gives, and what is left behind it
+-- what a walk that stood at a place gives, and what is left after it
 abbrev pub GivesListed : List ℕ → Cell → ℕ → List Attribute → declared.Listed → Type 0
-GivesListed x k a all (listed.Attribute h) = (Some h ≡ first_head all) × (attributes_left x (record { cell = k; at = a + h.len }) ≡ Some (behind_first all))
-GivesListed x k a all End = (None ≡ first_head all) × (attributes_left x (record { cell = k; at = k.head.offset }) ≡ Some (behind_first all))
+GivesListed x k a all (listed.Attribute h) = (Some h ≡ first_head all) × (attributes_left x (record { cell = k; at = a + h.len }) ≡ Some (after_first all))
+GivesListed x k a all End = (None ≡ first_head all) × (attributes_left x (record { cell = k; at = k.head.offset }) ≡ Some (after_first all))
 GivesListed x k a all Malformed = ⊥
 
 stepped : (x : List ℕ) (k : Cell) (a p q : ℕ) (w : AttrWalking) (l : declared.Listed) → w ≡ record { cell = k; at = a } → p ≡ k.at + a → q ≡ k.at + k.head.offset → q ≤ length x
@@ -182,12 +184,12 @@ stepped x k a p q w l view from to inside is all left = go l is
           goes_head (slice_range x p q) h all g here,
           ap (λ n. attributes (slice_range x n (k.at + k.head.offset))) {x = k.at + (a + h.len)} {y = p + h.len} (omega (arith, from))
               ∙ ap (λ n. attributes (slice_range x (p + h.len) n)) (sym to)
-              ∙ ap (λ y. attributes y) (sym (range-behind x p q h.len fits))
+              ∙ ap (λ y. attributes y) (sym (range-after x p q h.len fits))
               ∙ on.rest,
         )
     go End is =
         let none : all ≡ [] = goes_none (slice_range x p q) all (goes_end (slice_range x p q) is) here in
-        (ap first_head (sym none), none_left ∙ ap (λ (l : List Attribute). Some (behind_first l)) (sym none))
+        (ap first_head (sym none), none_left ∙ ap (λ (l : List Attribute). Some (after_first l)) (sym none))
     go Malformed is = let e : (let o : Option (List Attribute) = None in o) ≡ Some all = sym (goes_malformed (slice_range x p q) is) ∙ here in absurd cc
 
 pub walk_step : (r : Range) (image : List ℕ) (k : Cell) (a p q : ℕ) (w : AttrWalking) (l : declared.Listed) → LiesIn r image → w.cell.at + w.cell.head.offset ≤ r.size → w ≡ record { cell = k; at = a }
@@ -196,3 +198,8 @@ pub walk_step : (r : Range) (image : List ℕ) (k : Cell) (a p q : ℕ) (w : Att
 walk_step r image k a p q w l lies inside view from to is all left =
     let fits : k.at + k.head.offset ≤ r.size = subst (λ (v : AttrWalking). v.cell.at + v.cell.head.offset ≤ r.size) view inside in
     stepped (bytes_in r image) k a p q w l view from to (omega (arith, to, fits, length-region r image lies)) is all left
+
+pub attr_moved-cell : (w : AttrWalking) (a : AttrAnswer) → (attr_moved w a).cell ≡ w.cell
+attr_moved-cell w (Ok (Some h)) = refl
+attr_moved-cell w (Ok None) = refl
+attr_moved-cell w (Err fault) = refl

@@ -40,8 +40,8 @@ range-drop x at a b =
 pub range-take : (x : List ℕ) (a b n : ℕ) → a + n ≤ b → take n (slice_range x a b) ≡ slice_range x a (a + n)
 range-take x a b n le = take-take n (b - a) (drop a x) (omega arith) ∙ sym (range_is x a n)
 
-pub range-behind : (x : List ℕ) (a b n : ℕ) → a + n ≤ b → drop n (slice_range x a b) ≡ slice_range x (a + n) b
-range-behind x a b n le =
+pub range-after : (x : List ℕ) (a b n : ℕ) → a + n ≤ b → drop n (slice_range x a b) ≡ slice_range x (a + n) b
+range-after x a b n le =
     let size : b - a ≡ n + (b - (a + n)) = omega arith in
     ap (λ k. drop n (take k (drop a x))) size ∙ drop-take n (b - (a + n)) (drop a x) ∙ ap (take (b - (a + n))) (drop-drop n a x)
 

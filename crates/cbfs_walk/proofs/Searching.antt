@@ -1,5 +1,5 @@
 -- The search for a component, from cell to cell.
-use Rattle.std.proofs.Common.{◌≡◌, ℕ, ◌+◌, ◌*◌, ◌/◌, ◌%◌, ◌≤◌, Bool, true, false, cond, not, ◌&&◌, ◌⊎◌, inl, inr, IsTrue, List, ◌∷◌, length, Option, Some, None, Result, Ok, Err, refl, sym, ap, ◌∙◌, arith}
+use Rattle.std.proofs.Common.{◌≡◌, ℕ, ◌+◌, ◌/◌, ◌%◌, ◌≤◌, Bool, true, false, cond, not, ◌&&◌, ◌⊎◌, inl, inr, IsTrue, List, ◌∷◌, length, Option, Some, None, Result, Ok, Err, refl, sym, ap, ◌∙◌, arith}
 use Rattle.std.specs.Prelude.{IsErrOf}
 use Rattle.std.specs.Str.{bytes_eq}
 use Rattle.flash_format.specs.declared.head.Head.{Head}
@@ -7,11 +7,12 @@ use Rattle.flash_format.specs.Head.{head_of, is_free}
 use Rattle.flash_format.specs.Cut.{Cut}
 use Rattle.flash_format.specs.Components.{Component, cell_name, component_at, components_from}
 use Rattle.flash_store.specs.Device.{Device}
-use Rattle.flash_store.specs.Device.{Reads}
+use Rattle.flash_store.specs.Pages.{Pages, HasRead}
 use Rattle.flash_store.specs.Regions.{Range, LiesIn, bytes_in}
+use Rattle.cbfs_walk.specs.Passing.{reads_over}
 use Rattle.cbfs_walk.specs.Cells.{IsCellIn, cell_in}
 use Rattle.cbfs_walk.specs.Walks.{Answer, Walking, walk_of, answer_at, StandsIn}
-use Rattle.cbfs_walk.specs.Shaped.{shaped, ReadsCells, by_answer, place_behind}
+use Rattle.cbfs_walk.specs.Shaped.{shaped, ReadsCells, by_answer, place_after}
 use Rattle.cbfs_walk.specs.Finding.{Found, first_named, not_found, found_or, component_in, found_cell, find_in}
 use Rattle.cbfs_walk.specs.declared.cell.Cell.{Cell}
 use Rattle.cbfs_walk.specs.declared.walk.Step.{Step}
@@ -19,6 +20,7 @@ use Rattle.cbfs_walk.specs.declared.walk.Step.TheVariants as steps
 use Rattle.cbfs_walk.specs.declared.walk.WalkFault.{WalkFault}
 use Rattle.cbfs_walk.specs.declared.walk.WalkFault.TheVariants as faults
 use Rattle.flash_store.proofs.DeviceLemmas.{honest_still}
+use Rattle.flash_store.proofs.WindowLemmas.{HasRead-none, HasRead-then, HasRead-within}
 use Rattle.cbfs_walk.proofs.Parts.{length-region}
 use Rattle.cbfs_walk.proofs.CutLaws.{standing, cell_head, cell_len}
 use Rattle.cbfs_walk.proofs.Shapes.{shaped_step}
@@ -28,11 +30,11 @@ refused fault = Err fault
 
 -- the first component of a name among the cells of a cut, of which the first stands at a place
 find_cut : List ℕ → ℕ → Cut → Found
-find_cut name at k = found_or (first_named name (components_from at k.cells)) (not_found (place_behind at k.cells) k.end)
+find_cut name at k = found_or (first_named name (components_from at k.cells)) (not_found (place_after at k.cells) k.end)
 
 -- a cell is the component, or the search goes on
 each_cell : List ℕ → List ℕ → Cell → Found → Found
-each_cell name c given behind = cond (not (is_free given.head) && bytes_eq (cell_name c) name) (Ok (Some (component_at given.at c))) behind
+each_cell name c given later = cond (not (is_free given.head) && bytes_eq (cell_name c) name) (Ok (Some (component_at given.at c))) later
 
 -- the search from a place on
 pub found_from : List ℕ → List ℕ → ℕ → Found
@@ -46,7 +48,7 @@ law name at c k = go (is_free (head_of c))
     others = components_from (at + length c) k.cells
 
     otherwise : Found
-    otherwise = not_found (place_behind (at + length c) k.cells) k.end
+    otherwise = not_found (place_after (at + length c) k.cells) k.end
 
     named : (b : Bool) → found_or (cond b (Some (component_at at c)) (first_named name others)) otherwise ≡ cond b (Ok (Some (component_at at c))) (found_or (first_named name others) otherwise)
     named true = refl
@@ -72,32 +74,22 @@ found_step x name at inside aligned = shaped_step refused (find_cut name) (each_
 -- ---- a loop that searches
 
 -- no cell before the walk's place is the component
-pub record Searching (r : Range) (name : List ℕ) (w : Walking) (old now : Device) : Type 0 where
+pub record Searching {F : Type 0} (facts : F → Device) (r : Range) (name : List ℕ) (w : Walking) (old now : Pages F) : Type 0 where
   pub region : w.region ≡ r
   pub going : w.ended ≡ None
   pub inside : w.at ≤ r.size
   pub aligned : w.at % 64 ≡ 0
-  pub no_fewer : old.calls ≤ now.calls
-  pub few : 4 * now.calls ≤ 4 * old.calls + w.at
-  pub faults : old.faults ≤ now.faults
-  pub same_honesty : now.honest ≡ old.honest
-  pub same_length : length now.content ≡ length old.content
-  pub unchanged : IsTrue old.honest → now.content ≡ old.content
-  pub behind : IsTrue old.honest → component_in (bytes_in r old.content) name ≡ found_from (bytes_in r old.content) name w.at
+  pub read : HasRead facts (w.at / 16) old now
+  pub so_far : IsTrue (facts old.device).honest → component_in (bytes_in r (facts old.device).content) name ≡ found_from (bytes_in r (facts old.device).content) name w.at
 
-pub searching_start : (r : Range) (name : List ℕ) (old : Device) → Searching r name (walk_of r) old old
-searching_start r name old = record {
+pub searching_start : {F : Type 0} (facts : F → Device) (r : Range) (name : List ℕ) (old : Pages F) → Searching facts r name (walk_of r) old old
+searching_start facts r name old = record {
   region = refl;
   going = refl;
   inside = omega arith;
   aligned = refl;
-  no_fewer = omega arith;
-  few = omega arith;
-  faults = omega arith;
-  same_honesty = refl;
-  same_length = refl;
-  unchanged = λ h. refl;
-  behind = λ h. found_whole (bytes_in r old.content) name;
+  read = HasRead-within facts 0 (0 / 16) old old (omega arith) (HasRead-none facts old);
+  so_far = λ h. found_whole (bytes_in r (facts old.device).content) name;
 }
 
 -- a step is no fault of the device
@@ -108,62 +100,57 @@ told_step s b (inr e) = e
 cell_is : (at span : ℕ) (h k : Head) (n : ℕ) → h ≡ k → n ≡ span → (let a : Cell = record { at = at; head = h; span = n } in a) ≡ record { at = at; head = k; span = span }
 cell_is at span h k n e f = ap (λ (j : Head). let a : Cell = record { at = at; head = j; span = n } in a) e ∙ ap (λ m. let a : Cell = record { at = at; head = k; span = m } in a) f
 
-module _ (r : Range) (name : List ℕ) (w : Walking) (old now : Device) (lies : LiesIn r old.content) (s : Searching r name w old now) where
+module _ {F : Type 0} (facts : F → Device) (r : Range) (name : List ℕ) (w : Walking) (old now : Pages F) (lies : LiesIn r (facts old.device).content) (s : Searching facts r name w old now) where
   -- an answer of the walk, at the place where it stands
-  answered : (a : Answer) → IsTrue old.honest → a ≡ answer_at (bytes_in w.region now.content) w.at
-      → (a ≡ answer_at (bytes_in r old.content) w.at) × (component_in (bytes_in r old.content) name ≡ found_by (bytes_in r old.content) name a)
+  answered : (a : Answer) → IsTrue (facts old.device).honest → a ≡ answer_at (bytes_in w.region (facts now.device).content) w.at
+      → (a ≡ answer_at (bytes_in r (facts old.device).content) w.at) × (component_in (bytes_in r (facts old.device).content) name ≡ found_by (bytes_in r (facts old.device).content) name a)
   answered a h is =
-      let x = bytes_in r old.content in
-      let len : length x ≡ r.size = length-region r old.content lies in
-      let here : a ≡ answer_at x w.at = is ∙ ap (λ (k : Range). answer_at (bytes_in k now.content) w.at) s.region ∙ ap (λ l. answer_at (bytes_in r l) w.at) (s.unchanged h) in
-      (here, s.behind h ∙ found_step x name w.at (omega (arith, len, s.inside)) s.aligned ∙ ap (found_by x name) (sym here))
+      let x = bytes_in r (facts old.device).content in
+      let len : length x ≡ r.size = length-region r (facts old.device).content lies in
+      let here : a ≡ answer_at x w.at = is ∙ ap (λ (k : Range). answer_at (bytes_in k (facts now.device).content) w.at) s.region ∙ ap (λ l. answer_at (bytes_in r l) w.at) (s.read.device.unchanged h) in
+      (here, s.so_far h ∙ found_step x name w.at (omega (arith, len, s.inside)) s.aligned ∙ ap (found_by x name) (sym here))
 
   -- the walk gave a cell, and the test says whether it is the component
-  module _ (c : Cell) (mid : Device) (n : ℕ) (is_it : Bool) (given : IsCellIn w.region.size c × (c.at ≡ w.at)) (reads : Reads n now mid)
-      (answer : IsTrue now.honest → w.ended ≡ None → (let a : Answer = Ok (steps.Cell c) in IsErrOf a faults.Device ⊎ (a ≡ answer_at (bytes_in w.region now.content) w.at)))
-      (test : IsTrue mid.honest → StandsIn (bytes_in r mid.content) c → is_it ≡ (not (is_free c.head) && bytes_eq (cell_name (cell_in (bytes_in r mid.content) c)) name)) where
+  module _ (c : Cell) (mid : Pages F) (n : ℕ) (is_it : Bool) (given : IsCellIn w.region.size c × (c.at ≡ w.at)) (reads : HasRead facts n now mid)
+      (answer : IsTrue (facts now.device).honest → w.ended ≡ None → (let a : Answer = Ok (steps.Cell c) in IsErrOf a faults.Device ⊎ (a ≡ answer_at (bytes_in w.region (facts now.device).content) w.at)))
+      (test : IsTrue (facts mid.device).honest → StandsIn (bytes_in r (facts mid.device).content) c → is_it ≡ (not (is_free c.head) && bytes_eq (cell_name (cell_in (bytes_in r (facts mid.device).content) c)) name)) where
     cell_of_region : IsCellIn r.size c
     cell_of_region = rw s.region at given.0
 
-    stands : IsTrue old.honest → StandsIn (bytes_in r old.content) c
-    stands h = ap (answer_at (bytes_in r old.content)) given.1 ∙ sym (answered (Ok (steps.Cell c)) h (told_step _ _ (answer (honest_still s.same_honesty h) s.going))).0
+    stands : IsTrue (facts old.device).honest → StandsIn (bytes_in r (facts old.device).content) c
+    stands h = ap (answer_at (bytes_in r (facts old.device).content)) given.1 ∙ sym (answered (Ok (steps.Cell c)) h (told_step _ _ (answer (honest_still s.read.device.calls.same_honesty h) s.going))).0
 
-    tested : IsTrue old.honest → component_in (bytes_in r old.content) name
-        ≡ cond is_it (Ok (Some (component_at c.at (cell_in (bytes_in r old.content) c)))) (found_from (bytes_in r old.content) name (c.at + c.span))
+    tested : IsTrue (facts old.device).honest → component_in (bytes_in r (facts old.device).content) name
+        ≡ cond is_it (Ok (Some (component_at c.at (cell_in (bytes_in r (facts old.device).content) c)))) (found_from (bytes_in r (facts old.device).content) name (c.at + c.span))
     unfolding found_by each_cell found_from
     tested h =
-        let x = bytes_in r old.content in
-        let k = honest_still s.same_honesty h in
-        let same : mid.content ≡ old.content = reads.unchanged k ∙ s.unchanged h in
-        let told = rw same at (test (honest_still reads.calls.same_honesty k)) in
+        let x = bytes_in r (facts old.device).content in
+        let k = honest_still s.read.device.calls.same_honesty h in
+        let same : (facts mid.device).content ≡ (facts old.device).content = reads.device.unchanged k ∙ s.read.device.unchanged h in
+        let told = rw same at (test (honest_still reads.device.calls.same_honesty k)) in
         (answered (Ok (steps.Cell c)) h (told_step _ _ (answer k s.going))).1
         ∙ ap (λ b. cond b (Ok (Some (component_at c.at (cell_in x c)))) (found_from x name (c.at + c.span))) (sym (told (stands h)))
 
-    pub found_first : is_it ≡ true → IsTrue old.honest → component_in (bytes_in r old.content) name ≡ Ok (Some (component_at c.at (cell_in (bytes_in r old.content) c)))
-    found_first e h = tested h ∙ ap (λ b. cond b (Ok (Some (component_at c.at (cell_in (bytes_in r old.content) c)))) (found_from (bytes_in r old.content) name (c.at + c.span))) e
+    pub found_first : is_it ≡ true → IsTrue (facts old.device).honest → component_in (bytes_in r (facts old.device).content) name ≡ Ok (Some (component_at c.at (cell_in (bytes_in r (facts old.device).content) c)))
+    found_first e h = tested h ∙ ap (λ b. cond b (Ok (Some (component_at c.at (cell_in (bytes_in r (facts old.device).content) c)))) (found_from (bytes_in r (facts old.device).content) name (c.at + c.span))) e
 
-    pub found_answer : is_it ≡ true → IsTrue old.honest → Ok (Some c) ≡ find_in (bytes_in r old.content) name
+    pub found_answer : is_it ≡ true → IsTrue (facts old.device).honest → Ok (Some c) ≡ find_in (bytes_in r (facts old.device).content) name
     found_answer e h =
-        let x = bytes_in r old.content in
-        let len : length x ≡ r.size = length-region r old.content lies in
+        let x = bytes_in r (facts old.device).content in
+        let len : length x ≡ r.size = length-region r (facts old.device).content lies in
         let head = cell_head x c (standing x c (stands h)) given.0.positive in
         let span = cell_len x r.size c len cell_of_region in
         sym (ap found_cell (found_first e h) ∙ ap (λ (d : Cell). Ok (Some d)) (cell_is c.at c.span (head_of (cell_in x c)) c.head (length (cell_in x c)) head span))
 
-    pub searching_more : (v : Walking) (new : Device) → is_it ≡ false → v ≡ record w { at = w.at + c.span; steps = w.steps + 1 } → n ≡ 2 + c.span / 8 → Reads 1 mid new → Searching r name v old new
+    pub searching_more : (v : Walking) (new : Pages F) → is_it ≡ false → v ≡ record w { at = w.at + c.span; steps = w.steps + 1 } → n ≡ reads_over c.span → HasRead facts 1 mid new → Searching facts r name v old new
     searching_more v new e moved few more = rw moved (record {
       region = s.region;
       going = s.going;
       inside = omega (arith, cell_of_region.inside, given.1);
       aligned = omega (arith, s.aligned, given.0.whole);
-      no_fewer = omega (arith, s.no_fewer, reads.calls.no_fewer, more.calls.no_fewer);
-      few = omega (arith, s.few, reads.calls.no_more, more.calls.no_more, few, given.0.positive);
-      faults = omega (arith, s.faults, reads.calls.faults, more.calls.faults);
-      same_honesty = more.calls.same_honesty ∙ reads.calls.same_honesty ∙ s.same_honesty;
-      same_length = more.calls.same_length ∙ reads.calls.same_length ∙ s.same_length;
-      unchanged = λ h. more.unchanged (honest_still reads.calls.same_honesty (honest_still s.same_honesty h)) ∙ reads.unchanged (honest_still s.same_honesty h) ∙ s.unchanged h;
-      behind = λ h.
-          let x = bytes_in r old.content in
+      read = HasRead-within facts (w.at / 16 + (n + 1)) ((w.at + c.span) / 16) old new (omega (arith, few, given.0.positive)) (HasRead-then facts (w.at / 16) (n + 1) old now new s.read (HasRead-then facts n 1 now mid new reads more));
+      so_far = λ h.
+          let x = bytes_in r (facts old.device).content in
           tested h
           ∙ ap (λ b. cond b (Ok (Some (component_at c.at (cell_in x c)))) (found_from x name (c.at + c.span))) e
           ∙ ap (λ q. found_from x name (q + c.span)) given.1;
@@ -171,28 +158,28 @@ module _ (r : Range) (name : List ℕ) (w : Walking) (old now : Device) (lies : 
 
   -- ---- the walk ended
 
-  pub searching_end : (answer : IsTrue now.honest → w.ended ≡ None → (let a : Answer = Ok steps.End in IsErrOf a faults.Device ⊎ (a ≡ answer_at (bytes_in w.region now.content) w.at)))
-      → IsTrue old.honest → Ok None ≡ find_in (bytes_in r old.content) name
+  pub searching_end : (answer : IsTrue (facts now.device).honest → w.ended ≡ None → (let a : Answer = Ok steps.End in IsErrOf a faults.Device ⊎ (a ≡ answer_at (bytes_in w.region (facts now.device).content) w.at)))
+      → IsTrue (facts old.device).honest → Ok None ≡ find_in (bytes_in r (facts old.device).content) name
   unfolding found_by find_cut components_from
-  searching_end answer h = sym (ap found_cell (answered (Ok steps.End) h (told_step _ _ (answer (honest_still s.same_honesty h) s.going))).1)
+  searching_end answer h = sym (ap found_cell (answered (Ok steps.End) h (told_step _ _ (answer (honest_still s.read.device.calls.same_honesty h) s.going))).1)
 
-  pub searching_tail : (at : ℕ) → (answer : IsTrue now.honest → w.ended ≡ None → (let a : Answer = Ok (steps.Tail at) in IsErrOf a faults.Device ⊎ (a ≡ answer_at (bytes_in w.region now.content) w.at)))
-      → IsTrue old.honest → Ok None ≡ find_in (bytes_in r old.content) name
+  pub searching_tail : (at : ℕ) → (answer : IsTrue (facts now.device).honest → w.ended ≡ None → (let a : Answer = Ok (steps.Tail at) in IsErrOf a faults.Device ⊎ (a ≡ answer_at (bytes_in w.region (facts now.device).content) w.at)))
+      → IsTrue (facts old.device).honest → Ok None ≡ find_in (bytes_in r (facts old.device).content) name
   unfolding found_by find_cut components_from
-  searching_tail at answer h = sym (ap found_cell (answered (Ok (steps.Tail at)) h (told_step _ _ (answer (honest_still s.same_honesty h) s.going))).1)
+  searching_tail at answer h = sym (ap found_cell (answered (Ok (steps.Tail at)) h (told_step _ _ (answer (honest_still s.read.device.calls.same_honesty h) s.going))).1)
 
-  refusal : (fault : WalkFault) → found_cell (found_by (bytes_in r old.content) name (Err fault)) ≡ Err fault
+  refusal : (fault : WalkFault) → found_cell (found_by (bytes_in r (facts old.device).content) name (Err fault)) ≡ Err fault
   unfolding found_by find_cut components_from refused
   refusal faults.Device = refl
   refusal faults.RegionShape = refl
   refusal faults.NotCbfs = refl
   refusal (faults.Damaged at kind) = refl
 
-  pub searching_err : (fault : WalkFault) → (answer : IsTrue now.honest → w.ended ≡ None → (let a : Answer = Err fault in IsErrOf a faults.Device ⊎ (a ≡ answer_at (bytes_in w.region now.content) w.at)))
-      → IsTrue old.honest → (let a : Result (Option Cell) WalkFault = Err fault in IsErrOf a faults.Device ⊎ (a ≡ find_in (bytes_in r old.content) name))
-  searching_err fault answer h = go (answer (honest_still s.same_honesty h) s.going)
+  pub searching_err : (fault : WalkFault) → (answer : IsTrue (facts now.device).honest → w.ended ≡ None → (let a : Answer = Err fault in IsErrOf a faults.Device ⊎ (a ≡ answer_at (bytes_in w.region (facts now.device).content) w.at)))
+      → IsTrue (facts old.device).honest → (let a : Result (Option Cell) WalkFault = Err fault in IsErrOf a faults.Device ⊎ (a ≡ find_in (bytes_in r (facts old.device).content) name))
+  searching_err fault answer h = go (answer (honest_still s.read.device.calls.same_honesty h) s.going)
     where
-      go : (let a : Answer = Err fault in IsErrOf a faults.Device ⊎ (a ≡ answer_at (bytes_in w.region now.content) w.at))
-          → (let a : Result (Option Cell) WalkFault = Err fault in IsErrOf a faults.Device ⊎ (a ≡ find_in (bytes_in r old.content) name))
+      go : (let a : Answer = Err fault in IsErrOf a faults.Device ⊎ (a ≡ answer_at (bytes_in w.region (facts now.device).content) w.at))
+          → (let a : Result (Option Cell) WalkFault = Err fault in IsErrOf a faults.Device ⊎ (a ≡ find_in (bytes_in r (facts old.device).content) name))
       go (inl device) = let is : fault ≡ faults.Device = cc in inl (ap (λ (f : WalkFault). Err f) is)
       go (inr is) = inr (sym (ap found_cell (answered (Err fault) h is).1 ∙ refusal fault))

@@ -21,10 +21,10 @@ any_len (b ∷ x) = go (is_nul b) (any_len x)
     go true e = sym (lt-ltb _ _ (omega arith))
     go false e = e ∙ next (cases_lt _ _)
 
-len_front : (k : ℕ) (x : List ℕ) → position_or_len is_nul (take k x) ≡ min (position_or_len is_nul x) k
-len_front zero x = omega arith
-len_front (suc k) [] = omega arith
-len_front (suc k) (b ∷ x) = go (is_nul b) (len_front k x)
+len_prefix : (k : ℕ) (x : List ℕ) → position_or_len is_nul (take k x) ≡ min (position_or_len is_nul x) k
+len_prefix zero x = omega arith
+len_prefix (suc k) [] = omega arith
+len_prefix (suc k) (b ∷ x) = go (is_nul b) (len_prefix k x)
   where
     go : (nul : Bool) → position_or_len is_nul (take k x) ≡ min (position_or_len is_nul x) k
         → cond (not nul) (1 + position_or_len is_nul (take k x)) 0 ≡ min (cond (not nul) (1 + position_or_len is_nul x) 0) (suc k)
@@ -37,18 +37,18 @@ text_len x = length-prefix_len (λ b. not (is_nul b)) x
 pub text_most : (x : List ℕ) → position_or_len is_nul x ≤ length x
 text_most x = prefix_len-le-length (λ b. not (is_nul b)) x
 
--- a NUL among the first bytes stands behind fewer
+-- a NUL among the first bytes stands after fewer
 pub text_within : (k : ℕ) (x : List ℕ) → list_any is_nul (take k x) ≡ true → (position_or_len is_nul x < k) × (position_or_len is_nul x < length x)
 text_within k x e =
     let some : position_or_len is_nul (take k x) < length (take k x) = ltb-true _ _ (sym (any_len (take k x)) ∙ e) in
-    let n = len_front k x in
+    let n = len_prefix k x in
     let m = length-take k x in
     (omega (arith, some, n, m), omega (arith, some, n, m))
 
 -- the text is read alike from enough of the first bytes
-pub text_front : (k : ℕ) (x : List ℕ) → position_or_len is_nul x ≤ k → before_first is_nul (take k x) ≡ before_first is_nul x
-text_front k x le =
-    ap (λ n. take n (take k x)) {x = position_or_len is_nul (take k x)} {y = position_or_len is_nul x} (omega (arith, len_front k x, le))
+pub text_prefix : (k : ℕ) (x : List ℕ) → position_or_len is_nul x ≤ k → before_first is_nul (take k x) ≡ before_first is_nul x
+text_prefix k x le =
+    ap (λ n. take n (take k x)) {x = position_or_len is_nul (take k x)} {y = position_or_len is_nul x} (omega (arith, len_prefix k x, le))
     ∙ take-take (position_or_len is_nul x) k x le
 
 -- two texts of different lengths are no equals
@@ -61,10 +61,10 @@ text_is x name k lt some = go (cases_lt k (position_or_len is_nul x))
   where
     go : (k < position_or_len is_nul x) ⊎ (position_or_len is_nul x ≤ k) → bytes_eq (before_first is_nul (take k x)) name ≡ bytes_eq (before_first is_nul x) name
     go (inl more) =
-        let front : length (before_first is_nul (take k x)) ≡ k = text_len (take k x) ∙ omega (arith, len_front k x, more) in
+        let prefix : length (before_first is_nul (take k x)) ≡ k = text_len (take k x) ∙ omega (arith, len_prefix k x, more) in
         let all = text_len x in
-        texts_differ _ name (λ e. omega (arith, e, front, lt)) ∙ sym (texts_differ _ name (λ e. omega (arith, e, all, more, lt)))
-    go (inr less) = ap (λ t. bytes_eq t name) (text_front k x less)
+        texts_differ _ name (λ e. omega (arith, e, prefix, lt)) ∙ sym (texts_differ _ name (λ e. omega (arith, e, all, more, lt)))
+    go (inr less) = ap (λ t. bytes_eq t name) (text_prefix k x less)
 
 -- a text is shorter than a name that has no room
 pub text_is_not : (x name : List ℕ) → position_or_len is_nul x < length name → false ≡ bytes_eq (before_first is_nul x) name

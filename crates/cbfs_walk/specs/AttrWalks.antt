@@ -11,7 +11,7 @@ pub record AttrWalking : Type 0 where
   pub cell : Cell
   pub at : ℕ
 
--- the attributes begin behind the name, and never behind the content's begin
+-- the attributes begin after the name, and never after the content's begin
 abbrev pub attr_walk_of : Cell → AttrWalking
 attr_walk_of c = record { cell = c; at = min (name_end c.head) c.head.offset }
 
@@ -31,7 +31,7 @@ pub record IsAttrIn (at end : ℕ) (h : AttrHead) : Type 0 where
   pub least : least_len h.tag ≤ h.len
   pub inside : at + h.len ≤ end
 
--- one read, and none where fewer than eight bytes are left
+-- one call at most, and none where fewer than eight bytes are left
 abbrev pub attr_reads : AttrWalking → ℕ
 attr_reads w = min 1 ((w.cell.head.offset - w.at) / 8)
 
@@ -47,6 +47,6 @@ abbrev pub first_head : List Attribute → Option AttrHead
 first_head [] = None
 first_head (a ∷ others) = Some (head_of_attribute a)
 
-abbrev pub behind_first : List Attribute → List Attribute
-behind_first [] = []
-behind_first (a ∷ others) = others
+abbrev pub after_first : List Attribute → List Attribute
+after_first [] = []
+after_first (a ∷ others) = others

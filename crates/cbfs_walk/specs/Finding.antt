@@ -1,13 +1,12 @@
 -- The search for the component of a name.
-use Rattle.std.specs.Prelude.{ℕ, ◌+◌, ◌/◌, List, length, Option, Some, None, Result, Ok, Err, if◌then◌else◌}
+use Rattle.std.specs.Prelude.{ℕ, ◌+◌, ◌/◌, List, length, Option, Some, None, Result, Ok, Err}
 use Rattle.std.specs.List.{find}
 use Rattle.std.specs.Str.{bytes_eq}
 use Rattle.flash_format.specs.Head.{head_of}
-use Rattle.flash_format.specs.Entry.{entry}
 use Rattle.flash_format.specs.Cut.{End, complete, tail, damage, cut}
 use Rattle.flash_format.specs.Components.{Component, components}
-use Rattle.cbfs_walk.specs.Walks.{has_bad_size}
-use Rattle.cbfs_walk.specs.Shaped.{is_absent, place_behind}
+use Rattle.cbfs_walk.specs.Shapes.{shape, refused_or}
+use Rattle.cbfs_walk.specs.Shaped.{place_after}
 use Rattle.cbfs_walk.specs.declared.cell.Cell.{Cell}
 use Rattle.cbfs_walk.specs.declared.walk.WalkFault.{WalkFault}
 use Rattle.cbfs_walk.specs.declared.walk.WalkFault.TheVariants as faults
@@ -32,9 +31,8 @@ found_or (Some c) otherwise = Ok (Some c)
 -- the first component of a name in a region of these bytes, or else how its cells end
 unfoldable pub component_in : List ℕ → List ℕ → Found
 component_in x name =
-    if has_bad_size (length x) then Err faults.RegionShape
-    else if is_absent (entry x) then Err faults.NotCbfs
-    else found_or (first_named name (components x)) (not_found (place_behind 0 (cut x).cells) (cut x).end)
+    refused_or (λ fault. Err fault) (shape x)
+    (found_or (first_named name (components x)) (not_found (place_after 0 (cut x).cells) (cut x).end))
 
 -- the cell of a component, as a walk gives it
 abbrev pub cell_of : Component → Cell
@@ -49,8 +47,8 @@ found_cell (Ok (Some c)) = Ok (Some (cell_of c))
 abbrev pub find_in : List ℕ → List ℕ → Result (Option Cell) WalkFault
 find_in x name = found_cell (component_in x name)
 
--- how many reads a search of a region of this size makes at most; it goes no further than the component
+-- how many calls a search of a region of this size makes at most; it goes no further than the component
 abbrev pub find_reads : ℕ → Result (Option Cell) WalkFault → ℕ
-find_reads size (Ok (Some c)) = (c.at + c.span) / 4
-find_reads size (Ok None) = size / 4 + 2
-find_reads size (Err fault) = size / 4 + 2
+find_reads size (Ok (Some c)) = (c.at + c.span) / 16
+find_reads size (Ok None) = size / 16 + 2
+find_reads size (Err fault) = size / 16 + 2

@@ -6,7 +6,8 @@ use Rattle.flash_format.specs.Cut.{Cut, complete, tail, damage, ends, after, cut
 use Rattle.flash_format.specs.Components.{cell_content}
 use Rattle.flash_store.specs.Regions.{Range, LiesIn, bytes_in}
 use Rattle.cbfs_walk.specs.Cells.{IsCellIn, cell_in}
-use Rattle.cbfs_walk.specs.Walks.{Answer, has_bad_size, answer_at, StandsIn}
+use Rattle.cbfs_walk.specs.Shapes.{has_bad_size}
+use Rattle.cbfs_walk.specs.Walks.{Answer, answer_at, StandsIn}
 use Rattle.cbfs_walk.specs.Shaped.{shaped, ReadsCells, by_answer}
 use Rattle.cbfs_walk.specs.declared.cell.Cell.{Cell}
 use Rattle.cbfs_walk.specs.declared.walk.Step.TheVariants as steps

@@ -1,4 +1,6 @@
+pub mod Passing
 pub mod Cells
+pub mod Shapes
 pub mod Entries
 pub mod Walks
 pub mod Shaped

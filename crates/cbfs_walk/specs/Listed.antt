@@ -1,15 +1,55 @@
--- What a list of attributes has at its front, as the program has it.
-use Rattle.std.specs.Prelude.{ℕ, List, ⊤, if◌then◌else◌}
+-- What a list of attributes has at its start, as the program has it, and the first attribute with a tag.
+use Rattle.std.specs.Prelude.{◌≡◌, ℕ, zero, suc, ◌+◌, List, length, drop, slice_range, Option, Some, None, ⊤, ◌==◌, if◌then◌else◌, ◌≤◌}
+use Rattle.flash_format.specs.declared.attribute.AttrHead.{AttrHead}
+use Rattle.flash_format.specs.Head.{be32}
+use Rattle.flash_format.specs.Entry.{name_end}
 use Rattle.flash_format.specs.Attributes.{attr_head_of, ends_list, is_malformed}
 use Rattle.cbfs_walk.specs.AttrWalks.{IsAttrIn}
+use Rattle.cbfs_walk.specs.declared.cell.Cell.{Cell}
 use Rattle.cbfs_walk.specs.declared.attribute_walk.Listed.{Listed}
 use Rattle.cbfs_walk.specs.declared.attribute_walk.Listed.TheVariants.{Attribute, End, Malformed}
 
 abbrev pub listed_in : List ℕ → Listed
 listed_in x = if ends_list x then End else (if is_malformed x then Malformed else Attribute (attr_head_of x))
 
--- an attribute at a place lies in front of the list's end
+-- an attribute at a place lies before the list's end
 abbrev pub IsListedIn : ℕ → ℕ → Listed → Type 0
 IsListedIn at end (Attribute h) = IsAttrIn at end h
 IsListedIn at end End = ⊤
 IsListedIn at end Malformed = ⊤
+
+-- ---- the first attribute with a tag
+
+-- an attribute: its place, counted from the region's start, and its head
+abbrev pub Placed : Type 0
+Placed = ℕ × AttrHead
+
+-- the attribute at a place where it has the tag, and else what the rest of the list gives
+abbrev pub by_tag : ℕ → ℕ → List ℕ → Listed → (ℕ → List ℕ → Option Placed) → Option Placed
+by_tag tag at x (Attribute h) rest = if h.tag == tag then Some (at, h) else rest (at + h.len) (drop h.len x)
+by_tag tag at x End rest = None
+by_tag tag at x Malformed rest = None
+
+-- the first with a tag among so many attributes at most
+unfoldable pub first_within : ℕ → ℕ → ℕ → List ℕ → Option Placed
+first_within zero tag at x = None
+first_within (suc n) tag at x = by_tag tag at x (listed_in x) (first_within n tag)
+
+-- the same of a whole list, up to its end or to a malformed attribute; it has no more attributes than bytes
+abbrev pub first_in : ℕ → ℕ → List ℕ → Option Placed
+first_in tag at x = first_within (length x) tag at x
+
+-- the same of a component in a region of these bytes
+abbrev pub first_of : List ℕ → Cell → ℕ → Option Placed
+first_of x c tag = first_in tag (c.at + name_end c.head) (slice_range x (c.at + name_end c.head) (c.at + c.head.offset))
+
+-- an attribute with this tag that lies between a component's name and its content
+pub record IsAttrOf (c : Cell) (tag : ℕ) (found : Placed) : Type 0 where
+  pub low : c.at + name_end c.head ≤ found.0
+  pub attribute : IsAttrIn found.0 (c.at + c.head.offset) found.1
+  pub has : found.1.tag ≡ tag
+
+-- the value that stands first in the data of an attribute, 0 without one
+abbrev pub value_in : List ℕ → Option Placed → ℕ
+value_in x None = 0
+value_in x (Some found) = be32 (found.0 + 8) x

@@ -1,31 +1,23 @@
 -- What is read of a region by going from cell to cell.
-use Rattle.std.specs.Prelude.{◌≡◌, ℕ, ◌+◌, Bool, true, false, ◌&&◌, List, [], ◌∷◌, length, drop, Ok, Err, ◌==◌, if◌then◌else◌}
+use Rattle.std.specs.Prelude.{◌≡◌, ℕ, ◌+◌, List, [], ◌∷◌, length, drop, Ok, Err}
 use Rattle.flash_format.specs.Head.{head_of}
-use Rattle.flash_format.specs.Entry.{Entry, absent, damaged, cell, entry}
 use Rattle.flash_format.specs.Cut.{Cut, complete, tail, damage, ends, after, cut}
 use Rattle.cbfs_walk.specs.Cells.{cell_in}
-use Rattle.cbfs_walk.specs.Walks.{Answer, has_bad_size}
+use Rattle.cbfs_walk.specs.Shapes.{shape_at, refused_or}
+use Rattle.cbfs_walk.specs.Walks.{Answer}
 use Rattle.cbfs_walk.specs.declared.cell.Cell.{Cell}
 use Rattle.cbfs_walk.specs.declared.walk.Step.TheVariants as steps
 use Rattle.cbfs_walk.specs.declared.walk.WalkFault.{WalkFault}
 use Rattle.cbfs_walk.specs.declared.walk.WalkFault.TheVariants as faults
 
-abbrev pub is_absent : Entry → Bool
-is_absent absent = true
-is_absent (damaged kind) = false
-is_absent (cell span) = false
+-- the place after cells of which the first stands at a place
+abbrev pub place_after : ℕ → List (List ℕ) → ℕ
+place_after at [] = at
+place_after at (x ∷ cells) = place_after (at + length x) cells
 
--- the place behind cells of which the first stands at a place
-abbrev pub place_behind : ℕ → List (List ℕ) → ℕ
-place_behind at [] = at
-place_behind at (x ∷ cells) = place_behind (at + length x) cells
-
--- a reading of the cut from a place on, where the region has a good size and an entry at its front
+-- a reading of the cut from a place on, where the region has a good size and an entry at its start
 unfoldable pub shaped : {A : Type 0} → (WalkFault → A) → (ℕ → Cut → A) → List ℕ → ℕ → A
-shaped refuse read x at =
-    if has_bad_size (length x) then refuse faults.RegionShape
-    else if at == 0 && is_absent (entry x) then refuse faults.NotCbfs
-    else read at (cut (drop at x))
+shaped refuse read x at = refused_or refuse (shape_at x at) (read at (cut (drop at x)))
 
 -- a reading goes from cell to cell
 abbrev pub ReadsCells : {A : Type 0} → (ℕ → Cut → A) → (List ℕ → Cell → A → A) → Type 0

@@ -1,10 +1,11 @@
 -- A walk from cell to cell of a region.
-use Rattle.std.specs.Prelude.{◌≡◌, ℕ, ◌+◌, ◌-◌, Bool, not, ◌||◌, ◌%◌, List, length, drop, Option, Some, None, Result, Ok, Err, ◌==◌, if◌then◌else◌, ⊤}
+use Rattle.std.specs.Prelude.{◌≡◌, ℕ, ◌+◌, ◌-◌, List, length, drop, Option, Some, None, Result, Ok, Err, ◌==◌, if◌then◌else◌, ⊤}
 use Rattle.flash_format.specs.Head.{head_of}
 use Rattle.flash_format.specs.Entry.{Entry, absent, damaged, cell, entry}
 use Rattle.flash_store.specs.Regions.{Range}
 use Rattle.cbfs_walk.specs.Cells.{IsCellIn}
-use Rattle.cbfs_walk.specs.Entries.{reads_over}
+use Rattle.cbfs_walk.specs.Shapes.{shape_at, refused_or}
+use Rattle.cbfs_walk.specs.Passing.{reads_over}
 use Rattle.cbfs_walk.specs.declared.cell.Cell.{Cell}
 use Rattle.cbfs_walk.specs.declared.walk.Step.{Step}
 use Rattle.cbfs_walk.specs.declared.walk.Step.TheVariants as steps
@@ -26,11 +27,9 @@ walk_of region = record { region = region; at = 0; steps = 0; ended = None }
 
 -- ---- what a walk answers
 
-abbrev pub has_bad_size : ℕ → Bool
-has_bad_size size = size == 0 || not (size % 64 == 0)
-
+-- by what stands there
 abbrev pub answer_by : List ℕ → ℕ → Entry → Answer
-answer_by rest at absent = if at == 0 then Err faults.NotCbfs else Ok (steps.Tail at)
+answer_by rest at absent = Ok (steps.Tail at)
 answer_by rest at (damaged kind) = Err (faults.Damaged at kind)
 answer_by rest at (cell span) = Ok (steps.Cell (record { at = at; head = head_of rest; span = span }))
 
@@ -38,9 +37,7 @@ answer_by rest at (cell span) = Ok (steps.Cell (record { at = at; head = head_of
 unfoldable pub answer_at : List ℕ → ℕ → Answer
 answer_at x at =
     let rest = drop at x in
-    if has_bad_size (length x) then Err faults.RegionShape
-    else if length rest == 0 then Ok steps.End
-    else answer_by rest at (entry rest)
+    refused_or (λ fault. Err fault) (shape_at x at) (if length rest == 0 then Ok steps.End else answer_by rest at (entry rest))
 
 -- the cell is what a walk gives at its place in a region of these bytes
 abbrev pub StandsIn : List ℕ → Cell → Type 0
@@ -83,7 +80,7 @@ EndsWalk (Err (faults.Damaged at kind)) = ⊤
 abbrev pub HasEnded : Walking → Answer → Type 0
 HasEnded w answer = (a : Answer) → w.ended ≡ Some a → answer ≡ a
 
--- ---- how many reads an answer takes at most
+-- ---- how many calls an answer takes at most
 
 abbrev pub reads_at : ℕ → ℕ → Answer → ℕ
 reads_at size at (Ok (steps.Cell c)) = reads_over c.span

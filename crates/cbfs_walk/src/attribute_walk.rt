@@ -1,14 +1,17 @@
 //! The attributes of a component.
-ghost use Rattle.std.specs.Prelude.{◌≡◌, ℕ, ◌+◌, ◌-◌, ◌/◌, ◌<◌, ◌≤◌, min, false, List, length, slice_range, IsTrue, OnErr, IfOk, IfSome, Some, None, is_some};
+ghost use Rattle.std.specs.Prelude.{◌≡◌, ℕ, ◌+◌, ◌-◌, ◌/◌, ◌≤◌, min, false, List, length, slice_range, IfOk, IfSome, Some, None, is_some};
 ghost use Rattle.flash_format.specs.Head.{is_free, be32};
-ghost use Rattle.flash_format.specs.Attributes.{Attribute, attr_head_of, attributes};
+ghost use Rattle.flash_format.specs.Attributes.{Attribute, attr_head_of, attributes, COMPRESSION};
 ghost use Rattle.flash_format.specs.Components.{cell_attributes, packing};
-ghost use Rattle.flash_store.specs.Device.{Reads};
-ghost use Rattle.flash_store.specs.Regions.{LiesIn, bytes_in};
+ghost use Rattle.flash_format.specs.Entry.{name_end};
+ghost use Rattle.flash_store.specs.Pages.{HasAnswered, OnHonestIn};
+ghost use Rattle.flash_store.specs.Regions.{LiesIn};
+ghost use Rattle.flash_store.specs.Scans.{ScansTo};
+ghost use Rattle.cbfs_walk.specs.Passing.{HasPassed, reads_over};
 ghost use Rattle.cbfs_walk.specs.Cells.{IsCellIn, cell_in};
 ghost use Rattle.cbfs_walk.specs.Walks.{StandsIn};
-ghost use Rattle.cbfs_walk.specs.AttrWalks.{attr_walk_of, attr_moved, attr_reads, IsAttrIn, attributes_left, first_head, behind_first};
-ghost use Rattle.cbfs_walk.specs.Listed.{IsListedIn, listed_in};
+ghost use Rattle.cbfs_walk.specs.AttrWalks.{attr_walk_of, attr_moved, attr_reads, IsAttrIn, attributes_left, first_head, after_first};
+ghost use Rattle.cbfs_walk.specs.Listed.{IsListedIn, listed_in, IsAttrOf, first_of, value_in};
 
 use crate::cell::Cell;
 use crate::names::name_end;
@@ -60,27 +63,23 @@ impl AttrWalk {
         requires inside { self.old.cell.at + self.old.cell.head.offset ≤ region.size }
 
         // On any device.
-        ensures reads { Reads (attr_reads self.old) (F.facts paged.old.device) (F.facts paged.new.device) }
-        ensures cause { OnErr result ((F.facts paged.old.device).faults < (F.facts paged.new.device).faults) }
+        ensures after { HasAnswered F.facts (attr_reads self.old) paged.old paged.new result }
+        ensures passes { HasPassed F.facts (region.start + (self.old.cell.at + self.old.at))
+            (region.start + (self.old.cell.at + self.old.at)) paged.old paged.new result }
         ensures attribute { IfOk result (λ found. IfSome found (λ head.
             IsAttrIn self.old.at self.old.cell.head.offset head)) }
         ensures moved { self.new ≡ attr_moved self.old result }
-        ensures same_cell { self.new.cell ≡ self.old.cell }
-        ensures within { self.new.at ≤ self.new.cell.head.offset }
         ensures ended { self.old.at ≡ self.old.cell.head.offset → result ≡ Ok None }
-        ensures no_call { self.old.at ≡ self.old.cell.head.offset →
-            F.facts paged.new.device ≡ F.facts paged.old.device }
+        ensures no_call { self.old.at ≡ self.old.cell.head.offset → paged.new ≡ paged.old }
 
         // On an honest device, among attributes that are well formed.
-        ensures head { IsTrue (F.facts paged.old.device).honest → (all : List Attribute) →
-            attributes_left (bytes_in region (F.facts paged.old.device).content) self.old ≡ Some all →
-            IfOk result (λ found. found ≡ first_head all) }
-        ensures rest { IsTrue (F.facts paged.old.device).honest → (all : List Attribute) →
-            attributes_left (bytes_in region (F.facts paged.old.device).content) self.old ≡ Some all →
-            IfOk result (λ _. attributes_left (bytes_in region (F.facts paged.old.device).content) self.new
-            ≡ Some (behind_first all)) }
+        ensures head { OnHonestIn F.facts paged.old.device region (λ x. (all : List Attribute) →
+            attributes_left x self.old ≡ Some all → IfOk result (λ found. found ≡ first_head all)) }
+        ensures rest { OnHonestIn F.facts paged.old.device region (λ x. (all : List Attribute) →
+            attributes_left x self.old ≡ Some all →
+            IfOk result (λ _. attributes_left x self.new ≡ Some (after_first all))) }
     {
-        let _len = paged.len();
+        paged.places_fit();
         let at = self.cell.at + u64::from(self.at);
         let end = self.cell.at + u64::from(self.cell.head.offset);
         match listed_at(paged, region, at, end)? {
@@ -100,7 +99,8 @@ impl AttrWalk {
     }
 }
 
-/// The value of a component's first compression attribute, 0 without one.
+/// The value of a component's first compression attribute, 0 without one. In a cell that a walk gave every attribute
+/// is well formed; in another a malformed one ends the list.
 pub fn packing<F: Flash>(
     paged: &mut Paged<F>,
     region: Region,
@@ -111,27 +111,55 @@ pub fn packing<F: Flash>(
     requires component { is_free cell.now.head ≡ false }
 
     // On any device.
-    ensures reads { Reads (cell.now.head.offset / 8) (F.facts paged.old.device) (F.facts paged.new.device) }
-    ensures cause { OnErr result ((F.facts paged.old.device).faults < (F.facts paged.new.device).faults) }
+    ensures after { HasAnswered F.facts (reads_over cell.now.head.offset) paged.old paged.new result }
 
-    // On an honest device.
-    ensures packing { IsTrue (F.facts paged.old.device).honest →
-        StandsIn (bytes_in region (F.facts paged.old.device).content) cell.now → IfOk result (λ value. value
-        ≡ packing (cell_attributes (cell_in (bytes_in region (F.facts paged.old.device).content) cell.now))) }
+    // On an honest device: in any cell, and in one that stands in the region.
+    ensures value { OnHonestIn F.facts paged.old.device region (λ x.
+        IfOk result (λ value. value ≡ value_in x (first_of x cell.now COMPRESSION))) }
+    ensures packing { OnHonestIn F.facts paged.old.device region (λ x. StandsIn x cell.now →
+        IfOk result (λ value. value ≡ packing (cell_attributes (cell_in x cell.now)))) }
 {
-    let _len = paged.len();
+    paged.places_fit();
+    match first_attribute(paged, region, cell, AttrHead::COMPRESSION)? {
+        Some((at, _)) => value_at(paged, region, at + 8),
+        None => Ok(0),
+    }
+}
+
+/// The place, counted from the region's start, and the head of a component's first attribute with this tag; `None`
+/// where the list ends or is malformed before one.
+fn first_attribute<F: Flash>(
+    paged: &mut Paged<F>,
+    region: Region,
+    cell: &Cell,
+    tag: u32,
+) -> Result<Option<(u64, AttrHead)>, FlashFault>
+    requires region { LiesIn region (F.facts paged.old.device).content }
+    requires cell { IsCellIn region.size cell.now }
+    requires component { is_free cell.now.head ≡ false }
+
+    ensures after { HasAnswered F.facts (reads_over cell.now.head.offset) paged.old paged.new result }
+    ensures passes { HasPassed F.facts (region.start + (cell.now.at + name_end cell.now.head))
+        (region.start + (cell.now.at + cell.now.head.offset)) paged.old paged.new result }
+    ensures reached { IfOk result (λ found. IfSome found (λ found. ScansTo F.facts
+        (region.start + (cell.now.at + name_end cell.now.head)) (region.start + found.0) paged.old paged.new)) }
+    ensures attribute { IfOk result (λ found. IfSome found (IsAttrOf cell.now tag)) }
+    ensures first { OnHonestIn F.facts paged.old.device region (λ x.
+        IfOk result (λ found. found ≡ first_of x cell.now tag)) }
+{
+    paged.places_fit();
     let end = cell.at + u64::from(cell.head.offset);
     let mut at = cell.at + u64::from(name_end(&cell.head));
     loop {
         match listed_at(paged, region, at, end)? {
             Listed::Attribute(head) => {
-                if head.tag == AttrHead::COMPRESSION {
-                    return value_at(paged, region, at + 8);
+                if head.tag == tag {
+                    return Ok(Some((at, head)));
                 }
                 at += u64::from(head.len);
             }
-            Listed::End => return Ok(0),
-            Listed::Malformed => return Ok(0),
+            Listed::End => return Ok(None),
+            Listed::Malformed => return Ok(None),
         }
     }
 }
@@ -147,12 +175,12 @@ pub fn are_well_formed<F: Flash>(
     requires order { from ≤ end }
     requires inside { end ≤ region.size }
 
-    ensures reads { Reads ((end - from) / 8) (F.facts paged.old.device) (F.facts paged.new.device) }
-    ensures cause { OnErr result ((F.facts paged.old.device).faults < (F.facts paged.new.device).faults) }
-    ensures formed { IsTrue (F.facts paged.old.device).honest → IfOk result (λ formed. formed
-        ≡ is_some (attributes (slice_range (bytes_in region (F.facts paged.old.device).content) from end))) }
+    ensures after { HasAnswered F.facts (reads_over (end - from)) paged.old paged.new result }
+    ensures passes { HasPassed F.facts (region.start + from) (region.start + end) paged.old paged.new result }
+    ensures formed { OnHonestIn F.facts paged.old.device region (λ x.
+        IfOk result (λ formed. formed ≡ is_some (attributes (slice_range x from end)))) }
 {
-    let _len = paged.len();
+    paged.places_fit();
     let mut at = from;
     loop {
         match listed_at(paged, region, at, end)? {
@@ -182,13 +210,13 @@ fn listed_at<F: Flash>(
     requires order { at ≤ end }
     requires inside { end ≤ region.size }
 
-    ensures reads { Reads (min 1 ((end - at) / 8)) (F.facts paged.old.device) (F.facts paged.new.device) }
-    ensures cause { OnErr result ((F.facts paged.old.device).faults < (F.facts paged.new.device).faults) }
-    ensures no_call { at ≡ end → F.facts paged.new.device ≡ F.facts paged.old.device }
+    ensures after { HasAnswered F.facts (min 1 ((end - at) / 8)) paged.old paged.new result }
+    ensures passes { HasPassed F.facts (region.start + at) (region.start + at) paged.old paged.new result }
+    ensures no_call { at ≡ end → paged.new ≡ paged.old }
     ensures none { at ≡ end → result ≡ Ok Listed.End }
     ensures attribute { IfOk result (λ listed. IsListedIn at end listed) }
-    ensures listed { IsTrue (F.facts paged.old.device).honest → IfOk result (λ listed. listed
-        ≡ listed_in (slice_range (bytes_in region (F.facts paged.old.device).content) at end)) }
+    ensures listed { OnHonestIn F.facts paged.old.device region (λ x.
+        IfOk result (λ listed. listed ≡ listed_in (slice_range x at end))) }
 {
     if end - at < 8 {
         return Ok(Listed::End);
@@ -212,12 +240,12 @@ fn attribute_at<F: Flash>(
     requires region { LiesIn region (F.facts paged.old.device).content }
     requires inside { at + 8 ≤ region.size }
 
-    ensures reads { Reads 1 (F.facts paged.old.device) (F.facts paged.new.device) }
-    ensures cause { OnErr result ((F.facts paged.old.device).faults < (F.facts paged.new.device).faults) }
-    ensures head { IsTrue (F.facts paged.old.device).honest → IfOk result (λ head. head
-        ≡ attr_head_of (slice_range (bytes_in region (F.facts paged.old.device).content) at (at + 8))) }
+    ensures after { HasAnswered F.facts 1 paged.old paged.new result }
+    ensures passes { HasPassed F.facts (region.start + at) (region.start + at) paged.old paged.new result }
+    ensures head { OnHonestIn F.facts paged.old.device region (λ x.
+        IfOk result (λ head. head ≡ attr_head_of (slice_range x at (at + 8)))) }
 {
-    let _len = paged.len();
+    paged.places_fit();
     let mut bytes = [0; 8];
     read_in(paged, region, at, &mut bytes)?;
     Ok(AttrHead::read(&bytes))
@@ -228,12 +256,12 @@ fn value_at<F: Flash>(paged: &mut Paged<F>, region: Region, at: u64) -> Result<u
     requires region { LiesIn region (F.facts paged.old.device).content }
     requires inside { at + 4 ≤ region.size }
 
-    ensures reads { Reads 1 (F.facts paged.old.device) (F.facts paged.new.device) }
-    ensures cause { OnErr result ((F.facts paged.old.device).faults < (F.facts paged.new.device).faults) }
-    ensures value { IsTrue (F.facts paged.old.device).honest → IfOk result (λ value. value
-        ≡ be32 at (bytes_in region (F.facts paged.old.device).content)) }
+    ensures after { HasAnswered F.facts 1 paged.old paged.new result }
+    ensures passes { HasPassed F.facts (region.start + at) (region.start + at) paged.old paged.new result }
+    ensures value { OnHonestIn F.facts paged.old.device region (λ x.
+        IfOk result (λ value. value ≡ be32 at x)) }
 {
-    let _len = paged.len();
+    paged.places_fit();
     let mut bytes = [0; 4];
     read_in(paged, region, at, &mut bytes)?;
     Ok(BigEndian::read_u32(&bytes[..4]))

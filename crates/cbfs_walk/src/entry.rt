@@ -1,13 +1,14 @@
 //! What stands at a place of a region.
-ghost use Rattle.std.specs.Prelude.{◌≡◌, ℕ, ◌+◌, ◌-◌, ◌/◌, ◌<◌, ◌≤◌, false, drop, IsTrue, OnErr, IfOk};
+ghost use Rattle.std.specs.Prelude.{◌≡◌, ℕ, ◌+◌, ◌-◌, ◌/◌, ◌≤◌, false, drop, IfOk};
 ghost use Rattle.flash_format.specs.Head.{attributes_misplaced};
 ghost use Rattle.flash_format.specs.Entry.{entry, front, component};
-ghost use Rattle.flash_store.specs.Device.{Reads};
-ghost use Rattle.flash_store.specs.Regions.{LiesIn, bytes_in};
+ghost use Rattle.flash_store.specs.Pages.{HasAnswered, OnHonestIn};
+ghost use Rattle.flash_store.specs.Regions.{LiesIn};
+ghost use Rattle.cbfs_walk.specs.Passing.{HasPassed, reads_over};
 ghost use Rattle.cbfs_walk.specs.Entries.{seen, HasHead, HasChecks, entry_or, reads_by};
 
 use crate::attribute_walk::are_well_formed;
-use crate::names::{is_named, name_end};
+use crate::names::{has_name_end, name_end};
 use crate::read::read_in;
 use flash_format::{DamageKind, Head};
 use flash_store::{Flash, FlashFault, Paged, Region};
@@ -17,7 +18,7 @@ pub enum Entry {
     Absent,
     Damaged(DamageKind),
     /// A cell of so many bytes.
-    Present(Head, u64),
+    Cell(Head, u64),
 }
 
 pub fn entry_at<F: Flash>(
@@ -28,13 +29,12 @@ pub fn entry_at<F: Flash>(
     requires region { LiesIn region (F.facts paged.old.device).content }
     requires inside { at ≤ region.size }
 
-    ensures reads { Reads (reads_by (region.size - at) result) (F.facts paged.old.device) (F.facts paged.new.device) }
-    ensures cause { OnErr result ((F.facts paged.old.device).faults < (F.facts paged.new.device).faults) }
+    ensures after { HasAnswered F.facts (reads_by (region.size - at) result) paged.old paged.new result }
     ensures checks { IfOk result (λ e. HasChecks (region.size - at) e) }
-    ensures entry { IsTrue (F.facts paged.old.device).honest → IfOk result (λ e. seen e
-        ≡ entry (drop at (bytes_in region (F.facts paged.old.device).content))) }
-    ensures head { IsTrue (F.facts paged.old.device).honest → IfOk result (λ e. HasHead e
-        (drop at (bytes_in region (F.facts paged.old.device).content))) }
+    ensures entry { OnHonestIn F.facts paged.old.device region (λ x.
+        IfOk result (λ e. seen e ≡ entry (drop at x))) }
+    ensures head { OnHonestIn F.facts paged.old.device region (λ x.
+        IfOk result (λ e. HasHead e (drop at x))) }
 {
     let left = region.size() - at;
     let Some(head) = head_at(paged, region, at)? else {
@@ -44,11 +44,11 @@ pub fn entry_at<F: Flash>(
         Err(kind) => Ok(Entry::Damaged(kind)),
         Ok(extent) => {
             if head.is_free() {
-                return Ok(Entry::Present(head, extent.span));
+                return Ok(Entry::Cell(head, extent.span));
             }
             match damage_in(paged, region, at, &head)? {
                 Some(kind) => Ok(Entry::Damaged(kind)),
-                None => Ok(Entry::Present(head, extent.span)),
+                None => Ok(Entry::Cell(head, extent.span)),
             }
         }
     }
@@ -62,10 +62,10 @@ fn head_at<F: Flash>(
     requires region { LiesIn region (F.facts paged.old.device).content }
     requires inside { at ≤ region.size }
 
-    ensures reads { Reads 1 (F.facts paged.old.device) (F.facts paged.new.device) }
-    ensures cause { OnErr result ((F.facts paged.old.device).faults < (F.facts paged.new.device).faults) }
-    ensures head { IsTrue (F.facts paged.old.device).honest → IfOk result (λ head. head
-        ≡ front (drop at (bytes_in region (F.facts paged.old.device).content))) }
+    ensures after { HasAnswered F.facts 1 paged.old paged.new result }
+    ensures passes { HasPassed F.facts (region.start + at) (region.start + at) paged.old paged.new result }
+    ensures head { OnHonestIn F.facts paged.old.device region (λ x.
+        IfOk result (λ head. head ≡ front (drop at x))) }
 {
     if region.size() - at < 24 {
         return Ok(None);
@@ -75,7 +75,7 @@ fn head_at<F: Flash>(
     Ok(Head::read(&bytes))
 }
 
-/// What is wrong with a component behind its head.
+/// What is wrong with a component after its head.
 fn damage_in<F: Flash>(
     paged: &mut Paged<F>,
     region: Region,
@@ -84,18 +84,19 @@ fn damage_in<F: Flash>(
 ) -> Result<Option<DamageKind>, FlashFault>
     requires region { LiesIn region (F.facts paged.old.device).content }
     requires inside { at + head.now.offset ≤ region.size }
-    requires front { 24 ≤ head.now.offset }
+    requires room { 24 ≤ head.now.offset }
     requires placed { attributes_misplaced head.now ≡ false }
 
-    ensures reads { Reads (1 + head.now.offset / 8) (F.facts paged.old.device) (F.facts paged.new.device) }
-    ensures cause { OnErr result ((F.facts paged.old.device).faults < (F.facts paged.new.device).faults) }
-    ensures damage { IsTrue (F.facts paged.old.device).honest → IfOk result (λ damage. (span : ℕ) → entry_or damage span
-        ≡ component head.now (drop at (bytes_in region (F.facts paged.old.device).content)) span) }
+    ensures after { HasAnswered F.facts (reads_over head.now.offset) paged.old paged.new result }
+    ensures passes { HasPassed F.facts (region.start + at) (region.start + at + head.now.offset)
+        paged.old paged.new result }
+    ensures damage { OnHonestIn F.facts paged.old.device region (λ x. IfOk result (λ damage.
+        (span : ℕ) → entry_or damage span ≡ component head.now (drop at x) span)) }
 {
-    if !is_named(paged, region, at, head)? {
+    if !has_name_end(paged, region, at, head)? {
         return Ok(Some(DamageKind::Name));
     }
-    let _len = paged.len();
+    paged.places_fit();
     let from = at + u64::from(name_end(head));
     if !are_well_formed(paged, region, from, at + u64::from(head.offset))? {
         return Ok(Some(DamageKind::AttrLength));

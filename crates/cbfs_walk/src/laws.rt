@@ -1,14 +1,18 @@
 //! The laws by which callers go on from what a walk gives. Nothing runs here: a call gives its caller the law.
 ghost use Rattle.cbfs_walk.specs.Laws.{WalksFollowTheCut, ReadingsTakeSteps, CellsStandInTheirImage};
 
+/// The cells that a walk gives, one after the other, are those of the region's cut, and it ends as the cut ends.
 pub fn walks_follow_the_cut()
     ensures { WalksFollowTheCut }
 {}
 
+/// What is read of a cut from its first cell on, as a list of rows or the first component of a name, is read by a loop
+/// over the answers of a walk.
 pub fn readings_take_steps<A>()
     ensures { ReadingsTakeSteps A }
 {}
 
+/// Of a cell that stands in a region, its head, its length and its content are those that the image's bytes show.
 pub fn cells_stand_in_their_image()
     ensures { CellsStandInTheirImage }
 {}

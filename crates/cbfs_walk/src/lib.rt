@@ -10,13 +10,11 @@ mod laws;
 mod names;
 mod read;
 mod search;
-#[cfg(test)]
-mod tests;
 mod walk;
 
 pub use attribute_walk::{AttrWalk, attributes, packing};
 pub use cell::Cell;
 pub use laws::{cells_stand_in_their_image, readings_take_steps, walks_follow_the_cut};
 pub use names::{name, name_is};
-pub use search::find;
+pub use search::{find, is_component};
 pub use walk::{Step, Walk, WalkFault};

@@ -1,12 +1,13 @@
 //! The names of components.
-ghost use Rattle.std.specs.Prelude.{◌≡◌, ◌+◌, ◌<◌, ◌≤◌, false, length, take, drop, slice_range, IsTrue, OnOk, OnErr, IfOk};
+ghost use Rattle.std.specs.Prelude.{◌≡◌, ◌+◌, ◌≤◌, false, length, take, drop, slice_range, OnOk, IfOk};
 ghost use Rattle.std.specs.List.{list_any, before_first};
 ghost use Rattle.std.specs.Str.{bytes_eq};
 ghost use Rattle.flash_format.specs.Head.{is_free};
 ghost use Rattle.flash_format.specs.Entry.{name_field, name_end, has_name, is_nul};
 ghost use Rattle.flash_format.specs.Components.{cell_name};
-ghost use Rattle.flash_store.specs.Device.{Reads};
-ghost use Rattle.flash_store.specs.Regions.{LiesIn, bytes_in};
+ghost use Rattle.flash_store.specs.Pages.{HasAnswered, OnHonestIn};
+ghost use Rattle.flash_store.specs.Regions.{LiesIn};
+ghost use Rattle.cbfs_walk.specs.Passing.{HasPassed};
 ghost use Rattle.cbfs_walk.specs.Cells.{IsCellIn, cell_in};
 ghost use Rattle.cbfs_walk.specs.Walks.{StandsIn};
 
@@ -18,8 +19,8 @@ use flash_store::{Flash, FlashFault, Paged, Region};
 /// The most bytes of a name.
 const LONGEST: usize = 255;
 
-/// Writes the name of a component to the front of `out`, and answers its length. The rest of `out`, and all of it
-/// after a fault, may hold anything.
+/// Writes the name of a component, without its NUL, to the first bytes of `out`, and answers its length. The rest of
+/// `out`, and all of it after a fault, may hold anything.
 pub fn name<F: Flash>(
     paged: &mut Paged<F>,
     region: Region,
@@ -31,19 +32,16 @@ pub fn name<F: Flash>(
     requires component { is_free cell.now.head ≡ false }
 
     // On any device.
-    ensures reads { Reads 1 (F.facts paged.old.device) (F.facts paged.new.device) }
-    ensures cause { OnErr result ((F.facts paged.old.device).faults < (F.facts paged.new.device).faults) }
+    ensures after { HasAnswered F.facts 1 paged.old paged.new result }
     ensures short { IfOk result (λ n. n ≤ 255) }
 
     // On an honest device.
-    ensures name { IsTrue (F.facts paged.old.device).honest →
-        StandsIn (bytes_in region (F.facts paged.old.device).content) cell.now → IfOk result (λ n. take n out.new
-        ≡ cell_name (cell_in (bytes_in region (F.facts paged.old.device).content) cell.now)) }
-    ensures len { IsTrue (F.facts paged.old.device).honest →
-        StandsIn (bytes_in region (F.facts paged.old.device).content) cell.now → IfOk result (λ n. n
-        ≡ length (cell_name (cell_in (bytes_in region (F.facts paged.old.device).content) cell.now))) }
+    ensures name { OnHonestIn F.facts paged.old.device region (λ x. StandsIn x cell.now →
+        IfOk result (λ n. take n out.new ≡ cell_name (cell_in x cell.now))) }
+    ensures len { OnHonestIn F.facts paged.old.device region (λ x. StandsIn x cell.now →
+        IfOk result (λ n. n ≡ length (cell_name (cell_in x cell.now)))) }
 {
-    let _len = paged.len();
+    paged.places_fit();
     let n = name_room(&cell.head).min(LONGEST);
     read_text(paged, region, cell.at + 24, &mut out[..n])
 }
@@ -60,15 +58,13 @@ pub fn name_is<F: Flash>(
     requires component { is_free cell.now.head ≡ false }
 
     // On any device.
-    ensures reads { Reads 1 (F.facts paged.old.device) (F.facts paged.new.device) }
-    ensures cause { OnErr result ((F.facts paged.old.device).faults < (F.facts paged.new.device).faults) }
+    ensures after { HasAnswered F.facts 1 paged.old paged.new result }
 
     // On an honest device.
-    ensures named { IsTrue (F.facts paged.old.device).honest →
-        StandsIn (bytes_in region (F.facts paged.old.device).content) cell.now → IfOk result (λ named. named
-        ≡ bytes_eq (cell_name (cell_in (bytes_in region (F.facts paged.old.device).content) cell.now)) name.now) }
+    ensures named { OnHonestIn F.facts paged.old.device region (λ x. StandsIn x cell.now →
+        IfOk result (λ named. named ≡ bytes_eq (cell_name (cell_in x cell.now)) name.now)) }
 {
-    let _len = paged.len();
+    paged.places_fit();
     if name.len() > LONGEST || name.len() >= name_room(&cell.head) {
         return Ok(false);
     }
@@ -76,7 +72,7 @@ pub fn name_is<F: Flash>(
 }
 
 /// Whether the name of a component ends within its field's first 256 bytes.
-pub fn is_named<F: Flash>(
+pub fn has_name_end<F: Flash>(
     paged: &mut Paged<F>,
     region: Region,
     at: u64,
@@ -86,12 +82,13 @@ pub fn is_named<F: Flash>(
     requires inside { at + name_end head.now ≤ region.size }
     requires order { 24 ≤ name_end head.now }
 
-    ensures reads { Reads 1 (F.facts paged.old.device) (F.facts paged.new.device) }
-    ensures cause { OnErr result ((F.facts paged.old.device).faults < (F.facts paged.new.device).faults) }
-    ensures named { IsTrue (F.facts paged.old.device).honest → IfOk result (λ named. named
-        ≡ has_name (name_field head.now (drop at (bytes_in region (F.facts paged.old.device).content)))) }
+    ensures after { HasAnswered F.facts 1 paged.old paged.new result }
+    ensures passes { HasPassed F.facts (region.start + (at + 24)) (region.start + (at + 24))
+        paged.old paged.new result }
+    ensures ends { OnHonestIn F.facts paged.old.device region (λ x.
+        IfOk result (λ ends. ends ≡ has_name (name_field head.now (drop at x)))) }
 {
-    let _len = paged.len();
+    paged.places_fit();
     let mut field = [0; 256];
     let n = name_room(head).min(field.len());
     shows_nul(paged, region, at + 24, &mut field[..n])
@@ -127,11 +124,9 @@ fn is_text_at<F: Flash>(
     requires inside { at + (length text.now + 1) ≤ region.size }
     requires short { length text.now ≤ 255 }
 
-    ensures reads { Reads 1 (F.facts paged.old.device) (F.facts paged.new.device) }
-    ensures cause { OnErr result ((F.facts paged.old.device).faults < (F.facts paged.new.device).faults) }
-    ensures same { IsTrue (F.facts paged.old.device).honest → IfOk result (λ same. same
-        ≡ bytes_eq (before_first is_nul (slice_range (bytes_in region (F.facts paged.old.device).content) at
-        (at + (length text.now + 1)))) text.now) }
+    ensures after { HasAnswered F.facts 1 paged.old paged.new result }
+    ensures same { OnHonestIn F.facts paged.old.device region (λ x. IfOk result (λ same. same
+        ≡ bytes_eq (before_first is_nul (slice_range x at (at + (length text.now + 1)))) text.now)) }
 {
     let mut field = [0; 256];
     has_text(paged, region, at, &mut field[..text.len() + 1], text)
@@ -149,11 +144,9 @@ fn has_text<F: Flash>(
     requires inside { at + length field.old ≤ region.size }
     requires short { length field.old ≤ 4096 }
 
-    ensures reads { Reads 1 (F.facts paged.old.device) (F.facts paged.new.device) }
-    ensures cause { OnErr result ((F.facts paged.old.device).faults < (F.facts paged.new.device).faults) }
-    ensures same { IsTrue (F.facts paged.old.device).honest → IfOk result (λ same. same
-        ≡ bytes_eq (before_first is_nul (slice_range (bytes_in region (F.facts paged.old.device).content) at
-        (at + length field.old))) text.now) }
+    ensures after { HasAnswered F.facts 1 paged.old paged.new result }
+    ensures same { OnHonestIn F.facts paged.old.device region (λ x. IfOk result (λ same. same
+        ≡ bytes_eq (before_first is_nul (slice_range x at (at + length field.old))) text.now)) }
 {
     let end = read_text(paged, region, at, field)?;
     Ok(&field[..end] == text)
@@ -170,10 +163,11 @@ fn shows_nul<F: Flash>(
     requires inside { at + length field.old ≤ region.size }
     requires short { length field.old ≤ 4096 }
 
-    ensures reads { Reads 1 (F.facts paged.old.device) (F.facts paged.new.device) }
-    ensures cause { OnErr result ((F.facts paged.old.device).faults < (F.facts paged.new.device).faults) }
-    ensures nul { IsTrue (F.facts paged.old.device).honest → IfOk result (λ nul. nul ≡ list_any is_nul
-        (slice_range (bytes_in region (F.facts paged.old.device).content) at (at + length field.old))) }
+    ensures after { HasAnswered F.facts 1 paged.old paged.new result }
+    ensures passes { length field.old ≤ 256 →
+        HasPassed F.facts (region.start + at) (region.start + at) paged.old paged.new result }
+    ensures nul { OnHonestIn F.facts paged.old.device region (λ x.
+        IfOk result (λ nul. nul ≡ list_any is_nul (slice_range x at (at + length field.old)))) }
 {
     let end = read_text(paged, region, at, field)?;
     Ok(end < field.len())
@@ -190,11 +184,12 @@ fn read_text<F: Flash>(
     requires inside { at + length out.old ≤ region.size }
     requires short { length out.old ≤ 4096 }
 
-    ensures reads { Reads 1 (F.facts paged.old.device) (F.facts paged.new.device) }
-    ensures cause { OnErr result ((F.facts paged.old.device).faults < (F.facts paged.new.device).faults) }
+    ensures after { HasAnswered F.facts 1 paged.old paged.new result }
+    ensures passes { length out.old ≤ 256 →
+        HasPassed F.facts (region.start + at) (region.start + at) paged.old paged.new result }
     ensures len { IfOk result (λ n. n ≡ length (before_first is_nul out.new)) }
-    ensures read { IsTrue (F.facts paged.old.device).honest → OnOk result (out.new
-        ≡ slice_range (bytes_in region (F.facts paged.old.device).content) at (at + length out.old)) }
+    ensures read { OnHonestIn F.facts paged.old.device region (λ x.
+        OnOk result (out.new ≡ slice_range x at (at + length out.old))) }
 {
     read_in(paged, region, at, out)?;
     Ok(text_len(out))

@@ -1,7 +1,7 @@
 //! Reads at places of a region.
-ghost use Rattle.std.specs.Prelude.{◌≡◌, ◌+◌, ◌<◌, ◌≤◌, length, slice_range, IsTrue, OnOk, OnErr};
-ghost use Rattle.flash_store.specs.Device.{Reads};
-ghost use Rattle.flash_store.specs.Regions.{LiesIn, bytes_in};
+ghost use Rattle.std.specs.Prelude.{◌≡◌, ◌+◌, ◌≤◌, length, slice_range, OnOk};
+ghost use Rattle.flash_store.specs.Pages.{HasSeen, OnHonestIn};
+ghost use Rattle.flash_store.specs.Regions.{LiesIn};
 
 use flash_store::{Flash, FlashFault, Paged, Region};
 
@@ -16,11 +16,10 @@ pub fn read_in<F: Flash>(
     requires inside { at + length out.old ≤ region.size }
     requires short { length out.old ≤ 4096 }
 
-    ensures reads { Reads 1 (F.facts paged.old.device) (F.facts paged.new.device) }
-    ensures cause { OnErr result ((F.facts paged.old.device).faults < (F.facts paged.new.device).faults) }
-    ensures read { IsTrue (F.facts paged.old.device).honest →
-        OnOk result (out.new ≡ slice_range (bytes_in region (F.facts paged.old.device).content) at (at + length out.old)) }
+    ensures after { HasSeen F.facts (region.start + at) (length out.old) paged.old paged.new result }
+    ensures read { OnHonestIn F.facts paged.old.device region (λ x.
+        OnOk result (out.new ≡ slice_range x at (at + length out.old))) }
 {
-    let _len = paged.len();
+    paged.places_fit();
     paged.read_small(region.start() + at, out)
 }

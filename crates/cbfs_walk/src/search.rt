@@ -1,10 +1,10 @@
 //! The search for the component of a name.
-ghost use Rattle.std.specs.Prelude.{◌≡◌, ◌⊎◌, ◌+◌, ◌<◌, ◌≤◌, ◌&&◌, not, false, IsTrue, OnErr, IfOk, IfSome, IsErrOf, Ok, Some};
+ghost use Rattle.std.specs.Prelude.{◌≡◌, ◌⊎◌, ◌+◌, ◌<◌, ◌≤◌, ◌&&◌, not, false, IsTrue, IfOk, IfSome, IsErrOf, Ok, Some};
 ghost use Rattle.std.specs.Str.{bytes_eq};
 ghost use Rattle.flash_format.specs.Head.{is_free};
 ghost use Rattle.flash_format.specs.Components.{cell_name, component_at};
-ghost use Rattle.flash_store.specs.Device.{Reads};
-ghost use Rattle.flash_store.specs.Regions.{LiesIn, bytes_in};
+ghost use Rattle.flash_store.specs.Pages.{HasRead, HasAnswered, OnHonestIn};
+ghost use Rattle.flash_store.specs.Regions.{LiesIn};
 ghost use Rattle.cbfs_walk.specs.Cells.{IsCellIn, cell_in};
 ghost use Rattle.cbfs_walk.specs.Walks.{StandsIn};
 ghost use Rattle.cbfs_walk.specs.Finding.{component_in, find_in, find_reads};
@@ -24,20 +24,19 @@ pub fn find<F: Flash>(
     requires { LiesIn region (F.facts paged.old.device).content }
 
     // On any device.
-    ensures reads { Reads (find_reads region.size result) (F.facts paged.old.device) (F.facts paged.new.device) }
+    ensures after { HasRead F.facts (find_reads region.size result) paged.old paged.new }
     ensures cause { IsErrOf result WalkFault.Device →
         (F.facts paged.old.device).faults < (F.facts paged.new.device).faults }
     ensures cell { IfOk result (λ found. IfSome found (IsCellIn region.size)) }
     ensures component { IfOk result (λ found. IfSome found (λ cell. is_free cell.head ≡ false)) }
 
     // On an honest device.
-    ensures answer { IsTrue (F.facts paged.old.device).honest → IsErrOf result WalkFault.Device
-        ⊎ (result ≡ find_in (bytes_in region (F.facts paged.old.device).content) name.now) }
-    ensures stands { IsTrue (F.facts paged.old.device).honest → IfOk result (λ found. IfSome found
-        (StandsIn (bytes_in region (F.facts paged.old.device).content))) }
-    ensures first { IsTrue (F.facts paged.old.device).honest → IfOk result (λ found. IfSome found (λ cell.
-        component_in (bytes_in region (F.facts paged.old.device).content) name.now ≡ Ok (Some (component_at cell.at
-        (cell_in (bytes_in region (F.facts paged.old.device).content) cell))))) }
+    ensures answer { OnHonestIn F.facts paged.old.device region (λ x.
+        IsErrOf result WalkFault.Device ⊎ (result ≡ find_in x name.now)) }
+    ensures stands { OnHonestIn F.facts paged.old.device region (λ x.
+        IfOk result (λ found. IfSome found (StandsIn x))) }
+    ensures first { OnHonestIn F.facts paged.old.device region (λ x. IfOk result (λ found. IfSome found (λ cell.
+        component_in x name.now ≡ Ok (Some (component_at cell.at (cell_in x cell)))))) }
 {
     let mut walk = Walk::new(region);
     loop {
@@ -54,8 +53,9 @@ pub fn find<F: Flash>(
     }
 }
 
-/// Whether a cell is a component of the name.
-fn is_component<F: Flash>(
+/// Whether a cell is a component of this name, for a caller that walks by itself. Free space has no name, and its
+/// bytes aren't read.
+pub fn is_component<F: Flash>(
     paged: &mut Paged<F>,
     region: Region,
     cell: &Cell,
@@ -64,13 +64,14 @@ fn is_component<F: Flash>(
     requires region { LiesIn region (F.facts paged.old.device).content }
     requires cell { IsCellIn region.size cell.now }
 
-    ensures reads { Reads 1 (F.facts paged.old.device) (F.facts paged.new.device) }
-    ensures cause { OnErr result ((F.facts paged.old.device).faults < (F.facts paged.new.device).faults) }
+    // On any device.
+    ensures after { HasAnswered F.facts 1 paged.old paged.new result }
     ensures component { IfOk result (λ is. IsTrue is → is_free cell.now.head ≡ false) }
-    ensures named { IsTrue (F.facts paged.old.device).honest →
-        StandsIn (bytes_in region (F.facts paged.old.device).content) cell.now → IfOk result (λ is. is
-        ≡ (not (is_free cell.now.head)
-        && bytes_eq (cell_name (cell_in (bytes_in region (F.facts paged.old.device).content) cell.now)) name.now)) }
+    ensures no_call { IsTrue (is_free cell.now.head) → paged.new ≡ paged.old }
+
+    // On an honest device.
+    ensures named { OnHonestIn F.facts paged.old.device region (λ x. StandsIn x cell.now → IfOk result (λ is. is
+        ≡ (not (is_free cell.now.head) && bytes_eq (cell_name (cell_in x cell.now)) name.now))) }
 {
     if cell.head.is_free() {
         return Ok(false);

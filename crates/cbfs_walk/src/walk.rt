@@ -1,8 +1,9 @@
 //! A walk from cell to cell.
 ghost use Rattle.std.specs.Prelude.{◌≡◌, ◌⊎◌, ◌+◌, ◌*◌, ◌/◌, ◌%◌, ◌<◌, ◌≤◌, None, IsTrue, IsSome, IsErrOf};
-ghost use Rattle.flash_store.specs.Device.{Reads};
-ghost use Rattle.flash_store.specs.Regions.{LiesIn, bytes_in};
-ghost use Rattle.cbfs_walk.specs.Walks.{walk_of, moved, answer_at, GivesCell, GivesCellAt, HasEnded, reads_of, reads_at, has_bad_size};
+ghost use Rattle.flash_store.specs.Pages.{HasRead, OnHonestIn};
+ghost use Rattle.flash_store.specs.Regions.{LiesIn};
+ghost use Rattle.cbfs_walk.specs.Shapes.{has_bad_size};
+ghost use Rattle.cbfs_walk.specs.Walks.{walk_of, moved, answer_at, GivesCell, GivesCellAt, HasEnded, reads_of, reads_at};
 
 use crate::cell::Cell;
 use crate::entry::{Entry, entry_at};
@@ -10,26 +11,28 @@ use flash_format::DamageKind;
 use flash_store::{Flash, Paged, Region};
 use std::marker::Model;
 
-/// The next cell, or how the cells end.
+/// What a walk gives next. Places count from the region's start, in bytes.
 #[derive(Clone, Copy, Debug, PartialEq, Eq)]
 pub enum Step {
+    /// A cell, component or free space; the walk stands after it now.
     Cell(Cell),
-    /// No entry stands at this place. The rest of the region is kept and never used.
+    /// The walk has ended: no entry stands at this place, which is not the region's start. The rest of the region is
+    /// kept and never used.
     Tail(u64),
-    /// The cells fill the region.
+    /// The walk has ended: the cells fill the region.
     End,
 }
 
-/// Why a walk gives no cell.
+/// Why a walk gives no cell, each with the number of the refusal that a command makes of it.
 #[derive(Clone, Copy, Debug, PartialEq, Eq)]
 pub enum WalkFault {
-    /// A read was refused.
+    /// The device refused a read (1). It alone doesn't end a walk: the next call tries the same place again.
     Device,
-    /// The region's size is 0 or no multiple of 64.
+    /// The region's size is 0 or no multiple of 64 (7). Nothing is read.
     RegionShape,
-    /// No entry stands at the region's start.
+    /// No entry stands at the region's start (8).
     NotCbfs,
-    /// The entry at this place fails a check.
+    /// The entry at this place, counted from the region's start, fails a check (9): the first that it fails.
     Damaged { at: u64, kind: DamageKind },
 }
 
@@ -55,6 +58,8 @@ impl Model for Walk {
 }
 
 impl Walk {
+    /// A walk that stands at the region's start. It reads nothing yet; the device is given with each call of `next`,
+    /// so a caller may read from it in between.
     pub fn new(region: Region) -> Walk
         ensures { result ≡ walk_of region }
     {
@@ -75,24 +80,23 @@ impl Walk {
     }
 
     /// The next cell, or how the cells end. After a device's fault it stands where it stood, and the next call
-    /// tries the same entry again; after any other end it answers the same again.
+    /// tries the same entry again; after any other end it answers the same again. It reads an entry in order, so that
+    /// the device is called once, and once more for each 3840 bytes of the entry up to its content.
     pub fn next<F: Flash>(&mut self, paged: &mut Paged<F>) -> Result<Step, WalkFault>
         requires { LiesIn self.old.region (F.facts paged.old.device).content }
 
         // On any device.
-        ensures reads { Reads (reads_of self.old result) (F.facts paged.old.device) (F.facts paged.new.device) }
+        ensures after { HasRead F.facts (reads_of self.old result) paged.old paged.new }
         ensures cause { IsErrOf result WalkFault.Device →
             (F.facts paged.old.device).faults < (F.facts paged.new.device).faults }
         ensures cell { GivesCell self.old result }
         ensures moved { self.new ≡ moved self.old result }
-        ensures same_region { self.new.region ≡ self.old.region }
         ensures ended { HasEnded self.old result }
-        ensures no_call { IsSome self.old.ended → F.facts paged.new.device ≡ F.facts paged.old.device }
+        ensures no_call { IsSome self.old.ended → paged.new ≡ paged.old }
 
         // On an honest device.
-        ensures answer { IsTrue (F.facts paged.old.device).honest → self.old.ended ≡ None →
-            IsErrOf result WalkFault.Device
-            ⊎ (result ≡ answer_at (bytes_in self.old.region (F.facts paged.old.device).content) self.old.at) }
+        ensures answer { OnHonestIn F.facts paged.old.device self.old.region (λ x. self.old.ended ≡ None →
+            IsErrOf result WalkFault.Device ⊎ (result ≡ answer_at x self.old.at)) }
     {
         if let Some(answer) = self.ended {
             return answer;
@@ -122,13 +126,12 @@ fn answer_at<F: Flash>(paged: &mut Paged<F>, region: Region, at: u64) -> Result<
     requires inside { at ≤ region.size }
     requires aligned { at % 64 ≡ 0 }
 
-    ensures reads { Reads (reads_at region.size at result) (F.facts paged.old.device) (F.facts paged.new.device) }
+    ensures after { HasRead F.facts (reads_at region.size at result) paged.old paged.new }
     ensures cause { IsErrOf result WalkFault.Device →
         (F.facts paged.old.device).faults < (F.facts paged.new.device).faults }
     ensures cell { GivesCellAt region.size at result }
-    ensures answer { IsTrue (F.facts paged.old.device).honest →
-        IsErrOf result WalkFault.Device
-        ⊎ (result ≡ answer_at (bytes_in region (F.facts paged.old.device).content) at) }
+    ensures answer { OnHonestIn F.facts paged.old.device region (λ x.
+        IsErrOf result WalkFault.Device ⊎ (result ≡ answer_at x at)) }
 {
     if has_bad_size(region.size()) {
         return Err(WalkFault::RegionShape);
@@ -141,6 +144,6 @@ fn answer_at<F: Flash>(paged: &mut Paged<F>, region: Region, at: u64) -> Result<
         Ok(Entry::Absent) if at == 0 => Err(WalkFault::NotCbfs),
         Ok(Entry::Absent) => Ok(Step::Tail(at)),
         Ok(Entry::Damaged(kind)) => Err(WalkFault::Damaged { at, kind }),
-        Ok(Entry::Present(head, span)) => Ok(Step::Cell(Cell { at, head, span })),
+        Ok(Entry::Cell(head, span)) => Ok(Step::Cell(Cell { at, head, span })),
     }
 }

@@ -1,10 +1,2 @@
-mod Digits
-mod RowLemmas
-mod Telling
-mod Areas
-mod Printing
-mod Meeting
-mod Examples
-mod Subcommands
 mod Matching
 mod LineExamples

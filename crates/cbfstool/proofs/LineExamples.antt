@@ -1,18 +1,56 @@
 -- Command lines, computed by clap's definitions.
-use Rattle.std.proofs.Common.{◌≡◌, [], ◌∷◌, Some, None, refl}
+use Rattle.std.proofs.Common.{◌≡◌, ℕ, List, [], ◌∷◌, Option, Some, Result, Ok, refl}
+use Rattle.std.specs.Option.{option_map}
 use lib.Chars.{codes}
 use Rattle.clap.specs.Words.{fault_of}
 use Rattle.clap.specs.declared.error.kind.ErrorKind.TheVariants as kinds
 use Rattle.clap.proofs.OnLiterals.{clap_on_literals}
-use Rattle.cbfstool.specs.CommandLine.{command_line, line_of}
+use Rattle.cbfs_commands.specs.Requests.{Request, print, layout, extract, remove, read, write}
+use Rattle.cbfs_commands.specs.declared.refusal.Refusal.{Refusal}
+use Rattle.cbfstool.specs.CommandLine.{command_line, command_of, text_of, texts_of}
 
-listing : line_of (codes "img" ∷ codes "print" ∷ codes "-r" ∷ codes "RO" ∷ []) ≡ Some (record { image = codes "img"; subcommand = codes "print"; region = Some (codes "RO"); name = None; file = None })
-unfolding clap_on_literals
-listing = refl
+abbrev asked_by : List (List ℕ) → Option (Result Request Refusal)
+asked_by words = option_map command_of (texts_of words)
 
-extraction : line_of (codes "img" ∷ codes "extract" ∷ codes "-nab" ∷ codes "-f" ∷ codes "x" ∷ []) ≡ Some (record { image = codes "img"; subcommand = codes "extract"; region = None; name = Some (codes "ab"); file = Some (codes "x") })
+no_region : asked_by (codes "img" ∷ codes "print" ∷ []) ≡ Some (Ok (print (codes "COREBOOT")))
 unfolding clap_on_literals
-extraction = refl
+no_region = refl
+
+a_region : asked_by (codes "img" ∷ codes "print" ∷ codes "-r" ∷ codes "RO" ∷ []) ≡ Some (Ok (print (codes "RO")))
+unfolding clap_on_literals
+a_region = refl
+
+an_empty_region : asked_by (codes "img" ∷ codes "print" ∷ codes "-r" ∷ codes "" ∷ []) ≡ Some (Ok (print []))
+unfolding clap_on_literals
+an_empty_region = refl
+
+a_layout : asked_by (codes "img" ∷ codes "layout" ∷ []) ≡ Some (Ok layout)
+unfolding clap_on_literals
+a_layout = refl
+
+an_extraction : asked_by (codes "img" ∷ codes "extract" ∷ codes "-n" ∷ codes "a" ∷ codes "-f" ∷ codes "x" ∷ []) ≡ Some (Ok (extract (codes "COREBOOT") (codes "a")))
+unfolding clap_on_literals
+an_extraction = refl
+
+an_empty_name : asked_by (codes "img" ∷ codes "extract" ∷ codes "-f" ∷ codes "x" ∷ codes "-n" ∷ codes "" ∷ codes "-r" ∷ codes "B" ∷ []) ≡ Some (Ok (extract (codes "B") []))
+unfolding clap_on_literals
+an_empty_name = refl
+
+a_removal : asked_by (codes "img" ∷ codes "remove" ∷ codes "-n" ∷ codes "a" ∷ codes "-r" ∷ codes "B" ∷ []) ≡ Some (Ok (remove (codes "B") (codes "a")))
+unfolding clap_on_literals
+a_removal = refl
+
+a_read : asked_by (codes "img" ∷ codes "read" ∷ codes "-f" ∷ codes "x" ∷ []) ≡ Some (Ok (read (codes "COREBOOT")))
+unfolding clap_on_literals
+a_read = refl
+
+letters_and_texts_in_one_word : asked_by (codes "img" ∷ codes "write" ∷ codes "-fx" ∷ codes "-rRO" ∷ []) ≡ Some (Ok (write (codes "RO")))
+unfolding clap_on_literals
+letters_and_texts_in_one_word = refl
+
+a_file : option_map (text_of (codes "file")) (texts_of (codes "img" ∷ codes "extract" ∷ codes "-n" ∷ codes "a" ∷ codes "-f" ∷ codes "x y" ∷ [])) ≡ Some (Some (codes "x y"))
+unfolding clap_on_literals
+a_file = refl
 
 print_is_taken : fault_of command_line (codes "print" ∷ []) ≡ []
 unfolding clap_on_literals

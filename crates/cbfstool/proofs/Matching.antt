@@ -1,13 +1,11 @@
 -- The line of clap's matches.
 use Rattle.std.proofs.Common.{◌≡◌, ℕ, true, List, [], Option, Some, None, refl, sym, ap, ◌∙◌, subst, inl, inr}
 use Rattle.std.specs.Option.{option_map}
-use lib.Chars.{codes}
 use Rattle.clap.proofs.OnLiterals.{clap_on_literals}
-use Rattle.clap.specs.Words.{HasKind, IsAmong, Kinds, Row, first_of, is_simple_and_free, kind_of}
+use Rattle.clap.specs.Words.{HasKind, IsAmong, Kinds, Row, is_simple_and_free, kind_of}
 use Rattle.clap.specs.declared.error.Error.{Error}
 use Rattle.clap.specs.declared.error.kind.ErrorKind.TheVariants.{OutOfMemory}
-use Rattle.cbfstool.specs.Lines.{Words}
-use Rattle.cbfstool.specs.CommandLine.{command_line, line_by}
+use Rattle.cbfstool.specs.CommandLine.{Texts, command_line, with_image}
 
 abbrev pub pair_of : List ℕ → List Row → List ℕ × List Row
 pair_of name rows = (name, rows)
@@ -21,11 +19,10 @@ met name rows (Some b) n r e f =
     let all : r ≡ rows b = cc in
     ap (λ (x : List ℕ). Some (pair_of x (rows b))) (sym same) ∙ ap (λ (x : List Row). Some (pair_of n x)) (sym all)
 
--- the line of a subcommand and the texts of its options
-pub line-is : (image n : List ℕ) (r : List Row) (o : Option (List ℕ × List Row)) (a b c : Option (List ℕ)) → o ≡ Some (pair_of n r)
-    → a ≡ first_of (codes "region") r → b ≡ first_of (codes "name") r → c ≡ first_of (codes "file") r
-    → (let l : Words = record { image = image; subcommand = n; region = a; name = b; file = c } in Some l) ≡ line_by image o
-line-is image n r o a b c e f g h = rw (e, f, g, h) refl
+-- the line of an image and the subcommand that was met
+pub line-is : (image n : List ℕ) (r : List Row) (o : Option (List ℕ × List Row)) → o ≡ Some (pair_of n r)
+    → (let l : Texts = record { image = image; subcommand = n; options = r } in Some l) ≡ option_map (with_image image) o
+line-is image n r o e = rw e refl
 
 -- the command line is one of which clap tells every fault
 pub simple : is_simple_and_free command_line ≡ true

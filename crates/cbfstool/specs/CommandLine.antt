@@ -1,15 +1,18 @@
 -- The command line as clap's definitions have it: a subcommand that has to be there, and its options; and the line
 -- that words make by it.
-use Rattle.std.specs.Prelude.{ℕ, Bool, true, false, List, [], ◌∷◌, Option, Some, None}
+use Rattle.std.specs.Prelude.{ℕ, Bool, true, false, List, [], ◌∷◌, ◌&&◌, Option, Some, None, Result, Ok, Err, option_map, unwrap_or, is_some, if◌then◌else◌}
+use Rattle.std.specs.Str.{bytes_eq}
 use lib.Chars.{codes}
 use Rattle.clap.specs.Words.{App, Rule, Row, Shape, first_of, new_rule}
 use Rattle.clap.specs.Words as clap
 use Rattle.clap.specs.Simple.{new_shape}
 use Rattle.clap.specs.declared.error.ErrorKind.{ErrorKind}
 use Rattle.clap.specs.declared.error.ErrorKind.TheVariants.{OutOfMemory}
-use Rattle.cbfstool.specs.Lines.{Words}
-use Rattle.cbfstool.specs.declared.refusal.Refusal.{Refusal}
-use Rattle.cbfstool.specs.declared.refusal.Refusal.TheVariants as refusals
+use Rattle.cbfs_commands.specs.Requests.{Request, asked}
+use Rattle.cbfs_commands.specs.Requests as requests
+use Rattle.cbfs_commands.specs.declared.command.Command.{Command}
+use Rattle.cbfs_commands.specs.declared.refusal.Refusal.{Refusal}
+use Rattle.cbfs_commands.specs.declared.refusal.Refusal.TheVariants as refusals
 use Rattle.clap.specs.declared.builder.action.ArgAction.TheVariants.{Set}
 
 -- an option of one letter with a value
@@ -34,15 +37,12 @@ subcommands =
     subcommand_of (codes "print") (region_option ∷ [])
     ∷ subcommand_of (codes "layout") []
     ∷ subcommand_of (codes "extract") (region_option ∷ file_option ∷ name_option ∷ [])
+    ∷ subcommand_of (codes "remove") (region_option ∷ name_option ∷ [])
     ∷ subcommand_of (codes "read") (region_option ∷ file_option ∷ [])
     ∷ subcommand_of (codes "write") (region_option ∷ file_option ∷ [])
     ∷ []
 
--- no subcommand yet
-abbrev pub bare : App
-bare = record { top = record (new_shape (codes "cbfstool")) { no_binary_name = true; subcommand_required = true }; subs = [] }
-
--- the words behind IMAGE
+-- the words after IMAGE
 abbrev pub command_line : App
 command_line = record { top = record (new_shape (codes "cbfstool")) { is_leaf = false; no_binary_name = true; subcommand_required = true }; subs = subcommands }
 
@@ -51,18 +51,51 @@ abbrev pub refusal_by : ErrorKind → Refusal
 refusal_by OutOfMemory = refusals.Memory
 refusal_by _ = refusals.Usage
 
--- the line of an image and the subcommand that the other words name, with the texts of its options
-abbrev pub line_by : List ℕ → Option (List ℕ × List Row) → Option Words
-line_by image None = None
-line_by image (Some found) = Some record {
-  image = image;
-  subcommand = found.0;
-  region = first_of (codes "region") found.1;
-  name = first_of (codes "name") found.1;
-  file = first_of (codes "file") found.1;
-}
+-- what the words say: the image's path, the subcommand, and the options with their texts
+pub record Texts : Type 0 where
+  pub image : List ℕ
+  pub subcommand : List ℕ
+  pub options : List Row
 
--- the line of the words behind the program's name, where clap takes them
-abbrev pub line_of : List (List ℕ) → Option Words
-line_of [] = None
-line_of (image ∷ rest) = line_by image (clap.subcommand_of command_line rest)
+abbrev pub with_image : List ℕ → List ℕ × List Row → Texts
+with_image image found = record { image = image; subcommand = found.0; options = found.1 }
+
+-- the texts of the words after the program's name, where clap takes them
+abbrev pub texts_of : List (List ℕ) → Option Texts
+texts_of [] = None
+texts_of (image ∷ rest) = option_map (with_image image) (clap.subcommand_of command_line rest)
+
+-- the text of an option
+abbrev pub text_of : List ℕ → Texts → Option (List ℕ)
+text_of id t = first_of id t.options
+
+-- the region of a line without `-r`
+abbrev pub region_named : Texts → List ℕ
+region_named t = unwrap_or (text_of (codes "region") t) (codes "COREBOOT")
+
+-- where an option that is required is there
+abbrev pub given : Option (List ℕ) → Request → Result Request Refusal
+given None r = Err refusals.Usage
+given (Some text) r = Ok r
+
+abbrev pub extraction : List ℕ → Option (List ℕ) → Option (List ℕ) → Result Request Refusal
+extraction region name file = if is_some name && is_some file then Ok (requests.extract region (unwrap_or name [])) else Err refusals.Usage
+
+abbrev pub removal : List ℕ → Option (List ℕ) → Result Request Refusal
+removal region None = Err refusals.Usage
+removal region (Some name) = Ok (requests.remove region name)
+
+-- the command that the texts ask for
+abbrev pub command_of : Texts → Result Request Refusal
+command_of t =
+    if bytes_eq t.subcommand (codes "print") then Ok (requests.print (region_named t))
+    else (if bytes_eq t.subcommand (codes "layout") then Ok requests.layout
+    else (if bytes_eq t.subcommand (codes "extract") then extraction (region_named t) (text_of (codes "name") t) (text_of (codes "file") t)
+    else (if bytes_eq t.subcommand (codes "remove") then removal (region_named t) (text_of (codes "name") t)
+    else (if bytes_eq t.subcommand (codes "read") then given (text_of (codes "file") t) (requests.read (region_named t))
+    else (if bytes_eq t.subcommand (codes "write") then given (text_of (codes "file") t) (requests.write (region_named t))
+    else Err refusals.Usage)))))
+
+abbrev pub seen : Result Command Refusal → Result Request Refusal
+seen (Ok command) = Ok (asked command)
+seen (Err refusal) = Err refusal

@@ -1,13 +1,11 @@
 //! The command line: IMAGE, a subcommand, and its options.
 
-ghost use Rattle.std.specs.Prelude.{◌≡◌, ◌≢◌, ◌⊎◌, [], Some, IfOk, IfErr, drop, map, option_map, true};
+ghost use Rattle.std.specs.Prelude.{◌≡◌, ◌≢◌, ◌⊎◌, [], Some, IfOk, IfErr, codes, drop, map, option_map, true};
 ghost use Rattle.clap.specs.Words.{fault_of, has_subcommand, kind_of, subcommand_rows_of};
-ghost use Rattle.cbfstool.specs.CommandLine.{command_line, line_by, line_of, refusal_by};
-ghost use Rattle.cbfstool.specs.Lines.{Words, command_of, seen};
+ghost use Rattle.cbfstool.specs.CommandLine.{command_line, command_of, refusal_by, seen, text_of, texts_of, with_image};
 
-use crate::command::Command;
-use crate::refusal::Refusal;
 use crate::words::whole_command;
+use cbfs_commands::{Command, Refusal};
 use clap::error::ErrorKind;
 use clap::{ArgMatches, Error};
 use std::alloc::Global;
@@ -16,28 +14,24 @@ use std::marker::Model;
 /// The region that a command names without `-r`.
 const DEFAULT_REGION: &str = "COREBOOT";
 
-/// A command line that was read: the image's path, the subcommand and the texts of its options.
+/// A command line that was read: the image's path, the subcommand and its options.
 #[derive(Drop)]
 pub struct Line<'a> {
     image: &'a str,
     subcommand: &'a str,
-    region: Option<&'a str>,
-    name: Option<&'a str>,
-    file: Option<&'a str>,
+    options: ArgMatches<'a>,
 }
 
 impl<'a> Model for Line<'a> {
-    ghost use Rattle.std.specs.Prelude.{option_map};
-    ghost use Rattle.cbfstool.specs.Lines.{Words};
+    ghost use Rattle.clap.specs.Words.{found_of, rows_of};
+    ghost use Rattle.cbfstool.specs.CommandLine.{Texts};
 
-    ghost Value = { Words };
+    ghost Value = { Texts };
 
     ghost view = { λ l. record {
       image = l.image.now;
       subcommand = l.subcommand.now;
-      region = option_map (λ t. t.now) l.region;
-      name = option_map (λ t. t.now) l.name;
-      file = option_map (λ t. t.now) l.file;
+      options = rows_of (found_of l.options);
     } };
 }
 
@@ -51,9 +45,16 @@ impl<'a> Line<'a> {
 
     /// The path that `-f` gives.
     pub fn file(&self) -> Option<&'a str>
-        ensures { option_map (λ t. t.now) result ≡ self.now.file }
+        ensures { option_map (λ t. t.now) result ≡ text_of (codes "file") self.now }
     {
-        self.file
+        self.option("file")
+    }
+
+    /// The text of an option.
+    fn option(&self, id: &str) -> Option<&'a str>
+        ensures { option_map (λ t. t.now) result ≡ text_of id.now self.now }
+    {
+        self.options.get_str(id)
     }
 
     /// The command that the words ask for. Refused as a bad command line where the subcommand is none of
@@ -61,19 +62,26 @@ impl<'a> Line<'a> {
     pub fn command(&self) -> Result<Command<'a>, Refusal>
         ensures { seen result ≡ command_of self.now }
     {
-        let region = self.region.unwrap_or(DEFAULT_REGION).as_bytes();
+        let region = self.option("region").unwrap_or(DEFAULT_REGION).as_bytes();
         match self.subcommand {
             "print" => Ok(Command::Print { region }),
             "layout" => Ok(Command::Layout),
-            "extract" => match (self.name, self.file) {
+            "extract" => match (self.option("name"), self.file()) {
                 (Some(name), Some(_)) => Ok(Command::Extract {
                     region,
                     name: name.as_bytes(),
                 }),
                 _ => Err(Refusal::Usage),
             },
-            "read" if self.file.is_some() => Ok(Command::Read { region }),
-            "write" if self.file.is_some() => Ok(Command::Write { region }),
+            "remove" => match self.option("name") {
+                Some(name) => Ok(Command::Remove {
+                    region,
+                    name: name.as_bytes(),
+                }),
+                None => Err(Refusal::Usage),
+            },
+            "read" if self.file().is_some() => Ok(Command::Read { region }),
+            "write" if self.file().is_some() => Ok(Command::Write { region }),
             _ => Err(Refusal::Usage),
         }
     }
@@ -89,18 +97,16 @@ fn refusal_of(error: Error) -> Refusal
     }
 }
 
-/// The line of these matches.
-fn line_of<'a>(image: &'a str, matches: &ArgMatches<'a>) -> Line<'a>
-    requires { has_subcommand matches.now ≡ true }
-    ensures { Some result ≡ line_by image.entry.now (subcommand_rows_of matches.now) }
+/// The line of these matches, which have a subcommand.
+fn line_of<'a>(image: &'a str, mut matches: ArgMatches<'a>) -> Line<'a>
+    requires { has_subcommand matches ≡ true }
+    ensures { Some result ≡ option_map (with_image image.entry.now) (subcommand_rows_of matches.entry) }
 {
-    let (subcommand, options) = matches.subcommand().unwrap();
+    let (subcommand, options) = matches.remove_subcommand().unwrap();
     Line {
         image,
         subcommand,
-        region: options.get_str("region"),
-        name: options.get_str("name"),
-        file: options.get_str("file"),
+        options,
     }
 }
 
@@ -108,8 +114,9 @@ fn line_of<'a>(image: &'a str, matches: &ArgMatches<'a>) -> Line<'a>
 /// bad command line without any word, and where clap finds one, which a wish for its help is too; and for want of
 /// memory.
 pub fn read_line<'a>(alloc: Global, words: &'a [&'a str]) -> Result<Line<'a>, Refusal>
-    ensures line { IfOk result (λ line. Some line ≡ line_of (map (λ w. w.now) words.entry.now)) }
+    ensures line { IfOk result (λ line. Some line ≡ texts_of (map (λ w. w.now) words.entry.now)) }
     ensures refusals { IfErr result (λ refusal. (refusal ≡ Refusal.Usage) ⊎ (refusal ≡ Refusal.Memory)) }
+    ensures wordless { words.entry.now ≡ [] → IfErr result (λ refusal. refusal ≡ Refusal.Usage) }
     ensures faultless { IfOk result (λ _. fault_of command_line (map (λ w. w.now) (drop 1 words.entry.now)) ≡ []) }
     ensures usage { words.entry.now ≢ [] → fault_of command_line (map (λ w. w.now) (drop 1 words.entry.now)) ≡ [] →
         IfErr result (λ refusal. refusal ≡ Refusal.Memory) }
@@ -121,7 +128,7 @@ pub fn read_line<'a>(alloc: Global, words: &'a [&'a str]) -> Result<Line<'a>, Re
         return Err(Refusal::Memory);
     };
     match command.try_get_matches_from(rest) {
-        Ok(matches) => Ok(line_of(image, &matches)),
+        Ok(matches) => Ok(line_of(image, matches)),
         Err(error) => Err(refusal_of(error)),
     }
 }

@@ -1,25 +1,14 @@
 //! Lists and changes the regions of a flash image, as coreboot's cbfstool does.
 #![tactic(auto)]
 
-mod command;
-mod engine;
-mod extract;
-mod layout;
 mod line;
-mod print;
-mod read;
-mod refusal;
-mod row;
 #[cfg(test)]
 mod tests;
 mod words;
-mod write;
 
-pub use command::Command;
-pub use engine::run;
+pub use cbfs_commands::{Command, Refusal, run};
 use flash_store::{FileFlash, FileSource, MemSource, OpenFault, Paged, WriteSink};
 pub use line::{Line, read_line};
-pub use refusal::Refusal;
 use std::env;
 use std::fs::File;
 use std::io::{self, ErrorKind};
@@ -39,12 +28,30 @@ fn open_refusal(fault: OpenFault, failed: Refusal) -> Refusal {
     }
 }
 
-/// Makes or truncates an output file.
-fn create_output(rt: &HostRuntime, path: &str) -> Result<WriteSink<File>, Refusal> {
-    match File::create(rt, path) {
-        Ok(file) => Ok(WriteSink::new(file)),
-        Err(fault) if fault.kind() == ErrorKind::OutOfMemory => Err(Refusal::Memory),
-        Err(_) => Err(Refusal::Output),
+/// What a command uses besides the image; without an output file it prints.
+#[derive(Drop)]
+enum Side {
+    Neither,
+    Source(FileSource),
+    Output(WriteSink<File>),
+}
+
+/// Opens the file that the command reads, or makes the one that it writes.
+fn open_side(rt: &HostRuntime, command: &Command, file: Option<&str>) -> Result<Side, Refusal> {
+    let Some(path) = file else {
+        return Ok(Side::Neither);
+    };
+    match command {
+        Command::Print { .. } | Command::Layout | Command::Remove { .. } => Ok(Side::Neither),
+        Command::Extract { .. } | Command::Read { .. } => match File::create(rt, path) {
+            Ok(file) => Ok(Side::Output(WriteSink::new(file))),
+            Err(fault) if fault.kind() == ErrorKind::OutOfMemory => Err(Refusal::Memory),
+            Err(_) => Err(Refusal::Output),
+        },
+        Command::Write { .. } => match FileSource::open(rt, path) {
+            Ok(source) => Ok(Side::Source(source)),
+            Err(fault) => Err(open_refusal(fault, Refusal::Source)),
+        },
     }
 }
 
@@ -57,28 +64,11 @@ fn execute(rt: &HostRuntime, line: &Line) -> Result<(), Refusal> {
     };
     let mut paged = Paged::new(image);
     let mut nothing = MemSource::new(&[]);
-    match (command, line.file()) {
-        (Command::Write { .. }, Some(path)) => match FileSource::open(rt, path) {
-            Ok(mut source) => run(
-                &mut paged,
-                &command,
-                &mut source,
-                &mut WriteSink::new(io::writer(rt)),
-            ),
-            Err(fault) => Err(open_refusal(fault, Refusal::Source)),
-        },
-        (_, Some(path)) => run(
-            &mut paged,
-            &command,
-            &mut nothing,
-            &mut create_output(rt, path)?,
-        ),
-        (_, None) => run(
-            &mut paged,
-            &command,
-            &mut nothing,
-            &mut WriteSink::new(io::writer(rt)),
-        ),
+    let mut printed = WriteSink::new(io::writer(rt));
+    match open_side(rt, &command, line.file())? {
+        Side::Neither => run(&mut paged, &command, &mut nothing, &mut printed),
+        Side::Source(mut source) => run(&mut paged, &command, &mut source, &mut printed),
+        Side::Output(mut out) => run(&mut paged, &command, &mut nothing, &mut out),
     }
 }
 

@@ -8,19 +8,19 @@ use Rattle.flash_format.specs.Cut.{Cut, End, complete, tail, damage, ends, after
 use Rattle.flash_format.proofs.CutSteps.{cell_span, cut_empty, cut_absent, cut_damaged, cut_cell}
 use Rattle.flash_format.proofs.EntryLaws.{entry_alike}
 
--- a cell in front of anything
+-- a cell before anything
 cell_before : (c z : List ℕ) → IsCell c → entry (c ++ z) ≡ cell (length c)
 cell_before c z is =
     entry_alike c (c ++ z) (length c) is (omega arith) (omega (arith, length-append c z)) (take_all (length c) c (omega arith) ∙ sym (take_at c z (length c) refl))
 
--- the front of what begins with a cell is that cell
+-- the prefix that a cell takes of some bytes is that cell
 front_cell : (x : List ℕ) (span : ℕ) → entry x ≡ cell span → span ≤ length x → IsCell (take span x)
 front_cell x span is fits =
     let len : length (take span x) ≡ span = length-take-le span x fits in
     subst (λ n. entry (take span x) ≡ cell n) (sym len)
     (entry_alike x (take span x) span is fits (omega (arith, len)) (sym (take-take span span x (omega arith))))
 
-cut_before : (c z : List ℕ) → IsCell c → cut (c ++ z) ≡ after c (cut z)
+pub cut_before : (c z : List ℕ) → IsCell c → cut (c ++ z) ≡ after c (cut z)
 cut_before c z is =
     let long : 64 ≤ length c = (cell_span c (length c) is).positive in
     cut_cell (c ++ z) (length c) (omega (arith, long, length-append c z)) (cell_before c z is)
@@ -66,7 +66,7 @@ behind_cell x span is fits behind = record {
   };
 }
 
--- by what stands at the front, given a cut of what is behind a cell
+-- by what the bytes begin with, given a cut of what follows a cell
 by_front : (x : List ℕ) → 0 < length x → length x % 64 ≡ 0 → ((span : ℕ) → 64 ≤ span → span % 64 ≡ 0 → span ≤ length x → SomeCut (drop span x)) → (e : Entry) → entry x ≡ e → SomeCut x
 by_front x some whole behind absent is = no_cells x tail (some, is)
 by_front x some whole behind (damaged kind) is = no_cells x (damage kind) (some, is)

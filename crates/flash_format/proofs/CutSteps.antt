@@ -138,7 +138,7 @@ drop-pred : (b : ℕ) (x : List ℕ) (n : ℕ) → 0 < n → drop (pred n) x ≡
 drop-pred b x zero some = absurd (omega arith)
 drop-pred b x (suc n) some = refl
 
--- by what stands at the front
+-- by what the bytes begin with
 pub cut_step : (x : List ℕ) (e : Entry) → 0 < length x → entry x ≡ e → cut x ≡ by_entry e x (λ span. cut_after (pred span) (drop 1 x))
 unfolding cut_after
 cut_step [] e some is = absurd (omega arith)

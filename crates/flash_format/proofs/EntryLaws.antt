@@ -25,7 +25,7 @@ checked_alike : (h : Head) (left other : ℕ) → h.offset + h.len ≤ left → 
 unfolding checked
 checked_alike h left other fits here = rw (le-ltb left (h.offset + h.len) fits, le-ltb other (h.offset + h.len) here) refl
 
--- ---- the fields behind the head
+-- ---- the fields after the head
 
 range_alike : (x y : List ℕ) (n a b : ℕ) → b ≤ n → take n x ≡ take n y → slice_range x a b ≡ slice_range y a b
 range_alike x y n a b le same = sym (range-take x n a b le) ∙ ap (λ (l : List ℕ). slice_range l a b) same ∙ range-take y n a b le
@@ -47,7 +47,7 @@ component_alike h x y n span named placed same =
 
 -- ---- the entry
 -- what stands where the head is there
-from_head : (x : List ℕ) (h : Head) → 24 ≤ length x → head_at x ≡ Some h → entry x ≡ present h x (checked h (length x))
+pub from_head : (x : List ℕ) (h : Head) → 24 ≤ length x → head_at x ≡ Some h → entry x ≡ present h x (checked h (length x))
 unfolding entry
 from_head x h long e = ap (λ (b : Bool). under x (cond b None (head_at x))) (le-ltb (length x) 24 long) ∙ ap (λ (o : Option Head). under x o) e
 

@@ -5,6 +5,7 @@ use Rattle.byteorder.specs.Endian.{big_bytes}
 use Rattle.flash_format.specs.declared.head.DamageKind.TheVariants as kinds
 use Rattle.flash_format.specs.Head.{head_of, head_bytes, has_magic, checked}
 use Rattle.flash_format.specs.Attributes.{attr_head_of, attributes, attributes_after}
+use Rattle.flash_format.specs.Blanks.{blank_header, blank}
 use Rattle.flash_format.specs.Entry.{Entry, absent, damaged, cell, entry}
 use Rattle.flash_format.specs.Cut.{complete, tail, damage, cut, cut_after}
 use Rattle.flash_format.specs.Components.{components, components_from, cell_attributes, packing, is_packed}
@@ -51,6 +52,26 @@ a_fresh_region_has_no_component : components fresh ≡ []
 unfolding entry has_magic checked head_of cut_after components_from
 a_fresh_region_has_no_component = refl
 
+-- the header of an empty entry over 512 bytes that keeps the last four: 480 bytes of content from byte 28 on
+the_header_of_a_blank : blank_header 512 true
+    ≡ 0x4c ∷ 0x41 ∷ 0x52 ∷ 0x43 ∷ 0x48 ∷ 0x49 ∷ 0x56 ∷ 0x45 ∷ 0 ∷ 0 ∷ 1 ∷ 0xe0 ∷ 0xff ∷ 0xff ∷ 0xff ∷ 0xff ∷ 0 ∷ 0 ∷ 0 ∷ 0 ∷ 0 ∷ 0 ∷ 0 ∷ 0x1c ∷ 0 ∷ 0 ∷ 0 ∷ 0 ∷ []
+unfolding blank_header head_bytes
+the_header_of_a_blank = refl
+
+-- and all of it, with the four bytes that it keeps
+all_of_a_blank : blank 512 (Some (1 ∷ 2 ∷ 3 ∷ 4 ∷ [])) ≡ head 480 null 0 28 ++ replicate 4 0 ++ replicate 480 0xff ++ (1 ∷ 2 ∷ 3 ∷ 4 ∷ [])
+unfolding blank_header head_bytes
+all_of_a_blank = refl
+
+-- one that keeps nothing has all bytes after its header
+all_of_a_small_blank : blank 64 None ≡ head 36 null 0 28 ++ replicate 4 0 ++ replicate 36 0xff
+unfolding blank_header head_bytes
+all_of_a_small_blank = refl
+
+a_blank_is_one_cell : cut (blank 512 (Some (1 ∷ 2 ∷ 3 ∷ 4 ∷ []))) ≡ record { cells = blank 512 (Some (1 ∷ 2 ∷ 3 ∷ 4 ∷ [])) ∷ []; end = complete }
+unfolding blank_header head_bytes entry has_magic checked head_of cut_after
+a_blank_is_one_cell = refl
+
 -- ten bytes under the name `a`, in a cell of 64 bytes
 abbrev small : List ℕ
 small = head 10 raw 0 40 ++ named (codes "a") ++ codes "0123456789" ++ replicate 14 0xff
@@ -73,7 +94,7 @@ a_component_behind_another : components (free_space 20 24 ++ small ++ small)
 unfolding entry has_magic checked head_of attributes_after cut_after components_from
 a_component_behind_another = refl
 
--- the 64 bytes behind the free cell are no entry
+-- the 64 bytes after the free cell are no entry
 a_tail_behind_the_cells : cut (small ++ free_space 344 344 ++ replicate 64 0xff) ≡ record { cells = small ∷ free_space 344 344 ∷ []; end = tail }
 unfolding entry has_magic checked head_of attributes_after cut_after
 a_tail_behind_the_cells = refl
@@ -134,7 +155,7 @@ a_name_without_a_nul : over_512 10 raw 0 40 (codes "nnnnnnnnnnnnnnnn") ≡ damag
 unfolding entry has_magic checked head_of attributes_after
 a_name_without_a_nul = refl
 
--- a component with the name `a`, an attribute of 16 bytes by its tag and length, and the content behind it
+-- a component with the name `a`, an attribute of 16 bytes by its tag and length, and then the content
 abbrev with_attribute : ℕ → ℕ → Entry
 with_attribute tag len = over_512 30 raw 40 56 (named (codes "a") ++ big_bytes 4 tag ++ big_bytes 4 len ++ replicate 8 1)
 
@@ -156,7 +177,7 @@ a_compression_attribute_without_its_size = refl
 
 -- ---- attributes
 
--- thirty bytes of content under the name `p`, behind an attribute of this tag with the value 1 and the size 100
+-- thirty bytes of content under the name `p`, after an attribute of this tag with the value 1 and the size 100
 abbrev valued : ℕ → List ℕ
 valued tag =
     head 30 raw 40 56 ++ named (codes "p") ++ big_bytes 4 tag ++ (0 ∷ 0 ∷ 0 ∷ 0x10 ∷ 0 ∷ 0 ∷ 0 ∷ 1 ∷ 0 ∷ 0 ∷ 0 ∷ 0x64 ∷ [])
@@ -179,7 +200,7 @@ an_unknown_attribute_packs_nothing : is_packed (cell_attributes (valued 0x1234))
 unfolding head_of attr_head_of attributes_after
 an_unknown_attribute_packs_nothing = refl
 
--- the list goes on right behind an attribute, and ends at an unused tag
+-- the list goes on right after an attribute, and ends at an unused tag
 two_attributes : attributes (big_bytes 4 5 ++ big_bytes 4 9 ++ (1 ∷ []) ++ big_bytes 4 6 ++ big_bytes 4 8 ++ replicate 8 0xff ++ big_bytes 4 7 ++ big_bytes 4 8)
     ≡ Some (record { tag = 5; contents = 1 ∷ [] } ∷ record { tag = 6; contents = [] } ∷ [])
 unfolding attr_head_of attributes_after
@@ -187,7 +208,7 @@ two_attributes = refl
 
 -- ---- flashmaps
 
--- the table of a flash of 4096 bytes at 0xff000000, with the areas FMAP, COREBOOT and REST
+-- the map of a flash of 4096 bytes at 0xff000000, with the areas FMAP, COREBOOT and REST
 abbrev table : List ℕ
 table =
     (0x5f ∷ 0x5f ∷ 0x46 ∷ 0x4d ∷ 0x41 ∷ 0x50 ∷ 0x5f ∷ 0x5f ∷ 1 ∷ 1 ∷ 0 ∷ 0 ∷ 0 ∷ 0xff ∷ 0 ∷ 0 ∷ 0 ∷ 0 ∷ 0 ∷ 0x10 ∷ 0 ∷ 0 ∷ [])
@@ -196,7 +217,7 @@ table =
     ++ (0 ∷ 2 ∷ 0 ∷ 0 ∷ 0 ∷ 2 ∷ 0 ∷ 0 ∷ []) ++ codes "COREBOOT" ++ replicate 24 0 ++ (0 ∷ 0 ∷ [])
     ++ (0 ∷ 4 ∷ 0 ∷ 0 ∷ 0 ∷ 0xc ∷ 0 ∷ 0 ∷ []) ++ codes "REST" ++ replicate 28 0 ++ (8 ∷ 0 ∷ [])
 
--- these bytes at the front of a flash of 4096
+-- these bytes as the first of a flash of 4096
 abbrev in_4096 : List ℕ → List ℕ
 in_4096 front = front ++ replicate (4096 - length front) 0xff
 
@@ -224,12 +245,12 @@ no_map_in_an_erased_flash : map_of (in_4096 []) ≡ None
 unfolding has_signature fmap_head_of is_valid_head is_map map_from
 no_map_in_an_erased_flash = refl
 
--- the signature at 0 overlaps the one at 6, where the table stands
+-- the signature at 0 overlaps the one at 6, where the map stands
 a_map_behind_an_overlapping_signature : map_of (in_4096 (codes "__FMAP" ++ table)) ≡ Some 6
 unfolding has_signature fmap_head_of is_valid_head is_map map_from
 a_map_behind_an_overlapping_signature = refl
 
--- a table of major version 2 is no map
+-- what has major version 2 is no map
 a_map_above_one_of_another_version : map_of (in_4096 (codes "__FMAP__" ++ (2 ∷ []) ++ drop 9 table ++ table)) ≡ Some 182
 unfolding has_signature fmap_head_of is_valid_head is_map map_from
 a_map_above_one_of_another_version = refl

@@ -1,4 +1,4 @@
--- A head is read alike from its own bytes and from all bytes behind them.
+-- A head is read alike from its own bytes and from any list of which they are a prefix.
 use Rattle.std.proofs.Common.{◌≡◌, ℕ, ◌+◌, ◌≤◌, List, take, drop, refl, sym, ap, ◌∙◌, arith}
 use Rattle.std.specs.Prelude.{slice_range}
 use Rattle.std.proofs.lemmas.List.{take-take}

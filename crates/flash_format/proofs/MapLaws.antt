@@ -3,7 +3,7 @@ use Rattle.std.proofs.Common.{◌≡◌, ℕ, zero, suc, ◌+◌, Bool, true, fa
 use Rattle.flash_format.specs.Flashmap.{is_map, map_from, map_of}
 use Rattle.flash_format.specs.Laws.{NoMapBelow, IsMapOf}
 
--- the lowest map of bytes whose first stands at a place: so many bytes behind it, and none before
+-- the lowest map of bytes whose first stands at a place: so many bytes further on, and none before
 record IsLowest (at : ℕ) (x : List ℕ) (q : ℕ) : Type 0 where
   behind : ℕ
   place : q ≡ at + behind

@@ -3,7 +3,7 @@ use Rattle.std.proofs.Common.{◌≡◌, ℕ, suc, ◌+◌, ◌<◌, ◌≤◌, 
 use Rattle.std.proofs.lemmas.Bool.{leb-true, le-leb, lt-leb}
 use Rattle.std.proofs.lemmas.List.{nil_from_length}
 use Rattle.std.specs.List.{find}
-use Rattle.flash_format.specs.Flashmap.{has_signature, fmap_head_of, is_valid_head, is_map, map_from, areas_from, area_of, is_area, table_len}
+use Rattle.flash_format.specs.Flashmap.{has_signature, fmap_head_of, is_valid_head, is_map, map_from, areas_from, area_of, is_area, map_len}
 
 -- ---- is there a map?
 
@@ -38,11 +38,11 @@ unfolding map_from
 map_end at image le = ap (map_from at) (nil_from_length (drop at image) (omega (arith, length-drop at image)))
 
 -- a map lies inside the image
-pub map_inside : (x : List ℕ) → is_map x ≡ true → table_len (fmap_head_of x) ≤ length x
+pub map_inside : (x : List ℕ) → is_map x ≡ true → map_len (fmap_head_of x) ≤ length x
 unfolding is_map is_valid_head
 map_inside x e = go (leb 56 (length x)) (has_signature x) _ _ e
   where
-    go : (a b c d : Bool) → (a && (b && (c && (d && leb (table_len (fmap_head_of x)) (length x))))) ≡ true → table_len (fmap_head_of x) ≤ length x
+    go : (a b c d : Bool) → (a && (b && (c && (d && leb (map_len (fmap_head_of x)) (length x))))) ≡ true → map_len (fmap_head_of x) ≤ length x
     go false b c d p = absurd cc
     go true false c d p = absurd cc
     go true true false d p = absurd cc

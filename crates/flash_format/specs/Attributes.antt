@@ -40,16 +40,16 @@ has_bad_len h left = nat_lt h.len (least_len h.tag) || nat_lt left h.len
 abbrev pub is_malformed : List ℕ → Bool
 is_malformed x = has_bad_len (attr_head_of x) (length x)
 
--- the attribute at the front
+-- the attribute that these bytes begin with
 abbrev pub attribute : List ℕ → Attribute
 attribute x = let h = attr_head_of x in record { tag = h.tag; contents = slice_range x 8 h.len }
 
--- an attribute at the front before the list behind so many bytes
+-- an attribute before the list that follows after so many bytes
 abbrev pub by_attribute : List ℕ → (ℕ → Option (List Attribute)) → Option (List Attribute)
-by_attribute x behind =
+by_attribute x later =
     if ends_list x then Some []
     else (if is_malformed x then None
-    else option_map (λ others. attribute x ∷ others) (behind (attr_head_of x).len))
+    else option_map (λ others. attribute x ∷ others) (later (attr_head_of x).len))
 
 -- The attributes in bytes of which the first `skip` still belong to the one before.
 unfoldable pub attributes_after : ℕ → List ℕ → Option (List Attribute)

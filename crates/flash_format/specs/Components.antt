@@ -1,5 +1,5 @@
 -- The components of a region: its cells that are no free space.
-use Rattle.std.specs.Prelude.{ℕ, ◌+◌, Bool, not, List, [], ◌∷◌, length, slice_range, unwrap_or, ◌==◌, if◌then◌else◌}
+use Rattle.std.specs.Prelude.{ℕ, ◌+◌, Bool, not, List, [], ◌∷◌, length, slice_range, map, unwrap_or, ◌==◌, if◌then◌else◌}
 use Rattle.flash_format.specs.Head.{head_of, is_free}
 use Rattle.flash_format.specs.Attributes.{Attribute, attributes, packing_in}
 use Rattle.flash_format.specs.Entry.{name_field, name_of, attribute_field}
@@ -50,6 +50,10 @@ components_from at [] = []
 components_from at (x ∷ cells) =
     let others = components_from (at + length x) cells in
     if is_free (head_of x) then others else component_at at x ∷ others
+
+-- the same components, so many bytes further on
+abbrev pub moved : ℕ → List Component → List Component
+moved n all = map (λ (c : Component). record c { at = n + c.at }) all
 
 abbrev pub components : List ℕ → List Component
 components x = components_from 0 (cut x).cells

@@ -1,5 +1,5 @@
 -- A region cut into its cells, which follow each other, and what ends them.
--- CBFS entries follow each other at multiples of 64; that the rest behind the last one is a tail, kept and never
+-- CBFS entries follow each other at multiples of 64; that the rest after the last one is a tail, kept and never
 -- used, is this project's own.
 use Rattle.std.specs.Prelude.{◌≡◌, ℕ, zero, suc, pred, ◌<◌, List, [], ◌∷◌, ◌++◌, length, take, All}
 use Rattle.std.specs.List.{concat}
@@ -25,11 +25,15 @@ ends e = record { cells = []; end = e }
 abbrev pub after : List ℕ → Cut → Cut
 after x rest = record { cells = x ∷ rest.cells; end = rest.end }
 
--- what an entry at the front makes of these bytes, given the cut behind a cell of so many bytes
+-- the same of several cells
+abbrev pub after_all : List (List ℕ) → Cut → Cut
+after_all cells rest = record { cells = cells ++ rest.cells; end = rest.end }
+
+-- what the entry that these bytes begin with makes of them, given the cut after a cell of so many bytes
 abbrev pub by_entry : Entry → List ℕ → (ℕ → Cut) → Cut
-by_entry absent x behind = ends tail
-by_entry (damaged kind) x behind = ends (damage kind)
-by_entry (cell span) x behind = after (take span x) (behind span)
+by_entry absent x later = ends tail
+by_entry (damaged kind) x later = ends (damage kind)
+by_entry (cell span) x later = after (take span x) (later span)
 
 -- The cut of bytes of which the first `skip` still belong to the cell before.
 unfoldable pub cut_after : ℕ → List ℕ → Cut

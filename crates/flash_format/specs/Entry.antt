@@ -40,7 +40,7 @@ pub data Entry : Type 0 where
   -- a cell of so many bytes
   cell : ℕ → Entry
 
--- what is checked of a component behind its head
+-- what is checked of a component after its head
 abbrev pub component : Head → List ℕ → ℕ → Entry
 component h x span =
     if not (has_name (name_field h x)) then damaged kinds.Name
@@ -55,7 +55,7 @@ abbrev pub under : List ℕ → Option Head → Entry
 under x None = absent
 under x (Some h) = present h x (checked h (length x))
 
--- the head at the front, where there is one
+-- the head that these bytes begin with, where there is one
 abbrev pub front : List ℕ → Option Head
 front x = if nat_lt (length x) 24 then None else head_at x
 

@@ -14,10 +14,18 @@ use Rattle.flash_format.specs.Entry.{is_nul}
 abbrev pub le : ℕ → ℕ → List ℕ → ℕ
 le n at x = little_number n (slice_range x at (at + n))
 
+-- how many bytes the head of a map has, with its signature
+abbrev pub fmap_head_len : ℕ
+fmap_head_len = 56
+
+-- how many bytes an area has in a map
+abbrev pub area_len : ℕ
+area_len = 42
+
 unfoldable pub has_signature : List ℕ → Bool
 has_signature x = starts_with nat_eq x (codes "__FMAP__")
 
--- the fields behind the signature
+-- the fields after the signature
 unfoldable pub fmap_head_of : List ℕ → FmapHead
 fmap_head_of x = record { major = slice_index x 8; minor = slice_index x 9; base = le 8 10 x; size = le 4 18 x; name = slice_range x 22 54; nareas = le 2 54 x }
 
@@ -44,17 +52,17 @@ is_printing b = nat_le 0x21 b && nat_le b 0x7e
 abbrev pub is_named : List ℕ → Bool
 is_named name = list_any is_nul name && list_all is_printing (text_of name)
 
--- how long a table is, with its areas
-abbrev pub table_len : FmapHead → ℕ
-table_len h = 56 + 42 * h.nareas
+-- how long a map is, with its areas
+abbrev pub map_len : FmapHead → ℕ
+map_len h = fmap_head_len + area_len * h.nareas
 
 -- what is asked of a head besides its signature, with so many bytes up to the image's end
 unfoldable pub is_valid_head : FmapHead → ℕ → Bool
-is_valid_head h left = h.major == 1 && (is_named h.name && nat_le (table_len h) left)
+is_valid_head h left = h.major == 1 && (is_named h.name && nat_le (map_len h) left)
 
--- a valid map stands at the front of these bytes
+-- these bytes begin with a valid map
 unfoldable pub is_map : List ℕ → Bool
-is_map x = nat_le 56 (length x) && (has_signature x && is_valid_head (fmap_head_of x) (length x))
+is_map x = nat_le fmap_head_len (length x) && (has_signature x && is_valid_head (fmap_head_of x) (length x))
 
 -- the lowest place of a valid map, of bytes whose first stands at this place
 unfoldable pub map_from : ℕ → List ℕ → Option ℕ
@@ -68,11 +76,11 @@ map_of image = map_from 0 image
 -- the first n areas in these bytes
 unfoldable pub areas_from : ℕ → List ℕ → List Area
 areas_from zero x = []
-areas_from (suc n) x = area_of x ∷ areas_from n (drop 42 x)
+areas_from (suc n) x = area_of x ∷ areas_from n (drop area_len x)
 
 -- the areas of the map at a place
 abbrev pub areas_at : List ℕ → ℕ → List Area
-areas_at image q = areas_from (fmap_head_of (drop q image)).nareas (drop (q + 56) image)
+areas_at image q = areas_from (fmap_head_of (drop q image)).nareas (drop (q + fmap_head_len) image)
 
 -- the area has this name
 abbrev pub is_area : List ℕ → Area → Bool

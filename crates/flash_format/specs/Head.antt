@@ -1,4 +1,4 @@
--- The 24 bytes at the front of a CBFS entry, and the checks of them that need no other byte.
+-- The first 24 bytes of a CBFS entry, and the checks of them that need no other byte.
 -- The fields are those of `struct cbfs_file` in coreboot's documentation of CBFS, and its numbers are big-endian.
 -- The order of the checks and their limits are this project's own.
 use Rattle.std.specs.Prelude.{ℕ, ◌+◌, ◌*◌, ◌/◌, Bool, not, ◌&&◌, ◌||◌, List, ◌++◌, slice_range, Option, Some, None, Result, Ok, Err, nat_eq, nat_lt, ◌==◌, if◌then◌else◌}
@@ -14,15 +14,15 @@ use Rattle.flash_format.specs.declared.head.DamageKind.TheVariants as kinds
 abbrev pub round64 : ℕ → ℕ
 round64 n = (n + 63) / 64 * 64
 
--- how many bytes of an empty entry stand before the space that it describes
+-- how many bytes of an empty entry stand before the space that it describes: the head, and a name field of 4
 abbrev pub header_length : ℕ
-header_length = 40
+header_length = 28
 
 -- the big-endian number in the four bytes from a place on
 abbrev pub be32 : ℕ → List ℕ → ℕ
 be32 at x = big_number 4 (slice_range x at (at + 4))
 
--- the four numbers behind the magic
+-- the four numbers after the magic
 unfoldable pub head_of : List ℕ → Head
 head_of x = record { len = be32 8 x; kind = be32 12 x; attributes_offset = be32 16 x; offset = be32 20 x }
 
@@ -41,7 +41,7 @@ head_bytes h = codes "LARCHIVE" ++ big_bytes 4 h.len ++ big_bytes 4 h.kind ++ bi
 abbrev pub is_free : Head → Bool
 is_free h = h.kind == 0 || h.kind == 0xffffffff
 
--- there are attributes, and they begin before the name has room for a NUL, or behind the content's begin
+-- there are attributes, and they begin before the name has room for a NUL, or after the content's begin
 abbrev pub attributes_misplaced : Head → Bool
 attributes_misplaced h = not (h.attributes_offset == 0) && (nat_lt h.attributes_offset 25 || nat_lt h.offset h.attributes_offset)
 

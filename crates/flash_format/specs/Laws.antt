@@ -1,8 +1,12 @@
 -- The laws of the definitions that the crates above rest on.
-use Rattle.std.specs.Prelude.{◌≡◌, ◌≢◌, ℕ, ◌%◌, ◌<◌, ◌≤◌, true, List, length, take, drop, Some, None, Option}
-use Rattle.flash_format.specs.Head.{head_of, is_free}
+use Rattle.std.specs.Prelude.{◌≡◌, ◌≢◌, ℕ, ◌+◌, ◌-◌, ◌%◌, ◌^◌, ◌<◌, ◌≤◌, Bool, true, List, ◌++◌, length, take, drop, All, Some, None, Option}
+use Rattle.std.specs.List.{concat, sum_by}
+use Rattle.flash_format.specs.Head.{header_length, head_of, is_free}
+use Rattle.flash_format.specs.Blanks.{blank_header}
 use Rattle.flash_format.specs.Entry.{entry, cell}
-use Rattle.flash_format.specs.Cut.{End, cut, IsCut}
+use Rattle.flash_format.specs.Cut.{End, cut, after_all, IsCell, IsCut}
+use Rattle.flash_format.specs.Components.{components, components_from, moved}
+use Rattle.flash_format.specs.Splices.{CellsBetween, spliced}
 use Rattle.flash_format.specs.Flashmap.{is_map, map_of}
 
 -- a cell has at least 64 bytes, and a multiple of 64
@@ -28,6 +32,42 @@ EveryRegionHasACut = (x : List ℕ) → length x % 64 ≡ 0 → (rest : List ℕ
 -- and in no other way
 abbrev pub CutsAreUnique : Type 0
 CutsAreUnique = (x : List ℕ) (cells : List (List ℕ)) (rest : List ℕ) (e : End) → IsCut x cells rest e → cut x ≡ record { cells = cells; end = e }
+
+-- cells that join to the bytes before a place are the first of the cut, and those of the cut from there on come next
+abbrev pub CutsGoOn : Type 0
+CutsGoOn = (x : List ℕ) (at : ℕ) (cells : List (List ℕ)) → All IsCell cells → take at x ≡ concat cells → cut x ≡ after_all cells (cut (drop at x))
+
+-- and so with the components
+abbrev pub ComponentsGoOn : Type 0
+ComponentsGoOn = (x : List ℕ) (at : ℕ) (cells : List (List ℕ)) → All IsCell cells → take at x ≡ concat cells → at ≤ length x → components x ≡ components_from 0 cells ++ moved at (components (drop at x))
+
+-- the components of cells in two parts
+abbrev pub ComponentsJoin : Type 0
+ComponentsJoin = (at : ℕ) (cells more : List (List ℕ)) → components_from at (cells ++ more) ≡ components_from at cells ++ components_from (at + length (concat cells)) more
+
+-- the place after cells is the sum of their lengths
+abbrev pub PlacesAreSums : Type 0
+PlacesAreSums = (x : List ℕ) (at : ℕ) (cells : List (List ℕ)) → take at x ≡ concat cells → at ≤ length x → at ≡ sum_by length cells
+
+-- a blank's header is a free cell, whatever bytes stand after it
+abbrev pub BlankHeadersAreFreeCells : Type 0
+BlankHeadersAreFreeCells = (size : ℕ) (kept : Bool) (more : List ℕ) → 64 ≤ size → size % 64 ≡ 0 → size < 2 ^ 32 → header_length + length more ≡ size
+    → (entry (blank_header size kept ++ more) ≡ cell size) × (is_free (head_of (blank_header size kept ++ more)) ≡ true)
+
+-- cells of as many bytes in place of a group: the others stay, and what is left after them
+abbrev pub CellsAreReplaced : Type 0
+CellsAreReplaced = (x : List ℕ) (start end : ℕ) (g : CellsBetween x start end) (new : List (List ℕ)) → All IsCell new → start + length (concat new) ≡ end
+    → IsCut (spliced x start end (concat new)) (g.before ++ new ++ g.after) g.rest g.ending
+
+-- and so do the components before and after, each with its place and its bytes
+abbrev pub ComponentsStay : Type 0
+ComponentsStay = (x : List ℕ) (start end : ℕ) (g : CellsBetween x start end) (new : List (List ℕ)) → All IsCell new → start + length (concat new) ≡ end
+    → components (spliced x start end (concat new)) ≡ components_from 0 g.before ++ components_from start new ++ components_from end g.after
+
+-- a blank's header in place of the group, with anything after it up to the group's end: the other components alone
+abbrev pub BlanksHaveNoComponent : Type 0
+BlanksHaveNoComponent = (x : List ℕ) (start end : ℕ) (g : CellsBetween x start end) (kept : Bool) (more : List ℕ) → start < end → end - start < 2 ^ 32 → start + header_length + length more ≡ end
+    → components (spliced x start end (blank_header (end - start) kept ++ more)) ≡ components_from 0 g.before ++ components_from end g.after
 
 -- no valid map stands below this place
 abbrev pub NoMapBelow : List ℕ → ℕ → Type 0

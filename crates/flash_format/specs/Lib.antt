@@ -1,8 +1,10 @@
 pub mod Head
+pub mod Blanks
 pub mod Attributes
 pub mod Entry
 pub mod Cut
 pub mod Components
+pub mod Splices
 pub mod Flashmap
 pub mod TypeNames
 pub mod Laws

@@ -5,10 +5,12 @@ ghost use Rattle.flash_format.specs.Attributes.{attr_head_of, is_unused, least_l
 
 use byteorder::{BigEndian, ByteOrder};
 
-/// The front of an attribute (`struct cbfs_file_attribute`); `len` counts these eight bytes too.
+/// The first eight bytes of an attribute (`struct cbfs_file_attribute`).
 #[derive(Clone, Copy, Debug, PartialEq, Eq)]
 pub struct AttrHead {
+    /// What the attribute tells; 0 and 0xffffffff are none, and end the list.
     pub tag: u32,
+    /// How many bytes the attribute has, these eight among them.
     pub len: u32,
 }
 
@@ -19,6 +21,7 @@ impl AttrHead {
     /// The tag of a hash attribute.
     pub const HASH: u32 = 0x6873_6148;
 
+    /// The head in these bytes, which are big-endian.
     #[tactic(auto, unfolding(crate::specs::Attributes::attr_head_of))]
     pub fn read(bytes: &[u8; 8]) -> AttrHead
         ensures { result ≡ attr_head_of bytes.now }

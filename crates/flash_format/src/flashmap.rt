@@ -7,30 +7,36 @@ ghost use Rattle.flash_format.specs.Flashmap.{fmap_head_of, fmap_head_bytes, has
 
 use byteorder::{ByteOrder, LittleEndian};
 
-const SIGNATURE: [u8; 8] = *b"__FMAP__";
-
-const HEAD_LEN: u64 = 56;
-
-const AREA_LEN: u64 = 42;
-
 /// The head of a flashmap, without its signature.
 #[derive(Clone, Copy, Debug, PartialEq, Eq)]
 pub struct FmapHead {
+    /// The version before the point: 1 in every valid map.
     pub major: u8,
+    /// The version after the point, which nothing depends on.
     pub minor: u8,
+    /// Where the flash begins in the address space of its computer.
     pub base: u64,
+    /// How many bytes the flash has.
     pub size: u32,
+    /// The flash's name, then NULs.
     pub name: [u8; 32],
+    /// How many areas follow the head.
     pub nareas: u16,
 }
 
 impl FmapHead {
+    /// The bytes that a map begins with.
+    pub const SIGNATURE: [u8; 8] = *b"__FMAP__";
+
+    /// How many bytes the head has, with its signature.
+    pub const LENGTH: usize = 56;
+
     /// The head in these bytes, or `None` without the signature.
     #[tactic(auto, unfolding(crate::specs::Flashmap::fmap_head_of, crate::specs::Flashmap::has_signature))]
-    pub fn read(bytes: &[u8; 56]) -> Option<FmapHead>
+    pub fn read(bytes: &[u8; Self::LENGTH]) -> Option<FmapHead>
         ensures { result ≡ (if has_signature bytes.now then Some (fmap_head_of bytes.now) else None) }
     {
-        if !bytes.starts_with(&SIGNATURE) {
+        if !bytes.starts_with(&Self::SIGNATURE) {
             return None;
         }
         Some(FmapHead {
@@ -44,7 +50,7 @@ impl FmapHead {
     }
 
     /// The bytes of `struct fmap` of FMAP 1.1 with these fields, whose numbers are little-endian.
-    pub fn write(&self) -> [u8; 56]
+    pub fn write(&self) -> [u8; Self::LENGTH]
         ensures bytes { result ≡ fmap_head_bytes self.now }
         ensures signature { has_signature result ≡ true }
         ensures read_back { fmap_head_of result ≡ self.now }
@@ -57,8 +63,8 @@ impl FmapHead {
             name,
             nareas,
         } = *self;
-        let mut out = [0; 56];
-        out[..8].copy_from_slice(&SIGNATURE);
+        let mut out = [0; Self::LENGTH];
+        out[..8].copy_from_slice(&Self::SIGNATURE);
         out[8] = major;
         out[9] = minor;
         LittleEndian::write_u64(&mut out[10..18], base);
@@ -76,30 +82,37 @@ impl FmapHead {
         text_of(&self.name)
     }
 
-    /// Whether a table with this head is valid, with `left` bytes up to the image's end.
+    /// Whether a map with this head is valid, with `left` bytes from it up to the image's end.
     #[tactic(auto, unfolding(crate::specs::Flashmap::is_valid_head))]
     pub fn is_valid(&self, left: u64) -> bool
         ensures { result ≡ is_valid_head self.now left }
     {
         self.major == 1
             && is_named(&self.name)
-            && HEAD_LEN + AREA_LEN * u64::from(self.nareas) <= left
+            && Self::LENGTH as u64 + Area::LENGTH as u64 * u64::from(self.nareas) <= left
     }
 }
 
 /// An area of a flashmap.
 #[derive(Clone, Copy, Debug, PartialEq, Eq)]
 pub struct Area {
+    /// Where the area begins, counted from the image's first byte.
     pub offset: u32,
+    /// How many bytes it has.
     pub size: u32,
+    /// Its name, then NULs.
     pub name: [u8; 32],
+    /// The sum of 1 for static, 2 for compressed, 4 for read-only and 8 for preserve. They are kept and not looked at.
     pub flags: u16,
 }
 
 impl Area {
+    /// How many bytes an area has in a map.
+    pub const LENGTH: usize = 42;
+
     /// The area in these bytes.
     #[tactic(auto, unfolding(crate::specs::Flashmap::area_of))]
-    pub fn read(bytes: &[u8; 42]) -> Area
+    pub fn read(bytes: &[u8; Self::LENGTH]) -> Area
         ensures { result ≡ area_of bytes.now }
     {
         Area {
@@ -111,7 +124,7 @@ impl Area {
     }
 
     /// The bytes of `struct fmap_area` of FMAP 1.1 with these fields, whose numbers are little-endian.
-    pub fn write(&self) -> [u8; 42]
+    pub fn write(&self) -> [u8; Self::LENGTH]
         ensures bytes { result ≡ area_bytes self.now }
         ensures read_back { area_of result ≡ self.now }
     {
@@ -121,7 +134,7 @@ impl Area {
             name,
             flags,
         } = *self;
-        let mut out = [0; 42];
+        let mut out = [0; Self::LENGTH];
         LittleEndian::write_u32(&mut out[..4], offset);
         LittleEndian::write_u32(&mut out[4..8], size);
         out[8..40].copy_from_slice(&name);

@@ -9,34 +9,37 @@ const MAGIC: [u8; 8] = *b"LARCHIVE";
 
 const DELETED: u32 = 0;
 
-const NULL: u32 = 0xffff_ffff;
+pub const NULL: u32 = 0xffff_ffff;
 
-/// How many bytes of an empty entry stand before the space that it describes: its head and an empty name.
-pub const HEADER_LENGTH: usize = 40;
+/// How many bytes of an empty entry stand before the space that it describes: its head of 24, and an empty name, since
+/// the fields of names are padded to multiples of 4. `lengths_are_defined` ties it to its definition.
+pub const HEADER_LENGTH: usize = 28;
 
 /// Why an entry is damaged: the first of these checks that fails.
 #[derive(Clone, Copy, Debug, PartialEq, Eq)]
 pub enum DamageKind {
     /// The content begins inside the head, or leaves a component no room for a name.
     Offset = 1,
-    /// The attributes begin before the name has room, or behind the content's begin.
+    /// The attributes begin before the name has room, or after the content's begin.
     AttrOffset = 2,
-    /// The content ends behind the region's end.
+    /// The content ends after the region's end.
     Extent = 3,
     /// The name has no NUL within its field's first 256 bytes.
     Name = 4,
-    /// An attribute is too short for its tag, or ends behind the content's begin.
+    /// An attribute is too short for its tag, or ends after the content's begin.
     AttrLength = 5,
 }
 
-/// Where an entry's content begins, counted from the entry, and how many bytes its cell has.
+/// Where the content of an entry lies that passed the checks of its head.
 #[derive(Clone, Copy, Debug, PartialEq, Eq)]
 pub struct Extent {
+    /// Where the content begins, counted from the entry.
     pub content: u64,
+    /// How many bytes the entry's cell has, up to the next entry: a multiple of 64.
     pub span: u64,
 }
 
-/// The numbers at the front of an entry, behind its magic (`struct cbfs_file`).
+/// The numbers that an entry begins with, after its magic (`struct cbfs_file`).
 #[derive(Clone, Copy, Debug, PartialEq, Eq)]
 pub struct Head {
     /// How many bytes of content there are.
@@ -117,6 +120,7 @@ impl Head {
         })
     }
 
+    /// Whether there are attributes that begin before the name has room, or after the content's begin.
     fn attributes_misplaced(&self) -> bool
         ensures { result ≡ attributes_misplaced self.now }
     {

@@ -1,8 +1,22 @@
 //! Laws of the definitions, which the crates above rest on. These functions do nothing: their contracts are the laws.
 
-ghost use Rattle.flash_format.specs.Laws.{CellsAreLarge, CellsFit, CellsAreReadAlike, FreeCellsAreReadByTheirHead, EveryRegionHasACut, CutsAreUnique, MapsAreTheLowest};
+ghost use Rattle.flash_format.specs.Laws.{CellsAreLarge, CellsFit, CellsAreReadAlike, FreeCellsAreReadByTheirHead, EveryRegionHasACut, CutsAreUnique, CutsGoOn, ComponentsGoOn, ComponentsJoin, PlacesAreSums, BlankHeadersAreFreeCells, CellsAreReplaced, ComponentsStay, BlanksHaveNoComponent, MapsAreTheLowest};
+ghost use Rattle.std.specs.Prelude.{◌≡◌};
+ghost use Rattle.flash_format.specs.Head.{header_length};
+ghost use Rattle.flash_format.specs.Flashmap.{fmap_head_len, area_len};
 
-/// How the cell of an entry is read.
+use crate::flashmap::{Area, FmapHead};
+use crate::head::HEADER_LENGTH;
+
+/// The lengths that the code has are those of the definitions.
+pub fn lengths_are_defined()
+    ensures header { HEADER_LENGTH ≡ header_length }
+    ensures map_head { FmapHead.LENGTH ≡ fmap_head_len }
+    ensures area { Area.LENGTH ≡ area_len }
+{}
+
+/// How the cell of an entry is read: its length is a multiple of 64, it fits into a region of such a length, and nothing
+/// after it bears on it; of a free one only the first 24 bytes do.
 pub fn entries_are_read_alike()
     ensures size { CellsAreLarge }
     ensures within { CellsFit }
@@ -10,10 +24,32 @@ pub fn entries_are_read_alike()
     ensures free { FreeCellsAreReadByTheirHead }
 {}
 
-/// A region is its cells joined, and what is left behind them.
+/// A region is its cells joined, and what is left after them, in one way.
 pub fn cuts_are_made_of_cells()
     ensures every { EveryRegionHasACut }
     ensures unique { CutsAreUnique }
+{}
+
+/// The cells up to a place come first in the cut, and those of the cut from there on come next. So it is with the
+/// components. A walk that has come to a place adds what it found to what is left.
+pub fn cuts_go_on()
+    ensures cut { CutsGoOn }
+    ensures components { ComponentsGoOn }
+    ensures joined { ComponentsJoin }
+    ensures places { PlacesAreSums }
+{}
+
+/// A blank is read by its header alone: whatever bytes follow it, up to its size, it is one cell of free space.
+pub fn blank_headers_are_free_cells()
+    ensures { BlankHeadersAreFreeCells }
+{}
+
+/// Other cells in place of a group of neighbouring ones. The other components stay, with their places and bytes, and so
+/// do the end of the cells and what is left after them. A blank's header in place of the group leaves no component there.
+pub fn groups_are_replaced()
+    ensures cut { CellsAreReplaced }
+    ensures components { ComponentsStay }
+    ensures blank { BlanksHaveNoComponent }
 {}
 
 /// An image's map is the lowest valid one.

@@ -1,9 +1,17 @@
--- Writes over lists of bytes: what one leaves, what two in a row are, and what stays outside.
-use Rattle.std.proofs.Common.{◌≡◌, ℕ, ◌+◌, ◌-◌, ◌≤◌, List, ◌++◌, length, take, drop, refl, sym, ap, subst, ◌∙◌, arith, rules, length-append}
-use Rattle.std.proofs.lemmas.List.{append_assoc, take-take, drop-drop}
+-- Writes over lists of bytes: what one leaves, what two are, and what stays outside.
+use Rattle.std.proofs.Common.{◌≡◌, ℕ, ◌+◌, ◌-◌, ◌≤◌, List, ◌++◌, length, take, drop, refl, sym, ap, subst, ◌∙◌, arith, rules, length-append, length-take, length-drop, take-append-drop}
+use Rattle.std.specs.Prelude.{slice_range}
+use Rattle.std.proofs.lemmas.List.{append_assoc, take-take, drop-drop, drop-take, take_at, drop_at, length-take-le, take-append-le, drop-append-le}
 use Rattle.std.proofs.lemmas.Slice.{take-put_mid_below, take-put_mid, drop-put_mid}
 use Rattle.flash_store.specs.Bytes.{overwritten, SameOutside}
 use borrow.Rule.Slice.PartMut.{put_mid}
+
+-- a part as a length from a place on
+pub slice_range_is : (xs : List ℕ) (at n : ℕ) → slice_range xs at (at + n) ≡ take n (drop at xs)
+slice_range_is xs at n = ap (λ k. take k (drop at xs)) {x = at + n - at} {y = n} (omega arith)
+
+pub length-slice_range : (xs : List ℕ) (at n : ℕ) → at + n ≤ length xs → length (slice_range xs at (at + n)) ≡ n
+length-slice_range xs at n within = grind (arith, length-take, length-drop)
 
 -- the form in which std's lemmas have it
 pub overwritten_is : (old : List ℕ) (at : ℕ) (bytes : List ℕ) → overwritten old at bytes ≡ put_mid at (length bytes) old bytes
@@ -37,7 +45,7 @@ SameOutside-wider old new at m n shorter same = record {
   after = further old new (at + m) (at + n) (omega arith) same.after;
 }
 
--- a write right behind another is one write
+-- a write right after another's last byte makes one write with it
 pub overwritten-more : (old : List ℕ) (at : ℕ) (xs ys : List ℕ) → at + length xs ≤ length old → overwritten (overwritten old at xs) (at + length xs) ys ≡ overwritten old at (xs ++ ys)
 overwritten-more old at xs ys within =
     let first : take (at + length xs) (overwritten old at xs) ≡ take at old ++ xs =
@@ -51,7 +59,7 @@ pub overwritten-more_at : (old : List ℕ) (at m : ℕ) (xs ys : List ℕ) → l
 overwritten-more_at old at m xs ys e within =
     subst (λ k. at + k ≤ length old → overwritten (overwritten old at xs) (at + k) ys ≡ overwritten old at (xs ++ ys)) e (overwritten-more old at xs ys) within
 
--- what is taken is decided by a longer front
+-- what is taken is decided by a longer prefix
 nearer : (old new : List ℕ) (a b : ℕ) → a ≤ b → take b new ≡ take b old → take a new ≡ take a old
 nearer old new a b le e = sym (take-take a b new le) ∙ ap (take a) e ∙ take-take a b old le
 
@@ -61,3 +69,97 @@ SameOutside-trans old mid new at n d m within first second = record {
   before = nearer mid new at (at + d) (omega arith) second.before ∙ first.before;
   after = further mid new (at + d + m) (at + n) (omega (arith, within)) second.after ∙ first.after;
 }
+
+pub length-overwritten : (x : List ℕ) (at : ℕ) (u : List ℕ) → at + length u ≤ length x → length (overwritten x at u) ≡ length x
+length-overwritten x at u inside =
+    omega (arith, length-append (take at x) (u ++ drop (at + length u) x), length-append u (drop (at + length u) x), length-take at x, length-drop (at + length u) x)
+
+-- ---- what stands in a range afterwards
+
+-- in the range of the write: what was written
+pub overwritten-range : (x : List ℕ) (at : ℕ) (u : List ℕ) → at ≤ length x → slice_range (overwritten x at u) at (at + length u) ≡ u
+overwritten-range x at u inside =
+    slice_range_is (overwritten x at u) at (length u)
+    ∙ ap (λ (l : List ℕ). take (length u) l) (drop_at (take at x) (u ++ drop (at + length u) x) at (length-take-le at x inside))
+    ∙ take_at u (drop (at + length u) x) (length u) refl
+
+-- in a range after it: what stood there
+pub overwritten-later : (x : List ℕ) (at : ℕ) (u : List ℕ) (from n : ℕ) → at + length u ≤ from → at ≤ length x → slice_range (overwritten x at u) from (from + n) ≡ slice_range x from (from + n)
+overwritten-later x at u from n after inside =
+    slice_range_is (overwritten x at u) from n ∙ ap (take n) (drop-overwritten x at u from after inside) ∙ sym (slice_range_is x from n)
+
+-- and in one before it
+pub overwritten-earlier : (x : List ℕ) (at : ℕ) (u : List ℕ) (from n : ℕ) → from + n ≤ at → at ≤ length x → slice_range (overwritten x at u) from (from + n) ≡ slice_range x from (from + n)
+overwritten-earlier x at u from n before inside =
+    slice_range_is (overwritten x at u) from n
+    ∙ sym (drop-take from n (overwritten x at u))
+    ∙ ap (drop from) (take-overwritten x at u (from + n) before inside)
+    ∙ drop-take from n x
+    ∙ sym (slice_range_is x from n)
+
+-- ---- a changed range as a write
+
+-- a list in three parts
+three_parts : (x : List ℕ) (at n : ℕ) → take at x ++ (slice_range x at (at + n) ++ drop (at + n) x) ≡ x
+three_parts x at n =
+    ap (λ (l : List ℕ). take at x ++ (l ++ drop (at + n) x)) (slice_range_is x at n)
+    ∙ ap (λ (l : List ℕ). take at x ++ (take n (drop at x) ++ l)) (sym (drop-drop n at x))
+    ∙ ap (λ (l : List ℕ). take at x ++ l) (take-append-drop n (drop at x))
+    ∙ take-append-drop at x
+
+-- bytes written over themselves
+pub overwritten-same : (x : List ℕ) (at n : ℕ) → at + n ≤ length x → overwritten x at (slice_range x at (at + n)) ≡ x
+overwritten-same x at n inside =
+    ap (λ k. take at x ++ (slice_range x at (at + n) ++ drop (at + k) x)) (length-slice_range x at n inside) ∙ three_parts x at n
+
+-- what has changed in a range alone has other bytes there
+pub changed-overwritten : (x y : List ℕ) (at n : ℕ) → at + n ≤ length x → length y ≡ length x → SameOutside at n x y → y ≡ overwritten x at (slice_range y at (at + n))
+changed-overwritten x y at n inside size same =
+    let u : List ℕ = slice_range y at (at + n) in
+    sym (three_parts y at n)
+    ∙ ap (λ (l : List ℕ). l ++ (u ++ drop (at + n) y)) same.before
+    ∙ ap (λ (l : List ℕ). take at x ++ (u ++ l)) same.after
+    ∙ ap (λ k. take at x ++ (u ++ drop (at + k) x)) (sym (length-slice_range y at n (omega arith)))
+
+-- the same as a write of more bytes, of which the last stand there already
+pub overwritten-front : (x : List ℕ) (at k n : ℕ) (u : List ℕ) → length u ≡ k → at + k + n ≤ length x → overwritten x at u ≡ overwritten x at (u ++ slice_range x (at + k) (at + k + n))
+overwritten-front x at k n u size inside =
+    let y : List ℕ = overwritten x at u in
+    let m = at + k in
+    let long : length y ≡ length x = length-overwritten x at u (omega arith) in
+    let there : slice_range y m (m + n) ≡ slice_range x m (m + n) = overwritten-later x at u m n (omega arith) (omega arith) in
+    sym (overwritten-same y m n (omega arith))
+    ∙ ap (λ (l : List ℕ). overwritten y m l) there
+    ∙ overwritten-more_at x at k u (slice_range x m (m + n)) size (omega arith)
+
+-- ---- writes to separate ranges
+
+-- a write to the first of two lists
+pub overwritten-append : (p q : List ℕ) (at : ℕ) (u : List ℕ) → at + length u ≤ length p → overwritten (p ++ q) at u ≡ overwritten p at u ++ q
+overwritten-append p q at u inside =
+    ap (λ (l : List ℕ). l ++ (u ++ drop (at + length u) (p ++ q))) (take-append-le at p q (omega (arith, inside)))
+    ∙ ap (λ (l : List ℕ). take at p ++ (u ++ l)) (drop-append-le (at + length u) p q inside)
+    ∙ ap (λ (l : List ℕ). take at p ++ l) (sym (append_assoc u (drop (at + length u) p) q))
+    ∙ sym (append_assoc (take at p) (u ++ drop (at + length u) p) q)
+
+-- one to the begin of the second
+overwritten-second : (p q : List ℕ) (at : ℕ) (v : List ℕ) → length p ≡ at → overwritten (p ++ q) at v ≡ p ++ (v ++ drop (length v) q)
+overwritten-second p q at v size =
+    ap (λ (l : List ℕ). l ++ (v ++ drop (at + length v) (p ++ q))) (take_at p q at size)
+    ∙ ap (λ (l : List ℕ). p ++ (v ++ l)) (sym (drop-drop (length v) at (p ++ q)) ∙ ap (drop (length v)) (drop_at p q at size))
+
+-- they come to the same in either order
+pub overwritten-separate : (x : List ℕ) (a : ℕ) (u : List ℕ) (b : ℕ) (v : List ℕ) → a + length u ≤ b → b ≤ length x → overwritten (overwritten x a u) b v ≡ overwritten (overwritten x b v) a u
+overwritten-separate x a u b v apart inside =
+    let p : List ℕ = take b x in
+    let q : List ℕ = drop b x in
+    let size : length p ≡ b = length-take-le b x inside in
+    let room : a + length u ≤ length p = omega (arith, size, apart) in
+    let same_size : length (overwritten p a u) ≡ b = length-overwritten p a u room ∙ size in
+    let x_is : x ≡ p ++ q = sym (take-append-drop b x) in
+    ap (λ (l : List ℕ). overwritten (overwritten l a u) b v) x_is
+    ∙ ap (λ (l : List ℕ). overwritten l b v) (overwritten-append p q a u room)
+    ∙ overwritten-second (overwritten p a u) q b v same_size
+    ∙ sym (overwritten-append p (v ++ drop (length v) q) a u room)
+    ∙ ap (λ (l : List ℕ). overwritten l a u) (sym (overwritten-second p q b v size))
+    ∙ ap (λ (l : List ℕ). overwritten (overwritten l b v) a u) (sym x_is)

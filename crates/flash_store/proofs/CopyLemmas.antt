@@ -4,9 +4,9 @@ use Rattle.std.specs.Prelude.{slice_range, Result, Ok, Err, OnErr}
 use Rattle.std.specs.Io.KnownBytes.{Appends, Keeps}
 use Rattle.std.proofs.KnownBytes.{Appends-trans}
 use Rattle.std.proofs.Math.Seq.{take-add}
-use Rattle.std.proofs.lemmas.List.{drop-drop, take-take, length-take-le, take-replicate, length-replicate, replicate-append-replicate, length-take, length-drop}
+use Rattle.std.proofs.lemmas.List.{drop-drop, take-take, length-take-le, take-replicate, length-replicate, replicate-append-replicate}
 use Rattle.flash_store.specs.Bytes.{overwritten, SameOutside, PartWritten}
-use Rattle.flash_store.proofs.BytesLemmas.{overwritten-more_at, SameOutside-overwritten, SameOutside-trans}
+use Rattle.flash_store.proofs.BytesLemmas.{slice_range_is, length-slice_range, overwritten-more_at, SameOutside-overwritten, SameOutside-trans}
 use Rattle.flash_store.specs.Device.{Device, Calls, OneCall}
 use Rattle.flash_store.specs.Output.{AppendsPart, AppendsPieces}
 
@@ -30,10 +30,6 @@ CallsSoFar-more done n size old mid new left is so_far call = record {
   same_length = call.same_length ∙ so_far.same_length;
 }
 
--- a part as a length from a place on
-pub slice_range_is : (xs : List ℕ) (at n : ℕ) → slice_range xs at (at + n) ≡ take n (drop at xs)
-slice_range_is xs at n = ap (λ k. take k (drop at xs)) {x = at + n - at} {y = n} (omega arith)
-
 -- two neighbouring parts are one
 pub slice_range-join : (xs : List ℕ) (at m k : ℕ) → slice_range xs at (at + m) ++ slice_range xs (at + m) (at + m + k) ≡ slice_range xs at (at + (m + k))
 slice_range-join xs at m k =
@@ -42,9 +38,6 @@ slice_range-join xs at m k =
 
 pub Appends-more : (a b c : Option (List ℕ)) (xs : List ℕ) (at m k : ℕ) → Appends a b (slice_range xs at (at + m)) → Appends b c (slice_range xs (at + m) (at + m + k)) → Appends a c (slice_range xs at (at + (m + k)))
 Appends-more a b c xs at m k first second = rw (slice_range-join xs at m k) at (Appends-trans a b c _ _ first second)
-
-pub length-slice_range : (xs : List ℕ) (at n : ℕ) → at + n ≤ length xs → length (slice_range xs at (at + n)) ≡ n
-length-slice_range xs at n within = grind (arith, length-take, length-drop)
 
 pub AppendsPart-more : (a b c : Option (List ℕ)) (xs : List ℕ) (at m k n : ℕ) → m + k ≤ n → at + n ≤ length xs → Appends a b (slice_range xs at (at + m)) → AppendsPart b c (slice_range xs (at + m) (at + m + k)) → AppendsPart a c (slice_range xs at (at + n))
 AppendsPart-more a b c xs at m k n short within first part =
@@ -66,7 +59,7 @@ Appends-keeps (Some x) None c xs so_far kept = absurd so_far
 Appends-keeps (Some x) (Some y) None xs so_far kept = absurd kept
 Appends-keeps (Some x) (Some y) (Some z) xs so_far kept = kept ∙ so_far
 
--- whole pieces that were put stay the front of what was to be put
+-- whole pieces that were put stay a prefix of what was to be put
 pub AppendsPieces-kept : (a b c : Option (List ℕ)) (xs : List ℕ) (at done n : ℕ) → done < n → at + n ≤ length xs → done % 4096 ≡ 0 → Appends a b (slice_range xs at (at + done)) → Keeps b c → AppendsPieces a c (slice_range xs at (at + n))
 AppendsPieces-kept a b c xs at done n left within whole so_far kept =
     let front : slice_range xs at (at + done) ≡ take done (slice_range xs at (at + n)) =
@@ -90,11 +83,11 @@ Filled-more old mid new at done size byte short within so_far now =
     ∙ ap (λ ys. overwritten (overwritten old at (replicate done byte)) (at + done) ys) (take-replicate size 4096 byte short)
     ∙ behind ∙ ap (overwritten old at) (replicate-append-replicate done size byte)
 
--- how long the front of a row of copies is
+-- how long a prefix of a row of copies is
 pub length-copies : (size byte : ℕ) → size ≤ 4096 → length (take size (replicate 4096 byte)) ≡ size
 length-copies size byte short = ap length (take-replicate size 4096 byte short) ∙ length-replicate size byte
 
--- the same bytes, as the front of a longer row of copies
+-- the same bytes, as a prefix of a longer row of copies
 pub Filled-front : (old : List ℕ) (at done n byte : ℕ) → done ≤ n → overwritten old at (take done (replicate n byte)) ≡ overwritten old at (replicate done byte)
 Filled-front old at done n byte below = ap (overwritten old at) (take-replicate done n byte below)
 

@@ -1,4 +1,4 @@
--- The search for a table, piece by piece.
+-- The search for a map, piece by piece.
 use Rattle.std.specs.Option.{option_map}
 use Rattle.std.proofs.Common.{⊎_elim, le_refl, zero-le, zero, suc, ◌≡◌, ◌∙◌, ℕ, ◌+◌, ◌-◌, ◌*◌, ◌<◌, ◌≤◌, IsTrue, List, Option, Some, None, length, take, drop, sym, ap, subst, arith}
 use Rattle.std.specs.Prelude.{slice_range, slice_index}
@@ -8,23 +8,23 @@ use Rattle.std.proofs.lemmas.List.{get_or-take, get_or-drop, length-take}
 use Rattle.std.proofs.lemmas.List.Prefix.{at_from_reads}
 use lib.Chars.{codes}
 use Rattle.memchr.specs.Find.{Nowhere, IsFirst, OccursAt, FindsNeedle}
-use Rattle.flash_store.specs.Device.{Device, OneCall, Reads}
+use Rattle.flash_store.specs.Device.{Device, Reads}
 use Rattle.flash_store.specs.Fmap.{HasSignatureAt, map_head, map_head_in, found_in}
 use Rattle.flash_format.specs.declared.flashmap.FmapHead.{FmapHead}
 use Rattle.flash_format.specs.declared.flashmap.Area.{Area}
-use Rattle.flash_format.specs.Flashmap.{is_map, map_of, map_from, fmap_head_of, has_signature, is_valid_head, area_of, table_len}
+use Rattle.flash_format.specs.Flashmap.{is_map, map_of, map_from, fmap_head_of, has_signature, is_valid_head, area_of, map_len}
 use Rattle.flash_format.proofs.Fronts.{has_signature-take, fmap_head_of-take, area_of-take}
 use Rattle.flash_format.proofs.MapSteps.{map_step, map_end, not_map_short}
 use Rattle.std.proofs.Common.{Bool, true, false, cond, refl, length-drop}
 use Rattle.std.proofs.lemmas.Bool.{leb-true, le-leb}
-use Rattle.flash_store.proofs.CopyLemmas.{slice_range_is, length-slice_range}
+use Rattle.flash_store.proofs.BytesLemmas.{slice_range_is, length-slice_range}
 use Rattle.flash_store.proofs.DeviceLemmas.{honest_still}
 
--- the bytes that a table begins with
+-- the bytes that a map begins with
 abbrev pub signature : List ℕ
 signature = codes "__FMAP__"
 
--- a valid table stands at q
+-- a valid map stands at q
 abbrev pub IsTableAt : List ℕ → ℕ → Type 0
 IsTableAt image q = is_map (drop q image) ≡ true
 
@@ -50,7 +50,7 @@ OccursAt-part xs needle at n k within fits occurs = record {
   reads = λ j below. index-slice_range xs at n (k + j) (omega (arith, fits, below)) ∙ ap (slice_index xs) {x = at + (k + j)} {y = at + k + j} (omega arith) ∙ occurs.reads j below;
 }
 
--- a table's bytes lie inside the image and begin with the signature
+-- a map's bytes lie inside the image and begin with the signature
 pub IsTableAt-parts : (image : List ℕ) (q : ℕ) → IsTableAt image q → (q + 56 ≤ length image) × (has_signature (drop q image) ≡ true)
 unfolding is_map
 IsTableAt-parts image q table =
@@ -61,7 +61,7 @@ IsTableAt-parts image q table =
 pub IsTableAt-signature : (image : List ℕ) (q : ℕ) → IsTableAt image q → HasSignatureAt image q
 IsTableAt-signature image q table = (IsTableAt-parts image q table).1
 
--- a front of n bytes has as many behind it
+-- what has a prefix of n bytes has as many itself
 long_enough : (front x : List ℕ) (n : ℕ) → front ≡ take n x → length front ≡ n → n ≤ length x
 long_enough front x n same size = grind (arith, ap length same, length-take)
 
@@ -121,19 +121,19 @@ finds_in_whole image at n (Some p) within found =
       OccursAt-signature image (at + p) (OccursAt-whole image signature at n p within found.1),
     )
 
--- where no signature stands, no table does
+-- where no signature stands, no map does
 pub no_tables : (image : List ℕ) (place end : ℕ) → Nowhere (IsTableAt image) 0 place → Nowhere (HasSignatureAt image) place end → Nowhere (IsTableAt image) 0 end
 no_tables image place end before none k above below table =
     ⊎_elim (λ earlier. before k above earlier table) (λ later. none k later below (IsTableAt-signature image k table)) (cases_lt k place)
 
--- nor just behind a signature that begins no table
+-- nor just after the begin of a signature that begins no map
 pub no_tables_behind : (image : List ℕ) (q : ℕ) → Nowhere (IsTableAt image) 0 q → HasSignatureAt image q → ¬ IsTableAt image q → Nowhere (IsTableAt image) 0 (q + 6)
 no_tables_behind image q before occurs no_table k above below table =
     ⊎_elim (λ earlier. before k above earlier table)
     (λ later. ⊎_elim (λ same. no_table (subst (IsTableAt image) same table)) (λ other. signature-apart image q k occurs (omega (arith, later, other)) below (IsTableAt-signature image k table)) (cases_eq k q))
     (cases_lt k q)
 
--- no table stands before this place, and at most two calls were made for each six bytes before it
+-- no map stands before this place, and at most two calls were made for each six bytes before it
 pub record SearchedTo (place : ℕ) (old new : Device) : Type 0 where
   pub no_fewer : old.calls ≤ new.calls
   pub within : place ≤ length old.content
@@ -144,48 +144,47 @@ pub record SearchedTo (place : ℕ) (old new : Device) : Type 0 where
   pub unchanged : IsTrue old.honest → new.content ≡ old.content
   pub none : IsTrue old.honest → Nowhere (IsTableAt old.content) 0 place
 
--- the search goes on behind a part with no signature
-pub SearchedTo-part : (old mid new : Device) (place size : ℕ) → place + size ≤ length old.content → 56 ≤ size → SearchedTo place old mid → OneCall mid new
-    → (IsTrue mid.honest → new.content ≡ mid.content) → (IsTrue mid.honest → IsFirst (HasSignatureAt mid.content) place (place + size - 7) None)
+-- the search goes on after a part with no signature
+pub SearchedTo-part : (old mid new : Device) (place size : ℕ) → place + size ≤ length old.content → 56 ≤ size → SearchedTo place old mid → Reads 1 mid new
+    → (IsTrue mid.honest → IsFirst (HasSignatureAt mid.content) place (place + size - 7) None)
     → SearchedTo (place + (size - 7)) old new
-SearchedTo-part old mid new place size within long so_far call kept none = record {
-  no_fewer = omega (arith, so_far.no_fewer, call.calls);
+SearchedTo-part old mid new place size within long so_far call none = record {
+  no_fewer = omega (arith, so_far.no_fewer, call.calls.no_fewer);
   within = omega (arith, within, long);
-  no_more = omega (arith, so_far.no_more, call.calls, long);
-  faults = omega (arith, so_far.faults, call.faults);
-  same_honesty = call.same_honesty ∙ so_far.same_honesty;
-  same_length = call.same_length ∙ so_far.same_length;
-  unchanged = λ h. kept (honest_still so_far.same_honesty h) ∙ so_far.unchanged h;
+  no_more = omega (arith, so_far.no_more, call.calls.no_more, long);
+  faults = omega (arith, so_far.faults, call.calls.faults);
+  same_honesty = call.calls.same_honesty ∙ so_far.same_honesty;
+  same_length = call.calls.same_length ∙ so_far.same_length;
+  unchanged = λ h. call.unchanged (honest_still so_far.same_honesty h) ∙ so_far.unchanged h;
   none = λ h.
       let here : Nowhere (HasSignatureAt old.content) place (place + size - 7) = rw (so_far.unchanged h) at (none (honest_still so_far.same_honesty h)) in
       let end : place + (size - 7) ≡ place + size - 7 = omega (arith, long) in
       rw end (no_tables old.content place (place + size - 7) (so_far.none h) here);
 }
 
--- and behind a signature that begins no table
-pub SearchedTo-signature : (old mid new last : Device) (place q e : ℕ) → q + 8 ≤ length old.content → place ≤ q → SearchedTo place old mid → OneCall mid new → Reads 1 new last
-    → (IsTrue mid.honest → new.content ≡ mid.content)
+-- and after a signature that begins no map
+pub SearchedTo-signature : (old mid new last : Device) (place q e : ℕ) → q + 8 ≤ length old.content → place ≤ q → SearchedTo place old mid → Reads 1 mid new → Reads 1 new last
     → (IsTrue mid.honest → IsFirst (HasSignatureAt mid.content) place e (Some q)) → (IsTrue new.honest → ¬ IsTableAt new.content q)
     → SearchedTo (q + 6) old last
-SearchedTo-signature old mid new last place q e within above so_far call probe kept first no_table = record {
-  no_fewer = omega (arith, so_far.no_fewer, call.calls, probe.calls.no_fewer);
+SearchedTo-signature old mid new last place q e within above so_far call probe first no_table = record {
+  no_fewer = omega (arith, so_far.no_fewer, call.calls.no_fewer, probe.calls.no_fewer);
   within = omega (arith, within);
-  no_more = omega (arith, so_far.no_more, call.calls, probe.calls.no_more, above);
-  faults = omega (arith, so_far.faults, call.faults, probe.calls.faults);
-  same_honesty = probe.calls.same_honesty ∙ call.same_honesty ∙ so_far.same_honesty;
-  same_length = probe.calls.same_length ∙ call.same_length ∙ so_far.same_length;
+  no_more = omega (arith, so_far.no_more, call.calls.no_more, probe.calls.no_more, above);
+  faults = omega (arith, so_far.faults, call.calls.faults, probe.calls.faults);
+  same_honesty = probe.calls.same_honesty ∙ call.calls.same_honesty ∙ so_far.same_honesty;
+  same_length = probe.calls.same_length ∙ call.calls.same_length ∙ so_far.same_length;
   unchanged = λ h.
       let h' = honest_still so_far.same_honesty h in
-      probe.unchanged (honest_still call.same_honesty h') ∙ kept h' ∙ so_far.unchanged h;
+      probe.unchanged (honest_still call.calls.same_honesty h') ∙ call.unchanged h' ∙ so_far.unchanged h;
   none = λ h.
       let h' = honest_still so_far.same_honesty h in
       let found = rw (so_far.unchanged h) at (first h') in
-      let same : new.content ≡ old.content = kept h' ∙ so_far.unchanged h in
-      let none_here : ¬ IsTableAt old.content q = rw same at (no_table (honest_still call.same_honesty h')) in
+      let same : new.content ≡ old.content = call.unchanged h' ∙ so_far.unchanged h in
+      let none_here : ¬ IsTableAt old.content q = rw same at (no_table (honest_still call.calls.same_honesty h')) in
       no_tables_behind old.content q (no_tables old.content place q (so_far.none h) found.0.before) found.1 none_here;
 }
 
--- no table before a place: the lowest is sought from there on
+-- no map before a place: the lowest is sought from there on
 pub map_from-skip : (image : List ℕ) (k : ℕ) → k ≤ length image → Nowhere (IsTableAt image) 0 k → map_of image ≡ map_from k (drop k image)
 map_from-skip image zero le none = refl
 map_from-skip image (suc k) le none =
@@ -244,17 +243,23 @@ area_read bytes image p q a e read same = e ∙ ap area_of read ∙ area-slice i
 pub head_read : (bytes image : List ℕ) (len p : ℕ) (h : Option FmapHead) → h ≡ map_head_in bytes (len - p) → bytes ≡ slice_range image p (p + 56) → len ≡ length image → p + 56 ≤ len → h ≡ map_head (drop p image)
 head_read bytes image len p h e read same inside = e ∙ ap (λ b. map_head_in b (len - p)) read ∙ ap (λ n. map_head_in (slice_range image p (p + 56)) (n - p)) same ∙ map_head-slice image p (omega (arith, same, inside))
 
-pub valid_fits : (h : FmapHead) (left : ℕ) → is_valid_head h left ≡ true → table_len h ≤ left
+-- the same of the first bytes
+pub head_read_first : (bytes image : List ℕ) (len : ℕ) (h : Option FmapHead) → h ≡ map_head_in bytes len → bytes ≡ slice_range image 0 56 → len ≡ length image → 56 ≤ len → h ≡ map_head image
+head_read_first bytes image len h e read same inside =
+    let left : len - 0 ≡ len = omega arith in
+    head_read bytes image len 0 h (e ∙ ap (λ n. map_head_in bytes n) (sym left)) read same inside
+
+pub valid_fits : (h : FmapHead) (left : ℕ) → is_valid_head h left ≡ true → map_len h ≤ left
 unfolding is_valid_head
 valid_fits h left e = leb-true _ _ (and_parts _ _ (and_parts _ _ e).1).1
 
--- or ends at the table that a signature begins
-pub SearchedTo-table : (old mid new : Device) (place q e : ℕ) (h : FmapHead) → SearchedTo place old mid → OneCall mid new → (IsTrue mid.honest → new.content ≡ mid.content)
+-- or ends at the map that a signature begins
+pub SearchedTo-table : (old mid new : Device) (place q e : ℕ) (h : FmapHead) → SearchedTo place old mid → Reads 1 mid new
     → (IsTrue mid.honest → IsFirst (HasSignatureAt mid.content) place e (Some q)) → (IsTrue new.honest → Some h ≡ map_head (drop q new.content))
     → IsTrue old.honest → Some (record { at = q; head = h }) ≡ found_in old.content
-SearchedTo-table old mid new place q e h so_far call kept first table honest =
+SearchedTo-table old mid new place q e h so_far call first table honest =
     let h' = honest_still so_far.same_honesty honest in
     let found = rw (so_far.unchanged honest) at (first h') in
-    let same : new.content ≡ old.content = kept h' ∙ so_far.unchanged honest in
-    let here = head_some (drop q old.content) h (rw same at (table (honest_still call.same_honesty h'))) in
+    let same : new.content ≡ old.content = call.unchanged h' ∙ so_far.unchanged honest in
+    let here = head_some (drop q old.content) h (rw same at (table (honest_still call.calls.same_honesty h'))) in
     found_some old.content q h (no_tables old.content place q (so_far.none honest) found.0.before) here.0 here.1

@@ -3,7 +3,7 @@ use Rattle.std.specs.Prelude.{◌≡◌, ℕ, ◌+◌, ◌-◌, ◌<◌, Bool, f
 use Rattle.flash_store.specs.Bytes.{overwritten}
 use Rattle.flash_store.specs.Device.{Device}
 
--- what contracts see of such a device: the one behind it, how many calls still pass, how much of the first refused
+-- what contracts see of such a device: the one that it stands over, how many calls still pass, how much of the first refused
 -- write is written, whether that is still to come, and its own calls and faults
 pub record Failing (F : Type 0) : Type 0 where
   pub device : F
@@ -13,11 +13,11 @@ pub record Failing (F : Type 0) : Type 0 where
   pub calls : ℕ
   pub faults : ℕ
 
--- the same as a device, by what they see of the device behind it
+-- the same as a device, by what they see of the one that it stands over
 abbrev pub facts_over : {F : Type 0} → (F → Device) → Failing F → Device
 facts_over facts f = record (facts f.device) { calls = f.calls; faults = (facts f.device).faults + f.faults }
 
--- after a call that passed, which is refused only by the device behind it
+-- after a call that passed, which is refused only by the device below
 pub record Passed {F T E : Type 0} (facts : F → Device) (old new : Failing F) (result : Result T E) : Type 0 where
   pub counted : new ≡ record old { device = new.device; left = old.left - 1; calls = old.calls + 1 }
   pub cause : OnErr result ((facts old.device).faults < (facts new.device).faults)
@@ -26,7 +26,7 @@ pub record Passed {F T E : Type 0} (facts : F → Device) (old new : Failing F) 
 abbrev pub refused_once : {F : Type 0} → Failing F → Failing F
 refused_once f = record f { calls = f.calls + 1; faults = f.faults + 1 }
 
--- after the first refused write, of which the device behind it, where that one doesn't fail, has written a part
+-- after the first refused write, of which the device below, where that one doesn't fail, has written a part
 pub record TornOnce {F : Type 0} (facts : F → Device) (at : ℕ) (bytes : List ℕ) (old new : Failing F) : Type 0 where
   pub counted : new ≡ record (refused_once old) { device = new.device; tears = false }
   pub written : IsTrue (facts old.device).honest → (facts new.device).faults ≡ (facts old.device).faults
@@ -39,11 +39,11 @@ pub record FailingSource (S : Type 0) : Type 0 where
   pub calls : ℕ
   pub faults : ℕ
 
--- the same as a source, by what they see of the source behind it
+-- the same as a source, by what they see of the one that it stands over
 abbrev pub source_facts_over : {S : Type 0} → (S → Device) → FailingSource S → Device
 source_facts_over facts f = record (facts f.source) { calls = f.calls; faults = (facts f.source).faults + f.faults }
 
--- after a read that passed, which is refused only by the source behind it
+-- after a read that passed, which is refused only by the source below
 pub record SourcePassed {S T E : Type 0} (facts : S → Device) (old new : FailingSource S) (result : Result T E) : Type 0 where
   pub counted : new ≡ record old { source = new.source; left = old.left - 1; calls = old.calls + 1 }
   pub cause : OnErr result ((facts old.source).faults < (facts new.source).faults)

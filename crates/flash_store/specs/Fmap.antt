@@ -5,11 +5,11 @@ use Rattle.flash_format.specs.declared.flashmap.FmapHead.{FmapHead}
 use Rattle.flash_format.specs.Flashmap.{is_map, map_of, fmap_head_of, has_signature, is_valid_head}
 use Rattle.flash_store.specs.declared.fmap.FoundMap.{FoundMap}
 
--- the signature of a table stands at q
+-- the signature of a map stands at q
 abbrev pub HasSignatureAt : List ℕ → ℕ → Type 0
 HasSignatureAt image q = has_signature (drop q image) ≡ true
 
--- the head of the valid table at the front
+-- the head of the valid map that these bytes begin with
 abbrev pub map_head : List ℕ → Option FmapHead
 map_head x = if is_map x then Some (fmap_head_of x) else None
 

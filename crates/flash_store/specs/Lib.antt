@@ -2,8 +2,10 @@ pub mod Bytes
 pub mod Device
 pub mod Failing
 pub mod Fmap
+pub mod Laws
 pub mod Numbers
 pub mod Opening
 pub mod Output
 pub mod Pages
 pub mod Regions
+pub mod Scans

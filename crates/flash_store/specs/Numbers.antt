@@ -2,7 +2,7 @@
 use Rattle.std.specs.Prelude.{ℕ, ◌+◌}
 use Rattle.flash_store.specs.declared.counter.Number.{Number, Zero, Next'}
 
--- the number that stands behind it
+-- the number that it counts
 abbrev pub number_of : Number → ℕ
 number_of Zero = 0
 number_of (Next' shape before) = number_of before + 1

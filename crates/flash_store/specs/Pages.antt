@@ -1,22 +1,113 @@
--- A device with its buffer: what contracts see of it, and what a read and a pull leave.
-use Rattle.std.specs.Prelude.{◌≡◌, ◌<◌, ℕ, List, Option, None, Some, Result, IsTrue, OnErr, IfOk}
+-- A device with its buffer: what contracts see of it, and what its calls leave.
+use Rattle.std.specs.Prelude.{◌≡◌, ◌+◌, ◌-◌, ◌<◌, ◌≤◌, ℕ, List, length, take, min, Result, IsTrue, IsOk, OnOk, OnErr, IfOk, slice_range}
 use Rattle.std.specs.Borrow.{Bor}
-use Rattle.flash_store.specs.Device.{Device, OneCall}
+use Rattle.flash_store.specs.Device.{Device, Reads}
+use Rattle.flash_store.specs.Regions.{Range, bytes_in}
+use Rattle.flash_store.specs.declared.paged.Buffered.{Buffered}
+use Rattle.flash_store.specs.declared.paged.Buffered.TheVariants as code
 
--- the device, and the piece that was last pulled, while it is held
+-- P of the bytes of the device, where it is honest
+abbrev pub OnHonest : {F : Type 0} → (F → Device) → F → (List ℕ → Type 0) → Type 0
+OnHonest facts device P = IsTrue (facts device).honest → P (facts device).content
+
+-- P of the bytes of a region of the device, where it is honest
+abbrev pub OnHonestIn : {F : Type 0} → (F → Device) → F → Range → (List ℕ → Type 0) → Type 0
+OnHonestIn facts device region P = IsTrue (facts device).honest → P (bytes_in region (facts device).content)
+
+-- what the one buffer holds: nothing, the bytes that a read gave from a place of the device on, or the piece that was
+-- last pulled
+pub data Held : Type 0 where
+  Nothing : Held
+  Window : ℕ → List ℕ → Held
+  Piece : List ℕ → Held
+
+-- the device, and what the buffer holds
 pub record Pages (F : Type 0) : Type 0 where
   pub device : F
-  pub held : Option (List ℕ)
+  pub held : Held
 
--- after a read of the device
-pub record HasRead {F T E : Type 0} (facts : F → Device) (old new : Pages F) (result : Result T E) : Type 0 where
-  pub call : OneCall (facts old.device) (facts new.device)
+-- the same by the buffer's bytes, of which a prefix is held
+abbrev pub held_in : List ℕ → Buffered → Held
+held_in buffer code.Nothing = Nothing
+held_in buffer (code.Window at size) = Window at (take size buffer)
+held_in buffer (code.Piece size) = Piece (take size buffer)
+
+-- these are bytes of the device from a place on, on an honest device
+pub record IsWindow (device : Device) (at : ℕ) (bytes : List ℕ) : Type 0 where
+  pub inside : at + length bytes ≤ length device.content
+  pub same : IsTrue device.honest → bytes ≡ slice_range device.content at (at + length bytes)
+
+-- a window that is held is one of this device
+abbrev pub IsTrueTo : Device → Held → Type 0
+IsTrueTo device Nothing = Unit {0}
+IsTrueTo device (Window at bytes) = IsWindow device at bytes
+IsTrueTo device (Piece bytes) = Unit {0}
+
+-- what is held is no longer than a buffer
+abbrev pub Fits : Buffered → Type 0
+Fits code.Nothing = Unit {0}
+Fits (code.Window at size) = size ≤ 4096
+Fits (code.Piece size) = size ≤ 4096
+
+-- a window is held, and has all of the n bytes from a place on
+abbrev pub Covers : Held → ℕ → ℕ → Type 0
+Covers Nothing at n = ⊥
+Covers (Window from bytes) at n = (from ≤ at) × (at + n ≤ from + length bytes)
+Covers (Piece bytes) at n = ⊥
+
+-- the same by the window's place and size
+abbrev pub Spans : Buffered → ℕ → ℕ → Type 0
+Spans code.Nothing at n = ⊥
+Spans (code.Window from size) at n = (from ≤ at) × (at + n ≤ from + size)
+Spans (code.Piece size) at n = ⊥
+
+-- a piece is held, and it meets P
+abbrev pub HasPiece : Held → (List ℕ → Type 0) → Type 0
+HasPiece Nothing P = ⊥
+HasPiece (Window at bytes) P = ⊥
+HasPiece (Piece bytes) P = P bytes
+
+-- P of the piece, where one is held
+abbrev pub OnPiece : Held → (List ℕ → Type 0) → Type 0
+OnPiece Nothing P = Unit {0}
+OnPiece (Window at bytes) P = Unit {0}
+OnPiece (Piece bytes) P = P bytes
+
+-- no piece is held
+abbrev pub HasNoPiece : Held → Type 0
+HasNoPiece Nothing = Unit {0}
+HasNoPiece (Window at bytes) = Unit {0}
+HasNoPiece (Piece bytes) = ⊥
+
+-- the window, where one is held
+abbrev pub without_piece : Held → Held
+without_piece Nothing = Nothing
+without_piece (Window at bytes) = Window at bytes
+without_piece (Piece bytes) = Nothing
+
+-- what is left after reading, with at most n calls, whatever they answered
+pub record HasRead {F : Type 0} (facts : F → Device) (n : ℕ) (old new : Pages F) : Type 0 where
+  pub device : Reads n (facts old.device) (facts new.device)
+  pub window : IsTrueTo (facts old.device) old.held → IsTrueTo (facts new.device) new.held
+
+-- the same of a call that answers an error only where the device refused a read
+pub record HasAnswered {F T E : Type 0} (facts : F → Device) (n : ℕ) (old new : Pages F) (result : Result T E) : Type 0 where
+  pub read : HasRead facts n old new
   pub cause : OnErr result ((facts old.device).faults < (facts new.device).faults)
-  pub dropped : new.held ≡ None
-  pub unchanged : IsTrue (facts old.device).honest → (facts new.device).content ≡ (facts old.device).content
+
+-- what is left after reading the n bytes from a place on: no call where the window has them, and else a window of up to
+-- 4096 bytes from there on, or nothing
+pub record HasSeen {F T E : Type 0} (facts : F → Device) (at n : ℕ) (old new : Pages F) (result : Result T E) : Type 0 where
+  pub read : HasRead facts 1 old new
+  pub cause : OnErr result ((facts old.device).faults < (facts new.device).faults)
+  pub dropped : OnErr result (new.held ≡ Nothing)
+  pub free : Covers old.held at n → new ≡ old
+  pub answered : Covers old.held at n → IsOk result
+  pub held : OnOk result (Covers new.held at n)
+  pub ahead : (Covers old.held at n → ⊥) → OnOk result (Covers new.held at (min (length (facts old.device).content - at) 4096))
 
 -- after a piece was pulled, or refused
 pub record HasPulled {F E : Type 0} (old new : Pages F) (result : Result (Bor (List ℕ)) E) : Type 0 where
   pub same_device : new.device ≡ old.device
-  pub held : IfOk result (λ bytes. new.held ≡ Some bytes.now)
-  pub dropped : OnErr result (new.held ≡ None)
+  pub held : IfOk result (λ bytes. new.held ≡ Piece bytes.now)
+  pub dropped : OnErr result (new.held ≡ Nothing)

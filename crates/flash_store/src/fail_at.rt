@@ -2,7 +2,6 @@
 ghost use Rattle.std.specs.Prelude.{◌≡◌, ◌+◌, ◌-◌, ◌<◌, ◌≤◌, ◌⊎◌, length, take, true, false, IsTrue, IsErr, OnOk, OnErr, slice_range};
 ghost use Rattle.flash_store.specs.Bytes.{overwritten, SameOutside};
 ghost use Rattle.flash_store.specs.Device.{OneCall};
-ghost use Rattle.flash_format.specs.Head.{header_length};
 ghost use Rattle.flash_store.specs.Failing.{facts_over, Passed, TornOnce, refused_once};
 
 use crate::counter::Counter;
@@ -10,6 +9,11 @@ use crate::flash::{Flash, FlashFault};
 use flash_format::HEADER_LENGTH;
 use std::marker::Model;
 
+/// A device over another one, for tests: its first calls pass to the other, and all later ones are refused.
+///
+/// A refused read or commit does nothing. Of the first refused write a part still reaches the other device, as when the
+/// power fails in the midst of it; the later ones do nothing. Both its own refusals and the other's faults count as its
+/// faults.
 #[derive(Drop)]
 pub struct FailAt<F: Flash> {
     device: F,
@@ -36,7 +40,7 @@ impl<F: Flash> Model for FailAt<F> {
 }
 
 impl<F: Flash> FailAt<F> {
-    /// The first `k` calls pass. The first refused write first writes `part` bytes.
+    /// The first `k` calls pass. Of the first refused write the first `part` bytes are written, or all if it has fewer.
     pub fn new(device: F, k: u64, part: usize) -> FailAt<F>
         ensures { result ≡ record {
           device = device;
@@ -57,6 +61,7 @@ impl<F: Flash> FailAt<F> {
         }
     }
 
+    /// The other device, with what was written.
     pub fn into_inner(self) -> F
         ensures { result ≡ self.device }
     {
@@ -145,7 +150,7 @@ impl<F: Flash> Flash for FailAt<F> {
     }
 
     fn commit_at(&mut self, at: u64, bytes: &[u8; HEADER_LENGTH]) -> Result<(), FlashFault>
-        requires { at + header_length ≤ length (F.facts self.old.device).content }
+        requires { at + length bytes.now ≤ length (F.facts self.old.device).content }
 
         // As of every device.
         ensures call { OneCall (facts_over F.facts self.old) (facts_over F.facts self.new) }

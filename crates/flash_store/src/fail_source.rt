@@ -7,6 +7,8 @@ use crate::counter::Counter;
 use crate::source::{Source, SourceFault};
 use std::marker::Model;
 
+/// A source over another one, for tests: its first reads pass to the other, and all later ones are refused and do nothing.
+/// Both its own refusals and the other's faults count as its faults.
 #[derive(Drop)]
 pub struct FailSource<S: Source> {
     source: S,

@@ -13,6 +13,11 @@ use std::os::unix::fs::FileExt;
 use std::rt::Files;
 use std::snapshot::Snapshot;
 
+/// A device in a file that is open for reading and writing. Each call is one call to the file.
+///
+/// Its length is the file's when it was opened: what is added later isn't seen, and a call for bytes that the file has
+/// lost is refused. A commit is one write; whether the system makes that whole isn't known, so every fact that a contract
+/// says of an honest device is, for a file, a premise about the system.
 #[derive(Drop)]
 pub struct FileFlash {
     file: File,
@@ -40,7 +45,8 @@ impl Model for FileFlash {
 }
 
 impl FileFlash {
-    /// Opens a file for reading and writing, so one that may not be written is `Failed`.
+    /// Opens a file for reading and writing. A file that isn't there or may not be read or written is `Failed`; one of 2^32
+    /// bytes or more is `TooLarge`.
     pub fn open<R: Files<File = File>>(rt: &R, path: &str) -> Result<FileFlash, OpenFault>
         ensures { IfOk result (λ device. (device.calls ≡ 0) × (device.faults ≡ 0)) }
     {

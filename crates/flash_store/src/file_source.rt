@@ -10,6 +10,10 @@ use std::os::unix::fs::FileExt;
 use std::rt::Files;
 use std::snapshot::Snapshot;
 
+/// A source in a file that is open for reading. Each read is one call to the file.
+///
+/// Its length is the file's when it was opened: what is added later isn't seen, and a read of bytes that the file has lost
+/// is refused.
 #[derive(Drop)]
 pub struct FileSource {
     file: File,
@@ -37,7 +41,8 @@ impl Model for FileSource {
 }
 
 impl FileSource {
-    /// Opens a file for reading.
+    /// Opens a file for reading. A file that isn't there or may not be read is `Failed`; one of 2^32 bytes or more is
+    /// `TooLarge`.
     pub fn open<R: Files<File = File>>(rt: &R, path: &str) -> Result<FileSource, OpenFault>
         ensures { IfOk result (λ source. (source.calls ≡ 0) × (source.faults ≡ 0)) }
     {

@@ -2,7 +2,6 @@
 ghost use Rattle.std.specs.Prelude.{◌≡◌, ℕ, ◌+◌, ◌^◌, ◌<◌, ◌≤◌, ◌⊎◌, length, IsTrue, OnOk, OnErr, slice_range};
 ghost use Rattle.flash_store.specs.Bytes.{overwritten, SameOutside};
 ghost use Rattle.flash_store.specs.Device.{Device, OneCall};
-ghost use Rattle.flash_format.specs.Head.{header_length};
 
 use flash_format::HEADER_LENGTH;
 
@@ -13,11 +12,12 @@ pub const PIECE: usize = 4096;
 #[derive(Clone, Copy, Debug, PartialEq, Eq, Drop)]
 pub struct FlashFault;
 
-/// A chip, a file or a list of bytes that is read and written by position.
+/// A chip, a file or a list of bytes that is read and written by position. Places count its bytes from 0.
 pub trait Flash: Drop {
     /// Its bytes, the calls but `len` and the faults so far, and whether it is honest.
     ghost facts: { Self → Device };
 
+    /// How many bytes there are. it makes no call, and no call changes it.
     fn len(&self) -> u64
         ensures length { result ≡ length (facts self.now).content }
         ensures below { result < 2 ^ 32 };
@@ -50,9 +50,9 @@ pub trait Flash: Drop {
         ensures torn { IsTrue (facts self.old).honest →
             SameOutside at (length bytes.now) (facts self.old).content (facts self.new).content };
 
-    /// Replaces the bytes of a header, whole or not at all.
+    /// Replaces the first bytes of a cell, whole or not at all.
     fn commit_at(&mut self, at: u64, bytes: &[u8; HEADER_LENGTH]) -> Result<(), FlashFault>
-        requires { at + header_length ≤ length (facts self.old).content }
+        requires { at + length bytes.now ≤ length (facts self.old).content }
 
         ensures call { OneCall (facts self.old) (facts self.new) }
         ensures cause { OnErr result ((facts self.old).faults < (facts self.new).faults) }

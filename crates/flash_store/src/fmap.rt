@@ -1,8 +1,9 @@
 //! The search for a flashmap and for a region.
 ghost use Rattle.std.specs.Prelude.{◌≡◌, ◌+◌, ◌-◌, ◌*◌, ◌/◌, ◌<◌, ◌≤◌, ◌↔◌, ◌⊎◌, length, drop, IsTrue, OnErr, IfOk, IfSome, IsErrOf};
 ghost use Rattle.std.specs.List.{find};
-ghost use Rattle.flash_format.specs.Flashmap.{table_len, area_of, areas_from, is_area};
-ghost use Rattle.flash_store.specs.Device.{OneCall, Reads};
+ghost use Rattle.flash_format.specs.Flashmap.{fmap_head_len, area_len, map_len, area_of, areas_from, is_area};
+ghost use Rattle.flash_store.specs.Device.{Reads};
+ghost use Rattle.flash_store.specs.Pages.{HasRead, HasAnswered};
 ghost use Rattle.flash_store.specs.Fmap.{HasSignatureAt, map_head, map_head_in, found_in};
 ghost use Rattle.flash_store.specs.Regions.{LiesIn, region_of};
 ghost use Rattle.memchr.specs.Find.{IsFirst};
@@ -10,24 +11,38 @@ ghost use Rattle.memchr.specs.Find.{IsFirst};
 use crate::flash::{Flash, FlashFault, PIECE};
 use crate::paged::Paged;
 use crate::range::Region;
+use crate::source::{Source, SourceFault};
 use flash_format::{Area, FmapHead};
 use memchr::memmem;
 
-const SIGNATURE: &[u8; 8] = b"__FMAP__";
+const HEAD_LENGTH: u64 = FmapHead::LENGTH as u64;
 
-/// A valid table of an image: its place, and the head that stands there.
+const AREA_LENGTH: u64 = Area::LENGTH as u64;
+
+const SIGNATURE_LENGTH: u64 = FmapHead::SIGNATURE.len() as u64;
+
+/// The least distance of two signatures, which begin and end with the same two bytes.
+const SIGNATURE_STEP: u64 = 6;
+
+/// A valid flashmap of an image.
 #[derive(Clone, Copy, Debug, PartialEq, Eq, Drop)]
 pub struct FoundMap {
+    /// Where it stands, counted from the image's first byte.
     pub at: u64,
+    /// The head that stands there.
     pub head: FmapHead,
 }
 
-/// Why there is no region of a name.
+/// Why there is no region of a name, with the number of the refusal.
 #[derive(Clone, Copy, Debug, PartialEq, Eq, Drop)]
 pub enum StoreFault {
+    /// 1: a read of the device was refused.
     Device,
+    /// 4: the image has no valid flashmap.
     NoFmap,
+    /// 5: the map has no area of the name.
     NoRegion,
+    /// 6: the area ends after the image's end.
     RegionOutside,
 }
 
@@ -41,28 +56,27 @@ impl From<FlashFault> for StoreFault {
     }
 }
 
-/// The lowest valid table.
+/// The image's flashmap: the lowest valid one, or `None`.
 pub fn find_fmap<F: Flash>(paged: &mut Paged<F>) -> Result<Option<FoundMap>, FlashFault>
-    ensures reads { Reads (length (F.facts paged.old.device).content / 2 + 8)
-        (F.facts paged.old.device) (F.facts paged.new.device) }
-    ensures cause { OnErr result ((F.facts paged.old.device).faults < (F.facts paged.new.device).faults) }
+    ensures after { HasAnswered F.facts (length (F.facts paged.old.device).content / 2 + 8) paged.old paged.new result }
     ensures fits { IfOk result (λ found. IfSome found (λ map.
-        map.at + table_len map.head ≤ length (F.facts paged.old.device).content)) }
+        map.at + map_len map.head ≤ length (F.facts paged.old.device).content)) }
     ensures found { IsTrue (F.facts paged.old.device).honest →
         IfOk result (λ found. found ≡ found_in (F.facts paged.old.device).content) }
 {
     let len = paged.len();
     let mut place = 0;
-    while place + 56 <= len {
+    while place + HEAD_LENGTH <= len {
         let size = (len - place).min(PIECE as u64);
         match signature_in(paged, place, size as usize)? {
             Some(at) => {
                 if let Some(head) = head_at(paged, at, len)? {
                     return Ok(Some(FoundMap { at, head }));
                 }
-                place = at + 6;
+                place = at + SIGNATURE_STEP;
             }
-            None => place += size - 7,
+            // A signature that goes on into the next piece begins in the last seven bytes.
+            None => place += size - (SIGNATURE_LENGTH - 1),
         }
     }
     Ok(None)
@@ -77,23 +91,20 @@ fn signature_in<F: Flash>(
     requires inside { at + n ≤ length (F.facts paged.old.device).content }
     requires short { n ≤ 4096 }
 
-    ensures call { OneCall (F.facts paged.old.device) (F.facts paged.new.device) }
-    ensures cause { OnErr result ((F.facts paged.old.device).faults < (F.facts paged.new.device).faults) }
-    ensures unchanged { IsTrue (F.facts paged.old.device).honest →
-        (F.facts paged.new.device).content ≡ (F.facts paged.old.device).content }
+    ensures after { HasAnswered F.facts 1 paged.old paged.new result }
     ensures within { IfOk result (λ place. IfSome place (λ q. (at ≤ q) × (q + 8 ≤ at + n))) }
     ensures first { IsTrue (F.facts paged.old.device).honest → IfOk result (λ place.
         IsFirst (HasSignatureAt (F.facts paged.old.device).content) at (at + n - 7) place) }
 {
-    let _len = paged.len();
+    paged.places_fit();
     let bytes = paged.piece(at, n)?;
-    match memmem::find(bytes, SIGNATURE) {
+    match memmem::find(bytes, &FmapHead::SIGNATURE) {
         Some(place) => Ok(Some(at + place as u64)),
         None => Ok(None),
     }
 }
 
-/// The head of the valid table at a place of a device of `len` bytes.
+/// The head of the valid map at a place of a device of `len` bytes.
 fn head_at<F: Flash>(
     paged: &mut Paged<F>,
     place: u64,
@@ -101,25 +112,24 @@ fn head_at<F: Flash>(
 ) -> Result<Option<FmapHead>, FlashFault>
     requires { len ≡ length (F.facts paged.old.device).content }
 
-    ensures reads { Reads 1 (F.facts paged.old.device) (F.facts paged.new.device) }
-    ensures cause { OnErr result ((F.facts paged.old.device).faults < (F.facts paged.new.device).faults) }
+    ensures after { HasAnswered F.facts 1 paged.old paged.new result }
     ensures head { IsTrue (F.facts paged.old.device).honest →
         IfOk result (λ found. found ≡ map_head (drop place (F.facts paged.old.device).content)) }
-    ensures fits { IfOk result (λ found. IfSome found (λ head. place + table_len head ≤ len)) }
+    ensures fits { IfOk result (λ found. IfSome found (λ head. place + map_len head ≤ len)) }
 {
-    if len < 56 || place > len - 56 {
+    if len < HEAD_LENGTH || place > len - HEAD_LENGTH {
         return Ok(None);
     }
-    let mut bytes = [0; 56];
+    let mut bytes = [0; FmapHead::LENGTH];
     paged.read_small(place, &mut bytes)?;
     Ok(head_in(&bytes, len - place))
 }
 
 /// The head in these bytes, with `left` bytes from them up to the image's end.
-fn head_in(bytes: &[u8; 56], left: u64) -> Option<FmapHead>
-    requires { 56 ≤ left }
+fn head_in(bytes: &[u8; FmapHead::LENGTH], left: u64) -> Option<FmapHead>
+    requires { fmap_head_len ≤ left }
     ensures head { result ≡ map_head_in bytes.now left }
-    ensures fits { IfSome result (λ head. table_len head ≤ left) }
+    ensures fits { IfSome result (λ head. map_len head ≤ left) }
 {
     let head = FmapHead::read(bytes)?;
     if !head.is_valid(left) {
@@ -128,21 +138,19 @@ fn head_in(bytes: &[u8; 56], left: u64) -> Option<FmapHead>
     Some(head)
 }
 
-/// The area of this number, from 0, of a table.
+/// The area of this number, counted from 0, of a map.
 pub fn area<F: Flash>(paged: &mut Paged<F>, map: &FoundMap, i: u16) -> Result<Area, FlashFault>
-    requires inside { map.now.at + table_len map.now.head ≤ length (F.facts paged.old.device).content }
+    requires inside { map.now.at + map_len map.now.head ≤ length (F.facts paged.old.device).content }
     requires number { i < map.now.head.nareas }
 
-    ensures call { OneCall (F.facts paged.old.device) (F.facts paged.new.device) }
-    ensures cause { OnErr result ((F.facts paged.old.device).faults < (F.facts paged.new.device).faults) }
-    ensures unchanged { IsTrue (F.facts paged.old.device).honest →
-        (F.facts paged.new.device).content ≡ (F.facts paged.old.device).content }
+    ensures after { HasAnswered F.facts 1 paged.old paged.new result }
     ensures area { IsTrue (F.facts paged.old.device).honest →
-        IfOk result (λ area. area ≡ area_of (drop (map.now.at + 56 + 42 * i) (F.facts paged.old.device).content)) }
+        IfOk result (λ area. area ≡ area_of (drop (map.now.at + fmap_head_len + area_len * i) (F.facts paged.old.device).content)) }
 {
-    let _len = paged.len();
-    let mut bytes = [0; 42];
-    paged.read_small(map.at + 56 + 42 * u64::from(i), &mut bytes)?;
+    paged.places_fit();
+    let mut bytes = [0; Area::LENGTH];
+    let at = map.at + HEAD_LENGTH + AREA_LENGTH * u64::from(i);
+    paged.read_small(at, &mut bytes)?;
     Ok(Area::read(&bytes))
 }
 
@@ -152,13 +160,12 @@ fn area_named<F: Flash>(
     map: &FoundMap,
     name: &[u8],
 ) -> Result<Option<Area>, FlashFault>
-    requires inside { map.now.at + table_len map.now.head ≤ length (F.facts paged.old.device).content }
+    requires inside { map.now.at + map_len map.now.head ≤ length (F.facts paged.old.device).content }
 
-    ensures reads { Reads map.now.head.nareas (F.facts paged.old.device) (F.facts paged.new.device) }
-    ensures cause { OnErr result ((F.facts paged.old.device).faults < (F.facts paged.new.device).faults) }
+    ensures after { HasAnswered F.facts map.now.head.nareas paged.old paged.new result }
     ensures first { IsTrue (F.facts paged.old.device).honest →
         IfOk result (λ area. area ≡ find (is_area name.now)
-        (areas_from map.now.head.nareas (drop (map.now.at + 56) (F.facts paged.old.device).content))) }
+        (areas_from map.now.head.nareas (drop (map.now.at + fmap_head_len) (F.facts paged.old.device).content))) }
 {
     for i in 0..map.head.nareas {
         let area = area(paged, map, i)?;
@@ -169,11 +176,12 @@ fn area_named<F: Flash>(
     Ok(None)
 }
 
-/// Where the first area of the name in the lowest valid table lies.
+/// Where the first area of the name lies, by the image's flashmap. What is refused first: no map (4), no area of the name
+/// in it (5), an area that doesn't lie inside the image (6); a fault of the device (1) where it happens.
 #[tactic(auto, unfolding(crate::specs::Regions::region_of))]
 pub fn region<F: Flash>(paged: &mut Paged<F>, name: &[u8]) -> Result<Region, StoreFault>
-    ensures reads { Reads (length (F.facts paged.old.device).content / 2
-        + length (F.facts paged.old.device).content / 42 + 8) (F.facts paged.old.device) (F.facts paged.new.device) }
+    ensures after { HasRead F.facts (length (F.facts paged.old.device).content / 2
+        + length (F.facts paged.old.device).content / area_len + 8) paged.old paged.new }
     ensures cause { IsErrOf result StoreFault.Device →
         (F.facts paged.old.device).faults < (F.facts paged.new.device).faults }
     ensures inside { IfOk result (λ region. LiesIn region (F.facts paged.old.device).content) }
@@ -191,4 +199,41 @@ pub fn region<F: Flash>(paged: &mut Paged<F>, name: &[u8]) -> Result<Region, Sto
         Some(region) => Ok(region),
         None => Err(StoreFault::RegionOutside),
     }
+}
+
+/// The head of the valid map that a source begins with.
+pub fn map_in_source<S: Source>(source: &mut S) -> Result<Option<FmapHead>, SourceFault>
+    ensures calls { Reads 1 (S.facts source.old) (S.facts source.new) }
+    ensures cause { OnErr result ((S.facts source.old).faults < (S.facts source.new).faults) }
+    ensures fits { IfOk result (λ found. IfSome found (λ head. map_len head ≤ length (S.facts source.old).content)) }
+    ensures head { IsTrue (S.facts source.old).honest →
+        IfOk result (λ found. found ≡ map_head (S.facts source.old).content) }
+{
+    let len = source.len();
+    if len < HEAD_LENGTH {
+        return Ok(None);
+    }
+    let mut bytes = [0; FmapHead::LENGTH];
+    source.read_at(0, &mut bytes)?;
+    Ok(head_in(&bytes, len))
+}
+
+/// The area of this number, counted from 0, of a map that a source begins with.
+pub fn area_in_source<S: Source>(
+    source: &mut S,
+    head: &FmapHead,
+    i: u16,
+) -> Result<Area, SourceFault>
+    requires inside { map_len head.now ≤ length (S.facts source.old).content }
+    requires number { i < head.now.nareas }
+
+    ensures calls { Reads 1 (S.facts source.old) (S.facts source.new) }
+    ensures cause { OnErr result ((S.facts source.old).faults < (S.facts source.new).faults) }
+    ensures area { IsTrue (S.facts source.old).honest →
+        IfOk result (λ area. area ≡ area_of (drop (fmap_head_len + area_len * i) (S.facts source.old).content)) }
+{
+    let mut bytes = [0; Area::LENGTH];
+    let at = HEAD_LENGTH + AREA_LENGTH * u64::from(i);
+    source.read_at(at, &mut bytes)?;
+    Ok(Area::read(&bytes))
 }

@@ -1,4 +1,5 @@
-//! A flash chip or its image as a device, and the pieces that are read from it.
+//! A flash chip or its image as a device, sources and sinks, the one buffer through which bytes pass, and the search for
+//! a region by an image's flashmap.
 #![tactic(auto)]
 
 mod counter;
@@ -8,6 +9,7 @@ mod file_flash;
 mod file_source;
 mod flash;
 mod fmap;
+mod laws;
 mod mem_flash;
 mod mem_source;
 mod open_fault;
@@ -15,8 +17,6 @@ mod paged;
 mod range;
 mod sink;
 mod source;
-#[cfg(test)]
-mod tests;
 
 pub use counter::Counter;
 pub use fail_at::FailAt;
@@ -24,7 +24,8 @@ pub use fail_source::FailSource;
 pub use file_flash::FileFlash;
 pub use file_source::FileSource;
 pub use flash::{Flash, FlashFault, PIECE};
-pub use fmap::{FoundMap, StoreFault, area, find_fmap, region};
+pub use fmap::{FoundMap, StoreFault, area, area_in_source, find_fmap, map_in_source, region};
+pub use laws::{separate_writes_swap, writes_are_seen_by_regions};
 pub use mem_flash::MemFlash;
 pub use mem_source::MemSource;
 pub use open_fault::OpenFault;

@@ -7,6 +7,7 @@ use crate::flash::{Flash, FlashFault};
 use flash_format::HEADER_LENGTH;
 use std::marker::Model;
 
+/// A device over bytes that it owns, fewer than 2^32.
 #[derive(Drop)]
 pub struct MemFlash {
     bytes: Vec<u8>,
@@ -40,12 +41,14 @@ impl MemFlash {
         })
     }
 
+    /// All its bytes as they are now.
     pub fn bytes(&self) -> &[u8]
         ensures { result.now ≡ self.now.content }
     {
         self.bytes.as_slice()
     }
 
+    /// Writes the bytes from `at` on, as one call.
     fn replace(&mut self, at: u64, bytes: &[u8])
         requires { at + length bytes.now ≤ length self.old.content }
         ensures { self.new ≡ record {

@@ -5,6 +5,7 @@ use crate::counter::Counter;
 use crate::source::{Source, SourceFault};
 use std::marker::Model;
 
+/// A source over borrowed bytes, fewer than 2^32.
 #[derive(Drop)]
 pub struct MemSource<'a> {
     bytes: &'a [u8],
@@ -23,6 +24,7 @@ impl<'a> Model for MemSource<'a> {
 }
 
 impl<'a> MemSource<'a> {
+    /// The source of these bytes, before any read.
     pub fn new(bytes: &'a [u8]) -> MemSource<'a>
         requires { length bytes.now < 2 ^ 32 }
         ensures { result ≡ record { content = bytes.now; calls = 0 } }

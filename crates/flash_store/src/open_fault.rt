@@ -3,6 +3,7 @@ ghost use Rattle.std.specs.Prelude.{◌≡◌, ◌^◌, ◌<◌, ◌≤◌};
 
 use std::io;
 
+/// Why a file was not opened as a device or a source. Nothing was read or written then.
 #[derive(Clone, Copy, Debug, PartialEq, Eq, Drop)]
 pub enum OpenFault {
     /// It isn't there, or may not be used in this way.

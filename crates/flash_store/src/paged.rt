@@ -1,8 +1,7 @@
 //! A device and one buffer, through which everything passes in pieces.
-ghost use Rattle.std.specs.Prelude.{◌≡◌, ◌+◌, ◌/◌, ◌^◌, ◌<◌, ◌≤◌, ◌⊎◌, length, take, None, Some, IsTrue, IsSomeAnd, IfSome, OnOk, OnErr, IfOk, IsErrOf, slice_range, replicate};
+ghost use Rattle.std.specs.Prelude.{◌≡◌, ◌+◌, ◌/◌, ◌^◌, ◌<◌, ◌≤◌, ◌⊎◌, ◌↔◌, length, take, IsTrue, OnOk, OnErr, IfOk, IsErrOf, slice_range, replicate};
 ghost use Rattle.flash_store.specs.Bytes.{overwritten, SameOutside, FirstWritten, PartWritten};
 ghost use Rattle.flash_store.specs.Device.{Calls, OneCall};
-ghost use Rattle.flash_format.specs.Head.{header_length};
 ghost use Rattle.flash_store.specs.Output.{AppendsPart, AppendsPieces};
 ghost use Rattle.std.specs.Io.KnownBytes.{Appends, Keeps};
 
@@ -12,11 +11,14 @@ use crate::source::{Source, SourceFault};
 use flash_format::HEADER_LENGTH;
 use std::marker::Model;
 
-/// Why a copy stopped.
+/// Why a copy stopped, with the number of the refusal.
 #[derive(Clone, Copy, Debug, PartialEq, Eq, Drop)]
 pub enum CopyFault {
+    /// 1: a call of the device was refused.
     Device,
+    /// 2: the sink took nothing more.
     Output,
+    /// 3: a read of the source was refused.
     Source,
 }
 
@@ -50,41 +52,80 @@ impl From<SourceFault> for CopyFault {
     }
 }
 
+/// What the buffer holds.
+#[derive(Clone, Copy, Drop)]
+enum Buffered {
+    Nothing,
+    /// Bytes of the device from a place on, as a read gave them.
+    Window { at: u64, size: usize },
+    /// The piece of a source that was last pulled.
+    Piece { size: usize },
+}
+
+impl Buffered {
+    ghost use Rattle.flash_store.specs.Pages.{Spans};
+
+    /// It is a window with all of the n bytes from `at` on.
+    fn spans(self, at: u64, n: usize) -> bool
+        ensures { IsTrue result ↔ Spans self at n }
+    {
+        match self {
+            Buffered::Window { at: from, size } => {
+                from <= at && n <= size && at - from <= (size - n) as u64
+            }
+            _ => false,
+        }
+    }
+}
+
+/// A device and one buffer of 4096 bytes, through which all its bytes pass but those of a commit.
+///
+/// The buffer holds nothing, a window or a piece.
+/// - A window is bytes of the device from a place on, up to 4096, as a read gave them. `read_small`, `piece` and
+///   `copy_out` answer a range that lies inside it without a call; for any other they load the window anew, from the
+///   range's begin on. A window is dropped by all that writes (`commit`, `fill`, `copy_in`) or that needs the buffer
+///   (`pull`), and by a refused read.
+/// - A piece is bytes of a source: `pull` loads it, and each `push` after it writes it to a place of the device, as often
+///   as is wanted. Every other call that reads or writes drops it, and so does a refused `pull`; `push` may be called only
+///   while a piece is held.
+///
+/// `piece` and `pull` lend a part of the buffer, so what they leave is known once the part is given back: their clauses
+/// under `sem` say it.
 #[derive(Drop)]
 pub struct Paged<F: Flash> {
     device: F,
     buffer: [u8; PIECE],
-    held: Option<usize>,
+    held: Buffered,
 }
 
 impl<F: Flash> Model for Paged<F> {
-    ghost use Rattle.std.specs.Prelude.{◌≤◌, take};
-    ghost use Rattle.std.specs.Option.{option_map, ForSome};
-    ghost use Rattle.flash_store.specs.Pages.{Pages};
+    ghost use Rattle.flash_store.specs.Pages.{Pages, held_in, Fits, IsTrueTo};
 
     ghost Value = { Pages F };
 
-    ghost view = { λ p. record { device = p.device; held = option_map (λ n. take n p.buffer) p.held } };
+    ghost view = { λ p. record { device = p.device; held = held_in p.buffer p.held } };
 
-    ghost invariant = { λ p. ForSome p.held (λ n. n ≤ 4096) };
+    ghost invariant = { λ p. Fits p.held × IsTrueTo (F.facts p.device) (held_in p.buffer p.held) };
 }
 
 impl<F: Flash> Paged<F> {
     ghost use Rattle.std.specs.Borrow.{sem};
     ghost use Rattle.std.specs.Io.BufRead.{Rests};
-    ghost use Rattle.flash_store.specs.Pages.{HasRead, HasPulled};
+    ghost use Rattle.flash_store.specs.Pages.{Nothing, HasRead, HasSeen, HasPulled, HasPiece, HasNoPiece, OnPiece, Covers, without_piece};
     ghost use Rattle.flash_store.specs.contracts.paged.Paged.{the_row};
 
+    /// Nothing is held, and no call is made.
     pub fn new(device: F) -> Paged<F>
-        ensures { result ≡ record { device = device; held = None } }
+        ensures { result ≡ record { device = device; held = Nothing } }
     {
         Paged {
             device,
             buffer: [0; PIECE],
-            held: None,
+            held: Buffered::Nothing,
         }
     }
 
+    /// How many bytes the device has.
     pub fn len(&self) -> u64
         ensures length { result ≡ length (F.facts self.now.device).content }
         ensures below { result < 2 ^ 32 }
@@ -92,12 +133,22 @@ impl<F: Flash> Paged<F> {
         self.device.len()
     }
 
+    /// Gives its caller that every place on the device fits 32 bits, so that sums of places don't overflow. It does
+    /// nothing when the program runs.
+    pub fn places_fit(&self)
+        ensures { length (F.facts self.now.device).content < 2 ^ 32 }
+    {
+        let _len = self.device.len();
+    }
+
+    /// The device as it is now.
     pub fn flash(&self) -> &F
         ensures { result.now ≡ self.now.device }
     {
         &self.device
     }
 
+    /// The device alone: every write has reached it already.
     pub fn into_flash(self) -> F
         ensures { result ≡ self.device }
     {
@@ -105,43 +156,86 @@ impl<F: Flash> Paged<F> {
         device
     }
 
-    /// From here on no piece is held.
-    fn forget_piece(&mut self)
-        ensures { self.new ≡ record self.old { held = None } }
+    /// From here on nothing is held.
+    fn forget(&mut self)
+        ensures { self.new ≡ record self.old { held = Nothing } }
     {
-        self.held = None;
+        self.held = Buffered::Nothing;
     }
 
-    /// Reads at most 4096 bytes straight into `out`.
+    /// From here on no piece is held; a window is kept.
+    fn forget_piece(&mut self)
+        ensures { self.new ≡ record self.old { held = without_piece self.old.held } }
+    {
+        if let Buffered::Piece { .. } = self.held {
+            self.held = Buffered::Nothing;
+        }
+    }
+
+    /// Reads at most 4096 bytes into `out`, from the window where it has them.
     pub fn read_small(&mut self, at: u64, out: &mut [u8]) -> Result<(), FlashFault>
         requires inside { at + length out.old ≤ length (F.facts self.old.device).content }
         requires short { length out.old ≤ 4096 }
 
-        ensures after { HasRead F.facts self.old self.new result }
+        ensures after { HasSeen F.facts at (length out.old) self.old self.new result }
         ensures read { IsTrue (F.facts self.old.device).honest →
             OnOk result (out.new ≡ slice_range (F.facts self.old.device).content at (at + length out.old)) }
     {
-        self.held = None;
-        self.device.read_at(at, out)
+        let n = out.len();
+        self.fetch(at, n)?;
+        out.copy_from_slice(self.part(at, n));
+        Ok(())
     }
 
-    /// The n bytes from `at` on.
+    /// The n bytes from `at` on, from the window where it has them.
     pub fn piece(&mut self, at: u64, n: usize) -> Result<&[u8], FlashFault>
         requires inside { at + n ≤ length (F.facts self.old.device).content }
         requires short { n ≤ 4096 }
 
         ensures* after { sem 𝓛 (Rests (the_row F.row F.Flash) self.entry (λ new.
-            HasRead F.facts self.old new result)) }
+            HasSeen F.facts at n self.old new result)) }
         ensures size { IfOk result (λ bytes. length bytes.now ≡ n) }
         ensures read { IsTrue (F.facts self.old.device).honest →
             IfOk result (λ bytes. bytes.now ≡ slice_range (F.facts self.old.device).content at (at + n)) }
     {
-        self.held = None;
-        load(&mut self.device, &mut self.buffer, at, n)?;
-        Ok(&self.buffer[..n])
+        self.fetch(at, n)?;
+        let window = &*self;
+        Ok(window.part(at, n))
     }
 
-    /// Loads n bytes of a source, from `from` on.
+    /// Loads a window from `at` on, unless it has the n bytes from there on.
+    fn fetch(&mut self, at: u64, n: usize) -> Result<(), FlashFault>
+        requires inside { at + n ≤ length (F.facts self.old.device).content }
+        requires short { n ≤ 4096 }
+
+        ensures { HasSeen F.facts at n self.old self.new result }
+    {
+        if self.held.spans(at, n) {
+            return Ok(());
+        }
+        let size = (self.device.len() - at).min(PIECE as u64) as usize;
+        self.held = Buffered::Nothing;
+        load(&mut self.device, &mut self.buffer, at, size)?;
+        self.held = Buffered::Window { at, size };
+        Ok(())
+    }
+
+    /// The n bytes from `at` on, which the window has.
+    fn part(&self, at: u64, n: usize) -> &[u8]
+        requires { Covers self.now.held at n }
+        ensures size { length result.now ≡ n }
+        ensures read { IsTrue (F.facts self.now.device).honest →
+            result.now ≡ slice_range (F.facts self.now.device).content at (at + n) }
+    {
+        let from = match self.held {
+            Buffered::Window { at: from, .. } => from,
+            _ => at,
+        };
+        let start = (at - from) as usize;
+        &self.buffer[start..start + n]
+    }
+
+    /// Loads n bytes of a source, from `from` on, as the piece that `push` writes.
     pub fn pull<S: Source>(
         &mut self,
         source: &mut S,
@@ -163,39 +257,42 @@ impl<F: Flash> Paged<F> {
         ensures unchanged { IsTrue (S.facts source.old).honest →
             (S.facts source.new).content ≡ (S.facts source.old).content }
     {
-        self.held = None;
+        self.held = Buffered::Nothing;
         load_from(source, &mut self.buffer, from, n)?;
-        self.held = Some(n);
+        self.held = Buffered::Piece { size: n };
         Ok(&self.buffer[..n])
     }
 
-    /// Writes the piece that is held.
+    /// Writes the piece that is held to the place `at`, and keeps it. A refused write may leave anything in its range.
     pub fn push(&mut self, at: u64) -> Result<(), FlashFault>
-        requires { IsSomeAnd self.old.held (λ bytes. at + length bytes ≤ length (F.facts self.old.device).content) }
+        requires { HasPiece self.old.held (λ bytes. at + length bytes ≤ length (F.facts self.old.device).content) }
 
         ensures call { OneCall (F.facts self.old.device) (F.facts self.new.device) }
         ensures cause { OnErr result ((F.facts self.old.device).faults < (F.facts self.new.device).faults) }
         ensures same_piece { self.new.held ≡ self.old.held }
 
         // On an honest device, the second whatever it answers.
-        ensures written { IsTrue (F.facts self.old.device).honest → IfSome self.old.held (λ bytes.
+        ensures written { IsTrue (F.facts self.old.device).honest → OnPiece self.old.held (λ bytes.
             OnOk result ((F.facts self.new.device).content
             ≡ overwritten (F.facts self.old.device).content at bytes)) }
-        ensures torn { IsTrue (F.facts self.old.device).honest → IfSome self.old.held (λ bytes.
+        ensures torn { IsTrue (F.facts self.old.device).honest → OnPiece self.old.held (λ bytes.
             SameOutside at (length bytes) (F.facts self.old.device).content
             (F.facts self.new.device).content) }
     {
-        let n = self.held.unwrap();
-        self.device.write_at(at, &self.buffer[..n])
+        let size = match self.held {
+            Buffered::Piece { size } => size,
+            _ => 0,
+        };
+        self.device.write_at(at, &self.buffer[..size])
     }
 
-    /// Replaces the bytes of a header, whole or not at all.
+    /// Replaces the first bytes of a cell, whole or not at all.
     pub fn commit(&mut self, at: u64, bytes: &[u8; HEADER_LENGTH]) -> Result<(), FlashFault>
-        requires { at + header_length ≤ length (F.facts self.old.device).content }
+        requires { at + length bytes.now ≤ length (F.facts self.old.device).content }
 
         ensures call { OneCall (F.facts self.old.device) (F.facts self.new.device) }
         ensures cause { OnErr result ((F.facts self.old.device).faults < (F.facts self.new.device).faults) }
-        ensures dropped { self.new.held ≡ None }
+        ensures dropped { self.new.held ≡ Nothing }
 
         // On an honest device, the second whatever it answers.
         ensures written { IsTrue (F.facts self.old.device).honest →
@@ -206,7 +303,7 @@ impl<F: Flash> Paged<F> {
             ⊎ ((F.facts self.new.device).content
             ≡ overwritten (F.facts self.old.device).content at bytes.now) }
     {
-        self.held = None;
+        self.held = Buffered::Nothing;
         self.device.commit_at(at, bytes)
     }
 
@@ -216,7 +313,7 @@ impl<F: Flash> Paged<F> {
 
         ensures calls { Calls ((n + 4095) / 4096) (F.facts self.old.device) (F.facts self.new.device) }
         ensures cause { OnErr result ((F.facts self.old.device).faults < (F.facts self.new.device).faults) }
-        ensures dropped { self.new.held ≡ None }
+        ensures dropped { self.new.held ≡ Nothing }
 
         // On an honest device, the last whatever it answers.
         ensures filled { IsTrue (F.facts self.old.device).honest →
@@ -228,7 +325,7 @@ impl<F: Flash> Paged<F> {
         ensures outside { IsTrue (F.facts self.old.device).honest →
             SameOutside at n (F.facts self.old.device).content (F.facts self.new.device).content }
     {
-        self.held = None;
+        self.held = Buffered::Nothing;
         self.buffer = [byte; PIECE];
         write_copies(&mut self.device, at, n, &self.buffer, byte)
     }
@@ -245,7 +342,7 @@ impl<F: Flash> Paged<F> {
         ensures source { IsErrOf result CopyFault.Source →
             (S.facts source.old).faults < (S.facts source.new).faults }
         ensures no_output { IsErrOf result CopyFault.Output → ⊥ }
-        ensures dropped { self.new.held ≡ None }
+        ensures dropped { self.new.held ≡ Nothing }
         ensures same_source { IsTrue (S.facts source.old).honest →
             (S.facts source.new).content ≡ (S.facts source.old).content }
 
@@ -264,8 +361,8 @@ impl<F: Flash> Paged<F> {
         ensures outside { IsTrue (F.facts self.old.device).honest →
             SameOutside at n (F.facts self.old.device).content (F.facts self.new.device).content }
     {
-        self.forget_piece();
-        let _len = self.len();
+        self.forget();
+        self.places_fit();
         let mut done = 0;
         while done < n {
             let size = (n - done).min(PIECE as u64);
@@ -294,7 +391,7 @@ impl<F: Flash> Paged<F> {
         ensures source { IsErrOf result CopyFault.Source →
             (S.facts source.old).faults < (S.facts source.new).faults }
         ensures no_output { IsErrOf result CopyFault.Output → ⊥ }
-        ensures dropped { self.new.held ≡ None }
+        ensures dropped { self.new.held ≡ Nothing }
         ensures same_source { IsTrue (S.facts source.old).honest →
             (S.facts source.new).content ≡ (S.facts source.old).content }
 
@@ -307,7 +404,7 @@ impl<F: Flash> Paged<F> {
         ensures outside { IsTrue (F.facts self.old.device).honest →
             SameOutside at n (F.facts self.old.device).content (F.facts self.new.device).content }
     {
-        self.held = None;
+        self.held = Buffered::Nothing;
         load_from(source, &mut self.buffer, from, n)?;
         self.device.write_at(at, &self.buffer[..n])?;
         Ok(())
@@ -317,12 +414,11 @@ impl<F: Flash> Paged<F> {
     pub fn copy_out<W: Sink>(&mut self, at: u64, n: u64, out: &mut W) -> Result<(), CopyFault>
         requires { at + n ≤ length (F.facts self.old.device).content }
 
-        ensures calls { Calls ((n + 4095) / 4096) (F.facts self.old.device) (F.facts self.new.device) }
+        ensures after { HasRead F.facts ((n + 4095) / 4096) self.old self.new }
+        ensures no_piece { HasNoPiece self.new.held }
+        ensures dropped { IsErrOf result CopyFault.Device → self.new.held ≡ Nothing }
         ensures device { IsErrOf result CopyFault.Device →
             (F.facts self.old.device).faults < (F.facts self.new.device).faults }
-        ensures dropped { self.new.held ≡ None }
-        ensures unchanged { IsTrue (F.facts self.old.device).honest →
-            (F.facts self.new.device).content ≡ (F.facts self.old.device).content }
 
         ensures faults { W.faults out.old ≤ W.faults out.new }
         ensures output { IsErrOf result CopyFault.Output → W.faults out.old < W.faults out.new }
@@ -338,7 +434,7 @@ impl<F: Flash> Paged<F> {
             (slice_range (F.facts self.old.device).content at (at + n)) }
     {
         self.forget_piece();
-        let _len = self.len();
+        self.places_fit();
         let mut done = 0;
         while done < n {
             let size = (n - done).min(PIECE as u64);
@@ -354,12 +450,11 @@ impl<F: Flash> Paged<F> {
         requires short { n ≤ 4096 }
         requires some { 0 < n }
 
-        ensures call { OneCall (F.facts self.old.device) (F.facts self.new.device) }
+        ensures after { HasRead F.facts 1 self.old self.new }
+        ensures no_piece { HasNoPiece self.new.held }
+        ensures dropped { IsErrOf result CopyFault.Device → self.new.held ≡ Nothing }
         ensures device { IsErrOf result CopyFault.Device →
             (F.facts self.old.device).faults < (F.facts self.new.device).faults }
-        ensures dropped { self.new.held ≡ None }
-        ensures unchanged { IsTrue (F.facts self.old.device).honest →
-            (F.facts self.new.device).content ≡ (F.facts self.old.device).content }
 
         ensures faults { W.faults out.old ≤ W.faults out.new }
         ensures output { IsErrOf result CopyFault.Output → W.faults out.old < W.faults out.new }
@@ -378,7 +473,7 @@ impl<F: Flash> Paged<F> {
     }
 }
 
-/// Reads n bytes into the front of the buffer.
+/// Reads n bytes, which become the first of the buffer.
 fn load<F: Flash>(device: &mut F, buffer: &mut [u8], at: u64, n: usize) -> Result<(), FlashFault>
     requires inside { at + n ≤ length (F.facts device.old).content }
     requires short { n ≤ 4096 }
@@ -415,7 +510,7 @@ fn load_from<S: Source>(
     source.read_at(at, &mut buffer[..n])
 }
 
-/// Writes n bytes, piece by piece, each the front of the same 4096 bytes.
+/// Writes n bytes, piece by piece, each a prefix of the same 4096 bytes.
 fn write_copies<F: Flash>(
     device: &mut F,
     at: u64,

@@ -6,11 +6,12 @@ ghost use Rattle.flash_store.specs.Device.{Device, OneCall};
 #[derive(Clone, Copy, Debug, PartialEq, Eq, Drop)]
 pub struct SourceFault;
 
-/// A file or a list of bytes that is read by position.
+/// A file or a list of bytes that is read by position. Places count its bytes from 0.
 pub trait Source: Drop {
     /// Its bytes, the calls but `len` and the faults so far, and whether it is honest.
     ghost facts: { Self → Device };
 
+    /// How many bytes there are. it makes no call, and no call changes it.
     fn len(&self) -> u64
         ensures length { result ≡ length (facts self.now).content }
         ensures below { result < 2 ^ 32 };

@@ -1,17 +1,13 @@
 //! Compiles a flashmap descriptor into its table, as coreboot's fmaptool does.
 #![tactic(auto)]
 
-mod refusal;
-mod run;
-#[cfg(test)]
-mod tests;
-
 ghost use Rattle.std.specs.Prelude.{◌≡◌, ◌≢◌};
 ghost use Rattle.std.specs.IoError.{error_kind};
 
+use flash_store::WriteSink;
+use fmap_compiler::ReadText;
+pub use fmap_compiler::{Refusal, run};
 use fmd_lang::FmdFault;
-pub use refusal::Refusal;
-pub use run::run;
 use std::env;
 use std::fs::File;
 use std::io::{self, ErrorKind};
@@ -45,11 +41,11 @@ fn failure_of(fault: &io::Error, other: Failure) -> Failure
 /// Writes the table of one file's descriptor into another.
 fn compile_file(rt: &HostRuntime, input: &str, output: &str) -> Result<(), Failure> {
     let mut reader = match File::open(rt, input) {
-        Ok(file) => file,
+        Ok(file) => ReadText::new(file),
         Err(fault) => return Err(failure_of(&fault, Failure::Refused(Refusal::Read))),
     };
     let mut writer = match File::create(rt, output) {
-        Ok(file) => file,
+        Ok(file) => WriteSink::new(file),
         Err(fault) => return Err(failure_of(&fault, Failure::Refused(Refusal::Output))),
     };
     Ok(run(rt.alloc(), &mut reader, &mut writer)?)

@@ -77,7 +77,7 @@ number-depth depth w h = rw (number-high_mark w 123 h (omega arith), number-high
 name-depth : (depth : ℕ) (w : Word) → is_name w ≡ true → next_depth depth w ≡ depth
 name-depth depth w h = rw (name-mark w 123 refl h, name-mark w 125 refl h) refl
 
--- The text may end behind the root.
+-- The text may end after the root.
 end-agrees : (end : ℕ) → AgreesIn may_end end 0 []
 end-agrees end named h = refl
 end-agrees end closed_annotations h = refl
@@ -199,7 +199,7 @@ annotation-name-by place (b ∷ bs) h = elim (either (bytes_eq (b ∷ bs) (codes
 annotation-name : (w : Word) → is_annotation w ≡ true → is_name w ≡ true
 annotation-name w h = annotation-name-by w.place w.bytes h
 
--- a body, and what is behind it
+-- a body, and what is after it
 IsBody-agrees : (end depth : ℕ) (parts : Forest) (body r : List Word) →
     ((inside rest : List Word) → AreSections parts inside → AgreesIn may_end end (suc depth) rest → AgreesIn may_end end (suc depth) (inside ++ rest)) →
     (((body ≡ []) × IsTrue (is_none parts)) ⊎ Braced (AreSections parts) body) → AgreesIn may_end end depth r → AgreesIn before_body end depth (body ++ r)
@@ -209,14 +209,14 @@ IsBody-agrees end depth parts body r further (inr (opening, inside, closing, sha
     let inner = further inside (closing ∷ r) sections (close-agrees end depth closing r (true_is _ ends) behind) whole refl in
     rw (shape, append_assoc inside (closing ∷ []) r) (brace-agrees end depth opening (inside ++ closing ∷ r) byte inner s h)
 
--- a size, and what is behind it
+-- a size, and what is after it
 IsSize-agree : (end depth : ℕ) (o : Option ℕ) (ws r : List Word) → IsSize o ws → AgreesIn before_body end depth r → AgreesIn before_size end depth (ws ++ r)
 IsSize-agree end depth None ws r empty behind s h = rw empty (behind s (body-of-size s h))
 IsSize-agree end depth (Some n) ws r (number, shape, value) behind s h =
     let is = true_is _ value.0 in
     rw shape (take end s sized depth number r (size-stands s depth number h is) (size-stage s number h is) (rw (number-depth depth number is) (behind sized refl)))
 
--- an offset, and what is behind it
+-- an offset, and what is after it
 IsOffset-agree : (end depth : ℕ) (o : Option ℕ) (ws r : List Word) → IsOffset o ws → AgreesIn before_size end depth r → AgreesIn before_offset end depth (ws ++ r)
 IsOffset-agree end depth None ws r empty behind s h = rw empty (behind s (size-of-offset s h))
 IsOffset-agree end depth (Some n) ws r (mark, number, shape, sign, value) behind s h =
@@ -227,7 +227,7 @@ IsOffset-agree end depth (Some n) ws r (mark, number, shape, sign, value) behind
     let behind_sign : Agrees end at_sign depth (number ∷ r) = take end at_sign placed depth number r stands stage (rw (number-depth depth number is) (behind placed refl)) in
     rw shape (sign-agrees end depth mark (number ∷ r) byte behind_sign s h)
 
--- annotations behind the first, and what is behind their `)`
+-- annotations after the first, and what is after their `)`
 more-agree : (end depth : ℕ) (annotations : List Word) (closing : Word) (r : List Word) → list_all is_annotation annotations ≡ true → is_the_mark 41 closing ≡ true →
     Agrees end closed_annotations depth r → Agrees end annotated depth (annotations ++ closing ∷ r)
 more-agree end depth [] closing r all mark behind =
@@ -253,7 +253,7 @@ some-agree end depth (w ∷ annotations) closing r more all mark behind =
     take end in_annotations annotated depth w (annotations ++ closing ∷ r) stands (name-stage in_annotations w name)
     (rw (name-depth depth w name) (more-agree end depth annotations closing r both.1 mark behind))
 
--- a list of annotations, and what is behind it
+-- a list of annotations, and what is after it
 AreAnnotations-agrees : (end depth flags : ℕ) (ws r : List Word) → AreAnnotations flags ws → AgreesIn before_offset end depth r → Agrees end named depth (ws ++ r)
 AreAnnotations-agrees end depth flags ws r (inl (empty, no_flags)) behind = rw empty (behind named refl)
 AreAnnotations-agrees end depth flags ws r (inr (opening, annotations, closing, shape, opens, ends, more, all, is_flags)) behind =
@@ -265,7 +265,7 @@ AreAnnotations-agrees end depth flags ws r (inr (opening, annotations, closing, 
     rw (shape, append_assoc annotations (closing ∷ []) r) (take end named in_annotations depth opening (annotations ++ closing ∷ r) stands stage (rw level inner))
 
 mutual
-  -- a section behind its name, and what is behind it
+  -- a section after its name, and what is after it
   IsSection-agrees : (t : Tree) (end depth : ℕ) (ws r : List Word) → IsSection t ws → AgreesIn may_end end depth r → OpensWell end depth (ws ++ r)
   IsSection-agrees (section name flags offset size parts) end depth ws r (first, ns, at, number, body, shape, is_first, named_so, short, annotates, offsets, sizes, is_body) behind =
       let after_size = IsBody-agrees end depth parts body r (λ inside rest sections more. AreSections-agree parts end depth inside rest sections more) is_body behind in
@@ -279,7 +279,7 @@ mutual
         after_name,
       )
 
-  -- sections inside braces, and what is behind them
+  -- sections inside braces, and what is after them
   AreSections-agree : (ts : Forest) (end depth : ℕ) (ws r : List Word) → AreSections ts ws → AgreesIn may_end end (suc depth) r → AgreesIn may_end end (suc depth) (ws ++ r)
   AreSections-agree none end depth ws r empty behind s h = rw empty (behind s h)
   AreSections-agree (some t ts) end depth ws r (first, rest, split, head, others) behind s h =

@@ -1,12 +1,12 @@
 -- Annotations, one word at a time.
-use Rattle.std.proofs.Common.{◌≡◌, ℕ, Bool, true, false, cond, ◌||◌, List, [], ◌∷◌, ◌++◌, Some, None, Result, Ok, Err, unwrap_or, refl, ◌∙◌, ap, rules, arith, inl, inr, length}
+use Rattle.std.proofs.Common.{◌≡◌, ℕ, Bool, true, false, cond, ◌||◌, List, [], ◌∷◌, ◌++◌, Some, None, Result, Ok, Err, unwrap_or, refl, ◌∙◌, ap, rules, arith, inr, length}
 use Rattle.std.proofs.lemmas.Bool.{eqb-true}
 use Rattle.std.proofs.lemmas.List.Folds.{list_all-append, list_any-append}
 use Rattle.std.specs.List.{list_all, list_any}
 use Rattle.fmd_lang.specs.Words.{Word, words_after, first_byte, is_name, is_the_mark}
 use Rattle.fmd_lang.specs.Grammar.{is_annotation, is_preserve, is_cbfs, annotation_of, AreAnnotations}
 use Rattle.fmd_lang.specs.Faults.{in_annotations, annotated, named, closed_annotations, own_fault, expected_at, next_stage, next_depth, fault_from}
-use Rattle.fmd_lang.specs.Parsing.{Parses, EndsAnnotations, EndsMoreAnnotations}
+use Rattle.fmd_lang.specs.Parsing.{Parses, stand, EndsAnnotations, EndsMoreAnnotations}
 use Rattle.fmd_lang.specs.declared.fault.FmdFault.{FmdFault}
 use Rattle.fmd_lang.proofs.ParserLemmas.{fault_from-take, name-mark, name-number}
 
@@ -69,7 +69,7 @@ any-more first annotations w = rw (list_any-append is_preserve annotations (w �
 -- one annotation before others
 pub first-parses : (text : List ℕ) (from mid depth : ℕ) (w : Word) (preserve : Bool) (r : Result (Bool × ℕ) FmdFault) →
     words_after text from ≡ w ∷ words_after text mid → is_name w ≡ true → annotation_of w ≡ Some preserve → own_fault depth w ≡ None →
-    Parses (EndsMoreAnnotations preserve) annotated depth closed_annotations depth text mid r → Parses EndsAnnotations in_annotations depth closed_annotations depth text from r
+    Parses (EndsMoreAnnotations preserve) (stand annotated depth) (stand closed_annotations depth) text mid r → Parses EndsAnnotations (stand in_annotations depth) (stand closed_annotations depth) text from r
 first-parses text from mid depth w preserve (Ok (b, to)) here name known own (taken, split, (annotations, closing, shape, close, all, flag), same) =
     let facts = annotation-told w preserve known in
     let all_known : list_all is_annotation (w ∷ annotations) ≡ true = rw facts.0 (search (rules, all)) in
@@ -79,18 +79,16 @@ first-parses text from mid depth w preserve (Ok (b, to)) here name known own (ta
       (w ∷ annotations, closing, ap (λ ws. w ∷ ws) shape, close, omega arith, search (rules, all_known), flags),
       ap (fault_from in_annotations depth (length text)) here ∙ first-take depth (length text) w (words_after text mid) name facts.0 own ∙ same,
     )
-first-parses text from mid depth w preserve (Err fault) here name known own refused = elim refused [
-  | inl memory ↦ inl memory
-  | inr same ↦ inr (ap (fault_from in_annotations depth (length text)) here
-      ∙ first-take depth (length text) w (words_after text mid) name (annotation-told w preserve known).0 own ∙ same)
-]
+first-parses text from mid depth w preserve (Err fault) here name known own same =
+    ap (fault_from in_annotations depth (length text)) here
+    ∙ first-take depth (length text) w (words_after text mid) name (annotation-told w preserve known).0 own ∙ same
 
 flag_value : (b c : Bool) → b ≡ c → cond {A = ℕ} b 8 0 ≡ cond {A = ℕ} c 8 0
 flag_value b c h = ap (λ v. cond {A = ℕ} v 8 0) h
 
 pub annotations-parses : (text : List ℕ) (from mid to depth : ℕ) (w : Word) (preserve : Bool) →
     words_after text from ≡ w ∷ words_after text mid → is_the_mark 40 w ≡ true → own_fault depth w ≡ None →
-    Parses EndsAnnotations in_annotations depth closed_annotations depth text mid (Ok (preserve, to)) → Parses AreAnnotations named depth closed_annotations depth text from (Ok (cond preserve 8 0, to))
+    Parses EndsAnnotations (stand in_annotations depth) (stand closed_annotations depth) text mid (Ok (preserve, to)) → Parses AreAnnotations (stand named depth) (stand closed_annotations depth) text from (Ok (cond preserve 8 0, to))
 annotations-parses text from mid to depth w preserve here mark own (taken, split, (annotations, closing, shape, close, some, all, flag), same) = (
   w ∷ taken,
   here ∙ ap (λ ws. w ∷ ws) split,

@@ -16,7 +16,7 @@ use Rattle.fmd_lang.specs.declared.fault.Expected.TheVariants as wanted
 use Rattle.fmd_lang.proofs.ParserLemmas.{fault_from-take, name-short, name-mark, name-number, sign-take, number-take, size-take, size-skip, size-end, brace-take, close-take, name-take}
 use Rattle.fmd_lang.proofs.AnnotationLemmas.{paren-take, end-take, first-take, more-take}
 
--- The words in front have a form, and from a stage on there is no fault behind them.
+-- The words in front have a form, and from a stage on there is no fault after them.
 record Reads (P : List Word → Type 0) (next : Stage) (depth end : ℕ) (ws : List Word) : Type 0 where
   taken : List Word
   rest : List Word
@@ -66,7 +66,7 @@ only-name : (name mark : Bool) (what : Expected) → mark ≡ false → cond (na
 only-name true mark what other h = refl
 only-name false mark what other h = cc
 
--- annotations and the `)` behind them
+-- annotations and the `)` after them
 abbrev Closes : List Word → Type 0
 Closes ws = (annotations : List Word) × (closing : Word) × (ws ≡ annotations ++ closing ∷ []) × IsMark close_paren closing × (list_all is_annotation annotations ≡ true)
 
@@ -116,7 +116,7 @@ reads-first depth end (w ∷ ws) h =
       faultless = more.faultless;
     }
 
--- what a section may have behind its name: annotations, an offset, a size
+-- what a section may have after its name: annotations, an offset, a size
 abbrev SomeFlags : List Word → Type 0
 SomeFlags ws = (flags : ℕ) × AreAnnotations flags ws
 
@@ -175,7 +175,7 @@ offset-end (suc depth) end = refl
 offset-skip : (depth end : ℕ) (w : Word) (ws : List Word) → is_the_mark 64 w ≡ false → fault_from closed_annotations depth end (w ∷ ws) ≡ fault_from placed depth end (w ∷ ws)
 offset-skip depth end w ws other = rw other refl
 
--- the number behind an `@`
+-- the number after an `@`
 reads-placing : (depth end : ℕ) (mark : Word) (ws : List Word) → is_the_mark 64 mark ≡ true → fault_from at_sign depth end ws ≡ None → Reads (λ vs. SomeOffset (mark ∷ vs)) placed depth end ws
 reads-placing depth end mark [] sign h = cc
 reads-placing depth end mark (w ∷ ws) sign h =
@@ -221,7 +221,7 @@ reads-size depth end (w ∷ ws) h = elim (cases_Bool (is_number w)) [
   | inr other ↦ skips SomeSize sized depth end (w ∷ ws) (None, refl) (sym (size-skip depth end w ws other) ∙ h)
 ]
 
--- sections and the `}` behind them
+-- sections and the `}` after them
 abbrev Closed : List Word → Type 0
 Closed ws = (parts : Forest) × (inside : List Word) × (closing : Word) × (ws ≡ inside ++ closing ∷ []) × IsMark close_brace closing × AreSections parts inside
 
@@ -255,14 +255,14 @@ reads-body most depth end (w ∷ ws) further few h = elim (cases_Bool (is_the_ma
   | inr other ↦ skips SomeBody whole depth end (w ∷ ws) (none, inl (refl, search rules)) (sym (body-skip depth end w ws other) ∙ h)
 ]
 
--- What is behind is no longer.
+-- What is after is no longer.
 rest-shorter : (ws taken rest : List Word) → ws ≡ taken ++ rest → length rest ≤ length ws
 rest-shorter ws taken rest split = rw (split, length-append taken rest) (omega arith)
 
 abbrev SomeSection : Word → List Word → Type 0
 SomeSection first ws = (t : Tree) × IsSection t (first ∷ ws)
 
--- what stands behind a section's name, put together
+-- what stands after a section's name, put together
 joins-section : (depth end : ℕ) (first : Word) (ws : List Word) → is_name first ≡ true → own_fault depth first ≡ None →
     (annotations : Reads SomeFlags closed_annotations depth end ws) (offset : Reads SomeOffset placed depth end annotations.rest) (size : Reads SomeSize sized depth end offset.rest) →
     Reads SomeBody whole depth end size.rest → Reads (SomeSection first) whole depth end ws
@@ -297,7 +297,7 @@ joins-section depth end first ws name own annotations offset size body =
       faultless = body.faultless;
     }
 
--- a section behind its name
+-- a section after its name
 reads-section : (depth end : ℕ) (first : Word) (ws : List Word) → is_name first ≡ true → own_fault depth first ≡ None → Further (length ws) depth end → fault_from named depth end ws ≡ None → Reads (SomeSection first) whole depth end ws
 reads-section depth end first ws name own further h =
     let annotations = reads-annotations depth end ws h in
@@ -349,7 +349,7 @@ reads-closed (suc fuel) depth end (w ∷ ws) few h =
           joins-sections depth end w ws one (reads-closed fuel depth end one.rest (omega arith) one.faultless)
     ]
 
--- Nothing may stand behind the root.
+-- Nothing may stand after the root.
 nothing-behind : (end : ℕ) (ws : List Word) → fault_from whole 0 end ws ≡ None → ws ≡ []
 nothing-behind end [] h = refl
 nothing-behind end (w ∷ ws) h = let wrong : Some wanted.End ≡ None = first-stands whole 0 end w ws h in cc
@@ -361,7 +361,7 @@ start-take end w ws name own =
     let level : next_depth 0 w ≡ 0 = rw (name-mark w 123 refl name, name-mark w 125 refl name) refl in
     fault_from-take start 0 end w ws own stands ∙ ap (λ s. fault_from s (next_depth 0 w) end ws) stage ∙ ap (λ d. fault_from named d end ws) level
 
--- a root with nothing behind it
+-- a root with nothing after it
 whole-tree : (end : ℕ) (w : Word) (ws : List Word) → Reads (SomeSection w) whole 0 end ws → (t : Tree) × IsSection t (w ∷ ws)
 whole-tree end w ws one =
     let nothing = nothing-behind end one.rest one.faultless in

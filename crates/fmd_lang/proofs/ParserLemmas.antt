@@ -2,7 +2,7 @@
 use Rattle.std.proofs.Common.{◌≡◌, ◌≢◌, ℕ, zero, suc, ◌+◌, ◌<◌, nat_lt, Bool, true, false, cond, List, [], ◌∷◌, ◌++◌, Option, Some, None, ◌-◌, refl, sym, ◌∙◌, ap, arith, inl, inr, rules, length, Result, Ok, Err, Vec, Global, add-one, append_assoc, map}
 use Rattle.std.proofs.lemmas.List.{append-nil}
 use Rattle.std.proofs.lemmas.Bool.{eqb-true, cases_Bool, false≢true}
-use Rattle.fmd_lang.specs.Parsing.{Parses, IsBody, AreClosed, IsNumber}
+use Rattle.fmd_lang.specs.Parsing.{Parses, ParsesInMemory, stand, IsBody, AreClosed, IsNumber}
 use Rattle.fmd_lang.specs.Grammar.{IsSection, AreSections, AreAnnotations, IsOffset, IsSize}
 use Rattle.fmd_lang.specs.Tree.{Tree, forest_of, some, section}
 use Rattle.fmd_lang.specs.View.{view, views}
@@ -25,7 +25,7 @@ number-mark w m h low = grind arith
 pub number-high_mark : (w : Word) (m : ℕ) → is_number w ≡ true → 57 < m → is_the_mark m w ≡ false
 number-high_mark w m h high = grind arith
 
--- a number behind the offset is the size
+-- a number after the offset is the size
 pub size-take : (depth end : ℕ) (w : Word) (ws : List Word) → is_number w ≡ true → own_fault depth w ≡ None →
     fault_from placed depth end (w ∷ ws) ≡ fault_from sized depth end ws
 size-take depth end w ws number own =
@@ -42,7 +42,7 @@ pub size-end : (depth end : ℕ) → fault_from placed depth end [] ≡ fault_fr
 size-end zero end = refl
 size-end (suc depth) end = refl
 
--- a number behind `@`
+-- a number after `@`
 pub number-take : (depth end : ℕ) (w : Word) (ws : List Word) → is_number w ≡ true → own_fault depth w ≡ None →
     fault_from at_sign depth end (w ∷ ws) ≡ fault_from placed depth end ws
 number-take depth end w ws number own =
@@ -102,11 +102,11 @@ name-take depth end w ws name own =
     let level : next_depth (suc depth) w ≡ suc depth = rw (name-mark w 123 refl name, name-mark w 125 refl name) refl in
     fault_from-take whole (suc depth) end w ws own stands ∙ ap (λ s. fault_from s (next_depth (suc depth) w) end ws) stage ∙ ap (λ d. fault_from named d end ws) level
 
--- a brace list, from what stands behind its `{`
+-- a brace list, from what stands after its `{`
 pub body-parses : (text : List ℕ) (from mid depth : ℕ) (w : Word) (r : Result (Vec Section Global × ℕ) FmdFault) →
     words_after text from ≡ w ∷ words_after text mid → is_the_mark 123 w ≡ true → own_fault depth w ≡ None →
-    Parses (λ v ws. AreClosed v.items ws) whole (depth + 1) whole depth text mid r →
-    Parses (λ v ws. IsBody v.items ws) sized depth whole depth text from r
+    ParsesInMemory (λ v ws. AreClosed v.items ws) (stand whole (depth + 1)) (stand whole depth) text mid r →
+    ParsesInMemory (λ v ws. IsBody v.items ws) (stand sized depth) (stand whole depth) text from r
 body-parses text from mid depth w (Ok (v, to)) here mark own (taken, split, (inside, closing, shape, close, sections), same) = (
   w ∷ taken,
   here ∙ ap (λ ws. w ∷ ws) split,
@@ -149,11 +149,11 @@ views-push (p ∷ parts) part = ap (λ ts. some (view p) ts) (views-push parts p
 -- a section, from its parts
 pub section-parses : (text : List ℕ) (from after_annotations after_offset after_size to depth : ℕ) (name : Word) (bytes : List ℕ) (flags : ℕ) (given size : Option ℕ) (parts : List Section) →
     is_name name ≡ true → bytes ≡ name.bytes → own_fault depth name ≡ None →
-    Parses AreAnnotations named depth closed_annotations depth text from (Ok (flags, after_annotations)) →
-    Parses IsOffset closed_annotations depth placed depth text after_annotations (Ok (given, after_offset)) →
-    Parses IsSize placed depth sized depth text after_offset (Ok (size, after_size)) →
-    Parses IsBody sized depth whole depth text after_size (Ok (parts, to)) →
-    Parses (λ t ws. IsSection t (name ∷ ws)) named depth whole depth text from (Ok (section bytes flags given size (views parts), to))
+    Parses AreAnnotations (stand named depth) (stand closed_annotations depth) text from (Ok (flags, after_annotations)) →
+    Parses IsOffset (stand closed_annotations depth) (stand placed depth) text after_annotations (Ok (given, after_offset)) →
+    Parses IsSize (stand placed depth) (stand sized depth) text after_offset (Ok (size, after_size)) →
+    Parses IsBody (stand sized depth) (stand whole depth) text after_size (Ok (parts, to)) →
+    Parses (λ t ws. IsSection t (name ∷ ws)) (stand named depth) (stand whole depth) text from (Ok (section bytes flags given size (views parts), to))
 section-parses text from after_annotations after_offset after_size to depth name bytes flags given size parts is copy own annotations place extent body = (
   annotations.0 ++ (place.0 ++ (extent.0 ++ body.0)),
   annotations.1 ∙ ap (λ ws. annotations.0 ++ ws) (place.1 ∙ ap (λ ws. place.0 ++ ws) (extent.1 ∙ ap (λ ws. extent.0 ++ ws) body.1))
@@ -164,8 +164,8 @@ section-parses text from after_annotations after_offset after_size to depth name
 
 -- the offset's `@` and its number
 pub offset-parses : (text : List ℕ) (from mid to depth n : ℕ) (w : Word) → words_after text from ≡ w ∷ words_after text mid →
-    is_the_mark 64 w ≡ true → own_fault depth w ≡ None → Parses IsNumber at_sign depth placed depth text mid (Ok (n, to)) →
-    Parses IsOffset closed_annotations depth placed depth text from (Ok (Some n, to))
+    is_the_mark 64 w ≡ true → own_fault depth w ≡ None → Parses IsNumber (stand at_sign depth) (stand placed depth) text mid (Ok (n, to)) →
+    Parses IsOffset (stand closed_annotations depth) (stand placed depth) text from (Ok (Some n, to))
 offset-parses text from mid to depth n w here mark own number = (
   w ∷ number.0,
   here ∙ ap (λ ws. w ∷ ws) number.1,

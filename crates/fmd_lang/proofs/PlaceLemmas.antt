@@ -36,7 +36,7 @@ run_case parent at (Some b) z q ps qs placed further clear = omega arith
 run_case parent at None None q ps qs placed further clear = cc
 run_case parent at None (Some s) q ps qs placed further clear = omega (arith, further clear)
 
--- In a run that has omitted a size already, the sizes ahead are given, and it ends behind them.
+-- In a run that has omitted a size already, the sizes ahead are given, and it ends after them.
 pub run_end-placed : (parent at : ℕ) (ps : List Sibling) (qs : List Place) → is_clear true ps ≡ true → ArePlaced parent at ps qs → run_end at ps qs ≡ at + sizes_ahead ps
 run_end-placed parent at [] qs clear h = omega arith
 run_end-placed parent at (p ∷ ps) [] clear h = absurd h
@@ -48,7 +48,7 @@ place start size = record { start = start; size = size }
 same_place : (q r : Place) → q.start ≡ r.start → q.size ≡ r.size → q ≡ r
 same_place q r start size = ap (λ n. place n q.size) start ∙ ap (place r.start) size
 
--- A place is the filled one: the run behind an omitted size has given sizes, and ends at the bound.
+-- A place is the filled one: the run after an omitted size has given sizes, and ends at the bound.
 place-is : (parent from : ℕ) (o z : Option ℕ) (q : Place) (ps : List Sibling) (qs : List Place) (flag : Bool) → is_clear flag ps ≡ true → (z ≡ None → flag ≡ true) →
     IsPlaced parent from (make o z) q → IfNone z (run_end (end_of q) ps qs ≡ bound parent ps) → ArePlaced parent (end_of q) ps qs →
     q ≡ place_of parent from (make o z) ps

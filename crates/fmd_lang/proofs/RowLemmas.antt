@@ -34,7 +34,7 @@ run_case parent at (Some b) z ps further clear = omega arith
 run_case parent at None None ps further clear = cc
 run_case parent at None (Some s) ps further clear = omega (arith, further (at + s) clear)
 
--- In a run that has omitted a size already, the sizes ahead are given, and it ends behind them.
+-- In a run that has omitted a size already, the sizes ahead are given, and it ends after them.
 pub run_end-filled : (parent at : ℕ) (ps : List Sibling) → is_clear true ps ≡ true → run_end at ps (filled parent at ps) ≡ at + sizes_ahead ps
 run_end-filled parent at [] clear = omega arith
 run_end-filled parent at (p ∷ ps) clear = run_case parent at p.offset p.size ps (λ to e. run_end-filled parent to ps e) clear

@@ -13,7 +13,7 @@ abbrev begins : (Word → Bool) → List Word → Bool
 begins test [] = false
 begins test (w ∷ ws) = test w
 
--- whether these words may stand behind a section: none, or a name or `}` first
+-- whether these words may stand after a section: none, or a name or `}` first
 abbrev stands : List Word → Bool
 stands [] = true
 stands (w ∷ ws) = is_name w || is_the_mark 125 w
@@ -22,7 +22,7 @@ pub true_is : (b : Bool) → IsTrue b → b ≡ true
 true_is true h = refl
 true_is false h = search (rules, h)
 
--- the annotations at the front, as a number of flags and the words behind them
+-- the annotations at the front, as a number of flags and the words after them
 abbrev flags_of : Bool → ℕ
 flags_of p = cond p 8 0
 
@@ -127,7 +127,7 @@ offset-mark : (o : Option ℕ) (ws r : List Word) → IsOffset o ws → begins (
 offset-mark None ws r h other = rw h other
 offset-mark (Some n) ws r (mark, number, shape, sign, value) other = rw (shape, eqb-true (first_byte mark) 64 (true_is _ sign)) refl
 
--- what stands behind a name, read from the front
+-- what stands after a name, read from the front
 record Front (flags : ℕ) (offset size : Option ℕ) (parts : Forest) (behind r : List Word) : Type 0 where
   after_annotations : List Word
   after_offset : List Word
@@ -191,7 +191,7 @@ no_parts : (ts : Forest) → IsTrue (is_none ts) → ts ≡ none
 no_parts none h = refl
 no_parts (some t ts) h = search (rules, h)
 
--- a brace can't stand behind a section
+-- a brace can't stand after a section
 brace-behind : (opening : Word) (ws r : List Word) → IsTrue (is_the_mark 123 opening) → r ≡ opening ∷ ws → stands r ≡ true → ⊥
 brace-behind opening ws r opens shape h =
     let byte = eqb-true (first_byte opening) 123 (true_is _ opens) in

@@ -116,7 +116,7 @@ words_after-single text at h plain blank comment =
     (rw (blank, plain)
     (ap (λ ws. record { place = at; bytes = b ∷ [] } ∷ ws) (words_from-before b (suc at) rest plain)))
 
--- a range and the element behind it, or before it
+-- a range and the element after it, or before it
 pub range-more : (text : List ℕ) (from at : ℕ) (rest : List ℕ) → from ≤ at → at < length text →
     slice_range text from at ++ slice_index text at ∷ rest ≡ slice_range text from (at + 1) ++ rest
 range-more text from at rest low high =

@@ -1,13 +1,9 @@
--- The bytes of a table: the head of FMAP 1.1 and the areas behind it.
+-- The bytes of a table: the head of FMAP 1.1 and the areas after it.
 use Rattle.std.specs.Prelude.{ℕ, List, ◌++◌, length}
 use Rattle.std.specs.List.{flat_map}
 use Rattle.flash_format.specs.Flashmap.{fmap_head_bytes, area_bytes}
 use Rattle.flash_format.specs.declared.flashmap.FmapHead.{FmapHead}
 use Rattle.fmd_lang.specs.declared.table.Table.{Table}
-
--- how many areas a head can count
-abbrev pub area_limit : ℕ
-area_limit = 65535
 
 abbrev pub table_head : Table → FmapHead
 table_head t = record { major = 1; minor = 1; base = t.base; size = t.size; name = t.name; nareas = length t.areas.items }

@@ -50,13 +50,17 @@ abbrev pub number_fault : ℕ → Option ℕ → Option FmdFault
 number_fault at None = Some (faults.BadNumber at)
 number_fault at (Some n) = if nat_lt n (2 ^ 32) then None else Some (faults.NumberTooLarge at)
 
+-- how many `{` may be open
+abbrev pub depth_limit : ℕ
+depth_limit = 32
+
 -- the refusal of a word by itself, while so many `{` are open
 abbrev pub own_fault : ℕ → Word → Option FmdFault
 own_fault depth w =
     if is_bad w then Some (faults.BadByte w.place)
     else (if is_number w then number_fault w.place (number_value w.bytes)
     else (if is_name w then (if nat_lt (length w.bytes) 32 then None else Some (faults.NameTooLong w.place))
-    else (if is_the_mark open_brace w && nat_le 32 depth then Some faults.TooDeep else None)))
+    else (if is_the_mark open_brace w && nat_le depth_limit depth then Some faults.TooDeep else None)))
 
 -- whether the word goes on with the section that the words before began
 abbrev pub goes_on : Stage → Word → Bool
@@ -66,7 +70,7 @@ goes_on placed w = is_number w || is_the_mark open_brace w
 goes_on sized w = is_the_mark open_brace w
 goes_on s w = false
 
--- what had to stand in place of a word that doesn't go on with the section: behind the root nothing else may
+-- what had to stand in place of a word that doesn't go on with the section: after the root nothing else may
 -- stand, inside braces another section or the closing brace
 abbrev pub expected_next : ℕ → Word → Option Expected
 expected_next zero w = Some wanted.End

@@ -1,5 +1,5 @@
 -- What is refused of the layout of a descriptor, and in which order (this project's own).
-use Rattle.std.specs.Prelude.{ℕ, zero, suc, ◌+◌, ◌*◌, nat_lt, nat_eq, Bool, not, if◌then◌else◌, List, [], ◌∷◌, length, ◌-◌, Option, Some, None, unwrap_or, option_map, codes, drop}
+use Rattle.std.specs.Prelude.{ℕ, zero, suc, ◌+◌, nat_lt, nat_eq, Bool, not, if◌then◌else◌, List, [], ◌∷◌, length, ◌-◌, Option, Some, None, unwrap_or, option_map, codes, drop}
 use Rattle.std.specs.Option.{option_or}
 use Rattle.std.specs.List.{list_any}
 use Rattle.std.specs.Str.{bytes_eq}
@@ -7,7 +7,7 @@ use Rattle.fmd_lang.specs.Tree.{Tree, section, Forest, none, some, section_count
 use Rattle.fmd_lang.specs.Layout.{filled, siblings}
 use Rattle.fmd_lang.specs.Names.{duplicate}
 use Rattle.fmd_lang.specs.Row.{row_fault}
-use Rattle.fmd_lang.specs.Table.{fmap_size}
+use Rattle.fmd_lang.specs.Table.{area_limit, fmap_size, table_len}
 use Rattle.fmd_lang.specs.declared.row.Place.{Place}
 use Rattle.fmd_lang.specs.declared.row.RowFault.{RowFault}
 use Rattle.fmd_lang.specs.declared.row.RowFault.TheVariants as row
@@ -52,7 +52,7 @@ is_fmap name = bytes_eq name (codes "FMAP")
 
 -- of the names of the sections but the root: none is FMAP; they are too many
 abbrev pub areas_fault : List (List ℕ) → Option FmdFault
-areas_fault ns = option_or (flag (not (list_any is_fmap ns)) faults.NoFmap) (flag (nat_lt 65535 (length ns)) faults.TooManyAreas)
+areas_fault ns = option_or (flag (not (list_any is_fmap ns)) faults.NoFmap) (flag (nat_lt area_limit (length ns)) faults.TooManyAreas)
 
 -- of all names in preorder: the lowest that an earlier one equals comes first
 abbrev pub names_fault : List (List ℕ) → Option FmdFault
@@ -62,10 +62,6 @@ names_fault ns = option_or (option_map faults.Duplicate (duplicate 0 [] ns)) (ar
 abbrev pub size_fault : Option ℕ → Option FmdFault
 size_fault None = Some (faults.Ambiguous 0)
 size_fault (Some n) = flag (nat_eq n 0) (faults.EmptySection 0)
-
--- the bytes of a table with this many areas
-abbrev pub table_len : ℕ → ℕ
-table_len areas = 56 + 42 * areas
 
 -- the section FMAP holds fewer bytes than the table
 abbrev pub table_fault : ℕ → Tree → Option FmdFault

@@ -8,6 +8,6 @@ abbrev pub duplicate : ℕ → List (List ℕ) → List (List ℕ) → Option �
 duplicate n earlier [] = None
 duplicate n earlier (x ∷ xs) = if list_any (bytes_eq x) earlier then Some n else duplicate (suc n) (earlier ++ x ∷ []) xs
 
--- a name of the table: 32 bytes, NULs behind the name
+-- a name of the table: 32 bytes, NULs after the name
 abbrev pub field_of : List ℕ → List ℕ
 field_of name = take 32 name ++ replicate (32 - length name) 0

@@ -1,13 +1,21 @@
 -- The table of a descriptor: all sections but the root in preorder, with offsets from the root's start.
-use Rattle.std.specs.Prelude.{◌≡◌, ℕ, ◌+◌, List, [], ◌∷◌, ◌++◌, Option, Some, None, unwrap_or, codes}
+use Rattle.std.specs.Prelude.{◌≡◌, ℕ, ◌+◌, ◌*◌, List, [], ◌∷◌, ◌++◌, Option, Some, None, unwrap_or, codes}
 use Rattle.std.specs.List.{find}
-use Rattle.flash_format.specs.Flashmap.{is_area}
+use Rattle.flash_format.specs.Flashmap.{fmap_head_len, area_len, is_area}
 use Rattle.fmd_lang.specs.Tree.{Tree, section, Forest, none, some}
 use Rattle.fmd_lang.specs.Names.{field_of}
 use Rattle.fmd_lang.specs.Layout.{Laid, siblings, filled}
 use Rattle.fmd_lang.specs.declared.row.Place.{Place}
 use Rattle.flash_format.specs.declared.flashmap.Area.{Area}
 use Rattle.fmd_lang.specs.declared.table.Table.{Table}
+
+-- how many areas a head can count
+abbrev pub area_limit : ℕ
+area_limit = 65535
+
+-- the bytes of a table with this many areas
+abbrev pub table_len : ℕ → ℕ
+table_len areas = fmap_head_len + area_len * areas
 
 -- the area of a section at this place of a parent that begins at `at`
 abbrev pub section_area : ℕ → Place → Tree → Area

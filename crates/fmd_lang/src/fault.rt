@@ -25,56 +25,61 @@ pub enum Expected {
     End,
 }
 
-/// Why a descriptor is refused; the text is what the program prints of it. `at` is the place of a byte in the
-/// text, counted from 0; `section` is a section's number in preorder, the root's being 0.
+/// Why a descriptor is refused, each with its number; the text is what the program prints of it. `at` is the place of
+/// a byte in the text, counted from 0; `section` is a section's number in preorder, the root's being 0. Nothing is
+/// kept after a refusal. `parse` answers 1 to 8, `lay_out` 1 and 9 to 16, `encode` 1 and 16.
 #[derive(Clone, Copy, Debug, PartialEq, Eq, Error)]
 pub enum FmdFault {
-    /// Memory was refused.
+    /// 1: memory was refused. It comes at any growth of what is made, before or in place of every other refusal.
     #[error("out of memory")]
     Memory,
-    /// The text has more than 1,048,576 bytes.
+    /// 2: the text has more than 1,048,576 bytes. Nothing else is then looked at.
     #[error("text too long")]
     TextTooLong,
-    /// A byte that no word may have, outside a comment.
+    /// 3: a byte that no word may have, outside a comment. Of 3 to 8 the lowest place comes first, and at one place
+    /// 6 comes last.
     #[error("bad byte at {at}")]
     BadByte { at: usize },
-    /// A word that begins with a digit and is no number.
+    /// 4: a word that begins with a digit and is no number; the place is that of its first byte.
     #[error("bad number at {at}")]
     BadNumber { at: usize },
-    /// A number of 2^32 or more.
+    /// 5: a number of 2^32 or more; the place is that of its first byte.
     #[error("number too large at {at}")]
     NumberTooLarge { at: usize },
-    /// A word, or the text's end, where something else has to stand.
+    /// 6: a word, or the text's end, where something else has to stand; the place is that of the word's first byte, or
+    /// the text's length.
     #[error("expected {what} at {at}")]
     Expected { at: usize, what: Expected },
-    /// A `{` while 32 are open.
+    /// 7: a `{` while 32 are open.
     #[error("nested too deep")]
     TooDeep,
-    /// A name of 32 bytes or more.
+    /// 8: a name of 32 bytes or more; the place is that of its first byte.
     #[error("name too long at {at}")]
     NameTooLong { at: usize },
-    /// The second omitted size in a run of siblings, or the root's.
+    /// 9: the second omitted size in a run of siblings, or the root's. It comes before 10 to 12 of the same row; the
+    /// root comes before all rows, and these come parent by parent in preorder.
     #[error("ambiguous size of section {section}")]
-    Ambiguous { section: u32 },
-    /// A size of 0, given or left over.
+    Ambiguous { section: usize },
+    /// 10: a size of 0, given or left over. Of 10 to 12 the first sibling comes first, and at one sibling the lowest
+    /// number.
     #[error("empty section {section}")]
-    EmptySection { section: u32 },
-    /// It begins before its previous sibling ends.
+    EmptySection { section: usize },
+    /// 11: it begins before its previous sibling ends.
     #[error("overlap at section {section}")]
-    Overlap { section: u32 },
-    /// It ends behind its parent's end.
+    Overlap { section: usize },
+    /// 12: it ends after its parent's end.
     #[error("section {section} outside its parent")]
-    Outside { section: u32 },
-    /// An earlier section has its name.
+    Outside { section: usize },
+    /// 13: an earlier section has its name; the lowest such number. It comes before every other refusal of a layout.
     #[error("duplicate name of section {section}")]
-    Duplicate { section: u32 },
-    /// No section but the root is named FMAP.
+    Duplicate { section: usize },
+    /// 14: no section but the root is named FMAP. It comes after 13.
     #[error("no FMAP section")]
     NoFmap,
-    /// The section FMAP has fewer bytes than the table.
+    /// 15: the section FMAP has fewer bytes than the table. It comes last.
     #[error("FMAP section too small")]
     FmapTooSmall,
-    /// More than 65,535 sections below the root, or areas in a table.
+    /// 16: more than 65,535 sections below the root, which comes after 14 and before 9; or areas in a table.
     #[error("too many areas")]
     TooManyAreas,
 }

@@ -7,7 +7,7 @@ ghost use Rattle.fmd_lang.specs.declared.section.Section.{out-Section};
 ghost use Rattle.fmd_lang.specs.Tree.{section_count, sections_count, parts_of, size_of, names};
 ghost use Rattle.fmd_lang.specs.View.{view, views};
 ghost use Rattle.fmd_lang.specs.Layout as spec;
-ghost use Rattle.fmd_lang.specs.Table.{areas_below, size_named, IsTable};
+ghost use Rattle.fmd_lang.specs.Table.{area_limit, areas_below, size_named, IsTable};
 ghost use Rattle.fmd_lang.specs.LayoutFaults as faults;
 ghost use Rattle.fmd_lang.specs.LayoutFaults.{layout_fault};
 
@@ -15,8 +15,8 @@ use crate::fault::FmdFault;
 use crate::names::{check_names_of, name_field};
 use crate::row::{Place, RowFault, Sibling, lay_row};
 use crate::section::Section;
-use crate::table::{AREA_LEN, HEAD_LEN, Table};
-use flash_format::Area;
+use crate::table::Table;
+use flash_format::{Area, FmapHead};
 use std::alloc::Global;
 
 /// The table of a tree: where its sections lie. The first refusal is that of the names (a duplicate, no FMAP, too
@@ -25,18 +25,18 @@ use std::alloc::Global;
 pub fn lay_out(alloc: Global, root: &Section) -> Result<Table, FmdFault>
     ensures table { IfOk result (λ table. IsTable (view root.now) table) }
     ensures faultless { OnOk result (layout_fault (view root.now) ≡ None) }
-    ensures few { IfOk result (λ table. length table.areas.items ≤ 65535) }
+    ensures few { IfOk result (λ table. length table.areas.items ≤ area_limit) }
     ensures refused { IfErr result (λ fault. (fault ≡ FmdFault.Memory) ⊎ (layout_fault (view root.now) ≡ Some fault)) }
 {
     check_names_of(alloc, root)?;
     let size = root_size(root)?;
     let mut areas = Vec::new(alloc);
     push_areas(alloc, root, 0, size, &mut areas)?;
-    if (fmap_size(&areas) as usize) < HEAD_LEN + AREA_LEN * areas.len() {
+    if (fmap_size(&areas) as usize) < FmapHead::LENGTH + Area::LENGTH * areas.len() {
         return Err(FmdFault::FmapTooSmall);
     }
     Ok(Table {
-        base: root.offset.unwrap_or(0) as u64,
+        base: u64::from(root.offset.unwrap_or(0)),
         size,
         name: name_field(&root.name),
         areas,
@@ -63,14 +63,14 @@ fn push_areas(
     size: u32,
     areas: &mut Vec<Area>,
 ) -> Result<(), FmdFault>
-    requires count { length areas.old.items + section_count (view section.now) ≤ 65536 }
+    requires count { length areas.old.items + section_count (view section.now) ≤ area_limit + 1 }
     requires inside { at + size < 2 ^ 32 }
     ensures ok { OnOk result (areas.new.items ≡ areas.old.items ++ areas_below at size (view section.now)) }
     ensures count { OnOk result (length areas.new.items + 1 ≡ length areas.old.items + section_count (view section.now)) }
     ensures clear { OnOk result (faults.parent_fault (length areas.old.items) size (view section.now) ≡ None) }
     ensures refused { IfErr result (λ fault. (fault ≡ FmdFault.Memory) ⊎ (faults.parent_fault (length areas.old.items) size (view section.now) ≡ Some fault)) }
 {
-    let places = places(alloc, section, areas.len() as u32, size)?;
+    let places = places(alloc, section, areas.len(), size)?;
     for (index, part) in section.parts.iter().enumerate() {
         let place = places[index];
         let area = Area {
@@ -88,8 +88,13 @@ fn push_areas(
 }
 
 /// The places of a section's parts.
-fn places(alloc: Global, section: &Section, number: u32, size: u32) -> Result<Vec<Place>, FmdFault>
-    requires { number + section_count (view section.now) ≤ 65536 }
+fn places(
+    alloc: Global,
+    section: &Section,
+    number: usize,
+    size: u32,
+) -> Result<Vec<Place>, FmdFault>
+    requires { number + section_count (view section.now) ≤ area_limit + 1 }
     ensures ok { IfOk result (λ row. row.items ≡ spec.filled size 0 (spec.siblings (parts_of (view section.now)))) }
     ensures len { IfOk result (λ row. length row.items ≡ length (out-Section section.now).parts.items) }
     ensures inside { IfOk result (λ row. IsTrue (list_all (λ q. nat_le (end_of q) size) row.items)) }
@@ -122,8 +127,8 @@ fn siblings(alloc: Global, parts: &[Section]) -> Result<Vec<Sibling>, FmdFault>
 }
 
 /// A row's refusal, by the section's number.
-fn numbered(first: u32, parts: &[Section], fault: RowFault) -> FmdFault
-    requires { first + sections_count (views parts.now) < 2 ^ 32 }
+fn numbered(first: usize, parts: &[Section], fault: RowFault) -> FmdFault
+    requires { first + sections_count (views parts.now) < 2 ^ 64 }
     ensures { result ≡ faults.numbered first (views parts.now) fault }
 {
     match fault {
@@ -144,8 +149,8 @@ fn numbered(first: u32, parts: &[Section], fault: RowFault) -> FmdFault
 }
 
 /// The number of a part, where that of the first is `first`.
-fn number_of(first: u32, parts: &[Section], index: usize) -> u32
-    requires { first + sections_count (views parts.now) < 2 ^ 32 }
+fn number_of(first: usize, parts: &[Section], index: usize) -> usize
+    requires { first + sections_count (views parts.now) < 2 ^ 64 }
     ensures { result ≡ faults.number_of first (views parts.now) index }
 {
     let mut number = first;
@@ -153,14 +158,14 @@ fn number_of(first: u32, parts: &[Section], index: usize) -> u32
         if at == index {
             return number;
         }
-        number += count(part) as u32;
+        number += count(part);
     }
     number
 }
 
 /// How many sections there are, this one included.
 fn count(section: &Section) -> usize
-    requires { section_count (view section.now) < 2 ^ 32 }
+    requires { section_count (view section.now) < 2 ^ 64 }
     ensures { result ≡ section_count (view section.now) }
 {
     let mut all = 1;

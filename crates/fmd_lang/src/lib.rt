@@ -14,9 +14,6 @@ mod word;
 
 pub use fault::{Expected, FmdFault};
 pub use layout::lay_out;
-pub use parser::parse;
+pub use parser::{TEXT_LIMIT, parse};
 pub use section::Section;
 pub use table::{Table, encode};
-
-#[cfg(test)]
-mod tests;

@@ -1,12 +1,12 @@
-//! The parser: each function reads from a place of the text, and answers a value and the place behind it.
+//! The parser: each function reads from a place of the text, and answers a value and the place after it.
 
-ghost use Rattle.std.specs.Prelude.{◌≡◌, ◌≤◌, ◌<◌, ◌+◌, ◌⊎◌, ◌∷◌, [], ℕ, length, true, Some, None, IfOk, OnOk, IfErr, IfSome, IfNone, false};
+ghost use Rattle.std.specs.Prelude.{◌≡◌, ◌≤◌, ◌<◌, ◌+◌, ◌⊎◌, ◌∷◌, [], ℕ, length, true, Some, None, Err, IfOk, OnOk, IfErr, IfSome, IfNone, false};
 ghost use Rattle.fmd_lang.specs.Words.{words_after, is_number, is_name};
 ghost use Rattle.fmd_lang.specs.Words as spec;
 ghost use Rattle.fmd_lang.specs.Lexing.{word_of};
-ghost use Rattle.fmd_lang.specs.Faults.{Stage, own_fault, fault_from, placed, sized, closed_annotations, named, at_sign, in_annotations, annotated, whole, start, first_fault};
+ghost use Rattle.fmd_lang.specs.Faults.{Stage, depth_limit, own_fault, placed, sized, closed_annotations, named, at_sign, in_annotations, annotated, whole, start, first_fault};
 ghost use Rattle.fmd_lang.specs.Grammar.{HasValue, IsOffset, IsSize, AreAnnotations, IsSection};
-ghost use Rattle.fmd_lang.specs.Parsing.{Parses, IsBody, AreClosed, IsNumber, EndsAnnotations, EndsMoreAnnotations};
+ghost use Rattle.fmd_lang.specs.Parsing.{Parses, ParsesInMemory, fault_at, stand, IsBody, AreClosed, IsNumber, EndsAnnotations, EndsMoreAnnotations};
 ghost use Rattle.fmd_lang.specs.View.{view};
 ghost use Rattle.fmd_lang.specs.Grammar as grammar;
 
@@ -16,8 +16,8 @@ use crate::section::Section;
 use crate::word::{Word, next_word};
 use std::alloc::Global;
 
-/// The longest text that is read.
-const TEXT_LIMIT: usize = 1_048_576;
+/// How many bytes a text may have.
+pub const TEXT_LIMIT: usize = 1_048_576;
 
 /// The most braces that may be open.
 const DEPTH_LIMIT: u32 = 32;
@@ -49,31 +49,31 @@ pub fn parse(alloc: Global, text: &[u8]) -> Result<Section, FmdFault>
 /// The tree of a text, whatever its length.
 fn tree(alloc: Global, text: &[u8]) -> Result<Section, FmdFault>
     ensures tree { IfOk result (λ t. IsSection (view t) (words_after text.now 0)) }
-    ensures faultless { IfOk result (λ t. fault_from start 0 (length text.now) (words_after text.now 0) ≡ None) }
-    ensures refused { IfErr result (λ fault. (fault ≡ FmdFault.Memory) ⊎ (fault_from start 0 (length text.now) (words_after text.now 0) ≡ Some fault)) }
+    ensures faultless { IfOk result (λ t. fault_at (stand start 0) text.now 0 ≡ None) }
+    ensures refused { IfErr result (λ fault. (fault ≡ FmdFault.Memory) ⊎ (fault_at (stand start 0) text.now 0 ≡ Some fault)) }
 {
     let (tree, to) = root(alloc, text)?;
     match peek(text, to, 0)? {
         None => Ok(tree),
-        Some(token) => Err(expected(token.word.place, Expected::End)),
+        Some(token) => expected(token.word.place, Expected::End),
     }
 }
 
-/// The root, at the text's start, and the place behind it.
+/// The root, at the text's start, and the place after it.
 fn root(alloc: Global, text: &[u8]) -> Result<(Section, usize), FmdFault>
     ensures inside { IfOk result (λ r. r.1 ≤ length text.now) }
-    ensures root { Parses (λ t ws. IsSection (view t) ws) start 0 whole 0 text.now 0 result }
+    ensures root { ParsesInMemory (λ t ws. IsSection (view t) ws) (stand start 0) (stand whole 0) text.now 0 result }
 {
     let Some(token) = peek(text, 0, 0)? else {
-        return Err(expected(text.len(), Expected::Section));
+        return expected(text.len(), Expected::Section);
     };
     if !token.word.is_name() {
-        return Err(expected(token.word.place, Expected::Section));
+        return expected(token.word.place, Expected::Section);
     }
     section(alloc, text, &token.word, 0)
 }
 
-/// The rest of a section, behind its name.
+/// The rest of a section, after its name.
 #[cycle(section)]
 fn section(
     alloc: Global,
@@ -84,9 +84,9 @@ fn section(
     requires inside { name.now.place + length name.now.bytes.now ≤ length text.now }
     requires name { is_name (word_of name.now) ≡ true }
     requires clear { own_fault depth (word_of name.now) ≡ None }
-    requires depth { depth ≤ 32 }
+    requires depth { depth ≤ depth_limit }
     ensures inside { IfOk result (λ r. (name.now.place + length name.now.bytes.now ≤ r.1) × (r.1 ≤ length text.now)) }
-    ensures section { Parses (λ t ws. IsSection (view t) (word_of name.now ∷ ws)) named depth whole depth text.now (name.now.place + length name.now.bytes.now) result }
+    ensures section { ParsesInMemory (λ t ws. IsSection (view t) (word_of name.now ∷ ws)) (stand named depth) (stand whole depth) text.now (name.now.place + length name.now.bytes.now) result }
 {
     let (flags, at) = annotations(text, name.end(), depth)?;
     let (offset, at) = offset(text, at, depth)?;
@@ -111,9 +111,9 @@ fn body(
     depth: u32,
 ) -> Result<(Vec<Section>, usize), FmdFault>
     requires inside { from ≤ length text.now }
-    requires depth { depth ≤ 32 }
+    requires depth { depth ≤ depth_limit }
     ensures inside { IfOk result (λ r. (from ≤ r.1) × (r.1 ≤ length text.now)) }
-    ensures body { Parses (λ v ws. IsBody v.items ws) sized depth whole depth text.now from result }
+    ensures body { ParsesInMemory (λ v ws. IsBody v.items ws) (stand sized depth) (stand whole depth) text.now from result }
 {
     match peek(text, from, depth)? {
         Some(mark) if mark.word.is_mark(b'{') => sections(alloc, text, mark.word.end(), depth),
@@ -130,9 +130,9 @@ fn sections(
     depth: u32,
 ) -> Result<(Vec<Section>, usize), FmdFault>
     requires inside { from ≤ length text.now }
-    requires depth { depth < 32 }
+    requires depth { depth < depth_limit }
     ensures inside { IfOk result (λ r. (from ≤ r.1) × (r.1 ≤ length text.now)) }
-    ensures sections { Parses (λ v ws. AreClosed v.items ws) whole (depth + 1) whole depth text.now from result }
+    ensures sections { ParsesInMemory (λ v ws. AreClosed v.items ws) (stand whole (depth + 1)) (stand whole depth) text.now from result }
 {
     let mut parts = Vec::new(alloc);
     let mut at = from;
@@ -141,7 +141,7 @@ fn sections(
             return Ok((parts, token.word.end()));
         }
         if !token.word.is_name() {
-            return Err(expected(token.word.place, Expected::SectionOrClose));
+            return expected(token.word.place, Expected::SectionOrClose);
         }
         let (part, to) = section(alloc, text, &token.word, depth + 1)?;
         if parts.push(part).is_err() {
@@ -149,14 +149,14 @@ fn sections(
         }
         at = to;
     }
-    Err(expected(text.len(), Expected::SectionOrClose))
+    expected(text.len(), Expected::SectionOrClose)
 }
 
 /// A section's annotations.
 fn annotations(text: &[u8], from: usize, depth: u32) -> Result<(u16, usize), FmdFault>
     requires { from ≤ length text.now }
     ensures inside { IfOk result (λ r. (from ≤ r.1) × (r.1 ≤ length text.now)) }
-    ensures annotations { Parses AreAnnotations named depth closed_annotations depth text.now from result }
+    ensures annotations { Parses AreAnnotations (stand named depth) (stand closed_annotations depth) text.now from result }
 {
     match peek(text, from, depth)? {
         Some(mark) if mark.word.is_mark(b'(') => {
@@ -171,21 +171,21 @@ fn annotations(text: &[u8], from: usize, depth: u32) -> Result<(u16, usize), Fmd
 fn first_annotation(text: &[u8], from: usize, depth: u32) -> Result<(bool, usize), FmdFault>
     requires { from ≤ length text.now }
     ensures inside { IfOk result (λ r. (from ≤ r.1) × (r.1 ≤ length text.now)) }
-    ensures annotations { Parses EndsAnnotations in_annotations depth closed_annotations depth text.now from result }
+    ensures annotations { Parses EndsAnnotations (stand in_annotations depth) (stand closed_annotations depth) text.now from result }
 {
     let Some(token) = peek(text, from, depth)? else {
-        return Err(expected(text.len(), Expected::Annotation));
+        return expected(text.len(), Expected::Annotation);
     };
     if !token.word.is_name() {
-        return Err(expected(token.word.place, Expected::Annotation));
+        return expected(token.word.place, Expected::Annotation);
     }
     match annotation_of(&token.word) {
         Some(preserve) => more_annotations(text, token.word.end(), depth, preserve),
-        None => Err(expected(token.word.place, Expected::Annotation)),
+        None => expected(token.word.place, Expected::Annotation),
     }
 }
 
-/// The annotations behind the first, and the `)`.
+/// The annotations after the first, and the `)`.
 fn more_annotations(
     text: &[u8],
     from: usize,
@@ -194,23 +194,23 @@ fn more_annotations(
 ) -> Result<(bool, usize), FmdFault>
     requires { from ≤ length text.now }
     ensures inside { IfOk result (λ r. (from ≤ r.1) × (r.1 ≤ length text.now)) }
-    ensures annotations { Parses (EndsMoreAnnotations first) annotated depth closed_annotations depth text.now from result }
+    ensures annotations { Parses (EndsMoreAnnotations first) (stand annotated depth) (stand closed_annotations depth) text.now from result }
 {
     let mut preserve = first;
     let mut at = from;
     loop {
         let Some(token) = peek(text, at, depth)? else {
-            return Err(expected(text.len(), Expected::CloseParen));
+            return expected(text.len(), Expected::CloseParen);
         };
         if token.word.is_mark(b')') {
             return Ok((preserve, token.word.end()));
         }
         if !token.word.is_name() {
-            return Err(expected(token.word.place, Expected::CloseParen));
+            return expected(token.word.place, Expected::CloseParen);
         }
         match annotation_of(&token.word) {
             Some(is_preserve) => preserve = preserve || is_preserve,
-            None => return Err(expected(token.word.place, Expected::Annotation)),
+            None => return expected(token.word.place, Expected::Annotation),
         }
         at = token.word.end();
     }
@@ -233,7 +233,7 @@ fn annotation_of(word: &Word<'_>) -> Option<bool>
 fn offset(text: &[u8], from: usize, depth: u32) -> Result<(Option<u32>, usize), FmdFault>
     requires { from ≤ length text.now }
     ensures inside { IfOk result (λ r. (from ≤ r.1) × (r.1 ≤ length text.now)) }
-    ensures offset { Parses IsOffset closed_annotations depth placed depth text.now from result }
+    ensures offset { Parses IsOffset (stand closed_annotations depth) (stand placed depth) text.now from result }
 {
     match peek(text, from, depth)? {
         Some(mark) if mark.word.is_mark(b'@') => {
@@ -248,14 +248,14 @@ fn offset(text: &[u8], from: usize, depth: u32) -> Result<(Option<u32>, usize), 
 fn number(text: &[u8], from: usize, depth: u32) -> Result<(u32, usize), FmdFault>
     requires { from ≤ length text.now }
     ensures inside { IfOk result (λ r. (from ≤ r.1) × (r.1 ≤ length text.now)) }
-    ensures number { Parses IsNumber at_sign depth placed depth text.now from result }
+    ensures number { Parses IsNumber (stand at_sign depth) (stand placed depth) text.now from result }
 {
     match peek(text, from, depth)? {
         Some(token) => match token.value {
             Some(number) => Ok((number, token.word.end())),
-            None => Err(expected(token.word.place, Expected::Number)),
+            None => expected(token.word.place, Expected::Number),
         },
-        None => Err(expected(text.len(), Expected::Number)),
+        None => expected(text.len(), Expected::Number),
     }
 }
 
@@ -263,7 +263,7 @@ fn number(text: &[u8], from: usize, depth: u32) -> Result<(u32, usize), FmdFault
 fn size(text: &[u8], from: usize, depth: u32) -> Result<(Option<u32>, usize), FmdFault>
     requires { from ≤ length text.now }
     ensures inside { IfOk result (λ r. (from ≤ r.1) × (r.1 ≤ length text.now)) }
-    ensures size { Parses IsSize placed depth sized depth text.now from result }
+    ensures size { Parses IsSize (stand placed depth) (stand sized depth) text.now from result }
 {
     match peek(text, from, depth)? {
         Some(token) => match token.value {
@@ -284,7 +284,7 @@ fn peek<'t>(text: &'t [u8], from: usize, depth: u32) -> Result<Option<Token<'t>>
     ensures inside { IfOk result (λ found. IfSome found (λ t. t.word.place + length t.word.bytes.now ≤ length text.now)) }
     ensures ahead { IfOk result (λ found. IfSome found (λ t. from < t.word.place + length t.word.bytes.now)) }
     ensures none { IfOk result (λ found. IfNone found (words_after text.now from ≡ [])) }
-    ensures refused { IfErr result (λ fault. (s : Stage) → fault_from s depth (length text.now) (words_after text.now from) ≡ Some fault) }
+    ensures refused { IfErr result (λ fault. (s : Stage) → fault_at (stand s depth) text.now from ≡ Some fault) }
 {
     let Some(word) = next_word(text, from) else {
         return Ok(None);
@@ -322,10 +322,11 @@ fn value_of(word: &Word<'_>, depth: u32) -> Result<Option<u32>, FmdFault>
     Ok(None)
 }
 
-fn expected(at: usize, what: Expected) -> FmdFault
-    ensures { result ≡ FmdFault.Expected at what }
+/// The refusal of what stands at a place, where something else has to.
+fn expected<T>(at: usize, what: Expected) -> Result<T, FmdFault>
+    ensures { result ≡ Err (FmdFault.Expected at what) }
 {
-    FmdFault::Expected { at, what }
+    Err(FmdFault::Expected { at, what })
 }
 
 /// A copy of bytes.

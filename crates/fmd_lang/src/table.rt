@@ -1,28 +1,28 @@
 //! The table of a descriptor, and its bytes.
 
 ghost use Rattle.std.specs.Prelude.{◌≡◌, ◌≤◌, ◌<◌, ◌⊎◌, length, OnOk, IfOk, IfErr};
-ghost use Rattle.fmd_lang.specs.Bytes.{table_bytes, area_limit};
+ghost use Rattle.fmd_lang.specs.Bytes.{table_bytes};
+ghost use Rattle.fmd_lang.specs.Table.{area_limit};
 
 use crate::fault::FmdFault;
 use flash_format::{Area, FmapHead};
 use std::alloc::Global;
 
-/// How many bytes the head of a table has.
-pub const HEAD_LEN: usize = 56;
+/// The most areas that a table has, as its head counts them by 16 bits.
+pub const AREA_LIMIT: usize = 65_535;
 
-/// How many bytes an area of a table has.
-pub const AREA_LEN: usize = 42;
+const _: () = prove!(AREA_LIMIT == u16::MAX as usize);
 
-/// The table that a descriptor compiles to: the head's fields, and the areas in preorder.
+/// The table that a descriptor compiles to: the head's fields, and the areas.
 #[derive(Debug, Drop)]
 pub struct Table {
     /// The flash's base address: the root's offset, or 0.
     pub base: u64,
-    /// The root's size.
+    /// The root's size, in bytes.
     pub size: u32,
-    /// The root's name, with NULs behind it.
+    /// The root's name, with NULs after it; one of more than 32 bytes is cut.
     pub name: [u8; 32],
-    /// All sections but the root; an offset is that from the root's start.
+    /// All sections but the root, in preorder; an offset is that from the root's start.
     pub areas: Vec<Area>,
 }
 

@@ -152,7 +152,7 @@ impl Word<'_> {
         is_plain(self.first_byte()) && !self.is_number()
     }
 
-    /// The place behind the word.
+    /// The place after the word.
     pub fn end(&self) -> usize
         requires { self.now.place + length self.now.bytes.now < 2 ^ 64 }
         ensures { result ≡ self.now.place + length self.now.bytes.now }

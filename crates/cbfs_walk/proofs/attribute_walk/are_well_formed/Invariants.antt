@@ -3,7 +3,7 @@ use Rattle.cbfs_walk.proofs.Scanning.{Scanning, FormedFrom}
 use Rattle.cbfs_walk.proofs.attribute_walk.are_well_formed.Given as goal
 
 abbrev pub invariant-loop-head : goal.invariant-loop-head
-invariant-loop-head g l = Scanning l.fn.from l.end l.at (g.F.Flash.facts l.initial.paged.device) (g.F.Flash.facts l.paged.device)
+invariant-loop-head g l = Scanning g.F.Flash.facts l.region l.fn.from l.end l.at l.initial.paged l.paged
     (FormedFrom l.region (g.F.Flash.facts l.initial.paged.device).content l.fn.from l.end l.at)
 
 abbrev pub decreases-loop-head : goal.decreases-loop-head

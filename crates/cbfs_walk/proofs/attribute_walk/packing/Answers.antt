@@ -1,37 +1,36 @@
-use Rattle.std.proofs.Common.{ap, ◌∙◌, ◌+◌}
-use Rattle.std.proofs.lemmas.Bool.{eq-eqb, ne_eqb}
-use Rattle.cbfs_walk.proofs.Scanning.{packing_start, packed_more, packed_value, packed_end, packed_malformed, list_formed}
+use Rattle.std.proofs.Common.{arith, ap, ◌∙◌, ◌+◌, ◌≤◌, length}
+use Rattle.flash_format.specs.Entry.{name_end}
+use Rattle.flash_store.specs.Regions.{bytes_in}
+use Rattle.flash_store.proofs.DeviceLemmas.{honest_still}
+use Rattle.cbfs_walk.specs.Passing.{reads_over}
+use Rattle.cbfs_walk.specs.Listed.{value_in}
+use Rattle.cbfs_walk.proofs.Parts.{length-region}
+use Rattle.cbfs_walk.proofs.Reading.{HasPassed-answers, HasPassed-then, IfOk-to}
+use Rattle.cbfs_walk.proofs.CellNames.{has_field}
+use Rattle.cbfs_walk.proofs.Scanning.{packing_found}
 use Rattle.cbfs_walk.proofs.attribute_walk.packing.Goals as goal
 
-pub loop-head-init : goal.loop-head-init
-loop-head-init g c =
-    packing_start c.args.region c.args.region.size c.args.cell.now _ _ _ c.requires.cell c.requires.component
-    (ap (λ n. c.args.cell.now.at + n) (c.from-2.ensures ∙ c.name_end.ensures)) (ap (λ n. c.args.cell.now.at + n) c.from.ensures)
+pub returns-in-Some-clause-after : goal.returns-in-Some-clause-after
+returns-in-Some-clause-after g c =
+    let f = has_field c.args.region.size c.args.cell.now c.requires.cell c.requires.component in
+    let start = c.args.region.start in
+    let cell = c.args.cell.now in
+    let reached = rw c.in-Some.is at c.in_ok-at.ensures.reached in
+    let attribute = rw c.in-Some.is at c.in_ok-at.ensures.attribute in
+    HasPassed-answers _ (start + (cell.at + name_end cell.head)) (start + (c.in-Some.at + 8)) (reads_over cell.head.offset) _ _ _ (omega (arith, f.high, attribute.attribute.inside, attribute.attribute.head))
+    (HasPassed-then _ (start + (cell.at + name_end cell.head)) (start + c.in-Some.at) (start + (c.in-Some.at + 8)) (start + (c.in-Some.at + 8)) _ _ _ _ (omega arith) reached c.value_at.ensures.passes)
 
-pub loop-head-preserved : goal.loop-head-preserved
-loop-head-preserved g c =
-    let told = rw c.in-Attribute.is at c.in_ok-head.ensures.listed in
-    let inside = rw c.in-Attribute.is at c.in_ok-head.ensures.attribute in
-    packed_more c.args.region _ _ c.loop-head.at c.from-at.result c.in-Attribute.head _ _ _ c.loop-head.invariant c.from-at.ensures inside c.listed_at.ensures.reads told
-    (ne_eqb _ _ c.if-head-eq-COMPRESSION.false)
+pub returns-in-Some-clause-packing : goal.returns-in-Some-clause-packing
+returns-in-Some-clause-packing g c = λ h stands.
+    let x = bytes_in c.args.region (g.F.Flash.facts c.args.paged.now.device).content in
+    let inside : c.args.cell.now.at + c.args.cell.now.head.offset ≤ length x = omega (arith, length-region c.args.region _ c.requires.region, c.requires.cell.content, c.requires.cell.inside) in
+    let calls = c.first_attribute.ensures.after.read.device in
+    let found = rw c.in-Some.is at (c.in_ok-at.ensures.first h) in
+    IfOk-to _ _ _ (ap (value_in x) found ∙ packing_found x c.args.cell.now inside stands c.requires.component) (rw (calls.unchanged h) at (c.value_at.ensures.value (honest_still calls.calls.same_honesty h)))
 
-pub returns-then-head-eq-COMPRESSION-clause-packing : goal.returns-then-head-eq-COMPRESSION-clause-packing
-returns-then-head-eq-COMPRESSION-clause-packing g c = λ h stands.
-    let told = rw c.in-Attribute.is at c.in_ok-head.ensures.listed in
-    let inside = rw c.in-Attribute.is at c.in_ok-head.ensures.attribute in
-    let formed = list_formed c.args.region (g.F.Flash.facts c.args.paged.now.device).content c.args.cell.now _ _
-    (ap (λ n. c.args.cell.now.at + n) (c.from-2.ensures ∙ c.name_end.ensures)) (ap (λ n. c.args.cell.now.at + n) c.from.ensures) c.requires.component stands in
-    packed_value c.args.region _ _ c.loop-head.at c.in-Attribute.head _ _ _ _ c.value_at.result c.loop-head.invariant inside c.listed_at.ensures.reads told
-    (eq-eqb _ _ c.if-head-eq-COMPRESSION.true) c.value_at.ensures.value h formed
-
-pub returns-in-End-clause-packing : goal.returns-in-End-clause-packing
-returns-in-End-clause-packing g c = λ h stands.
-    let formed = list_formed c.args.region (g.F.Flash.facts c.args.paged.now.device).content c.args.cell.now _ _
-    (ap (λ n. c.args.cell.now.at + n) (c.from-2.ensures ∙ c.name_end.ensures)) (ap (λ n. c.args.cell.now.at + n) c.from.ensures) c.requires.component stands in
-    packed_end c.args.region _ _ c.loop-head.at _ _ _ c.loop-head.invariant (rw c.in-End.is at c.in_ok-head.ensures.listed) h formed
-
-pub returns-in-Malformed-clause-packing : goal.returns-in-Malformed-clause-packing
-returns-in-Malformed-clause-packing g c = λ h stands.
-    let formed = list_formed c.args.region (g.F.Flash.facts c.args.paged.now.device).content c.args.cell.now _ _
-    (ap (λ n. c.args.cell.now.at + n) (c.from-2.ensures ∙ c.name_end.ensures)) (ap (λ n. c.args.cell.now.at + n) c.from.ensures) c.requires.component stands in
-    packed_malformed c.args.region _ _ c.loop-head.at _ _ _ c.loop-head.invariant (rw c.in-Malformed.is at c.in_ok-head.ensures.listed) h formed
+pub returns-in-None-clause-packing : goal.returns-in-None-clause-packing
+returns-in-None-clause-packing g c = λ h stands.
+    let x = bytes_in c.args.region (g.F.Flash.facts c.args.paged.now.device).content in
+    let inside : c.args.cell.now.at + c.args.cell.now.head.offset ≤ length x = omega (arith, length-region c.args.region _ c.requires.region, c.requires.cell.content, c.requires.cell.inside) in
+    let found = rw c.in-None.is at (c.in_ok-at.ensures.first h) in
+    ap (value_in x) found ∙ packing_found x c.args.cell.now inside stands c.requires.component

@@ -19,14 +19,14 @@ pub returns-clause-name : goal.returns-clause-name
 returns-clause-name g c = λ h stands.
     let image = (g.F.Flash.facts c.args.paged.now.device).content in
     let len = length-region c.args.region image c.requires.region in
-    let front : length (take c.min-n.result c.args.out.now) ≡ c.min-n.result = omega (arith, length-take c.min-n.result c.args.out.now) in
+    let prefix : length (take c.min-n.result c.args.out.now) ≡ c.min-n.result = omega (arith, length-take c.min-n.result c.args.out.now) in
     name_written (bytes_in c.args.region image) c.args.region.size c.args.cell.now c.requires.cell c.requires.component len
-    c.read_text.result _ _ _ c.read_text.new.out _ c.name_room.ensures c.min-n.ensures front stands c.read_text.ensures.len (c.read_text.ensures.read h)
+    c.read_text.result _ _ _ c.read_text.new.out _ c.name_room.ensures c.min-n.ensures prefix stands c.read_text.ensures.len (c.read_text.ensures.read h)
 
 pub returns-clause-len : goal.returns-clause-len
 returns-clause-len g c = λ h stands.
     let image = (g.F.Flash.facts c.args.paged.now.device).content in
     let len = length-region c.args.region image c.requires.region in
-    let front : length (take c.min-n.result c.args.out.now) ≡ c.min-n.result = omega (arith, length-take c.min-n.result c.args.out.now) in
+    let prefix : length (take c.min-n.result c.args.out.now) ≡ c.min-n.result = omega (arith, length-take c.min-n.result c.args.out.now) in
     name_counted (bytes_in c.args.region image) c.args.region.size c.args.cell.now c.requires.cell c.requires.component len
-    c.read_text.result _ _ _ c.read_text.new.out c.name_room.ensures c.min-n.ensures front stands c.read_text.ensures.len (c.read_text.ensures.read h)
+    c.read_text.result _ _ _ c.read_text.new.out c.name_room.ensures c.min-n.ensures prefix stands c.read_text.ensures.len (c.read_text.ensures.read h)

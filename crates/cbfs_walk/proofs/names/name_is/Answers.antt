@@ -1,4 +1,4 @@
-use Rattle.std.proofs.Common.{arith, inl, inr}
+use Rattle.std.proofs.Common.{rules, arith, inl, inr}
 use Rattle.flash_store.specs.Regions.{bytes_in}
 use Rattle.cbfs_walk.proofs.Parts.{length-region}
 use Rattle.cbfs_walk.proofs.CellNames.{has_field, name_compared, name_too_long}
@@ -29,3 +29,6 @@ returns-clause-named g c = λ h stands.
     let len = length-region c.args.region image c.requires.region in
     name_compared (bytes_in c.args.region image) c.args.region.size c.args.cell.now c.requires.cell c.requires.component len
     c.is_text_at.result _ c.args.name.now c.name_room.ensures c.if-name-name_room.false stands (c.is_text_at.ensures.same h)
+
+pub is_text_at-requires-clause-short : goal.is_text_at-requires-clause-short
+is_text_at-requires-clause-short g c = search rules

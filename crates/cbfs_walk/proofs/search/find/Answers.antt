@@ -3,44 +3,44 @@ use Rattle.cbfs_walk.proofs.Searching.{searching_start, searching_more, found_fi
 use Rattle.cbfs_walk.proofs.search.find.Goals as goal
 
 pub loop-cell-init : goal.loop-cell-init
-loop-cell-init g c = rw c.new-walk.ensures (searching_start c.args.region c.args.name.now _)
+loop-cell-init g c = rw c.new-walk.ensures (searching_start _ c.args.region c.args.name.now _)
 
 pub loop-cell-preserved : goal.loop-cell-preserved
 loop-cell-preserved g c =
     let is = c.in-Ok-Cell.field-0-is in
     let given = rw is at c.in-Ok-Cell.ensures.cell in
-    let reads = rw is at c.in-Ok-Cell.ensures.reads in
+    let reads = rw is at c.in-Ok-Cell.ensures.after in
     let answer = rw is at c.in-Ok-Cell.ensures.answer in
     let moved = rw is at c.in-Ok-Cell.ensures.moved in
-    searching_more c.args.region c.args.name.now c.loop-cell.walk _ _ c.requires c.loop-cell.invariant c.in-Ok-Cell.cell _ _ c.in-Ok-false.field-0
-    given reads answer c.in-Ok-false.ensures.named _ _ c.in-Ok-false.field-0-test moved refl c.is_component.ensures.reads
+    searching_more _ c.args.region c.args.name.now c.loop-cell.walk _ _ c.requires c.loop-cell.invariant c.in-Ok-Cell.cell _ _ c.in-Ok-false.field-0
+    given reads answer c.in-Ok-false.ensures.named _ _ c.in-Ok-false.field-0-test moved refl c.is_component.ensures.after.read
 
 pub returns-in-Ok-true-clause-answer : goal.returns-in-Ok-true-clause-answer
 returns-in-Ok-true-clause-answer g c = λ h.
     let is = c.in-Ok-Cell.field-0-is in
     let given = rw is at c.in-Ok-Cell.ensures.cell in
-    let reads = rw is at c.in-Ok-Cell.ensures.reads in
+    let reads = rw is at c.in-Ok-Cell.ensures.after in
     let answer = rw is at c.in-Ok-Cell.ensures.answer in
-    inr (found_answer c.args.region c.args.name.now c.loop-cell.walk _ _ c.requires c.loop-cell.invariant c.in-Ok-Cell.cell _ _ c.in-Ok-true.field-0
+    inr (found_answer _ c.args.region c.args.name.now c.loop-cell.walk _ _ c.requires c.loop-cell.invariant c.in-Ok-Cell.cell _ _ c.in-Ok-true.field-0
     given reads answer c.in-Ok-true.ensures.named c.in-Ok-true.field-0-test h)
 
 pub returns-in-Ok-true-clause-first : goal.returns-in-Ok-true-clause-first
 returns-in-Ok-true-clause-first g c = λ h.
     let is = c.in-Ok-Cell.field-0-is in
     let given = rw is at c.in-Ok-Cell.ensures.cell in
-    let reads = rw is at c.in-Ok-Cell.ensures.reads in
+    let reads = rw is at c.in-Ok-Cell.ensures.after in
     let answer = rw is at c.in-Ok-Cell.ensures.answer in
-    found_first c.args.region c.args.name.now c.loop-cell.walk _ _ c.requires c.loop-cell.invariant c.in-Ok-Cell.cell _ _ c.in-Ok-true.field-0
+    found_first _ c.args.region c.args.name.now c.loop-cell.walk _ _ c.requires c.loop-cell.invariant c.in-Ok-Cell.cell _ _ c.in-Ok-true.field-0
     given reads answer c.in-Ok-true.ensures.named c.in-Ok-true.field-0-test h
 
 pub returns-in-Ok-Tail-clause-answer : goal.returns-in-Ok-Tail-clause-answer
 returns-in-Ok-Tail-clause-answer g c = λ h.
-    inr (searching_tail c.args.region c.args.name.now c.loop-cell.walk _ _ c.requires c.loop-cell.invariant _ (rw c.in-Ok-Tail.field-0-is at c.in-Ok-Tail.ensures.answer) h)
+    inr (searching_tail _ c.args.region c.args.name.now c.loop-cell.walk _ _ c.requires c.loop-cell.invariant _ (rw c.in-Ok-Tail.field-0-is at c.in-Ok-Tail.ensures.answer) h)
 
 pub returns-in-Ok-End-clause-answer : goal.returns-in-Ok-End-clause-answer
 returns-in-Ok-End-clause-answer g c = λ h.
-    inr (searching_end c.args.region c.args.name.now c.loop-cell.walk _ _ c.requires c.loop-cell.invariant (rw c.in-Ok-End.field-0-is at c.in-Ok-End.ensures.answer) h)
+    inr (searching_end _ c.args.region c.args.name.now c.loop-cell.walk _ _ c.requires c.loop-cell.invariant (rw c.in-Ok-End.field-0-is at c.in-Ok-End.ensures.answer) h)
 
 pub returns-in-Err-clause-answer : goal.returns-in-Err-clause-answer
 returns-in-Err-clause-answer g c = λ h.
-    searching_err c.args.region c.args.name.now c.loop-cell.walk _ _ c.requires c.loop-cell.invariant c.in-Err.fault c.in-Err.ensures.answer h
+    searching_err _ c.args.region c.args.name.now c.loop-cell.walk _ _ c.requires c.loop-cell.invariant c.in-Err.fault c.in-Err.ensures.answer h

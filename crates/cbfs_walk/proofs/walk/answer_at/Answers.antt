@@ -1,6 +1,6 @@
 use Rattle.std.proofs.Common.{refl, ap, ◌∙◌, arith, inr, ◌<◌, ◌≡◌, ◌%◌}
 use Rattle.std.proofs.lemmas.Grind.{common_steps}
-use Rattle.cbfs_walk.specs.Walks.{has_bad_size}
+use Rattle.cbfs_walk.specs.Shapes.{has_bad_size}
 use Rattle.cbfs_walk.proofs.Parts.{length-region}
 use Rattle.cbfs_walk.proofs.Checks.{checks_give}
 use Rattle.cbfs_walk.proofs.Answering.{good_size, answer_shape, answer_end, answer_absent, answer_tail, answer_damaged, answer_cell}
@@ -19,8 +19,7 @@ returns-then-at-size-clause-answer g c = λ h.
 pub returns-in-Ok-Absent-clause-answer : goal.returns-in-Ok-Absent-clause-answer
 returns-in-Ok-Absent-clause-answer g c = λ h.
     let len = length-region c.args.region (g.F.Flash.facts c.args.paged.now.device).content c.requires.region in
-    let inside : c.args.at < c.args.region.size = grind (arith, common_steps) in
-    inr (answer_absent _ c.args.at _ len (c.if-has_bad_size.ensures ∙ ap has_bad_size c.size.ensures) inside (rw c.in-Ok-Absent.field-0-is at (c.in-Ok-Absent.ensures.entry h)) c.if-at-eq0.true)
+    inr (answer_absent _ c.args.at _ len (c.if-has_bad_size.ensures ∙ ap has_bad_size c.size.ensures) (rw c.in-Ok-Absent.field-0-is at (c.in-Ok-Absent.ensures.entry h)) c.if-at-eq0.true)
 
 pub returns-in-Ok-Absent-2-clause-answer : goal.returns-in-Ok-Absent-2-clause-answer
 returns-in-Ok-Absent-2-clause-answer g c = λ h.
@@ -34,12 +33,12 @@ returns-in-Ok-Damaged-clause-answer g c = λ h.
     let inside : c.args.at < c.args.region.size = grind (arith, common_steps) in
     inr (answer_damaged _ c.args.at _ _ len (c.if-has_bad_size.ensures ∙ ap has_bad_size c.size.ensures) inside (rw c.in-Ok-Damaged.field-0-is at (c.in-Ok-Damaged.ensures.entry h)))
 
-pub returns-in-Ok-Present-clause-reads : goal.returns-in-Ok-Present-clause-reads
-returns-in-Ok-Present-clause-reads g c = rw (c.in-Ok-Present.is, c.in-Ok-Present.field-0-is) at c.entry_at.ensures.reads
+pub returns-in-Ok-Cell-clause-after : goal.returns-in-Ok-Cell-clause-after
+returns-in-Ok-Cell-clause-after g c = rw (c.in-Ok-Cell.is, c.in-Ok-Cell.field-0-is) at c.entry_at.ensures.after.read
 
-pub returns-in-Ok-Present-clause-cell : goal.returns-in-Ok-Present-clause-cell
-returns-in-Ok-Present-clause-cell g c =
-    let checks = rw c.in-Ok-Present.field-0-is at c.in-Ok-Present.ensures.checks in
+pub returns-in-Ok-Cell-clause-cell : goal.returns-in-Ok-Cell-clause-cell
+returns-in-Ok-Cell-clause-cell g c =
+    let checks = rw c.in-Ok-Cell.field-0-is at c.in-Ok-Cell.ensures.checks in
     let k = checks_give _ _ _ checks in
     let whole : c.args.region.size % 64 ≡ 0 = good_size c.args.region.size (c.if-has_bad_size.ensures ∙ ap has_bad_size c.size.ensures) in
     let within = k.within (omega (arith, whole, c.requires.aligned, c.requires.inside)) in (
@@ -54,8 +53,8 @@ returns-in-Ok-Present-clause-cell g c =
       refl,
     )
 
-pub returns-in-Ok-Present-clause-answer : goal.returns-in-Ok-Present-clause-answer
-returns-in-Ok-Present-clause-answer g c = λ h.
+pub returns-in-Ok-Cell-clause-answer : goal.returns-in-Ok-Cell-clause-answer
+returns-in-Ok-Cell-clause-answer g c = λ h.
     let len = length-region c.args.region (g.F.Flash.facts c.args.paged.now.device).content c.requires.region in
     let inside : c.args.at < c.args.region.size = grind (arith, common_steps) in
-    inr (answer_cell _ c.args.at _ _ _ len (c.if-has_bad_size.ensures ∙ ap has_bad_size c.size.ensures) inside (rw c.in-Ok-Present.field-0-is at (c.in-Ok-Present.ensures.entry h)) (rw c.in-Ok-Present.field-0-is at (c.in-Ok-Present.ensures.head h)))
+    inr (answer_cell _ c.args.at _ _ _ len (c.if-has_bad_size.ensures ∙ ap has_bad_size c.size.ensures) inside (rw c.in-Ok-Cell.field-0-is at (c.in-Ok-Cell.ensures.entry h)) (rw c.in-Ok-Cell.field-0-is at (c.in-Ok-Cell.ensures.head h)))

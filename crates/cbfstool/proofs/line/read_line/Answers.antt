@@ -1,10 +1,25 @@
-use Rattle.std.proofs.Common.{◌≡◌, ◌∙◌, ap, drop, sym, List, ℕ, map}
+use Rattle.std.proofs.Common.{rules, ◌≡◌, ◌∙◌, ap, drop, sym, List, ℕ, map}
 use Rattle.std.specs.Borrow.{Bor}
 use Rattle.clap.specs.Words.{App, fault_of, is_simple_and_free}
 use Rattle.clap.specs.declared.error.kind.ErrorKind.{ErrorKind}
 use Rattle.cbfstool.specs.CommandLine.{refusal_by, command_line}
 use Rattle.cbfstool.proofs.Matching.{simple, faultless}
 use Rattle.cbfstool.proofs.line.read_line.Goals as goal
+
+pub returns-in_default-clause-wordless : goal.returns-in_default-clause-wordless
+returns-in_default-clause-wordless c = search rules depth 1
+
+pub returns-in-Ok-try_get_matches_from-clause-line : goal.returns-in-Ok-try_get_matches_from-clause-line
+returns-in-Ok-try_get_matches_from-clause-line c = search rules depth 1
+
+pub returns-in-Ok-try_get_matches_from-clause-usage : goal.returns-in-Ok-try_get_matches_from-clause-usage
+returns-in-Ok-try_get_matches_from-clause-usage c = search rules depth 1
+
+pub returns-in_default-whole_command-clause-refusals : goal.returns-in_default-whole_command-clause-refusals
+returns-in_default-whole_command-clause-refusals c = search rules depth 1
+
+pub returns-in_default-whole_command-clause-usage : goal.returns-in_default-whole_command-clause-usage
+returns-in_default-whole_command-clause-usage c = search rules depth 1
 
 pub returns-in-Err-clause-usage : goal.returns-in-Err-clause-usage
 returns-in-Err-clause-usage c = λ some none.

@@ -3,8 +3,8 @@ use Rattle.std.proofs.lemmas.Grind.{common_steps}
 use Rattle.flash_store.proofs.FmapLemmas.{head_read, map_head-short}
 use Rattle.flash_store.proofs.fmap.head_at.Goals as goal
 
-pub returns-then-len-lt56-clause-head : goal.returns-then-len-lt56-clause-head
-returns-then-len-lt56-clause-head g c = λ h. map_head-short _ (grind (arith, length-drop, common_steps))
+pub returns-then-len-lt-HEAD_LENGTH-clause-head : goal.returns-then-len-lt-HEAD_LENGTH-clause-head
+returns-then-len-lt-HEAD_LENGTH-clause-head g c = λ h. map_head-short _ (grind (arith, length-drop, common_steps))
 
 pub returns-clause-head : goal.returns-clause-head
 returns-clause-head g c = λ h.

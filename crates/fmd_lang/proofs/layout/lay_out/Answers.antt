@@ -3,8 +3,8 @@ use Rattle.std.proofs.lemmas.Result.{err_from_is_err_and}
 use Rattle.std.proofs.lemmas.Bool.{lt-ltb, le-ltb}
 use Rattle.fmd_lang.specs.View.{view}
 use Rattle.fmd_lang.specs.Tree.{section_count}
-use Rattle.fmd_lang.specs.Table.{size_named, fmap_size, areas_below, AreasBelow}
-use Rattle.fmd_lang.specs.LayoutFaults.{parent_fault, table_len}
+use Rattle.fmd_lang.specs.Table.{size_named, fmap_size, table_len, areas_below, AreasBelow}
+use Rattle.fmd_lang.specs.LayoutFaults.{parent_fault}
 use Rattle.fmd_lang.specs.declared.fault.FmdFault.TheVariants as faults
 use Rattle.fmd_lang.proofs.LayoutLemmas.{fault-names, fault-size, fault-parents, fault-table, table-is, areas-laid, view-size}
 use Rattle.fmd_lang.proofs.layout.lay_out.Goals as goal

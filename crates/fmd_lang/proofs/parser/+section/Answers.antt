@@ -1,4 +1,4 @@
-use Rattle.std.proofs.Common.{◌≡◌, ◌∙◌, ◌∷◌, ◌++◌, ◌+◌, [], ℕ, List, length, sym, ap, subst, refl, rules, arith, inr, Some, true, add-one, append_assoc, map}
+use Rattle.std.proofs.Common.{◌≡◌, ◌∙◌, ◌∷◌, ◌++◌, ◌+◌, [], ℕ, List, length, sym, ap, subst, refl, rules, arith, inr, true, add-one, append_assoc, map}
 use Rattle.fmd_lang.specs.Words.{Word, words_after, is_name}
 use Rattle.fmd_lang.specs.Lexing.{word_of}
 use Rattle.fmd_lang.specs.Faults.{fault_from, whole, named}
@@ -54,9 +54,8 @@ sections-returns-then-not-is_name-clause-sections t c =
     let some = rw c.in-Some.is at c.in_ok-token.ensures.some in
     let clear = rw c.in-Some.is at c.in_ok-token.ensures.clear in
     let behind = c.in-Some.token.word.place + length c.in-Some.token.word.bytes.now in
-    inr (c.loop-parts.invariant.3 ∙ ap (fault_from whole (c.args.depth + 1) (length text)) some
-    ∙ rw add-one (section_or_close c.args.depth (length text) w (words_after text behind) (search rules) (sym c.is_mark.ensures ∙ c.if-is_mark.false) (rw add-one at clear))
-    ∙ ap Some (sym c.expected.ensures))
+    rw c.expected.ensures (inr (c.loop-parts.invariant.3 ∙ ap (fault_from whole (c.args.depth + 1) (length text)) some
+    ∙ rw add-one (section_or_close c.args.depth (length text) w (words_after text behind) (search rules) (sym c.is_mark.ensures ∙ c.if-is_mark.false) (rw add-one at clear))))
 
 pub sections-loop-parts-preserved : goal.sections-loop-parts-preserved
 sections-loop-parts-preserved t c =
@@ -83,3 +82,6 @@ sections-loop-parts-preserved t c =
       c.loop-parts.invariant.3 ∙ ap (fault_from whole (c.args.depth + 1) (length text)) some
           ∙ step ∙ part.3,
     )
+
+pub sections-returns-clause-sections : goal.sections-returns-clause-sections
+sections-returns-clause-sections t c = search rules

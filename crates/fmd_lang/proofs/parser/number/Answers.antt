@@ -21,3 +21,6 @@ returns-in-Some-value-clause-number c =
       (w, refl, value),
       ap (fault_from at_sign c.args.depth (length text)) taken ∙ number-take c.args.depth (length text) w (words_after text c.end.result) number clear,
     )
+
+pub returns-in-None-value-clause-number : goal.returns-in-None-value-clause-number
+returns-in-None-value-clause-number c = search rules

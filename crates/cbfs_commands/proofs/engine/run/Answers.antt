@@ -1,0 +1,34 @@
+use Rattle.std.proofs.Common.{rules}
+use Rattle.cbfs_commands.proofs.Meeting.{remove-silent, write-silent, left-met}
+use Rattle.cbfs_commands.proofs.engine.run.Goals as goal
+
+-- Goals that the must-fail edits break, which then fail at once.
+
+pub returns-in-Print-clause-device : goal.returns-in-Print-clause-device
+returns-in-Print-clause-device g c = search rules
+
+pub returns-in-Layout-clause-unread : goal.returns-in-Layout-clause-unread
+returns-in-Layout-clause-unread g c = search rules
+
+pub returns-in-Layout-clause-output : goal.returns-in-Layout-clause-output
+returns-in-Layout-clause-output g c = search rules
+
+pub returns-in-Layout-clause-outcome : goal.returns-in-Layout-clause-outcome
+returns-in-Layout-clause-outcome g c = search rules
+
+pub returns-in-Write-clause-source : goal.returns-in-Write-clause-source
+returns-in-Write-clause-source g c = search rules
+
+pub returns-in-Write-clause-stopped : goal.returns-in-Write-clause-stopped
+returns-in-Write-clause-stopped g c = search rules
+
+pub returns-in-Write-clause-unwritten : goal.returns-in-Write-clause-unwritten
+returns-in-Write-clause-unwritten g c = search rules
+
+-- What a command does that writes no output.
+
+pub returns-in-Write-clause-outcome : goal.returns-in-Write-clause-outcome
+returns-in-Write-clause-outcome g c = λ h honest. rw c.in-Write.is (left-met _ _ _ _ (write-silent _ _ _) (c.write.ensures.left h honest))
+
+pub returns-in-Remove-clause-outcome : goal.returns-in-Remove-clause-outcome
+returns-in-Remove-clause-outcome g c = λ h honest. rw c.in-Remove.is (left-met _ _ _ _ (remove-silent _ _ _) (c.remove.ensures.left h))

@@ -1,0 +1,14 @@
+-- Goals that the must-fail edits break, which then fail at once.
+use Rattle.std.proofs.Common.{rules}
+use Rattle.cbfs_commands.specs.Outcomes.{read}
+use Rattle.cbfs_commands.proofs.read.read.Goals as goal
+
+pub returns-in-Ok-clause-after : goal.returns-in-Ok-clause-after
+returns-in-Ok-clause-after g c = search rules
+
+pub returns-in-Err-clause-after : goal.returns-in-Err-clause-after
+returns-in-Err-clause-after g c = search rules
+
+pub returns-in-Ok-clause-told : goal.returns-in-Ok-clause-told
+unfolding read
+returns-in-Ok-clause-told g c = search rules

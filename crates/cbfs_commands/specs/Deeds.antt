@@ -1,0 +1,72 @@
+-- What a command is to an image: its outcome, what it may change, which sides it uses, and what a stop leaves.
+use Rattle.std.specs.Prelude.{◌≡◌, ℕ, ◌⊎◌, Bool, true, false, List, Option, Some, None, Result, Ok, Err, IsErrOf}
+use Rattle.flash_store.specs.Bytes.{SameOutside}
+use Rattle.flash_store.specs.Regions.{Range, bytes_in, region_of}
+use Rattle.flash_store.specs.declared.fmap.StoreFault.{StoreFault}
+use Rattle.cbfs_edit.specs.Stops.{LeavesWhole}
+use Rattle.cbfs_commands.specs.declared.refusal.Refusal.TheVariants as refusals
+use Rattle.cbfs_commands.specs.Layouts.{layout}
+use Rattle.cbfs_commands.specs.Requests.{Request}
+use Rattle.cbfs_commands.specs.Requests as requests
+use Rattle.cbfs_commands.specs.Outcomes.{Outcome, StopsIn, reading, print, extract, remove, read, write}
+use Rattle.cbfs_commands.specs.Told.{Answer, Told}
+
+-- by the image, the source, the answer and the image that is left
+pub record Deed : Type 1 where
+  pub outcome : List ℕ → List ℕ → Outcome
+  pub target : List ℕ → Option Range
+  pub reads_source : Bool
+  pub writes_output : Bool
+  pub Stopped : List ℕ → List ℕ → Answer → List ℕ → Type 0
+
+abbrev pub found : Result Range StoreFault → Option Range
+found (Err fault) = None
+found (Ok region) = Some region
+
+-- a command that tells something of an image, and changes nothing
+abbrev pub tells : (List ℕ → Told) → Deed
+tells told = record {
+  outcome = λ image source. reading image (told image);
+  target = λ image. None;
+  reads_source = false;
+  writes_output = true;
+  Stopped = λ image source answer now. now ≡ image;
+}
+
+-- the command that puts the source in place of a region
+abbrev pub replaces : List ℕ → Deed
+replaces name = record {
+  outcome = λ image source. write image name source;
+  target = λ image. found (region_of image name);
+  reads_source = true;
+  writes_output = false;
+  Stopped = λ image source answer now. (region : Range) → region_of image name ≡ Ok region → StopsIn image region source now answer;
+}
+
+-- the command that removes a component from a region
+abbrev pub removes : List ℕ → List ℕ → Deed
+removes name component = record {
+  outcome = λ image source. remove image name component;
+  target = λ image. found (region_of image name);
+  reads_source = false;
+  writes_output = false;
+  Stopped = λ image source answer now. (region : Range) → region_of image name ≡ Ok region → IsErrOf answer refusals.Device → LeavesWhole (bytes_in region image) component (bytes_in region now);
+}
+
+-- each command
+abbrev pub deed : Request → Deed
+deed (requests.print region) = tells (λ image. print image region)
+deed requests.layout = tells layout
+deed (requests.extract region name) = tells (λ image. extract image region name)
+deed (requests.remove region name) = removes region name
+deed (requests.read region) = tells (λ image. read image region)
+deed (requests.write region) = replaces region
+
+-- bytes outside the region that a command may change are kept; without one all are
+abbrev pub SparesOutside : Option Range → List ℕ → List ℕ → Type 0
+SparesOutside None image now = now ≡ image
+SparesOutside (Some region) image now = SameOutside region.start region.size image now
+
+-- the command is done, or the device or the source failed: after any other answer nothing has changed
+abbrev pub MayHaveWritten : Answer → Type 0
+MayHaveWritten answer = (answer ≡ Ok tt) ⊎ (answer ≡ Err refusals.Device) ⊎ (answer ≡ Err refusals.Source)

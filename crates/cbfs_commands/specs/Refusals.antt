@@ -1,0 +1,28 @@
+-- The refusals of the layers below, as a command answers them.
+use Rattle.flash_store.specs.declared.fmap.StoreFault.{StoreFault}
+use Rattle.flash_store.specs.declared.fmap.StoreFault.TheVariants as store
+use Rattle.cbfs_walk.specs.declared.walk.WalkFault.{WalkFault}
+use Rattle.cbfs_walk.specs.declared.walk.WalkFault.TheVariants as walk
+use Rattle.cbfs_edit.specs.declared.fault.EditFault.{EditFault}
+use Rattle.cbfs_edit.specs.declared.fault.EditFault.TheVariants as edit
+use Rattle.cbfs_commands.specs.declared.refusal.Refusal.{Refusal}
+use Rattle.cbfs_commands.specs.declared.refusal.Refusal.TheVariants as refusals
+
+abbrev pub store_refusal : StoreFault → Refusal
+store_refusal store.Device = refusals.Device
+store_refusal store.NoFmap = refusals.NoFmap
+store_refusal store.NoRegion = refusals.NoRegion
+store_refusal store.RegionOutside = refusals.RegionOutside
+
+abbrev pub walk_refusal : WalkFault → Refusal
+walk_refusal walk.Device = refusals.Device
+walk_refusal walk.RegionShape = refusals.RegionShape
+walk_refusal walk.NotCbfs = refusals.NotCbfs
+walk_refusal (walk.Damaged at kind) = refusals.Damaged at kind
+
+abbrev pub edit_refusal : EditFault → Refusal
+edit_refusal edit.Device = refusals.Device
+edit_refusal edit.RegionShape = refusals.RegionShape
+edit_refusal edit.NotCbfs = refusals.NotCbfs
+edit_refusal (edit.Damaged at kind) = refusals.Damaged at kind
+edit_refusal edit.NotFound = refusals.NotFound

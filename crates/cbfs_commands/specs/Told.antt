@@ -1,0 +1,48 @@
+-- What a command that changes nothing writes and answers, and what a call did of it.
+use Rattle.std.specs.Prelude.{◌≡◌, ℕ, ◌<◌, ◌≤◌, ◌⊎◌, IsErrOf, List, [], ◌++◌, Option, Result, Ok, Err, length, take}
+use Rattle.std.specs.Io.KnownBytes.{Appends}
+use Rattle.flash_store.specs.Device.{Device}
+use Rattle.flash_store.specs.Pages.{Pages, HasRead}
+use Rattle.flash_store.specs.Output.{AppendsPart}
+use Rattle.cbfs_commands.specs.declared.refusal.Refusal.{Refusal}
+use Rattle.cbfs_commands.specs.declared.refusal.Refusal.TheVariants as refusals
+
+abbrev pub Answer : Type 0
+Answer = Result (Unit {0}) Refusal
+
+pub record Told : Type 0 where
+  pub written : List ℕ
+  pub answer : Answer
+
+-- a text, and done
+abbrev pub shows : List ℕ → Told
+shows text = record { written = text; answer = Ok tt }
+
+-- nothing but a refusal
+abbrev pub refuses : Refusal → Told
+refuses refusal = record { written = []; answer = Err refusal }
+
+-- a text, and then what is told
+abbrev pub text_then : List ℕ → Told → Told
+text_then text t = record { written = text ++ t.written; answer = t.answer }
+
+-- known bytes grow by some of the first of bs, or by all of them
+abbrev pub AppendsPrefix : Option (List ℕ) → Option (List ℕ) → List ℕ → Type 0
+AppendsPrefix old new bs = (n : ℕ) × (n ≤ length bs) × Appends old new (take n bs)
+
+-- The call has answered and written what is told; or the writer failed, with a proper prefix of it written; or the
+-- device failed, with some prefix of it written.
+abbrev pub Tells : Option (List ℕ) → Option (List ℕ) → Answer → Told → Type 0
+Tells old new answer t =
+    ((answer ≡ t.answer) × Appends old new t.written)
+    ⊎ ((answer ≡ Err refusals.Output) × AppendsPart old new t.written)
+    ⊎ ((answer ≡ Err refusals.Device) × AppendsPrefix old new t.written)
+
+-- What a call leaves that only reads the device, by at most n calls, and writes to a sink: each fault is told only where
+-- that side failed.
+pub record HasTold {F W : Type 0} (facts : F → Device) (faults : W → ℕ) (n : ℕ) (old new : Pages F) (out_old out_new : W) (answer : Answer) : Type 0 where
+  pub read : HasRead facts n old new
+  pub device : IsErrOf answer refusals.Device → (facts old.device).faults < (facts new.device).faults
+  pub sink : faults out_old ≤ faults out_new
+  pub output : IsErrOf answer refusals.Output → faults out_old < faults out_new
+  pub no_source : IsErrOf answer refusals.Source → ⊥

@@ -1,0 +1,18 @@
+//! What a command line asks for.
+
+/// A command and its words. A region and a component are named by bytes.
+#[derive(Clone, Copy, Debug, PartialEq, Eq)]
+pub enum Command<'a> {
+    /// Writes a row for each cell of the region.
+    Print { region: &'a [u8] },
+    /// Writes the place of the flashmap, and its areas.
+    Layout,
+    /// Writes the content of the first component of the name.
+    Extract { region: &'a [u8], name: &'a [u8] },
+    /// Puts free space in place of the first component of the name.
+    Remove { region: &'a [u8], name: &'a [u8] },
+    /// Writes the bytes of the region.
+    Read { region: &'a [u8] },
+    /// Replaces the region by the source, which has its size.
+    Write { region: &'a [u8] },
+}

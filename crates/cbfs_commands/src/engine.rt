@@ -1,0 +1,67 @@
+//! One command at a time.
+
+ghost use Rattle.std.specs.Prelude.{◌≡◌, ◌+◌, ◌*◌, ◌/◌, ◌<◌, ◌≤◌, ◌⊎◌, false, length, IsTrue, IsErrOf};
+ghost use Rattle.flash_store.specs.Device.{Calls};
+ghost use Rattle.cbfs_commands.specs.Deeds.{MayHaveWritten, SparesOutside, deed};
+ghost use Rattle.cbfs_commands.specs.Requests.{asked};
+ghost use Rattle.cbfs_commands.specs.Outcomes.{Meets};
+
+use crate::command::Command;
+use crate::extract::extract;
+use crate::layout::layout;
+use crate::print::print;
+use crate::read::read;
+use crate::refusal::Refusal;
+use crate::remove::remove;
+use crate::write::write;
+use flash_store::{Flash, Paged, Sink, Source};
+
+/// Runs a command on an image. It takes no memory.
+pub fn run<F: Flash, S: Source, W: Sink>(
+    paged: &mut Paged<F>,
+    command: &Command,
+    source: &mut S,
+    out: &mut W,
+) -> Result<(), Refusal>
+    // On any device, from any source, into any sink.
+    ensures calls { Calls (2 * length (F.facts paged.old.device).content + 64)
+        (F.facts paged.old.device) (F.facts paged.new.device) }
+    ensures source_calls { Calls (length (S.facts source.old).content / 4096 + 1)
+        (S.facts source.old) (S.facts source.new) }
+    ensures faults { W.faults out.old ≤ W.faults out.new }
+
+    ensures unread { (deed (asked command.now)).reads_source ≡ false → source.new ≡ source.old }
+    ensures unwritten { (deed (asked command.now)).writes_output ≡ false → out.new ≡ out.old }
+
+    // Each fault is told only where that side failed, and only of a command that uses it.
+    ensures device { IsErrOf result Refusal.Device →
+        (F.facts paged.old.device).faults < (F.facts paged.new.device).faults }
+    ensures source { IsErrOf result Refusal.Source → IsTrue (deed (asked command.now)).reads_source
+        × ((S.facts source.old).faults < (S.facts source.new).faults) }
+    ensures output { IsErrOf result Refusal.Output → IsTrue (deed (asked command.now)).writes_output
+        × (W.faults out.old < W.faults out.new) }
+
+    // On an honest device, however the command ends, and from any source.
+    ensures spares { IsTrue (F.facts paged.old.device).honest →
+        SparesOutside ((deed (asked command.now)).target (F.facts paged.old.device).content)
+        (F.facts paged.old.device).content (F.facts paged.new.device).content }
+    ensures refused { IsTrue (F.facts paged.old.device).honest →
+        MayHaveWritten result ⊎ ((F.facts paged.new.device).content ≡ (F.facts paged.old.device).content) }
+
+    // On an honest device, from an honest source.
+    ensures outcome { IsTrue (F.facts paged.old.device).honest → IsTrue (S.facts source.old).honest →
+        Meets (W.contents out.old) (W.contents out.new) (F.facts paged.new.device).content result
+        ((deed (asked command.now)).outcome (F.facts paged.old.device).content (S.facts source.old).content) }
+    ensures stopped { IsTrue (F.facts paged.old.device).honest → IsTrue (S.facts source.old).honest →
+        (deed (asked command.now)).Stopped (F.facts paged.old.device).content (S.facts source.old).content result
+        (F.facts paged.new.device).content }
+{
+    match command {
+        Command::Print { region } => print(paged, region, out),
+        Command::Layout => layout(paged, out),
+        Command::Extract { region, name } => extract(paged, region, name, out),
+        Command::Remove { region, name } => remove(paged, region, name),
+        Command::Read { region } => read(paged, region, out),
+        Command::Write { region } => write(paged, region, source),
+    }
+}

@@ -1,0 +1,81 @@
+//! The command `extract`.
+
+ghost use Rattle.std.specs.Prelude.{◌≡◌, ◌+◌, ◌*◌, ◌/◌, ◌<◌, ◌≤◌, false, length, IsTrue, IsErrOf};
+ghost use Rattle.flash_format.specs.Components.{component_at};
+ghost use Rattle.flash_format.specs.Head.{is_free};
+ghost use Rattle.flash_store.specs.Pages.{OnHonest, OnHonestIn};
+ghost use Rattle.flash_store.specs.Regions.{LiesIn, bytes_in};
+ghost use Rattle.cbfs_walk.specs.Cells.{IsCellIn, cell_in};
+ghost use Rattle.cbfs_walk.specs.Walks.{StandsIn};
+ghost use Rattle.cbfs_commands.specs.Outcomes.{extract, extract_region, told_component};
+ghost use Rattle.cbfs_commands.specs.Told.{HasTold, Tells};
+
+use crate::read::copy_out;
+use crate::refusal::{Refusal, store_refusal, walk_refusal};
+use cbfs_walk::{Cell, cells_stand_in_their_image, find, packing};
+use flash_store::{Flash, Paged, Region, Sink};
+
+/// Writes the content of a component that isn't compressed.
+fn extract_component<F: Flash, W: Sink>(
+    paged: &mut Paged<F>,
+    region: Region,
+    cell: &Cell,
+    out: &mut W,
+) -> Result<(), Refusal>
+    requires region { LiesIn region (F.facts paged.old.device).content }
+    requires cell { IsCellIn region.size cell.now }
+    requires component { is_free cell.now.head ≡ false }
+
+    ensures after { HasTold F.facts W.faults (cell.now.span / 3840 + 2) paged.old paged.new out.old out.new result }
+    ensures told { OnHonestIn F.facts paged.old.device region (λ x. StandsIn x cell.now → Tells (W.contents
+        out.old) (W.contents out.new) result (told_component (component_at cell.now.at (cell_in x cell.now)))) }
+{
+    cells_stand_in_their_image();
+    paged.places_fit();
+    match packing(paged, region, cell) {
+        Ok(0) => {
+            let start = region.start() + cell.at + u64::from(cell.head.offset);
+            copy_out(paged, start, u64::from(cell.head.len), out)
+        }
+        Ok(_) => Err(Refusal::Compressed),
+        Err(_) => Err(Refusal::Device),
+    }
+}
+
+/// Writes the content of the first component of the name in a region, and walks no further than that component.
+fn extract_region<F: Flash, W: Sink>(
+    paged: &mut Paged<F>,
+    region: Region,
+    name: &[u8],
+    out: &mut W,
+) -> Result<(), Refusal>
+    requires { LiesIn region (F.facts paged.old.device).content }
+
+    ensures after { HasTold F.facts W.faults (region.size / 16 + region.size / 3840 + 2) paged.old paged.new out.old out.new result }
+    ensures told { OnHonestIn F.facts paged.old.device region (λ x. Tells (W.contents out.old) (W.contents
+        out.new) result (extract_region x name.now)) }
+{
+    match find(paged, region, name) {
+        Ok(Some(cell)) => extract_component(paged, region, &cell, out),
+        Ok(None) => Err(Refusal::NotFound),
+        Err(fault) => Err(walk_refusal(fault)),
+    }
+}
+
+/// Writes the content of the first component of the name.
+#[tactic(auto, unfolding(crate::specs::Outcomes::extract))]
+pub fn extract<F: Flash, W: Sink>(
+    paged: &mut Paged<F>,
+    region: &[u8],
+    name: &[u8],
+    out: &mut W,
+) -> Result<(), Refusal>
+    ensures after { HasTold F.facts W.faults (2 * length (F.facts paged.old.device).content + 64) paged.old paged.new out.old out.new result }
+    ensures told { OnHonest F.facts paged.old.device (λ image. Tells (W.contents out.old) (W.contents out.new)
+        result (extract image region.now name.now)) }
+{
+    match flash_store::region(paged, region) {
+        Ok(region) => extract_region(paged, region, name, out),
+        Err(fault) => Err(store_refusal(fault)),
+    }
+}

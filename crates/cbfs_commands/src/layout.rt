@@ -1,0 +1,108 @@
+//! The command `layout`.
+
+ghost use Rattle.std.specs.Prelude.{◌≡◌, ◌+◌, ◌*◌, ◌/◌, ◌<◌, ◌≤◌, length, drop, IsTrue, IsErrOf, Ok, Err};
+ghost use Rattle.std.specs.List.{flat_map};
+ghost use Rattle.flash_format.specs.Flashmap.{fmap_head_len, area_len, map_len, area_of, areas_from};
+ghost use Rattle.flash_store.specs.Pages.{OnHonest, OnHonestIn};
+ghost use Rattle.cbfs_commands.specs.Layouts.{layout, map_row, area_row};
+ghost use Rattle.cbfs_commands.specs.Told.{HasTold, Tells, shows};
+
+use crate::refusal::Refusal;
+use crate::row::{Row, push_decimal, push_hexadecimal, push_name, push_text, put_row};
+use arrayvec::ArrayVec;
+use flash_format::Area;
+use flash_store::{Flash, FoundMap, Paged, Sink, area, find_fmap};
+
+#[tactic(auto, unfolding(crate::specs::Layouts::map_row))]
+fn map_row(map: &FoundMap) -> Row
+    ensures { result.items ≡ map_row map.now.at map.now.head }
+{
+    let mut row = ArrayVec::new();
+    push_text(&mut row, b"fmap");
+    push_text(&mut row, b"\t");
+    push_hexadecimal(&mut row, map.at);
+    push_text(&mut row, b"\t");
+    push_name(&mut row, map.head.text());
+    push_text(&mut row, b"\t");
+    push_decimal(&mut row, map.head.size);
+    push_text(&mut row, b"\t");
+    push_decimal(&mut row, u32::from(map.head.nareas));
+    push_text(&mut row, b"\n");
+    row
+}
+
+#[tactic(auto, unfolding(crate::specs::Layouts::area_row))]
+fn area_row(area: &Area) -> Row
+    ensures { result.items ≡ area_row area.now }
+{
+    let mut row = ArrayVec::new();
+    push_name(&mut row, area.text());
+    push_text(&mut row, b"\t");
+    push_hexadecimal(&mut row, u64::from(area.offset));
+    push_text(&mut row, b"\t");
+    push_decimal(&mut row, area.size);
+    push_text(&mut row, b"\t");
+    push_hexadecimal(&mut row, u64::from(area.flags));
+    push_text(&mut row, b"\n");
+    row
+}
+
+/// Writes the row of the area of this number.
+fn list_area<F: Flash, W: Sink>(
+    paged: &mut Paged<F>,
+    map: &FoundMap,
+    i: u16,
+    out: &mut W,
+) -> Result<(), Refusal>
+    requires inside { map.now.at + map_len map.now.head ≤ length (F.facts paged.old.device).content }
+    requires number { i < map.now.head.nareas }
+
+    ensures after { HasTold F.facts W.faults 1 paged.old paged.new out.old out.new result }
+    ensures told { OnHonest F.facts paged.old.device (λ image. Tells (W.contents out.old) (W.contents out.new)
+        result (shows (area_row (area_of (drop (map.now.at + fmap_head_len + area_len * i) image))))) }
+{
+    match area(paged, map, i) {
+        Ok(area) => put_row(out, &area_row(&area)),
+        Err(_) => Err(Refusal::Device),
+    }
+}
+
+/// Writes the rows of all areas, in the map's order.
+fn list_areas<F: Flash, W: Sink>(
+    paged: &mut Paged<F>,
+    map: &FoundMap,
+    out: &mut W,
+) -> Result<(), Refusal>
+    requires { map.now.at + map_len map.now.head ≤ length (F.facts paged.old.device).content }
+
+    ensures after { HasTold F.facts W.faults map.now.head.nareas paged.old paged.new out.old out.new result }
+    ensures told { OnHonest F.facts paged.old.device (λ image. Tells (W.contents out.old) (W.contents out.new)
+        result (shows (flat_map area_row (areas_from map.now.head.nareas (drop (map.now.at + fmap_head_len) image))))) }
+{
+    for i in 0..map.head.nareas {
+        match list_area(paged, map, i, out) {
+            Ok(()) => {}
+            Err(refusal) => return Err(refusal),
+        }
+    }
+    Ok(())
+}
+
+/// Writes the place of the image's map, and its areas.
+#[tactic(auto, unfolding(crate::specs::Layouts::layout))]
+pub fn layout<F: Flash, W: Sink>(paged: &mut Paged<F>, out: &mut W) -> Result<(), Refusal>
+    ensures after { HasTold F.facts W.faults (length (F.facts paged.old.device).content / 2
+        + length (F.facts paged.old.device).content / area_len + 8) paged.old paged.new out.old out.new result }
+    ensures told { OnHonest F.facts paged.old.device (λ image. Tells (W.contents out.old) (W.contents out.new)
+        result (layout image)) }
+{
+    let map = match find_fmap(paged) {
+        Ok(Some(map)) => map,
+        Ok(None) => return Err(Refusal::NoFmap),
+        Err(_) => return Err(Refusal::Device),
+    };
+    match put_row(out, &map_row(&map)) {
+        Ok(()) => list_areas(paged, &map, out),
+        Err(refusal) => Err(refusal),
+    }
+}

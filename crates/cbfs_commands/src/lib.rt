@@ -1,0 +1,17 @@
+//! The commands on an image: print, layout, extract, remove, read and write.
+#![tactic(auto)]
+
+mod command;
+mod engine;
+mod extract;
+mod layout;
+mod print;
+mod read;
+mod refusal;
+mod remove;
+mod row;
+mod write;
+
+pub use command::Command;
+pub use engine::run;
+pub use refusal::Refusal;

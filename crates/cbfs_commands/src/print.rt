@@ -1,0 +1,97 @@
+//! The command `print`.
+
+ghost use Rattle.std.specs.Prelude.{◌≡◌, ◌+◌, ◌*◌, ◌/◌, ◌<◌, ◌≤◌, length, IsTrue, IsErrOf, OnErr, IfOk};
+ghost use Rattle.flash_store.specs.Pages.{HasAnswered, OnHonest, OnHonestIn};
+ghost use Rattle.flash_store.specs.Regions.{LiesIn, bytes_in};
+ghost use Rattle.cbfs_walk.specs.Cells.{IsCellIn, cell_in};
+ghost use Rattle.cbfs_walk.specs.Walks.{StandsIn};
+ghost use Rattle.cbfs_commands.specs.Outcomes.{print, print_region};
+ghost use Rattle.cbfs_commands.specs.Rows.{row};
+ghost use Rattle.cbfs_commands.specs.Told.{HasTold, Tells, shows};
+
+use crate::refusal::{Refusal, store_refusal, walk_refusal};
+use crate::row::{Row, put_row, row_text};
+use cbfs_walk::{Cell, Step, Walk, cells_stand_in_their_image, name, packing};
+use flash_store::{Flash, FlashFault, Paged, Region, Sink};
+
+/// The row of a cell.
+fn cell_row<F: Flash>(paged: &mut Paged<F>, region: Region, cell: &Cell) -> Result<Row, FlashFault>
+    requires region { LiesIn region (F.facts paged.old.device).content }
+    requires cell { IsCellIn region.size cell.now }
+
+    ensures after { HasAnswered F.facts (2 + cell.now.span / 3840) paged.old paged.new result }
+    ensures row { OnHonestIn F.facts paged.old.device region (λ x. StandsIn x cell.now → IfOk result (λ shown.
+        shown.items ≡ row cell.now.at (cell_in x cell.now))) }
+{
+    cells_stand_in_their_image();
+    if cell.head.is_free() {
+        return Ok(row_text(cell.at, &cell.head, &[], 0));
+    }
+    let mut field = [0; 256];
+    let len = name(paged, region, cell, &mut field)?;
+    let value = packing(paged, region, cell)?;
+    Ok(row_text(cell.at, &cell.head, &field[..len], value))
+}
+
+/// Writes the row of a cell.
+fn print_cell<F: Flash, W: Sink>(
+    paged: &mut Paged<F>,
+    region: Region,
+    cell: &Cell,
+    out: &mut W,
+) -> Result<(), Refusal>
+    requires region { LiesIn region (F.facts paged.old.device).content }
+    requires cell { IsCellIn region.size cell.now }
+
+    ensures after { HasTold F.facts W.faults (2 + cell.now.span / 3840) paged.old paged.new out.old out.new result }
+    ensures told { OnHonestIn F.facts paged.old.device region (λ x. StandsIn x cell.now → Tells (W.contents
+        out.old) (W.contents out.new) result (shows (row cell.now.at (cell_in x cell.now)))) }
+{
+    match cell_row(paged, region, cell) {
+        Ok(row) => put_row(out, &row),
+        Err(_) => Err(Refusal::Device),
+    }
+}
+
+/// Writes a row for each cell of a region.
+fn print_region<F: Flash, W: Sink>(
+    paged: &mut Paged<F>,
+    region: Region,
+    out: &mut W,
+) -> Result<(), Refusal>
+    requires { LiesIn region (F.facts paged.old.device).content }
+
+    ensures after { HasTold F.facts W.faults (region.size / 16 + 2) paged.old paged.new out.old out.new result }
+    ensures told { OnHonestIn F.facts paged.old.device region (λ x. Tells (W.contents out.old) (W.contents
+        out.new) result (print_region x)) }
+{
+    let mut walk = Walk::new(region);
+    loop {
+        match walk.next(paged) {
+            Ok(Step::Cell(cell)) => match print_cell(paged, region, &cell, out) {
+                Ok(()) => {}
+                Err(refusal) => return Err(refusal),
+            },
+            Ok(Step::Tail(_)) => return Ok(()),
+            Ok(Step::End) => return Ok(()),
+            Err(fault) => return Err(walk_refusal(fault)),
+        }
+    }
+}
+
+/// Lists the cells of a region.
+#[tactic(auto, unfolding(crate::specs::Outcomes::print))]
+pub fn print<F: Flash, W: Sink>(
+    paged: &mut Paged<F>,
+    name: &[u8],
+    out: &mut W,
+) -> Result<(), Refusal>
+    ensures after { HasTold F.facts W.faults (2 * length (F.facts paged.old.device).content + 64) paged.old paged.new out.old out.new result }
+    ensures told { OnHonest F.facts paged.old.device (λ image. Tells (W.contents out.old) (W.contents out.new)
+        result (print image name.now)) }
+{
+    match flash_store::region(paged, name) {
+        Ok(region) => print_region(paged, region, out),
+        Err(fault) => Err(store_refusal(fault)),
+    }
+}

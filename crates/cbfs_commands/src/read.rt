@@ -1,0 +1,47 @@
+//! The command `read`.
+
+ghost use Rattle.std.specs.Prelude.{◌≡◌, ◌+◌, ◌*◌, ◌/◌, ◌<◌, ◌≤◌, length, slice_range, IsTrue, IsErrOf};
+ghost use Rattle.flash_store.specs.Pages.{OnHonest, OnHonestIn};
+ghost use Rattle.cbfs_commands.specs.Outcomes.{read};
+ghost use Rattle.cbfs_commands.specs.Told.{HasTold, Tells, shows};
+
+use crate::refusal::{Refusal, store_refusal};
+use flash_store::{CopyFault, Flash, Paged, Sink};
+
+/// Writes a range of the image.
+pub fn copy_out<F: Flash, W: Sink>(
+    paged: &mut Paged<F>,
+    start: u64,
+    size: u64,
+    out: &mut W,
+) -> Result<(), Refusal>
+    requires { start + size ≤ length (F.facts paged.old.device).content }
+
+    ensures after { HasTold F.facts W.faults ((size + 4095) / 4096) paged.old paged.new out.old out.new result }
+    ensures told { OnHonest F.facts paged.old.device (λ image. Tells (W.contents out.old) (W.contents out.new)
+        result (shows (slice_range image start (start + size)))) }
+{
+    match paged.copy_out(start, size, out) {
+        Ok(()) => Ok(()),
+        Err(CopyFault::Device) => Err(Refusal::Device),
+        Err(CopyFault::Output) => Err(Refusal::Output),
+        Err(CopyFault::Source) => unreachable!(),
+    }
+}
+
+/// Writes the bytes of a region.
+#[tactic(auto, unfolding(crate::specs::Outcomes::read))]
+pub fn read<F: Flash, W: Sink>(
+    paged: &mut Paged<F>,
+    name: &[u8],
+    out: &mut W,
+) -> Result<(), Refusal>
+    ensures after { HasTold F.facts W.faults (2 * length (F.facts paged.old.device).content + 64) paged.old paged.new out.old out.new result }
+    ensures told { OnHonest F.facts paged.old.device (λ image. Tells (W.contents out.old) (W.contents out.new)
+        result (read image name.now)) }
+{
+    match flash_store::region(paged, name) {
+        Ok(region) => copy_out(paged, region.start(), region.size(), out),
+        Err(fault) => Err(store_refusal(fault)),
+    }
+}

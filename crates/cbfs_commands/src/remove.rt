@@ -1,0 +1,58 @@
+//! The command `remove`.
+
+ghost use Rattle.std.specs.Prelude.{◌≡◌, ◌+◌, ◌*◌, ◌/◌, ◌⊎◌, length, IsTrue, IsErrOf, Ok};
+ghost use Rattle.flash_store.specs.Bytes.{SameOutside};
+ghost use Rattle.flash_store.specs.Pages.{OnHonest};
+ghost use Rattle.flash_store.specs.Regions.{Range, LiesIn, bytes_in, region_of};
+ghost use Rattle.cbfs_edit.specs.Stops.{LeavesWhole};
+ghost use Rattle.cbfs_commands.specs.Deeds.{MayHaveWritten, SparesOutside, found};
+ghost use Rattle.cbfs_commands.specs.Outcomes.{HasEdited, LeavesOr, remove, remove_region};
+
+use crate::refusal::{Refusal, edit_refusal, store_refusal};
+use flash_store::{Flash, Paged, Region};
+
+/// Puts free space in place of the first component of the name in a region.
+fn remove_region<F: Flash>(paged: &mut Paged<F>, region: Region, name: &[u8]) -> Result<(), Refusal>
+    requires { LiesIn region (F.facts paged.old.device).content }
+
+    // On any device.
+    ensures after { HasEdited F.facts (region.size / 4 + region.size / 4096 + 4) paged.old paged.new result }
+
+    // On an honest device.
+    ensures outside { OnHonest F.facts paged.old.device (λ image.
+        SameOutside region.start region.size image (F.facts paged.new.device).content) }
+    ensures refused { OnHonest F.facts paged.old.device (λ image.
+        MayHaveWritten result ⊎ ((F.facts paged.new.device).content ≡ image)) }
+    ensures left { OnHonest F.facts paged.old.device (λ image.
+        LeavesOr (F.facts paged.new.device).content result (remove_region image region name.now)) }
+    ensures stopped { OnHonest F.facts paged.old.device (λ image. IsErrOf result Refusal.Device →
+        LeavesWhole (bytes_in region image) name.now (bytes_in region (F.facts paged.new.device).content)) }
+{
+    match cbfs_edit::remove(paged, region, name) {
+        Ok(_) => Ok(()),
+        Err(fault) => Err(edit_refusal(fault)),
+    }
+}
+
+/// Puts free space in place of the first component of the name.
+#[tactic(auto, unfolding(crate::specs::Outcomes::remove))]
+pub fn remove<F: Flash>(paged: &mut Paged<F>, region: &[u8], name: &[u8]) -> Result<(), Refusal>
+    // On any device.
+    ensures after { HasEdited F.facts (2 * length (F.facts paged.old.device).content + 64) paged.old paged.new result }
+
+    // On an honest device.
+    ensures spares { OnHonest F.facts paged.old.device (λ image.
+        SparesOutside (found (region_of image region.now)) image (F.facts paged.new.device).content) }
+    ensures refused { OnHonest F.facts paged.old.device (λ image.
+        MayHaveWritten result ⊎ ((F.facts paged.new.device).content ≡ image)) }
+    ensures left { OnHonest F.facts paged.old.device (λ image.
+        LeavesOr (F.facts paged.new.device).content result (remove image region.now name.now)) }
+    ensures stopped { OnHonest F.facts paged.old.device (λ image. (found : Range) → region_of image region.now ≡ Ok found →
+        IsErrOf result Refusal.Device →
+        LeavesWhole (bytes_in found image) name.now (bytes_in found (F.facts paged.new.device).content)) }
+{
+    match flash_store::region(paged, region) {
+        Ok(region) => remove_region(paged, region, name),
+        Err(fault) => Err(store_refusal(fault)),
+    }
+}

@@ -1,0 +1,185 @@
+//! The printed row of a cell.
+
+ghost use Rattle.std.specs.Prelude.{◌≡◌, ◌+◌, ◌*◌, ◌<◌, ◌≤◌, ◌++◌, ◌∷◌, [], false, true, length, drop, Some, None, Err, OnErr};
+ghost use Rattle.std.specs.Fmt.{digit_glyph, digits, decimal};
+ghost use Rattle.arrayvec.specs.ArrayVec.{array_vec_len};
+ghost use Rattle.cbfs_commands.specs.Rows.{printed_byte, printed_name, hexadecimal, printed_type, printed_packing, label, compression, row_text};
+ghost use Rattle.cbfs_commands.specs.Told.{HasTold, Tells, shows};
+
+use crate::refusal::Refusal;
+use arrayvec::ArrayVec;
+use flash_format::{Head, type_name};
+use flash_store::{Sink, put_all};
+use itoa::Buffer;
+
+/// Room for the longest row: a name of 255 bytes, each escaped, and the other fields.
+const ROW_LEN: usize = 1152;
+
+pub type Row = ArrayVec<u8, ROW_LEN>;
+
+pub fn push_text(row: &mut Row, text: &[u8])
+    requires { array_vec_len row.old + length text.now ≤ ROW_LEN }
+    ensures items { row.new.items ≡ row.old.items ++ text.now }
+    ensures len { array_vec_len row.new ≡ array_vec_len row.old + length text.now }
+{
+    let _fits = row.try_extend_from_slice(text);
+}
+
+/// A hexadecimal digit.
+fn digit(value: u8) -> u8
+    requires { value < 16 }
+    ensures { result ≡ digit_glyph false value }
+{
+    if value < 10 {
+        b'0' + value
+    } else {
+        b'a' + (value - 10)
+    }
+}
+
+#[tactic(auto, unfolding(crate::specs::Rows::printed_byte))]
+fn push_byte(row: &mut Row, byte: u8)
+    requires { array_vec_len row.old + 4 ≤ ROW_LEN }
+    ensures items { row.new.items ≡ row.old.items ++ printed_byte byte }
+    ensures len { array_vec_len row.new ≤ array_vec_len row.old + 4 }
+{
+    if matches!(byte, 0x21..=0x7e) && byte != b'\\' {
+        push_text(row, &[byte]);
+    } else {
+        push_text(row, &[b'\\', b'x', digit(byte / 16), digit(byte % 16)]);
+    }
+}
+
+pub fn push_name(row: &mut Row, name: &[u8])
+    requires { array_vec_len row.old + 4 * length name.now ≤ ROW_LEN }
+    ensures items { row.new.items ≡ row.old.items ++ printed_name name.now }
+    ensures len { array_vec_len row.new ≤ array_vec_len row.old + 4 * length name.now }
+{
+    for byte in name {
+        push_byte(row, *byte);
+    }
+}
+
+/// Writes the hexadecimal digits of a number at the end of the text, and says where they begin.
+fn write_digits(n: u64, text: &mut [u8; 16]) -> usize
+    ensures start { result < 16 }
+    ensures digits { drop result text.new ≡ digits 16 false n }
+{
+    let mut rest = n;
+    let mut at = 15;
+    text[at] = digit((rest % 16) as u8);
+    while rest >= 16 {
+        rest /= 16;
+        at -= 1;
+        text[at] = digit((rest % 16) as u8);
+    }
+    at
+}
+
+#[tactic(auto, unfolding(crate::specs::Rows::hexadecimal))]
+pub fn push_hexadecimal(row: &mut Row, n: u64)
+    requires { array_vec_len row.old + 18 ≤ ROW_LEN }
+    ensures items { row.new.items ≡ row.old.items ++ hexadecimal n }
+    ensures len { array_vec_len row.new ≤ array_vec_len row.old + 18 }
+{
+    let mut text = [b'0'; 16];
+    let start = write_digits(n, &mut text);
+    push_text(row, b"0x");
+    push_text(row, &text[start..]);
+}
+
+pub fn push_decimal(row: &mut Row, n: u32)
+    requires { array_vec_len row.old + 40 ≤ ROW_LEN }
+    ensures items { row.new.items ≡ row.old.items ++ decimal n }
+    ensures len { array_vec_len row.new ≤ array_vec_len row.old + 40 }
+{
+    let mut buffer = Buffer::new();
+    push_text(row, buffer.format(n).as_bytes());
+}
+
+#[tactic(auto, unfolding(crate::specs::Rows::printed_type))]
+fn push_type(row: &mut Row, kind: u32)
+    requires { array_vec_len row.old + 18 ≤ ROW_LEN }
+    ensures items { row.new.items ≡ row.old.items ++ printed_type kind }
+    ensures len { array_vec_len row.new ≤ array_vec_len row.old + 18 }
+{
+    match type_name(kind) {
+        Some(name) => push_text(row, name.as_bytes()),
+        None => push_hexadecimal(row, u64::from(kind)),
+    }
+}
+
+#[tactic(auto, unfolding(crate::specs::Rows::printed_packing))]
+fn push_packing(row: &mut Row, packing: u32)
+    requires { array_vec_len row.old + 18 ≤ ROW_LEN }
+    ensures items { row.new.items ≡ row.old.items ++ printed_packing packing }
+    ensures len { array_vec_len row.new ≤ array_vec_len row.old + 18 }
+{
+    match packing {
+        0 => push_text(row, b"none"),
+        1 => push_text(row, b"LZMA"),
+        2 => push_text(row, b"LZ4"),
+        _ => push_hexadecimal(row, u64::from(packing)),
+    }
+}
+
+#[tactic(auto, unfolding(crate::specs::Rows::label))]
+fn push_label(row: &mut Row, head: &Head, name: &[u8])
+    requires room { array_vec_len row.old + 1020 ≤ ROW_LEN }
+    requires short { length name.now ≤ 255 }
+    ensures items { row.new.items ≡ row.old.items ++ label head.now name.now }
+    ensures len { array_vec_len row.new ≤ array_vec_len row.old + 1020 }
+{
+    if head.is_free() {
+        push_text(row, b"(empty)");
+    } else {
+        push_name(row, name);
+    }
+}
+
+#[tactic(auto, unfolding(crate::specs::Rows::compression))]
+fn push_compression(row: &mut Row, head: &Head, packing: u32)
+    requires { array_vec_len row.old + 18 ≤ ROW_LEN }
+    ensures items { row.new.items ≡ row.old.items ++ compression head.now packing }
+    ensures len { array_vec_len row.new ≤ array_vec_len row.old + 18 }
+{
+    if head.is_free() {
+        push_text(row, b"none");
+    } else {
+        push_packing(row, packing);
+    }
+}
+
+/// The row of the cell with this head at a place: its name, and the value of its first compression attribute.
+/// Of a free cell neither is looked at.
+#[tactic(auto, unfolding(crate::specs::Rows::row_text))]
+pub fn row_text(at: u64, head: &Head, name: &[u8], packing: u32) -> Row
+    requires { length name.now ≤ 255 }
+    ensures { result.items ≡ row_text at head.now name.now packing }
+{
+    let mut row = ArrayVec::new();
+    push_label(&mut row, head, name);
+    push_text(&mut row, b"\t");
+    push_hexadecimal(&mut row, at);
+    push_text(&mut row, b"\t");
+    push_type(&mut row, head.kind);
+    push_text(&mut row, b"\t");
+    push_decimal(&mut row, head.len);
+    push_text(&mut row, b"\t");
+    push_compression(&mut row, head, packing);
+    push_text(&mut row, b"\n");
+    row
+}
+
+/// Writes a row.
+pub fn put_row<W: Sink>(out: &mut W, row: &Row) -> Result<(), Refusal>
+    ensures faults { W.faults out.old ≤ W.faults out.new }
+    ensures output { OnErr result (W.faults out.old < W.faults out.new) }
+    ensures only { OnErr result (result ≡ Err Refusal.Output) }
+    ensures told { Tells (W.contents out.old) (W.contents out.new) result (shows row.now.items) }
+{
+    match put_all(out, row.as_slice()) {
+        Ok(()) => Ok(()),
+        Err(_) => Err(Refusal::Output),
+    }
+}

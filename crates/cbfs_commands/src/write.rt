@@ -1,0 +1,77 @@
+//! The command `write`.
+
+ghost use Rattle.std.specs.Prelude.{◌≡◌, ◌+◌, ◌*◌, ◌/◌, ◌<◌, ◌≤◌, ◌⊎◌, length, IsTrue, IsErrOf, Ok};
+ghost use Rattle.flash_store.specs.Bytes.{SameOutside};
+ghost use Rattle.flash_store.specs.Device.{Calls};
+ghost use Rattle.flash_store.specs.Regions.{Range, LiesIn, region_of};
+ghost use Rattle.cbfs_commands.specs.Deeds.{MayHaveWritten, SparesOutside, found};
+ghost use Rattle.cbfs_commands.specs.Outcomes.{HasWritten, LeavesOr, StopsIn, write, write_region};
+
+use crate::refusal::{Refusal, store_refusal};
+use flash_store::{CopyFault, Flash, Paged, Region, Source};
+
+/// Replaces the bytes of a region, front to back.
+fn write_region<F: Flash, S: Source>(
+    paged: &mut Paged<F>,
+    region: Region,
+    source: &mut S,
+) -> Result<(), Refusal>
+    requires { LiesIn region (F.facts paged.old.device).content }
+
+    // On any device, from any source.
+    ensures after { HasWritten F.facts S.facts (length (F.facts paged.old.device).content / 4096 + 1)
+        (length (S.facts source.old).content / 4096 + 1) paged.old paged.new source.old source.new result }
+
+    // On an honest device.
+    ensures outside { IsTrue (F.facts paged.old.device).honest → SameOutside region.start region.size
+        (F.facts paged.old.device).content (F.facts paged.new.device).content }
+    ensures refused { IsTrue (F.facts paged.old.device).honest →
+        MayHaveWritten result ⊎ ((F.facts paged.new.device).content ≡ (F.facts paged.old.device).content) }
+    ensures left { IsTrue (F.facts paged.old.device).honest → IsTrue (S.facts source.old).honest →
+        LeavesOr (F.facts paged.new.device).content result
+        (write_region (F.facts paged.old.device).content region (S.facts source.old).content) }
+    ensures stopped { IsTrue (F.facts paged.old.device).honest → IsTrue (S.facts source.old).honest →
+        StopsIn (F.facts paged.old.device).content region (S.facts source.old).content
+        (F.facts paged.new.device).content result }
+{
+    if source.len() != region.size() {
+        return Err(Refusal::SourceSize);
+    }
+    match paged.copy_in(region.start(), region.size(), source) {
+        Ok(()) => Ok(()),
+        Err(CopyFault::Device) => Err(Refusal::Device),
+        Err(CopyFault::Source) => Err(Refusal::Source),
+        Err(CopyFault::Output) => unreachable!(),
+    }
+}
+
+/// Replaces the bytes of a region by the source, which has its size.
+#[tactic(auto, unfolding(crate::specs::Outcomes::write))]
+pub fn write<F: Flash, S: Source>(
+    paged: &mut Paged<F>,
+    name: &[u8],
+    source: &mut S,
+) -> Result<(), Refusal>
+    // On any device, from any source.
+    ensures after { HasWritten F.facts S.facts (2 * length (F.facts paged.old.device).content + 64)
+        (length (S.facts source.old).content / 4096 + 1) paged.old paged.new source.old source.new result }
+
+    // On an honest device.
+    ensures spares { IsTrue (F.facts paged.old.device).honest → SparesOutside
+        (found (region_of (F.facts paged.old.device).content name.now))
+        (F.facts paged.old.device).content (F.facts paged.new.device).content }
+    ensures refused { IsTrue (F.facts paged.old.device).honest →
+        MayHaveWritten result ⊎ ((F.facts paged.new.device).content ≡ (F.facts paged.old.device).content) }
+    ensures left { IsTrue (F.facts paged.old.device).honest → IsTrue (S.facts source.old).honest →
+        LeavesOr (F.facts paged.new.device).content result
+        (write (F.facts paged.old.device).content name.now (S.facts source.old).content) }
+    ensures stopped { IsTrue (F.facts paged.old.device).honest → IsTrue (S.facts source.old).honest →
+        (region : Range) → region_of (F.facts paged.old.device).content name.now ≡ Ok region →
+        StopsIn (F.facts paged.old.device).content region (S.facts source.old).content
+        (F.facts paged.new.device).content result }
+{
+    match flash_store::region(paged, name) {
+        Ok(region) => write_region(paged, region, source),
+        Err(fault) => Err(store_refusal(fault)),
+    }
+}

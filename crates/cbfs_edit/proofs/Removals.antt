@@ -1,0 +1,93 @@
+-- An accepted removal has a group, in a region of a good size.
+use Rattle.std.proofs.Common.{◌≡◌, ◌⊎◌, inl, inr, ℕ, ◌%◌, ◌^◌, ◌<◌, Bool, true, false, cond, List, length, Option, Some, None, Result, Ok, Err, refl, sym, ap, subst, arith}
+use Rattle.std.specs.Prelude.{IsErrOf}
+use Rattle.flash_store.specs.Regions.{Range, LiesIn, bytes_in}
+use Rattle.flash_store.proofs.DeviceLemmas.{length-bytes_in}
+use Rattle.flash_format.specs.Entry.{entry}
+use Rattle.flash_format.specs.Cut.{End, complete, tail, damage, cut}
+use Rattle.cbfs_walk.specs.Shapes.{has_bad_size, is_absent, refused_or}
+use Rattle.cbfs_walk.specs.Shaped.{place_after}
+use Rattle.cbfs_walk.specs.declared.walk.WalkFault.{WalkFault}
+use Rattle.cbfs_walk.specs.declared.walk.WalkFault.TheVariants as walk
+use Rattle.cbfs_edit.specs.Refusals.{refusal_of}
+use Rattle.cbfs_walk.proofs.Answering.{good_size}
+use Rattle.cbfs_edit.specs.Groups.{group_of}
+use Rattle.cbfs_edit.specs.Removals.{last_four, unless_damaged, found, removed, removal_in}
+use Rattle.flash_store.specs.Bytes.{overwritten, SameOutside}
+use Rattle.flash_store.proofs.RegionLemmas.{image_is}
+use Rattle.cbfs_edit.specs.Stops.{IsBlanked, LeavesWhole}
+use Rattle.cbfs_edit.specs.Laws.{BlankedGroupsLackTheComponent}
+use Rattle.cbfs_edit.specs.declared.fault.EditFault.{EditFault}
+use Rattle.cbfs_edit.specs.declared.fault.EditFault.TheVariants as faults
+use Rattle.cbfs_edit.specs.declared.group.Freed.{Freed}
+use Rattle.cbfs_edit.proofs.Parts.{the_group}
+use Rattle.cbfs_edit.proofs.Groups.{group_range, blanked-stopped}
+
+pub record IsAccepted (x name : List ℕ) (group : Freed) : Type 0 where
+  pub whole : length x % 64 ≡ 0
+  pub group_is : group_of x name ≡ Some group
+
+abbrev refused : WalkFault → Result Freed EditFault
+refused fault = Err (refusal_of fault)
+
+pub accepted : (x name : List ℕ) (group : Freed) → removal_in x name ≡ Ok group → IsAccepted x name group
+unfolding removal_in
+accepted x name group is = go (has_bad_size (length x)) (is_absent (entry x)) refl is
+  where
+    by_group : (o : Option Freed) → found o ≡ Ok group → o ≡ Some group
+    by_group None e = absurd cc
+    by_group (Some range) e = cc
+
+    by_end : (at : ℕ) (e : End) (r : Result Freed EditFault) → unless_damaged at e r ≡ Ok group → r ≡ Ok group
+    by_end at complete r e = e
+    by_end at tail r e = e
+    by_end at (damage kind) r e = absurd cc
+
+    taken : Result Freed EditFault
+    taken = unless_damaged (place_after 0 (cut x).cells) (cut x).end (found (group_of x name))
+
+    go : (b n : Bool) → has_bad_size (length x) ≡ b → refused_or refused (cond b (Some walk.RegionShape) (cond n (Some walk.NotCbfs) None)) taken ≡ Ok group → IsAccepted x name group
+    go true n e p = absurd cc
+    go false true e p = absurd cc
+    go false false e p = record {
+      whole = good_size (length x) (sym e);
+      group_is = by_group (group_of x name) (by_end _ (cut x).end _ p);
+    }
+
+pub blanked_lacks : BlankedGroupsLackTheComponent
+blanked_lacks x name group y small is blanked last =
+    let a = accepted x name group is in
+    let g = the_group x name group a.whole a.group_is in
+    blanked-stopped x group g.cells (group_range x group g.cells g.some) small y blanked last
+
+-- what a removal leaves that stops at one of its writes
+pub removal_leaves : (r : Range) (name : List ℕ) (group : Freed) (old mid new : List ℕ) → LiesIn r old → length old < 2 ^ 32 → mid ≡ old
+    → (let a : Result Freed EditFault = Ok group in IsErrOf a faults.Device ⊎ (a ≡ removal_in (bytes_in r old) name))
+    → (r.size % 64 ≡ 0 → (bytes_in r new ≡ bytes_in r mid) ⊎ IsBlanked (bytes_in r mid) group (bytes_in r new))
+    → (r.size % 64 ≡ 0 → last_four (bytes_in r new) ≡ last_four (bytes_in r mid))
+    → LeavesWhole (bytes_in r old) name (bytes_in r new)
+removal_leaves r name group old mid new lies small same answer stopped last = told answer
+  where
+    x : List ℕ
+    x = bytes_in r old
+
+    size : length (bytes_in r old) ≡ r.size
+    size = length-bytes_in r old lies
+
+    left : removal_in (bytes_in r old) name ≡ Ok group → (bytes_in r new ≡ bytes_in r old) ⊎ IsBlanked (bytes_in r old) group (bytes_in r new) → last_four (bytes_in r new) ≡ last_four (bytes_in r old) → LeavesWhole (bytes_in r old) name (bytes_in r new)
+    left is (inl unchanged) kept = inl unchanged
+    left is (inr blanked) kept = inr (group, is, blanked_lacks (bytes_in r old) name group (bytes_in r new) (omega (arith, size, lies, small)) is blanked kept)
+
+    told : (let a : Result Freed EditFault = Ok group in IsErrOf a faults.Device ⊎ (a ≡ removal_in (bytes_in r old) name)) → LeavesWhole (bytes_in r old) name (bytes_in r new)
+    told (inl e) = absurd cc
+    told (inr e) =
+        let a = accepted (bytes_in r old) name group (sym e) in
+        let whole : r.size % 64 ≡ 0 = omega (arith, a.whole, size) in
+        left (sym e) (rw same at (stopped whole)) (rw same at (last whole))
+
+-- the image that a finished removal leaves
+pub image_removed : (r : Range) (group : Freed) (old mid new : List ℕ) → LiesIn r old → mid ≡ old → length new ≡ length mid → SameOutside r.start r.size mid new
+    → bytes_in r new ≡ removed (bytes_in r mid) group → new ≡ overwritten old r.start (removed (bytes_in r old) group)
+image_removed r group old mid new lies same size outside is =
+    let lies_mid : LiesIn r mid = omega (arith, lies, ap length same) in
+    subst (λ (l : List ℕ). new ≡ overwritten l r.start (removed (bytes_in r l) group)) same (image_is r mid new (removed (bytes_in r mid) group) lies_mid size outside is)

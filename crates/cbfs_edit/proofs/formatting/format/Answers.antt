@@ -1,0 +1,34 @@
+use Rattle.std.proofs.Common.{arith, rules}
+use Rattle.flash_store.specs.Regions.{bytes_in}
+use Rattle.flash_store.proofs.DeviceLemmas.{length-bytes_in}
+use Rattle.cbfs_edit.proofs.FormatLemmas.{format_done, format_stopped}
+use Rattle.cbfs_edit.proofs.formatting.format.Goals as goal
+
+pub returns-then-end-eq0-clause-formatted : goal.returns-then-end-eq0-clause-formatted
+returns-then-end-eq0-clause-formatted g c = search rules
+
+pub returns-then-end-eq0-clause-refused : goal.returns-then-end-eq0-clause-refused
+returns-then-end-eq0-clause-refused g c = search rules
+
+pub returns-in-Ok-clause-cause : goal.returns-in-Ok-clause-cause
+returns-in-Ok-clause-cause g c = search rules
+
+pub returns-in-Ok-clause-calls : goal.returns-in-Ok-clause-calls
+returns-in-Ok-clause-calls g c = search rules
+
+pub returns-in-Ok-clause-stopped : goal.returns-in-Ok-clause-stopped
+returns-in-Ok-clause-stopped g c = search rules
+
+pub returns-in-Ok-clause-formatted : goal.returns-in-Ok-clause-formatted
+returns-in-Ok-clause-formatted g c honest =
+    let content = (g.F.Flash.facts c.args.paged.now.device).content in
+    format_done (bytes_in c.args.region content) _ c.size-end.result
+    (omega (arith, length-bytes_in c.args.region content c.requires, c.size-end.ensures)) (omega arith) (c.in-Ok.ensures.removed honest)
+
+pub returns-in-Err-clause-stopped : goal.returns-in-Err-clause-stopped
+returns-in-Err-clause-stopped g c honest = λ is.
+    let content = (g.F.Flash.facts c.args.paged.now.device).content in
+    format_stopped (bytes_in c.args.region content) _ c.size-end.result
+    (omega (arith, length-bytes_in c.args.region content c.requires, c.size-end.ensures)) (omega arith) (omega arith)
+    (omega (arith, c.requires, c.places_fit.ensures, c.size-end.ensures))
+    (c.write_blank.ensures.stopped honest (omega (arith, c.size-end.ensures))) (c.write_blank.ensures.last_four honest (omega (arith, c.size-end.ensures)))

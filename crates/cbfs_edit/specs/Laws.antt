@@ -1,0 +1,32 @@
+-- The laws that the edits rest on.
+use Rattle.std.specs.Prelude.{◌≡◌, ℕ, ◌%◌, ◌^◌, ◌<◌, All, Contains, List, length, Ok, Some, None}
+use Rattle.flash_format.specs.Cut.{cut}
+use Rattle.cbfs_edit.specs.Groups.{group_of, IsNot, IsGroupOf}
+use Rattle.cbfs_edit.specs.Removals.{last_four, removal_in}
+use Rattle.cbfs_edit.specs.Stops.{IsBlanked, IsStopped, SameCells}
+use Rattle.cbfs_edit.specs.Runs.{runs, IsRunOf}
+use Rattle.cbfs_edit.specs.declared.group.Freed.{Freed}
+
+-- once the first commit of a removal is done, the components are those of the finished one
+abbrev pub BlankedGroupsLackTheComponent : Type 0
+BlankedGroupsLackTheComponent = (x name : List ℕ) (group : Freed) (y : List ℕ) → length x < 2 ^ 32 → removal_in x name ≡ Ok group → IsBlanked x group y → last_four y ≡ last_four x → IsStopped x group y
+
+-- the group that a removal takes is the first component of the name, with all free cells that touch it
+abbrev pub GroupsAreExact : Type 0
+GroupsAreExact = (x name : List ℕ) (group : Freed) → group_of x name ≡ Some group → IsGroupOf name (cut x).cells group
+
+-- without a group no component has the name
+abbrev pub NoGroupNoComponent : Type 0
+NoGroupNoComponent = (x name : List ℕ) → group_of x name ≡ None → All (IsNot name) (cut x).cells
+
+-- between the commits of an edit that fills a run the components are those of before
+abbrev pub BlankedRunsKeepTheComponents : Type 0
+BlankedRunsKeepTheComponents = (x : List ℕ) (run : Freed) (y : List ℕ) → length x % 64 ≡ 0 → length x < 2 ^ 32 → Contains (runs x) run → IsBlanked x run y → SameCells y x
+
+-- each run is a maximal group of neighbouring free cells
+abbrev pub RunsAreMaximal : Type 0
+RunsAreMaximal = (x : List ℕ) (run : Freed) → Contains (runs x) run → IsRunOf 0 (cut x).cells run
+
+-- and each maximal group is a run
+abbrev pub MaximalRunsAreThere : Type 0
+MaximalRunsAreThere = (x : List ℕ) (run : Freed) → IsRunOf 0 (cut x).cells run → Contains (runs x) run

@@ -1,0 +1,39 @@
+-- What a removal leaves, and how it is refused.
+use Rattle.std.specs.Prelude.{ℕ, ◌-◌, List, length, drop, Option, Some, None, Result, Ok, Err, ◌==◌, if◌then◌else◌}
+use Rattle.flash_format.specs.Blanks.{blank}
+use Rattle.flash_format.specs.Cut.{End, complete, tail, damage, cut}
+use Rattle.flash_store.specs.Bytes.{overwritten}
+use Rattle.cbfs_walk.specs.Shapes.{shape, refused_or}
+use Rattle.cbfs_walk.specs.Shaped.{place_after}
+use Rattle.cbfs_edit.specs.Refusals.{refusal_of}
+use Rattle.cbfs_edit.specs.Groups.{group_of}
+use Rattle.cbfs_edit.specs.declared.fault.EditFault.{EditFault}
+use Rattle.cbfs_edit.specs.declared.fault.EditFault.TheVariants.{Damaged, NotFound}
+use Rattle.cbfs_edit.specs.declared.group.Freed.{Freed}
+
+abbrev pub last_four : List ℕ → List ℕ
+last_four x = drop (length x - 4) x
+
+-- the bytes that a cell keeps which ends here
+abbrev pub kept_at : List ℕ → ℕ → Option (List ℕ)
+kept_at x end = if end == length x then Some (last_four x) else None
+
+-- a region with one blank in place of a group
+abbrev pub removed : List ℕ → Freed → List ℕ
+removed x group = overwritten x group.start (blank (group.end - group.start) (kept_at x group.end))
+
+-- a damage that ends the cells comes first
+abbrev pub unless_damaged : ℕ → End → Result Freed EditFault → Result Freed EditFault
+unless_damaged at complete otherwise = otherwise
+unless_damaged at tail otherwise = otherwise
+unless_damaged at (damage kind) otherwise = Err (Damaged at kind)
+
+abbrev pub found : Option Freed → Result Freed EditFault
+found None = Err NotFound
+found (Some group) = Ok group
+
+-- the group that a removal takes, or its first refusal
+unfoldable pub removal_in : List ℕ → List ℕ → Result Freed EditFault
+removal_in x name =
+    refused_or (λ fault. Err (refusal_of fault)) (shape x)
+    (unless_damaged (place_after 0 (cut x).cells) (cut x).end (found (group_of x name)))

@@ -1,0 +1,63 @@
+//! One blank in place of a group of cells.
+ghost use Rattle.std.specs.Prelude.{◌≡◌, ◌⊎◌, ◌+◌, ◌-◌, ◌/◌, ◌%◌, ◌<◌, ◌≤◌, IsTrue, OnOk, OnErr, if◌then◌else◌};
+ghost use Rattle.flash_store.specs.Bytes.{SameOutside};
+ghost use Rattle.flash_store.specs.Device.{Calls};
+ghost use Rattle.flash_store.specs.Regions.{LiesIn, bytes_in};
+ghost use Rattle.cbfs_edit.specs.Groups.{IsCellRange};
+ghost use Rattle.cbfs_edit.specs.Removals.{last_four, removed};
+ghost use Rattle.cbfs_edit.specs.Stops.{IsBlanked};
+
+use crate::group::Freed;
+use crate::write::{commit_in, fill_in};
+use flash_format::{HEADER_LENGTH, empty_header};
+use flash_store::{Flash, FlashFault, Paged, Region};
+
+/// Puts one blank in place of a group. Its header is committed before anything else is written.
+pub fn write_blank<F: Flash>(
+    paged: &mut Paged<F>,
+    region: Region,
+    group: Freed,
+) -> Result<(), FlashFault>
+    requires region { LiesIn region (F.facts paged.old.device).content }
+    requires group { IsCellRange group region.size }
+
+    // On any device.
+    ensures calls { Calls (region.size / 4096 + 2) (F.facts paged.old.device) (F.facts paged.new.device) }
+    ensures cause { OnErr result ((F.facts paged.old.device).faults < (F.facts paged.new.device).faults) }
+
+    // On an honest device.
+    ensures outside { IsTrue (F.facts paged.old.device).honest →
+        SameOutside region.start region.size (F.facts paged.old.device).content (F.facts paged.new.device).content }
+    ensures removed { IsTrue (F.facts paged.old.device).honest → OnOk result
+        (bytes_in region (F.facts paged.new.device).content
+        ≡ removed (bytes_in region (F.facts paged.old.device).content) group) }
+    ensures stopped { IsTrue (F.facts paged.old.device).honest → region.size % 64 ≡ 0 →
+        (bytes_in region (F.facts paged.new.device).content
+        ≡ bytes_in region (F.facts paged.old.device).content)
+        ⊎ IsBlanked (bytes_in region (F.facts paged.old.device).content) group
+        (bytes_in region (F.facts paged.new.device).content) }
+    ensures last_four { IsTrue (F.facts paged.old.device).honest → region.size % 64 ≡ 0 →
+        last_four (bytes_in region (F.facts paged.new.device).content)
+        ≡ last_four (bytes_in region (F.facts paged.old.device).content) }
+{
+    paged.places_fit();
+    let kept = group.end == region.size();
+    let header = empty_header((group.end - group.start) as u32, kept);
+    commit_in(paged, region, group.start, &header)?;
+    let space = group.start + HEADER_LENGTH as u64;
+    fill_in(
+        paged,
+        region,
+        space,
+        space_end(group.end, kept) - space,
+        0xff,
+    )
+}
+
+/// Where the space that a blank describes ends.
+fn space_end(end: u64, kept: bool) -> u64
+    requires { 64 ≤ end }
+    ensures { result ≡ (if kept then end - 4 else end) }
+{
+    if kept { end - 4 } else { end }
+}

@@ -1,0 +1,34 @@
+//! Why an edit is refused.
+ghost use Rattle.std.specs.Prelude.{◌≡◌};
+ghost use Rattle.cbfs_edit.specs.Refusals.{refusal_of};
+
+use cbfs_walk::WalkFault;
+use flash_format::DamageKind;
+
+/// Why an edit is refused. The numbers are those of the refusals that the commands print. After `Device` the components
+/// are those of before or those of after; after any other refusal the device is as it was.
+#[derive(Clone, Copy, Debug, PartialEq, Eq)]
+pub enum EditFault {
+    /// The device refused a call (1).
+    Device,
+    /// The region's size is 0 or no multiple of 64 (7).
+    RegionShape,
+    /// No entry stands at the region's start (8).
+    NotCbfs,
+    /// The entry at this place, counted from the region's start, fails a check (9): the first that it fails.
+    Damaged { at: u64, kind: DamageKind },
+    /// No component has the name (10).
+    NotFound,
+}
+
+/// The same refusal of an edit.
+pub fn refusal_of(fault: WalkFault) -> EditFault
+    ensures { result ≡ refusal_of fault }
+{
+    match fault {
+        WalkFault::Device => EditFault::Device,
+        WalkFault::RegionShape => EditFault::RegionShape,
+        WalkFault::NotCbfs => EditFault::NotCbfs,
+        WalkFault::Damaged { at, kind } => EditFault::Damaged { at, kind },
+    }
+}

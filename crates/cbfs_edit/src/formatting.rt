@@ -1,0 +1,46 @@
+//! The formatting of a region.
+ghost use Rattle.std.specs.Prelude.{◌≡◌, ◌≢◌, ◌⊎◌, ◌+◌, ◌/◌, ◌<◌, IsTrue, IsErrOf, IfErr, OnOk};
+ghost use Rattle.flash_store.specs.Bytes.{SameOutside};
+ghost use Rattle.flash_store.specs.Device.{Calls};
+ghost use Rattle.flash_store.specs.Pages.{OnHonestIn};
+ghost use Rattle.flash_store.specs.Regions.{LiesIn, bytes_in};
+ghost use Rattle.cbfs_edit.specs.Formats.{format_of, formatted, IsFormatStop};
+
+use crate::blank::write_blank;
+use crate::fault::EditFault;
+use crate::group::Freed;
+use flash_store::{Flash, Paged, Region};
+
+/// Makes the whole region one empty entry, whatever it holds, damaged or no CBFS at all. Its last four bytes are kept.
+///
+/// It reads nothing. It is refused by the region's size, or by the device: then the region is as it was, or it is one
+/// empty entry already, whose bytes after the header may be anything.
+pub fn format<F: Flash>(paged: &mut Paged<F>, region: Region) -> Result<(), EditFault>
+    requires { LiesIn region (F.facts paged.old.device).content }
+
+    // On any device.
+    ensures calls { Calls (region.size / 4096 + 2) (F.facts paged.old.device) (F.facts paged.new.device) }
+    ensures cause { IsErrOf result EditFault.Device →
+        (F.facts paged.old.device).faults < (F.facts paged.new.device).faults }
+    ensures answer { IsErrOf result EditFault.Device ⊎ (result ≡ format_of region.size) }
+
+    // On an honest device.
+    ensures formatted { OnHonestIn F.facts paged.old.device region (λ x.
+        OnOk result (bytes_in region (F.facts paged.new.device).content ≡ formatted x)) }
+    ensures refused { IsTrue (F.facts paged.old.device).honest → IfErr result (λ fault. fault ≢ EditFault.Device →
+        (F.facts paged.new.device).content ≡ (F.facts paged.old.device).content) }
+    ensures stopped { OnHonestIn F.facts paged.old.device region (λ x. IsErrOf result EditFault.Device →
+        IsFormatStop x (bytes_in region (F.facts paged.new.device).content)) }
+    ensures outside { IsTrue (F.facts paged.old.device).honest →
+        SameOutside region.start region.size (F.facts paged.old.device).content (F.facts paged.new.device).content }
+{
+    paged.places_fit();
+    let end = region.size();
+    if end == 0 || end % 64 != 0 {
+        return Err(EditFault::RegionShape);
+    }
+    match write_blank(paged, region, Freed { start: 0, end }) {
+        Ok(()) => Ok(()),
+        Err(_) => Err(EditFault::Device),
+    }
+}

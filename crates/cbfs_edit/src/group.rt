@@ -1,0 +1,119 @@
+//! The search for the group of cells that a removal takes.
+ghost use Rattle.std.specs.Prelude.{◌≡◌, ◌⊎◌, ◌+◌, ◌/◌, ◌<◌, ◌≤◌, IfOk, IsErrOf};
+ghost use Rattle.flash_store.specs.Pages.{HasRead, HasAnswered, OnHonestIn};
+ghost use Rattle.flash_store.specs.Regions.{LiesIn};
+ghost use Rattle.cbfs_walk.specs.Cells.{IsCellIn, cell_in};
+ghost use Rattle.cbfs_walk.specs.Walks.{StandsIn};
+ghost use Rattle.cbfs_edit.specs.Groups.{IsCellRange};
+ghost use Rattle.cbfs_edit.specs.Searches.{passed, group_in, IsBefore};
+ghost use Rattle.cbfs_edit.specs.Removals.{removal_in};
+
+use crate::fault::{EditFault, refusal_of};
+use cbfs_walk::{Cell, Step, Walk, cells_stand_in_their_image, name_is};
+use flash_store::{Flash, FlashFault, Paged, Region};
+
+/// The bytes that a removal makes free space, in place of a component and the free space beside it: from `start` up to
+/// `end`, counted from the region's start, both multiples of 64.
+#[derive(Clone, Copy, Debug, PartialEq, Eq)]
+pub struct Freed {
+    pub start: u64,
+    pub end: u64,
+}
+
+/// How far the search has come.
+#[derive(Clone, Copy)]
+pub enum Search {
+    /// No component of the name yet. The free cells right before the walk's place begin here.
+    Looking { start: u64 },
+    /// The component with free cells on both sides, up to the walk's place.
+    Growing(Freed),
+    Whole(Freed),
+}
+
+/// The first component of the name with the free cells that touch it. The walk goes to the region's end, so that a
+/// damage anywhere refuses it.
+pub fn find_group<F: Flash>(
+    paged: &mut Paged<F>,
+    region: Region,
+    name: &[u8],
+) -> Result<Freed, EditFault>
+    requires { LiesIn region (F.facts paged.old.device).content }
+
+    // On any device.
+    ensures after { HasRead F.facts (region.size / 16 + 1) paged.old paged.new }
+    ensures cause { IsErrOf result EditFault.Device →
+        (F.facts paged.old.device).faults < (F.facts paged.new.device).faults }
+    ensures group { IfOk result (λ group. IsCellRange group region.size) }
+
+    // On an honest device.
+    ensures answer { OnHonestIn F.facts paged.old.device region (λ x.
+        IsErrOf result EditFault.Device ⊎ (result ≡ removal_in x name.now)) }
+{
+    let mut walk = Walk::new(region);
+    let mut search = Search::Looking { start: 0 };
+    loop {
+        match walk.next(paged) {
+            Ok(Step::Cell(cell)) => match pass(paged, region, &cell, name, search) {
+                Ok(next) => search = next,
+                Err(_) => return Err(EditFault::Device),
+            },
+            Ok(Step::Tail(_)) => return group_in(search),
+            Ok(Step::End) => return group_in(search),
+            Err(fault) => return Err(refusal_of(fault)),
+        }
+    }
+}
+
+/// The search after a cell.
+fn pass<F: Flash>(
+    paged: &mut Paged<F>,
+    region: Region,
+    cell: &Cell,
+    name: &[u8],
+    search: Search,
+) -> Result<Search, FlashFault>
+    requires region { LiesIn region (F.facts paged.old.device).content }
+    requires cell { IsCellIn region.size cell.now }
+    requires before { IsBefore cell.now.at search }
+
+    ensures after { HasAnswered F.facts 1 paged.old paged.new result }
+    ensures before { IfOk result (IsBefore (cell.now.at + cell.now.span)) }
+    ensures passed { OnHonestIn F.facts paged.old.device region (λ x. StandsIn x cell.now →
+        IfOk result (λ next. next ≡ passed name.now search cell.now.at (cell_in x cell.now))) }
+{
+    paged.places_fit();
+    cells_stand_in_their_image();
+    let end = cell.at + cell.span;
+    match search {
+        Search::Looking { start } => {
+            if cell.head.is_free() {
+                return Ok(Search::Looking { start });
+            }
+            if name_is(paged, region, cell, name)? {
+                return Ok(Search::Growing(Freed { start, end }));
+            }
+            Ok(Search::Looking { start: end })
+        }
+        Search::Growing(group) => {
+            if cell.head.is_free() {
+                return Ok(Search::Growing(Freed {
+                    start: group.start,
+                    end: group.end + cell.span,
+                }));
+            }
+            Ok(Search::Whole(group))
+        }
+        Search::Whole(group) => Ok(Search::Whole(group)),
+    }
+}
+
+/// What the search has found where the cells end.
+fn group_in(search: Search) -> Result<Freed, EditFault>
+    ensures { result ≡ group_in search }
+{
+    match search {
+        Search::Looking { .. } => Err(EditFault::NotFound),
+        Search::Growing(group) => Ok(group),
+        Search::Whole(group) => Ok(group),
+    }
+}

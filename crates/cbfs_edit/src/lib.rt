@@ -1,0 +1,22 @@
+//! Changes to CBFS regions on a device: components are removed and regions formatted.
+//!
+//! No call takes memory. A change writes the header of one empty entry first, whole or not at all, and fills the rest
+//! after it, so that a device that stops at any call leaves the components of before or those of after.
+#![tactic(auto)]
+
+mod blank;
+mod fault;
+mod formatting;
+mod group;
+mod laws;
+mod removal;
+mod write;
+
+pub use fault::EditFault;
+pub use formatting::format;
+pub use group::Freed;
+pub use laws::{
+    blanked_groups_lack_the_component, blanked_runs_keep_the_components, groups_are_exact,
+    runs_are_exact,
+};
+pub use removal::remove;

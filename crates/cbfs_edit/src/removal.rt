@@ -1,0 +1,61 @@
+//! The removal of a component.
+ghost use Rattle.std.specs.Prelude.{◌≡◌, ◌≢◌, ◌⊎◌, ◌+◌, ◌/◌, ◌<◌, IsTrue, IfOk, IfErr, IsErrOf};
+ghost use Rattle.flash_store.specs.Bytes.{overwritten, SameOutside};
+ghost use Rattle.flash_store.specs.Device.{Calls};
+ghost use Rattle.flash_store.specs.Pages.{OnHonestIn};
+ghost use Rattle.flash_store.specs.Regions.{LiesIn, bytes_in};
+ghost use Rattle.cbfs_edit.specs.Removals.{removed, removal_in};
+ghost use Rattle.cbfs_edit.specs.Stops.{LeavesWhole};
+ghost use Rattle.cbfs_edit.specs.Steps.{state_of, RemovalStep};
+
+use crate::blank::write_blank;
+use crate::fault::EditFault;
+use crate::group::{Freed, find_group};
+use flash_store::{Flash, Paged, Region};
+
+/// Puts one empty entry in place of the first component of the name and of all free space that touches it, and answers
+/// from where to where it reaches. Other components of the name stay. The last four bytes of the region are kept, and so
+/// is all after the last entry.
+///
+/// It goes through all entries before it writes, so a damaged one anywhere refuses it. The refusals come in this order:
+/// the region's size, no entry at its start, the first damaged entry, no component of the name; a fault of the device
+/// comes whenever the device refuses a call. Only that fault may leave a change: either nothing is written, or the
+/// component is gone with its free space, as after a whole removal, and the bytes of the empty entry after its header
+/// may be anything. Then the same call answers `NotFound`, or takes the next component of the name.
+pub fn remove<F: Flash>(
+    paged: &mut Paged<F>,
+    region: Region,
+    name: &[u8],
+) -> Result<Freed, EditFault>
+    requires { LiesIn region (F.facts paged.old.device).content }
+
+    // On any device.
+    ensures calls { Calls (region.size / 16 + region.size / 4096 + 3) (F.facts paged.old.device)
+        (F.facts paged.new.device) }
+    ensures cause { IsErrOf result EditFault.Device →
+        (F.facts paged.old.device).faults < (F.facts paged.new.device).faults }
+
+    // On an honest device.
+    ensures answer { OnHonestIn F.facts paged.old.device region (λ x.
+        IsErrOf result EditFault.Device ⊎ (result ≡ removal_in x name.now)) }
+    ensures removed { OnHonestIn F.facts paged.old.device region (λ x. IfOk result (λ group.
+        bytes_in region (F.facts paged.new.device).content ≡ removed x group)) }
+    ensures image { OnHonestIn F.facts paged.old.device region (λ x. IfOk result (λ group.
+        (F.facts paged.new.device).content
+        ≡ overwritten (F.facts paged.old.device).content region.start (removed x group))) }
+    ensures refused { IsTrue (F.facts paged.old.device).honest → IfErr result (λ fault. fault ≢ EditFault.Device →
+        (F.facts paged.new.device).content ≡ (F.facts paged.old.device).content) }
+    ensures stopped { OnHonestIn F.facts paged.old.device region (λ x. IsErrOf result EditFault.Device →
+        LeavesWhole x name.now (bytes_in region (F.facts paged.new.device).content)) }
+    ensures outside { IsTrue (F.facts paged.old.device).honest →
+        SameOutside region.start region.size (F.facts paged.old.device).content (F.facts paged.new.device).content }
+    ensures step { IsTrue (F.facts paged.old.device).honest → RemovalStep name.now
+        (state_of region (F.facts paged.old.device)) result (state_of region (F.facts paged.new.device)) }
+{
+    paged.places_fit();
+    let group = find_group(paged, region, name)?;
+    match write_blank(paged, region, group) {
+        Ok(()) => Ok(group),
+        Err(_) => Err(EditFault::Device),
+    }
+}

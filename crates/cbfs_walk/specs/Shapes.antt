@@ -1,0 +1,30 @@
+-- The shape that a region must have before a walk gives any cell of it.
+use Rattle.std.specs.Prelude.{ℕ, Bool, true, false, not, ◌||◌, ◌&&◌, ◌%◌, List, length, Option, Some, None, ◌==◌, if◌then◌else◌}
+use Rattle.flash_format.specs.Entry.{Entry, absent, damaged, cell, entry}
+use Rattle.cbfs_walk.specs.declared.walk.WalkFault.{WalkFault}
+use Rattle.cbfs_walk.specs.declared.walk.WalkFault.TheVariants as faults
+
+abbrev pub has_bad_size : ℕ → Bool
+has_bad_size size = size == 0 || not (size % 64 == 0)
+
+abbrev pub is_absent : Entry → Bool
+is_absent absent = true
+is_absent (damaged kind) = false
+is_absent (cell span) = false
+
+-- why a walk that stands at a place of a region of these bytes gives no cell: the region's size is bad, or the place is
+-- the region's start and no entry stands there
+abbrev pub shape_at : List ℕ → ℕ → Option WalkFault
+shape_at x at =
+    if has_bad_size (length x) then Some faults.RegionShape
+    else if at == 0 && is_absent (entry x) then Some faults.NotCbfs
+    else None
+
+-- the same of a whole region, at its start
+abbrev pub shape : List ℕ → Option WalkFault
+shape x = shape_at x 0
+
+-- what a fault is answered, or else the answer without one
+abbrev pub refused_or : {A : Type 0} → (WalkFault → A) → Option WalkFault → A → A
+refused_or refuse None otherwise = otherwise
+refused_or refuse (Some fault) otherwise = refuse fault

@@ -1,0 +1,5 @@
+use Rattle.std.proofs.Common.{rules}
+use Rattle.cbfstool.proofs.line.Line.command.Goals as goal
+
+pub returns-in-read : goal.returns-in-read
+returns-in-read c = search rules depth 1

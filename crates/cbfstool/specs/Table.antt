@@ -1,0 +1,24 @@
+-- What clap's command is with the options and the subcommands of a table.
+use Rattle.std.specs.Prelude.{ℕ, List, [], ◌∷◌}
+use Rattle.std.specs.Borrow.{Bor}
+use Rattle.clap.specs.Words.{App, Rule, new_app, with_rule, with_subcommand}
+use Rattle.cbfstool.specs.CommandLine.{option_of}
+use Rattle.cbfstool.specs.declared.words.TextOption.{TextOption}
+
+abbrev pub rule_by : TextOption → Rule
+rule_by o = option_of o.id.now o.letter o.required
+
+abbrev pub with_options : App → List TextOption → App
+with_options a [] = a
+with_options a (o ∷ os) = with_options (with_rule a (rule_by o)) os
+
+-- a subcommand's name and its options
+abbrev pub TableRow : Type 0
+TableRow = Bor (List ℕ) × Bor (List TextOption)
+
+abbrev pub with_row : App → TableRow → App
+with_row a row = with_subcommand a (with_options (new_app row.0.now) row.1.now).top
+
+abbrev pub with_rows : App → List TableRow → App
+with_rows a [] = a
+with_rows a (row ∷ rows) = with_rows (with_row a row) rows

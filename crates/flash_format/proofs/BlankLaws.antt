@@ -1,0 +1,80 @@
+-- A blank's header in front of anything is a free cell.
+use Rattle.std.proofs.Common.{◌≡◌, ℕ, ◌+◌, ◌-◌, ◌%◌, ◌^◌, ◌<◌, ◌≤◌, Bool, true, false, cond, List, ◌++◌, length, replicate, Some, None, Result, Ok, refl, sym, ap, ◌∙◌, arith, append_assoc, length-append, lit<}
+use Rattle.std.proofs.lemmas.Bool.{le-ltb}
+use Rattle.std.proofs.lemmas.List.{take_at}
+use Rattle.flash_format.specs.declared.head.Head.{Head}
+use Rattle.flash_format.specs.declared.head.Extent.{Extent}
+use Rattle.flash_format.specs.declared.head.DamageKind.{DamageKind}
+use Rattle.flash_format.specs.Head.{header_length, head_of, head_at, head_bytes, has_magic, is_free, checked, round64}
+use Rattle.flash_format.specs.Blanks.{blank_header}
+use Rattle.flash_format.specs.Entry.{cell, entry, present}
+use Rattle.flash_format.proofs.Fronts.{head_at-take}
+use Rattle.flash_format.proofs.EntryLaws.{from_head}
+use Rattle.flash_format.proofs.Writing.{head_is_read_back}
+
+pub length-head_bytes : (h : Head) → length (head_bytes h) ≡ 24
+unfolding head_bytes
+length-head_bytes h = refl
+
+-- a head in front of anything is read back
+head_in_front : (h : Head) (more : List ℕ) → h.len < 256 ^ 4 → h.kind < 256 ^ 4 → h.attributes_offset < 256 ^ 4 → h.offset < 256 ^ 4 → head_at (head_bytes h ++ more) ≡ Some h
+head_in_front h more len_fits kind_fits attributes_fit offset_fits =
+    sym (head_at-take (head_bytes h ++ more) 24 (omega arith))
+    ∙ ap (λ (l : List ℕ). head_at l) (take_at (head_bytes h) more 24 (length-head_bytes h))
+    ∙ head_is_read_back (head_bytes h) h refl len_fits kind_fits attributes_fit offset_fits
+
+head_is : (x : List ℕ) (h : Head) → head_at x ≡ Some h → head_of x ≡ h
+head_is x h e = go (has_magic x) e
+  where
+    go : (b : Bool) → cond b (Some (head_of x)) None ≡ Some h → head_of x ≡ h
+    go true p = cc
+    go false p = absurd cc
+
+-- what is checked of free space that fills its cell
+free_checked : (h : Head) (left : ℕ) → is_free h ≡ true → 24 ≤ h.offset → h.offset + h.len ≤ left → checked h left ≡ Ok (record { content = h.offset; span = round64 (h.offset + h.len) })
+unfolding checked
+free_checked h left free offset fits = rw (free, le-ltb h.offset 24 offset, le-ltb left (h.offset + h.len) fits) refl
+
+free_present : (h : Head) (x : List ℕ) (e : Extent) → is_free h ≡ true → present h x (Ok e) ≡ cell e.span
+free_present h x e free = rw free refl
+
+-- a head of free space that fills so many bytes
+free_entry : (h : Head) (more : List ℕ) (size : ℕ) → is_free h ≡ true → 24 ≤ h.offset → h.offset + h.len ≤ size → size < h.offset + h.len + 64 → size % 64 ≡ 0 → size < 2 ^ 32
+    → h.kind < 256 ^ 4 → h.attributes_offset < 256 ^ 4 → 24 + length more ≡ size
+    → (entry (head_bytes h ++ more) ≡ cell size) × (is_free (head_of (head_bytes h ++ more)) ≡ true)
+free_entry h more size free offset fits full whole small kind_fits attributes_fit long =
+    let x : List ℕ = head_bytes h ++ more in
+    let len : length x ≡ size = omega (arith, length-append (head_bytes h) more, length-head_bytes h) in
+    let head : head_at x ≡ Some h = head_in_front h more (omega arith) kind_fits attributes_fit (omega arith) in
+    let e : Extent = record { content = h.offset; span = round64 (h.offset + h.len) } in
+    let span : round64 (h.offset + h.len) ≡ size = omega arith in (
+      from_head x h (omega arith) head
+          ∙ ap (λ (r : Result Extent DamageKind). present h x r) (free_checked h (length x) free offset (omega arith))
+          ∙ free_present h x e free
+          ∙ ap (λ (n : ℕ). cell n) span,
+      ap (λ (k : Head). is_free k) (head_is x h head) ∙ free,
+    )
+
+pub blank_header-cell : (size : ℕ) (kept : Bool) (more : List ℕ) → 64 ≤ size → size % 64 ≡ 0 → size < 2 ^ 32 → header_length + length more ≡ size
+    → (entry (blank_header size kept ++ more) ≡ cell size) × (is_free (head_of (blank_header size kept ++ more)) ≡ true)
+unfolding blank_header
+blank_header-cell size kept more some whole small long = by_kept kept
+  where
+    at_most : (n : ℕ) → n ≤ 4 → let h : Head = record { len = size - header_length - n; kind = 0xffffffff; attributes_offset = 0; offset = header_length } in
+        let x : List ℕ = head_bytes h ++ replicate (header_length - 24) 0 ++ more in
+        (entry x ≡ cell size) × (is_free (head_of x) ≡ true)
+    at_most n few =
+        let h : Head = record { len = size - header_length - n; kind = 0xffffffff; attributes_offset = 0; offset = header_length } in
+        let done = free_entry h (replicate (header_length - 24) 0 ++ more) size refl (omega arith) (omega arith) (omega arith) whole small (lit< tt) (lit< tt) (omega arith) in
+        let same : head_bytes h ++ replicate (header_length - 24) 0 ++ more ≡ head_bytes h ++ (replicate (header_length - 24) 0 ++ more) = append_assoc (head_bytes h) (replicate (header_length - 24) 0) more in
+        (ap (λ (l : List ℕ). entry l) same ∙ done.0, ap (λ (l : List ℕ). is_free (head_of l)) same ∙ done.1)
+
+    by_kept : (b : Bool) → let h : Head = record { len = size - header_length - cond b 4 0; kind = 0xffffffff; attributes_offset = 0; offset = header_length } in
+        let x : List ℕ = head_bytes h ++ replicate (header_length - 24) 0 ++ more in
+        (entry x ≡ cell size) × (is_free (head_of x) ≡ true)
+    by_kept true = at_most 4 (omega arith)
+    by_kept false = at_most 0 (omega arith)
+
+pub length-blank_header : (size : ℕ) (kept : Bool) → length (blank_header size kept) ≡ header_length
+unfolding blank_header head_bytes
+length-blank_header size kept = refl

@@ -1,0 +1,73 @@
+-- Lists of cells that follow each other: their cut, their components and their places.
+use Rattle.std.proofs.Common.{◌≡◌, ℕ, ◌+◌, ◌≤◌, Bool, true, false, cond, List, [], ◌∷◌, ◌++◌, length, take, drop, sym, ◌∙◌, ap, refl, arith, All, append_assoc, length-append, take-append-drop}
+use Rattle.std.specs.List.{concat, sum_by}
+use Rattle.std.proofs.lemmas.List.{length-take-le}
+use Rattle.std.proofs.lemmas.List.Concat.{concat_is, length-flat_map}
+use Rattle.std.proofs.lemmas.List.Elements.{All-head, All-tail}
+use Rattle.flash_format.specs.Head.{head_of, is_free}
+use Rattle.flash_format.specs.Cut.{Cut, cut, after, after_all, IsCell}
+use Rattle.flash_format.specs.Components.{Component, component_at, components_from, components, moved}
+use Rattle.flash_format.proofs.CutLaws.{cut_before}
+
+-- cells before anything
+pub cut_joined : (cells : List (List ℕ)) (rest : List ℕ) → All IsCell cells → cut (concat cells ++ rest) ≡ after_all cells (cut rest)
+cut_joined [] rest each = refl
+cut_joined (c ∷ cells) rest each =
+    ap (λ (l : List ℕ). cut l) (append_assoc c (concat cells) rest)
+    ∙ cut_before c (concat cells ++ rest) (All-head IsCell c cells each)
+    ∙ ap (λ (l : Cut). after c l) (cut_joined cells rest (All-tail IsCell c cells each))
+
+-- a list whose first bytes are these cells
+in_parts : (x : List ℕ) (at : ℕ) (cells : List (List ℕ)) → take at x ≡ concat cells → x ≡ concat cells ++ drop at x
+in_parts x at cells e = sym (take-append-drop at x) ∙ ap (λ (l : List ℕ). l ++ drop at x) e
+
+pub cut_goes_on : (x : List ℕ) (at : ℕ) (cells : List (List ℕ)) → All IsCell cells → take at x ≡ concat cells → cut x ≡ after_all cells (cut (drop at x))
+cut_goes_on x at cells each e = ap (λ (l : List ℕ). cut l) (in_parts x at cells e) ∙ cut_joined cells (drop at x) each
+
+-- how far cells reach
+joined_length : (x : List ℕ) (at : ℕ) (cells : List (List ℕ)) → take at x ≡ concat cells → at ≤ length x → length (concat cells) ≡ at
+joined_length x at cells e inside = sym (ap length e) ∙ length-take-le at x inside
+
+pub places_are_sums : (x : List ℕ) (at : ℕ) (cells : List (List ℕ)) → take at x ≡ concat cells → at ≤ length x → at ≡ sum_by length cells
+places_are_sums x at cells e inside =
+    sym (joined_length x at cells e inside) ∙ ap length (concat_is cells) ∙ length-flat_map (λ c. c) cells
+
+one_more : (b : Bool) (c : Component) (later other : List Component) → cond b later (c ∷ later) ++ other ≡ cond b (later ++ other) (c ∷ (later ++ other))
+one_more true c later other = refl
+one_more false c later other = refl
+
+pub components-append : (at : ℕ) (a b : List (List ℕ)) → components_from at (a ++ b) ≡ components_from at a ++ components_from (at + length (concat a)) b
+unfolding components_from
+components-append at [] b = ap (λ n. components_from n b) (omega arith)
+components-append at (c ∷ a) b =
+    let here : Component = component_at at c in
+    let later : List Component = components_from (at + length c) a in
+    let other : List Component = components_from (at + length (concat (c ∷ a))) b in
+    let place : (at + length c) + length (concat a) ≡ at + length (concat (c ∷ a)) = omega (arith, length-append c (concat a)) in
+    let step : components_from (at + length c) (a ++ b) ≡ later ++ other =
+    components-append (at + length c) a b ∙ ap (λ n. later ++ components_from n b) place in
+    ap (λ (l : List Component). cond (is_free (head_of c)) l (here ∷ l)) step ∙ sym (one_more (is_free (head_of c)) here later other)
+
+move_one : (b : Bool) (n : ℕ) (c : Component) (later : List Component) → cond b (moved n later) (record c { at = n + c.at } ∷ moved n later) ≡ moved n (cond b later (c ∷ later))
+move_one true n c later = refl
+move_one false n c later = refl
+
+-- the same cells further on
+pub components-moved : (n at : ℕ) (cells : List (List ℕ)) → components_from (n + at) cells ≡ moved n (components_from at cells)
+unfolding components_from
+components-moved n at [] = refl
+components-moved n at (c ∷ cells) =
+    let here : Component = component_at (n + at) c in
+    let place : (n + at) + length c ≡ n + (at + length c) = omega arith in
+    let step : components_from ((n + at) + length c) cells ≡ moved n (components_from (at + length c) cells) =
+    ap (λ k. components_from k cells) place ∙ components-moved n (at + length c) cells in
+    ap (λ (l : List Component). cond (is_free (head_of c)) l (here ∷ l)) step ∙ move_one (is_free (head_of c)) n (component_at at c) (components_from (at + length c) cells)
+
+pub components_go_on : (x : List ℕ) (at : ℕ) (cells : List (List ℕ)) → All IsCell cells → take at x ≡ concat cells → at ≤ length x → components x ≡ components_from 0 cells ++ moved at (components (drop at x))
+components_go_on x at cells each e inside =
+    let others : List (List ℕ) = (cut (drop at x)).cells in
+    let place : 0 + length (concat cells) ≡ at + 0 = omega (arith, joined_length x at cells e inside) in
+    ap (λ (c : Cut). components_from 0 c.cells) (cut_goes_on x at cells each e)
+    ∙ components-append 0 cells others
+    ∙ ap (λ k. components_from 0 cells ++ components_from k others) place
+    ∙ ap (λ (l : List Component). components_from 0 cells ++ l) (components-moved at 0 others)

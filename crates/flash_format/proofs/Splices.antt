@@ -1,0 +1,154 @@
+-- The cells and components of a region when a group of its cells is replaced.
+use Rattle.std.proofs.Common.{◌≡◌, ℕ, ◌+◌, ◌-◌, ◌%◌, ◌^◌, ◌<◌, Bool, true, cond, List, [], ◌∷◌, ◌++◌, length, take, drop, sym, ◌∙◌, ap, refl, arith, All, append_assoc, length-append}
+use Rattle.std.specs.List.{concat}
+use Rattle.std.proofs.lemmas.List.{take_at, drop_at, append-nil}
+use Rattle.std.proofs.lemmas.List.Elements.{All-nil, All-cons, All-head, All-tail, All-append}
+use Rattle.flash_format.specs.Head.{header_length, head_of, is_free}
+use Rattle.flash_format.specs.Blanks.{blank_header}
+use Rattle.flash_format.specs.Cut.{Cut, cut, IsCell, IsCut}
+use Rattle.flash_format.specs.Components.{Component, component_at, components_from, components}
+use Rattle.flash_format.specs.Splices.{CellsBetween, spliced}
+use Rattle.flash_format.specs.Laws.{BlanksHaveNoComponent}
+use Rattle.flash_format.proofs.CutSteps.{cell_span}
+use Rattle.flash_format.proofs.CutLaws.{cut_unique}
+use Rattle.flash_format.proofs.CellLists.{components-append}
+use Rattle.flash_format.proofs.BlankLaws.{blank_header-cell, length-blank_header}
+
+pub concat-append : (a b : List (List ℕ)) → concat (a ++ b) ≡ concat a ++ concat b
+concat-append [] b = refl
+concat-append (c ∷ a) b = ap (λ (l : List ℕ). c ++ l) (concat-append a b) ∙ sym (append_assoc c (concat a) (concat b))
+
+abbrev pub AllFree : List (List ℕ) → Type 0
+AllFree cs = All (λ c. is_free (head_of c) ≡ true) cs
+
+pub All-left : (P : List ℕ → Type 0) (a b : List (List ℕ)) → All P (a ++ b) → All P a
+All-left P [] b each = All-nil P
+All-left P (c ∷ a) b each = All-cons P c a (All-head P c (a ++ b) each) (All-left P a b (All-tail P c (a ++ b) each))
+
+pub All-right : (P : List ℕ → Type 0) (a b : List (List ℕ)) → All P (a ++ b) → All P b
+All-right P [] b each = each
+All-right P (c ∷ a) b each = All-right P a b (All-tail P c (a ++ b) each)
+
+-- cells have whole multiples of 64 bytes
+pub length-concat-cells : (cs : List (List ℕ)) → All IsCell cs → length (concat cs) % 64 ≡ 0
+length-concat-cells [] each = refl
+length-concat-cells (c ∷ cs) each =
+    let s = cell_span c (length c) (All-head IsCell c cs each) in
+    omega (arith, s.whole, length-append c (concat cs), length-concat-cells cs (All-tail IsCell c cs each))
+
+concat-three : (a b c : List (List ℕ)) (rest : List ℕ) → concat (a ++ b ++ c) ++ rest ≡ concat a ++ (concat b ++ (concat c ++ rest))
+concat-three a b c rest = simp (concat-append, append_assoc)
+
+-- free cells have no component
+pub components-free : (at : ℕ) (cs : List (List ℕ)) → AllFree cs → components_from at cs ≡ []
+unfolding components_from
+components-free at [] free = refl
+components-free at (c ∷ cs) free =
+    ap (λ b. cond b (components_from (at + length c) cs) (component_at at c ∷ components_from (at + length c) cs)) (All-head (λ x. is_free (head_of x) ≡ true) c cs free)
+    ∙ components-free (at + length c) cs (All-tail (λ x. is_free (head_of x) ≡ true) c cs free)
+
+-- the components around a group and in it
+components-three : (a b c : List (List ℕ)) → components_from 0 (a ++ b ++ c) ≡ components_from 0 a ++ components_from (length (concat a)) b ++ components_from (length (concat a) + length (concat b)) c
+components-three a b c =
+    let at_b : 0 + length (concat a) ≡ length (concat a) = omega arith in
+    let at_c : 0 + length (concat (a ++ b)) ≡ length (concat a) + length (concat b) =
+    omega (arith, ap length (concat-append a b), length-append (concat a) (concat b)) in
+    components-append 0 (a ++ b) c
+    ∙ ap (λ (l : List Component). l ++ components_from (0 + length (concat (a ++ b))) c) (components-append 0 a b ∙ ap (λ n. components_from 0 a ++ components_from n b) at_b)
+    ∙ ap (λ n. components_from 0 a ++ components_from (length (concat a)) b ++ components_from n c) at_c
+
+module _ (x : List ℕ) (start end : ℕ) (g : CellsBetween x start end) where
+  pub group-whole : x ≡ concat g.before ++ (concat g.group ++ (concat g.after ++ g.rest))
+  group-whole = g.is.whole ∙ concat-three g.before g.group g.after g.rest
+
+  group-prefix : take start x ≡ concat g.before
+  group-prefix = ap (λ (l : List ℕ). take start l) group-whole ∙ take_at (concat g.before) _ start g.start_is
+
+  group-later : drop end x ≡ concat g.after ++ g.rest
+  group-later =
+      ap (λ (l : List ℕ). drop end l) (group-whole ∙ sym (append_assoc (concat g.before) (concat g.group) (concat g.after ++ g.rest)))
+      ∙ drop_at (concat g.before ++ concat g.group) (concat g.after ++ g.rest) end (omega (arith, length-append (concat g.before) (concat g.group), g.start_is, g.end_is))
+
+  pub cells-before : All IsCell g.before
+  cells-before = All-left IsCell g.before g.group (All-left IsCell (g.before ++ g.group) g.after g.is.each)
+
+  pub cells-group : All IsCell g.group
+  cells-group = All-right IsCell g.before g.group (All-left IsCell (g.before ++ g.group) g.after g.is.each)
+
+  -- the cut with other cells of as many bytes in the group's place
+  pub splice-cut : (new : List (List ℕ)) → All IsCell new → start + length (concat new) ≡ end → IsCut (spliced x start end (concat new)) (g.before ++ new ++ g.after) g.rest g.ending
+  splice-cut new each size = record {
+    whole =
+        ap (λ (l : List ℕ). l ++ (concat new ++ drop end x)) group-prefix
+        ∙ ap (λ (l : List ℕ). concat g.before ++ (concat new ++ l)) group-later
+        ∙ sym (concat-three g.before new g.after g.rest);
+    each =
+        All-append IsCell (g.before ++ new) g.after
+        (All-append IsCell g.before new cells-before each)
+        (All-right IsCell (g.before ++ g.group) g.after g.is.each);
+    last = g.is.last;
+  }
+
+  splice-is : (new : List (List ℕ)) → All IsCell new → start + length (concat new) ≡ end → cut (spliced x start end (concat new)) ≡ record { cells = g.before ++ new ++ g.after; end = g.ending }
+  splice-is new each size = cut_unique _ (g.before ++ new ++ g.after) g.rest g.ending (splice-cut new each size)
+
+  -- the components with other cells in the group's place
+  pub splice-components : (new : List (List ℕ)) → All IsCell new → start + length (concat new) ≡ end
+      → components (spliced x start end (concat new)) ≡ components_from 0 g.before ++ components_from start new ++ components_from end g.after
+  splice-components new each size =
+      ap (λ (c : Cut). components_from 0 c.cells) (splice-is new each size)
+      ∙ components-three g.before new g.after
+      ∙ ap (λ n. components_from 0 g.before ++ components_from n new ++ components_from (n + length (concat new)) g.after) g.start_is
+      ∙ ap (λ n. components_from 0 g.before ++ components_from start new ++ components_from n g.after) size
+
+  pub group-components : components x ≡ components_from 0 g.before ++ components_from start g.group ++ components_from end g.after
+  group-components =
+      ap (λ (c : Cut). components_from 0 c.cells) (cut_unique x (g.before ++ g.group ++ g.after) g.rest g.ending g.is)
+      ∙ components-three g.before g.group g.after
+      ∙ ap (λ n. components_from 0 g.before ++ components_from n g.group ++ components_from (n + length (concat g.group)) g.after) g.start_is
+      ∙ ap (λ n. components_from 0 g.before ++ components_from start g.group ++ components_from n g.after) g.end_is
+
+  pub splice-end : (new : List (List ℕ)) → All IsCell new → start + length (concat new) ≡ end → (cut (spliced x start end (concat new))).end ≡ (cut x).end
+  splice-end new each size =
+      ap (λ (c : Cut). c.end) (splice-is new each size)
+      ∙ sym (ap (λ (c : Cut). c.end) (cut_unique x (g.before ++ g.group ++ g.after) g.rest g.ending g.is))
+
+  -- ---- a blank's header in the group's place, with anything after it
+
+  module _ (kept : Bool) (more : List ℕ) (some : start < end) (small : end - start < 2 ^ 32) (room : start + header_length + length more ≡ end) where
+    abbrev blank_cell : List ℕ
+    blank_cell = blank_header (end - start) kept ++ more
+
+    blank-length : length blank_cell ≡ end - start
+    blank-length = omega (arith, length-append (blank_header (end - start) kept) more, length-blank_header (end - start) kept, room)
+
+    blank-cell : IsCell blank_cell × (is_free (head_of blank_cell) ≡ true)
+    blank-cell =
+        let whole : (end - start) % 64 ≡ 0 = omega (arith, length-concat-cells g.group cells-group, g.end_is) in
+        let made = blank_header-cell (end - start) kept more (omega (arith, whole, some)) whole small (omega (arith, room)) in
+        (rw blank-length made.0, made.1)
+
+    blank-each : All IsCell (blank_cell ∷ [])
+    blank-each = All-cons IsCell blank_cell [] blank-cell.0 (All-nil IsCell)
+
+    blank-free : AllFree (blank_cell ∷ [])
+    blank-free = All-cons (λ c. is_free (head_of c) ≡ true) blank_cell [] blank-cell.1 (All-nil (λ c. is_free (head_of c) ≡ true))
+
+    blank-size : start + length (concat (blank_cell ∷ [])) ≡ end
+    blank-size = omega (arith, blank-length, ap length (append-nil blank_cell), some)
+
+    blank-as-cells : spliced x start end blank_cell ≡ spliced x start end (concat (blank_cell ∷ []))
+    blank-as-cells = ap (λ (l : List ℕ). spliced x start end l) (sym (append-nil blank_cell))
+
+    pub blanked-components : components (spliced x start end blank_cell) ≡ components_from 0 g.before ++ components_from end g.after
+    blanked-components =
+        ap (λ (l : List ℕ). components l) blank-as-cells
+        ∙ splice-components (blank_cell ∷ []) blank-each blank-size
+        ∙ ap (λ (l : List Component). components_from 0 g.before ++ l ++ components_from end g.after) (components-free start (blank_cell ∷ []) blank-free)
+        ∙ ap (λ (l : List Component). l ++ components_from end g.after) (append-nil (components_from 0 g.before))
+
+    pub blanked-end : (cut (spliced x start end blank_cell)).end ≡ (cut x).end
+    blanked-end = ap (λ (l : List ℕ). (cut l).end) blank-as-cells ∙ splice-end (blank_cell ∷ []) blank-each blank-size
+
+pub blanks_have_none : BlanksHaveNoComponent
+blanks_have_none x start end g kept more some small room = blanked-components x start end g kept more some small room

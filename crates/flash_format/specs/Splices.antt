@@ -1,0 +1,19 @@
+-- Neighbouring cells of a region, and others in their place.
+use Rattle.std.specs.List.{concat}
+use Rattle.std.specs.Prelude.{◌≡◌, ℕ, ◌+◌, List, ◌++◌, length, take, drop}
+use Rattle.flash_format.specs.Cut.{End, IsCut}
+
+-- a group of neighbouring cells of a region, from start up to end, between the others
+pub record CellsBetween (x : List ℕ) (start end : ℕ) : Type 0 where
+  pub before : List (List ℕ)
+  pub group : List (List ℕ)
+  pub after : List (List ℕ)
+  pub rest : List ℕ
+  pub ending : End
+  pub is : IsCut x (before ++ group ++ after) rest ending
+  pub start_is : length (concat before) ≡ start
+  pub end_is : start + length (concat group) ≡ end
+
+-- the bytes with others in place of those from start up to end
+abbrev pub spliced : List ℕ → ℕ → ℕ → List ℕ → List ℕ
+spliced x start end new = take start x ++ (new ++ drop end x)

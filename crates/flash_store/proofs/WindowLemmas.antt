@@ -1,0 +1,228 @@
+-- Reads through the window: what they leave, one after the other, and how many calls they make. For every crate that
+-- reads a device.
+use Rattle.std.proofs.Common.{◌≡◌, ◌∙◌, ℕ, ◌+◌, ◌-◌, ◌*◌, ◌/◌, ◌≤◌, IsTrue, List, length, take, drop, min, refl, sym, ap, subst, arith, le_refl, ⊎_elim}
+use Rattle.std.proofs.Common.{length-take}
+use Rattle.std.specs.Prelude.{slice_range, Result, Ok, Err, IsOk}
+use Rattle.std.proofs.lemmas.Bool.{cases_lt}
+use Rattle.std.proofs.lemmas.List.{drop-drop, drop-take, take-take}
+use Rattle.std.proofs.Math.Seq.{take-length}
+use Rattle.flash_store.specs.Device.{Device}
+use Rattle.flash_store.specs.Pages.{Held, Nothing, Window, Piece, Pages, IsTrueTo, Covers, HasNoPiece, without_piece, held_in, HasRead, HasSeen}
+use Rattle.flash_store.specs.Scans.{HasSpent, HasScanned, ScansTo, SpendsTo}
+use Rattle.flash_store.specs.declared.paged.Buffered.{Buffered}
+use Rattle.flash_store.specs.declared.paged.Buffered.TheVariants as code
+use Rattle.flash_store.proofs.BytesLemmas.{slice_range_is}
+use Rattle.flash_store.proofs.DeviceLemmas.{Reads-none, Reads-then, Reads-within}
+
+-- a part is decided by a prefix that holds it
+front_decides : (xs ys : List ℕ) (start n len : ℕ) → start + n ≤ len → take len xs ≡ take len ys → take n (drop start xs) ≡ take n (drop start ys)
+front_decides xs ys start n len within same =
+    let short = λ (zs : List ℕ). take-take (start + n) len zs within in
+    sym (drop-take start n xs) ∙ ap (drop start) (sym (short xs) ∙ ap (take (start + n)) same ∙ short ys) ∙ drop-take start n ys
+
+-- what lies in a window of the content is the content's
+pub part_of_window : (buffer content : List ℕ) (from len at n : ℕ) → take len buffer ≡ slice_range content from (from + len) → from ≤ at → at + n ≤ from + len → slice_range buffer (at - from) (at - from + n) ≡ slice_range content at (at + n)
+part_of_window buffer content from len at n same above within =
+    let there : from + (at - from) ≡ at = omega (arith, above) in
+    slice_range_is buffer (at - from) n
+    ∙ front_decides buffer (drop from content) (at - from) n len (omega (arith, above, within)) (same ∙ slice_range_is content from len)
+    ∙ ap (take n) (drop-drop (at - from) from content) ∙ ap (λ k. take n (drop k content)) there ∙ sym (slice_range_is content at n)
+
+-- the window begins there, where one is held
+abbrev pub Starts : Buffered → ℕ → Type 0
+Starts code.Nothing from = Unit {0}
+Starts (code.Window at size) from = from ≡ at
+Starts (code.Piece size) from = Unit {0}
+
+-- a part of a buffer whose window covers it
+pub part_read : (device : Device) (buffer : List ℕ) (held : Buffered) (from at n : ℕ) → IsTrueTo device (held_in buffer held) → Covers (held_in buffer held) at n → Starts held from → IsTrue device.honest
+    → slice_range buffer (at - from) (at - from + n) ≡ slice_range device.content at (at + n)
+part_read device buffer code.Nothing from at n window covers starts h = absurd covers
+part_read device buffer (code.Piece size) from at n window covers starts h = absurd covers
+part_read device buffer (code.Window place size) from at n window covers starts h =
+    let size' : length (take size buffer) ≤ size = omega (arith, length-take size buffer) in
+    let same = sym (take-take (length (take size buffer)) size buffer size') ∙ take-length (take size buffer) ∙ window.same h in
+    rw starts (part_of_window buffer device.content place (length (take size buffer)) at n same covers.0 covers.1)
+
+-- what covers a range is no piece
+pub Covers-no_piece : (held : Held) (at n : ℕ) → Covers held at n → HasNoPiece held
+Covers-no_piece Nothing at n covers = tt
+Covers-no_piece (Window from bytes) at n covers = tt
+Covers-no_piece (Piece bytes) at n covers = covers
+
+pub without_piece-none : (held : Held) → HasNoPiece (without_piece held)
+without_piece-none Nothing = tt
+without_piece-none (Window from bytes) = tt
+without_piece-none (Piece bytes) = tt
+
+pub without_piece-true : (device : Device) (held : Held) → IsTrueTo device held → IsTrueTo device (without_piece held)
+without_piece-true device Nothing window = window
+without_piece-true device (Window from bytes) window = window
+without_piece-true device (Piece bytes) window = tt
+
+pub HasRead-none : {F : Type 0} (facts : F → Device) (p : Pages F) → HasRead facts 0 p p
+HasRead-none facts p = record { device = Reads-none (facts p.device); window = λ h. h }
+
+pub HasRead-then : {F : Type 0} (facts : F → Device) (n k : ℕ) (old mid new : Pages F) → HasRead facts n old mid → HasRead facts k mid new → HasRead facts (n + k) old new
+HasRead-then facts n k old mid new first second = record {
+  device = Reads-then n k _ _ _ first.device second.device;
+  window = λ h. second.window (first.window h);
+}
+
+pub HasRead-within : {F : Type 0} (facts : F → Device) (n k : ℕ) (old new : Pages F) → n ≤ k → HasRead facts n old new → HasRead facts k old new
+HasRead-within facts n k old new le read = record { device = Reads-within n k _ _ le read.device; window = read.window }
+
+-- no window begins elsewhere
+pub Starts-other : (held : Buffered) (from : ℕ) → ((at size : ℕ) → held ≡ code.Window at size → ⊥) → Starts held from
+Starts-other code.Nothing from other = tt
+Starts-other (code.Window at size) from other = absurd (other at size refl)
+Starts-other (code.Piece size) from other = tt
+
+-- a window covers a range or doesn't
+pub covered : (held : Held) (at n : ℕ) (P : Type 0) → (Covers held at n → P) → ((Covers held at n → ⊥) → P) → P
+covered Nothing at n P inside outside = outside (λ c. c)
+covered (Window from bytes) at n P inside outside =
+    ⊎_elim (λ below. outside (λ c. absurd (omega (arith, below, c.0))))
+    (λ above. ⊎_elim (λ past. outside (λ c. absurd (omega (arith, past, c.1)))) (λ within. inside (above, within)) (cases_lt (from + length bytes) (at + n)))
+    (cases_lt at from)
+covered (Piece bytes) at n P inside outside = outside (λ c. c)
+
+pub HasScanned-none : {F : Type 0} (facts : F → Device) (start : ℕ) (p : Pages F) → HasScanned facts start start p p
+HasScanned-none facts start p = record {
+  spent = record { above = le_refl start; count = 0; read = HasRead-none facts p; calls = omega arith };
+  paid = λ q n above short within none. omega arith;
+}
+
+-- the window that a read loaded has what lies within 4096 bytes of it
+pub ahead_covers : (held : Held) (at q n size : ℕ) → at ≤ q → n ≤ 256 → q + n ≤ size → Covers held at (min (size - at) 4096) → (Covers held q n → ⊥) → at + 3840 ≤ q
+ahead_covers Nothing at q n size above short within covers none = absurd covers
+ahead_covers (Piece bytes) at q n size above short within covers none = absurd covers
+ahead_covers (Window from bytes) at q n size above short within covers none =
+    ⊎_elim (λ near. absurd (none (omega (arith, covers.0, above), omega (arith, covers.1, above, near, short, within)))) (λ far. far) (cases_lt q (at + 3840))
+
+-- one read more, whatever it answers
+pub HasSpent-more : {F T E : Type 0} (facts : F → Device) (start at q n : ℕ) (old mid new : Pages F) (result : Result T E) → at ≤ q → n ≤ 256 → q + n ≤ length (facts old.device).content
+    → HasScanned facts start at old mid → HasSeen facts q n mid new result → HasSpent facts start q old new
+HasSpent-more facts start at q n old mid new result above short within so_far seen =
+    let from : start ≤ q = omega (arith, so_far.spent.above, above) in
+    covered mid.held q n (HasSpent facts start q old new)
+    (λ inside. subst (λ p. HasSpent facts start q old p) (sym (seen.free inside)) (record {
+      above = from;
+      count = so_far.spent.count;
+      read = so_far.spent.read;
+      calls = omega (arith, so_far.spent.calls, so_far.spent.above, above);
+    }))
+    (λ outside. record {
+      above = from;
+      count = so_far.spent.count + 1;
+      read = HasRead-then facts so_far.spent.count 1 old mid new so_far.spent.read seen.read;
+      calls = omega (arith, so_far.paid q n above short within outside, seen.read.device.calls.no_more);
+    })
+
+-- one read more, which was not refused
+pub HasScanned-more : {F T E : Type 0} (facts : F → Device) (start at q n : ℕ) (old mid new : Pages F) (x : T) → at ≤ q → n ≤ 256 → q + n ≤ length (facts old.device).content
+    → HasScanned facts start at old mid → HasSeen {E = E} facts q n mid new (Ok x) → HasScanned facts start q old new
+HasScanned-more {F} {T} {E} facts start at q n old mid new x above short within so_far seen =
+    let size : length (facts mid.device).content ≡ length (facts old.device).content = so_far.spent.read.device.calls.same_length in record {
+      spent = HasSpent-more facts start at q n old mid new (Ok x) above short within so_far seen;
+      paid = λ p k later small inside none.
+          covered mid.held q n (3840 * (facts new.device).calls ≤ 3840 * (facts old.device).calls + (p - start))
+          (λ has.
+          let same : new ≡ mid = seen.free has in
+          rw same (so_far.paid p k (omega (arith, above, later)) small inside (rw same at none)))
+          (λ misses.
+          let far : q + 3840 ≤ p = ahead_covers new.held q p k (length (facts old.device).content) later small inside (rw size at (seen.ahead misses)) none in
+          omega (arith, so_far.paid q n above short within misses, seen.read.device.calls.no_more, far, so_far.spent.above, above));
+    }
+
+-- what was read so far, as far as a later place
+pub HasScanned-on : {F : Type 0} (facts : F → Device) (start at end : ℕ) (old new : Pages F) → at ≤ end → HasScanned facts start at old new → HasScanned facts start end old new
+HasScanned-on facts start at end old new above so_far = record {
+  spent = record {
+    above = omega (arith, so_far.spent.above, above);
+    count = so_far.spent.count;
+    read = so_far.spent.read;
+    calls = omega (arith, so_far.spent.calls, so_far.spent.above, above);
+  };
+  paid = λ q n past. so_far.paid q n (omega (arith, above, past));
+}
+
+pub ScansTo-none : {F : Type 0} (facts : F → Device) (at : ℕ) (p : Pages F) → ScansTo facts at at p p
+ScansTo-none facts at p = record { on = λ start first so_far. so_far }
+
+pub ScansTo-on : {F : Type 0} (facts : F → Device) (at end later : ℕ) (old new : Pages F) → end ≤ later → ScansTo facts at end old new → ScansTo facts at later old new
+ScansTo-on facts at end later old new above scans = record { on = λ start first so_far. HasScanned-on facts start end later first new above (scans.on start first so_far) }
+
+pub SpendsTo-on : {F : Type 0} (facts : F → Device) (at end later : ℕ) (old new : Pages F) → end ≤ later → SpendsTo facts at end old new → SpendsTo facts at later old new
+SpendsTo-on facts at end later old new above spends = record {
+  on = λ start first so_far.
+      let spent : HasSpent facts start end first new = spends.on start first so_far in record {
+        above = omega (arith, spent.above, above);
+        count = spent.count;
+        read = spent.read;
+        calls = omega (arith, spent.calls, spent.above, above);
+      };
+}
+
+pub ScansTo-spends : {F : Type 0} (facts : F → Device) (at end : ℕ) (old new : Pages F) → ScansTo facts at end old new → SpendsTo facts at end old new
+ScansTo-spends facts at end old new scans = record { on = λ start first so_far. (scans.on start first so_far).spent }
+
+-- what such reads leave as it was
+pub ScansTo-left : {F : Type 0} (facts : F → Device) (at end : ℕ) (old new : Pages F) → ScansTo facts at end old new → HasSpent facts at end old new
+ScansTo-left facts at end old new scans = (scans.on at old (HasScanned-none facts at old)).spent
+
+pub ScansTo-length : {F : Type 0} (facts : F → Device) (at end : ℕ) (old new : Pages F) → ScansTo facts at end old new → length (facts new.device).content ≡ length (facts old.device).content
+ScansTo-length facts at end old new scans = (ScansTo-left facts at end old new scans).read.device.calls.same_length
+
+pub ScansTo-faults : {F : Type 0} (facts : F → Device) (at end : ℕ) (old new : Pages F) → ScansTo facts at end old new → (facts old.device).faults ≤ (facts new.device).faults
+ScansTo-faults facts at end old new scans = (ScansTo-left facts at end old new scans).read.device.calls.faults
+
+-- one read more, whatever it answers
+pub SpendsTo-more : {F T E : Type 0} (facts : F → Device) (at end q n : ℕ) (old mid new : Pages F) (result : Result T E) → end ≤ q → n ≤ 256 → q + n ≤ length (facts mid.device).content
+    → ScansTo facts at end old mid → HasSeen facts q n mid new result → SpendsTo facts at q old new
+SpendsTo-more facts at end q n old mid new result above short within scans seen = record {
+  on = λ start first so_far.
+      let before : HasScanned facts start end first mid = scans.on start first so_far in
+      HasSpent-more facts start end q n first mid new result above short (omega (arith, within, before.spent.read.device.calls.same_length)) before seen;
+}
+
+-- one read more, which was not refused
+pub ScansTo-more : {F T E : Type 0} (facts : F → Device) (at end q n : ℕ) (old mid new : Pages F) (result : Result T E) → IsOk result → end ≤ q → n ≤ 256 → q + n ≤ length (facts mid.device).content
+    → ScansTo facts at end old mid → HasSeen facts q n mid new result → ScansTo facts at q old new
+ScansTo-more facts at end q n old mid new (Err e) ok above short within scans seen = absurd cc
+ScansTo-more facts at end q n old mid new (Ok x) ok above short within scans seen = record {
+  on = λ start first so_far.
+      let before : HasScanned facts start end first mid = scans.on start first so_far in
+      HasScanned-more facts start end q n first mid new x above short (omega (arith, within, before.spent.read.device.calls.same_length)) before seen;
+}
+
+-- the reads of two functions
+pub ScansTo-then : {F : Type 0} (facts : F → Device) (at place end : ℕ) (old mid new : Pages F) → ScansTo facts at place old mid → ScansTo facts place end mid new → ScansTo facts at end old new
+ScansTo-then facts at place end old mid new one two = record { on = λ start first so_far. two.on start first (one.on start first so_far) }
+
+pub SpendsTo-then : {F : Type 0} (facts : F → Device) (at place end : ℕ) (old mid new : Pages F) → ScansTo facts at place old mid → SpendsTo facts place end mid new → SpendsTo facts at end old new
+SpendsTo-then facts at place end old mid new one two = record { on = λ start first so_far. two.on start first (one.on start first so_far) }
+
+-- the calls of reads in order, as a number of reads
+pub SpendsTo-reads : {F : Type 0} (facts : F → Device) (at end n : ℕ) (old new : Pages F) → end + 3840 ≤ at + 3840 * n → SpendsTo facts at end old new → HasRead facts n old new
+SpendsTo-reads facts at end n old new enough spends =
+    let spent : HasSpent facts at end old new = spends.on at old (HasScanned-none facts at old) in record {
+      device = record {
+        calls = record {
+          no_fewer = spent.read.device.calls.no_fewer;
+          no_more = omega (arith, spent.calls, spent.above, enough);
+          faults = spent.read.device.calls.faults;
+          same_honesty = spent.read.device.calls.same_honesty;
+          same_length = spent.read.device.calls.same_length;
+        };
+        unchanged = spent.read.device.unchanged;
+      };
+      window = spent.read.window;
+    }
+
+-- enough for a cell, and for what is left of a region
+pub scan_of_cell : (start at span : ℕ) → at ≤ start + span → 64 ≤ span → at + 3840 ≤ start + 3840 * (span / 16)
+scan_of_cell start at span within long = omega arith
+
+pub scan_of_rest : (start at left : ℕ) → at ≤ start + left → at + 3840 ≤ start + 3840 * (left / 16 + 2)
+scan_of_rest start at left within = omega arith

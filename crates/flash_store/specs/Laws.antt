@@ -1,0 +1,24 @@
+-- The laws of writes that the crates above rest on.
+use Rattle.std.specs.Prelude.{◌≡◌, ◌⊎◌, ℕ, ◌+◌, ◌≤◌, List, length}
+use Rattle.flash_store.specs.Bytes.{overwritten, SameOutside}
+use Rattle.flash_store.specs.Regions.{Range, LiesIn, bytes_in}
+
+-- bytes that are written over an image inside a region are written over the region's bytes
+abbrev pub WritesInRegions : Type 0
+WritesInRegions = (r : Range) (x : List ℕ) (at : ℕ) (u : List ℕ) → LiesIn r x → at + length u ≤ r.size → bytes_in r (overwritten x (r.start + at) u) ≡ overwritten (bytes_in r x) at u
+
+-- those that are written before or after a region leave it as it was
+abbrev pub WritesBesideRegions : Type 0
+WritesBesideRegions = (r : Range) (x : List ℕ) (at : ℕ) (u : List ℕ) → at ≤ length x → (at + length u ≤ r.start) ⊎ (r.start + r.size ≤ at) → bytes_in r (overwritten x at u) ≡ bytes_in r x
+
+-- what changes an image in a range inside a region changes the region's bytes in that range
+abbrev pub ChangesInRegions : Type 0
+ChangesInRegions = (r : Range) (x y : List ℕ) (at n : ℕ) → at + n ≤ r.size → SameOutside (r.start + at) n x y → SameOutside at n (bytes_in r x) (bytes_in r y)
+
+-- an image in which nothing outside a region has changed is the one before, with the region's bytes written over it
+abbrev pub ChangesAreWrites : Type 0
+ChangesAreWrites = (r : Range) (x y : List ℕ) → LiesIn r x → length y ≡ length x → SameOutside r.start r.size x y → y ≡ overwritten x r.start (bytes_in r y)
+
+-- writes to separate ranges come to the same in either order
+abbrev pub SeparateWritesSwap : Type 0
+SeparateWritesSwap = (x : List ℕ) (a : ℕ) (u : List ℕ) (b : ℕ) (v : List ℕ) → a + length u ≤ b → b ≤ length x → overwritten (overwritten x a u) b v ≡ overwritten (overwritten x b v) a u

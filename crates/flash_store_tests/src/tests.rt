@@ -1,0 +1,497 @@
+//! What no clause shows: bytes from outside, real files, and that each call does its work.
+use flash_format::{FmapHead, HEADER_LENGTH};
+use flash_store::{
+    CopyFault, FailAt, FailSource, FileFlash, FileSource, Flash, FlashFault, MemFlash, MemSource,
+    OpenFault, PIECE, Paged, Sink, Source, StoreFault, WriteSink, area, find_fmap, put_all, region,
+};
+use std::alloc::{AllocError, Global};
+use std::fmt::Debug;
+use std::fs;
+use std::fs::{File, OpenOptions};
+use std::process::Abort;
+use std::rt::Files;
+use std::test::Fail;
+
+/// An image of 0xff with these bytes at a place, as far as they lie inside.
+fn image(alloc: Global, len: usize, at: usize, part: &[u8]) -> Result<Vec<u8>, AllocError> {
+    let mut bytes = Vec::from_elem(alloc, 0xff, len)?;
+    for (i, byte) in part.iter().enumerate() {
+        if let Some(place) = bytes.get_mut(at.wrapping_add(i)) {
+            *place = *byte;
+        }
+    }
+    Ok(bytes)
+}
+
+/// Two values are equal. A test that calls this is proved in a third of a second, and not in the two seconds of an
+/// assertion of its own.
+fn equal<T: PartialEq + Debug>(rt: &impl Abort, left: &T, right: &T) {
+    assert_eq!(rt; *left, *right);
+}
+
+/// Two runs of bytes are equal.
+fn same_bytes(rt: &impl Abort, left: &[u8], right: &[u8]) {
+    assert_eq!(rt; left, right);
+}
+
+/// The numbers from 0 on, each below 251.
+fn numbered(alloc: Global, len: usize) -> Result<Vec<u8>, AllocError> {
+    let mut bytes = Vec::new(alloc);
+    for i in 0..len {
+        bytes.push((i % 251) as u8)?;
+    }
+    Ok(bytes)
+}
+
+/// The bytes of a range.
+fn part_of<'a>(rt: &impl Abort, bytes: &'a [u8], from: usize, to: usize) -> &'a [u8] {
+    assert!(rt; from <= to && to <= bytes.len());
+    &bytes[from..to]
+}
+
+/// A source of these bytes.
+fn source_of<'a>(rt: &impl Abort, bytes: &'a [u8]) -> MemSource<'a> {
+    assert!(rt; bytes.len() < 1 << 32);
+    MemSource::new(bytes)
+}
+
+// The calls of devices and of the buffer, each after a test that its range lies inside: a test that calls these has
+// nothing to prove of its numbers.
+
+fn read_at<F: Flash>(
+    rt: &impl Abort,
+    device: &mut F,
+    at: u64,
+    out: &mut [u8],
+) -> Result<(), FlashFault> {
+    let len = device.len();
+    assert!(rt; out.len() <= PIECE && at <= len);
+    assert!(rt; out.len() as u64 <= len - at);
+    device.read_at(at, out)
+}
+
+fn write_at<F: Flash>(
+    rt: &impl Abort,
+    device: &mut F,
+    at: u64,
+    bytes: &[u8],
+) -> Result<(), FlashFault> {
+    let len = device.len();
+    assert!(rt; bytes.len() <= PIECE && at <= len);
+    assert!(rt; bytes.len() as u64 <= len - at);
+    device.write_at(at, bytes)
+}
+
+fn commit_at<F: Flash>(
+    rt: &impl Abort,
+    device: &mut F,
+    at: u64,
+    bytes: &[u8; HEADER_LENGTH],
+) -> Result<(), FlashFault> {
+    let len = device.len();
+    assert!(rt; at <= len);
+    assert!(rt; HEADER_LENGTH as u64 <= len - at);
+    device.commit_at(at, bytes)
+}
+
+fn fill<F: Flash>(
+    rt: &impl Abort,
+    paged: &mut Paged<F>,
+    at: u64,
+    n: u64,
+    byte: u8,
+) -> Result<(), FlashFault> {
+    let len = paged.len();
+    assert!(rt; at <= len);
+    assert!(rt; n <= len - at);
+    paged.fill(at, n, byte)
+}
+
+fn copy_in<F: Flash, S: Source>(
+    rt: &impl Abort,
+    paged: &mut Paged<F>,
+    at: u64,
+    n: u64,
+    source: &mut S,
+) -> Result<(), CopyFault> {
+    let len = paged.len();
+    let has = source.len();
+    assert!(rt; at <= len && n <= has);
+    assert!(rt; n <= len - at);
+    paged.copy_in(at, n, source)
+}
+
+fn copy_out<F: Flash, W: Sink>(
+    rt: &impl Abort,
+    paged: &mut Paged<F>,
+    at: u64,
+    n: u64,
+    out: &mut W,
+) -> Result<(), CopyFault> {
+    let len = paged.len();
+    assert!(rt; at <= len);
+    assert!(rt; n <= len - at);
+    paged.copy_out(at, n, out)
+}
+
+fn commit<F: Flash>(
+    rt: &impl Abort,
+    paged: &mut Paged<F>,
+    at: u64,
+    bytes: &[u8; HEADER_LENGTH],
+) -> Result<(), FlashFault> {
+    let len = paged.len();
+    assert!(rt; at <= len);
+    assert!(rt; HEADER_LENGTH as u64 <= len - at);
+    paged.commit(at, bytes)
+}
+
+/// Pulls all of a source, which is short, and pushes it.
+fn pull_and_push<F: Flash, S: Source>(
+    rt: &impl Abort,
+    paged: &mut Paged<F>,
+    source: &mut S,
+    at: u64,
+) -> Result<(), Fail> {
+    let len = paged.len();
+    let has = source.len();
+    assert!(rt; at <= len && has <= PIECE as u64);
+    assert!(rt; has <= len - at);
+    let _pulled = paged.pull(source, 0, has as usize)?;
+    paged.push(at)?;
+    Ok(())
+}
+
+fn read_small<F: Flash>(
+    rt: &impl Abort,
+    paged: &mut Paged<F>,
+    at: u64,
+    out: &mut [u8],
+) -> Result<(), FlashFault> {
+    let len = paged.len();
+    assert!(rt; out.len() <= PIECE && at <= len);
+    assert!(rt; out.len() as u64 <= len - at);
+    paged.read_small(at, out)
+}
+
+fn piece<'a, F: Flash>(
+    rt: &impl Abort,
+    paged: &'a mut Paged<F>,
+    at: u64,
+    n: usize,
+) -> Result<&'a [u8], FlashFault> {
+    let len = paged.len();
+    assert!(rt; n <= PIECE && at <= len);
+    assert!(rt; n as u64 <= len - at);
+    paged.piece(at, n)
+}
+
+/// The head of a flashmap named F, without areas.
+fn head() -> [u8; FmapHead::LENGTH] {
+    let mut head = [0; FmapHead::LENGTH];
+    head[..8].copy_from_slice(&FmapHead::SIGNATURE);
+    head[8] = 1;
+    head[22] = b'F';
+    head
+}
+
+fn found_at(bytes: Vec<u8>) -> Result<Option<u64>, Fail> {
+    let mut paged = Paged::new(MemFlash::new(bytes)?);
+    Ok(find_fmap(&mut paged)?.map(|map| map.at))
+}
+
+#[test]
+fn a_map_is_found_at_each_place_across_pieces(rt: HostRuntime) -> Result<(), Fail> {
+    for place in 4083..4104 {
+        let bytes = image(rt.alloc(), 8192, place, &head())?;
+        equal(&rt, &found_at(bytes)?, &Some(place as u64));
+    }
+    Ok(())
+}
+
+/// The map of a flash of 4096 bytes at 0xff000000 with the areas FMAP of 512 bytes and COREBOOT of the rest.
+const MAP: [u8; 140] = *b"__FMAP__\x01\x01\x00\x00\x00\xff\x00\x00\x00\x00\x00\x10\x00\x00\
+FLASH\x00\x00\x00\x00\x00\x00\x00\x00\x00\x00\x00\x00\x00\x00\x00\x00\x00\x00\x00\x00\x00\x00\x00\x00\x00\x00\x00\x02\x00\
+\x00\x00\x00\x00\x00\x02\x00\x00\
+FMAP\x00\x00\x00\x00\x00\x00\x00\x00\x00\x00\x00\x00\x00\x00\x00\x00\x00\x00\x00\x00\x00\x00\x00\x00\x00\x00\x00\x00\x00\x00\
+\x00\x02\x00\x00\x00\x0e\x00\x00\
+COREBOOT\x00\x00\x00\x00\x00\x00\x00\x00\x00\x00\x00\x00\x00\x00\x00\x00\x00\x00\x00\x00\x00\x00\x00\x00\x00\x00";
+
+#[test]
+fn areas_are_those_of_the_map(rt: HostRuntime) -> Result<(), Fail> {
+    let bytes = image(rt.alloc(), 4096, 0x80, &MAP)?;
+    let mut paged = Paged::new(MemFlash::new(bytes)?);
+    expect_area(&rt, &mut paged)
+}
+
+/// The map of MAP at 0x80, and its second area.
+fn expect_area<F: Flash>(rt: &impl Abort, paged: &mut Paged<F>) -> Result<(), Fail> {
+    let map = find_fmap(paged)?.ok_or("no map")?;
+    assert!(rt; map.head.nareas == 2);
+    let second = area(paged, &map, 1)?;
+    equal(
+        rt,
+        &(map.at, second.offset, second.size),
+        &(0x80, 0x200, 0xe00),
+    );
+    Ok(())
+}
+
+#[test]
+fn a_region_is_refused_in_order(rt: HostRuntime) -> Result<(), Fail> {
+    look_up(&rt, 4096, b"COREBOOT", Ok((0x200, 0xe00)))?;
+    look_up(&rt, 768, b"COREBOOT", Err(StoreFault::RegionOutside))?;
+    look_up(&rt, 768, b"NONE", Err(StoreFault::NoRegion))?;
+    look_up(&rt, 100, b"COREBOOT", Err(StoreFault::NoFmap))
+}
+
+/// The region of a name in so many bytes that begin with the map.
+fn look_up(
+    rt: &(impl Abort + AllocGlobal),
+    len: usize,
+    word: &[u8],
+    expected: Result<(u64, u64), StoreFault>,
+) -> Result<(), Fail> {
+    let bytes = image(rt.alloc(), len, 0, &MAP)?;
+    let mut paged = Paged::new(MemFlash::new(bytes)?);
+    let answer = region(&mut paged, word).map(|found| (found.start(), found.size()));
+    equal(rt, &answer, &expected);
+    Ok(())
+}
+
+#[test]
+fn a_device_refuses_after_its_first_calls(rt: HostRuntime) -> Result<(), Fail> {
+    let device = MemFlash::new(image(rt.alloc(), 64, 0, &[])?)?;
+    let mut device = FailAt::new(device, 2, 3);
+    let answers = passes(&rt, &mut device);
+    equal(&rt, &answers, &[true, true, false, false, false]);
+    let left = image(rt.alloc(), 64, 0, b"first...sec")?;
+    same_bytes(&rt, device.into_inner().bytes(), left.as_slice());
+    Ok(())
+}
+
+/// Which of five calls pass.
+fn passes<F: Flash>(rt: &impl Abort, device: &mut F) -> [bool; 5] {
+    let mut out = [0; 8];
+    [
+        read_at(rt, device, 0, &mut out).is_ok(),
+        write_at(rt, device, 0, b"first...").is_ok(),
+        commit_at(rt, device, 0, &[2; HEADER_LENGTH]).is_ok(),
+        write_at(rt, device, 8, b"second").is_ok(),
+        write_at(rt, device, 16, b"third").is_ok(),
+    ]
+}
+
+#[test]
+fn a_source_refuses_after_its_first_reads(rt: HostRuntime) {
+    let mut source = FailSource::new(source_of(&rt, b"abc"), 1);
+    equal(&rt, &reads_twice(&rt, &mut source), &[true, false]);
+}
+
+/// Which of two reads pass.
+fn reads_twice<S: Source>(rt: &impl Abort, source: &mut S) -> [bool; 2] {
+    assert!(rt; source.len() >= 3);
+    let mut out = [0; 3];
+    let first = source.read_at(0, &mut out).is_ok();
+    let second = source.read_at(0, &mut out).is_ok();
+    [first, second]
+}
+
+#[test]
+fn a_sink_takes_bytes(rt: HostRuntime) {
+    let mut out = WriteSink::new(Vec::new(rt.alloc()));
+    equal(&rt, &out.put(b"abc"), &Ok(3));
+    equal(&rt, &put_all(&mut out, b"de"), &Ok(()));
+    same_bytes(&rt, out.into_inner().as_slice(), b"abcde");
+}
+
+/// A device that counts its reads.
+#[derive(Drop)]
+struct Counting<F: Flash> {
+    device: F,
+    reads: u64,
+}
+
+impl<F: Flash> Flash for Counting<F> {
+    ghost facts = { λ c. F.facts c.device };
+
+    fn len(&self) -> u64 {
+        self.device.len()
+    }
+
+    fn read_at(&mut self, at: u64, out: &mut [u8]) -> Result<(), FlashFault> {
+        self.reads = self.reads.wrapping_add(1);
+        self.device.read_at(at, out)
+    }
+
+    fn write_at(&mut self, at: u64, bytes: &[u8]) -> Result<(), FlashFault> {
+        self.device.write_at(at, bytes)
+    }
+
+    fn commit_at(&mut self, at: u64, bytes: &[u8; HEADER_LENGTH]) -> Result<(), FlashFault> {
+        self.device.commit_at(at, bytes)
+    }
+}
+
+/// A buffer over a counting device of 9000 numbered bytes.
+fn counted(alloc: Global) -> Result<Paged<Counting<MemFlash>>, Fail> {
+    let device = MemFlash::new(numbered(alloc, 9000)?)?;
+    Ok(Paged::new(Counting { device, reads: 0 }))
+}
+
+#[test]
+fn a_range_inside_the_window_makes_no_call(rt: HostRuntime) -> Result<(), Fail> {
+    let mut paged = counted(rt.alloc())?;
+    // a window from 100 on, all of it, its last byte, one byte more, and one byte before the next window
+    equal(&rt, &reads(&rt, &mut paged, 100, 1), &1);
+    equal(&rt, &reads(&rt, &mut paged, 100, 4096), &1);
+    equal(&rt, &reads(&rt, &mut paged, 4195, 1), &1);
+    equal(&rt, &reads(&rt, &mut paged, 4195, 2), &2);
+    equal(&rt, &reads(&rt, &mut paged, 4194, 1), &3);
+    Ok(())
+}
+
+/// How many reads were made once so many bytes were read.
+fn reads(rt: &impl Abort, paged: &mut Paged<Counting<MemFlash>>, at: u64, n: usize) -> u64 {
+    assert!(rt; piece(rt, paged, at, n).is_ok());
+    paged.flash().reads
+}
+
+#[test]
+fn what_is_read_after_a_write_is_what_the_device_holds(rt: HostRuntime) -> Result<(), Fail> {
+    let mut paged = counted(rt.alloc())?;
+    write_each(&rt, &mut paged)
+}
+
+/// Writes in each way into the window that the check before has loaded.
+fn write_each(rt: &impl Abort, paged: &mut Paged<Counting<MemFlash>>) -> Result<(), Fail> {
+    agrees(rt, paged, &[110]);
+    pull_and_push(rt, paged, &mut source_of(rt, b"pushed"), 110)?;
+    agrees(rt, paged, b"pushed");
+    commit(rt, paged, 110, &[2; HEADER_LENGTH])?;
+    agrees(rt, paged, &[2; HEADER_LENGTH]);
+    fill(rt, paged, 110, 5, 7)?;
+    agrees(rt, paged, &[7; 5]);
+    copy_in(rt, paged, 110, 6, &mut source_of(rt, b"copied"))?;
+    agrees(rt, paged, b"copied");
+    Ok(())
+}
+
+/// A read gives these bytes from 110 on, and after them what the device holds.
+fn agrees(rt: &impl Abort, paged: &mut Paged<Counting<MemFlash>>, written: &[u8]) {
+    let mut seen = [0; 100];
+    assert!(rt; read_small(rt, paged, 110, &mut seen).is_ok());
+    same_bytes(rt, part_of(rt, &seen, 0, written.len()), written);
+    same_bytes(
+        rt,
+        part_of(rt, paged.flash().device.bytes(), 110, 210),
+        &seen,
+    );
+}
+
+#[test]
+fn a_file_is_written_and_read(rt: HostRuntime) -> Result<(), Fail> {
+    fs::write(&rt, "input.bin", "0123456789")?;
+    write_image(&rt)?;
+    read_image(&rt)?;
+    fs::remove_file(&rt, "image.bin")?;
+    fs::remove_file(&rt, "input.bin")?;
+    Ok(())
+}
+
+fn write_image(rt: &(impl AllocGlobal + Files<File = File>)) -> Result<(), Fail> {
+    let bytes = image(rt.alloc(), 5000, 0, &[])?;
+    fs::write(rt, "image.bin", bytes.as_slice())?;
+    Ok(())
+}
+
+/// What the changed image tells, and what its file holds, are a header and the input after it.
+fn read_image(rt: &(impl Abort + AllocGlobal + Files<File = File>)) -> Result<(), Fail> {
+    let mut out = WriteSink::new(Vec::new(rt.alloc()));
+    change_file(rt, &mut out)?;
+    let mut written = [2; 38];
+    written[HEADER_LENGTH..].copy_from_slice(b"0123456789");
+    let expected = image(rt.alloc(), 5000, 4062, &written)?;
+    same_bytes(rt, out.into_inner().as_slice(), expected.as_slice());
+    same_bytes(
+        rt,
+        fs::read(rt, "image.bin")?.as_slice(),
+        expected.as_slice(),
+    );
+    Ok(())
+}
+
+fn change_file<W: Sink>(rt: &(impl Abort + Files<File = File>), out: &mut W) -> Result<(), Fail> {
+    let mut paged = Paged::new(FileFlash::open(rt, "image.bin")?);
+    let mut source = FileSource::open(rt, "input.bin")?;
+    change(rt, &mut paged, &mut source, out)
+}
+
+/// Commits a header, copies the input after it, and tells the whole image.
+fn change<F: Flash, S: Source, W: Sink>(
+    rt: &impl Abort,
+    paged: &mut Paged<F>,
+    source: &mut S,
+    out: &mut W,
+) -> Result<(), Fail> {
+    commit(rt, paged, 4062, &[2; HEADER_LENGTH])?;
+    copy_in(rt, paged, 4090, 10, source)?;
+    copy_out(rt, paged, 0, 5000, out)?;
+    Ok(())
+}
+
+#[test]
+fn a_file_that_was_cut_refuses_what_it_lost(rt: HostRuntime) -> Result<(), Fail> {
+    fs::write(&rt, "cut.bin", "0123456789")?;
+    equal(&rt, &read_cut(&rt)?, &[true, false]);
+    fs::remove_file(&rt, "cut.bin")?;
+    Ok(())
+}
+
+fn read_cut(rt: &(impl Abort + Files<File = File>)) -> Result<[bool; 2], Fail> {
+    let mut device = FileFlash::open(rt, "cut.bin")?;
+    fs::write(rt, "cut.bin", "01234")?;
+    Ok(first_and_last(rt, &mut device))
+}
+
+/// Which of two reads pass.
+fn first_and_last<F: Flash>(rt: &impl Abort, device: &mut F) -> [bool; 2] {
+    let mut out = [0; 5];
+    let first = read_at(rt, device, 0, &mut out).is_ok();
+    let last = read_at(rt, device, 1, &mut out).is_ok();
+    [first, last]
+}
+
+fn opened(
+    rt: &impl Files<File = File>,
+    path: &str,
+) -> (Result<u64, OpenFault>, Result<u64, OpenFault>) {
+    (
+        FileFlash::open(rt, path).map(|device| device.len()),
+        FileSource::open(rt, path).map(|source| source.len()),
+    )
+}
+
+#[test]
+fn files_are_opened_by_their_length(rt: HostRuntime) -> Result<(), Fail> {
+    open_sparse(&rt, 0xffff_ffff, Ok(0xffff_ffff))?;
+    open_sparse(&rt, 1 << 32, Err(OpenFault::TooLarge))?;
+    fs::remove_file(&rt, "sparse.bin")?;
+    let failed = Err(OpenFault::Failed);
+    equal(&rt, &opened(&rt, "absent.bin"), &(failed, failed));
+    Ok(())
+}
+
+fn open_sparse(
+    rt: &(impl Abort + Files<File = File>),
+    len: u64,
+    answer: Result<u64, OpenFault>,
+) -> Result<(), Fail> {
+    let file = OpenOptions::new()
+        .write(true)
+        .create(true)
+        .open(rt, "sparse.bin")?;
+    file.set_len(len)?;
+    equal(rt, &opened(rt, "sparse.bin"), &(answer, answer));
+    Ok(())
+}

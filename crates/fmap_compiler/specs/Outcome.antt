@@ -1,0 +1,64 @@
+-- What a run of the compiler writes, and why it is refused.
+use Rattle.std.specs.Prelude.{◌≡◌, ℕ, ◌+◌, ◌≤◌, ◌⊎◌, List, take, drop, Option, Some, None, ⊤}
+use Rattle.std.specs.Io.KnownBytes.{Appends, Keeps}
+use Rattle.flash_store.specs.Output.{AppendsPart}
+use Rattle.fmd_lang.specs.Words.{words}
+use Rattle.fmd_lang.specs.Tree.{Tree}
+use Rattle.fmd_lang.specs.Grammar.{IsSection}
+use Rattle.fmd_lang.specs.Faults.{first_fault, text_limit}
+use Rattle.fmd_lang.specs.LayoutFaults.{layout_fault}
+use Rattle.fmd_lang.specs.Table.{IsTable}
+use Rattle.fmd_lang.specs.Bytes.{table_bytes}
+use Rattle.fmd_lang.specs.declared.table.Table.{Table}
+use Rattle.fmd_lang.specs.declared.fault.FmdFault.{FmdFault}
+use Rattle.fmd_lang.specs.declared.fault.FmdFault.TheVariants as faults
+use Rattle.fmap_compiler.specs.declared.refusal.Refusal.{Refusal}
+use Rattle.fmap_compiler.specs.declared.refusal.Refusal.TheVariants as refusal
+
+-- how many bytes are read at most: one more than a descriptor may have
+abbrev pub reading_limit : ℕ
+reading_limit = text_limit + 1
+
+-- the bytes of the table of a text
+abbrev pub Compiles : List ℕ → List ℕ → Type 0
+Compiles text bytes = (first_fault text ≡ None)
+    × ((tree : Tree) × IsSection tree (words text) × (layout_fault tree ≡ None)
+    × ((table : Table) × IsTable tree table × (bytes ≡ table_bytes table)))
+
+-- the first refusal of a text, or where it has none, of the layout of its tree
+abbrev pub Refuses : List ℕ → FmdFault → Type 0
+Refuses text fault = (first_fault text ≡ Some fault)
+    ⊎ ((first_fault text ≡ None) × ((tree : Tree) × IsSection tree (words text) × (layout_fault tree ≡ Some fault)))
+
+-- The same of what a reader has left and a writer holds, where they tell their bytes.
+
+-- the table of the text is written, and nothing else
+abbrev pub HasCompiled : Option (List ℕ) → Option (List ℕ) → Option (List ℕ) → Type 0
+HasCompiled None old new = ⊤
+HasCompiled (Some text) old new = (bytes : List ℕ) × Compiles text bytes × Appends old new bytes
+
+-- some of the first bytes of the table of the text are written, but not all
+abbrev pub HasCompiledPart : Option (List ℕ) → Option (List ℕ) → Option (List ℕ) → Type 0
+HasCompiledPart None old new = ⊤
+HasCompiledPart (Some text) old new = (bytes : List ℕ) × Compiles text bytes × AppendsPart old new bytes
+
+abbrev pub RefusesKnown : Option (List ℕ) → FmdFault → Type 0
+RefusesKnown None fault = ⊤
+RefusesKnown (Some text) fault = Refuses text fault
+
+-- why a run is refused, and what it has written then
+abbrev pub IsRefused : Refusal → Option (List ℕ) → Option (List ℕ) → Option (List ℕ) → Type 0
+IsRefused (refusal.Descriptor fault) text old new = ((fault ≡ faults.Memory) ⊎ RefusesKnown text fault) × Keeps old new
+IsRefused refusal.Read text old new = Keeps old new
+IsRefused refusal.Output text old new = HasCompiledPart text old new
+
+-- what was read are the first bytes, as many as a run reads
+abbrev pub IsPrefixOf : Option (List ℕ) → List ℕ → Type 0
+IsPrefixOf None read = ⊤
+IsPrefixOf (Some text) read = read ≡ take reading_limit text
+
+-- the first bytes are read, not more than a run reads
+abbrev pub ReadsPrefix : Option (List ℕ) → Option (List ℕ) → Type 0
+ReadsPrefix None new = ⊤
+ReadsPrefix (Some text) None = ⊥
+ReadsPrefix (Some text) (Some left) = (n : ℕ) × (n ≤ reading_limit) × (left ≡ drop n text)

@@ -1,0 +1,79 @@
+//! Where a descriptor's text comes from.
+
+ghost use Rattle.std.specs.Prelude.{◌≡◌, ℕ, ◌<◌, ◌≤◌, List, Option, OnErr};
+ghost use Rattle.std.specs.Io.{ReadsAtMost};
+ghost use Rattle.std.specs.Io.KnownBytes.{ReadConsumes};
+
+use flash_store::Counter;
+use std::io::Read;
+use std::marker::Model;
+
+/// A reader that gave nothing, though not for the text's end.
+#[derive(Clone, Copy, Debug, PartialEq, Eq, Drop)]
+pub struct ReadFault;
+
+/// A reader that may give less than there is room for.
+pub trait TextReader {
+    /// The bytes that it has left, where it tells them.
+    ghost remaining: { Self → Option (List ℕ) };
+
+    /// How often the reader has failed.
+    ghost faults: { Self → ℕ };
+
+    /// Writes the next bytes into the first of the room, and answers how many; none only at the end, or without room.
+    /// After a fault the room may hold anything, and no byte is lost.
+    fn read_some(&mut self, room: &mut [u8]) -> Result<usize, ReadFault>
+        ensures bound { ReadsAtMost result room.new }
+        ensures bytes { ReadConsumes (remaining self.old) (remaining self.new) result room.new }
+        ensures faults { faults self.old ≤ faults self.new }
+        ensures cause { OnErr result (faults self.old < faults self.new) };
+}
+
+/// The text of a reader; an error of the reader is the fault.
+#[derive(Drop)]
+pub struct ReadText<R: Read> {
+    reader: R,
+    faults: Counter,
+}
+
+impl<R: Read> Model for ReadText<R> {
+    ghost use Rattle.fmap_compiler.specs.Reading.{Reader};
+
+    ghost Value = { Reader R };
+
+    ghost view = { λ t. record { reader = t.reader; faults = t.faults } };
+}
+
+impl<R: Read> ReadText<R> {
+    pub fn new(reader: R) -> ReadText<R>
+        ensures { result ≡ record { reader = reader; faults = 0 } }
+    {
+        ReadText {
+            reader,
+            faults: Counter::new(),
+        }
+    }
+
+    pub fn into_inner(self) -> R
+        ensures { result ≡ self.reader }
+    {
+        let ReadText { reader, faults: _ } = self;
+        reader
+    }
+}
+
+impl<R: Read> TextReader for ReadText<R> {
+    ghost remaining = { λ t. R.remaining t.reader };
+
+    ghost faults = { λ t. t.faults };
+
+    fn read_some(&mut self, room: &mut [u8]) -> Result<usize, ReadFault> {
+        match self.reader.read(room) {
+            Ok(count) => Ok(count),
+            Err(_) => {
+                self.faults.tick();
+                Err(ReadFault)
+            }
+        }
+    }
+}

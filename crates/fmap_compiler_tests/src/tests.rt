@@ -1,0 +1,246 @@
+//! Readers and writers by pieces and with failures, texts that are refused, and what is told of each refusal.
+
+use flash_store::WriteSink;
+use fmap_compiler::{ReadText, Refusal, run};
+use fmd_lang::{Expected, FmdFault};
+use std::alloc::{AllocError, Global};
+use std::io::{self, ErrorKind, Read, Write};
+use std::process::Abort;
+use std::test::Fail;
+
+const TEXT: &[u8] = b"FLASH@0xff000000 0x1000 { FMAP 0x200 COREBOOT(CBFS) }";
+
+/// The head of the text's table: the signature and the version 1.1; the base, the size and the name; two areas.
+const HEAD: [u8; 56] = [
+    0x5f, 0x5f, 0x46, 0x4d, 0x41, 0x50, 0x5f, 0x5f, 0x01, 0x01, 0x00, 0x00, 0x00, 0xff, 0x00, 0x00,
+    0x00, 0x00, 0x00, 0x10, 0x00, 0x00, 0x46, 0x4c, 0x41, 0x53, 0x48, 0x00, 0x00, 0x00, 0x00, 0x00,
+    0x00, 0x00, 0x00, 0x00, 0x00, 0x00, 0x00, 0x00, 0x00, 0x00, 0x00, 0x00, 0x00, 0x00, 0x00, 0x00,
+    0x00, 0x00, 0x00, 0x00, 0x00, 0x00, 0x02, 0x00,
+];
+
+/// The area FMAP: at 0, of 0x200 bytes, with no flags.
+const FMAP_AREA: [u8; 42] = [
+    0x00, 0x00, 0x00, 0x00, 0x00, 0x02, 0x00, 0x00, 0x46, 0x4d, 0x41, 0x50, 0x00, 0x00, 0x00, 0x00,
+    0x00, 0x00, 0x00, 0x00, 0x00, 0x00, 0x00, 0x00, 0x00, 0x00, 0x00, 0x00, 0x00, 0x00, 0x00, 0x00,
+    0x00, 0x00, 0x00, 0x00, 0x00, 0x00, 0x00, 0x00, 0x00, 0x00,
+];
+
+/// The area COREBOOT: at 0x200, of the 0xe00 bytes that are left, with no flags.
+const COREBOOT_AREA: [u8; 42] = [
+    0x00, 0x02, 0x00, 0x00, 0x00, 0x0e, 0x00, 0x00, 0x43, 0x4f, 0x52, 0x45, 0x42, 0x4f, 0x4f, 0x54,
+    0x00, 0x00, 0x00, 0x00, 0x00, 0x00, 0x00, 0x00, 0x00, 0x00, 0x00, 0x00, 0x00, 0x00, 0x00, 0x00,
+    0x00, 0x00, 0x00, 0x00, 0x00, 0x00, 0x00, 0x00, 0x00, 0x00,
+];
+
+/// The 140 bytes of the text's table.
+fn table(alloc: Global) -> Result<Vec<u8>, AllocError> {
+    let mut bytes = Vec::new(alloc);
+    bytes.extend_from_slice(&HEAD)?;
+    bytes.extend_from_slice(&FMAP_AREA)?;
+    bytes.extend_from_slice(&COREBOOT_AREA)?;
+    Ok(bytes)
+}
+
+/// A reader over memory whose reads give as many bytes as the pieces say, and then one byte each; it fails once
+/// `good` bytes are given.
+#[derive(Drop)]
+struct Pieces<'a> {
+    rest: &'a [u8],
+    pieces: &'a [usize],
+    good: usize,
+}
+
+impl Read for Pieces<'_> {
+    fn read(&mut self, buf: &mut [u8]) -> io::Result<usize> {
+        if self.good == 0 {
+            return Err(io::Error::from(ErrorKind::Other));
+        }
+        let mut piece = 1;
+        if let [first, later @ ..] = self.pieces {
+            piece = *first;
+            self.pieces = later;
+        }
+        let n = piece.min(self.good).min(self.rest.len()).min(buf.len());
+        let (given, rest) = self.rest.split_at(n);
+        buf[..n].copy_from_slice(given);
+        self.rest = rest;
+        self.good -= n;
+        Ok(n)
+    }
+}
+
+/// A reader of so many blanks.
+#[derive(Drop)]
+struct Blanks {
+    left: usize,
+    taken: usize,
+}
+
+impl Read for Blanks {
+    fn read(&mut self, buf: &mut [u8]) -> io::Result<usize> {
+        let n = buf.len().min(self.left);
+        buf[..n].fill(b' ');
+        self.left -= n;
+        self.taken = self.taken.saturating_add(n);
+        Ok(n)
+    }
+}
+
+/// A writer over memory that takes `piece` bytes a call, and fails once it has `room` bytes.
+#[derive(Drop)]
+struct Short {
+    taken: Vec<u8>,
+    piece: usize,
+    room: usize,
+}
+
+impl Write for Short {
+    fn write(&mut self, buf: &[u8]) -> io::Result<usize> {
+        let left = self.room.saturating_sub(self.taken.len());
+        let n = buf.len().min(self.piece).min(left);
+        if left == 0 {
+            return Err(io::Error::from(ErrorKind::StorageFull));
+        }
+        if self.taken.extend_from_slice(&buf[..n]).is_err() {
+            return Err(io::Error::from(ErrorKind::OutOfMemory));
+        }
+        Ok(n)
+    }
+
+    fn flush(&mut self) -> io::Result<()> {
+        Ok(())
+    }
+}
+
+fn same_bytes(rt: &impl Abort, left: &[u8], right: &[u8]) {
+    assert_eq!(rt; left, right);
+}
+
+/// A run over this reader answers so, and writes these bytes.
+fn compiles<R: Read + Drop>(
+    rt: &(impl Abort + AllocGlobal),
+    reader: R,
+    wanted: Result<(), Refusal>,
+    bytes: &[u8],
+) {
+    let mut writer = WriteSink::new(Vec::new(rt.alloc()));
+    let answer = run(rt.alloc(), &mut ReadText::new(reader), &mut writer);
+    assert_eq!(rt; answer, wanted);
+    assert_eq!(rt; writer.into_inner().as_slice(), bytes);
+}
+
+/// A reader of the text by pieces.
+fn in_pieces(pieces: &[usize], good: usize) -> Pieces<'_> {
+    Pieces {
+        rest: TEXT,
+        pieces,
+        good,
+    }
+}
+
+#[test]
+fn any_pieces_make_the_same_table(rt: HostRuntime) -> Result<(), Fail> {
+    let table = table(rt.alloc())?;
+    let sizes = [1, 2, 3, 5, 8, 13, 21];
+    compiles(&rt, in_pieces(&[], usize::MAX), Ok(()), &table);
+    compiles(&rt, in_pieces(&sizes, usize::MAX), Ok(()), &table);
+    compiles(&rt, in_pieces(&[4096], usize::MAX), Ok(()), &table);
+    compiles(&rt, TEXT, Ok(()), &table);
+    Ok(())
+}
+
+#[test]
+fn a_reader_is_read_to_its_end(rt: HostRuntime) {
+    let mut reader = ReadText::new(TEXT);
+    let mut writer = WriteSink::new(Vec::new(rt.alloc()));
+    let answer = run(rt.alloc(), &mut reader, &mut writer);
+    assert!(rt; answer.is_ok());
+    same_bytes(&rt, reader.into_inner(), &[]);
+}
+
+/// A reader that fails once so many bytes are given.
+fn failing_after(rt: &(impl Abort + AllocGlobal), good: usize) {
+    let reader = in_pieces(&[10, 9, 40], good);
+    compiles(rt, reader, Err(Refusal::Read), &[]);
+}
+
+#[test]
+fn a_reader_that_fails_leaves_nothing_written(rt: HostRuntime) {
+    failing_after(&rt, 0);
+    failing_after(&rt, 1);
+    failing_after(&rt, 20);
+    failing_after(&rt, TEXT.len());
+}
+
+/// A writer that takes so many bytes a call, and so many in all, has then the first of the table, and this is the
+/// answer.
+fn writes(
+    rt: &(impl Abort + AllocGlobal),
+    piece: usize,
+    room: usize,
+    wanted: Result<(), Refusal>,
+    written: usize,
+) -> Result<(), Fail> {
+    let table = table(rt.alloc())?;
+    let taken = Vec::new(rt.alloc());
+    let mut writer = WriteSink::new(Short { taken, piece, room });
+    let answer = run(rt.alloc(), &mut ReadText::new(TEXT), &mut writer);
+    assert_eq!(rt; answer, wanted, "{piece} bytes a call, {room} in all");
+    let prefix = table.get(..written).ok_or("prefix")?;
+    same_bytes(rt, &writer.into_inner().taken, prefix);
+    Ok(())
+}
+
+#[test]
+fn a_writer_that_fails_has_a_prefix_of_the_table(rt: HostRuntime) -> Result<(), Fail> {
+    let fault = Err(Refusal::Output);
+    writes(&rt, 140, 60, fault, 60)?;
+    writes(&rt, 7, 60, fault, 60)?;
+    writes(&rt, 140, 139, fault, 139)?;
+    writes(&rt, 140, 0, fault, 0)?;
+    writes(&rt, 3, 140, Ok(()), 140)?;
+    writes(&rt, 1, 140, Ok(()), 140)?;
+    // It takes nothing, and doesn't fail.
+    writes(&rt, 0, 140, fault, 0)?;
+    Ok(())
+}
+
+/// So many blanks are refused so, and so many are read.
+fn refused_blanks(rt: &(impl Abort + AllocGlobal), left: usize, fault: FmdFault, taken: usize) {
+    let mut reader = ReadText::new(Blanks { left, taken: 0 });
+    let mut writer = WriteSink::new(Vec::new(rt.alloc()));
+    let answer = run(rt.alloc(), &mut reader, &mut writer);
+    assert_eq!(rt; answer, Err(Refusal::Descriptor(fault)), "{left} blanks");
+    assert_eq!(rt; reader.into_inner().taken, taken, "{left} blanks");
+    assert_eq!(rt; writer.into_inner().len(), 0, "{left} blanks");
+}
+
+#[test]
+fn no_more_is_read_than_tells_that_a_text_is_too_long(rt: HostRuntime) {
+    let what = Expected::Section;
+    let no_section = FmdFault::Expected {
+        at: 1_048_576,
+        what,
+    };
+    refused_blanks(&rt, 1_048_576, no_section, 1_048_576);
+    refused_blanks(&rt, 1_048_577, FmdFault::TextTooLong, 1_048_577);
+    refused_blanks(&rt, 1_048_578, FmdFault::TextTooLong, 1_048_577);
+    refused_blanks(&rt, 3_000_000, FmdFault::TextTooLong, 1_048_577);
+    let no_section = FmdFault::Expected { at: 0, what };
+    refused_blanks(&rt, 0, no_section, 0);
+}
+
+fn told(rt: &(impl Abort + AllocGlobal), refusal: Refusal, text: &str) -> Result<(), Fail> {
+    let told = format!(in rt.alloc(); "{refusal}")?;
+    assert_eq!(rt; told.as_str(), text);
+    Ok(())
+}
+
+#[test]
+fn refusals_are_told_by_their_texts(rt: HostRuntime) -> Result<(), Fail> {
+    let fault = Refusal::Descriptor(FmdFault::NoFmap);
+    told(&rt, fault, "no FMAP section")?;
+    told(&rt, Refusal::Read, "read fault")?;
+    told(&rt, Refusal::Output, "output fault")?;
+    Ok(())
+}

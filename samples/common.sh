@@ -1,0 +1,104 @@
+# What the checks of both programs share.
+
+# prepare NAME [PROGRAM]: takes the program, or builds the one of this name, and goes to a new folder.
+prepare() {
+    name=$1
+    samples=$PWD/samples
+    local program=${2:-}
+    if [ -z "$program" ]; then
+        (cd "crates/$name" && rt run > /dev/null)
+        program=crates/$name/out/$name
+    fi
+    work=$(mktemp -d)
+    trap 'rm -rf "$work"' EXIT
+    cp "$program" "$work/$name"
+    tool=$work/$name
+    chmod 755 "$work" "$tool"
+    cd "$work"
+}
+
+fail() {
+    echo "$*" >&2
+    exit 1
+}
+
+# has FILE TEXT: the file has this text, and a line feed where the text isn't empty
+has() {
+    [ "$(cat "$1")" = "$2" ] || fail "$1 has: $(cat "$1")"
+}
+
+# missing FILE: there is no such file
+missing() {
+    [ ! -e "$1" ] || fail "$1 was made"
+}
+
+# empty FILE: there is such a file, and it has no bytes
+empty() {
+    [ -f "$1" ] || fail "$1 isn't there"
+    [ ! -s "$1" ] || fail "$1 has bytes"
+}
+
+# does WORDS..: the program ends with status 0, and prints and tells nothing
+does() {
+    local status=0
+    "$tool" "$@" > printed 2> told || status=$?
+    [ "$status" = 0 ] || fail "$name $*: status $status, $(cat told)"
+    empty printed
+    empty told
+}
+
+# shows FILE WORDS..: the program ends with status 0, prints these bytes, and tells nothing
+shows() {
+    local wanted=$1 status=0
+    shift
+    "$tool" "$@" > printed 2> told || status=$?
+    [ "$status" = 0 ] || fail "$name $*: status $status, $(cat told)"
+    cmp printed "$wanted"
+    empty told
+}
+
+# refuses STATUS TEXT WORDS..: the program ends with this status, tells this text, and prints nothing; its output goes
+# to the file $out, if there is one
+refuses() {
+    local wanted=$1 text=$2 status=0
+    shift 2
+    : > printed
+    "$tool" "$@" > "${out:-printed}" 2> told || status=$?
+    [ "$status" = "$wanted" ] || fail "$name $*: status $status"
+    has told "$name: $text"
+    empty printed
+}
+
+# each_growth LEAST FILE WORDS..: with each growth of memory refused in turn, until a run has none of the number, the
+# program tells the want of memory and leaves no byte in the file; there are more growths than the least
+each_growth() {
+    local least=$1 file=$2 growths=0 status
+    shift 2
+    cc -shared -fPIC -o refuse_memory.so "$samples/refuse_memory.c"
+    while true; do
+        growths=$((growths + 1)) status=0
+        rm -f "$file" was_refused
+        REFUSED=was_refused REFUSE_AT=$growths LD_PRELOAD=./refuse_memory.so "$tool" "$@" > printed 2> told || status=$?
+        [ -e was_refused ] || break
+        [ "$status" = 1 ] || fail "growth $growths of memory refused: status $status"
+        has told "$name: out of memory"
+        empty printed
+        [ ! -s "$file" ] || fail "growth $growths of memory refused: $file has bytes"
+    done
+    [ "$status" = 0 ] || fail "no growth of memory refused: status $status"
+    [ "$growths" -gt "$least" ] || fail "only $growths growths of memory"
+    echo "memory: each of $((growths - 1)) growths refused is told"
+}
+
+# with_short_writes WORDS..: runs a check of a call where each write takes half of its bytes, as `with_short_writes does ..`
+with_short_writes() {
+    local checked=$tool
+    cc -shared -fPIC -o short_writes.so "$samples/short_writes.c" -ldl
+    rm -f was_short
+    printf '#!/bin/sh\nSHORT=was_short LD_PRELOAD=./short_writes.so exec "%s" "$@"\n' "$checked" > halved
+    chmod 755 halved
+    tool=./halved
+    "$@"
+    tool=$checked
+    [ -e was_short ] || fail "$*: no write was short"
+}
