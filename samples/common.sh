@@ -86,6 +86,8 @@ each_growth() {
         [ ! -s "$file" ] || fail "growth $growths of memory refused: $file has bytes"
     done
     [ "$status" = 0 ] || fail "no growth of memory refused: status $status"
+    empty printed
+    empty told
     [ "$growths" -gt "$least" ] || fail "only $growths growths of memory"
     echo "memory: each of $((growths - 1)) growths refused is told"
 }
