@@ -17,13 +17,13 @@ unfolding head_bytes
 length-head_bytes h = refl
 
 -- a head in front of anything is read back
-head_in_front : (h : Head) (more : List ℕ) → h.len < 256 ^ 4 → h.kind < 256 ^ 4 → h.attributes_offset < 256 ^ 4 → h.offset < 256 ^ 4 → head_at (head_bytes h ++ more) ≡ Some h
+pub head_in_front : (h : Head) (more : List ℕ) → h.len < 256 ^ 4 → h.kind < 256 ^ 4 → h.attributes_offset < 256 ^ 4 → h.offset < 256 ^ 4 → head_at (head_bytes h ++ more) ≡ Some h
 head_in_front h more len_fits kind_fits attributes_fit offset_fits =
     sym (head_at-take (head_bytes h ++ more) 24 (omega arith))
     ∙ ap (λ (l : List ℕ). head_at l) (take_at (head_bytes h) more 24 (length-head_bytes h))
     ∙ head_is_read_back (head_bytes h) h refl len_fits kind_fits attributes_fit offset_fits
 
-head_is : (x : List ℕ) (h : Head) → head_at x ≡ Some h → head_of x ≡ h
+pub head_is : (x : List ℕ) (h : Head) → head_at x ≡ Some h → head_of x ≡ h
 head_is x h e = go (has_magic x) e
   where
     go : (b : Bool) → cond b (Some (head_of x)) None ≡ Some h → head_of x ≡ h

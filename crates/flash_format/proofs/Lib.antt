@@ -9,4 +9,9 @@ pub mod BlankLaws
 pub mod Splices
 pub mod MapLaws
 pub mod Writing
+pub mod PutLemmas
+pub mod MadeLaws
+pub mod Placed
+pub mod NumberLaws
+pub mod TypeLaws
 mod Examples

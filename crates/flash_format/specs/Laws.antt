@@ -1,13 +1,17 @@
 -- The laws of the definitions that the crates above rest on.
-use Rattle.std.specs.Prelude.{◌≡◌, ◌≢◌, ℕ, ◌+◌, ◌-◌, ◌%◌, ◌^◌, ◌<◌, ◌≤◌, Bool, true, List, ◌++◌, length, take, drop, All, Some, None, Option}
+use Rattle.std.specs.Prelude.{◌≡◌, ◌≢◌, ℕ, ◌+◌, ◌-◌, ◌%◌, ◌^◌, ◌<◌, ◌≤◌, Bool, true, List, [], ◌∷◌, ◌++◌, length, take, drop, All, Some, None, Option}
 use Rattle.std.specs.List.{concat, sum_by}
-use Rattle.flash_format.specs.Head.{header_length, head_of, is_free}
+use Rattle.flash_format.specs.declared.digest.Digest.{Digest}
+use Rattle.flash_format.specs.Head.{name_padding, header_length, head_of, is_free, round64}
 use Rattle.flash_format.specs.Blanks.{blank_header}
 use Rattle.flash_format.specs.Entry.{entry, cell}
 use Rattle.flash_format.specs.Cut.{End, cut, after_all, IsCell, IsCut}
 use Rattle.flash_format.specs.Components.{components, components_from, moved}
-use Rattle.flash_format.specs.Splices.{CellsBetween, spliced}
+use Rattle.flash_format.specs.Splices.{AllFree, CellsBetween, spliced}
+use Rattle.flash_format.specs.Made.{IsDigest, IsMade, IsReadAs, KeepsFour, name_room, meta_length, hash_len, made_front, made}
+use Rattle.flash_format.specs.Placings.{IsPlacing, HasOneMore, space_cells, made_component}
 use Rattle.flash_format.specs.Flashmap.{is_map, map_of}
+use Rattle.flash_format.specs.TypeNames.{name_of_type, type_of_text}
 
 -- a cell has at least 64 bytes, and a multiple of 64
 abbrev pub CellsAreLarge : Type 0
@@ -69,6 +73,39 @@ abbrev pub BlanksHaveNoComponent : Type 0
 BlanksHaveNoComponent = (x : List ℕ) (start end : ℕ) (g : CellsBetween x start end) (kept : Bool) (more : List ℕ) → start < end → end - start < 2 ^ 32 → start + header_length + length more ≡ end
     → components (spliced x start end (blank_header (end - start) kept ++ more)) ≡ components_from 0 g.before ++ components_from end g.after
 
+-- a front and its content are read as a cell of that component, whatever bytes follow
+abbrev pub FrontsAreReadAsMade : Type 0
+FrontsAreReadAsMade = (name : List ℕ) (kind : ℕ) (digest : Option Digest) (gap : ℕ) (content more : List ℕ) → IsMade name kind digest gap content
+    → let component = made_front name kind digest gap (length content) ++ content in
+    IsReadAs name kind digest content (component ++ more) (round64 (length component))
+
+-- a made cell is read as a cell of its length, whatever bytes follow
+abbrev pub MadeCellsAreReadAsMade : Type 0
+MadeCellsAreReadAsMade = (name : List ℕ) (kind : ℕ) (digest : Option Digest) (gap : ℕ) (content : List ℕ) (last : Option (List ℕ)) (more : List ℕ) → IsMade name kind digest gap content → KeepsFour last
+    → let x = made name kind digest gap content last in
+    IsReadAs name kind digest content (x ++ more) (length x)
+
+-- and where none follow
+abbrev pub MadeCellsStandAlone : Type 0
+MadeCellsStandAlone = (name : List ℕ) (kind : ℕ) (digest : Option Digest) (gap : ℕ) (content : List ℕ) (last : Option (List ℕ)) → IsMade name kind digest gap content → KeepsFour last
+    → let x = made name kind digest gap content last in
+    IsReadAs name kind digest content x (length x)
+
+-- how long a made cell is
+abbrev pub MadeCellsAreAsLong : Type 0
+MadeCellsAreAsLong = (name : List ℕ) (kind : ℕ) (digest : Option Digest) (gap : ℕ) (content : List ℕ) (last : Option (List ℕ)) → IsDigest digest → KeepsFour last
+    → length (made name kind digest gap content last) ≡ round64 (meta_length (length name) (hash_len digest) + gap + length content)
+
+-- the field of a name is the least multiple of the padding that is longer than the name
+abbrev pub RoomsAreLeast : Type 0
+RoomsAreLeast = (k : ℕ) → (k < name_room k) × (name_room k % name_padding ≡ 0) × (name_room k ≤ k + name_padding)
+
+-- a component's cell with free space before and after it, in place of free cells: one component more, and all others stay
+abbrev pub ComponentsArePlaced : Type 0
+ComponentsArePlaced = (x : List ℕ) (start end : ℕ) (g : CellsBetween x start end) (at : ℕ) (before whole after : List ℕ) (name : List ℕ) (kind : ℕ) (digest : Option Digest) (content : List ℕ)
+    → AllFree g.group → IsPlacing start end at before whole after → IsReadAs name kind digest content whole (length whole)
+    → HasOneMore x start end g (space_cells before ++ (whole ∷ []) ++ space_cells after) (made_component at name kind digest content whole) (spliced x start end (before ++ (whole ++ after)))
+
 -- no valid map stands below this place
 abbrev pub NoMapBelow : List ℕ → ℕ → Type 0
 NoMapBelow image q = (k : ℕ) → k < q → is_map (drop k image) ≢ true
@@ -80,3 +117,7 @@ IsMapOf image None = NoMapBelow image (length image)
 
 abbrev pub MapsAreTheLowest : Type 0
 MapsAreTheLowest = (image : List ℕ) → IsMapOf image (map_of image)
+
+-- the name of a type is read as that type
+abbrev pub NamesAreReadBack : Type 0
+NamesAreReadBack = (kind : ℕ) (name : List ℕ) → name_of_type kind ≡ Some name → type_of_text name ≡ Some kind

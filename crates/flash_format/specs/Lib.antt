@@ -5,6 +5,10 @@ pub mod Entry
 pub mod Cut
 pub mod Components
 pub mod Splices
+pub mod Puts
+pub mod Made
+pub mod Placings
 pub mod Flashmap
+pub mod Numbers
 pub mod TypeNames
 pub mod Laws

@@ -1,7 +1,12 @@
 -- Neighbouring cells of a region, and others in their place.
 use Rattle.std.specs.List.{concat}
-use Rattle.std.specs.Prelude.{◌≡◌, ℕ, ◌+◌, List, ◌++◌, length, take, drop}
+use Rattle.std.specs.Prelude.{◌≡◌, ℕ, ◌+◌, true, List, ◌++◌, length, take, drop, All}
+use Rattle.flash_format.specs.Head.{head_of, is_free}
 use Rattle.flash_format.specs.Cut.{End, IsCut}
+
+-- each of these cells is free space
+abbrev pub AllFree : List (List ℕ) → Type 0
+AllFree cells = All (λ c. is_free (head_of c) ≡ true) cells
 
 -- a group of neighbouring cells of a region, from start up to end, between the others
 pub record CellsBetween (x : List ℕ) (start end : ℕ) : Type 0 where

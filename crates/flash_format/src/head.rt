@@ -11,9 +11,12 @@ const DELETED: u32 = 0;
 
 pub const NULL: u32 = 0xffff_ffff;
 
-/// How many bytes of an empty entry stand before the space that it describes: its head of 24, and an empty name, since
-/// the fields of names are padded to multiples of 4. `lengths_are_defined` ties it to its definition.
-pub const HEADER_LENGTH: usize = 28;
+/// The field of a name, which has at least one NUL, is padded with NULs to a multiple of this.
+pub const NAME_PADDING: usize = 4;
+
+/// How many bytes of an empty entry stand before the space that it describes: its head of 24, and the field of an empty
+/// name. `lengths_are_defined` ties it to its definition.
+pub const HEADER_LENGTH: usize = 24 + NAME_PADDING;
 
 /// Why an entry is damaged: the first of these checks that fails.
 #[derive(Clone, Copy, Debug, PartialEq, Eq)]

@@ -1,6 +1,6 @@
 //! Laws of the definitions, which the crates above rest on. These functions do nothing: their contracts are the laws.
 
-ghost use Rattle.flash_format.specs.Laws.{CellsAreLarge, CellsFit, CellsAreReadAlike, FreeCellsAreReadByTheirHead, EveryRegionHasACut, CutsAreUnique, CutsGoOn, ComponentsGoOn, ComponentsJoin, PlacesAreSums, BlankHeadersAreFreeCells, CellsAreReplaced, ComponentsStay, BlanksHaveNoComponent, MapsAreTheLowest};
+ghost use Rattle.flash_format.specs.Laws.{CellsAreLarge, CellsFit, CellsAreReadAlike, FreeCellsAreReadByTheirHead, EveryRegionHasACut, CutsAreUnique, CutsGoOn, ComponentsGoOn, ComponentsJoin, PlacesAreSums, BlankHeadersAreFreeCells, CellsAreReplaced, ComponentsStay, BlanksHaveNoComponent, FrontsAreReadAsMade, MadeCellsAreReadAsMade, MadeCellsStandAlone, MadeCellsAreAsLong, RoomsAreLeast, ComponentsArePlaced, MapsAreTheLowest, NamesAreReadBack};
 ghost use Rattle.std.specs.Prelude.{◌≡◌};
 ghost use Rattle.flash_format.specs.Head.{header_length};
 ghost use Rattle.flash_format.specs.Flashmap.{fmap_head_len, area_len};
@@ -52,7 +52,29 @@ pub fn groups_are_replaced()
     ensures blank { BlanksHaveNoComponent }
 {}
 
+/// A made cell is read as the component that it was made of: its name, type, attributes and content. That needs only what
+/// stands up to the content's end; the cell may hold anything after it.
+pub fn made_cells_are_read_as_made()
+    ensures front { FrontsAreReadAsMade }
+    ensures whole { MadeCellsAreReadAsMade }
+    ensures alone { MadeCellsStandAlone }
+    ensures len { MadeCellsAreAsLong }
+    ensures room { RoomsAreLeast }
+{}
+
+/// A component's cell in place of free cells, with free space before and after it, up to what was free: the region has
+/// this one component more, and the others stay, with their places and bytes. So do the end of the cells and what is
+/// left after them.
+pub fn components_are_placed()
+    ensures { ComponentsArePlaced }
+{}
+
 /// An image's map is the lowest valid one.
 pub fn maps_are_the_lowest()
     ensures { MapsAreTheLowest }
+{}
+
+/// The name of a type is read as that type.
+pub fn type_names_are_read_back()
+    ensures { NamesAreReadBack }
 {}

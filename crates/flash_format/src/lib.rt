@@ -1,4 +1,5 @@
-//! The bytes of CBFS entries and of flashmaps: heads, attributes, areas and the names of types.
+//! The bytes of CBFS entries and of flashmaps: heads, attributes, areas, fronts of components, digests, and types and
+//! numbers as text.
 //!
 //! No call takes memory. The definitions of the formats, which every other crate's contracts speak of, lie in
 //! `specs/`; docs/FORMAT.md says them in words.
@@ -6,17 +7,24 @@
 
 mod attribute;
 mod blank;
+mod digest;
 mod flashmap;
 mod head;
 mod laws;
+mod meta;
+mod number;
 mod type_names;
 
 pub use attribute::AttrHead;
 pub use blank::empty_header;
+pub use digest::{Digest, digest_text};
 pub use flashmap::{Area, FmapHead};
 pub use head::{DamageKind, Extent, HEADER_LENGTH, Head};
 pub use laws::{
-    blank_headers_are_free_cells, cuts_are_made_of_cells, cuts_go_on, entries_are_read_alike,
-    groups_are_replaced, lengths_are_defined, maps_are_the_lowest,
+    blank_headers_are_free_cells, components_are_placed, cuts_are_made_of_cells, cuts_go_on,
+    entries_are_read_alike, groups_are_replaced, lengths_are_defined, made_cells_are_read_as_made,
+    maps_are_the_lowest, type_names_are_read_back,
 };
-pub use type_names::type_name;
+pub use meta::{Meta, meta_len, write_meta};
+pub use number::{digits_value, read_number};
+pub use type_names::{type_name, type_number};

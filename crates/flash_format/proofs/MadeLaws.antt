@@ -1,0 +1,306 @@
+-- A made cell is read as the component that it was made of.
+use Rattle.std.proofs.Common.{◌≡◌, ℕ, zero, suc, ◌+◌, ◌-◌, ◌%◌, ◌^◌, ◌<◌, ◌≤◌, Bool, true, false, cond, List, [], ◌∷◌, ◌++◌, length, take, drop, get_or, replicate, Option, Some, None, Result, Ok, refl, sym, ap, ◌∙◌, subst, arith, eqb, ltb, not, ◌||◌, append_assoc, length-append, length-take, length-drop, lit<}
+use Rattle.std.specs.Prelude.{slice_range, is_some}
+use Rattle.std.specs.List.{list_any, before_first, prefix_len}
+use Rattle.std.specs.Option.{option_map}
+use Rattle.std.proofs.lemmas.Bool.{le-ltb, and_right, or_from, or_parts, or_right}
+use Rattle.std.proofs.lemmas.Bool.Decides.{nat_tests}
+use Rattle.std.proofs.lemmas.List.Folds.{list_any_at}
+use Rattle.std.proofs.lemmas.List.{take_at, drop_at, append-nil, length-replicate, get_or-take, get_or-append_right}
+use Rattle.byteorder.specs.Endian.{big_bytes}
+use Rattle.byteorder.specs.Numbers.{big_number-reads_back}
+use Rattle.flash_format.specs.declared.head.Head.{Head}
+use Rattle.flash_format.specs.declared.head.Extent.{Extent}
+use Rattle.flash_format.specs.declared.head.DamageKind.{DamageKind}
+use Rattle.flash_format.specs.declared.head.DamageKind.TheVariants as kinds
+use Rattle.flash_format.specs.declared.digest.Digest.{Digest}
+use Rattle.flash_format.specs.declared.digest.Digest.TheVariants as digests
+use Rattle.flash_format.specs.declared.attribute.AttrHead.{AttrHead}
+use Rattle.flash_format.specs.Head.{name_padding, head_of, head_at, head_bytes, is_free, attributes_misplaced, checked, round64, be32}
+use Rattle.flash_format.specs.Attributes.{Attribute, attr_head_of, attributes, attributes_after, attribute, ends_list, is_malformed, is_unused, has_bad_len, HASH}
+use Rattle.flash_format.specs.Entry.{damaged, cell, present, component, is_nul, name_end, name_field, has_name, attribute_field}
+use Rattle.flash_format.specs.Blanks.{padding}
+use Rattle.flash_format.specs.Made.{IsDigest, IsMade, IsReadAs, KeepsFour, name_room, meta_length, algorithm, digest_bytes, digest_len, hash_attribute, hash_bytes, hash_len, made_head, padded_name, made_front, made, made_attributes}
+use Rattle.flash_format.proofs.AttributeSteps.{attributes_end, attributes_more}
+use Rattle.flash_format.proofs.BlankLaws.{length-head_bytes, head_in_front, head_is}
+use Rattle.flash_format.proofs.EntryLaws.{from_head}
+
+pub room_is_least : (k : ℕ) → (k < name_room k) × (name_room k % name_padding ≡ 0) × (name_room k ≤ k + name_padding)
+room_is_least k = (omega arith, omega arith, omega arith)
+
+-- ---- Bools
+
+either_way : (b : Bool) (k u v : ℕ) → k < u → k < v → k < cond b u v
+either_way true k u v in_u in_v = in_u
+either_way false k u v in_u in_v = in_v
+
+not_zero : (n : ℕ) → 0 < n → eqb n 0 ≡ false
+not_zero n some = grind (arith, nat_tests)
+
+-- ---- the name
+
+zeros_begin : (n : ℕ) → 0 < n → replicate {A = ℕ} n 0 ≡ 0 ∷ replicate (n - 1) 0
+zeros_begin zero some = absurd (omega arith)
+zeros_begin (suc n) some = let e : suc n - 1 ≡ n = omega arith in ap (λ (k : ℕ). 0 ∷ replicate k 0) (sym e)
+
+until_nul : (b : Bool) (x : ℕ) (xs : List ℕ) → is_nul x ≡ b → b ≡ false → before_first is_nul (x ∷ xs) ≡ x ∷ before_first is_nul xs
+until_nul true x xs e f = absurd cc
+until_nul false x xs e f =
+    let n = prefix_len (λ y. not (is_nul y)) xs in
+    let more : 1 + n ≡ suc n = omega arith in
+    rw e (ap (λ (k : ℕ). take k (x ∷ xs)) more)
+
+first_nul : (name z : List ℕ) (m : ℕ) → list_any is_nul name ≡ false → length name < m → before_first is_nul (take m (name ++ (0 ∷ z))) ≡ name
+first_nul name z zero plain room = absurd (omega arith)
+first_nul [] z (suc m) plain room = refl
+first_nul (b ∷ name) z (suc m) plain room =
+    let parts = or_parts (is_nul b) (list_any is_nul name) plain in
+    until_nul (is_nul b) b (take m (name ++ (0 ∷ z))) refl parts.0 ∙ ap (λ (l : List ℕ). b ∷ l) (first_nul name z m parts.1 (omega arith))
+
+some_nul : (name z : List ℕ) (m : ℕ) → length name ≤ 127 → length name < m → has_name (take m (name ++ (0 ∷ z))) ≡ true
+some_nul name z m short room =
+    let k = length name in
+    let x : List ℕ = name ++ (0 ∷ z) in
+    let field : List ℕ = take 256 (take m x) in
+    let inside : k < length field = omega (arith, length-take 256 (take m x), length-take m x, length-append name (0 ∷ z)) in
+    let nul : get_or field k 0 ≡ 0 =
+    get_or-take 256 (take m x) k 0 (omega arith) ∙ get_or-take m x k 0 room ∙ get_or-append_right name (0 ∷ z) k k 0 refl (omega arith)
+    ∙ (let e : k - k ≡ 0 = omega arith in ap (λ (i : ℕ). get_or (0 ∷ z) i 0) e) in
+    list_any_at is_nul field k 0 inside (ap (λ b. is_nul b) nul)
+
+-- ---- the attributes
+
+-- 0xff ends a list of attributes
+gap_ends : (gap : ℕ) → ends_list (replicate gap 255) ≡ true
+unfolding attr_head_of
+gap_ends zero = refl
+gap_ends (suc zero) = refl
+gap_ends (suc (suc zero)) = refl
+gap_ends (suc (suc (suc zero))) = refl
+gap_ends (suc (suc (suc (suc gap)))) =
+    let x : List ℕ = replicate (suc (suc (suc (suc gap)))) 255 in
+    or_right (ltb (length x) 8) (is_unused (attr_head_of x).tag) refl
+
+hash_head : (number : ℕ) (bytes more : List ℕ) → length bytes ≤ 64 → attr_head_of (hash_attribute number bytes ++ more) ≡ record { tag = HASH; len = 12 + length bytes }
+unfolding attr_head_of hash_attribute
+hash_head number bytes more few =
+    let tag : be32 0 (hash_attribute number bytes ++ more) ≡ HASH = big_number-reads_back 4 HASH [] (lit< tt) in
+    let len : be32 4 (hash_attribute number bytes ++ more) ≡ 12 + length bytes = big_number-reads_back 4 (12 + length bytes) [] (omega arith) in
+    rw (tag, len) refl
+
+length-hash : (number : ℕ) (bytes : List ℕ) → length (hash_attribute number bytes) ≡ 12 + length bytes
+unfolding hash_attribute
+length-hash number bytes = omega arith
+
+hash_value : (number : ℕ) (bytes more : List ℕ) → slice_range (hash_attribute number bytes ++ more) 8 (12 + length bytes) ≡ big_bytes 4 number ++ bytes
+unfolding hash_attribute
+hash_value number bytes more =
+    let value : List ℕ = big_bytes 4 number ++ bytes in
+    take_at value more (12 + length bytes - 8) (omega arith)
+
+hash_read : (number : ℕ) (bytes : List ℕ) (gap : ℕ) → length bytes ≤ 64
+    → attributes (hash_attribute number bytes ++ replicate gap 255) ≡ Some (record { tag = HASH; contents = big_bytes 4 number ++ bytes } ∷ [])
+hash_read number bytes gap few =
+    let spare : List ℕ = replicate gap 255 in
+    let x : List ℕ = hash_attribute number bytes ++ spare in
+    let head : attr_head_of x ≡ record { tag = HASH; len = 12 + length bytes } = hash_head number bytes spare few in
+    let long : 12 + length bytes ≤ length x = omega (arith, length-hash number bytes, length-append (hash_attribute number bytes) spare) in
+    let goes_on : ends_list x ≡ false =
+    or_from (ltb (length x) 8) (is_unused (attr_head_of x).tag) (le-ltb (length x) 8 (omega (arith, long))) (ap (λ (h : AttrHead). is_unused h.tag) head) in
+    let formed : is_malformed x ≡ false =
+    ap (λ (h : AttrHead). has_bad_len h (length x)) head
+    ∙ or_from (ltb (12 + length bytes) 12) (ltb (length x) (12 + length bytes)) (le-ltb (12 + length bytes) 12 (omega arith)) (le-ltb (length x) (12 + length bytes) long) in
+    let first : attribute x ≡ record { tag = HASH; contents = big_bytes 4 number ++ bytes } =
+    ap (λ (h : AttrHead). record { tag = h.tag; contents = slice_range x 8 h.len }) head
+    ∙ ap (λ (l : List ℕ). record { tag = HASH; contents = l }) (hash_value number bytes spare) in
+    let rest : attributes (drop (attr_head_of x).len x) ≡ Some [] =
+    ap (λ (h : AttrHead). attributes (drop h.len x)) head
+    ∙ ap (λ (l : List ℕ). attributes l) (drop_at (hash_attribute number bytes) spare (12 + length bytes) (length-hash number bytes))
+    ∙ attributes_end spare (gap_ends gap) in
+    attributes_more x goes_on formed
+    ∙ ap (λ (o : Option (List Attribute)). option_map (λ others. attribute x ∷ others) o) rest
+    ∙ ap (λ (a : Attribute). Some (a ∷ [])) first
+
+few_bytes : (digest : Digest) → length (digest_bytes digest) ≡ digest_len digest → length (digest_bytes digest) ≤ 64
+few_bytes (digests.Sha256 bytes) is = omega (arith, is)
+few_bytes (digests.Sha512 bytes) is = omega (arith, is)
+
+-- ---- the parts of a front
+
+length-padded : (name : List ℕ) → length (padded_name name) ≡ name_room (length name)
+length-padded name = omega (arith, length-append name (replicate (name_room (length name) - length name) 0), length-replicate {A = ℕ} (name_room (length name) - length name) 0)
+
+length-front : (name : List ℕ) (kind : ℕ) (digest : Option Digest) (gap n : ℕ) → length (made_front name kind digest gap n) ≡ (made_head name kind digest gap n).offset
+length-front name kind digest gap n =
+    let head : List ℕ = head_bytes (made_head name kind digest gap n) in
+    omega (
+      arith,
+      length-append (head ++ padded_name name ++ hash_bytes digest) (replicate gap 255),
+      length-append (head ++ padded_name name) (hash_bytes digest),
+      length-append head (padded_name name),
+      length-head_bytes (made_head name kind digest gap n),
+      length-padded name,
+      length-replicate {A = ℕ} gap 255,
+    )
+
+padded_is : (name : List ℕ) → padded_name name ≡ name ++ (0 ∷ replicate (name_room (length name) - length name - 1) 0)
+padded_is name = ap (λ (l : List ℕ). name ++ l) (zeros_begin (name_room (length name) - length name) (omega arith))
+
+-- the name field is longer than the name
+name_fits : (name : List ℕ) (kind : ℕ) (digest : Option Digest) (gap n : ℕ) → 24 + length name < name_end (made_head name kind digest gap n)
+name_fits name kind digest gap n =
+    let h = made_head name kind digest gap n in
+    go digest
+  where
+    go : (d : Option Digest) → let h = made_head name kind d gap n in 24 + length name < name_end h
+    go None = omega arith
+    go (Some d) = either_way (eqb (24 + name_room (length name)) 0) (24 + length name) (made_head name kind (Some d) gap n).offset (24 + name_room (length name)) (omega arith) (omega arith)
+
+placed : (name : List ℕ) (kind : ℕ) (digest : Option Digest) (gap n : ℕ) → attributes_misplaced (made_head name kind digest gap n) ≡ false
+placed name kind None gap n = refl
+placed name kind (Some d) gap n =
+    let at = 24 + name_room (length name) in
+    let offset = (made_head name kind (Some d) gap n).offset in
+    and_right (not (eqb at 0)) (ltb at 25 || ltb offset at) (or_from (ltb at 25) (ltb offset at) (le-ltb at 25 (omega arith)) (le-ltb offset at (omega arith)))
+
+range_of : (a b c : List ℕ) (from to : ℕ) → length a ≡ from → from + length b ≡ to → slice_range (a ++ (b ++ c)) from to ≡ b
+range_of a b c from to begins ends =
+    ap (λ (l : List ℕ). take (to - from) l) (drop_at a (b ++ c) from begins) ∙ take_at b c (to - from) (omega (arith, ends))
+
+attributes_read : (name : List ℕ) (kind : ℕ) (digest : Option Digest) (gap n : ℕ) (more : List ℕ) → IsDigest digest
+    → attributes (attribute_field (made_head name kind digest gap n) (made_front name kind digest gap n ++ more)) ≡ Some (made_attributes digest)
+unfolding attributes_after
+attributes_read name kind None gap n more is = refl
+attributes_read name kind (Some d) gap n more is =
+    let h = made_head name kind (Some d) gap n in
+    let at = 24 + name_room (length name) in
+    let hash : List ℕ = hash_bytes (Some d) in
+    let before : List ℕ = head_bytes h ++ padded_name name in
+    let list : List ℕ = hash ++ replicate gap 255 in
+    let x : List ℕ = made_front name kind (Some d) gap n ++ more in
+    let shape : x ≡ before ++ (list ++ more) = ap (λ (l : List ℕ). l ++ more) (append_assoc before hash (replicate gap 255)) ∙ append_assoc before list more in
+    let field : attribute_field h x ≡ list =
+    ap (λ (b : Bool). cond b [] (slice_range x at h.offset)) (not_zero at (omega arith))
+    ∙ ap (λ (l : List ℕ). slice_range l at h.offset) shape
+    ∙ range_of before list more at h.offset (omega (arith, length-append (head_bytes h) (padded_name name), length-head_bytes h, length-padded name))
+    (omega (arith, length-append hash (replicate gap 255), length-replicate {A = ℕ} gap 255)) in
+    ap (λ (l : List ℕ). attributes l) field ∙ hash_read (algorithm d) (digest_bytes d) gap (few_bytes d is)
+
+-- ---- the cell
+
+checked_used : (h : Head) (left : ℕ) → is_free h ≡ false → 25 ≤ h.offset → attributes_misplaced h ≡ false → h.offset + h.len ≤ left
+    → checked h left ≡ Ok (record { content = h.offset; span = round64 (h.offset + h.len) })
+unfolding checked
+checked_used h left used offset well fits = rw (used, le-ltb h.offset 25 offset, well, le-ltb left (h.offset + h.len) fits) refl
+
+present_used : (h : Head) (x : List ℕ) (e : Extent) → is_free h ≡ false → present h x (Ok e) ≡ component h x e.span
+present_used h x e used = ap (λ (b : Bool). cond b (cell e.span) (component h x e.span)) used
+
+component_whole : (h : Head) (x : List ℕ) (span : ℕ) (list : List Attribute) → has_name (name_field h x) ≡ true → attributes (attribute_field h x) ≡ Some list → component h x span ≡ cell span
+component_whole h x span list name read =
+    ap (λ (b : Bool). cond (not b) (damaged kinds.Name) (cond (not (is_some (attributes (attribute_field h x)))) (damaged kinds.AttrLength) (cell span))) name
+    ∙ ap (λ (o : Option (List Attribute)). cond (not (is_some o)) (damaged kinds.AttrLength) (cell span)) read
+
+regroup : (head name nuls hash spare content more : List ℕ)
+    → head ++ (name ++ nuls) ++ hash ++ spare ++ content ++ more ≡ head ++ (name ++ (nuls ++ (hash ++ (spare ++ (content ++ more)))))
+regroup head name nuls hash spare content more = simp append_assoc
+
+attributes_inside : (name : List ℕ) (kind : ℕ) (digest : Option Digest) (gap n : ℕ) → (made_head name kind digest gap n).attributes_offset ≤ (made_head name kind digest gap n).offset
+attributes_inside name kind None gap n = omega arith
+attributes_inside name kind (Some d) gap n = omega arith
+
+pub front_is_read : (name : List ℕ) (kind : ℕ) (digest : Option Digest) (gap : ℕ) (content more : List ℕ) → IsMade name kind digest gap content
+    → let whole = made_front name kind digest gap (length content) ++ content in
+    IsReadAs name kind digest content (whole ++ more) (round64 (length whole))
+front_is_read name kind digest gap content more is =
+    let n = length content in
+    let h : Head = made_head name kind digest gap n in
+    let front : List ℕ = made_front name kind digest gap n in
+    let x : List ℕ = front ++ content ++ more in
+    let size : length front ≡ h.offset = length-front name kind digest gap n in
+    let small : h.offset + n < 2 ^ 32 = omega (arith, is.small, size) in
+    let hash : List ℕ = hash_bytes digest in
+    let spare : List ℕ = replicate gap 255 in
+    let nuls : List ℕ = replicate (name_room (length name) - length name - 1) 0 in
+    let rest : List ℕ = nuls ++ (hash ++ (spare ++ (content ++ more))) in
+    let later : List ℕ = name ++ (0 ∷ rest) in
+    let long : length x ≡ h.offset + n + length more = omega (arith, length-append (front ++ content) more, length-append front content, size) in
+    let shape : x ≡ head_bytes h ++ later =
+    ap (λ (l : List ℕ). head_bytes h ++ l ++ hash ++ spare ++ content ++ more) (padded_is name) ∙ regroup (head_bytes h) name (0 ∷ nuls) hash spare content more in
+    let attributes_small : h.attributes_offset ≤ h.offset = attributes_inside name kind digest gap n in
+    let head : head_at x ≡ Some h =
+    ap (λ (l : List ℕ). head_at l) shape ∙ head_in_front h later (omega (arith, small)) is.kind_small (omega (arith, small, attributes_small)) (omega (arith, small)) in
+    let head_there : head_of x ≡ h = head_is x h head in
+    let field : name_field h x ≡ take (name_end h - 24) later =
+    ap (λ (l : List ℕ). take (name_end h - 24) (drop 24 l)) shape ∙ ap (λ (l : List ℕ). take (name_end h - 24) l) (drop_at (head_bytes h) later 24 (length-head_bytes h)) in
+    let fits = name_fits name kind digest gap n in
+    let room : length name < name_end h - 24 = omega (arith, fits) in
+    let named : has_name (name_field h x) ≡ true = ap (λ (l : List ℕ). has_name l) field ∙ some_nul name rest (name_end h - 24) is.name_short room in
+    let list : attributes (attribute_field h x) ≡ Some (made_attributes digest) =
+    ap (λ (l : List ℕ). attributes (attribute_field h l)) (append_assoc front content more) ∙ attributes_read name kind digest gap n (content ++ more) is.digest_long in
+    let e : Extent = record { content = h.offset; span = round64 (h.offset + h.len) } in
+    let span : round64 (h.offset + h.len) ≡ round64 (length (front ++ content)) = ap (λ (k : ℕ). round64 k) (omega (arith, length-append front content, size)) in
+    record {
+      is_cell =
+          from_head x h (omega (arith, long)) head
+          ∙ ap (λ (r : Result Extent DamageKind). present h x r) (checked_used h (length x) is.kind_used (omega arith) (placed name kind digest gap n) (omega (arith, long)))
+          ∙ present_used h x e is.kind_used
+          ∙ component_whole h x e.span (made_attributes digest) named list
+          ∙ ap (λ (k : ℕ). cell k) span;
+      is_used = ap (λ (k : Head). is_free k) head_there ∙ is.kind_used;
+      has_name =
+          ap (λ (k : Head). before_first is_nul (name_field k x)) head_there
+          ∙ ap (λ (l : List ℕ). before_first is_nul l) field
+          ∙ first_nul name rest (name_end h - 24) is.name_plain room;
+      has_kind = ap (λ (k : Head). k.kind) head_there;
+      has_attributes = ap (λ (k : Head). attributes (attribute_field k x)) head_there ∙ list;
+      has_content =
+          ap (λ (k : Head). slice_range x k.offset (k.offset + k.len)) head_there
+          ∙ ap (λ (l : List ℕ). slice_range l h.offset (h.offset + n)) (append_assoc front content more)
+          ∙ range_of front content more h.offset (h.offset + n) size refl;
+    }
+
+-- ---- the whole cell
+
+length-padding : (n : ℕ) (last : Option (List ℕ)) → KeepsFour last → length (padding n last) ≡ n
+length-padding n None is = length-replicate n 255
+length-padding n (Some last) is = omega (arith, is, length-append (replicate (n - 4) 255) (drop (4 - n) last), length-replicate {A = ℕ} (n - 4) 255, length-drop (4 - n) last)
+
+up : (n : ℕ) → n ≤ round64 n
+up n = omega arith
+
+pub length-made : (name : List ℕ) (kind : ℕ) (digest : Option Digest) (gap : ℕ) (content : List ℕ) (last : Option (List ℕ)) → KeepsFour last
+    → length (made name kind digest gap content last) ≡ round64 (length (made_front name kind digest gap (length content) ++ content))
+length-made name kind digest gap content last four =
+    let whole : List ℕ = made_front name kind digest gap (length content) ++ content in
+    let left = round64 (length whole) - length whole in
+    omega (arith, length-append whole (padding left last), length-padding left last four, up (length whole))
+
+pub made_is_read : (name : List ℕ) (kind : ℕ) (digest : Option Digest) (gap : ℕ) (content : List ℕ) (last : Option (List ℕ)) (more : List ℕ) → IsMade name kind digest gap content → KeepsFour last
+    → IsReadAs name kind digest content (made name kind digest gap content last ++ more) (length (made name kind digest gap content last))
+made_is_read name kind digest gap content last more is four =
+    let whole : List ℕ = made_front name kind digest gap (length content) ++ content in
+    let pad : List ℕ = padding (round64 (length whole) - length whole) last in
+    let read = front_is_read name kind digest gap content (pad ++ more) is in
+    let same : whole ++ (pad ++ more) ≡ made name kind digest gap content last ++ more = sym (append_assoc whole pad more) in
+    let moved : IsReadAs name kind digest content (made name kind digest gap content last ++ more) (round64 (length whole)) =
+    subst (λ (l : List ℕ). IsReadAs name kind digest content l (round64 (length whole))) same read in
+    subst (λ (k : ℕ). IsReadAs name kind digest content (made name kind digest gap content last ++ more) k) (sym (length-made name kind digest gap content last four)) moved
+
+pub made_alone : (name : List ℕ) (kind : ℕ) (digest : Option Digest) (gap : ℕ) (content : List ℕ) (last : Option (List ℕ)) → IsMade name kind digest gap content → KeepsFour last
+    → IsReadAs name kind digest content (made name kind digest gap content last) (length (made name kind digest gap content last))
+made_alone name kind digest gap content last is four =
+    let x : List ℕ = made name kind digest gap content last in
+    subst (λ (l : List ℕ). IsReadAs name kind digest content l (length x)) (append-nil x) (made_is_read name kind digest gap content last [] is four)
+
+hash_as_long : (digest : Option Digest) → IsDigest digest → length (hash_bytes digest) ≡ hash_len digest
+hash_as_long None is = refl
+hash_as_long (Some d) is = length-hash (algorithm d) (digest_bytes d) ∙ ap (λ (k : ℕ). 12 + k) is
+
+pub made_as_long : (name : List ℕ) (kind : ℕ) (digest : Option Digest) (gap : ℕ) (content : List ℕ) (last : Option (List ℕ)) → IsDigest digest → KeepsFour last
+    → length (made name kind digest gap content last) ≡ round64 (meta_length (length name) (hash_len digest) + gap + length content)
+made_as_long name kind digest gap content last is four =
+    let front : List ℕ = made_front name kind digest gap (length content) in
+    let total : length (front ++ content) ≡ meta_length (length name) (hash_len digest) + gap + length content =
+    omega (arith, length-append front content, length-front name kind digest gap (length content), hash_as_long digest is) in
+    length-made name kind digest gap content last four ∙ ap (λ (k : ℕ). round64 k) total

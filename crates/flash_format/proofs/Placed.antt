@@ -1,0 +1,119 @@
+-- A component in place of free cells: one more, and all others stay.
+use Rattle.std.proofs.Common.{◌≡◌, ℕ, ◌+◌, ◌-◌, ◌%◌, ◌^◌, ◌<◌, true, false, cond, List, [], ◌∷◌, ◌++◌, length, Option, Some, sym, ◌∙◌, ap, subst, refl, arith, All, append_assoc, length-append}
+use Rattle.std.specs.Prelude.{unwrap_or}
+use Rattle.std.specs.List.{concat}
+use Rattle.std.proofs.lemmas.List.{append-nil}
+use Rattle.std.proofs.lemmas.List.Elements.{All-nil, All-cons, All-append}
+use Rattle.flash_format.specs.declared.digest.Digest.{Digest}
+use Rattle.flash_format.specs.Head.{header_length, head_of, is_free}
+use Rattle.flash_format.specs.Attributes.{Attribute}
+use Rattle.flash_format.specs.Blanks.{blank_header}
+use Rattle.flash_format.specs.Entry.{cell, entry}
+use Rattle.flash_format.specs.Cut.{cut, IsCell, IsCut}
+use Rattle.flash_format.specs.Components.{Component, cell_content, cell_attributes, component_at, components_from, components}
+use Rattle.flash_format.specs.Splices.{AllFree, spliced}
+use Rattle.flash_format.specs.Made.{IsReadAs, made_attributes}
+use Rattle.flash_format.specs.Placings.{IsSpace, space_cells, made_component}
+use Rattle.flash_format.specs.Laws.{ComponentsArePlaced}
+use Rattle.flash_format.proofs.CutSteps.{cell_span}
+use Rattle.flash_format.proofs.CellLists.{components-append}
+use Rattle.flash_format.proofs.BlankLaws.{blank_header-cell, length-blank_header}
+use Rattle.flash_format.proofs.Splices.{concat-append, components-free, length-concat-cells, cells-before, cells-group, splice-cut, splice-components, splice-end, group-components}
+
+-- ---- free space
+
+-- free space that isn't empty is a free cell
+space_cell : (size : ℕ) (bytes : List ℕ) → IsSpace size bytes → 0 < size → size % 64 ≡ 0 → size < 2 ^ 32 → IsCell bytes × (is_free (head_of bytes) ≡ true)
+space_cell size bytes is some whole small =
+    let (kept, more, shape) = is.header some in
+    let room : header_length + length more ≡ size = omega (arith, is.long, ap length shape, length-append (blank_header size kept) more, length-blank_header size kept) in
+    let read = blank_header-cell size kept more (omega arith) whole small room in (
+      ap (λ (l : List ℕ). entry l) shape ∙ read.0 ∙ ap (λ (n : ℕ). cell n) (sym is.long),
+      ap (λ (l : List ℕ). is_free (head_of l)) shape ∙ read.1,
+    )
+
+space_each : (size : ℕ) (bytes : List ℕ) → IsSpace size bytes → size % 64 ≡ 0 → size < 2 ^ 32 → All IsCell (space_cells bytes) × AllFree (space_cells bytes)
+space_each size [] is whole small = (All-nil IsCell, All-nil (λ c. is_free (head_of c) ≡ true))
+space_each size (b ∷ bytes) is whole small =
+    let read = space_cell size (b ∷ bytes) is (omega (arith, is.long)) whole small in
+    (All-cons IsCell (b ∷ bytes) [] read.0 (All-nil IsCell), All-cons (λ c. is_free (head_of c) ≡ true) (b ∷ bytes) [] read.1 (All-nil (λ c. is_free (head_of c) ≡ true)))
+
+concat-space : (bytes : List ℕ) → concat (space_cells bytes) ≡ bytes
+concat-space [] = refl
+concat-space (b ∷ bytes) = append-nil (b ∷ bytes)
+
+-- ---- the component
+
+abbrev the_component : ℕ → List ℕ → ℕ → List Attribute → List ℕ → List ℕ → Component
+the_component at name kind attributes content bytes = record { at = at; name = name; kind = kind; attributes = attributes; content = content; bytes = bytes }
+
+component_made : (at : ℕ) (name : List ℕ) (kind : ℕ) (digest : Option Digest) (content x : List ℕ) (span : ℕ) → IsReadAs name kind digest content x span → component_at at x ≡ made_component at name kind digest content x
+component_made at name kind digest content x span is =
+    ap (λ (n : List ℕ). the_component at n (head_of x).kind (cell_attributes x) (cell_content x) x) is.has_name
+    ∙ ap (λ (k : ℕ). the_component at name k (cell_attributes x) (cell_content x) x) is.has_kind
+    ∙ ap (λ (o : Option (List Attribute)). the_component at name kind (unwrap_or o []) (cell_content x) x) is.has_attributes
+    ∙ ap (λ (l : List ℕ). the_component at name kind (unwrap_or (Some (made_attributes digest)) []) l x) is.has_content
+
+-- a cell that isn't free has its component
+component_alone : (at : ℕ) (x : List ℕ) → is_free (head_of x) ≡ false → components_from at (x ∷ []) ≡ component_at at x ∷ []
+unfolding components_from
+component_alone at x used = ap (λ b. cond b [] (component_at at x ∷ [])) used
+
+-- among free cells it is the only one
+component_among : (start at : ℕ) (a b : List (List ℕ)) (x : List ℕ) → AllFree a → AllFree b → is_free (head_of x) ≡ false → start + length (concat a) ≡ at
+    → components_from start (a ++ (x ∷ []) ++ b) ≡ component_at at x ∷ []
+component_among start at a b x free_before free_after used place =
+    let later : ℕ = start + length (concat (a ++ (x ∷ []))) in
+    components-append start (a ++ (x ∷ [])) b
+    ∙ ap (λ (l : List Component). components_from start (a ++ (x ∷ [])) ++ l) (components-free later b free_after)
+    ∙ append-nil (components_from start (a ++ (x ∷ [])))
+    ∙ components-append start a (x ∷ [])
+    ∙ ap (λ (l : List Component). l ++ components_from (start + length (concat a)) (x ∷ [])) (components-free start a free_before)
+    ∙ ap (λ (n : ℕ). components_from n (x ∷ [])) place
+    ∙ component_alone at x used
+
+-- ---- the region
+
+concat-three : (before bytes after : List ℕ) → concat (space_cells before ++ (bytes ∷ []) ++ space_cells after) ≡ before ++ (bytes ++ after)
+concat-three before bytes after =
+    concat-append (space_cells before ++ (bytes ∷ [])) (space_cells after)
+    ∙ ap (λ (l : List ℕ). l ++ concat (space_cells after)) (concat-append (space_cells before) (bytes ∷ []))
+    ∙ ap (λ (l : List ℕ). l ++ (bytes ++ []) ++ concat (space_cells after)) (concat-space before)
+    ∙ ap (λ (l : List ℕ). before ++ l ++ concat (space_cells after)) (append-nil bytes)
+    ∙ ap (λ (l : List ℕ). before ++ bytes ++ l) (concat-space after)
+    ∙ append_assoc before bytes after
+
+pub components_placed : ComponentsArePlaced
+components_placed x start end g at before whole after name kind digest content free place read =
+    let cells : List (List ℕ) = space_cells before ++ (whole ∷ []) ++ space_cells after in
+    let component : Component = made_component at name kind digest content whole in
+    let start_whole : start % 64 ≡ 0 = omega (arith, g.start_is, length-concat-cells g.before (cells-before x start end g)) in
+    let end_whole : end % 64 ≡ 0 = omega (arith, g.end_is, start_whole, length-concat-cells g.group (cells-group x start end g)) in
+    let whole_span : length whole % 64 ≡ 0 = (cell_span whole (length whole) read.is_cell).whole in
+    let first = space_each (at - start) before place.space_before (omega (arith, place.aligned, place.from_start, start_whole)) (omega (arith, place.small, place.to_end)) in
+    let last = space_each (end - (at + length whole)) after place.space_after (omega (arith, place.aligned, place.to_end, end_whole, whole_span)) (omega (arith, place.small, place.from_start)) in
+    let each : All IsCell cells =
+    All-append IsCell (space_cells before ++ (whole ∷ [])) (space_cells after)
+    (All-append IsCell (space_cells before) (whole ∷ []) first.0 (All-cons IsCell whole [] read.is_cell (All-nil IsCell)))
+    last.0 in
+    let joined : concat cells ≡ before ++ (whole ++ after) = concat-three before whole after in
+    let size : start + length (concat cells) ≡ end =
+    omega (arith, ap length joined, length-append before (whole ++ after), length-append whole after, place.space_before.long, place.space_after.long, place.from_start, place.to_end) in
+    let there : start + length (concat (space_cells before)) ≡ at = omega (arith, ap length (concat-space before), place.space_before.long, place.from_start) in
+    let here : components_from start cells ≡ component ∷ [] =
+    component_among start at (space_cells before) (space_cells after) whole first.1 last.1 read.is_used there
+    ∙ ap (λ (c : Component). c ∷ []) (component_made at name kind digest content whole (length whole) read) in
+    let Y : List ℕ → List ℕ = λ l. spliced x start end l in
+    record {
+      is_cut = subst (λ (l : List ℕ). IsCut (Y l) (g.before ++ cells ++ g.after) g.rest g.ending) joined (splice-cut x start end g cells each size);
+      same_end = ap (λ (l : List ℕ). (cut (Y l)).end) (sym joined) ∙ splice-end x start end g cells each size;
+      old_components =
+          group-components x start end g
+          ∙ ap (λ (l : List Component). components_from 0 g.before ++ l ++ components_from end g.after) (components-free start g.group free)
+          ∙ ap (λ (l : List Component). l ++ components_from end g.after) (append-nil (components_from 0 g.before));
+      new_components =
+          ap (λ (l : List ℕ). components (Y l)) (sym joined)
+          ∙ splice-components x start end g cells each size
+          ∙ ap (λ (l : List Component). components_from 0 g.before ++ l ++ components_from end g.after) here
+          ∙ append_assoc (components_from 0 g.before) (component ∷ []) (components_from end g.after);
+    }

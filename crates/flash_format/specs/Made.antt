@@ -1,0 +1,126 @@
+-- Made cells: the components that an edit writes.
+-- The fields are those of coreboot's `struct cbfs_file` and `struct cbfs_file_attr_hash`. To which multiple the field of
+-- a name is padded, and that a gap and what is left of a cell are 0xff, is this project's own.
+use Rattle.std.specs.Prelude.{◌≡◌, ℕ, ◌+◌, ◌-◌, ◌*◌, ◌/◌, ◌^◌, ◌<◌, ◌≤◌, ◌==◌, ◌||◌, false, List, [], ◌∷◌, ◌++◌, length, replicate, Option, Some, None, is_some, if◌then◌else◌}
+use Rattle.std.specs.List.{list_any}
+use Rattle.std.specs.Borrow.{Bor}
+use Rattle.byteorder.specs.Endian.{big_bytes}
+use Rattle.flash_format.specs.declared.head.Head.{Head}
+use Rattle.flash_format.specs.declared.digest.Digest.{Digest}
+use Rattle.flash_format.specs.declared.digest.Digest.TheVariants as digests
+use Rattle.flash_format.specs.declared.meta.Meta.{Meta}
+use Rattle.flash_format.specs.Head.{name_padding, head_of, head_bytes, is_free, round64}
+use Rattle.flash_format.specs.Attributes.{Attribute, attributes, HASH}
+use Rattle.flash_format.specs.Entry.{cell, entry, is_nul, attribute_field}
+use Rattle.flash_format.specs.Components.{cell_name, cell_content}
+use Rattle.flash_format.specs.Blanks.{padding}
+
+-- how long the field of a name of k bytes is: the least multiple of the padding that holds the name and a NUL
+abbrev pub name_room : ℕ → ℕ
+name_room k = (k / name_padding + 1) * name_padding
+
+-- how many bytes a component has before its content, besides a gap
+abbrev pub meta_length : ℕ → ℕ → ℕ
+meta_length name_len attr_len = 24 + name_room name_len + attr_len
+
+-- the number of a digest's algorithm, by vboot's `enum vb2_hash_algorithm`
+abbrev pub algorithm : Digest → ℕ
+algorithm (digests.Sha256 bytes) = 2
+algorithm (digests.Sha512 bytes) = 3
+
+abbrev pub digest_bytes : Digest → List ℕ
+digest_bytes (digests.Sha256 bytes) = bytes
+digest_bytes (digests.Sha512 bytes) = bytes
+
+abbrev pub digest_len : Digest → ℕ
+digest_len (digests.Sha256 bytes) = 32
+digest_len (digests.Sha512 bytes) = 64
+
+-- the bytes of a hash attribute: its tag, its length, the algorithm and the digest
+unfoldable pub hash_attribute : ℕ → List ℕ → List ℕ
+hash_attribute number bytes = big_bytes 4 HASH ++ big_bytes 4 (12 + length bytes) ++ big_bytes 4 number ++ bytes
+
+-- those of a component's hash attribute, where it has one
+abbrev pub hash_bytes : Option Digest → List ℕ
+hash_bytes None = []
+hash_bytes (Some digest) = hash_attribute (algorithm digest) (digest_bytes digest)
+
+-- how many bytes that has: 44 with SHA-256 and 76 with SHA-512
+abbrev pub hash_len : Option Digest → ℕ
+hash_len None = 0
+hash_len (Some digest) = 12 + digest_len digest
+
+-- the head of a component with n bytes of content
+abbrev pub made_head : List ℕ → ℕ → Option Digest → ℕ → ℕ → Head
+made_head name kind digest gap n = record {
+  len = n;
+  kind = kind;
+  attributes_offset = if is_some digest then 24 + name_room (length name) else 0;
+  offset = meta_length (length name) (length (hash_bytes digest)) + gap;
+}
+
+-- the field of a name: the name, and NULs up to the field's end
+abbrev pub padded_name : List ℕ → List ℕ
+padded_name name = name ++ replicate (name_room (length name) - length name) 0
+
+-- the front of a component with n bytes of content: its head, its name, its hash attribute and a gap
+abbrev pub made_front : List ℕ → ℕ → Option Digest → ℕ → ℕ → List ℕ
+made_front name kind digest gap n = head_bytes (made_head name kind digest gap n) ++ padded_name name ++ hash_bytes digest ++ replicate gap 0xff
+
+-- the cell of a component, up to a multiple of 64, which may keep these four bytes at its end
+abbrev pub made : List ℕ → ℕ → Option Digest → ℕ → List ℕ → Option (List ℕ) → List ℕ
+made name kind digest gap content last =
+    let component = made_front name kind digest gap (length content) ++ content in
+    component ++ padding (round64 (length component) - length component) last
+
+-- the attributes of a made component
+abbrev pub made_attributes : Option Digest → List Attribute
+made_attributes None = []
+made_attributes (Some digest) = record { tag = HASH; contents = big_bytes 4 (algorithm digest) ++ digest_bytes digest } ∷ []
+
+-- ---- what made cells are read as
+
+-- a digest has the length of its algorithm
+abbrev pub IsDigest : Option Digest → Type 0
+IsDigest None = Unit {0}
+IsDigest (Some digest) = length (digest_bytes digest) ≡ digest_len digest
+
+-- the four bytes that are kept, where some are
+abbrev pub KeepsFour : Option (List ℕ) → Type 0
+KeepsFour None = Unit {0}
+KeepsFour (Some last) = length last ≡ 4
+
+-- what a component can be made of
+pub record IsMade (name : List ℕ) (kind : ℕ) (digest : Option Digest) (gap : ℕ) (content : List ℕ) : Type 0 where
+  pub name_short : length name ≤ 127
+  pub name_plain : list_any is_nul name ≡ false
+  pub kind_small : kind < 2 ^ 32
+  pub kind_used : (kind == 0 || kind == 0xffffffff) ≡ false
+  pub digest_long : IsDigest digest
+  pub small : length (made_front name kind digest gap (length content)) + length content < 2 ^ 32
+
+-- these bytes begin with a cell of so many bytes, which is read as this component
+pub record IsReadAs (name : List ℕ) (kind : ℕ) (digest : Option Digest) (content : List ℕ) (x : List ℕ) (span : ℕ) : Type 0 where
+  pub is_cell : entry x ≡ cell span
+  pub is_used : is_free (head_of x) ≡ false
+  pub has_name : cell_name x ≡ name
+  pub has_kind : (head_of x).kind ≡ kind
+  pub has_attributes : attributes (attribute_field (head_of x) x) ≡ Some (made_attributes digest)
+  pub has_content : cell_content x ≡ content
+
+-- ---- the same of a description
+
+-- a digest that may be there
+abbrev pub pointed : Option (Bor Digest) → Option Digest
+pointed None = None
+pointed (Some digest) = Some digest.now
+
+abbrev pub described_head : Meta → Head
+described_head m = made_head m.name.now m.kind (pointed m.digest) m.gap m.len
+
+abbrev pub described_len : Meta → ℕ
+described_len m = meta_length (length m.name.now) (hash_len (pointed m.digest)) + m.gap
+
+-- the front that it describes
+abbrev pub described : Meta → List ℕ
+described m = made_front m.name.now m.kind (pointed m.digest) m.gap m.len

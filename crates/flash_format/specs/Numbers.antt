@@ -1,0 +1,34 @@
+-- Numbers as text: decimal digits, or `0x` and hexadecimal digits of either case. Leading zeros are allowed.
+-- That a number has no sign and no suffix, and is below 2^32, is this project's own.
+use Rattle.std.specs.Prelude.{ℕ, ◌+◌, ◌-◌, ◌*◌, ◌^◌, nat_le, nat_eq, nat_lt, ◌&&◌, if◌then◌else◌, List, [], ◌∷◌, drop, Option, Some, None}
+use Rattle.std.specs.List.{starts_with}
+use lib.Chars.{codes}
+
+-- the value of a decimal or hexadecimal digit, and 16 for any other byte
+abbrev pub digit_value : ℕ → ℕ
+digit_value b = if nat_le 48 b && nat_le b 57 then b - 48
+    else (if nat_le 65 b && nat_le b 70 then b - 55
+    else (if nat_le 97 b && nat_le b 102 then b - 87 else 16))
+
+-- the number that goes on from a value with these digits, or None where one is no digit of the base
+abbrev pub value_from : ℕ → ℕ → List ℕ → Option ℕ
+value_from base n [] = Some n
+value_from base n (b ∷ bs) = if nat_lt (digit_value b) base then value_from base (n * base + digit_value b) bs else None
+
+-- the number with these digits, of which there is at least one
+abbrev pub digits_value : ℕ → List ℕ → Option ℕ
+digits_value base [] = None
+digits_value base (b ∷ bs) = value_from base 0 (b ∷ bs)
+
+-- the number, however large
+abbrev pub number_value : List ℕ → Option ℕ
+number_value text = if starts_with nat_eq text (codes "0x") then digits_value 16 (drop 2 text) else digits_value 10 text
+
+-- a number that 32 bits hold
+abbrev pub in_32_bits : Option ℕ → Option ℕ
+in_32_bits None = None
+in_32_bits (Some n) = if nat_lt n (2 ^ 32) then Some n else None
+
+-- the number that a text stands for
+unfoldable pub number_of : List ℕ → Option ℕ
+number_of text = in_32_bits (number_value text)

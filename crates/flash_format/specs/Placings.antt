@@ -1,0 +1,46 @@
+-- A component in place of free cells.
+use Rattle.std.specs.Prelude.{◌≡◌, ℕ, ◌+◌, ◌-◌, ◌%◌, ◌^◌, ◌<◌, ◌≤◌, Bool, List, [], ◌∷◌, ◌++◌, length, Option}
+use Rattle.flash_format.specs.declared.digest.Digest.{Digest}
+use Rattle.flash_format.specs.Blanks.{blank_header}
+use Rattle.flash_format.specs.Cut.{cut, IsCut}
+use Rattle.flash_format.specs.Components.{Component, components_from, components}
+use Rattle.flash_format.specs.Made.{made_attributes}
+use Rattle.flash_format.specs.Splices.{CellsBetween}
+
+-- free space of so many bytes: none, or a blank's header and then anything
+pub record IsSpace (size : ℕ) (bytes : List ℕ) : Type 0 where
+  pub long : length bytes ≡ size
+  pub header : 0 < size → (kept : Bool) × (more : List ℕ) × (bytes ≡ blank_header size kept ++ more)
+
+-- its cells: none, or one
+abbrev pub space_cells : List ℕ → List (List ℕ)
+space_cells [] = []
+space_cells (b ∷ bytes) = (b ∷ bytes) ∷ []
+
+-- A cell may stand at a place between start and end, and what stands before and after it there is free space.
+pub record IsPlacing (start end at : ℕ) (before cell after : List ℕ) : Type 0 where
+  pub aligned : at % 64 ≡ 0
+  pub from_start : start ≤ at
+  pub to_end : at + length cell ≤ end
+  pub small : end - start < 2 ^ 32
+  pub space_before : IsSpace (at - start) before
+  pub space_after : IsSpace (end - (at + length cell)) after
+
+-- the component of a made cell at a place
+abbrev pub made_component : ℕ → List ℕ → ℕ → Option Digest → List ℕ → List ℕ → Component
+made_component at name kind digest content cell = record {
+  at = at;
+  name = name;
+  kind = kind;
+  attributes = made_attributes digest;
+  content = content;
+  bytes = cell;
+}
+
+-- The region y has these cells in place of a group of free cells of x, and one component more than x. The others stay,
+-- and so do the end of the cells and what is left after them.
+pub record HasOneMore (x : List ℕ) (start end : ℕ) (g : CellsBetween x start end) (cells : List (List ℕ)) (component : Component) (y : List ℕ) : Type 0 where
+  pub is_cut : IsCut y (g.before ++ cells ++ g.after) g.rest g.ending
+  pub same_end : (cut y).end ≡ (cut x).end
+  pub old_components : components x ≡ components_from 0 g.before ++ components_from end g.after
+  pub new_components : components y ≡ components_from 0 g.before ++ (component ∷ components_from end g.after)

@@ -1,0 +1,174 @@
+//! The front of a component, which stands before its content: its head, its name, the hash attribute and a gap.
+
+ghost use Rattle.std.specs.Prelude.{◌≡◌, ◌≤◌, ◌<◌, ◌+◌, ◌++◌, length, take, drop, replicate};
+ghost use Rattle.byteorder.specs.Endian.{big_bytes};
+ghost use Rattle.flash_format.specs.Attributes.{HASH};
+ghost use Rattle.flash_format.specs.Made.{IsDigest, meta_length, name_room, padded_name, pointed, hash_attribute, hash_bytes, hash_len, described, described_len, described_head};
+ghost use Rattle.flash_format.specs.Puts.{Puts};
+
+use crate::attribute::AttrHead;
+use crate::digest::Digest;
+use crate::head::{Head, NAME_PADDING};
+use byteorder::{BigEndian, ByteOrder};
+
+/// A component, but for its content.
+#[derive(Clone, Copy, Debug, PartialEq, Eq)]
+pub struct Meta<'a> {
+    /// The name, without its NUL.
+    pub name: &'a [u8],
+    /// The type, as `type_number` reads it. With 0 or 0xffffffff the cell would be free space.
+    pub kind: u32,
+    /// How many bytes of content there are.
+    pub len: u32,
+    /// How many unused bytes, all 0xff, stand right before the content.
+    pub gap: u32,
+    /// What the hash attribute holds. Without a digest there is none.
+    pub digest: Option<&'a Digest>,
+}
+
+/// How many bytes the front of a component has, besides the gap: 24 of the head, the field of a name with so many bytes,
+/// and those of a hash attribute: 0 for none, 44 with SHA-256 and 76 with SHA-512.
+pub fn meta_len(name_len: usize, attr_len: usize) -> usize
+    requires name { name_len ≤ 127 }
+    requires attribute { attr_len ≤ 76 }
+    ensures { result ≡ meta_length name_len attr_len }
+{
+    24 + name_room(name_len) + attr_len
+}
+
+/// Writes the front of a component, from `out`'s first byte on, and answers how many bytes it has. It is coreboot's
+/// `struct cbfs_file` with the name, then `struct cbfs_file_attr_hash` where there is a digest, then the gap.
+pub fn write_meta(meta: &Meta<'_>, out: &mut [u8]) -> usize
+    requires name { length meta.now.name.now ≤ 127 }
+    requires gap { meta.now.gap < 64 }
+    requires room { described_len meta.now ≤ length out.old }
+    ensures count { result ≡ length (described meta.now) }
+    ensures len { result ≡ described_len meta.now }
+    ensures written { take result out.new ≡ described meta.now }
+    ensures after { drop result out.new ≡ drop result out.old }
+
+    // Besides the caller's own facts, this is what `made_cells_are_read_as_made` asks for.
+    ensures digest { IsDigest (pointed meta.now.digest) }
+{
+    let head = head_of(meta);
+    let at = put(out, 0, &head.write());
+    let at = put_name(out, at, meta.name);
+    let at = put_hash(out, at, meta.digest);
+    fill(out, at, meta.gap as usize, 0xff)
+}
+
+/// The component's head.
+fn head_of(meta: &Meta<'_>) -> Head
+    requires name { length meta.now.name.now ≤ 127 }
+    requires gap { meta.now.gap < 64 }
+    ensures head { result ≡ described_head meta.now }
+    ensures hash { length (hash_bytes (pointed meta.now.digest)) ≡ hash_len (pointed meta.now.digest) }
+    ensures digest { IsDigest (pointed meta.now.digest) }
+{
+    let attributes = 24 + name_room(meta.name.len());
+    let attr_len = attr_len(meta.digest);
+    let plain = Head {
+        len: meta.len,
+        kind: meta.kind,
+        attributes_offset: 0,
+        offset: (meta_len(meta.name.len(), attr_len) + meta.gap as usize) as u32,
+    };
+    match meta.digest {
+        None => plain,
+        Some(_) => Head {
+            attributes_offset: attributes as u32,
+            ..plain
+        },
+    }
+}
+
+/// How many bytes the hash attribute has, 0 where there is none.
+#[tactic(auto, unfolding(crate::specs::Made::hash_attribute))]
+fn attr_len(digest: Option<&Digest>) -> usize
+    ensures len { result ≡ length (hash_bytes (pointed digest.entry)) }
+    ensures sized { result ≡ hash_len (pointed digest.entry) }
+    ensures short { result ≤ 76 }
+    ensures digest { IsDigest (pointed digest.entry) }
+{
+    match digest {
+        None => 0,
+        Some(digest) => 12 + digest.bytes().len(),
+    }
+}
+
+/// How many bytes the field of a name has: the name, a NUL, and more of them up to a multiple of the padding.
+fn name_room(name_len: usize) -> usize
+    requires { name_len ≤ 127 }
+    ensures { result ≡ name_room name_len }
+{
+    (name_len / NAME_PADDING + 1) * NAME_PADDING
+}
+
+/// Writes these bytes at a place, and answers where they end.
+fn put(out: &mut [u8], at: usize, bytes: &[u8]) -> usize
+    requires { at + length bytes.now ≤ length out.old }
+    ensures end { result ≡ at + length bytes.now }
+    ensures puts { Puts out.old at bytes.now out.new result }
+{
+    let end = at + bytes.len();
+    out[at..end].copy_from_slice(bytes);
+    end
+}
+
+/// Writes one byte `count` times at a place, and answers where they end.
+fn fill(out: &mut [u8], at: usize, count: usize, byte: u8) -> usize
+    requires { at + count ≤ length out.old }
+    ensures end { result ≡ at + count }
+    ensures puts { Puts out.old at (replicate count byte) out.new result }
+{
+    let end = at + count;
+    out[at..end].fill(byte);
+    end
+}
+
+/// Writes the field of a name, and answers where it ends.
+fn put_name(out: &mut [u8], at: usize, name: &[u8]) -> usize
+    requires name { length name.now ≤ 127 }
+    requires room { at + name_room (length name.now) ≤ length out.old }
+    ensures end { result ≡ at + name_room (length name.now) }
+    ensures puts { Puts out.old at (padded_name name.now) out.new result }
+{
+    let nuls = name_room(name.len()) - name.len();
+    let at = put(out, at, name);
+    fill(out, at, nuls, 0)
+}
+
+/// Writes the hash attribute, where there is one, and answers where it ends.
+fn put_hash(out: &mut [u8], at: usize, digest: Option<&Digest>) -> usize
+    requires { at + hash_len (pointed digest) ≤ length out.old }
+    ensures end { result ≡ at + hash_len (pointed digest.entry) }
+    ensures puts { Puts out.old at (hash_bytes (pointed digest.entry)) out.new result }
+{
+    match digest {
+        None => at,
+        Some(digest) => put_attribute(out, at, digest.algorithm(), digest.bytes()),
+    }
+}
+
+/// Writes a hash attribute, and answers where it ends.
+fn put_attribute(out: &mut [u8], at: usize, algorithm: u32, digest: &[u8]) -> usize
+    requires size { length digest.now ≤ 64 }
+    requires room { at + 12 + length digest.now ≤ length out.old }
+    ensures end { result ≡ at + 12 + length digest.now }
+    ensures puts { Puts out.old at (hash_attribute algorithm digest.now) out.new result }
+{
+    let prefix = attribute_prefix(algorithm, 12 + digest.len() as u32);
+    let at = put(out, at, &prefix);
+    put(out, at, digest)
+}
+
+/// What a hash attribute begins with: its tag, its length and the algorithm.
+fn attribute_prefix(algorithm: u32, len: u32) -> [u8; 12]
+    ensures { result ≡ big_bytes 4 HASH ++ big_bytes 4 len ++ big_bytes 4 algorithm }
+{
+    let mut prefix = [0; 12];
+    BigEndian::write_u32(&mut prefix[..4], AttrHead::HASH);
+    BigEndian::write_u32(&mut prefix[4..8], len);
+    BigEndian::write_u32(&mut prefix[8..12], algorithm);
+    prefix
+}

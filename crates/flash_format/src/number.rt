@@ -1,0 +1,68 @@
+//! Numbers as text.
+
+ghost use Rattle.std.specs.Prelude.{◌≡◌, ◌≤◌, ◌^◌, ℕ, Option, min, option_map};
+ghost use Rattle.flash_format.specs.Numbers as spec;
+
+/// Where values stop being told apart.
+const LIMIT: u64 = 1 << 32;
+
+/// The number below 2^32 that a text stands for: decimal digits, or `0x` and hexadecimal digits of either case.
+#[tactic(auto, unfolding(crate::specs::Numbers::number_of))]
+pub fn read_number(text: &str) -> Option<u32>
+    ensures { result ≡ spec.number_of text.now }
+{
+    let value = number_value(text.as_bytes());
+    in_32_bits(value)
+}
+
+fn number_value(bytes: &[u8]) -> Option<u64>
+    ensures { result ≡ option_map (min (2 ^ 32)) (spec.number_value bytes.now) }
+{
+    match bytes {
+        [b'0', b'x', digits @ ..] => digits_value(16, digits),
+        _ => digits_value(10, bytes),
+    }
+}
+
+/// The value of digits in a base, or 2^32 where it isn't below that. There is none without a digit, or where a byte
+/// isn't a digit of the base.
+pub fn digits_value(base: u64, digits: &[u8]) -> Option<u64>
+    requires low { 1 ≤ base }
+    requires high { base ≤ 16 }
+    ensures { result ≡ option_map (min (2 ^ 32)) (spec.digits_value base digits.now) }
+{
+    if digits.is_empty() {
+        return None;
+    }
+    let mut value = 0;
+    for byte in digits {
+        let digit = digit_value(*byte);
+        if digit >= base {
+            return None;
+        }
+        value = (value * base + digit).min(LIMIT);
+    }
+    Some(value)
+}
+
+/// The value of a digit, and 16 for a byte that is none.
+fn digit_value(byte: u8) -> u64
+    ensures { result ≡ spec.digit_value byte }
+{
+    match byte {
+        b'0'..=b'9' => u64::from(byte - b'0'),
+        b'A'..=b'F' => u64::from(byte - b'A') + 10,
+        b'a'..=b'f' => u64::from(byte - b'a') + 10,
+        _ => 16,
+    }
+}
+
+/// The value, where 32 bits hold it. It counts up to `LIMIT`.
+fn in_32_bits(value: Option<u64>) -> Option<u32>
+    ensures { (exact : Option ℕ) → value ≡ option_map (min (2 ^ 32)) exact → result ≡ spec.in_32_bits exact }
+{
+    match value {
+        Some(value) if value < LIMIT => Some(value as u32),
+        _ => None,
+    }
+}
