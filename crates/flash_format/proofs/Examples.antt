@@ -10,7 +10,11 @@ use Rattle.flash_format.specs.Entry.{Entry, absent, damaged, cell, entry}
 use Rattle.flash_format.specs.Cut.{complete, tail, damage, cut, cut_after}
 use Rattle.flash_format.specs.Components.{components, components_from, cell_attributes, packing, is_packed}
 use Rattle.flash_format.specs.Flashmap.{has_signature, fmap_head_of, fmap_head_bytes, area_of, area_bytes, is_valid_head, is_map, map_of, map_from, areas_from, area_in}
-use Rattle.flash_format.specs.TypeNames.{name_of_type}
+use Rattle.flash_format.specs.declared.digest.Digest.TheVariants as digests
+use Rattle.flash_format.specs.Splices.{spliced}
+use Rattle.flash_format.specs.Made.{hash_attribute, made_front, made}
+use Rattle.flash_format.specs.Numbers.{number_of}
+use Rattle.flash_format.specs.TypeNames.{name_of_type, type_of_text}
 
 -- ---- entries
 
@@ -296,3 +300,68 @@ the_name_of_a_type = refl
 a_type_without_a_name : name_of_type 0x1234 ≡ None
 unfolding name_of_type
 a_type_without_a_name = refl
+
+a_type_by_its_number : type_of_text (codes "0x1Aa") ≡ Some 0x1aa
+unfolding type_of_text number_of
+a_type_by_its_number = refl
+
+a_type_by_a_decimal_number : type_of_text (codes "0080") ≡ Some 80
+unfolding type_of_text number_of
+a_type_by_a_decimal_number = refl
+
+the_largest_number : number_of (codes "4294967295") ≡ Some 4294967295
+unfolding number_of
+the_largest_number = refl
+
+a_number_too_large : number_of (codes "0x100000000") ≡ None
+unfolding number_of
+a_number_too_large = refl
+
+a_number_without_digits : number_of (codes "0x") ≡ None
+unfolding number_of
+a_number_without_digits = refl
+
+no_number_with_a_sign : number_of (codes "+1") ≡ None
+unfolding number_of
+no_number_with_a_sign = refl
+
+no_text_at_all : type_of_text [] ≡ None
+unfolding type_of_text number_of
+no_text_at_all = refl
+
+-- ---- made cells
+
+-- the head, the field of the name, the content, and 0xff up to 64 bytes
+a_small_component : made (codes "a") raw None 0 (codes "0123456789") None ≡ head 10 raw 0 28 ++ (0x61 ∷ 0 ∷ 0 ∷ 0 ∷ []) ++ codes "0123456789" ++ replicate 26 0xff
+unfolding head_bytes
+a_small_component = refl
+
+a_name_that_fills_its_field_but_for_the_nul : made_front (codes "abc") raw None 0 5 ≡ head 5 raw 0 28 ++ codes "abc" ++ (0 ∷ [])
+unfolding head_bytes
+a_name_that_fills_its_field_but_for_the_nul = refl
+
+a_name_whose_nul_needs_more_room : made_front (codes "abcd") raw None 0 5 ≡ head 5 raw 0 32 ++ codes "abcd" ++ (0 ∷ 0 ∷ 0 ∷ 0 ∷ [])
+unfolding head_bytes
+a_name_whose_nul_needs_more_room = refl
+
+a_component_with_a_hash_and_a_gap : made_front (codes "h") raw (Some (digests.Sha256 (replicate 32 7))) 3 9
+    ≡ head 9 raw 28 75 ++ codes "h" ++ (0 ∷ 0 ∷ 0 ∷ []) ++ codes "hsaH" ++ big_bytes 4 44 ++ big_bytes 4 2 ++ replicate 32 7 ++ (0xff ∷ 0xff ∷ 0xff ∷ [])
+unfolding head_bytes hash_attribute
+a_component_with_a_hash_and_a_gap = refl
+
+a_component_with_a_longer_hash : made_front (codes "g") raw (Some (digests.Sha512 (replicate 64 7))) 0 0
+    ≡ head 0 raw 28 104 ++ codes "g" ++ (0 ∷ 0 ∷ 0 ∷ []) ++ codes "hsaH" ++ big_bytes 4 76 ++ big_bytes 4 3 ++ replicate 64 7
+unfolding head_bytes hash_attribute
+a_component_with_a_longer_hash = refl
+
+-- of the last four bytes those are kept that stand after the content
+a_cell_that_keeps_its_end : drop 48 (made (codes "a") raw None 0 (replicate 34 1) (Some (6 ∷ 7 ∷ 8 ∷ 9 ∷ []))) ≡ replicate 14 1 ++ (8 ∷ 9 ∷ [])
+unfolding head_bytes
+a_cell_that_keeps_its_end = refl
+
+-- in place of the free cell from 64 up to 384 a blank, a component at 128 and another blank
+a_component_between_blanks : components (spliced (small ++ free_space 280 280) 64 384 (blank 64 None ++ made (codes "b") raw None 0 (codes "xy") None ++ blank 192 None))
+    ≡ record { at = 0; name = codes "a"; kind = raw; attributes = []; content = codes "0123456789"; bytes = small }
+    ∷ record { at = 128; name = codes "b"; kind = raw; attributes = []; content = codes "xy"; bytes = made (codes "b") raw None 0 (codes "xy") None } ∷ []
+unfolding head_bytes blank_header entry has_magic checked head_of attributes_after cut_after components_from
+a_component_between_blanks = refl

@@ -26,8 +26,22 @@ pub struct Meta<'a> {
     pub digest: Option<&'a Digest>,
 }
 
-/// How many bytes the front of a component has, besides the gap: 24 of the head, the field of a name with so many bytes,
-/// and those of a hash attribute: 0 for none, 44 with SHA-256 and 76 with SHA-512.
+/// How many bytes the hash attribute with this digest has, and 0 without one.
+#[tactic(auto, unfolding(crate::specs::Made::hash_attribute))]
+pub fn attr_len(digest: Option<&Digest>) -> usize
+    ensures len { result ≡ hash_len (pointed digest.entry) }
+    ensures bytes { result ≡ length (hash_bytes (pointed digest.entry)) }
+    ensures short { result ≤ 76 }
+    ensures digest { IsDigest (pointed digest.entry) }
+{
+    match digest {
+        None => 0,
+        Some(digest) => 12 + digest.bytes().len(),
+    }
+}
+
+/// How many bytes the front of a component has, besides the gap: the head's 24, the field of a name with so many bytes,
+/// and a hash attribute with so many: 0 for none, 44 with SHA-256 and 76 with SHA-512, as `attr_len` says.
 pub fn meta_len(name_len: usize, attr_len: usize) -> usize
     requires name { name_len ≤ 127 }
     requires attribute { attr_len ≤ 76 }
@@ -79,20 +93,6 @@ fn head_of(meta: &Meta<'_>) -> Head
             attributes_offset: attributes as u32,
             ..plain
         },
-    }
-}
-
-/// How many bytes the hash attribute has, 0 where there is none.
-#[tactic(auto, unfolding(crate::specs::Made::hash_attribute))]
-fn attr_len(digest: Option<&Digest>) -> usize
-    ensures len { result ≡ length (hash_bytes (pointed digest.entry)) }
-    ensures sized { result ≡ hash_len (pointed digest.entry) }
-    ensures short { result ≤ 76 }
-    ensures digest { IsDigest (pointed digest.entry) }
-{
-    match digest {
-        None => 0,
-        Some(digest) => 12 + digest.bytes().len(),
     }
 }
 

@@ -1,6 +1,9 @@
 //! Bytes from outside through each public function, and the names of all types. The limits of the checks stand as
 //! proved examples beside the definitions.
-use flash_format::{Area, AttrHead, DamageKind, Extent, FmapHead, Head, empty_header, type_name};
+use flash_format::{
+    Area, AttrHead, DamageKind, Digest, Extent, FmapHead, Head, Meta, attr_len, digest_text,
+    digits_value, empty_header, meta_len, read_number, type_name, type_number, write_meta,
+};
 use std::fmt::Debug;
 use std::process::Abort;
 
@@ -144,6 +147,100 @@ fn a_map_has_areas(rt: HostRuntime) {
     equal(&rt, &area.name_is(b"RES"), &false);
 }
 
+/// A component of the type raw.
+fn described<'a>(name: &'a [u8], len: u32, digest: Option<&'a Digest>) -> Meta<'a> {
+    Meta {
+        name,
+        kind: RAW,
+        len,
+        gap: 0,
+        digest,
+    }
+}
+
+fn has_front(rt: &impl Abort, meta: &Meta<'_>, front: &[u8]) {
+    assert!(rt; meta.name.len() <= 127 && meta.gap < 64);
+    let attr_len = attr_len(meta.digest);
+    let mut out = [0xaa; 291];
+    let len = write_meta(meta, &mut out);
+    same_bytes(rt, &out[..len], front);
+    equal(
+        rt,
+        &meta_len(meta.name.len(), attr_len),
+        &(len - meta.gap as usize),
+    );
+}
+
+#[test]
+fn a_component_has_a_front(rt: HostRuntime) {
+    let meta = described(b"a", 10, None);
+    has_front(
+        &rt,
+        &meta,
+        b"LARCHIVE\0\0\0\x0a\0\0\0\x50\0\0\0\0\0\0\0\x1ca\0\0\0",
+    );
+    has_front(
+        &rt,
+        &Meta {
+            name: b"abcd",
+            gap: 2,
+            ..meta
+        },
+        b"LARCHIVE\0\0\0\x0a\0\0\0\x50\0\0\0\0\0\0\0\x22abcd\0\0\0\0\xff\xff",
+    );
+}
+
+#[test]
+fn a_front_has_a_hash(rt: HostRuntime) {
+    let digest = Digest::Sha512(
+        *b"0123456789abcdef0123456789abcdef0123456789abcdef0123456789abcdef",
+    );
+    has_front(
+        &rt,
+        &described(b"g", 0, Some(&digest)),
+        b"LARCHIVE\0\0\0\0\0\0\0\x50\0\0\0\x1c\0\0\0\x68g\0\0\0hsaH\0\0\0\x4c\0\0\0\x03\
+0123456789abcdef0123456789abcdef0123456789abcdef0123456789abcdef",
+    );
+}
+
+/// The SHA-256 of `abc`, which FIPS 180-4 has as an example.
+const OF_ABC: [u8; 32] = *b"\xba\x78\x16\xbf\x8f\x01\xcf\xea\x41\x41\x40\xde\x5d\xae\x22\x23\
+\xb0\x03\x61\xa3\x96\x17\x7a\x9c\xb4\x10\xff\x61\xf2\x00\x15\xad";
+
+#[test]
+fn a_digest_has_a_text(rt: HostRuntime) {
+    let digest = Digest::Sha256(OF_ABC);
+    equal(&rt, &digest.algorithm(), &2);
+    same_bytes(&rt, digest.bytes(), &OF_ABC);
+    let mut text = [b'-'; 128];
+    equal(&rt, &digest_text(&digest, &mut text), &64);
+    same_bytes(
+        &rt,
+        &text[..66],
+        b"ba7816bf8f01cfea414140de5dae2223b00361a396177a9cb410ff61f20015ad--",
+    );
+}
+
+#[test]
+fn types_have_numbers(rt: HostRuntime) {
+    numbered(&rt, "0x50", Some(0x50));
+    numbered(&rt, "80", Some(80));
+    numbered(&rt, "0x1Aa", Some(0x1aa));
+    numbered(&rt, "4294967295", Some(0xffff_ffff));
+    numbered(&rt, "4294967296", None);
+    numbered(&rt, "", None);
+    numbered(&rt, "0x", None);
+    numbered(&rt, "+1", None);
+    numbered(&rt, "Raw", None);
+    equal(&rt, &digits_value(16, b"100000000"), &Some(1 << 32));
+}
+
+/// A number is read as the type of that number, and what is neither a number nor a name isn't read.
+fn numbered(rt: &impl Abort, text: &str, number: Option<u32>) {
+    assert_eq!(rt; type_number(text), number, "at {text}");
+    assert_eq!(rt; read_number(text), number, "at {text}");
+}
+
 #[test]
 fn types_have_names(rt: HostRuntime) {
     named(&rt, 0x0, "deleted");
@@ -171,4 +268,5 @@ fn types_have_names(rt: HostRuntime) {
 
 fn named(rt: &impl Abort, kind: u32, name: &str) {
     assert_eq!(rt; type_name(kind), Some(name), "at {kind:#x}");
+    assert_eq!(rt; type_number(name), Some(kind), "at {kind:#x}");
 }
