@@ -216,8 +216,9 @@ fn a_digest_has_a_text(rt: HostRuntime) {
     equal(&rt, &digest_text(&digest, &mut text), &64);
     same_bytes(
         &rt,
-        &text[..66],
-        b"ba7816bf8f01cfea414140de5dae2223b00361a396177a9cb410ff61f20015ad--",
+        &text,
+        b"ba7816bf8f01cfea414140de5dae2223b00361a396177a9cb410ff61f20015ad\
+----------------------------------------------------------------",
     );
 }
 
