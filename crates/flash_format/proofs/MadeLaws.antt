@@ -262,7 +262,7 @@ front_is_read name kind digest gap content more is =
 
 -- ---- the whole cell
 
-length-padding : (n : ℕ) (last : Option (List ℕ)) → KeepsFour last → length (padding n last) ≡ n
+pub length-padding : (n : ℕ) (last : Option (List ℕ)) → KeepsFour last → length (padding n last) ≡ n
 length-padding n None is = length-replicate n 255
 length-padding n (Some last) is = omega (arith, is, length-append (replicate (n - 4) 255) (drop (4 - n) last), length-replicate {A = ℕ} (n - 4) 255, length-drop (4 - n) last)
 

@@ -1,23 +1,24 @@
 -- A component in place of free cells: one more, and all others stay.
-use Rattle.std.proofs.Common.{◌≡◌, ℕ, ◌+◌, ◌-◌, ◌%◌, ◌^◌, ◌<◌, true, false, cond, List, [], ◌∷◌, ◌++◌, length, Option, Some, sym, ◌∙◌, ap, subst, refl, arith, All, append_assoc, length-append}
-use Rattle.std.specs.Prelude.{unwrap_or}
+use Rattle.std.proofs.Common.{◌≡◌, ℕ, ◌+◌, ◌-◌, ◌%◌, ◌^◌, ◌<◌, ◌≤◌, true, false, cond, List, [], ◌∷◌, ◌++◌, length, Option, Some, sym, ◌∙◌, ap, subst, refl, arith, All, append_assoc, length-append}
+use Rattle.std.specs.Prelude.{is_some, unwrap_or}
 use Rattle.std.specs.List.{concat}
 use Rattle.std.proofs.lemmas.List.{append-nil}
 use Rattle.std.proofs.lemmas.List.Elements.{All-nil, All-cons, All-append}
 use Rattle.flash_format.specs.declared.digest.Digest.{Digest}
 use Rattle.flash_format.specs.Head.{header_length, head_of, is_free}
 use Rattle.flash_format.specs.Attributes.{Attribute}
-use Rattle.flash_format.specs.Blanks.{blank_header}
+use Rattle.flash_format.specs.Blanks.{blank_header, blank, padding}
 use Rattle.flash_format.specs.Entry.{cell, entry}
 use Rattle.flash_format.specs.Cut.{cut, IsCell, IsCut}
 use Rattle.flash_format.specs.Components.{Component, cell_content, cell_attributes, component_at, components_from, components}
 use Rattle.flash_format.specs.Splices.{AllFree, spliced}
-use Rattle.flash_format.specs.Made.{IsReadAs, made_attributes}
+use Rattle.flash_format.specs.Made.{IsReadAs, KeepsFour, made_attributes}
 use Rattle.flash_format.specs.Placings.{IsSpace, space_cells, made_component}
 use Rattle.flash_format.specs.Laws.{ComponentsArePlaced}
 use Rattle.flash_format.proofs.CutSteps.{cell_span}
 use Rattle.flash_format.proofs.CellLists.{components-append}
 use Rattle.flash_format.proofs.BlankLaws.{blank_header-cell, length-blank_header}
+use Rattle.flash_format.proofs.MadeLaws.{length-padding}
 use Rattle.flash_format.proofs.Splices.{concat-append, components-free, length-concat-cells, cells-before, cells-group, splice-cut, splice-components, splice-end, group-components}
 
 -- ---- free space
@@ -41,6 +42,14 @@ space_each size (b ∷ bytes) is whole small =
 concat-space : (bytes : List ℕ) → concat (space_cells bytes) ≡ bytes
 concat-space [] = refl
 concat-space (b ∷ bytes) = append-nil (b ∷ bytes)
+
+pub blank_is_space : (size : ℕ) (last : Option (List ℕ)) → 64 ≤ size → KeepsFour last → IsSpace size (blank size last)
+blank_is_space size last some four =
+    let rest : List ℕ = padding (size - header_length) last in
+    record {
+      long = omega (arith, length-append (blank_header size (is_some last)) rest, length-blank_header size (is_some last), length-padding (size - header_length) last four);
+      header = λ _. (is_some last, rest, refl);
+    }
 
 -- ---- the component
 

@@ -3,13 +3,13 @@ use Rattle.std.specs.Prelude.{◌≡◌, ◌≢◌, ℕ, ◌+◌, ◌-◌, ◌%�
 use Rattle.std.specs.List.{concat, sum_by}
 use Rattle.flash_format.specs.declared.digest.Digest.{Digest}
 use Rattle.flash_format.specs.Head.{name_padding, header_length, head_of, is_free, round64}
-use Rattle.flash_format.specs.Blanks.{blank_header}
+use Rattle.flash_format.specs.Blanks.{blank_header, blank}
 use Rattle.flash_format.specs.Entry.{entry, cell}
 use Rattle.flash_format.specs.Cut.{End, cut, after_all, IsCell, IsCut}
 use Rattle.flash_format.specs.Components.{components, components_from, moved}
 use Rattle.flash_format.specs.Splices.{AllFree, CellsBetween, spliced}
 use Rattle.flash_format.specs.Made.{IsDigest, IsMade, IsReadAs, KeepsFour, name_room, meta_length, hash_len, made_front, made}
-use Rattle.flash_format.specs.Placings.{IsPlacing, HasOneMore, space_cells, made_component}
+use Rattle.flash_format.specs.Placings.{IsSpace, IsPlacing, HasOneMore, space_cells, made_component}
 use Rattle.flash_format.specs.Flashmap.{is_map, map_of}
 use Rattle.flash_format.specs.TypeNames.{name_of_type, type_of_text}
 
@@ -99,6 +99,10 @@ MadeCellsAreAsLong = (name : List ℕ) (kind : ℕ) (digest : Option Digest) (ga
 -- the field of a name is the least multiple of the padding that is longer than the name
 abbrev pub RoomsAreLeast : Type 0
 RoomsAreLeast = (k : ℕ) → (k < name_room k) × (name_room k % name_padding ≡ 0) × (name_room k ≤ k + name_padding)
+
+-- a blank is free space
+abbrev pub BlanksAreSpace : Type 0
+BlanksAreSpace = (size : ℕ) (last : Option (List ℕ)) → 64 ≤ size → KeepsFour last → IsSpace size (blank size last)
 
 -- a component's cell with free space before and after it, in place of free cells: one component more, and all others stay
 abbrev pub ComponentsArePlaced : Type 0

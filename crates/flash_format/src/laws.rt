@@ -1,6 +1,6 @@
 //! Laws of the definitions, which the crates above rest on. These functions do nothing: their contracts are the laws.
 
-ghost use Rattle.flash_format.specs.Laws.{CellsAreLarge, CellsFit, CellsAreReadAlike, FreeCellsAreReadByTheirHead, EveryRegionHasACut, CutsAreUnique, CutsGoOn, ComponentsGoOn, ComponentsJoin, PlacesAreSums, BlankHeadersAreFreeCells, CellsAreReplaced, ComponentsStay, BlanksHaveNoComponent, FrontsAreReadAsMade, MadeCellsAreReadAsMade, MadeCellsStandAlone, MadeCellsAreAsLong, RoomsAreLeast, ComponentsArePlaced, MapsAreTheLowest, NamesAreReadBack};
+ghost use Rattle.flash_format.specs.Laws.{CellsAreLarge, CellsFit, CellsAreReadAlike, FreeCellsAreReadByTheirHead, EveryRegionHasACut, CutsAreUnique, CutsGoOn, ComponentsGoOn, ComponentsJoin, PlacesAreSums, BlankHeadersAreFreeCells, CellsAreReplaced, ComponentsStay, BlanksHaveNoComponent, FrontsAreReadAsMade, MadeCellsAreReadAsMade, MadeCellsStandAlone, MadeCellsAreAsLong, RoomsAreLeast, BlanksAreSpace, ComponentsArePlaced, MapsAreTheLowest, NamesAreReadBack};
 ghost use Rattle.std.specs.Prelude.{◌≡◌};
 ghost use Rattle.flash_format.specs.Head.{header_length};
 ghost use Rattle.flash_format.specs.Flashmap.{fmap_head_len, area_len};
@@ -66,7 +66,8 @@ pub fn made_cells_are_read_as_made()
 /// this one component more, and the others stay, with their places and bytes. So do the end of the cells and what is
 /// left after them.
 pub fn components_are_placed()
-    ensures { ComponentsArePlaced }
+    ensures placed { ComponentsArePlaced }
+    ensures blanks { BlanksAreSpace }
 {}
 
 /// An image's map is the lowest valid one.

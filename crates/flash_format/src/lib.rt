@@ -25,6 +25,6 @@ pub use laws::{
     entries_are_read_alike, groups_are_replaced, lengths_are_defined, made_cells_are_read_as_made,
     maps_are_the_lowest, type_names_are_read_back,
 };
-pub use meta::{Meta, attr_len, meta_len, write_meta};
+pub use meta::{LONGEST_FRONT, Meta, attr_len, meta_len, write_meta};
 pub use number::{digits_value, read_number};
 pub use type_names::{type_name, type_number};

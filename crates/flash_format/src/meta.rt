@@ -11,6 +11,10 @@ use crate::digest::Digest;
 use crate::head::{Head, NAME_PADDING};
 use byteorder::{BigEndian, ByteOrder};
 
+/// How many bytes the longest front has: a head, the field of a name with 127 bytes, a hash attribute with SHA-512, and a
+/// gap of 63 bytes.
+pub const LONGEST_FRONT: usize = 24 + 128 + 76 + 63;
+
 /// A component, but for its content.
 #[derive(Clone, Copy, Debug, PartialEq, Eq)]
 pub struct Meta<'a> {

@@ -1,8 +1,9 @@
 //! Bytes from outside through each public function, and the names of all types. The limits of the checks stand as
 //! proved examples beside the definitions.
 use flash_format::{
-    Area, AttrHead, DamageKind, Digest, Extent, FmapHead, Head, Meta, attr_len, digest_text,
-    digits_value, empty_header, meta_len, read_number, type_name, type_number, write_meta,
+    Area, AttrHead, DamageKind, Digest, Extent, FmapHead, Head, LONGEST_FRONT, Meta, attr_len,
+    digest_text, digits_value, empty_header, meta_len, read_number, type_name, type_number,
+    write_meta,
 };
 use std::fmt::Debug;
 use std::process::Abort;
@@ -161,7 +162,7 @@ fn described<'a>(name: &'a [u8], len: u32, digest: Option<&'a Digest>) -> Meta<'
 fn has_front(rt: &impl Abort, meta: &Meta<'_>, front: &[u8]) {
     assert!(rt; meta.name.len() <= 127 && meta.gap < 64);
     let attr_len = attr_len(meta.digest);
-    let mut out = [0xaa; 291];
+    let mut out = [0xaa; LONGEST_FRONT];
     let len = write_meta(meta, &mut out);
     same_bytes(rt, &out[..len], front);
     equal(

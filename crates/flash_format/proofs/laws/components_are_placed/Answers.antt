@@ -1,5 +1,5 @@
-use Rattle.flash_format.proofs.Placed.{components_placed}
+use Rattle.flash_format.proofs.Placed.{components_placed, blank_is_space}
 use Rattle.flash_format.proofs.laws.components_are_placed.Goals as goal
 
 pub returns : goal.returns
-returns c = components_placed
+returns c = record { placed = components_placed; blanks = blank_is_space }
