@@ -45,6 +45,7 @@ pub fn digest_text(digest: &Digest, out: &mut [u8; 128]) -> usize
 {
     let bytes = digest.bytes();
     let end = 2 * bytes.len();
+    // The part has room for just these digits, so it is never refused.
     let _fits = hex::encode_to_slice(bytes, &mut out[..end]);
     end
 }
