@@ -3,7 +3,12 @@ pub mod Blanked
 pub mod Blanks
 pub mod Groups
 pub mod Removals
+pub mod CellSearches
 pub mod Surveys
+pub mod Leasts
+pub mod Closings
+pub mod Placed
+pub mod PlaceSurveys
 pub mod Exact
 pub mod FreeRuns
 pub mod ExactRuns

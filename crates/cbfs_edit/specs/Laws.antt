@@ -1,11 +1,14 @@
 -- The laws that the edits rest on.
-use Rattle.std.specs.Prelude.{◌≡◌, ℕ, ◌%◌, ◌^◌, ◌<◌, All, Contains, List, length, Ok, Some, None}
+use Rattle.std.specs.Prelude.{◌≡◌, ℕ, ◌%◌, ◌^◌, ◌<◌, All, Contains, List, length, Ok, Option, Some, None}
 use Rattle.flash_format.specs.Cut.{cut}
 use Rattle.cbfs_edit.specs.Groups.{group_of, IsNot, IsGroupOf}
 use Rattle.cbfs_edit.specs.Removals.{last_four, removal_in}
 use Rattle.cbfs_edit.specs.Stops.{IsBlanked, IsStopped, SameCells}
 use Rattle.cbfs_edit.specs.Runs.{runs, IsRunOf}
+use Rattle.cbfs_edit.specs.Places.{IsWanted, IsPlace, place_of}
 use Rattle.cbfs_edit.specs.declared.group.Freed.{Freed}
+use Rattle.cbfs_edit.specs.declared.place.Wanted.{Wanted}
+use Rattle.cbfs_edit.specs.declared.place.Place.{Place}
 
 -- once the first commit of a removal is done, the components are those of the finished one
 abbrev pub BlankedGroupsLackTheComponent : Type 0
@@ -30,3 +33,11 @@ RunsAreMaximal = (x : List ℕ) (run : Freed) → Contains (runs x) run → IsRu
 -- and each maximal group is a run
 abbrev pub MaximalRunsAreThere : Type 0
 MaximalRunsAreThere = (x : List ℕ) (run : Freed) → IsRunOf 0 (cut x).cells run → Contains (runs x) run
+
+-- the place of a new component is in the first run with an allowed place, at its least one
+abbrev pub PlacesAreExact : Type 0
+PlacesAreExact = (x : List ℕ) (wanted : Wanted) → IsWanted wanted → IsPlace x wanted (place_of x wanted)
+
+-- and nowhere else
+abbrev pub OnePlace : Type 0
+OnePlace = (x : List ℕ) (wanted : Wanted) (found : Option Place) → IsWanted wanted → IsPlace x wanted found → found ≡ place_of x wanted

@@ -23,7 +23,7 @@ abbrev pub removed : List ℕ → Freed → List ℕ
 removed x group = overwritten x group.start (blank (group.end - group.start) (kept_at x group.end))
 
 -- a damage that ends the cells comes first
-abbrev pub unless_damaged : ℕ → End → Result Freed EditFault → Result Freed EditFault
+abbrev pub unless_damaged : {A : Type 0} → ℕ → End → Result A EditFault → Result A EditFault
 unless_damaged at complete otherwise = otherwise
 unless_damaged at tail otherwise = otherwise
 unless_damaged at (damage kind) otherwise = Err (Damaged at kind)

@@ -54,8 +54,8 @@ pub fn write_blank<F: Flash>(
     )
 }
 
-/// Where the space that a blank describes ends.
-fn space_end(end: u64, kept: bool) -> u64
+/// Where the space of free cells that end here ends: before the region's last four bytes, where those are kept.
+pub fn space_end(end: u64, kept: bool) -> u64
     requires { 64 ≤ end }
     ensures { result ≡ (if kept then end - 4 else end) }
 {

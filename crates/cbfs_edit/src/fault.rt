@@ -5,12 +5,14 @@ ghost use Rattle.cbfs_edit.specs.Refusals.{refusal_of};
 use cbfs_walk::WalkFault;
 use flash_format::DamageKind;
 
-/// Why an edit is refused. The numbers are those of the refusals that the commands print. After `Device` the components
-/// are those of before or those of after; after any other refusal the device is as it was.
+/// Why an edit is refused. The numbers are those of the refusals that the commands print. After `Device` and `Source` the
+/// components are those of before or those of after; after any other refusal the device is as it was.
 #[derive(Clone, Copy, Debug, PartialEq, Eq)]
 pub enum EditFault {
     /// The device refused a call (1).
     Device,
+    /// The source of the content refused a read (3).
+    Source,
     /// The region's size is 0 or no multiple of 64 (7).
     RegionShape,
     /// No entry stands at the region's start (8).
@@ -19,6 +21,16 @@ pub enum EditFault {
     Damaged { at: u64, kind: DamageKind },
     /// No component has the name (10).
     NotFound,
+    /// A component has the name already (11).
+    Exists,
+    /// No free space has room for the component at a place that its spot allows (12).
+    NoSpace,
+    /// The name is empty, has more than 127 bytes, or has a NUL (14).
+    BadName,
+    /// The type is 0 or 0xffffffff, which mark free space (15).
+    BadType,
+    /// The content shall begin at a multiple of 0 (16).
+    BadAlign,
 }
 
 /// The same refusal of an edit.

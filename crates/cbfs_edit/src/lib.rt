@@ -9,6 +9,7 @@ mod fault;
 mod formatting;
 mod group;
 mod laws;
+mod place;
 mod removal;
 mod write;
 
@@ -17,6 +18,7 @@ pub use formatting::format;
 pub use group::Freed;
 pub use laws::{
     blanked_groups_lack_the_component, blanked_runs_keep_the_components, groups_are_exact,
-    runs_are_exact,
+    places_are_exact, runs_are_exact,
 };
+pub use place::Spot;
 pub use removal::remove;

@@ -1,0 +1,153 @@
+-- The place of a new component is the least allowed one of the first run that has one.
+use Rattle.std.proofs.Common.{◌≡◌, ◌≢◌, ℕ, ◌+◌, ◌*◌, ◌/◌, ◌%◌, ◌<◌, ◌≤◌, Bool, true, false, cond, List, [], ◌∷◌, ◌++◌, All, ap, subst, sym, ◌∙◌, refl, arith, zero, suc, Option, Some, None}
+use Rattle.std.specs.Prelude.{◌&&◌, nat_le, MatchOption, option_map}
+use Rattle.std.specs.Option.{option_or}
+use Rattle.std.specs.Int.{div_ceil}
+use Rattle.std.proofs.lemmas.Grind.{div_ceil_times}
+use Rattle.std.proofs.lemmas.Bool.Decides.{nat_tests}
+use Rattle.std.proofs.lemmas.List.Elements.{All-nil, All-cons, All-head, All-tail}
+use Rattle.std.proofs.Math.Nat.{mul-mod_left, div-add-mod, lt_of_mul-lt-mul_right, mul-le-mul_right}
+use Rattle.cbfs_edit.specs.Places.{Meets, IsLeast, HasNoRoom, IsAllowed, IsHeaderOf, IsFirstPlace, IsPlaceAmong, IsWanted, limit_of, least_from, least_in, place_at, place_among}
+use Rattle.cbfs_edit.specs.declared.group.Freed.{Freed}
+use Rattle.cbfs_edit.specs.declared.place.Spot.{Spot}
+use Rattle.cbfs_edit.specs.declared.place.Spot.TheVariants.{First, Aligned, Fixed}
+use Rattle.cbfs_edit.specs.declared.place.Wanted.{Wanted}
+use Rattle.cbfs_edit.specs.declared.place.Place.{Place}
+
+some_unit : (unit : ℕ) → (let s : Spot = Aligned unit in s) ≢ Aligned 0 → 0 < unit
+some_unit zero some = absurd (some refl)
+some_unit (suc unit) some = omega arith
+
+-- no multiple lies between a number and the least one from it on
+multiple_least : (unit from d : ℕ) → 0 < unit → from ≤ d → d % unit ≡ 0 → div_ceil from unit * unit ≤ d
+multiple_least unit from d some below whole =
+    let up = div_ceil_times from unit some in
+    let same : unit * (d / unit) + d % unit ≡ d = div-add-mod d unit in
+    let below_next : div_ceil from unit * unit < (d / unit + 1) * unit = omega (arith, up.1, same) in
+    let fewer : div_ceil from unit < d / unit + 1 = lt_of_mul-lt-mul_right unit below_next in
+    let enough : div_ceil from unit * unit ≤ d / unit * unit = mul-le-mul_right unit (omega (arith, fewer)) in
+    omega (arith, enough, same)
+
+-- the least position from a place on, where the condition allows one
+pub least_from-least : (spot : Spot) (from d : ℕ) → spot ≢ Aligned 0 → from ≤ d → Meets spot d → least_from spot from ≤ d
+least_from-least First from d some below meets = below
+least_from-least (Aligned unit) from d some below meets = multiple_least unit from d (some_unit unit some) below meets
+least_from-least (Fixed place) from d some below meets = omega arith
+
+pub least_from-meets : (spot : Spot) (from : ℕ) → Meets spot (least_from spot from)
+least_from-meets First from = tt
+least_from-meets (Aligned unit) from = mul-mod_left (div_ceil from unit) unit
+least_from-meets (Fixed place) from = refl
+
+-- below the place it allows none from the place on
+least_from-none : (spot : Spot) (from d : ℕ) → spot ≢ Aligned 0 → least_from spot from < from → from ≤ d → Meets spot d → ⊥
+least_from-none First from d some less below meets = omega arith
+least_from-none (Aligned unit) from d some less below meets = let up = div_ceil_times from unit (some_unit unit some) in omega (arith, up.0)
+least_from-none (Fixed place) from d some less below meets = omega arith
+
+le_of : (a b : ℕ) → nat_le a b ≡ true → a ≤ b
+le_of a b is = grind (arith, nat_tests)
+
+lt_of : (a b : ℕ) → nat_le a b ≡ false → b < a
+lt_of a b is = grind (arith, nat_tests)
+
+header_lemma : (wanted : Wanted) (run : Freed) (c : ℕ) → wanted.header ≤ c → IsHeaderOf wanted (place_at wanted run c)
+header_lemma wanted run c above = record { aligned = omega arith; room = omega arith; largest = omega arith }
+
+pub least_in-right : (wanted : Wanted) (size : ℕ) (run : Freed) → IsWanted wanted → MatchOption (least_in wanted size run) (HasNoRoom wanted size run) (IsLeast wanted size run)
+least_in-right wanted size run is = go (nat_le from c) (nat_le (c + wanted.len) limit) refl refl
+  where
+    from : ℕ
+    from = run.start + wanted.header
+
+    c : ℕ
+    c = least_from wanted.spot from
+
+    limit : ℕ
+    limit = limit_of wanted.spot size run.end
+
+    go : (a b : Bool) → nat_le from c ≡ a → nat_le (c + wanted.len) limit ≡ b
+        → MatchOption (cond (a && b) (Some c) None) (HasNoRoom wanted size run) (IsLeast wanted size run)
+    go false b ta tb = λ d allowed. least_from-none wanted.spot from d is.spot (lt_of from c ta) allowed.after_header allowed.meets
+    go true false ta tb = λ d allowed. omega (arith, least_from-least wanted.spot from d is.spot allowed.after_header allowed.meets, allowed.ends, lt_of (c + wanted.len) limit tb)
+    go true true ta tb = record {
+      allowed = record { after_header = le_of from c ta; meets = least_from-meets wanted.spot from; ends = le_of (c + wanted.len) limit tb };
+      least = λ d allowed. least_from-least wanted.spot from d is.spot allowed.after_header allowed.meets;
+    }
+
+pub place_among-right : (wanted : Wanted) (size : ℕ) (runs : List Freed) → IsWanted wanted → IsPlaceAmong wanted size runs (place_among wanted size runs)
+unfolding place_among
+place_among-right wanted size [] is = All-nil (HasNoRoom wanted size)
+place_among-right wanted size (run ∷ later) is = go (least_in wanted size run) (least_in-right wanted size run is) (place_among wanted size later) (place_among-right wanted size later is)
+  where
+    here : (c : ℕ) → IsLeast wanted size run c → IsFirstPlace wanted size (run ∷ later) (place_at wanted run c)
+    here c least = record {
+      before = [];
+      later = later;
+      whole = refl;
+      none_before = All-nil (HasNoRoom wanted size);
+      content = least;
+      header = header_lemma wanted run c (omega (arith, least.allowed.after_header));
+    }
+
+    after : (q : Option Place) → HasNoRoom wanted size run → IsPlaceAmong wanted size later q → IsPlaceAmong wanted size (run ∷ later) q
+    after None none rest = All-cons (HasNoRoom wanted size) run later none rest
+    after (Some place) none rest = record {
+      before = run ∷ rest.before;
+      later = rest.later;
+      whole = ap (λ (l : List Freed). run ∷ l) rest.whole;
+      none_before = All-cons (HasNoRoom wanted size) run rest.before none rest.none_before;
+      content = rest.content;
+      header = rest.header;
+    }
+
+    go : (o : Option ℕ) → MatchOption o (HasNoRoom wanted size run) (IsLeast wanted size run) → (q : Option Place) → IsPlaceAmong wanted size later q
+        → IsPlaceAmong wanted size (run ∷ later) (option_or (option_map (place_at wanted run) o) q)
+    go None none q rest = after q none rest
+    go (Some c) least q rest = here c least
+
+-- ---- no other place
+
+module _ (wanted : Wanted) (size : ℕ) where
+  no_room : (before later : List Freed) (run : Freed) (c : ℕ) → All (HasNoRoom wanted size) (before ++ run ∷ later) → IsAllowed wanted size run c → ⊥
+  no_room [] later run c none allowed = All-head (HasNoRoom wanted size) run later none c allowed
+  no_room (r ∷ before) later run c none allowed = no_room before later run c (All-tail (HasNoRoom wanted size) r (before ++ run ∷ later) none) allowed
+
+  heads : (a b : Freed) (l m : List Freed) → a ∷ l ≡ b ∷ m → a ≡ b
+  heads a b l m is = cc
+
+  tails : (a b : Freed) (l m : List Freed) → a ∷ l ≡ b ∷ m → l ≡ m
+  tails a b l m is = cc
+
+  same_run : (before others : List Freed) (later more : List Freed) (run other : Freed) (c d : ℕ) → All (HasNoRoom wanted size) before → All (HasNoRoom wanted size) others
+      → IsAllowed wanted size run c → IsAllowed wanted size other d → before ++ run ∷ later ≡ others ++ other ∷ more → run ≡ other
+  same_run [] [] later more run other c d none no_other here there is = heads run other later more is
+  same_run [] (o ∷ others) later more run other c d none no_other here there is =
+      let same : run ≡ o = heads run o later (others ++ other ∷ more) is in
+      absurd (All-head (HasNoRoom wanted size) o others no_other c (subst (λ (r : Freed). IsAllowed wanted size r c) same here))
+  same_run (b ∷ before) [] later more run other c d none no_other here there is =
+      let same : other ≡ b = sym (heads b other (before ++ run ∷ later) more is) in
+      absurd (All-head (HasNoRoom wanted size) b before none d (subst (λ (r : Freed). IsAllowed wanted size r d) same there))
+  same_run (b ∷ before) (o ∷ others) later more run other c d none no_other here there is =
+      same_run before others later more run other c d (All-tail (HasNoRoom wanted size) b before none) (All-tail (HasNoRoom wanted size) o others no_other) here there
+      (tails b o (before ++ run ∷ later) (others ++ other ∷ more) is)
+
+  same_place : (p q : Place) → p.run ≡ q.run → p.header ≡ q.header → p.content ≡ q.content → p ≡ q
+  same_place p q run header content =
+      ap (λ (r : Freed). let k : Place = record { run = r; header = p.header; content = p.content } in k) run
+      ∙ ap (λ n. let k : Place = record { run = q.run; header = n; content = p.content } in k) header
+      ∙ ap (λ n. let k : Place = record { run = q.run; header = q.header; content = n } in k) content
+
+  pub one_place : (runs : List Freed) (p q : Option Place) → IsPlaceAmong wanted size runs p → IsPlaceAmong wanted size runs q → p ≡ q
+  one_place runs None None is other = refl
+  one_place runs None (Some q) is other =
+      absurd (no_room other.before other.later q.run q.content (subst (λ (l : List Freed). All (HasNoRoom wanted size) l) other.whole is) other.content.allowed)
+  one_place runs (Some p) None is other =
+      absurd (no_room is.before is.later p.run p.content (subst (λ (l : List Freed). All (HasNoRoom wanted size) l) is.whole other) is.content.allowed)
+  one_place runs (Some p) (Some q) is other =
+      let run : p.run ≡ q.run = same_run is.before other.before is.later other.later p.run q.run p.content q.content is.none_before other.none_before is.content.allowed other.content.allowed
+      (sym is.whole ∙ other.whole) in
+      let no_more : p.content ≤ q.content = is.content.least q.content (subst (λ (r : Freed). IsAllowed wanted size r q.content) (sym run) other.content.allowed) in
+      let no_less : q.content ≤ p.content = other.content.least p.content (subst (λ (r : Freed). IsAllowed wanted size r p.content) run is.content.allowed) in
+      let content : p.content ≡ q.content = omega arith in
+      ap (λ (k : Place). Some k) (same_place p q run (omega (arith, is.header, other.header, content)) content)

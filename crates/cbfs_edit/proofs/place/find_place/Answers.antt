@@ -1,0 +1,41 @@
+use Rattle.std.proofs.Common.{inr, refl, arith, rules}
+use Rattle.flash_store.specs.Regions.{bytes_in}
+use Rattle.flash_store.proofs.DeviceLemmas.{length-bytes_in}
+use Rattle.cbfs_edit.specs.Places.{placing_in}
+use Rattle.cbfs_edit.specs.Placings.{IsSurvey}
+use Rattle.cbfs_edit.proofs.CellSearches.{surveying_start, surveying_more, surveying_end, surveying_tail, surveying_err}
+use Rattle.cbfs_edit.proofs.PlaceSurveys.{place_search, place_searched}
+use Rattle.cbfs_edit.proofs.place.find_place.Goals as goal
+
+pub loop-cell-init : goal.loop-cell-init
+loop-cell-init g c =
+    let r = c.args.region in
+    rw c.new-walk.ensures (surveying_start _ r (place_search c.args.name.now c.args.wanted r.size) _ _ _
+    (record { here = refl; order = omega arith; inside = omega arith; start_aligned = refl; end_aligned = refl; place = tt })
+    (place_searched (bytes_in r (g.F.Flash.facts c.args.paged.now.device).content) c.args.name.now c.args.wanted r.size (length-bytes_in r _ c.requires.region)))
+
+pub loop-cell-preserved : goal.loop-cell-preserved
+loop-cell-preserved g c =
+    let is = c.in-Ok-Cell.field-0-is in
+    let given = rw is at c.in-Ok-Cell.ensures.cell in
+    let reads = rw is at c.in-Ok-Cell.ensures.after in
+    let answer = rw is at c.in-Ok-Cell.ensures.answer in
+    let moved = rw is at c.in-Ok-Cell.ensures.moved in
+    let want = placing_in (bytes_in c.args.region (g.F.Flash.facts c.args.paged.now.device).content) c.args.name.now c.args.wanted in
+    surveying_more g.F.Flash.facts c.args.region (place_search c.args.name.now c.args.wanted c.args.region.size) want (IsSurvey c.args.wanted c.args.region.size) c.loop-cell.walk c.loop-cell.survey _ _ c.requires.region c.loop-cell.invariant c.in-Ok-Cell.cell _ c.in-Ok.next _ _ _
+    given reads refl c.pass.ensures.after.read answer moved c.in-Ok.ensures.before c.in-Ok.ensures.passed
+
+pub returns-in-Ok-Tail-clause-answer : goal.returns-in-Ok-Tail-clause-answer
+returns-in-Ok-Tail-clause-answer g c = λ h.
+    inr (rw c.answer_of.ensures.is (surveying_tail _ c.args.region (place_search c.args.name.now c.args.wanted c.args.region.size) _ _ c.loop-cell.walk c.loop-cell.survey _ _ c.requires.region c.loop-cell.invariant _ (rw c.in-Ok-Tail.field-0-is at c.in-Ok-Tail.ensures.answer) h))
+
+pub returns-in-Ok-End-clause-answer : goal.returns-in-Ok-End-clause-answer
+returns-in-Ok-End-clause-answer g c = λ h.
+    inr (rw c.answer_of-in-Ok-End.ensures.is (surveying_end _ c.args.region (place_search c.args.name.now c.args.wanted c.args.region.size) _ _ c.loop-cell.walk c.loop-cell.survey _ _ c.requires.region c.loop-cell.invariant (rw c.in-Ok-End.field-0-is at c.in-Ok-End.ensures.answer) h))
+
+pub returns-in-Err-clause-answer : goal.returns-in-Err-clause-answer
+returns-in-Err-clause-answer g c = λ h.
+    rw c.refusal_of.ensures (surveying_err _ c.args.region (place_search c.args.name.now c.args.wanted c.args.region.size) _ _ c.loop-cell.walk c.loop-cell.survey _ _ c.requires.region c.loop-cell.invariant c.in-Err.fault c.in-Err.ensures.answer h)
+
+pub returns-in-Err-clause-after : goal.returns-in-Err-clause-after
+returns-in-Err-clause-after g c = search rules

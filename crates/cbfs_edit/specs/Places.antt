@@ -1,0 +1,128 @@
+-- The place of a new component.
+use Rattle.std.specs.Option.{option_or}
+use Rattle.std.specs.Int.{div_ceil}
+use Rattle.std.specs.Prelude.{◌≡◌, ◌≢◌, ℕ, ◌+◌, ◌-◌, ◌*◌, ◌/◌, ◌%◌, ◌^◌, ◌<◌, ◌≤◌, ⊤, Bool, ◌&&◌, ◌==◌, nat_le, if◌then◌else◌, is_some, List, [], ◌∷◌, ◌++◌, All, Contains, length, Option, Some, None, option_map, Result, Ok, Err}
+use Rattle.flash_format.specs.Cut.{cut}
+use Rattle.flash_format.specs.Components.{components}
+use Rattle.cbfs_walk.specs.Shapes.{shape, refused_or}
+use Rattle.cbfs_walk.specs.Shaped.{place_after}
+use Rattle.cbfs_walk.specs.Finding.{first_named}
+use Rattle.cbfs_edit.specs.Refusals.{refusal_of}
+use Rattle.cbfs_edit.specs.Runs.{runs}
+use Rattle.cbfs_edit.specs.Removals.{unless_damaged}
+use Rattle.cbfs_edit.specs.declared.fault.EditFault.{EditFault}
+use Rattle.cbfs_edit.specs.declared.fault.EditFault.TheVariants.{Exists, NoSpace}
+use Rattle.cbfs_edit.specs.declared.group.Freed.{Freed}
+use Rattle.cbfs_edit.specs.declared.place.Spot.{Spot}
+use Rattle.cbfs_edit.specs.declared.place.Spot.TheVariants.{First, Aligned, Fixed}
+use Rattle.cbfs_edit.specs.declared.place.Wanted.{Wanted}
+use Rattle.cbfs_edit.specs.declared.place.Place.{Place}
+
+-- the numbers are small, and none is a multiple of 0
+pub record IsWanted (wanted : Wanted) : Type 0 where
+  pub header : wanted.header < 2 ^ 32
+  pub len : wanted.len < 2 ^ 32
+  pub spot : wanted.spot ≢ Aligned 0
+
+-- ---- as a relation
+
+-- a spot allows content to begin at a place
+abbrev pub Meets : Spot → ℕ → Type 0
+Meets First c = ⊤
+Meets (Aligned unit) c = c % unit ≡ 0
+Meets (Fixed place) c = c ≡ place
+
+-- where content ends at the latest, in a run that ends here, of a region of this size
+abbrev pub limit_of : Spot → ℕ → ℕ → ℕ
+limit_of First size end = if end == size then end - 4 else end
+limit_of (Aligned unit) size end = if end == size then end - 4 else end
+limit_of (Fixed place) size end = end
+
+-- content may begin at `c` in the run
+pub record IsAllowed (wanted : Wanted) (size : ℕ) (run : Freed) (c : ℕ) : Type 0 where
+  pub after_header : run.start + wanted.header ≤ c
+  pub meets : Meets wanted.spot c
+  pub ends : c + wanted.len ≤ limit_of wanted.spot size run.end
+
+pub record IsLeast (wanted : Wanted) (size : ℕ) (run : Freed) (c : ℕ) : Type 0 where
+  pub allowed : IsAllowed wanted size run c
+  pub least : (d : ℕ) → IsAllowed wanted size run d → c ≤ d
+
+abbrev pub HasNoRoom : Wanted → ℕ → Freed → Type 0
+HasNoRoom wanted size run = (c : ℕ) → IsAllowed wanted size run c → ⊥
+
+-- the header stands at the largest multiple of 64 that leaves it room
+pub record IsHeaderOf (wanted : Wanted) (place : Place) : Type 0 where
+  pub aligned : place.header % 64 ≡ 0
+  pub room : place.header + wanted.header ≤ place.content
+  pub largest : place.content < place.header + 64 + wanted.header
+
+-- the first of these runs with an allowed place, and its least one
+pub record IsFirstPlace (wanted : Wanted) (size : ℕ) (runs : List Freed) (place : Place) : Type 0 where
+  pub before : List Freed
+  pub later : List Freed
+  pub whole : runs ≡ before ++ place.run ∷ later
+  pub none_before : All (HasNoRoom wanted size) before
+  pub content : IsLeast wanted size place.run place.content
+  pub header : IsHeaderOf wanted place
+
+-- the place among these runs, or none
+abbrev pub IsPlaceAmong : Wanted → ℕ → List Freed → Option Place → Type 0
+IsPlaceAmong wanted size runs None = All (HasNoRoom wanted size) runs
+IsPlaceAmong wanted size runs (Some place) = IsFirstPlace wanted size runs place
+
+-- the place of a new component in a region, or none
+abbrev pub IsPlace : List ℕ → Wanted → Option Place → Type 0
+IsPlace x wanted found = IsPlaceAmong wanted (length x) (runs x) found
+
+-- ---- as a function
+
+-- the least place from `from` on that the spot allows; where it allows none there, one before
+abbrev pub least_from : Spot → ℕ → ℕ
+least_from First from = from
+least_from (Aligned unit) from = div_ceil from unit * unit
+least_from (Fixed place) from = place
+
+-- a header before `c` and the content from there on lie in the run
+abbrev pub has_room : Wanted → ℕ → Freed → ℕ → Bool
+has_room wanted size run c = nat_le (run.start + wanted.header) c && nat_le (c + wanted.len) (limit_of wanted.spot size run.end)
+
+-- the least allowed place in a run
+abbrev pub least_in : Wanted → ℕ → Freed → Option ℕ
+least_in wanted size run =
+    let c = least_from wanted.spot (run.start + wanted.header) in
+    if has_room wanted size run c then Some c else None
+
+abbrev pub place_at : Wanted → Freed → ℕ → Place
+place_at wanted run c = record { run = run; header = (c - wanted.header) / 64 * 64; content = c }
+
+abbrev pub place_in : Wanted → ℕ → Freed → Option Place
+place_in wanted size run = option_map (place_at wanted run) (least_in wanted size run)
+
+-- the place in the first of these runs that has one
+unfoldable pub place_among : Wanted → ℕ → List Freed → Option Place
+place_among wanted size [] = None
+place_among wanted size (run ∷ later) = option_or (place_in wanted size run) (place_among wanted size later)
+
+abbrev pub place_of : List ℕ → Wanted → Option Place
+place_of x wanted = place_among wanted (length x) (runs x)
+
+-- ---- with its refusals
+
+abbrev pub placed : Option Place → Result Place EditFault
+placed None = Err NoSpace
+placed (Some place) = Ok place
+
+-- the place of a new component of a name, or its first refusal
+unfoldable pub placing_in : List ℕ → List ℕ → Wanted → Result Place EditFault
+placing_in x name wanted =
+    refused_or (λ fault. Err (refusal_of fault)) (shape x)
+    (unless_damaged (place_after 0 (cut x).cells) (cut x).end
+    (if is_some (first_named name (components x)) then Err Exists else placed (place_of x wanted)))
+
+-- what an answer says: no component has the name, and the place is in a run of the region
+pub record IsAnsweredPlace (x name : List ℕ) (wanted : Wanted) (place : Place) : Type 0 where
+  pub whole : length x % 64 ≡ 0
+  pub no_other : first_named name (components x) ≡ None
+  pub found : place_of x wanted ≡ Some place
+  pub is_run : Contains (runs x) place.run

@@ -1,0 +1,242 @@
+//! The search for the place of a new component.
+ghost use Rattle.std.specs.Prelude.{◌≡◌, ◌≢◌, ◌⊎◌, ◌+◌, ◌/◌, ◌^◌, ◌<◌, ◌≤◌, MatchOption, IfOk, IfErr, IfSome, IsErrOf};
+ghost use Rattle.flash_store.specs.Pages.{HasRead, HasAnswered, OnHonestIn};
+ghost use Rattle.flash_store.specs.Regions.{LiesIn};
+ghost use Rattle.cbfs_walk.specs.Cells.{IsCellIn, cell_in};
+ghost use Rattle.cbfs_walk.specs.Walks.{StandsIn};
+ghost use Rattle.cbfs_edit.specs.Groups.{IsCellRange};
+ghost use Rattle.cbfs_edit.specs.Places.{IsWanted, IsLeast, HasNoRoom, limit_of, least_from, least_in, place_in, placing_in};
+ghost use Rattle.cbfs_edit.specs.Placings.{closed, surveyed, answer_of, Fits, IsSurvey};
+
+use crate::blank::space_end;
+use crate::fault::{EditFault, refusal_of};
+use crate::group::Freed;
+use cbfs_walk::{Cell, Step, Walk, cells_stand_in_their_image, name_is};
+use flash_store::{Flash, FlashFault, Paged, Region};
+
+/// Where the content of a new component may begin. Places count from the region's start, in bytes, whatever place the
+/// region has in its image. The component is put into the first free space that has room for it at such a place, and
+/// there at the least one.
+#[derive(Clone, Copy, Debug, PartialEq, Eq)]
+pub enum Spot {
+    /// Anywhere. The region's last four bytes stay free.
+    First,
+    /// At a multiple of this number (`-a`). The region's last four bytes stay free.
+    Aligned(u32),
+    /// At this place (`-b`). Here alone content may reach the region's end, and cover its last four bytes.
+    Fixed(u32),
+}
+
+/// What a place is looked for: so many bytes before the content, so many of content, and where it may begin.
+#[derive(Clone, Copy, Debug, PartialEq, Eq)]
+pub struct Wanted {
+    pub header: u64,
+    pub len: u64,
+    pub spot: Spot,
+}
+
+/// Where a component is put: the run of free cells, and in it the component's header and its content.
+#[derive(Clone, Copy, Debug, PartialEq, Eq)]
+pub struct Place {
+    pub run: Freed,
+    pub header: u64,
+    pub content: u64,
+}
+
+/// How far the search has come: the free cells right before the walk's place, whether a component before it has the
+/// name, and the first place in the runs before those cells.
+#[derive(Clone, Copy)]
+pub struct Survey {
+    pub row: Freed,
+    pub exists: bool,
+    pub place: Option<Place>,
+}
+
+/// The place of a new component of the name. The walk goes to the region's end, so that a damage anywhere refuses it.
+pub fn find_place<F: Flash>(
+    paged: &mut Paged<F>,
+    region: Region,
+    name: &[u8],
+    wanted: Wanted,
+) -> Result<Place, EditFault>
+    requires region { LiesIn region (F.facts paged.old.device).content }
+    requires wanted { IsWanted wanted }
+
+    // On any device.
+    ensures after { HasRead F.facts (region.size / 16 + 1) paged.old paged.new }
+    ensures cause { IsErrOf result EditFault.Device →
+        (F.facts paged.old.device).faults < (F.facts paged.new.device).faults }
+    ensures fits { IfOk result (Fits wanted region.size) }
+
+    // On an honest device.
+    ensures answer { OnHonestIn F.facts paged.old.device region (λ x.
+        IsErrOf result EditFault.Device ⊎ (result ≡ placing_in x name.now wanted)) }
+{
+    paged.places_fit();
+    let mut walk = Walk::new(region);
+    let mut survey = Survey {
+        row: Freed { start: 0, end: 0 },
+        exists: false,
+        place: None,
+    };
+    loop {
+        match walk.next(paged) {
+            Ok(Step::Cell(cell)) => match pass(paged, region, &cell, name, wanted, survey) {
+                Ok(next) => survey = next,
+                Err(_) => return Err(EditFault::Device),
+            },
+            Ok(Step::Tail(_)) => return answer_of(wanted, region, survey),
+            Ok(Step::End) => return answer_of(wanted, region, survey),
+            Err(fault) => return Err(refusal_of(fault)),
+        }
+    }
+}
+
+/// The search after a cell.
+fn pass<F: Flash>(
+    paged: &mut Paged<F>,
+    region: Region,
+    cell: &Cell,
+    name: &[u8],
+    wanted: Wanted,
+    survey: Survey,
+) -> Result<Survey, FlashFault>
+    requires region { LiesIn region (F.facts paged.old.device).content }
+    requires cell { IsCellIn region.size cell.now }
+    requires wanted { IsWanted wanted }
+    requires before { IsSurvey wanted region.size cell.now.at survey }
+
+    ensures after { HasAnswered F.facts 1 paged.old paged.new result }
+    ensures before { IfOk result (IsSurvey wanted region.size (cell.now.at + cell.now.span)) }
+    ensures passed { OnHonestIn F.facts paged.old.device region (λ x. StandsIn x cell.now →
+        IfOk result (λ next. next ≡ surveyed name.now wanted region.size survey (cell_in x cell.now))) }
+{
+    paged.places_fit();
+    cells_stand_in_their_image();
+    let end = survey.row.end + cell.span;
+    if cell.head.is_free() {
+        return Ok(Survey {
+            row: Freed {
+                start: survey.row.start,
+                end,
+            },
+            exists: survey.exists,
+            place: survey.place,
+        });
+    }
+    let named = name_is(paged, region, cell, name)?;
+    let place = close(wanted, region, survey);
+    Ok(Survey {
+        row: Freed { start: end, end },
+        exists: survey.exists | named,
+        place,
+    })
+}
+
+/// What the search has found where the cells end.
+fn answer_of(wanted: Wanted, region: Region, survey: Survey) -> Result<Place, EditFault>
+    requires wanted { IsWanted wanted }
+    requires survey { IsSurvey wanted region.size survey.row.end survey }
+    requires small { region.size < 2 ^ 32 }
+
+    ensures is { result ≡ answer_of wanted region.size survey }
+    ensures fits { IfOk result (Fits wanted region.size) }
+    ensures fault { IfErr result (λ fault. fault ≢ EditFault.Device) }
+{
+    if survey.exists {
+        return Err(EditFault::Exists);
+    }
+    match close(wanted, region, survey) {
+        None => Err(EditFault::NoSpace),
+        Some(place) => Ok(place),
+    }
+}
+
+/// The first place so far, where the row of free cells ends.
+fn close(wanted: Wanted, region: Region, survey: Survey) -> Option<Place>
+    requires wanted { IsWanted wanted }
+    requires survey { IsSurvey wanted region.size survey.row.end survey }
+    requires small { region.size < 2 ^ 32 }
+
+    ensures is { result ≡ closed wanted region.size survey }
+    ensures fits { IfSome result (Fits wanted region.size) }
+{
+    match survey.place {
+        Some(place) => Some(place),
+        None => {
+            if survey.row.start == survey.row.end {
+                return None;
+            }
+            place_in(wanted, region, survey.row)
+        }
+    }
+}
+
+/// The place in a run: the header at the last multiple of 64 that leaves it room.
+fn place_in(wanted: Wanted, region: Region, run: Freed) -> Option<Place>
+    requires wanted { IsWanted wanted }
+    requires run { IsCellRange run region.size }
+    requires small { region.size < 2 ^ 32 }
+
+    ensures is { result ≡ place_in wanted region.size run }
+    ensures fits { IfSome result (Fits wanted region.size) }
+{
+    match least_in(wanted, region, run) {
+        None => None,
+        Some(content) => Some(Place {
+            run,
+            header: (content - wanted.header) / 64 * 64,
+            content,
+        }),
+    }
+}
+
+/// The least allowed place of content in a run.
+fn least_in(wanted: Wanted, region: Region, run: Freed) -> Option<u64>
+    requires wanted { IsWanted wanted }
+    requires run { IsCellRange run region.size }
+    requires small { region.size < 2 ^ 32 }
+
+    ensures is { result ≡ least_in wanted region.size run }
+    ensures least { MatchOption result (HasNoRoom wanted region.size run) (IsLeast wanted region.size run) }
+{
+    let from = run.start + wanted.header;
+    let content = least_from(wanted.spot, from);
+    if content < from {
+        return None;
+    }
+    let limit = limit_of(wanted.spot, region, run.end);
+    if limit < content + wanted.len {
+        return None;
+    }
+    Some(content)
+}
+
+/// The least place from here on that the spot allows; where it allows none, one before.
+fn least_from(spot: Spot, from: u64) -> u64
+    requires small { from < 2 ^ 33 }
+    requires some { spot ≢ Spot.Aligned 0 }
+    ensures is { result ≡ least_from spot from }
+    ensures small { result < 2 ^ 34 }
+{
+    match spot {
+        Spot::First => from,
+        Spot::Aligned(unit) => {
+            let unit = u64::from(unit);
+            from.div_ceil(unit) * unit
+        }
+        Spot::Fixed(place) => u64::from(place),
+    }
+}
+
+/// Where content ends at the latest, in a run that ends here.
+fn limit_of(spot: Spot, region: Region, end: u64) -> u64
+    requires { 64 ≤ end }
+    ensures { result ≡ limit_of spot region.size end }
+{
+    match spot {
+        Spot::First => space_end(end, end == region.size()),
+        Spot::Aligned(_) => space_end(end, end == region.size()),
+        Spot::Fixed(_) => end,
+    }
+}
