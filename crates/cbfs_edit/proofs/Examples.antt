@@ -1,14 +1,22 @@
 -- Worked examples of the definitions, each computed from its bytes.
-use Rattle.std.proofs.Common.{◌≡◌, ℕ, List, [], ◌∷◌, ◌++◌, ◌-◌, replicate, length, Ok, Err, refl}
+use Rattle.std.proofs.Common.{◌≡◌, ℕ, List, [], ◌∷◌, ◌++◌, ◌-◌, map, replicate, length, Result, Ok, Err, refl}
 use lib.Chars.{codes}
 use Rattle.flash_format.specs.Head.{head_of, head_bytes, has_magic, checked}
 use Rattle.flash_format.specs.Attributes.{attributes_after}
 use Rattle.flash_format.specs.Blanks.{blank_header}
 use Rattle.flash_format.specs.Entry.{entry}
+use Rattle.flash_format.specs.Components.{components_from}
 use Rattle.flash_format.specs.Cut.{cut_after}
 use Rattle.cbfs_edit.specs.Groups.{free_prefix, group_from}
 use Rattle.cbfs_edit.specs.Removals.{removed, removal_in}
-use Rattle.cbfs_edit.specs.declared.fault.EditFault.TheVariants.{NotFound}
+use Rattle.cbfs_edit.specs.Runs.{runs_from}
+use Rattle.cbfs_edit.specs.Places.{place_among, placing_in}
+use Rattle.cbfs_edit.specs.declared.fault.EditFault.{EditFault}
+use Rattle.cbfs_edit.specs.declared.fault.EditFault.TheVariants.{NotFound, Exists, NoSpace}
+use Rattle.cbfs_edit.specs.declared.place.Spot.{Spot}
+use Rattle.cbfs_edit.specs.declared.place.Spot.TheVariants.{First, Aligned, Fixed}
+use Rattle.cbfs_edit.specs.declared.place.Wanted.{Wanted}
+use Rattle.cbfs_edit.specs.declared.place.Place.{Place}
 
 -- a head by its numbers in the order of its bytes
 abbrev head : ℕ → ℕ → ℕ → ℕ → List ℕ
@@ -72,3 +80,40 @@ the_second_is_removed = refl
 no_third : removal_in fresh (codes "x") ≡ Err NotFound
 unfolding head_bytes removal_in group_from free_prefix entry has_magic checked head_of attributes_after cut_after
 no_third = refl
+
+-- ---- places of a new component that has 28 bytes before its content
+
+abbrev wanted : ℕ → Spot → Wanted
+wanted len spot = record { header = 28; len = len; spot = spot }
+
+-- in the run from `start` to `end`
+abbrev at : ℕ → ℕ → ℕ → ℕ → Result Place EditFault
+at start end header content = Ok (record { run = record { start = start; end = end }; header = header; content = content })
+
+-- only a fixed place may cover the last four bytes, and none lies in the header
+places_in_one_blank : map (placing_in fresh (codes "a"))
+    (wanted 480 First ∷ wanted 481 First ∷ wanted 472 (Fixed 40) ∷ wanted 473 (Fixed 40) ∷ wanted 484 (Fixed 28) ∷ wanted 485 (Fixed 28) ∷ wanted 1 (Fixed 27) ∷ [])
+    ≡ at 0 512 0 28 ∷ Err NoSpace ∷ at 0 512 0 40 ∷ Err NoSpace ∷ at 0 512 0 28 ∷ Err NoSpace ∷ Err NoSpace ∷ []
+unfolding head_bytes placing_in place_among runs_from components_from entry has_magic checked head_of attributes_after cut_after
+places_in_one_blank = refl
+
+-- free cells of 64 bytes, twice, a component and other 320 free bytes
+abbrev two_runs : List ℕ
+two_runs = deleted ++ deleted ++ component (codes "m") (1 ∷ []) ++ old_space 280 280
+
+-- neighbouring free cells are one run; the second is taken where the first is too small or has no multiple of 256
+places_in_two_runs : map (placing_in two_runs (codes "a")) (wanted 100 First ∷ wanted 101 First ∷ wanted 20 (Aligned 256) ∷ []) ≡ at 0 128 0 28 ∷ at 192 512 192 220 ∷ at 192 512 192 256 ∷ []
+unfolding head_bytes placing_in place_among runs_from components_from entry has_magic checked head_of attributes_after cut_after
+places_in_two_runs = refl
+
+no_place_for_a_name_that_is_there : placing_in two_runs (codes "m") (wanted 1000 First) ≡ Err Exists
+unfolding head_bytes placing_in place_among runs_from components_from entry has_magic checked head_of attributes_after cut_after
+no_place_for_a_name_that_is_there = refl
+
+-- a component, free space, and 64 bytes that are no entry
+abbrev with_tail : List ℕ
+with_tail = component (codes "m") (1 ∷ []) ++ old_space 344 344 ++ replicate 64 0xff
+
+up_to_the_tail : map (placing_in with_tail (codes "a")) (wanted 356 First ∷ wanted 357 First ∷ []) ≡ at 64 448 64 92 ∷ Err NoSpace ∷ []
+unfolding head_bytes placing_in place_among runs_from components_from entry has_magic checked head_of attributes_after cut_after
+up_to_the_tail = refl

@@ -10,9 +10,10 @@ use Rattle.cbfs_edit.proofs.place.find_place.Goals as goal
 pub loop-cell-init : goal.loop-cell-init
 loop-cell-init g c =
     let r = c.args.region in
-    rw c.new-walk.ensures (surveying_start _ r (place_search c.args.name.now c.args.wanted r.size) _ _ _
+    let x = bytes_in r (g.F.Flash.facts c.args.paged.now.device).content in
+    rw c.new-walk.ensures (surveying_start g.F.Flash.facts r (place_search c.args.name.now c.args.wanted r.size) (placing_in x c.args.name.now c.args.wanted) (IsSurvey c.args.wanted r.size) c.args.paged.now
     (record { here = refl; order = omega arith; inside = omega arith; start_aligned = refl; end_aligned = refl; place = tt })
-    (place_searched (bytes_in r (g.F.Flash.facts c.args.paged.now.device).content) c.args.name.now c.args.wanted r.size (length-bytes_in r _ c.requires.region)))
+    (place_searched x c.args.name.now c.args.wanted r.size (length-bytes_in r _ c.requires.region)))
 
 pub loop-cell-preserved : goal.loop-cell-preserved
 loop-cell-preserved g c =
