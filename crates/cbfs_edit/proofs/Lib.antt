@@ -6,7 +6,7 @@ pub mod Removals
 pub mod CellSearches
 pub mod Surveys
 pub mod Leasts
-pub mod Closings
+pub mod RowPlaces
 pub mod Placed
 pub mod PlaceSurveys
 pub mod Exact

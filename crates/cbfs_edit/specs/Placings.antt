@@ -9,13 +9,18 @@ use Rattle.cbfs_edit.specs.Runs.{add_run}
 use Rattle.cbfs_edit.specs.Places.{place_among, placed}
 use Rattle.cbfs_edit.specs.declared.fault.EditFault.{EditFault}
 use Rattle.cbfs_edit.specs.declared.fault.EditFault.TheVariants.{Exists}
+use Rattle.cbfs_edit.specs.declared.group.Freed.{Freed}
 use Rattle.cbfs_edit.specs.declared.place.Wanted.{Wanted}
 use Rattle.cbfs_edit.specs.declared.place.Place.{Place}
 use Rattle.cbfs_edit.specs.declared.place.Survey.{Survey}
 
+-- the place in a row of free cells, which may be empty
+abbrev pub place_in_row : Wanted → ℕ → Freed → Option Place
+place_in_row wanted size row = place_among wanted size (add_run row.start row.end [])
+
 -- the first place so far, where the row of free cells ends
 abbrev pub closed : Wanted → ℕ → Survey → Option Place
-closed wanted size s = option_or s.place (place_among wanted size (add_run s.row.start s.row.end []))
+closed wanted size s = option_or s.place (place_in_row wanted size s.row)
 
 -- a search after a cell
 abbrev pub surveyed : List ℕ → Wanted → ℕ → Survey → List ℕ → Survey
