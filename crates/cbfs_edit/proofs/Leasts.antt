@@ -1,12 +1,11 @@
 -- The place of a new component is the least allowed one of the first run that has one.
-use Rattle.std.proofs.Common.{◌≡◌, ◌≢◌, ℕ, ◌+◌, ◌*◌, ◌/◌, ◌%◌, ◌<◌, ◌≤◌, Bool, true, false, cond, List, [], ◌∷◌, ◌++◌, All, ap, subst, sym, ◌∙◌, refl, arith, zero, suc, Option, Some, None}
+use Rattle.std.proofs.Common.{◌≡◌, ◌≢◌, ℕ, ◌+◌, ◌-◌, ◌*◌, ◌/◌, ◌%◌, ◌<◌, ◌≤◌, Bool, true, false, cond, List, [], ◌∷◌, ◌++◌, All, ap, subst, sym, ◌∙◌, refl, arith, zero, suc, Option, Some, None}
 use Rattle.std.specs.Prelude.{◌&&◌, nat_le, MatchOption, option_map}
 use Rattle.std.specs.Option.{option_or}
-use Rattle.std.specs.Int.{div_ceil}
-use Rattle.std.proofs.lemmas.Grind.{div_ceil_times}
+use Rattle.std.specs.Int.{next_multiple_of}
 use Rattle.std.proofs.lemmas.Bool.Decides.{nat_tests}
 use Rattle.std.proofs.lemmas.List.Elements.{All-nil, All-cons, All-head, All-tail}
-use Rattle.std.proofs.Math.Nat.{mul-mod_left, div-add-mod, lt_of_mul-lt-mul_right, mul-le-mul_right}
+use Rattle.std.proofs.Math.Nat.{mul-mod_left, mod_self, mod-lt, mod-eq_of_lt, div-add-mod, lt_of_mul-lt-mul_right, mul-le-mul_right}
 use Rattle.cbfs_edit.specs.Places.{Meets, IsLeast, HasNoRoom, IsAllowed, IsHeaderOf, IsFirstPlace, IsPlaceAmong, IsWanted, limit_of, least_from, least_in, place_at, place_among}
 use Rattle.cbfs_edit.specs.declared.group.Freed.{Freed}
 use Rattle.cbfs_edit.specs.declared.place.Spot.{Spot}
@@ -18,31 +17,50 @@ some_unit : (unit : ℕ) → (let s : Spot = Aligned unit in s) ≢ Aligned 0 �
 some_unit zero some = absurd (some refl)
 some_unit (suc unit) some = omega arith
 
--- no multiple lies between a number and the least one from it on
-multiple_least : (unit from d : ℕ) → 0 < unit → from ≤ d → d % unit ≡ 0 → div_ceil from unit * unit ≤ d
-multiple_least unit from d some below whole =
-    let up = div_ceil_times from unit some in
-    let same : unit * (d / unit) + d % unit ≡ d = div-add-mod d unit in
-    let below_next : div_ceil from unit * unit < (d / unit + 1) * unit = omega (arith, up.1, same) in
-    let fewer : div_ceil from unit < d / unit + 1 = lt_of_mul-lt-mul_right unit below_next in
-    let enough : div_ceil from unit * unit ≤ d / unit * unit = mul-le-mul_right unit (omega (arith, fewer)) in
-    omega (arith, enough, same)
+next-whole : (from unit : ℕ) → 0 < unit → next_multiple_of from unit % unit ≡ 0
+next-whole from unit some = go (from % unit) refl
+  where
+    less_none : unit - 0 ≡ unit
+    less_none = omega arith
 
--- the least position from a place on, where the condition allows one
+    go : (r : ℕ) → from % unit ≡ r → next_multiple_of from unit % unit ≡ 0
+    go zero e =
+        let none : (unit - from % unit) % unit ≡ 0 = ap (λ r. (unit - r) % unit) e ∙ ap (λ n. n % unit) less_none ∙ mod_self unit in
+        let same : next_multiple_of from unit ≡ from = omega arith in
+        ap (λ n. n % unit) same ∙ e
+    go (suc r) e =
+        let less : from % unit < unit = mod-lt from some in
+        let rest : (unit - from % unit) % unit ≡ unit - from % unit = mod-eq_of_lt (omega arith) in
+        let same : next_multiple_of from unit ≡ (from / unit + 1) * unit = omega (arith, rest, div-add-mod from unit) in
+        ap (λ n. n % unit) same ∙ mul-mod_left (from / unit + 1) unit
+
+-- no multiple lies between a number and the least one from it on
+multiple_least : (unit from d : ℕ) → 0 < unit → from ≤ d → d % unit ≡ 0 → next_multiple_of from unit ≤ d
+multiple_least unit from d some below whole =
+    let next = next_multiple_of from unit in
+    let here : unit * (next / unit) + next % unit ≡ next = div-add-mod next unit in
+    let there : unit * (d / unit) + d % unit ≡ d = div-add-mod d unit in
+    let near : next < from + unit = omega arith in
+    let below_next : next / unit * unit < (d / unit + 1) * unit = omega (arith, here, there, next-whole from unit some) in
+    let fewer : next / unit < d / unit + 1 = lt_of_mul-lt-mul_right unit below_next in
+    let enough : next / unit * unit ≤ d / unit * unit = mul-le-mul_right unit (omega (arith, fewer)) in
+    omega (arith, enough, here, there, next-whole from unit some)
+
+-- the least place from a place on that a spot allows
 pub least_from-least : (spot : Spot) (from d : ℕ) → spot ≢ Aligned 0 → from ≤ d → Meets spot d → least_from spot from ≤ d
 least_from-least First from d some below meets = below
 least_from-least (Aligned unit) from d some below meets = multiple_least unit from d (some_unit unit some) below meets
 least_from-least (Fixed place) from d some below meets = omega arith
 
-pub least_from-meets : (spot : Spot) (from : ℕ) → Meets spot (least_from spot from)
-least_from-meets First from = tt
-least_from-meets (Aligned unit) from = mul-mod_left (div_ceil from unit) unit
-least_from-meets (Fixed place) from = refl
+pub least_from-meets : (spot : Spot) (from : ℕ) → spot ≢ Aligned 0 → Meets spot (least_from spot from)
+least_from-meets First from some = tt
+least_from-meets (Aligned unit) from some = next-whole from unit (some_unit unit some)
+least_from-meets (Fixed place) from some = refl
 
--- below the place it allows none from the place on
+-- where that is before it, the spot allows none from it on
 least_from-none : (spot : Spot) (from d : ℕ) → spot ≢ Aligned 0 → least_from spot from < from → from ≤ d → Meets spot d → ⊥
 least_from-none First from d some less below meets = omega arith
-least_from-none (Aligned unit) from d some less below meets = let up = div_ceil_times from unit (some_unit unit some) in omega (arith, up.0)
+least_from-none (Aligned unit) from d some less below meets = omega arith
 least_from-none (Fixed place) from d some less below meets = omega arith
 
 le_of : (a b : ℕ) → nat_le a b ≡ true → a ≤ b
@@ -71,7 +89,7 @@ least_in-right wanted size run is = go (nat_le from c) (nat_le (c + wanted.len) 
     go false b ta tb = λ d allowed. least_from-none wanted.spot from d is.spot (lt_of from c ta) allowed.after_header allowed.meets
     go true false ta tb = λ d allowed. omega (arith, least_from-least wanted.spot from d is.spot allowed.after_header allowed.meets, allowed.ends, lt_of (c + wanted.len) limit tb)
     go true true ta tb = record {
-      allowed = record { after_header = le_of from c ta; meets = least_from-meets wanted.spot from; ends = le_of (c + wanted.len) limit tb };
+      allowed = record { after_header = le_of from c ta; meets = least_from-meets wanted.spot from is.spot; ends = le_of (c + wanted.len) limit tb };
       least = λ d allowed. least_from-least wanted.spot from d is.spot allowed.after_header allowed.meets;
     }
 

@@ -1,6 +1,6 @@
 -- The place of a new component.
 use Rattle.std.specs.Option.{option_or}
-use Rattle.std.specs.Int.{div_ceil}
+use Rattle.std.specs.Int.{next_multiple_of}
 use Rattle.std.specs.Prelude.{◌≡◌, ◌≢◌, ℕ, ◌+◌, ◌-◌, ◌*◌, ◌/◌, ◌%◌, ◌^◌, ◌<◌, ◌≤◌, ⊤, Bool, ◌&&◌, ◌==◌, nat_le, if◌then◌else◌, is_some, List, [], ◌∷◌, ◌++◌, All, Contains, length, Option, Some, None, option_map, Result, Ok, Err}
 use Rattle.flash_format.specs.Cut.{cut}
 use Rattle.flash_format.specs.Components.{components}
@@ -80,7 +80,7 @@ IsPlace x wanted found = IsPlaceAmong wanted (length x) (runs x) found
 -- the least place from `from` on that the spot allows; where it allows none there, one before
 abbrev pub least_from : Spot → ℕ → ℕ
 least_from First from = from
-least_from (Aligned unit) from = div_ceil from unit * unit
+least_from (Aligned unit) from = next_multiple_of from unit
 least_from (Fixed place) from = place
 
 -- a header before `c` and the content from there on lie in the run

@@ -229,10 +229,7 @@ fn least_from(spot: Spot, from: u64) -> u64
 {
     match spot {
         Spot::First => from,
-        Spot::Aligned(unit) => {
-            let unit = u64::from(unit);
-            from.div_ceil(unit) * unit
-        }
+        Spot::Aligned(unit) => from.next_multiple_of(u64::from(unit)),
         Spot::Fixed(place) => u64::from(place),
     }
 }

@@ -12,7 +12,7 @@ returns-clause-least c =
     record {
       allowed = record {
         after_header = c.if-content-from.false;
-        meets = rw c.least_from-content.ensures.is (least_from-meets c.args.wanted.spot from);
+        meets = rw c.least_from-content.ensures.is (least_from-meets c.args.wanted.spot from c.requires.wanted.spot);
         ends = omega arith;
       };
       least = λ d allowed. omega (arith, least_from-least c.args.wanted.spot (c.args.run.start + c.args.wanted.header) d c.requires.wanted.spot allowed.after_header allowed.meets);
