@@ -14,16 +14,16 @@ use crate::group::Freed;
 use cbfs_walk::{Cell, Step, Walk, cells_stand_in_their_image, name_is};
 use flash_store::{Flash, FlashFault, Paged, Region};
 
-/// Where the content of a new component may begin. Places count from the region's start, in bytes, whatever place the
-/// region has in its image. The component is put into the first free space that has room for it at such a place, and
-/// there at the least one.
+/// Where the content of a new component may begin. Places count in bytes from the region's start, wherever the region
+/// stands in its image. The first free space that has room for the component at such a place is taken, and in it the
+/// least such place.
 #[derive(Clone, Copy, Debug, PartialEq, Eq)]
 pub enum Spot {
-    /// Anywhere. The region's last four bytes stay free.
+    /// Anywhere. Content keeps clear of the region's last four bytes.
     First,
-    /// At a multiple of this number (`-a`). The region's last four bytes stay free.
+    /// At a multiple of this number, which is not 0 (`-a`). Content keeps clear of the region's last four bytes.
     Aligned(u32),
-    /// At this place (`-b`). Here alone content may reach the region's end, and cover its last four bytes.
+    /// At this place (`-b`). Content may cover the region's last four bytes.
     Fixed(u32),
 }
 
