@@ -18,7 +18,7 @@ use Rattle.cbfs_edit.specs.declared.place.Spot.TheVariants.{First, Aligned, Fixe
 use Rattle.cbfs_edit.specs.declared.place.Wanted.{Wanted}
 use Rattle.cbfs_edit.specs.declared.place.Place.{Place}
 
--- the numbers are small, and none is a multiple of 0
+-- both numbers fit 32 bits, and content is not to begin at a multiple of 0
 pub record IsWanted (wanted : Wanted) : Type 0 where
   pub header : wanted.header < 2 ^ 32
   pub len : wanted.len < 2 ^ 32
