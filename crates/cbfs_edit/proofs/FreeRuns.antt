@@ -70,12 +70,12 @@ run_part start at row (c ∷ cs) run free is has =
     ] in
     by_kind refl has
 
-record IsRun (x : List ℕ) (run : Freed) : Type 0 where
-  cells : CellsBetween x run.start run.end
-  free : AllFree cells.group
-  some : run.start < run.end
+pub record IsRun (x : List ℕ) (run : Freed) : Type 0 where
+  pub cells : CellsBetween x run.start run.end
+  pub free : AllFree cells.group
+  pub some : run.start < run.end
 
-run_of : (x : List ℕ) (run : Freed) → length x % 64 ≡ 0 → Contains (runs x) run → IsRun x run
+pub run_of : (x : List ℕ) (run : Freed) → length x % 64 ≡ 0 → Contains (runs x) run → IsRun x run
 run_of x run aligned has =
     let whole = whole_cut x aligned in
     let found = run_part 0 0 [] (cut x).cells run (All-nil IsFree) refl has in

@@ -97,11 +97,11 @@ module _ (x : List ℕ) (group : Freed) (g : CellsBetween x group.start group.en
   removed-bytes = ap (λ b. overwritten x group.start (blank_header (group.end - group.start) b ++ space)) (is_some-cond (group.end == length x) (last_four x))
 
   -- A stop after the commit: the cells are those of the finished removal.
-  pub blanked-stopped : (y : List ℕ) → IsBlanked x group y → last_four y ≡ last_four x → IsStopped x group y
+  pub blanked-stopped : (y : List ℕ) → IsBlanked x group y → last_four y ≡ last_four x → IsStopped x group (removed x group) (length x - 4) y
   blanked-stopped y is last = record {
     components = inr (blanked-components x group g range small y is.more is.room is.bytes ∙ sym (blanked-components x group g range small (removed x group) space removed-room removed-bytes));
     end = blanked-end x group g range small y is.more is.room is.bytes;
     same_length = blanked-length x group g range small y is.more is.room is.bytes;
     outside = blanked-outside x group g range small y is.more is.room is.bytes;
-    last_four = last;
+    last = ap (λ n. drop (n - 4) y) (sym (blanked-length x group g range small y is.more is.room is.bytes)) ∙ last;
   }

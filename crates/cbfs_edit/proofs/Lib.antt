@@ -7,10 +7,16 @@ pub mod CellSearches
 pub mod Surveys
 pub mod Leasts
 pub mod RowPlaces
-pub mod Placed
+pub mod AnsweredPlaces
 pub mod PlaceSurveys
 pub mod Exact
 pub mod FreeRuns
 pub mod ExactRuns
 pub mod FormatLemmas
 mod Examples
+pub mod Assembly
+pub mod Changes
+pub mod Inserted
+pub mod Insertions
+pub mod Added
+pub mod Adding

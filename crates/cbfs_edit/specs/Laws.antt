@@ -1,18 +1,21 @@
 -- The laws that the edits rest on.
-use Rattle.std.specs.Prelude.{◌≡◌, ℕ, ◌%◌, ◌^◌, ◌<◌, All, Contains, List, length, Ok, Option, Some, None}
+use Rattle.std.specs.Prelude.{◌≡◌, ℕ, ◌-◌, ◌%◌, ◌^◌, ◌<◌, All, Contains, List, length, Ok, Option, Some, None}
 use Rattle.flash_format.specs.Cut.{cut}
+use Rattle.flash_format.specs.Made.{IsDigest}
+use Rattle.cbfs_edit.specs.Additions.{NewComponent, AddsOne, addition_in}
 use Rattle.cbfs_edit.specs.Groups.{group_of, IsNot, IsGroupOf}
-use Rattle.cbfs_edit.specs.Removals.{last_four, removal_in}
+use Rattle.cbfs_edit.specs.Removals.{last_four, removed, removal_in}
 use Rattle.cbfs_edit.specs.Stops.{IsBlanked, IsStopped, SameCells}
 use Rattle.cbfs_edit.specs.Runs.{runs, IsRunOf}
 use Rattle.cbfs_edit.specs.Places.{IsWanted, IsPlace, place_of}
 use Rattle.cbfs_edit.specs.declared.group.Freed.{Freed}
 use Rattle.cbfs_edit.specs.declared.place.Wanted.{Wanted}
 use Rattle.cbfs_edit.specs.declared.place.Place.{Place}
+use Rattle.cbfs_edit.specs.declared.place.Spot.{Spot}
 
 -- once the first commit of a removal is done, the components are those of the finished one
 abbrev pub BlankedGroupsLackTheComponent : Type 0
-BlankedGroupsLackTheComponent = (x name : List ℕ) (group : Freed) (y : List ℕ) → length x < 2 ^ 32 → removal_in x name ≡ Ok group → IsBlanked x group y → last_four y ≡ last_four x → IsStopped x group y
+BlankedGroupsLackTheComponent = (x name : List ℕ) (group : Freed) (y : List ℕ) → length x < 2 ^ 32 → removal_in x name ≡ Ok group → IsBlanked x group y → last_four y ≡ last_four x → IsStopped x group (removed x group) (length x - 4) y
 
 -- the group that a removal takes is the first component of the name, with all free cells that touch it
 abbrev pub GroupsAreExact : Type 0
@@ -41,3 +44,7 @@ PlacesAreExact = (x : List ℕ) (wanted : Wanted) → IsWanted wanted → IsPlac
 -- and nowhere else
 abbrev pub OnePlace : Type 0
 OnePlace = (x : List ℕ) (wanted : Wanted) (found : Option Place) → IsWanted wanted → IsPlace x wanted found → found ≡ place_of x wanted
+
+-- an addition makes one component more, with its name, type, attributes and content, at its place; all others stay
+abbrev pub AdditionsAddOneComponent : Type 0
+AdditionsAddOneComponent = (x : List ℕ) (new : NewComponent) (spot : Spot) (place : Place) → length x < 2 ^ 32 → new.kind < 2 ^ 32 → length new.content < 2 ^ 32 → IsDigest new.digest → addition_in x new spot ≡ Ok place → AddsOne x new place

@@ -4,9 +4,12 @@ use Rattle.flash_store.specs.Device.{Device}
 use Rattle.flash_store.specs.Regions.{Range, bytes_in}
 use Rattle.cbfs_edit.specs.Refusals.{ByFault}
 use Rattle.cbfs_edit.specs.Removals.{removed, removal_in}
-use Rattle.cbfs_edit.specs.Stops.{LeavesWhole}
+use Rattle.cbfs_edit.specs.Additions.{NewComponent, addition_in, added_to, placed_of}
+use Rattle.cbfs_edit.specs.Stops.{LeavesWhole, AddLeavesWhole, AddLeavesBefore}
+use Rattle.cbfs_edit.specs.declared.addition.Placed.{Placed}
 use Rattle.cbfs_edit.specs.declared.fault.EditFault.{EditFault}
 use Rattle.cbfs_edit.specs.declared.group.Freed.{Freed}
+use Rattle.cbfs_edit.specs.declared.place.Spot.{Spot}
 
 -- a region's bytes, with the device's count of faults
 pub record State : Type 0 where
@@ -28,3 +31,17 @@ RemovalStep name before (Err fault) after =
     ((before.faults < after.faults) × LeavesWhole before.bytes name after.bytes)
     (RefusedRemoval name before fault after)
     (RefusedRemoval name before fault after)
+
+-- a component is added from one state to the next, by the answer; the faults of its source rise from the first number to
+-- the second
+abbrev pub RefusedAddition : NewComponent → Spot → State → EditFault → State → Type 0
+RefusedAddition new spot before fault after = (addition_in before.bytes new spot ≡ Err fault) × (after.bytes ≡ before.bytes)
+
+abbrev pub AdditionStep : NewComponent → Spot → State → ℕ → ℕ → Result Placed EditFault → State → Type 0
+AdditionStep new spot before source_before source_after (Ok placed) after =
+    (placed_of (addition_in before.bytes new spot) ≡ Ok placed) × (after.bytes ≡ added_to before.bytes new spot)
+AdditionStep new spot before source_before source_after (Err fault) after =
+    ByFault fault
+    ((before.faults < after.faults) × AddLeavesWhole before.bytes new spot after.bytes)
+    ((source_before < source_after) × AddLeavesBefore before.bytes new spot after.bytes)
+    (RefusedAddition new spot before fault after)

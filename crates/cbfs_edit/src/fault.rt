@@ -1,5 +1,5 @@
 //! Why an edit is refused.
-ghost use Rattle.std.specs.Prelude.{◌≡◌};
+ghost use Rattle.std.specs.Prelude.{◌≡◌, ◌≢◌};
 ghost use Rattle.cbfs_edit.specs.Refusals.{refusal_of};
 
 use cbfs_walk::WalkFault;
@@ -35,7 +35,8 @@ pub enum EditFault {
 
 /// The same refusal of an edit.
 pub fn refusal_of(fault: WalkFault) -> EditFault
-    ensures { result ≡ refusal_of fault }
+    ensures is { result ≡ refusal_of fault }
+    ensures no_source { result ≢ EditFault.Source }
 {
     match fault {
         WalkFault::Device => EditFault::Device,

@@ -4,21 +4,24 @@
 //! after it, so that a device that stops at any call leaves the components of before or those of after.
 #![tactic(auto)]
 
+mod addition;
 mod blank;
 mod fault;
 mod formatting;
 mod group;
+mod insertion;
 mod laws;
 mod place;
 mod removal;
 mod write;
 
+pub use addition::{HashChoice, Placed, add};
 pub use fault::EditFault;
 pub use formatting::format;
 pub use group::Freed;
 pub use laws::{
-    blanked_groups_lack_the_component, blanked_runs_keep_the_components, groups_are_exact,
-    places_are_exact, runs_are_exact,
+    additions_add_one_component, blanked_groups_lack_the_component,
+    blanked_runs_keep_the_components, groups_are_exact, places_are_exact, runs_are_exact,
 };
 pub use place::Spot;
 pub use removal::remove;

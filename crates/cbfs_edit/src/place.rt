@@ -66,6 +66,7 @@ pub fn find_place<F: Flash>(
     ensures after { HasRead F.facts (region.size / 16 + 1) paged.old paged.new }
     ensures cause { IsErrOf result EditFault.Device →
         (F.facts paged.old.device).faults < (F.facts paged.new.device).faults }
+    ensures no_source { IsErrOf result EditFault.Source → ⊥ }
     ensures fits { IfOk result (Fits wanted region.size) }
 
     // On an honest device.
@@ -142,6 +143,7 @@ fn answer_of(wanted: Wanted, region: Region, survey: Survey) -> Result<Place, Ed
     ensures is { result ≡ answer_of wanted region.size survey }
     ensures fits { IfOk result (Fits wanted region.size) }
     ensures fault { IfErr result (λ fault. fault ≢ EditFault.Device) }
+    ensures no_source { IsErrOf result EditFault.Source → ⊥ }
 {
     if survey.exists {
         return Err(EditFault::Exists);

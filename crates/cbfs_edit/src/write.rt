@@ -1,12 +1,12 @@
 //! Writes at places of a region.
-ghost use Rattle.std.specs.Prelude.{◌≡◌, ◌⊎◌, ◌+◌, ◌/◌, ◌<◌, ◌≤◌, IsTrue, OnOk, OnErr, replicate};
+ghost use Rattle.std.specs.Prelude.{◌≡◌, ◌⊎◌, ◌+◌, ◌/◌, ◌<◌, ◌≤◌, length, IsTrue, IsErrOf, OnOk, OnErr, replicate};
 ghost use Rattle.flash_format.specs.Head.{header_length};
 ghost use Rattle.flash_store.specs.Bytes.{overwritten, SameOutside};
 ghost use Rattle.flash_store.specs.Device.{Calls};
 ghost use Rattle.flash_store.specs.Regions.{LiesIn, bytes_in};
 
 use flash_format::HEADER_LENGTH;
-use flash_store::{Flash, FlashFault, Paged, Region};
+use flash_store::{CopyFault, Flash, FlashFault, MemSource, Paged, Region, Source};
 
 /// Replaces the bytes of a header, whole or not at all.
 pub fn commit_in<F: Flash>(
@@ -63,4 +63,69 @@ pub fn fill_in<F: Flash>(
 {
     paged.places_fit();
     paged.fill(region.start() + at, n, byte)
+}
+
+/// Copies a whole source to a place. Where a write fails, its piece may hold anything.
+pub fn copy_into<F: Flash, S: Source>(
+    paged: &mut Paged<F>,
+    region: Region,
+    at: u64,
+    source: &mut S,
+) -> Result<(), CopyFault>
+    requires region { LiesIn region (F.facts paged.old.device).content }
+    requires inside { at + length (S.facts source.old).content ≤ region.size }
+
+    ensures calls { Calls ((length (S.facts source.old).content + 4095) / 4096) (F.facts paged.old.device)
+        (F.facts paged.new.device) }
+    ensures source_calls { Calls ((length (S.facts source.old).content + 4095) / 4096) (S.facts source.old)
+        (S.facts source.new) }
+    ensures device { IsErrOf result CopyFault.Device →
+        (F.facts paged.old.device).faults < (F.facts paged.new.device).faults }
+    ensures source { IsErrOf result CopyFault.Source → (S.facts source.old).faults < (S.facts source.new).faults }
+    ensures no_output { IsErrOf result CopyFault.Output → ⊥ }
+
+    // On an honest device, the second from an honest source.
+    ensures outside { IsTrue (F.facts paged.old.device).honest →
+        SameOutside region.start region.size (F.facts paged.old.device).content (F.facts paged.new.device).content }
+    ensures copied { IsTrue (F.facts paged.old.device).honest → IsTrue (S.facts source.old).honest → OnOk result
+        (bytes_in region (F.facts paged.new.device).content
+        ≡ overwritten (bytes_in region (F.facts paged.old.device).content) at (S.facts source.old).content) }
+    ensures torn { IsTrue (F.facts paged.old.device).honest →
+        SameOutside at (length (S.facts source.old).content) (bytes_in region (F.facts paged.old.device).content)
+        (bytes_in region (F.facts paged.new.device).content) }
+{
+    paged.places_fit();
+    let n = source.len();
+    paged.copy_in(region.start() + at, n, source)
+}
+
+/// Writes a few bytes at a place. A refused write may leave anything in its range.
+pub fn write_in<F: Flash>(
+    paged: &mut Paged<F>,
+    region: Region,
+    at: u64,
+    bytes: &[u8],
+) -> Result<(), FlashFault>
+    requires region { LiesIn region (F.facts paged.old.device).content }
+    requires inside { at + length bytes.now ≤ region.size }
+    requires short { length bytes.now ≤ 4096 }
+
+    ensures calls { Calls 1 (F.facts paged.old.device) (F.facts paged.new.device) }
+    ensures cause { OnErr result ((F.facts paged.old.device).faults < (F.facts paged.new.device).faults) }
+
+    // On an honest device.
+    ensures outside { IsTrue (F.facts paged.old.device).honest →
+        SameOutside region.start region.size (F.facts paged.old.device).content (F.facts paged.new.device).content }
+    ensures written { IsTrue (F.facts paged.old.device).honest → OnOk result
+        (bytes_in region (F.facts paged.new.device).content
+        ≡ overwritten (bytes_in region (F.facts paged.old.device).content) at bytes.now) }
+    ensures torn { IsTrue (F.facts paged.old.device).honest →
+        SameOutside at (length bytes.now) (bytes_in region (F.facts paged.old.device).content)
+        (bytes_in region (F.facts paged.new.device).content) }
+{
+    let mut source = MemSource::new(bytes);
+    match copy_into(paged, region, at, &mut source) {
+        Ok(()) => Ok(()),
+        Err(_) => Err(FlashFault),
+    }
 }

@@ -130,7 +130,7 @@ few_bytes (digests.Sha512 bytes) is = omega (arith, is)
 length-padded : (name : List ℕ) → length (padded_name name) ≡ name_room (length name)
 length-padded name = omega (arith, length-append name (replicate (name_room (length name) - length name) 0), length-replicate {A = ℕ} (name_room (length name) - length name) 0)
 
-length-front : (name : List ℕ) (kind : ℕ) (digest : Option Digest) (gap n : ℕ) → length (made_front name kind digest gap n) ≡ (made_head name kind digest gap n).offset
+pub length-front : (name : List ℕ) (kind : ℕ) (digest : Option Digest) (gap n : ℕ) → length (made_front name kind digest gap n) ≡ (made_head name kind digest gap n).offset
 length-front name kind digest gap n =
     let head : List ℕ = head_bytes (made_head name kind digest gap n) in
     omega (
@@ -293,7 +293,7 @@ made_alone name kind digest gap content last is four =
     let x : List ℕ = made name kind digest gap content last in
     subst (λ (l : List ℕ). IsReadAs name kind digest content l (length x)) (append-nil x) (made_is_read name kind digest gap content last [] is four)
 
-hash_as_long : (digest : Option Digest) → IsDigest digest → length (hash_bytes digest) ≡ hash_len digest
+pub hash_as_long : (digest : Option Digest) → IsDigest digest → length (hash_bytes digest) ≡ hash_len digest
 hash_as_long None is = refl
 hash_as_long (Some d) is = length-hash (algorithm d) (digest_bytes d) ∙ ap (λ (k : ℕ). 12 + k) is
 

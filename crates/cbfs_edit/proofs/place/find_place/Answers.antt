@@ -36,7 +36,7 @@ returns-in-Ok-End-clause-answer g c = λ h.
 
 pub returns-in-Err-clause-answer : goal.returns-in-Err-clause-answer
 returns-in-Err-clause-answer g c = λ h.
-    rw c.refusal_of.ensures (surveying_err _ c.args.region (place_search c.args.name.now c.args.wanted c.args.region.size) _ _ c.loop-cell.walk c.loop-cell.survey _ _ c.requires.region c.loop-cell.invariant c.in-Err.fault c.in-Err.ensures.answer h)
+    rw c.refusal_of.ensures.is (surveying_err _ c.args.region (place_search c.args.name.now c.args.wanted c.args.region.size) _ _ c.loop-cell.walk c.loop-cell.survey _ _ c.requires.region c.loop-cell.invariant c.in-Err.fault c.in-Err.ensures.answer h)
 
 pub returns-in-Err-clause-after : goal.returns-in-Err-clause-after
 returns-in-Err-clause-after g c = search rules

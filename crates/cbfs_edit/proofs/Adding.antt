@@ -1,0 +1,107 @@
+-- The steps of an addition: its own checks, the search for a place, the writes.
+use Rattle.std.proofs.Common.{◌≡◌, ◌≢◌, ◌⊎◌, inl, inr, ⊎_elim, ℕ, ◌%◌, ◌^◌, ◌<◌, List, length, Option, Some, None, Result, Ok, Err, sym, ◌∙◌, ap, subst, refl, arith}
+use Rattle.std.specs.Prelude.{IsErrOf}
+use Rattle.flash_format.specs.Made.{IsDigest, hash_len, meta_length}
+use Rattle.flash_store.specs.Bytes.{overwritten, SameOutside}
+use Rattle.flash_store.specs.Regions.{Range, LiesIn, bytes_in}
+use Rattle.flash_store.specs.declared.paged.CopyFault.{CopyFault}
+use Rattle.flash_store.specs.declared.paged.CopyFault.TheVariants as copies
+use Rattle.flash_store.proofs.DeviceLemmas.{length-bytes_in}
+use Rattle.flash_store.proofs.RegionLemmas.{image_is}
+use Rattle.cbfs_edit.specs.Places.{placing_in}
+use Rattle.cbfs_edit.specs.Stops.{AddLeavesBefore, AddLeavesWhole}
+use Rattle.cbfs_edit.specs.Additions.{NewComponent, added, added_to, addition_in, after_addition, attribute_len, digest_of, kept_from, new_component, own_fault}
+use Rattle.cbfs_edit.specs.Insertions.{EndsAlike, IsOldOrBlanked}
+use Rattle.cbfs_edit.specs.declared.addition.HashChoice.{HashChoice}
+use Rattle.cbfs_edit.specs.declared.addition.HashChoice.TheVariants.{Plain}
+use Rattle.cbfs_edit.specs.declared.fault.EditFault.{EditFault}
+use Rattle.cbfs_edit.specs.declared.fault.EditFault.TheVariants as faults
+use Rattle.cbfs_edit.specs.declared.place.Spot.{Spot}
+use Rattle.cbfs_edit.specs.declared.place.Place.{Place}
+use Rattle.cbfs_edit.proofs.Insertions.{attribute-is}
+use Rattle.cbfs_edit.proofs.Added.{own-fine, accepted_size, add_leaves_before, add_leaves_done}
+
+pub digest-sized : (hash : HashChoice) (content : List ℕ) → IsDigest (digest_of hash content)
+digest-sized Plain content = tt
+
+-- no fault of the caller's own
+pub no_fault : (o : Option EditFault) → ((fault : EditFault) → o ≡ Some fault → ⊥) → None ≡ o
+no_fault None none = refl
+no_fault (Some fault) none = absurd (none fault refl)
+
+-- what the search has answered is the answer of the addition
+pub searched : (x name : List ℕ) (kind : ℕ) (hash : HashChoice) (content : List ℕ) (spot : Spot) (header len : ℕ) (r : Result Place EditFault)
+    → header ≡ meta_length (length name) (attribute_len hash) → len ≡ length content → None ≡ own_fault name kind spot
+    → IsErrOf r faults.Device ⊎ (r ≡ placing_in x name (record { header = header; len = len; spot = spot }))
+    → IsErrOf r faults.Device ⊎ (r ≡ addition_in x (new_component name kind hash content) spot)
+searched x name kind hash content spot header len r is_header is_len fine (inl failed) = inl failed
+searched x name kind hash content spot header len r is_header is_len fine (inr found) =
+    inr (found
+    ∙ ap (λ n. placing_in x name (record { header = n; len = len; spot = spot })) (is_header ∙ ap (λ n. meta_length (length name) n) (attribute-is hash content))
+    ∙ ap (λ n. placing_in x name (record { header = meta_length (length name) (hash_len (digest_of hash content)); len = n; spot = spot })) is_len
+    ∙ own-fine x (new_component name kind hash content) spot fine)
+
+same_fault : {A : Type 0} (fault other : EditFault) → (let a : Result A EditFault = Err fault in IsErrOf a other) → fault ≡ other
+same_fault fault other is = cc
+
+-- a fault is told alike, whatever the call answers besides
+pub told : {A B : Type 0} (fault other : EditFault) → (let a : Result A EditFault = Err fault in IsErrOf a other) → (let b : Result B EditFault = Err fault in IsErrOf b other)
+told fault other is = ap (λ e. Err e) (same_fault fault other is)
+
+pub told_as : {A : Type 0} (fault other : EditFault) → fault ≡ other → (let a : Result A EditFault = Err fault in IsErrOf a other)
+told_as fault other is = ap (λ e. Err e) is
+
+pub refused_as : (x : List ℕ) (new : NewComponent) (spot : Spot) (fault : EditFault) → fault ≢ faults.Device → (let a : Result Place EditFault = Err fault in IsErrOf a faults.Device ⊎ (a ≡ addition_in x new spot)) → addition_in x new spot ≡ Err fault
+refused_as x new spot fault other (inl failed) = absurd (other (told-is failed))
+  where
+    told-is : (let a : Result Place EditFault = Err fault in IsErrOf a faults.Device) → fault ≡ faults.Device
+    told-is e = same_fault fault faults.Device e
+refused_as x new spot fault other (inr found) = sym found
+
+-- an answered place is that of the addition
+pub the_place : (x : List ℕ) (new : NewComponent) (spot : Spot) (place : Place)
+    → (let a : Result Place EditFault = Ok place in IsErrOf a faults.Device ⊎ (a ≡ addition_in x new spot)) → addition_in x new spot ≡ Ok place
+the_place x new spot place (inl failed) = absurd cc
+the_place x new spot place (inr found) = sym found
+
+-- the image after a change of its region alone
+pub image_of : (r : Range) (u old mid new : List ℕ) → LiesIn r old → mid ≡ old → length new ≡ length mid → SameOutside r.start r.size mid new → bytes_in r new ≡ u → new ≡ overwritten old r.start u
+image_of r u old mid new lies same size outside is =
+    let lies_mid : LiesIn r mid = omega (arith, lies, ap length same) in
+    subst (λ (l : List ℕ). new ≡ overwritten l r.start u) same (image_is r mid new u lies_mid size outside is)
+
+pub added_is : (x : List ℕ) (new : NewComponent) (spot : Spot) (place : Place) → addition_in x new spot ≡ Ok place → added_to x new spot ≡ added x new place
+added_is x new spot place is = ap (λ (a : Result Place EditFault). after_addition x new a) is
+
+module _ (r : Range) (new : NewComponent) (spot : Spot) (place : Place) (old mid now : List ℕ) (honest : Type 0) (result : Result (Unit {0}) CopyFault) (lies : LiesIn r old) (small : length old < 2 ^ 32) (kind_small : new.kind < 2 ^ 32)
+    (content_small : length new.content < 2 ^ 32) (digest : IsDigest new.digest) (same : mid ≡ old) (is : addition_in (bytes_in r old) new spot ≡ Ok place)
+    (stopped : r.size % 64 ≡ 0 → IsOldOrBlanked (bytes_in r mid) place.run (bytes_in r now) ⊎ ((IsErrOf result copies.Source → ⊥) × (honest → bytes_in r now ≡ added (bytes_in r mid) new place)))
+    (last : r.size % 64 ≡ 0 → EndsAlike (kept_from (bytes_in r mid) new place) (bytes_in r mid) (bytes_in r now)) where
+  size : length (bytes_in r old) ≡ r.size
+  size = length-bytes_in r old lies
+
+  whole : r.size % 64 ≡ 0
+  whole = omega (arith, size, accepted_size (bytes_in r old) new spot place is)
+
+  x_small : length (bytes_in r old) < 2 ^ 32
+  x_small = omega (arith, size, lies, small)
+
+  is_stopped : IsOldOrBlanked (bytes_in r old) place.run (bytes_in r now) ⊎ ((IsErrOf result copies.Source → ⊥) × (honest → bytes_in r now ≡ added (bytes_in r old) new place))
+  is_stopped = subst (λ (l : List ℕ). IsOldOrBlanked (bytes_in r l) place.run (bytes_in r now) ⊎ ((IsErrOf result copies.Source → ⊥) × (honest → bytes_in r now ≡ added (bytes_in r l) new place))) same (stopped whole)
+
+  is_last : EndsAlike (kept_from (bytes_in r old) new place) (bytes_in r old) (bytes_in r now)
+  is_last = subst (λ (l : List ℕ). EndsAlike (kept_from (bytes_in r l) new place) (bytes_in r l) (bytes_in r now)) same (last whole)
+
+  -- after a fault of the source
+  pub source_leaves : IsErrOf result copies.Source → AddLeavesBefore (bytes_in r old) new spot (bytes_in r now)
+  source_leaves failed =
+      ⊎_elim
+      (λ before. add_leaves_before (bytes_in r old) new spot place x_small kind_small content_small digest is (bytes_in r now) before is_last)
+      (λ shown. absurd (shown.0 failed)) is_stopped
+
+  -- after one of the device
+  pub device_leaves : honest → AddLeavesWhole (bytes_in r old) new spot (bytes_in r now)
+  device_leaves true_source =
+      ⊎_elim
+      (λ before. (add_leaves_before (bytes_in r old) new spot place x_small kind_small content_small digest is (bytes_in r now) before is_last).0)
+      (λ shown. add_leaves_done (bytes_in r old) new spot place x_small kind_small content_small digest is (bytes_in r now) (shown.1 true_source) is_last) is_stopped

@@ -1,0 +1,61 @@
+-- Changes of a run, within a range.
+use Rattle.std.proofs.Common.{◌≡◌, ◌⊎◌, inl, inr, ℕ, ◌+◌, ◌-◌, ◌%◌, ◌≤◌, List, length, sym, ◌∙◌, ap, subst, refl, arith, cond}
+use Rattle.std.proofs.lemmas.Bool.{cases_eq, eq-eqb, ne_eqb}
+use Rattle.flash_format.specs.Head.{header_length}
+use Rattle.flash_store.specs.Bytes.{overwritten, SameOutside}
+use Rattle.flash_store.proofs.BytesLemmas.{SameOutside-trans, SameOutside-overwritten}
+use Rattle.cbfs_edit.specs.declared.place.Place.{Place}
+use Rattle.cbfs_edit.specs.Insertions.{HasRoom, held_back, touched_to, ChangesFrom, IsUnfinished}
+
+pub unchanged : (x : List ℕ) (at n : ℕ) → SameOutside at n x x
+unchanged x at n = record { before = refl; after = refl }
+
+-- a change within a range
+pub within : (y z : List ℕ) (at n from to : ℕ) → from ≤ at → at + n ≤ to → SameOutside at n y z → SameOutside from (to - from) y z
+within y z at n from to after before same =
+    let place : from + (at - from) ≡ at = omega arith in
+    SameOutside-trans y y z from (to - from) (at - from) n (omega arith) (unchanged y from (to - from)) (subst (λ p. SameOutside p n y z) (sym place) same)
+
+-- two changes of a range, one after the other
+pub again : (x y z : List ℕ) (at n : ℕ) → SameOutside at n x y → SameOutside at n y z → SameOutside at n x z
+again x y z at n first second = record { before = second.before ∙ first.before; after = second.after ∙ first.after }
+
+-- where the front is held back, and where its rest begins
+pub held-back : (place : Place) → place.run.start ≤ place.header → place.run.start % 64 ≡ 0 → place.header % 64 ≡ 0
+    → ((place.header ≡ place.run.start) × (held_back place ≡ header_length)) ⊎ ((place.run.start + 64 ≤ place.header) × (held_back place ≡ 0))
+held-back place order start_aligned aligned = elim (cases_eq place.header place.run.start) [
+  | inl same ↦ inl (same, ap (λ b. cond b header_length 0) (eq-eqb place.header place.run.start same))
+  | inr other ↦ inr (omega (arith, other), ap (λ b. cond b header_length 0) (ne_eqb place.header place.run.start other))
+]
+
+module _ (size : ℕ) (place : Place) (end front : ℕ) (room : HasRoom size place end front) (y z : List ℕ) where
+  -- the rest of the front
+  pub front-within : (at n : ℕ) → at ≡ place.header + held_back place → n ≡ front - held_back place → SameOutside at n y z → IsUnfinished place place.content y z
+  front-within at n is long same =
+      let where_it_is = held-back place room.start_below room.run.start_aligned room.header_aligned in
+      let bounds : (place.run.start + header_length ≤ at) × (at + n ≤ place.content) = elim where_it_is [
+        | inl here ↦ (omega (arith, here.0, here.1), omega (arith, here.0, here.1, room.front_is, room.front_long))
+        | inr later ↦ (omega (arith, later.0, later.1), omega (arith, later.1, room.front_is))
+      ] in
+      within y z at n (place.run.start + header_length) (touched_to place place.content) bounds.0 (omega (arith, bounds.1)) same
+
+  -- the header of the blank after the component
+  pub bound-within : (n : ℕ) → n ≡ header_length → (end ≡ place.run.end → ⊥) → SameOutside end n y z → IsUnfinished place place.content y z
+  bound-within n long other same =
+      within y z end n (place.run.start + header_length) (touched_to place place.content)
+      (omega (arith, room.start_below, room.front_is, room.front_long, room.content_below))
+      (omega (arith, long, other, room.end_below, room.end_aligned, room.run.end_aligned)) same
+
+  -- from the run's start on
+  pub wider : IsUnfinished place place.content y z → ChangesFrom place.run.start place place.content y z
+  wider same =
+      within y z (place.run.start + header_length) (touched_to place place.content - (place.run.start + header_length)) place.run.start (touched_to place place.content) (omega arith)
+      (omega (arith, room.start_below, room.front_is, room.front_long)) same
+
+  -- the last commit
+  pub begin-within : (begin : List ℕ) → length begin ≡ header_length → length y ≡ size → (z ≡ y) ⊎ (z ≡ overwritten y place.run.start begin) → ChangesFrom place.run.start place place.content y z
+  begin-within begin long whole_size (inl same) = subst (λ (l : List ℕ). ChangesFrom place.run.start place place.content y l) (sym same) (unchanged y place.run.start _)
+  begin-within begin long whole_size (inr is) =
+      let only : SameOutside place.run.start header_length y z =
+      subst (λ (l : List ℕ). SameOutside place.run.start header_length y l) (sym is) (SameOutside-overwritten y place.run.start header_length begin (omega (arith, long)) (omega (arith, whole_size, room.run.some, room.run.inside))) in
+      within y z place.run.start header_length place.run.start (touched_to place place.content) (omega arith) (omega (arith, room.start_below, room.front_is, room.front_long)) only

@@ -1,0 +1,127 @@
+-- What the addition of a component leaves, and how it is refused.
+use Rattle.std.specs.List.{list_any}
+use Rattle.std.specs.Prelude.{ℕ, ◌+◌, ◌-◌, ◌==◌, ◌||◌, max, Bool, false, List, [], ◌∷◌, ◌++◌, length, nat_lt, Option, Some, None, Result, Ok, Err, if◌then◌else◌}
+use Rattle.flash_format.specs.Head.{round64}
+use Rattle.flash_format.specs.Entry.{is_nul}
+use Rattle.flash_format.specs.Blanks.{blank}
+use Rattle.flash_format.specs.Made.{hash_len, meta_length, made}
+use Rattle.flash_format.specs.Placings.{HasOneMore, made_component, space_cells}
+use Rattle.flash_format.specs.Splices.{AllFree, CellsBetween}
+use Rattle.flash_format.specs.declared.digest.Digest.{Digest}
+use Rattle.flash_store.specs.Bytes.{overwritten}
+use Rattle.cbfs_edit.specs.Removals.{kept_at}
+use Rattle.cbfs_edit.specs.Places.{placing_in}
+use Rattle.cbfs_edit.specs.declared.addition.HashChoice.{HashChoice}
+use Rattle.cbfs_edit.specs.declared.addition.HashChoice.TheVariants.{Plain}
+use Rattle.cbfs_edit.specs.declared.addition.Placed.{Placed}
+use Rattle.cbfs_edit.specs.declared.addition.Label.{Label}
+use Rattle.cbfs_edit.specs.declared.fault.EditFault.{EditFault}
+use Rattle.cbfs_edit.specs.declared.fault.EditFault.TheVariants.{BadName, BadType, BadAlign}
+use Rattle.cbfs_edit.specs.declared.place.Spot.{Spot}
+use Rattle.cbfs_edit.specs.declared.place.Spot.TheVariants.{First, Aligned, Fixed}
+use Rattle.cbfs_edit.specs.declared.place.Wanted.{Wanted}
+use Rattle.cbfs_edit.specs.declared.place.Place.{Place}
+
+-- a component that is to be added
+pub record NewComponent : Type 0 where
+  pub name : List ℕ
+  pub kind : ℕ
+  pub digest : Option Digest
+  pub content : List ℕ
+
+-- the digest that is stored of a content
+abbrev pub digest_of : HashChoice → List ℕ → Option Digest
+digest_of Plain content = None
+
+-- how many bytes its attribute has
+abbrev pub attribute_len : HashChoice → ℕ
+attribute_len Plain = 0
+
+abbrev pub new_component : List ℕ → ℕ → HashChoice → List ℕ → NewComponent
+new_component name kind hash content = record { name = name; kind = kind; digest = digest_of hash content; content = content }
+
+abbrev pub labelled : Label → List ℕ → NewComponent
+labelled label content = new_component label.name.now label.kind label.hash content
+
+-- how many bytes it has before its content, besides a gap
+abbrev pub header_of : NewComponent → ℕ
+header_of new = meta_length (length new.name) (hash_len new.digest)
+
+abbrev pub wanted_for : NewComponent → Spot → Wanted
+wanted_for new spot = record { header = header_of new; len = length new.content; spot = spot }
+
+-- ---- what it leaves
+
+-- where the cell of a component ends that has n bytes of content there
+abbrev pub cell_end : Place → ℕ → ℕ
+cell_end place n = round64 (place.content + n)
+
+-- the blank from one place to another, or nothing where they are one
+abbrev pub blank_between : List ℕ → ℕ → ℕ → List ℕ
+blank_between x start end = if start == end then [] else blank (end - start) (kept_at x end)
+
+-- the cell of the component at a place
+abbrev pub made_at : List ℕ → NewComponent → Place → List ℕ
+made_at x new place =
+    made new.name new.kind new.digest (place.content - place.header - header_of new) new.content (kept_at x (cell_end place (length new.content)))
+
+-- a region with the component in place of a run, between a blank before and a blank after it
+abbrev pub added : List ℕ → NewComponent → Place → List ℕ
+added x new place =
+    overwritten x place.run.start
+    (blank_between x place.run.start place.header ++ (made_at x new place ++ blank_between x (cell_end place (length new.content)) place.run.end))
+
+-- the region has one component more: the new one, in place of free cells
+pub record AddsOne (x : List ℕ) (new : NewComponent) (place : Place) : Type 0 where
+  pub cells : CellsBetween x place.run.start place.run.end
+  pub free : AllFree cells.group
+  pub more : HasOneMore x place.run.start place.run.end cells
+      (space_cells (blank_between x place.run.start place.header) ++ (made_at x new place ∷ []) ++ space_cells (blank_between x (cell_end place (length new.content)) place.run.end))
+      (made_component place.header new.name new.kind new.digest new.content (made_at x new place)) (added x new place)
+
+-- from here on the region's last bytes are kept: its last four, but for those that the content covers
+abbrev pub kept_from : List ℕ → NewComponent → Place → ℕ
+kept_from x new place = max (place.content + length new.content) (length x - 4)
+
+-- ---- how it is refused
+
+-- no byte, more than 127, or a NUL
+abbrev pub is_bad_name : List ℕ → Bool
+is_bad_name name = (length name == 0) || nat_lt 127 (length name) || list_any is_nul name
+
+-- the types of free space
+abbrev pub is_bad_type : ℕ → Bool
+is_bad_type kind = kind == 0 || kind == 0xffffffff
+
+abbrev pub is_bad_align : Spot → Bool
+is_bad_align First = false
+is_bad_align (Aligned unit) = unit == 0
+is_bad_align (Fixed place) = false
+
+-- the first refusal for which no device is looked at
+abbrev pub own_fault : List ℕ → ℕ → Spot → Option EditFault
+own_fault name kind spot =
+    if is_bad_name name then Some BadName
+    else (if is_bad_type kind then Some BadType
+    else (if is_bad_align spot then Some BadAlign else None))
+
+abbrev pub unless_faulty : Option EditFault → Result Place EditFault → Result Place EditFault
+unless_faulty None otherwise = otherwise
+unless_faulty (Some fault) otherwise = Err fault
+
+-- the place that the component gets, or its first refusal
+unfoldable pub addition_in : List ℕ → NewComponent → Spot → Result Place EditFault
+addition_in x new spot = unless_faulty (own_fault new.name new.kind spot) (placing_in x new.name (wanted_for new spot))
+
+-- what the caller is told
+abbrev pub placed_of : Result Place EditFault → Result Placed EditFault
+placed_of (Err fault) = Err fault
+placed_of (Ok place) = Ok (record { header = place.header; content = place.content })
+
+abbrev pub after_addition : List ℕ → NewComponent → Result Place EditFault → List ℕ
+after_addition x new (Err fault) = x
+after_addition x new (Ok place) = added x new place
+
+-- the region after the addition: as it was where that is refused
+abbrev pub added_to : List ℕ → NewComponent → Spot → List ℕ
+added_to x new spot = after_addition x new (addition_in x new spot)

@@ -1,0 +1,64 @@
+-- The writes that put a component into a run of free cells, once a blank over the whole run stands there.
+use Rattle.std.specs.Prelude.{◌≡◌, ◌⊎◌, ℕ, ◌+◌, ◌-◌, ◌%◌, ◌^◌, ◌<◌, ◌≤◌, ◌==◌, if◌then◌else◌, max, false, List, length, take, drop}
+use Rattle.flash_format.specs.Head.{header_length}
+use Rattle.flash_format.specs.Blanks.{blank_header}
+use Rattle.flash_store.specs.Bytes.{overwritten, SameOutside}
+use Rattle.cbfs_edit.specs.Groups.{IsCellRange}
+use Rattle.cbfs_edit.specs.Stops.{IsBlanked}
+use Rattle.cbfs_edit.specs.declared.group.Freed.{Freed}
+use Rattle.cbfs_edit.specs.declared.place.Place.{Place}
+
+-- a component with so many bytes before its content fits there, with a cell that ends at `end`
+pub record HasRoom (size : ℕ) (place : Place) (end front : ℕ) : Type 0 where
+  pub run : IsCellRange place.run size
+  pub small : size < 2 ^ 32
+  pub start_below : place.run.start ≤ place.header
+  pub header_aligned : place.header % 64 ≡ 0
+  pub front_is : place.header + front ≡ place.content
+  pub front_long : header_length ≤ front
+  pub front_short : front ≤ 4096
+  pub content_below : place.content ≤ end
+  pub end_aligned : end % 64 ≡ 0
+  pub end_below : end ≤ place.run.end
+
+-- how many bytes of a component's front the last commit writes, which shows the component: those at the run's start
+abbrev pub held_back : Place → ℕ
+held_back place = if place.header == place.run.start then header_length else 0
+
+-- the rest of the front
+abbrev pub fronted : List ℕ → Place → List ℕ → List ℕ
+fronted y place front = overwritten y (place.header + held_back place) (drop (held_back place) front)
+
+-- the header of the blank after the component, where there is one
+abbrev pub bounded : List ℕ → ℕ → ℕ → List ℕ
+bounded y end run_end = if end == run_end then y else overwritten y end (blank_header (run_end - end) (run_end == length y))
+
+-- what the last commit writes: the begin of the front, or the header of the blank before the component
+abbrev pub shown_by : Place → List ℕ → List ℕ
+shown_by place front = if place.header == place.run.start then take header_length front else blank_header (place.header - place.run.start) false
+
+-- all that is written after the content
+abbrev pub finished : List ℕ → Place → ℕ → List ℕ → List ℕ
+finished y place end front = overwritten (bounded (fronted y place front) end place.run.end) place.run.start (shown_by place front)
+
+-- where the writes of a component end whose own bytes end at `to`: the last four bytes of its run are touched by these alone
+abbrev pub touched_to : Place → ℕ → ℕ
+touched_to place to = max to (place.run.end - 4)
+
+-- nothing has changed but bytes of the run from a place on
+abbrev pub ChangesFrom : ℕ → Place → ℕ → List ℕ → List ℕ → Type 0
+ChangesFrom from place to y z = SameOutside from (touched_to place to - from) y z
+
+-- before the last commit the header of the blank over the run stays
+abbrev pub IsUnfinished : Place → ℕ → List ℕ → List ℕ → Type 0
+IsUnfinished place to y z = ChangesFrom (place.run.start + header_length) place to y z
+
+-- ---- what a stop leaves
+
+-- all is as it was, or the header of a blank over the run stands at its start, and the rest of the run may hold anything
+abbrev pub IsOldOrBlanked : List ℕ → Freed → List ℕ → Type 0
+IsOldOrBlanked x run y = (y ≡ x) ⊎ IsBlanked x run y
+
+-- from here on both have the same bytes
+abbrev pub EndsAlike : ℕ → List ℕ → List ℕ → Type 0
+EndsAlike from x y = drop from y ≡ drop from x

@@ -1,0 +1,296 @@
+//! The addition of a component.
+ghost use Rattle.std.specs.Prelude.{◌≡◌, ◌≢◌, ◌⊎◌, ◌+◌, ◌/◌, ◌%◌, ◌<◌, ◌≤◌, length, drop, is_some, IsTrue, IfOk, IfErr, IsErrOf, OnOk, OnErr};
+ghost use Rattle.std.specs.List.{list_any};
+ghost use Rattle.flash_format.specs.Entry.{is_nul};
+ghost use Rattle.flash_format.specs.Made.{hash_len, meta_length, pointed};
+ghost use Rattle.flash_store.specs.Bytes.{overwritten, SameOutside};
+ghost use Rattle.flash_store.specs.Device.{Calls};
+ghost use Rattle.flash_store.specs.Pages.{OnHonestIn};
+ghost use Rattle.flash_store.specs.Regions.{LiesIn, bytes_in};
+ghost use Rattle.cbfs_edit.specs.Additions.{added, added_to, addition_in, attribute_len, digest_of, is_bad_name, kept_from, labelled, new_component, own_fault, placed_of};
+ghost use Rattle.cbfs_edit.specs.Insertions.{EndsAlike, IsOldOrBlanked};
+ghost use Rattle.cbfs_edit.specs.Placings.{Fits};
+ghost use Rattle.cbfs_edit.specs.Steps.{AdditionStep, state_of};
+ghost use Rattle.cbfs_edit.specs.Stops.{AddLeavesBefore, AddLeavesWhole};
+
+use crate::blank::write_blank;
+use crate::fault::EditFault;
+use crate::insertion::describe;
+use crate::place::{Place, Spot, Wanted, find_place};
+use crate::write::copy_into;
+use flash_format::{Digest, Meta, meta_len};
+use flash_store::{CopyFault, Flash, Paged, Region, Source};
+
+/// The digest that is stored beside a content.
+#[derive(Clone, Copy, Debug, PartialEq, Eq)]
+pub enum HashChoice {
+    /// None is stored.
+    Plain,
+}
+
+/// Where a new component stands, counted from the region's start: its header, at a multiple of 64, and its content.
+#[derive(Clone, Copy, Debug, PartialEq, Eq)]
+pub struct Placed {
+    pub header: u64,
+    pub content: u64,
+}
+
+/// What is stored of a component beside its content.
+#[derive(Clone, Copy, Debug)]
+pub struct Label<'a> {
+    pub name: &'a [u8],
+    /// The type.
+    pub kind: u32,
+    pub hash: HashChoice,
+}
+
+/// Copies the whole source to a place, and answers the digest that is to be stored of it.
+fn copy_content<F: Flash, S: Source>(
+    paged: &mut Paged<F>,
+    region: Region,
+    at: u64,
+    hash: HashChoice,
+    source: &mut S,
+) -> Result<Option<Digest>, CopyFault>
+    requires region { LiesIn region (F.facts paged.old.device).content }
+    requires inside { at + length (S.facts source.old).content ≤ region.size }
+
+    ensures calls { Calls ((length (S.facts source.old).content + 4095) / 4096) (F.facts paged.old.device)
+        (F.facts paged.new.device) }
+    ensures source_calls { Calls ((length (S.facts source.old).content + 4095) / 4096) (S.facts source.old)
+        (S.facts source.new) }
+    ensures device { IsErrOf result CopyFault.Device →
+        (F.facts paged.old.device).faults < (F.facts paged.new.device).faults }
+    ensures source { IsErrOf result CopyFault.Source → (S.facts source.old).faults < (S.facts source.new).faults }
+    ensures no_output { IsErrOf result CopyFault.Output → ⊥ }
+    ensures digest_len { IfOk result (λ digest. hash_len digest ≡ attribute_len hash) }
+
+    // On an honest device, the second and the third from an honest source.
+    ensures outside { IsTrue (F.facts paged.old.device).honest →
+        SameOutside region.start region.size (F.facts paged.old.device).content (F.facts paged.new.device).content }
+    ensures copied { IsTrue (F.facts paged.old.device).honest → IsTrue (S.facts source.old).honest → OnOk result
+        (bytes_in region (F.facts paged.new.device).content
+        ≡ overwritten (bytes_in region (F.facts paged.old.device).content) at (S.facts source.old).content) }
+    ensures digest { IsTrue (S.facts source.old).honest →
+        IfOk result (λ digest. digest ≡ digest_of hash (S.facts source.old).content) }
+    ensures torn { IsTrue (F.facts paged.old.device).honest →
+        SameOutside at (length (S.facts source.old).content) (bytes_in region (F.facts paged.old.device).content)
+        (bytes_in region (F.facts paged.new.device).content) }
+{
+    match hash {
+        HashChoice::Plain => {
+            copy_into(paged, region, at, source)?;
+            Ok(None)
+        }
+    }
+}
+
+/// The description of a component.
+fn meta_of<'a>(
+    name: &'a [u8],
+    kind: u32,
+    len: u32,
+    gap: u32,
+    digest: &'a Option<Digest>,
+) -> Meta<'a>
+    ensures name { result.name.now ≡ name.now }
+    ensures kind { result.kind ≡ kind }
+    ensures len { result.len ≡ len }
+    ensures gap { result.gap ≡ gap }
+    ensures digest { pointed result.digest ≡ digest.now }
+{
+    match digest {
+        None => Meta {
+            name,
+            kind,
+            len,
+            gap,
+            digest: None,
+        },
+        Some(digest) => Meta {
+            name,
+            kind,
+            len,
+            gap,
+            digest: Some(digest),
+        },
+    }
+}
+
+/// Puts a component into a run of free cells, where it fits.
+fn insert<F: Flash, S: Source>(
+    paged: &mut Paged<F>,
+    region: Region,
+    wanted: Wanted,
+    place: Place,
+    label: &Label<'_>,
+    source: &mut S,
+) -> Result<(), CopyFault>
+    requires region { LiesIn region (F.facts paged.old.device).content }
+    requires fits { Fits wanted region.size place }
+    requires name { length label.now.name.now ≤ 127 }
+    requires header { wanted.header ≡ meta_length (length label.now.name.now) (attribute_len label.now.hash) }
+    requires len { wanted.len ≡ length (S.facts source.old).content }
+
+    ensures calls { Calls (region.size / 4096 + region.size / 4096 + 6) (F.facts paged.old.device)
+        (F.facts paged.new.device) }
+    ensures source_calls { Calls ((length (S.facts source.old).content + 4095) / 4096) (S.facts source.old)
+        (S.facts source.new) }
+    ensures device { IsErrOf result CopyFault.Device →
+        (F.facts paged.old.device).faults < (F.facts paged.new.device).faults }
+    ensures source { IsErrOf result CopyFault.Source → (S.facts source.old).faults < (S.facts source.new).faults }
+    ensures no_output { IsErrOf result CopyFault.Output → ⊥ }
+
+    // On an honest device.
+    ensures outside { IsTrue (F.facts paged.old.device).honest →
+        SameOutside region.start region.size (F.facts paged.old.device).content (F.facts paged.new.device).content }
+    ensures added { IsTrue (F.facts paged.old.device).honest → IsTrue (S.facts source.old).honest → OnOk result
+        (bytes_in region (F.facts paged.new.device).content
+        ≡ added (bytes_in region (F.facts paged.old.device).content)
+        (labelled label.now (S.facts source.old).content) place) }
+    ensures stopped { IsTrue (F.facts paged.old.device).honest → region.size % 64 ≡ 0 →
+        IsOldOrBlanked (bytes_in region (F.facts paged.old.device).content) place.run
+        (bytes_in region (F.facts paged.new.device).content)
+        ⊎ ((IsErrOf result CopyFault.Source → ⊥) × (IsTrue (S.facts source.old).honest →
+        bytes_in region (F.facts paged.new.device).content
+        ≡ added (bytes_in region (F.facts paged.old.device).content)
+        (labelled label.now (S.facts source.old).content) place)) }
+    ensures last { IsTrue (F.facts paged.old.device).honest → region.size % 64 ≡ 0 →
+        EndsAlike (kept_from (bytes_in region (F.facts paged.old.device).content)
+        (labelled label.now (S.facts source.old).content) place)
+        (bytes_in region (F.facts paged.old.device).content)
+        (bytes_in region (F.facts paged.new.device).content) }
+{
+    paged.places_fit();
+    let end = (place.content + wanted.len + 63) / 64 * 64;
+    write_blank(paged, region, place.run)?;
+    let digest = copy_content(paged, region, place.content, label.hash, source)?;
+    let gap = (place.content - place.header - wanted.header) as u32;
+    let meta = meta_of(label.name, label.kind, wanted.len as u32, gap, &digest);
+    describe(paged, region, place, end, &meta)?;
+    Ok(())
+}
+
+/// The first refusal for which no device is looked at.
+fn own_fault(name: &[u8], kind: u32, spot: Spot) -> Option<EditFault>
+    ensures { result ≡ own_fault name.now kind spot }
+{
+    if is_bad_name(name) {
+        return Some(EditFault::BadName);
+    }
+    if kind == 0 || kind == 0xffff_ffff {
+        return Some(EditFault::BadType);
+    }
+    match spot {
+        Spot::Aligned(0) => Some(EditFault::BadAlign),
+        Spot::Aligned(_) => None,
+        Spot::First => None,
+        Spot::Fixed(_) => None,
+    }
+}
+
+/// Whether the name is empty, has more than 127 bytes, or has a NUL.
+fn is_bad_name(name: &[u8]) -> bool
+    ensures { result ≡ is_bad_name name.now }
+{
+    name.is_empty() || name.len() > 127 || has_nul(name)
+}
+
+fn has_nul(name: &[u8]) -> bool
+    ensures { result ≡ list_any is_nul name.now }
+{
+    name.iter().any(|byte| *byte == 0)
+}
+
+/// How many bytes the attribute has that stores the digest.
+fn attribute_len(hash: HashChoice) -> usize
+    ensures is { result ≡ attribute_len hash }
+    ensures short { result ≤ 76 }
+{
+    match hash {
+        HashChoice::Plain => 0,
+    }
+}
+
+/// Adds a component whose content is the whole source, and answers where it stands.
+///
+/// It is put into the first free space that has room for it, at the least place there that the spot allows; blanks of
+/// free space are left before it and after it. The last four bytes of the region are kept, but for those that content
+/// with a fixed place covers.
+///
+/// The refusals come in this order: a bad name, a bad type, a bad alignment, the region's size, no entry at its start, the
+/// first damaged entry, a component that has the name already, no space. A fault of the device or the source comes
+/// whenever one refuses a call, and only that may leave a change: after a fault of the source the components are those of
+/// before; after one of the device those, or those with the whole new one.
+pub fn add<F: Flash, S: Source>(
+    paged: &mut Paged<F>,
+    region: Region,
+    name: &[u8],
+    kind: u32,
+    hash: HashChoice,
+    spot: Spot,
+    source: &mut S,
+) -> Result<Placed, EditFault>
+    requires { LiesIn region (F.facts paged.old.device).content }
+
+    // On any device, from any source.
+    ensures calls { Calls (region.size / 16 + region.size / 2048 + 8) (F.facts paged.old.device)
+        (F.facts paged.new.device) }
+    ensures source_calls { Calls (length (S.facts source.old).content / 4096 + 1) (S.facts source.old)
+        (S.facts source.new) }
+    ensures device { IsErrOf result EditFault.Device →
+        (F.facts paged.old.device).faults < (F.facts paged.new.device).faults }
+    ensures source { IsErrOf result EditFault.Source → (S.facts source.old).faults < (S.facts source.new).faults }
+
+    // On an honest device, from any source.
+    ensures answer { OnHonestIn F.facts paged.old.device region (λ x.
+        IsErrOf result EditFault.Device ⊎ (IsErrOf result EditFault.Source
+        ⊎ (result ≡ placed_of (addition_in x (new_component name.now kind hash (S.facts source.old).content) spot)))) }
+    ensures refused { IsTrue (F.facts paged.old.device).honest → IfErr result (λ fault. fault ≢ EditFault.Device →
+        fault ≢ EditFault.Source → (F.facts paged.new.device).content ≡ (F.facts paged.old.device).content) }
+    ensures before { OnHonestIn F.facts paged.old.device region (λ x. IsErrOf result EditFault.Source →
+        AddLeavesBefore x (new_component name.now kind hash (S.facts source.old).content) spot
+        (bytes_in region (F.facts paged.new.device).content)) }
+    ensures outside { IsTrue (F.facts paged.old.device).honest →
+        SameOutside region.start region.size (F.facts paged.old.device).content (F.facts paged.new.device).content }
+
+    // On an honest device, from an honest source.
+    ensures added { OnHonestIn F.facts paged.old.device region (λ x. IsTrue (S.facts source.old).honest → OnOk result
+        (bytes_in region (F.facts paged.new.device).content
+        ≡ added_to x (new_component name.now kind hash (S.facts source.old).content) spot)) }
+    ensures image { OnHonestIn F.facts paged.old.device region (λ x. IsTrue (S.facts source.old).honest → OnOk result
+        ((F.facts paged.new.device).content ≡ overwritten (F.facts paged.old.device).content region.start
+        (added_to x (new_component name.now kind hash (S.facts source.old).content) spot))) }
+    ensures stopped { OnHonestIn F.facts paged.old.device region (λ x. IsTrue (S.facts source.old).honest →
+        IsErrOf result EditFault.Device →
+        AddLeavesWhole x (new_component name.now kind hash (S.facts source.old).content) spot
+        (bytes_in region (F.facts paged.new.device).content)) }
+    ensures step { IsTrue (F.facts paged.old.device).honest → IsTrue (S.facts source.old).honest →
+        AdditionStep (new_component name.now kind hash (S.facts source.old).content) spot
+        (state_of region (F.facts paged.old.device)) (S.facts source.old).faults (S.facts source.new).faults result
+        (state_of region (F.facts paged.new.device)) }
+{
+    paged.places_fit();
+    if let Some(fault) = own_fault(name, kind, spot) {
+        return Err(fault);
+    }
+    let wanted = Wanted {
+        header: meta_len(name.len(), attribute_len(hash)) as u64,
+        len: source.len(),
+        spot,
+    };
+    let place = match find_place(paged, region, name, wanted) {
+        Ok(place) => place,
+        Err(fault) => return Err(fault),
+    };
+    let label = Label { name, kind, hash };
+    match insert(paged, region, wanted, place, &label, source) {
+        Ok(()) => Ok(Placed {
+            header: place.header,
+            content: place.content,
+        }),
+        Err(CopyFault::Device) => Err(EditFault::Device),
+        Err(CopyFault::Source) => Err(EditFault::Source),
+        Err(CopyFault::Output) => unreachable!(),
+    }
+}

@@ -1,0 +1,179 @@
+//! The writes that put a component into a run of free cells.
+//!
+//! The header of a blank over the whole run is committed first, and what shows the component last, so that whatever is
+//! written between the two commits is free space.
+ghost use Rattle.std.specs.Prelude.{◌≡◌, ◌⊎◌, ◌+◌, ◌-◌, ◌%◌, ◌^◌, ◌<◌, ◌≤◌, length, IsTrue, OnOk, OnErr};
+ghost use Rattle.flash_format.specs.Head.{header_length};
+ghost use Rattle.flash_format.specs.Made.{described, described_len};
+ghost use Rattle.flash_store.specs.Bytes.{SameOutside};
+ghost use Rattle.flash_store.specs.Device.{Calls};
+ghost use Rattle.flash_store.specs.Regions.{LiesIn, bytes_in};
+ghost use Rattle.cbfs_edit.specs.Insertions.{ChangesFrom, HasRoom, IsUnfinished, bounded, finished, fronted, held_back, shown_by};
+
+use crate::place::Place;
+use crate::write::{commit_in, write_in};
+use flash_format::{HEADER_LENGTH, Meta, empty_header, write_meta};
+use flash_store::{Flash, FlashFault, Paged, Region};
+
+/// The most bytes that stand before a content: a head of 24, a name field of 128, an attribute of 76, a gap of 63.
+const FRONT_ROOM: usize = 291;
+
+/// How many bytes of the component's front the last commit writes.
+fn held_back(place: Place) -> usize
+    ensures { result ≡ held_back place }
+{
+    if place.header == place.run.start {
+        HEADER_LENGTH
+    } else {
+        0
+    }
+}
+
+/// Writes what stands before the content, but for the bytes that the last commit writes.
+fn write_front<F: Flash>(
+    paged: &mut Paged<F>,
+    region: Region,
+    place: Place,
+    end: u64,
+    front: &[u8],
+) -> Result<(), FlashFault>
+    requires region { LiesIn region (F.facts paged.old.device).content }
+    requires room { HasRoom region.size place end (length front.now) }
+
+    ensures calls { Calls 1 (F.facts paged.old.device) (F.facts paged.new.device) }
+    ensures cause { OnErr result ((F.facts paged.old.device).faults < (F.facts paged.new.device).faults) }
+
+    // On an honest device.
+    ensures outside { IsTrue (F.facts paged.old.device).honest →
+        SameOutside region.start region.size (F.facts paged.old.device).content (F.facts paged.new.device).content }
+    ensures written { IsTrue (F.facts paged.old.device).honest → OnOk result
+        (bytes_in region (F.facts paged.new.device).content
+        ≡ fronted (bytes_in region (F.facts paged.old.device).content) place front.now) }
+    ensures torn { IsTrue (F.facts paged.old.device).honest →
+        IsUnfinished place place.content (bytes_in region (F.facts paged.old.device).content)
+        (bytes_in region (F.facts paged.new.device).content) }
+{
+    let skip = held_back(place);
+    write_in(paged, region, place.header + skip as u64, &front[skip..])
+}
+
+/// Writes the header of the blank after the component, where there is one.
+fn write_bound<F: Flash>(
+    paged: &mut Paged<F>,
+    region: Region,
+    place: Place,
+    end: u64,
+) -> Result<(), FlashFault>
+    requires region { LiesIn region (F.facts paged.old.device).content }
+    requires room { HasRoom region.size place end (place.content - place.header) }
+
+    ensures calls { Calls 1 (F.facts paged.old.device) (F.facts paged.new.device) }
+    ensures cause { OnErr result ((F.facts paged.old.device).faults < (F.facts paged.new.device).faults) }
+
+    // On an honest device.
+    ensures outside { IsTrue (F.facts paged.old.device).honest →
+        SameOutside region.start region.size (F.facts paged.old.device).content (F.facts paged.new.device).content }
+    ensures written { IsTrue (F.facts paged.old.device).honest → OnOk result
+        (bytes_in region (F.facts paged.new.device).content
+        ≡ bounded (bytes_in region (F.facts paged.old.device).content) end place.run.end) }
+    ensures torn { IsTrue (F.facts paged.old.device).honest →
+        IsUnfinished place place.content (bytes_in region (F.facts paged.old.device).content)
+        (bytes_in region (F.facts paged.new.device).content) }
+{
+    if end == place.run.end {
+        return Ok(());
+    }
+    let kept = place.run.end == region.size();
+    let header = empty_header((place.run.end - end) as u32, kept);
+    write_in(paged, region, end, &header)
+}
+
+/// What the last commit writes: the begin of the component, or the header of the blank before it.
+fn shown_by(place: Place, front: &[u8]) -> [u8; HEADER_LENGTH]
+    requires front { header_length ≤ length front.now }
+    requires start_aligned { place.run.start % 64 ≡ 0 }
+    requires header_aligned { place.header % 64 ≡ 0 }
+    requires order { place.run.start ≤ place.header }
+    requires small { place.header < 2 ^ 32 }
+    ensures { result ≡ shown_by place front.now }
+{
+    if place.header == place.run.start {
+        let mut begin = [0; HEADER_LENGTH];
+        begin.copy_from_slice(&front[..HEADER_LENGTH]);
+        return begin;
+    }
+    empty_header((place.header - place.run.start) as u32, false)
+}
+
+/// Writes the front of the component whose content stands already and the header of the blank after it, and commits at
+/// last what shows the component.
+fn show<F: Flash>(
+    paged: &mut Paged<F>,
+    region: Region,
+    place: Place,
+    end: u64,
+    front: &[u8],
+) -> Result<(), FlashFault>
+    requires region { LiesIn region (F.facts paged.old.device).content }
+    requires room { HasRoom region.size place end (length front.now) }
+
+    ensures calls { Calls 3 (F.facts paged.old.device) (F.facts paged.new.device) }
+    ensures cause { OnErr result ((F.facts paged.old.device).faults < (F.facts paged.new.device).faults) }
+
+    // On an honest device.
+    ensures outside { IsTrue (F.facts paged.old.device).honest →
+        SameOutside region.start region.size (F.facts paged.old.device).content (F.facts paged.new.device).content }
+    ensures shown { IsTrue (F.facts paged.old.device).honest → OnOk result
+        (bytes_in region (F.facts paged.new.device).content
+        ≡ finished (bytes_in region (F.facts paged.old.device).content) place end front.now) }
+    ensures stopped { IsTrue (F.facts paged.old.device).honest →
+        (bytes_in region (F.facts paged.new.device).content
+        ≡ finished (bytes_in region (F.facts paged.old.device).content) place end front.now)
+        ⊎ IsUnfinished place place.content (bytes_in region (F.facts paged.old.device).content)
+        (bytes_in region (F.facts paged.new.device).content) }
+    ensures torn { IsTrue (F.facts paged.old.device).honest →
+        ChangesFrom place.run.start place place.content (bytes_in region (F.facts paged.old.device).content)
+        (bytes_in region (F.facts paged.new.device).content) }
+{
+    write_front(paged, region, place, end, front)?;
+    write_bound(paged, region, place, end)?;
+    let begin = shown_by(place, front);
+    commit_in(paged, region, place.run.start, &begin)
+}
+
+/// Writes what stands before a content that stands already, and shows the component.
+pub fn describe<F: Flash>(
+    paged: &mut Paged<F>,
+    region: Region,
+    place: Place,
+    end: u64,
+    meta: &Meta<'_>,
+) -> Result<(), FlashFault>
+    requires region { LiesIn region (F.facts paged.old.device).content }
+    requires room { HasRoom region.size place end (described_len meta.now) }
+    requires name { length meta.now.name.now ≤ 127 }
+    requires gap { meta.now.gap < 64 }
+
+    ensures calls { Calls 3 (F.facts paged.old.device) (F.facts paged.new.device) }
+    ensures cause { OnErr result ((F.facts paged.old.device).faults < (F.facts paged.new.device).faults) }
+    ensures front { length (described meta.now) ≡ described_len meta.now }
+
+    // On an honest device.
+    ensures outside { IsTrue (F.facts paged.old.device).honest →
+        SameOutside region.start region.size (F.facts paged.old.device).content (F.facts paged.new.device).content }
+    ensures shown { IsTrue (F.facts paged.old.device).honest → OnOk result
+        (bytes_in region (F.facts paged.new.device).content
+        ≡ finished (bytes_in region (F.facts paged.old.device).content) place end (described meta.now)) }
+    ensures stopped { IsTrue (F.facts paged.old.device).honest →
+        (bytes_in region (F.facts paged.new.device).content
+        ≡ finished (bytes_in region (F.facts paged.old.device).content) place end (described meta.now))
+        ⊎ IsUnfinished place place.content (bytes_in region (F.facts paged.old.device).content)
+        (bytes_in region (F.facts paged.new.device).content) }
+    ensures torn { IsTrue (F.facts paged.old.device).honest →
+        ChangesFrom place.run.start place place.content (bytes_in region (F.facts paged.old.device).content)
+        (bytes_in region (F.facts paged.new.device).content) }
+{
+    let mut front = [0; FRONT_ROOM];
+    let n = write_meta(meta, &mut front);
+    show(paged, region, place, end, &front[..n])
+}
