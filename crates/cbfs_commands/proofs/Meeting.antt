@@ -1,4 +1,4 @@
--- A write and a removal as the outcome of a command: they write no output.
+-- A write, an addition and a removal as the outcome of a command: they write no output.
 use Rattle.std.proofs.Common.{◌≡◌, ℕ, inl, inr, Bool, true, false, cond, List, [], length, Option, Result, Ok, Err, refl, sym, arith, subst, eqb}
 use Rattle.std.specs.Io.KnownBytes.{Appends}
 use Rattle.std.proofs.KnownBytes.{Appends-nil}
@@ -6,9 +6,12 @@ use Rattle.flash_store.specs.Regions.{Range, bytes_in, region_of}
 use Rattle.flash_store.specs.declared.fmap.StoreFault.{StoreFault}
 use Rattle.cbfs_edit.specs.Removals.{removal_in}
 use Rattle.cbfs_edit.specs.declared.fault.EditFault.{EditFault}
+use Rattle.cbfs_edit.specs.Additions.{NewComponent, addition_in}
 use Rattle.cbfs_edit.specs.declared.group.Freed.{Freed}
+use Rattle.cbfs_edit.specs.declared.place.Place.{Place}
+use Rattle.cbfs_edit.specs.declared.place.Spot.{Spot}
 use Rattle.cbfs_commands.specs.Told.{Answer}
-use Rattle.cbfs_commands.specs.Outcomes.{Outcome, LeavesOr, Meets, removal, remove, remove_found, write, write_found}
+use Rattle.cbfs_commands.specs.Outcomes.{Outcome, LeavesOr, Meets, addition, add, add_found, removal, remove, remove_found, write, write_found}
 
 written-none : (image : List ℕ) (found : Result Range StoreFault) (source : List ℕ) → (write_found image found source).written ≡ []
 written-none image (Err fault) source = refl
@@ -35,6 +38,19 @@ found-none image (Ok region) name = removed-none image region (removal_in (bytes
 pub remove-silent : (image region name : List ℕ) → (remove image region name).written ≡ []
 unfolding remove
 remove-silent image region name = found-none image (region_of image region) name
+
+added-none : (image : List ℕ) (region : Range) (new : NewComponent) (r : Result Place EditFault) → (addition image region new r).written ≡ []
+added-none image region new (Err fault) = refl
+added-none image region new (Ok place) = refl
+
+add-found-none : (image : List ℕ) (found : Result Range StoreFault) (new : NewComponent) (spot : Spot) → (add_found image found new spot).written ≡ []
+add-found-none image (Err fault) new spot = refl
+add-found-none image (Ok region) new spot = added-none image region new (addition_in (bytes_in region image) new spot)
+
+-- `add` writes no output
+pub add-silent : (image region : List ℕ) (new : NewComponent) (spot : Spot) → (add image region new spot).written ≡ []
+unfolding add
+add-silent image region new spot = add-found-none image (region_of image region) new spot
 
 -- a command without output that left what the outcome says
 pub left-met : (out : Option (List ℕ)) (image : List ℕ) (answer : Answer) (o : Outcome) → o.written ≡ [] → LeavesOr image answer o → Meets out out image answer o

@@ -3,12 +3,13 @@ use Rattle.std.specs.Prelude.{◌≡◌, ℕ, ◌⊎◌, Bool, true, false, List
 use Rattle.flash_store.specs.Bytes.{SameOutside}
 use Rattle.flash_store.specs.Regions.{Range, bytes_in, region_of}
 use Rattle.flash_store.specs.declared.fmap.StoreFault.{StoreFault}
+use Rattle.cbfs_edit.specs.Additions.{new_component}
 use Rattle.cbfs_edit.specs.Stops.{LeavesWhole}
 use Rattle.cbfs_commands.specs.declared.refusal.Refusal.TheVariants as refusals
 use Rattle.cbfs_commands.specs.Layouts.{layout}
-use Rattle.cbfs_commands.specs.Requests.{Request}
+use Rattle.cbfs_commands.specs.Requests.{Adding, Request}
 use Rattle.cbfs_commands.specs.Requests as requests
-use Rattle.cbfs_commands.specs.Outcomes.{Outcome, StopsIn, reading, print, extract, remove, read, write}
+use Rattle.cbfs_commands.specs.Outcomes.{Outcome, StopsIn, AddStopsIn, reading, print, extract, add, remove, read, write}
 use Rattle.cbfs_commands.specs.Told.{Answer, Told}
 
 -- by the image, the source, the answer and the image that is left
@@ -43,6 +44,16 @@ replaces name = record {
   Stopped = λ image source answer now. (region : Range) → region_of image name ≡ Ok region → StopsIn image region source now answer;
 }
 
+-- the command that adds the source to a region as a component
+abbrev pub adds : Adding → Deed
+adds a = record {
+  outcome = λ image source. add image a.region (new_component a.name a.kind a.hash source) a.spot;
+  target = λ image. found (region_of image a.region);
+  reads_source = true;
+  writes_output = false;
+  Stopped = λ image source answer now. (region : Range) → region_of image a.region ≡ Ok region → AddStopsIn (bytes_in region image) (new_component a.name a.kind a.hash source) a.spot answer (bytes_in region now);
+}
+
 -- the command that removes a component from a region
 abbrev pub removes : List ℕ → List ℕ → Deed
 removes name component = record {
@@ -58,6 +69,7 @@ abbrev pub deed : Request → Deed
 deed (requests.print region) = tells (λ image. print image region)
 deed requests.layout = tells layout
 deed (requests.extract region name) = tells (λ image. extract image region name)
+deed (requests.add a) = adds a
 deed (requests.remove region name) = removes region name
 deed (requests.read region) = tells (λ image. read image region)
 deed (requests.write region) = replaces region

@@ -9,9 +9,13 @@ use Rattle.flash_store.specs.Output.{AppendsPart}
 use Rattle.flash_store.specs.Pages.{Pages}
 use Rattle.flash_store.specs.Regions.{Range, bytes_in, region_of}
 use Rattle.flash_store.specs.declared.fmap.StoreFault.{StoreFault}
+use Rattle.cbfs_edit.specs.Stops.{AddLeavesBefore, AddLeavesWhole}
 use Rattle.cbfs_edit.specs.Removals.{removal_in, removed}
 use Rattle.cbfs_edit.specs.declared.fault.EditFault.{EditFault}
+use Rattle.cbfs_edit.specs.Additions.{NewComponent, added, addition_in}
 use Rattle.cbfs_edit.specs.declared.group.Freed.{Freed}
+use Rattle.cbfs_edit.specs.declared.place.Place.{Place}
+use Rattle.cbfs_edit.specs.declared.place.Spot.{Spot}
 use Rattle.cbfs_walk.specs.Finding.{Found, component_in}
 use Rattle.cbfs_walk.specs.Shaped.{place_after}
 use Rattle.cbfs_walk.specs.Shapes.{shape, refused_or}
@@ -90,6 +94,23 @@ remove_found image (Ok region) name = remove_region image region name
 unfoldable pub remove : List ℕ → List ℕ → List ℕ → Outcome
 remove image region name = remove_found image (region_of image region) name
 
+-- ---- add
+
+abbrev pub addition : List ℕ → Range → NewComponent → Result Place EditFault → Outcome
+addition image region new (Err fault) = reading image (refuses (edit_refusal fault))
+addition image region new (Ok place) = record { written = []; image = overwritten image region.start (added (bytes_in region image) new place); answer = Ok tt }
+
+abbrev pub add_region : List ℕ → Range → NewComponent → Spot → Outcome
+add_region image region new spot = addition image region new (addition_in (bytes_in region image) new spot)
+
+abbrev pub add_found : List ℕ → Result Range StoreFault → NewComponent → Spot → Outcome
+add_found image (Err fault) new spot = reading image (refuses (store_refusal fault))
+add_found image (Ok region) new spot = add_region image region new spot
+
+-- the component in the first free space that has room for it, at the least place that the spot allows
+unfoldable pub add : List ℕ → List ℕ → NewComponent → Spot → Outcome
+add image region new spot = add_found image (region_of image region) new spot
+
 -- ---- read and write
 
 abbrev pub read_found : List ℕ → Result Range StoreFault → Told
@@ -129,6 +150,12 @@ Meets old new image answer o =
 pub record StopsIn (image : List ℕ) (region : Range) (source now : List ℕ) (answer : Answer) : Type 0 where
   pub by_source : answer ≡ Err refusals.Source → FirstWritten region.start source image now
   pub by_device : answer ≡ Err refusals.Device → PartWritten region.start source image now
+
+-- what a region holds once an addition to it was stopped: after a fault of the device the components of before or of the
+-- whole addition, after one of the source those of before
+pub record AddStopsIn (x : List ℕ) (new : NewComponent) (spot : Spot) (answer : Answer) (now : List ℕ) : Type 0 where
+  pub by_device : answer ≡ Err refusals.Device → AddLeavesWhole x new spot now
+  pub by_source : answer ≡ Err refusals.Source → AddLeavesBefore x new spot now
 
 -- the call has answered and left what the outcome says, or the device or the source failed
 abbrev pub LeavesOr : List ℕ → Answer → Outcome → Type 0

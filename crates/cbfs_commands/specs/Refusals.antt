@@ -22,7 +22,13 @@ walk_refusal (walk.Damaged at kind) = refusals.Damaged at kind
 
 abbrev pub edit_refusal : EditFault → Refusal
 edit_refusal edit.Device = refusals.Device
+edit_refusal edit.Source = refusals.Source
 edit_refusal edit.RegionShape = refusals.RegionShape
 edit_refusal edit.NotCbfs = refusals.NotCbfs
 edit_refusal (edit.Damaged at kind) = refusals.Damaged at kind
 edit_refusal edit.NotFound = refusals.NotFound
+edit_refusal edit.Exists = refusals.Exists
+edit_refusal edit.NoSpace = refusals.NoSpace
+edit_refusal edit.BadName = refusals.BadName
+edit_refusal edit.BadType = refusals.BadType
+edit_refusal edit.BadAlign = refusals.BadAlign

@@ -1,13 +1,24 @@
 -- The command that a command line asks for, as contracts see it.
 use Rattle.std.specs.Prelude.{ℕ, List}
+use Rattle.cbfs_edit.specs.declared.addition.HashChoice.{HashChoice}
+use Rattle.cbfs_edit.specs.declared.place.Spot.{Spot}
 use Rattle.cbfs_commands.specs.declared.command.Command.{Command}
 use Rattle.cbfs_commands.specs.declared.command.Command.TheVariants as commands
+
+-- a component that is to be added, but for its content
+pub record Adding : Type 0 where
+  pub region : List ℕ
+  pub name : List ℕ
+  pub kind : ℕ
+  pub hash : HashChoice
+  pub spot : Spot
 
 -- a command by the bytes of its words
 pub data Request : Type 0 where
   print : List ℕ → Request
   layout : Request
   extract : List ℕ → List ℕ → Request
+  add : Adding → Request
   remove : List ℕ → List ℕ → Request
   read : List ℕ → Request
   write : List ℕ → Request
@@ -16,6 +27,7 @@ abbrev pub asked : Command → Request
 asked (commands.Print region) = print region.now
 asked commands.Layout = layout
 asked (commands.Extract region name) = extract region.now name.now
+asked (commands.Add region name kind hash spot) = add (record { region = region.now; name = name.now; kind = kind; hash = hash; spot = spot })
 asked (commands.Remove region name) = remove region.now name.now
 asked (commands.Read region) = read region.now
 asked (commands.Write region) = write region.now

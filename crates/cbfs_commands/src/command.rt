@@ -1,5 +1,7 @@
 //! What a command line asks for.
 
+use cbfs_edit::{HashChoice, Spot};
+
 /// A command and its words. A region and a component are named by bytes.
 #[derive(Clone, Copy, Debug, PartialEq, Eq)]
 pub enum Command<'a> {
@@ -9,6 +11,15 @@ pub enum Command<'a> {
     Layout,
     /// Writes the content of the first component of the name.
     Extract { region: &'a [u8], name: &'a [u8] },
+    /// Puts the source into free space of the region, as the content of a component.
+    Add {
+        region: &'a [u8],
+        name: &'a [u8],
+        /// The type.
+        kind: u32,
+        hash: HashChoice,
+        spot: Spot,
+    },
     /// Puts free space in place of the first component of the name.
     Remove { region: &'a [u8], name: &'a [u8] },
     /// Writes the bytes of the region.

@@ -6,6 +6,7 @@ ghost use Rattle.cbfs_commands.specs.Deeds.{MayHaveWritten, SparesOutside, deed}
 ghost use Rattle.cbfs_commands.specs.Requests.{asked};
 ghost use Rattle.cbfs_commands.specs.Outcomes.{Meets};
 
+use crate::add::add;
 use crate::command::Command;
 use crate::extract::extract;
 use crate::layout::layout;
@@ -60,6 +61,13 @@ pub fn run<F: Flash, S: Source, W: Sink>(
         Command::Print { region } => print(paged, region, out),
         Command::Layout => layout(paged, out),
         Command::Extract { region, name } => extract(paged, region, name, out),
+        Command::Add {
+            region,
+            name,
+            kind,
+            hash,
+            spot,
+        } => add(paged, region, name, *kind, *hash, *spot, source),
         Command::Remove { region, name } => remove(paged, region, name),
         Command::Read { region } => read(paged, region, out),
         Command::Write { region } => write(paged, region, source),

@@ -1,6 +1,7 @@
 //! The commands on an image: print, layout, extract, remove, read and write.
 #![tactic(auto)]
 
+mod add;
 mod command;
 mod engine;
 mod extract;

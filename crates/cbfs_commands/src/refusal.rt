@@ -42,9 +42,24 @@ pub enum Refusal {
     /// 10: the region has no component of the name.
     #[error("no such component")]
     NotFound,
+    /// 11: the region has a component of the name already.
+    #[error("component exists")]
+    Exists,
+    /// 12: no free space has room for the component at a place that is allowed.
+    #[error("no space")]
+    NoSpace,
     /// 13: the component is compressed.
     #[error("component is compressed")]
     Compressed,
+    /// 14: the name of a new component is empty, has more than 127 bytes, or has a NUL.
+    #[error("bad name")]
+    BadName,
+    /// 15: the type of a new component marks free space.
+    #[error("bad type")]
+    BadType,
+    /// 16: the content of a new component shall begin at a multiple of 0.
+    #[error("bad alignment")]
+    BadAlign,
     /// 17: the source's length isn't the region's size.
     #[error("source size differs from the region")]
     SourceSize,
@@ -96,13 +111,20 @@ pub fn walk_refusal(fault: WalkFault) -> Refusal
 
 /// The refusal of a command whose edit is refused.
 pub fn edit_refusal(fault: EditFault) -> Refusal
-    ensures { result ≡ edit_refusal fault }
+    ensures is { result ≡ edit_refusal fault }
+    ensures source { result ≡ Refusal.Source → fault ≡ EditFault.Source }
 {
     match fault {
         EditFault::Device => Refusal::Device,
+        EditFault::Source => Refusal::Source,
         EditFault::RegionShape => Refusal::RegionShape,
         EditFault::NotCbfs => Refusal::NotCbfs,
         EditFault::Damaged { at, kind } => Refusal::Damaged { at, kind },
         EditFault::NotFound => Refusal::NotFound,
+        EditFault::Exists => Refusal::Exists,
+        EditFault::NoSpace => Refusal::NoSpace,
+        EditFault::BadName => Refusal::BadName,
+        EditFault::BadType => Refusal::BadType,
+        EditFault::BadAlign => Refusal::BadAlign,
     }
 }

@@ -43,6 +43,7 @@ pub fn find_group<F: Flash>(
     ensures after { HasRead F.facts (region.size / 16 + 1) paged.old paged.new }
     ensures cause { IsErrOf result EditFault.Device →
         (F.facts paged.old.device).faults < (F.facts paged.new.device).faults }
+    ensures no_source { IsErrOf result EditFault.Source → ⊥ }
     ensures group { IfOk result (λ group. IsCellRange group region.size) }
 
     // On an honest device.

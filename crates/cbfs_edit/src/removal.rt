@@ -34,6 +34,7 @@ pub fn remove<F: Flash>(
         (F.facts paged.new.device) }
     ensures cause { IsErrOf result EditFault.Device →
         (F.facts paged.old.device).faults < (F.facts paged.new.device).faults }
+    ensures no_source { IsErrOf result EditFault.Source → ⊥ }
 
     // On an honest device.
     ensures answer { OnHonestIn F.facts paged.old.device region (λ x.

@@ -1,5 +1,5 @@
 use Rattle.std.proofs.Common.{rules}
-use Rattle.cbfs_commands.proofs.Meeting.{remove-silent, write-silent, left-met}
+use Rattle.cbfs_commands.proofs.Meeting.{add-silent, remove-silent, write-silent, left-met}
 use Rattle.cbfs_commands.proofs.engine.run.Goals as goal
 
 -- Goals that the must-fail edits break, which then fail at once.
@@ -29,6 +29,9 @@ returns-in-Write-clause-unwritten g c = search rules
 
 pub returns-in-Write-clause-outcome : goal.returns-in-Write-clause-outcome
 returns-in-Write-clause-outcome g c = λ h honest. rw c.in-Write.is (left-met _ _ _ _ (write-silent _ _ _) (c.write.ensures.left h honest))
+
+pub returns-in-Add-clause-outcome : goal.returns-in-Add-clause-outcome
+returns-in-Add-clause-outcome g c = λ h honest. rw c.in-Add.is (left-met _ _ _ _ (add-silent _ _ _ _) (c.add.ensures.left h honest))
 
 pub returns-in-Remove-clause-outcome : goal.returns-in-Remove-clause-outcome
 returns-in-Remove-clause-outcome g c = λ h honest. rw c.in-Remove.is (left-met _ _ _ _ (remove-silent _ _ _) (c.remove.ensures.left h))

@@ -1,0 +1,81 @@
+//! The command `add`.
+
+ghost use Rattle.std.specs.Prelude.{◌≡◌, ◌+◌, ◌*◌, ◌/◌, ◌⊎◌, length, IsTrue, Ok};
+ghost use Rattle.flash_store.specs.Bytes.{SameOutside};
+ghost use Rattle.flash_store.specs.Pages.{OnHonest};
+ghost use Rattle.flash_store.specs.Regions.{Range, LiesIn, bytes_in, region_of};
+ghost use Rattle.cbfs_edit.specs.Additions.{new_component};
+ghost use Rattle.cbfs_commands.specs.Deeds.{MayHaveWritten, SparesOutside, found};
+ghost use Rattle.cbfs_commands.specs.Outcomes.{AddStopsIn, HasWritten, LeavesOr, add, add_region};
+
+use crate::refusal::{Refusal, edit_refusal, store_refusal};
+use cbfs_edit::{HashChoice, Spot};
+use flash_store::{Flash, Paged, Region, Source};
+
+/// Puts the source into free space of a region, as the content of a component.
+fn add_region<F: Flash, S: Source>(
+    paged: &mut Paged<F>,
+    region: Region,
+    name: &[u8],
+    kind: u32,
+    hash: HashChoice,
+    spot: Spot,
+    source: &mut S,
+) -> Result<(), Refusal>
+    requires { LiesIn region (F.facts paged.old.device).content }
+
+    // On any device, from any source.
+    ensures after { HasWritten F.facts S.facts (region.size / 16 + region.size / 2048 + 8)
+        (length (S.facts source.old).content / 4096 + 1) paged.old paged.new source.old source.new result }
+
+    // On an honest device.
+    ensures outside { OnHonest F.facts paged.old.device (λ image.
+        SameOutside region.start region.size image (F.facts paged.new.device).content) }
+    ensures refused { OnHonest F.facts paged.old.device (λ image.
+        MayHaveWritten result ⊎ ((F.facts paged.new.device).content ≡ image)) }
+    ensures left { OnHonest F.facts paged.old.device (λ image. IsTrue (S.facts source.old).honest →
+        LeavesOr (F.facts paged.new.device).content result
+        (add_region image region (new_component name.now kind hash (S.facts source.old).content) spot)) }
+    ensures stopped { OnHonest F.facts paged.old.device (λ image. IsTrue (S.facts source.old).honest →
+        AddStopsIn (bytes_in region image) (new_component name.now kind hash (S.facts source.old).content) spot result
+        (bytes_in region (F.facts paged.new.device).content)) }
+{
+    match cbfs_edit::add(paged, region, name, kind, hash, spot, source) {
+        Ok(_) => Ok(()),
+        Err(fault) => Err(edit_refusal(fault)),
+    }
+}
+
+/// Puts the source into free space of the region, as the content of a component.
+#[tactic(auto, unfolding(crate::specs::Outcomes::add))]
+pub fn add<F: Flash, S: Source>(
+    paged: &mut Paged<F>,
+    region: &[u8],
+    name: &[u8],
+    kind: u32,
+    hash: HashChoice,
+    spot: Spot,
+    source: &mut S,
+) -> Result<(), Refusal>
+    // On any device, from any source.
+    ensures after { HasWritten F.facts S.facts (2 * length (F.facts paged.old.device).content + 64)
+        (length (S.facts source.old).content / 4096 + 1) paged.old paged.new source.old source.new result }
+
+    // On an honest device.
+    ensures spares { OnHonest F.facts paged.old.device (λ image.
+        SparesOutside (found (region_of image region.now)) image (F.facts paged.new.device).content) }
+    ensures refused { OnHonest F.facts paged.old.device (λ image.
+        MayHaveWritten result ⊎ ((F.facts paged.new.device).content ≡ image)) }
+    ensures left { OnHonest F.facts paged.old.device (λ image. IsTrue (S.facts source.old).honest →
+        LeavesOr (F.facts paged.new.device).content result
+        (add image region.now (new_component name.now kind hash (S.facts source.old).content) spot)) }
+    ensures stopped { OnHonest F.facts paged.old.device (λ image. IsTrue (S.facts source.old).honest →
+        (found : Range) → region_of image region.now ≡ Ok found →
+        AddStopsIn (bytes_in found image) (new_component name.now kind hash (S.facts source.old).content) spot result
+        (bytes_in found (F.facts paged.new.device).content)) }
+{
+    match flash_store::region(paged, region) {
+        Ok(region) => add_region(paged, region, name, kind, hash, spot, source),
+        Err(fault) => Err(store_refusal(fault)),
+    }
+}
