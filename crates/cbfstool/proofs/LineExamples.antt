@@ -1,12 +1,17 @@
 -- Command lines, computed by clap's definitions.
-use Rattle.std.proofs.Common.{◌≡◌, ℕ, List, [], ◌∷◌, Option, Some, Result, Ok, refl}
+use Rattle.std.proofs.Common.{◌≡◌, ℕ, List, [], ◌∷◌, Option, Some, Result, Ok, Err, refl}
 use Rattle.std.specs.Option.{option_map}
 use lib.Chars.{codes}
 use Rattle.clap.specs.Words.{fault_of}
 use Rattle.clap.specs.declared.error.kind.ErrorKind.TheVariants as kinds
 use Rattle.clap.proofs.OnLiterals.{clap_on_literals}
-use Rattle.cbfs_commands.specs.Requests.{Request, print, layout, extract, remove, read, write}
+use Rattle.cbfs_commands.specs.Requests.{Request, print, layout, extract, add, remove, read, write}
+use Rattle.flash_format.specs.Numbers.{number_of}
+use Rattle.flash_format.specs.TypeNames.{type_of_text}
+use Rattle.cbfs_edit.specs.declared.addition.HashChoice.TheVariants.{Plain}
+use Rattle.cbfs_edit.specs.declared.place.Spot.TheVariants.{Aligned, Fixed}
 use Rattle.cbfs_commands.specs.declared.refusal.Refusal.{Refusal}
+use Rattle.cbfs_commands.specs.declared.refusal.Refusal.TheVariants as refusals
 use Rattle.cbfstool.specs.CommandLine.{command_line, command_of, text_of, texts_of}
 
 abbrev asked_by : List (List ℕ) → Option (Result Request Refusal)
@@ -35,6 +40,33 @@ an_extraction = refl
 an_empty_name : asked_by (codes "img" ∷ codes "extract" ∷ codes "-f" ∷ codes "x" ∷ codes "-n" ∷ codes "" ∷ codes "-r" ∷ codes "B" ∷ []) ≡ Some (Ok (extract (codes "B") []))
 unfolding clap_on_literals
 an_empty_name = refl
+
+an_addition : asked_by (codes "img" ∷ codes "add" ∷ codes "-n" ∷ codes "a" ∷ codes "-f" ∷ codes "x" ∷ codes "-t" ∷ codes "0x50" ∷ codes "-a" ∷ codes "0x40" ∷ [])
+    ≡ Some (Ok (add (record { region = codes "COREBOOT"; name = codes "a"; kind = 0x50; hash = Plain; spot = Aligned 64 })))
+unfolding clap_on_literals number_of type_of_text
+an_addition = refl
+
+an_addition_at_a_place : asked_by (codes "img" ∷ codes "add" ∷ codes "-n" ∷ codes "a" ∷ codes "-f" ∷ codes "x" ∷ codes "-t" ∷ codes "raw" ∷ codes "-b" ∷ codes "0" ∷ codes "-r" ∷ codes "B" ∷ [])
+    ≡ Some (Ok (add (record { region = codes "B"; name = codes "a"; kind = 0x50; hash = Plain; spot = Fixed 0 })))
+unfolding clap_on_literals number_of type_of_text
+an_addition_at_a_place = refl
+
+an_alignment_and_a_place : asked_by (codes "img" ∷ codes "add" ∷ codes "-n" ∷ codes "a" ∷ codes "-f" ∷ codes "x" ∷ codes "-t" ∷ codes "raw" ∷ codes "-a" ∷ codes "64" ∷ codes "-b" ∷ codes "0" ∷ [])
+    ≡ Some (Err refusals.Usage)
+unfolding clap_on_literals number_of type_of_text
+an_alignment_and_a_place = refl
+
+a_bad_number : asked_by (codes "img" ∷ codes "add" ∷ codes "-n" ∷ codes "a" ∷ codes "-f" ∷ codes "x" ∷ codes "-t" ∷ codes "raw" ∷ codes "-a" ∷ codes "4K" ∷ []) ≡ Some (Err refusals.Usage)
+unfolding clap_on_literals number_of type_of_text
+a_bad_number = refl
+
+an_unknown_type : asked_by (codes "img" ∷ codes "add" ∷ codes "-n" ∷ codes "a" ∷ codes "-f" ∷ codes "x" ∷ codes "-t" ∷ codes "rw" ∷ []) ≡ Some (Err refusals.Usage)
+unfolding clap_on_literals number_of type_of_text
+an_unknown_type = refl
+
+an_addition_needs_a_type : fault_of command_line (codes "add" ∷ codes "-n" ∷ codes "a" ∷ codes "-f" ∷ codes "x" ∷ []) ≡ kinds.MissingRequiredArgument ∷ []
+unfolding clap_on_literals
+an_addition_needs_a_type = refl
 
 a_removal : asked_by (codes "img" ∷ codes "remove" ∷ codes "-n" ∷ codes "a" ∷ codes "-r" ∷ codes "B" ∷ []) ≡ Some (Ok (remove (codes "B") (codes "a")))
 unfolding clap_on_literals

@@ -2,7 +2,7 @@
 use Rattle.std.proofs.Common.{◌≡◌, ℕ, true, List, [], Option, Some, None, refl, sym, ap, ◌∙◌, subst, inl, inr}
 use Rattle.std.specs.Option.{option_map}
 use Rattle.clap.proofs.OnLiterals.{clap_on_literals}
-use Rattle.clap.specs.Words.{HasKind, IsAmong, Kinds, Row, is_simple_and_free, kind_of}
+use Rattle.clap.specs.Words.{HasKind, IsAmong, Kinds, Row, is_simple, is_simple_and_free, kind_of}
 use Rattle.clap.specs.declared.error.Error.{Error}
 use Rattle.clap.specs.declared.error.kind.ErrorKind.TheVariants.{OutOfMemory}
 use Rattle.cbfstool.specs.CommandLine.{Texts, command_line, with_image}
@@ -28,6 +28,10 @@ line-is image n r o e = rw e refl
 pub simple : is_simple_and_free command_line ≡ true
 unfolding clap_on_literals
 simple = refl
+
+pub simple_shape : is_simple command_line ≡ true
+unfolding clap_on_literals
+simple_shape = refl
 
 -- without a fault nothing but memory is wanting
 pub faultless : (kinds : Kinds) (e : Error) → HasKind kinds e → kinds ≡ [] → kind_of e ≡ OutOfMemory

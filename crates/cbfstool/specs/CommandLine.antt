@@ -8,6 +8,11 @@ use Rattle.clap.specs.Words as clap
 use Rattle.clap.specs.Simple.{new_shape}
 use Rattle.clap.specs.declared.error.ErrorKind.{ErrorKind}
 use Rattle.clap.specs.declared.error.ErrorKind.TheVariants.{OutOfMemory}
+use Rattle.flash_format.specs.Numbers.{number_of}
+use Rattle.flash_format.specs.TypeNames.{type_of_text}
+use Rattle.cbfs_edit.specs.declared.addition.HashChoice.TheVariants.{Plain}
+use Rattle.cbfs_edit.specs.declared.place.Spot.{Spot}
+use Rattle.cbfs_edit.specs.declared.place.Spot.TheVariants.{First, Aligned, Fixed}
 use Rattle.cbfs_commands.specs.Requests.{Request, asked}
 use Rattle.cbfs_commands.specs.Requests as requests
 use Rattle.cbfs_commands.specs.declared.command.Command.{Command}
@@ -28,6 +33,15 @@ file_option = option_of (codes "file") 102 true
 abbrev pub name_option : Rule
 name_option = option_of (codes "name") 110 true
 
+abbrev pub type_option : Rule
+type_option = option_of (codes "type") 116 true
+
+abbrev pub alignment_option : Rule
+alignment_option = option_of (codes "alignment") 97 false
+
+abbrev pub base_option : Rule
+base_option = option_of (codes "base") 98 false
+
 -- a subcommand of a name with these options
 abbrev pub subcommand_of : List ℕ → List Rule → Shape
 subcommand_of name options = record (new_shape name) { rules = options }
@@ -37,6 +51,7 @@ subcommands =
     subcommand_of (codes "print") (region_option ∷ [])
     ∷ subcommand_of (codes "layout") []
     ∷ subcommand_of (codes "extract") (region_option ∷ file_option ∷ name_option ∷ [])
+    ∷ subcommand_of (codes "add") (region_option ∷ name_option ∷ file_option ∷ type_option ∷ alignment_option ∷ base_option ∷ [])
     ∷ subcommand_of (codes "remove") (region_option ∷ name_option ∷ [])
     ∷ subcommand_of (codes "read") (region_option ∷ file_option ∷ [])
     ∷ subcommand_of (codes "write") (region_option ∷ file_option ∷ [])
@@ -81,6 +96,27 @@ given (Some text) r = Ok r
 abbrev pub extraction : List ℕ → Option (List ℕ) → Option (List ℕ) → Result Request Refusal
 extraction region name file = if is_some name && is_some file then Ok (requests.extract region (unwrap_or name [])) else Err refusals.Usage
 
+-- the type that a text names, or whose number it is
+abbrev pub kind_by : Option (List ℕ) → Option ℕ
+kind_by None = None
+kind_by (Some text) = type_of_text text
+
+-- where content shall begin: by the text of `-a` or that of `-b`, of which at most one is there
+abbrev pub spot_by : Option (List ℕ) → Option (List ℕ) → Option Spot
+spot_by None None = Some First
+spot_by (Some alignment) None = option_map Aligned (number_of alignment)
+spot_by None (Some base) = option_map Fixed (number_of base)
+spot_by (Some alignment) (Some base) = None
+
+abbrev pub addition_by : List ℕ → List ℕ → Option ℕ → Option Spot → Result Request Refusal
+addition_by region name (Some kind) (Some spot) = Ok (requests.add (record { region = region; name = name; kind = kind; hash = Plain; spot = spot }))
+addition_by region name _ _ = Err refusals.Usage
+
+-- a new component, where its name and its file are there
+abbrev pub addition : List ℕ → Option (List ℕ) → Option (List ℕ) → Option ℕ → Option Spot → Result Request Refusal
+addition region (Some name) (Some file) kind spot = addition_by region name kind spot
+addition region _ _ kind spot = Err refusals.Usage
+
 abbrev pub removal : List ℕ → Option (List ℕ) → Result Request Refusal
 removal region None = Err refusals.Usage
 removal region (Some name) = Ok (requests.remove region name)
@@ -91,10 +127,12 @@ command_of t =
     if bytes_eq t.subcommand (codes "print") then Ok (requests.print (region_named t))
     else (if bytes_eq t.subcommand (codes "layout") then Ok requests.layout
     else (if bytes_eq t.subcommand (codes "extract") then extraction (region_named t) (text_of (codes "name") t) (text_of (codes "file") t)
+    else (if bytes_eq t.subcommand (codes "add") then
+        addition (region_named t) (text_of (codes "name") t) (text_of (codes "file") t) (kind_by (text_of (codes "type") t)) (spot_by (text_of (codes "alignment") t) (text_of (codes "base") t))
     else (if bytes_eq t.subcommand (codes "remove") then removal (region_named t) (text_of (codes "name") t)
     else (if bytes_eq t.subcommand (codes "read") then given (text_of (codes "file") t) (requests.read (region_named t))
     else (if bytes_eq t.subcommand (codes "write") then given (text_of (codes "file") t) (requests.write (region_named t))
-    else Err refusals.Usage)))))
+    else Err refusals.Usage))))))
 
 abbrev pub seen : Result Command Refusal → Result Request Refusal
 seen (Ok command) = Ok (asked command)

@@ -2,12 +2,14 @@
 
 ghost use Rattle.std.specs.Prelude.{◌≡◌, ◌≢◌, ◌⊎◌, [], Some, IfOk, IfErr, codes, drop, map, option_map, true};
 ghost use Rattle.clap.specs.Words.{fault_of, has_subcommand, kind_of, subcommand_rows_of};
-ghost use Rattle.cbfstool.specs.CommandLine.{command_line, command_of, refusal_by, seen, text_of, texts_of, with_image};
+ghost use Rattle.cbfstool.specs.CommandLine.{addition, command_line, command_of, kind_by, refusal_by, seen, spot_by, text_of, texts_of, with_image};
 
 use crate::words::whole_command;
 use cbfs_commands::{Command, Refusal};
+use cbfs_edit::{HashChoice, Spot};
 use clap::error::ErrorKind;
 use clap::{ArgMatches, Error};
+use flash_format::{read_number, type_number};
 use std::alloc::Global;
 use std::marker::Model;
 
@@ -73,6 +75,7 @@ impl<'a> Line<'a> {
                 }),
                 _ => Err(Refusal::Usage),
             },
+            "add" => self.addition(region),
             "remove" => match self.option("name") {
                 Some(name) => Ok(Command::Remove {
                     region,
@@ -83,6 +86,49 @@ impl<'a> Line<'a> {
             "read" if self.file().is_some() => Ok(Command::Read { region }),
             "write" if self.file().is_some() => Ok(Command::Write { region }),
             _ => Err(Refusal::Usage),
+        }
+    }
+
+    /// The addition that the words ask for.
+    fn addition(&self, region: &'a [u8]) -> Result<Command<'a>, Refusal>
+        ensures { seen result ≡ addition region.entry.now (text_of (codes "name") self.now)
+            (text_of (codes "file") self.now) (kind_by (text_of (codes "type") self.now))
+            (spot_by (text_of (codes "alignment") self.now) (text_of (codes "base") self.now)) }
+    {
+        let (Some(name), Some(_)) = (self.option("name"), self.file()) else {
+            return Err(Refusal::Usage);
+        };
+        match (self.kind(), self.spot()) {
+            (Some(kind), Some(spot)) => Ok(Command::Add {
+                region,
+                name: name.as_bytes(),
+                kind,
+                hash: HashChoice::Plain,
+                spot,
+            }),
+            _ => Err(Refusal::Usage),
+        }
+    }
+
+    /// The type that `-t` gives.
+    fn kind(&self) -> Option<u32>
+        ensures { result ≡ kind_by (text_of (codes "type") self.now) }
+    {
+        match self.option("type") {
+            Some(text) => type_number(text),
+            None => None,
+        }
+    }
+
+    /// Where the content of a new component shall begin.
+    fn spot(&self) -> Option<Spot>
+        ensures { result ≡ spot_by (text_of (codes "alignment") self.now) (text_of (codes "base") self.now) }
+    {
+        match (self.option("alignment"), self.option("base")) {
+            (None, None) => Some(Spot::First),
+            (Some(text), None) => read_number(text).map(Spot::Aligned),
+            (None, Some(text)) => read_number(text).map(Spot::Fixed),
+            (Some(_), Some(_)) => None,
         }
     }
 }

@@ -48,7 +48,7 @@ fn open_side(rt: &HostRuntime, command: &Command, file: Option<&str>) -> Result<
             Err(fault) if fault.kind() == ErrorKind::OutOfMemory => Err(Refusal::Memory),
             Err(_) => Err(Refusal::Output),
         },
-        Command::Write { .. } => match FileSource::open(rt, path) {
+        Command::Add { .. } | Command::Write { .. } => match FileSource::open(rt, path) {
             Ok(source) => Ok(Side::Source(source)),
             Err(fault) => Err(open_refusal(fault, Refusal::Source)),
         },

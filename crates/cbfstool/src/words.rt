@@ -35,13 +35,32 @@ const NAME: TextOption = TextOption {
     required: true,
 };
 
+const TYPE: TextOption = TextOption {
+    id: "type",
+    letter: 't',
+    required: true,
+};
+
+const ALIGNMENT: TextOption = TextOption {
+    id: "alignment",
+    letter: 'a',
+    required: false,
+};
+
+const BASE: TextOption = TextOption {
+    id: "base",
+    letter: 'b',
+    required: false,
+};
+
 /// A subcommand's name and its options.
 type TableRow = (&'static str, &'static [TextOption]);
 
-const SUBCOMMANDS: [TableRow; 6] = [
+const SUBCOMMANDS: [TableRow; 7] = [
     ("print", &[REGION]),
     ("layout", &[]),
     ("extract", &[REGION, FILE, NAME]),
+    ("add", &[REGION, NAME, FILE, TYPE, ALIGNMENT, BASE]),
     ("remove", &[REGION, NAME]),
     ("read", &[REGION, FILE]),
     ("write", &[REGION, FILE]),
