@@ -1,5 +1,5 @@
 -- Copies that go on piece by piece: their calls so far, and what was put, filled or copied.
-use Rattle.std.proofs.Common.{replicate, ◌≡◌, ℕ, ◌+◌, ◌-◌, ◌*◌, ◌%◌, ◌<◌, ◌≤◌, ◌++◌, List, Option, None, Some, min, length, take, drop, sym, ap, subst, ◌∙◌, arith}
+use Rattle.std.proofs.Common.{replicate, ◌≡◌, ℕ, ◌+◌, ◌-◌, ◌*◌, ◌%◌, ◌<◌, ◌≤◌, ◌++◌, List, Option, None, Some, min, length, take, drop, sym, ap, subst, ◌∙◌, arith, append_assoc}
 use Rattle.std.specs.Prelude.{slice_range, Result, Ok, Err, OnErr}
 use Rattle.std.specs.Io.KnownBytes.{Appends, Keeps}
 use Rattle.std.proofs.KnownBytes.{Appends-trans}
@@ -127,3 +127,12 @@ Copied-more old mid new input at done size has within so_far now =
     now ∙ ap (λ xs. overwritten xs (at + done) (slice_range input done (done + size))) so_far
     ∙ ap (λ ys. overwritten (overwritten old at (take done input)) (at + done) ys) piece
     ∙ behind ∙ ap (overwritten old at) (sym (take-add done size input))
+
+-- what a watcher was shown: the first bytes of a source, and the next piece
+pub shown-more : (Saw : List ℕ → Type 0) (seen content now : List ℕ) (done size : ℕ) → now ≡ content → Saw ((seen ++ take done content) ++ slice_range now done (done + size)) → Saw (seen ++ take (done + size) content)
+shown-more Saw seen content now done size same saw =
+    let joined : (seen ++ take done content) ++ slice_range now done (done + size) ≡ seen ++ take (done + size) content =
+    ap (λ (l : List ℕ). (seen ++ take done content) ++ slice_range l done (done + size)) same
+    ∙ append_assoc seen (take done content) (slice_range content done (done + size))
+    ∙ ap (λ (l : List ℕ). seen ++ l) (ap (λ (l : List ℕ). take done content ++ l) (slice_range_is content done size) ∙ sym (take-add done size content)) in
+    subst (λ (l : List ℕ). Saw l) joined saw

@@ -17,6 +17,7 @@ mod paged;
 mod range;
 mod sink;
 mod source;
+mod watch;
 
 pub use counter::Counter;
 pub use fail_at::FailAt;
@@ -33,3 +34,4 @@ pub use paged::{CopyFault, Paged};
 pub use range::Region;
 pub use sink::{Sink, SinkFault, WriteSink, put_all};
 pub use source::{Source, SourceFault};
+pub use watch::Watch;

@@ -1,5 +1,5 @@
 //! A device and one buffer, through which everything passes in pieces.
-ghost use Rattle.std.specs.Prelude.{◌≡◌, ◌+◌, ◌/◌, ◌^◌, ◌<◌, ◌≤◌, ◌⊎◌, ◌↔◌, length, take, IsTrue, OnOk, OnErr, IfOk, IsErrOf, slice_range, replicate};
+ghost use Rattle.std.specs.Prelude.{◌≡◌, ℕ, List, ◌++◌, ◌+◌, ◌/◌, ◌^◌, ◌<◌, ◌≤◌, ◌⊎◌, ◌↔◌, length, take, IsTrue, OnOk, OnErr, IfOk, IsErrOf, slice_range, replicate};
 ghost use Rattle.flash_store.specs.Bytes.{overwritten, SameOutside, FirstWritten, PartWritten};
 ghost use Rattle.flash_store.specs.Device.{Calls, OneCall};
 ghost use Rattle.flash_store.specs.Output.{AppendsPart, AppendsPieces};
@@ -8,6 +8,7 @@ ghost use Rattle.std.specs.Io.KnownBytes.{Appends, Keeps};
 use crate::flash::{Flash, FlashFault, PIECE};
 use crate::sink::{Sink, SinkFault, put_all};
 use crate::source::{Source, SourceFault};
+use crate::watch::{Nobody, Watch};
 use flash_format::HEADER_LENGTH;
 use std::marker::Model;
 
@@ -361,24 +362,69 @@ impl<F: Flash> Paged<F> {
         ensures outside { IsTrue (F.facts self.old.device).honest →
             SameOutside at n (F.facts self.old.device).content (F.facts self.new.device).content }
     {
+        self.copy_in_watched(at, n, source, &mut Nobody)
+    }
+
+    /// The same in sight of a watcher, which is shown the bytes of each piece before they are written.
+    pub fn copy_in_watched<S: Source, W: Watch>(
+        &mut self,
+        at: u64,
+        n: u64,
+        source: &mut S,
+        watch: &mut W,
+    ) -> Result<(), CopyFault>
+        requires inside { at + n ≤ length (F.facts self.old.device).content }
+        requires in_source { n ≤ length (S.facts source.old).content }
+
+        ensures calls { Calls ((n + 4095) / 4096) (F.facts self.old.device) (F.facts self.new.device) }
+        ensures source_calls { Calls ((n + 4095) / 4096) (S.facts source.old) (S.facts source.new) }
+        ensures device { IsErrOf result CopyFault.Device →
+            (F.facts self.old.device).faults < (F.facts self.new.device).faults }
+        ensures source { IsErrOf result CopyFault.Source →
+            (S.facts source.old).faults < (S.facts source.new).faults }
+        ensures no_output { IsErrOf result CopyFault.Output → ⊥ }
+        ensures dropped { self.new.held ≡ Nothing }
+        ensures same_source { IsTrue (S.facts source.old).honest →
+            (S.facts source.new).content ≡ (S.facts source.old).content }
+
+        // On an honest device, from an honest source.
+        ensures copied { IsTrue (F.facts self.old.device).honest → IsTrue (S.facts source.old).honest →
+            OnOk result ((F.facts self.new.device).content
+            ≡ overwritten (F.facts self.old.device).content at (take n (S.facts source.old).content)) }
+        ensures stopped { IsTrue (F.facts self.old.device).honest → IsTrue (S.facts source.old).honest →
+            IsErrOf result CopyFault.Source → FirstWritten at (take n (S.facts source.old).content)
+            (F.facts self.old.device).content (F.facts self.new.device).content }
+        ensures part { IsTrue (F.facts self.old.device).honest → IsTrue (S.facts source.old).honest →
+            IsErrOf result CopyFault.Device → PartWritten at (take n (S.facts source.old).content)
+            (F.facts self.old.device).content (F.facts self.new.device).content }
+
+        // On an honest device, whatever the source.
+        ensures outside { IsTrue (F.facts self.old.device).honest →
+            SameOutside at n (F.facts self.old.device).content (F.facts self.new.device).content }
+
+        // From an honest source, whatever the device.
+        ensures shown { IsTrue (S.facts source.old).honest → (seen : List ℕ) → W.saw watch.old seen →
+            OnOk result (W.saw watch.new (seen ++ take n (S.facts source.old).content)) }
+    {
         self.forget();
         self.places_fit();
         let mut done = 0;
         while done < n {
             let size = (n - done).min(PIECE as u64);
-            self.copy_piece_in(at + done, done, size as usize, source)?;
+            self.copy_piece_in(at + done, done, size as usize, source, watch)?;
             done += size;
         }
         Ok(())
     }
 
     /// The same of at most 4096 bytes, from a place in the source on.
-    fn copy_piece_in<S: Source>(
+    fn copy_piece_in<S: Source, W: Watch>(
         &mut self,
         at: u64,
         from: u64,
         n: usize,
         source: &mut S,
+        watch: &mut W,
     ) -> Result<(), CopyFault>
         requires inside { at + n ≤ length (F.facts self.old.device).content }
         requires in_source { from + n ≤ length (S.facts source.old).content }
@@ -403,9 +449,12 @@ impl<F: Flash> Paged<F> {
             (F.facts self.new.device).content ≡ (F.facts self.old.device).content }
         ensures outside { IsTrue (F.facts self.old.device).honest →
             SameOutside at n (F.facts self.old.device).content (F.facts self.new.device).content }
+        ensures shown { IsTrue (S.facts source.old).honest → (seen : List ℕ) → W.saw watch.old seen →
+            OnOk result (W.saw watch.new (seen ++ slice_range (S.facts source.old).content from (from + n))) }
     {
         self.held = Buffered::Nothing;
         load_from(source, &mut self.buffer, from, n)?;
+        watch.see(&self.buffer[..n]);
         self.device.write_at(at, &self.buffer[..n])?;
         Ok(())
     }

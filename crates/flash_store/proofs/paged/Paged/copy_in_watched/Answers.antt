@@ -1,8 +1,8 @@
-use Rattle.std.proofs.Common.{◌∙◌, arith}
+use Rattle.std.proofs.Common.{◌∙◌, ◌++◌, take, arith}
 use Rattle.flash_store.proofs.BytesLemmas.{SameOutside-trans}
-use Rattle.flash_store.proofs.CopyLemmas.{CallsSoFar-more, CallsSoFar-at_most, Copied-more}
+use Rattle.flash_store.proofs.CopyLemmas.{CallsSoFar-more, CallsSoFar-at_most, Copied-more, shown-more}
 use Rattle.flash_store.proofs.DeviceLemmas.{honest_still}
-use Rattle.flash_store.proofs.paged.Paged.copy_in.Goals as goal
+use Rattle.flash_store.proofs.paged.Paged.copy_in_watched.Goals as goal
 
 pub loop-done-preserved : goal.loop-done-preserved
 loop-done-preserved g c =
@@ -19,6 +19,10 @@ loop-done-preserved g c =
           let now = c.in_ok-copy_piece_in.ensures.copied (honest_still had.calls.same_honesty h) (honest_still had.source_calls.same_honesty s) in
           Copied-more _ _ _ _ c.args.at c.loop-done.done c.min-size.result (omega (arith, left, c.requires.in_source)) (omega (arith, left, c.requires.inside)) (had.copied h s) (rw (had.same_source s) at now);
       outside = λ h. SameOutside-trans _ _ _ c.args.at c.args.n c.loop-done.done c.min-size.result (omega (arith, size, left)) (had.outside h) (piece.outside (honest_still had.calls.same_honesty h));
+      shown = λ s seen saw.
+          let still = honest_still had.source_calls.same_honesty s in
+          let more = c.in_ok-copy_piece_in.ensures.shown still (seen ++ take c.loop-done.done (g.S.Source.facts c.args.source.now).content) (had.shown s seen saw) in
+          shown-more (g.W.Watch.saw c.copy_piece_in.new.watch) seen _ _ c.loop-done.done c.min-size.result (had.same_source s) more;
     }
 
 pub returns-in_err-copy_piece_in-clause-outside : goal.returns-in_err-copy_piece_in-clause-outside
