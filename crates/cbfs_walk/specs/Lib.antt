@@ -7,4 +7,5 @@ pub mod Shaped
 pub mod AttrWalks
 pub mod Listed
 pub mod Finding
+pub mod Hashes
 pub mod Laws

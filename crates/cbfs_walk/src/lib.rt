@@ -6,6 +6,7 @@
 mod attribute_walk;
 mod cell;
 mod entry;
+mod hashes;
 mod laws;
 mod names;
 mod read;
@@ -14,6 +15,7 @@ mod walk;
 
 pub use attribute_walk::{AttrWalk, attributes, packing};
 pub use cell::Cell;
+pub use hashes::HashState;
 pub use laws::{cells_stand_in_their_image, readings_take_steps, walks_follow_the_cut};
 pub use names::{name, name_is};
 pub use search::{find, is_component};

@@ -1,0 +1,81 @@
+-- The digest that a component's hash attribute has of its content.
+-- The attribute is coreboot's `struct cbfs_file_attr_hash`: a number of an algorithm, big-endian, and the digest. The
+-- numbers are those of vboot's `enum vb2_hash_algorithm`, and the digests those of FIPS 180-4. Which algorithms are
+-- supported, and which lengths of the attribute are accepted, is this project's own.
+use Rattle.std.specs.Prelude.{ℕ, ◌+◌, List, length, slice_range, Option, Some, None, nat_le, ◌&&◌, ◌==◌, if◌then◌else◌}
+use Rattle.std.specs.List.{find}
+use Rattle.std.specs.Str.{bytes_eq}
+use Rattle.sha2.specs.Sha256.{sha256}
+use Rattle.sha2.specs.Sha512.{sha512}
+use Rattle.flash_format.specs.declared.digest.Digest.{Digest}
+use Rattle.flash_format.specs.declared.digest.Digest.TheVariants.{Sha256, Sha512}
+use Rattle.flash_format.specs.Head.{be32}
+use Rattle.flash_format.specs.Attributes.{Attribute, HASH}
+use Rattle.flash_format.specs.Made.{digest_bytes}
+use Rattle.cbfs_walk.specs.declared.cell.Cell.{Cell}
+use Rattle.cbfs_walk.specs.declared.hashes.HashState.{HashState}
+use Rattle.cbfs_walk.specs.declared.hashes.HashState.TheVariants.{Absent, Valid, Invalid, Unsupported}
+use Rattle.cbfs_walk.specs.Listed.{Placed, first_of}
+
+-- ---- digests
+
+-- the digests of bytes, each under a name of its own, so that no goal opens the standard's definitions
+unfoldable pub sha256_of : List ℕ → Digest
+sha256_of bytes = Sha256 (sha256 bytes)
+
+unfoldable pub sha512_of : List ℕ → Digest
+sha512_of bytes = Sha512 (sha512 bytes)
+
+-- the digest of bytes by the algorithm of another digest
+abbrev pub digest_like : Digest → List ℕ → Digest
+digest_like (Sha256 other) bytes = sha256_of bytes
+digest_like (Sha512 other) bytes = sha512_of bytes
+
+-- ---- what a hash attribute says
+
+-- the digest in the data of a hash attribute, after the algorithm: 32 bytes of SHA-256 (2) or 64 of SHA-512 (3), where
+-- the data is as long
+unfoldable pub stored_digest : List ℕ → Option Digest
+stored_digest data =
+    if be32 0 data == 2 && nat_le 36 (length data) then Some (Sha256 (slice_range data 4 36))
+    else (if be32 0 data == 3 && nat_le 68 (length data) then Some (Sha512 (slice_range data 4 68))
+    else None)
+
+-- a stored digest, and the digest of the content
+abbrev pub compared : Digest → Digest → HashState
+compared stored computed = if bytes_eq (digest_bytes stored) (digest_bytes computed) then Valid stored else Invalid stored
+
+-- content beside the digest that is stored of it
+abbrev pub state_by : Option Digest → List ℕ → HashState
+state_by None content = Unsupported
+state_by (Some stored) content = compared stored (digest_like stored content)
+
+-- the same by the attribute
+abbrev pub state_of : Option Attribute → List ℕ → HashState
+state_of None content = Absent
+state_of (Some a) content = state_by (stored_digest a.contents) content
+
+-- the first hash attribute
+abbrev pub hash_in : List Attribute → Option Attribute
+hash_in all = find (λ a. a.tag == HASH) all
+
+-- what the first hash attribute among a component's attributes says of its content, as it is stored
+abbrev pub hash_state : List Attribute → List ℕ → HashState
+hash_state all content = state_of (hash_in all) content
+
+-- ---- the same of a component in a region
+
+-- the data of an attribute
+abbrev pub data_at : List ℕ → Placed → List ℕ
+data_at x found = slice_range x (found.0 + 8) (found.0 + found.1.len)
+
+abbrev pub content_at : List ℕ → Cell → List ℕ
+content_at x c = slice_range x (c.at + c.head.offset) (c.at + (c.head.offset + c.head.len))
+
+abbrev pub state_at : List ℕ → Cell → Option Placed → HashState
+state_at x c None = Absent
+state_at x c (Some found) = state_by (stored_digest (data_at x found)) (content_at x c)
+
+-- what the first hash attribute of a component says of its content, in a region of these bytes
+abbrev pub hash_state_in : List ℕ → Cell → HashState
+hash_state_in x c = state_at x c (first_of x c HASH)
