@@ -36,9 +36,9 @@ digest_like (Sha512 other) bytes = sha512_of bytes
 -- the digest in the data of a hash attribute, after the algorithm: 32 bytes of SHA-256 (2) or 64 of SHA-512 (3), where
 -- the data is as long
 unfoldable pub stored_digest : List ℕ → Option Digest
-stored_digest data =
-    if be32 0 data == 2 && nat_le 36 (length data) then Some (Sha256 (slice_range data 4 36))
-    else (if be32 0 data == 3 && nat_le 68 (length data) then Some (Sha512 (slice_range data 4 68))
+stored_digest contents =
+    if be32 0 contents == 2 && nat_le 36 (length contents) then Some (Sha256 (slice_range contents 4 36))
+    else (if be32 0 contents == 3 && nat_le 68 (length contents) then Some (Sha512 (slice_range contents 4 68))
     else None)
 
 -- a stored digest, and the digest of the content
