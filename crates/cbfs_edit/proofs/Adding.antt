@@ -8,12 +8,15 @@ use Rattle.flash_store.specs.declared.paged.CopyFault.{CopyFault}
 use Rattle.flash_store.specs.declared.paged.CopyFault.TheVariants as copies
 use Rattle.flash_store.proofs.DeviceLemmas.{length-bytes_in}
 use Rattle.flash_store.proofs.RegionLemmas.{image_is}
+use Rattle.sha2.proofs.Facts256.{length-sha256}
+use Rattle.sha2.proofs.Facts512.{length-sha512}
+use Rattle.cbfs_walk.specs.Hashes.{sha256_of, sha512_of}
 use Rattle.cbfs_edit.specs.Places.{placing_in}
 use Rattle.cbfs_edit.specs.Stops.{AddLeavesBefore, AddLeavesWhole}
 use Rattle.cbfs_edit.specs.Additions.{NewComponent, added, added_to, addition_in, after_addition, attribute_len, digest_of, kept_from, new_component, own_fault}
 use Rattle.cbfs_edit.specs.Insertions.{EndsAlike, IsOldOrBlanked}
 use Rattle.cbfs_edit.specs.declared.addition.HashChoice.{HashChoice}
-use Rattle.cbfs_edit.specs.declared.addition.HashChoice.TheVariants.{Plain}
+use Rattle.cbfs_edit.specs.declared.addition.HashChoice.TheVariants.{Plain, Sha256, Sha512}
 use Rattle.cbfs_edit.specs.declared.fault.EditFault.{EditFault}
 use Rattle.cbfs_edit.specs.declared.fault.EditFault.TheVariants as faults
 use Rattle.cbfs_edit.specs.declared.place.Spot.{Spot}
@@ -22,7 +25,10 @@ use Rattle.cbfs_edit.proofs.Insertions.{attribute-is}
 use Rattle.cbfs_edit.proofs.Added.{own-fine, accepted_size, add_leaves_before, add_leaves_done}
 
 pub digest-sized : (hash : HashChoice) (content : List ℕ) → IsDigest (digest_of hash content)
+unfolding sha256_of sha512_of
 digest-sized Plain content = tt
+digest-sized Sha256 content = length-sha256 content
+digest-sized Sha512 content = length-sha512 content
 
 -- no fault of the caller's own
 pub no_fault : (o : Option EditFault) → ((fault : EditFault) → o ≡ Some fault → ⊥) → None ≡ o

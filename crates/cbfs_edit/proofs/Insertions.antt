@@ -8,13 +8,14 @@ use Rattle.flash_format.specs.declared.digest.Digest.{Digest}
 use Rattle.flash_format.specs.declared.meta.Meta.{Meta}
 use Rattle.flash_format.specs.Made.{hash_len, meta_length, made_front, described, described_len, pointed}
 use Rattle.flash_store.specs.Bytes.{overwritten, SameOutside}
+use Rattle.cbfs_walk.specs.Hashes.{sha256_of, sha512_of}
 use Rattle.cbfs_edit.specs.Groups.{IsCellRange}
 use Rattle.cbfs_edit.specs.Placings.{Fits}
 use Rattle.cbfs_edit.specs.Removals.{last_four, kept_at, removed}
 use Rattle.cbfs_edit.specs.Stops.{IsBlanked}
 use Rattle.cbfs_edit.specs.Additions.{NewComponent, added, blank_between, attribute_len, digest_of, header_of, kept_from}
 use Rattle.cbfs_edit.specs.declared.addition.HashChoice.{HashChoice}
-use Rattle.cbfs_edit.specs.declared.addition.HashChoice.TheVariants.{Plain}
+use Rattle.cbfs_edit.specs.declared.addition.HashChoice.TheVariants.{Plain, Sha256, Sha512}
 use Rattle.cbfs_edit.specs.Insertions.{HasRoom, ChangesFrom, EndsAlike, IsUnfinished, finished, touched_to}
 use Rattle.cbfs_edit.specs.declared.group.Freed.{Freed}
 use Rattle.cbfs_edit.specs.declared.place.Place.{Place}
@@ -43,10 +44,15 @@ removed-blanked x run range =
 
 -- the attribute of a digest
 pub attribute-is : (hash : HashChoice) (content : List ℕ) → attribute_len hash ≡ hash_len (digest_of hash content)
+unfolding sha256_of sha512_of
 attribute-is Plain content = refl
+attribute-is Sha256 content = refl
+attribute-is Sha512 content = refl
 
 pub attribute-short : (hash : HashChoice) → attribute_len hash ≤ 76
 attribute-short Plain = omega arith
+attribute-short Sha256 = omega arith
+attribute-short Sha512 = omega arith
 
 -- where a component fits there is room for its front
 pub room-for : (size k a : ℕ) (wanted : Wanted) (place : Place) (end front : ℕ) → size < 2 ^ 32 → Fits wanted size place → k ≤ 127 → a ≤ 76 → wanted.header ≡ meta_length k a

@@ -9,10 +9,11 @@ use Rattle.flash_format.specs.Placings.{HasOneMore, made_component, space_cells}
 use Rattle.flash_format.specs.Splices.{AllFree, CellsBetween}
 use Rattle.flash_format.specs.declared.digest.Digest.{Digest}
 use Rattle.flash_store.specs.Bytes.{overwritten}
+use Rattle.cbfs_walk.specs.Hashes.{sha256_of, sha512_of}
 use Rattle.cbfs_edit.specs.Removals.{kept_at}
 use Rattle.cbfs_edit.specs.Places.{placing_in}
 use Rattle.cbfs_edit.specs.declared.addition.HashChoice.{HashChoice}
-use Rattle.cbfs_edit.specs.declared.addition.HashChoice.TheVariants.{Plain}
+use Rattle.cbfs_edit.specs.declared.addition.HashChoice.TheVariants.{Plain, Sha256, Sha512}
 use Rattle.cbfs_edit.specs.declared.addition.Placed.{Placed}
 use Rattle.cbfs_edit.specs.declared.addition.Label.{Label}
 use Rattle.cbfs_edit.specs.declared.fault.EditFault.{EditFault}
@@ -32,10 +33,14 @@ pub record NewComponent : Type 0 where
 -- the digest that is stored of a content
 abbrev pub digest_of : HashChoice → List ℕ → Option Digest
 digest_of Plain content = None
+digest_of Sha256 content = Some (sha256_of content)
+digest_of Sha512 content = Some (sha512_of content)
 
 -- how many bytes its attribute has
 abbrev pub attribute_len : HashChoice → ℕ
 attribute_len Plain = 0
+attribute_len Sha256 = 44
+attribute_len Sha512 = 76
 
 abbrev pub new_component : List ℕ → ℕ → HashChoice → List ℕ → NewComponent
 new_component name kind hash content = record { name = name; kind = kind; digest = digest_of hash content; content = content }

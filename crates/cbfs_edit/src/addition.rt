@@ -15,17 +15,23 @@ ghost use Rattle.cbfs_edit.specs.Stops.{AddLeavesBefore, AddLeavesWhole};
 
 use crate::blank::write_blank;
 use crate::fault::EditFault;
+use crate::hashing::Hashing;
 use crate::insertion::describe;
 use crate::place::{Place, Spot, Wanted, find_place};
 use crate::write::copy_into;
 use flash_format::{Digest, Meta, meta_len};
-use flash_store::{CopyFault, Flash, Paged, Region, Source};
+use flash_store::{CopyFault, Flash, Nobody, Paged, Region, Source};
+use sha2::{Sha256, Sha512};
 
 /// The digest that is stored beside a content.
 #[derive(Clone, Copy, Debug, PartialEq, Eq)]
 pub enum HashChoice {
     /// None is stored.
     Plain,
+    /// The digest of SHA-256, in an attribute of 44 bytes.
+    Sha256,
+    /// The digest of SHA-512, in an attribute of 76 bytes.
+    Sha512,
 }
 
 /// Where a new component stands, counted from the region's start: its header, at a multiple of 64, and its content.
@@ -44,7 +50,8 @@ pub struct Label<'a> {
     pub hash: HashChoice,
 }
 
-/// Copies the whole source to a place, and answers the digest that is to be stored of it.
+/// Copies the whole source to a place, and answers the digest that is to be stored of it, taken in the same pass.
+#[tactic(auto, unfolding(cbfs_walk::specs::Hashes::sha256_of, cbfs_walk::specs::Hashes::sha512_of))]
 fn copy_content<F: Flash, S: Source>(
     paged: &mut Paged<F>,
     region: Region,
@@ -79,8 +86,18 @@ fn copy_content<F: Flash, S: Source>(
 {
     match hash {
         HashChoice::Plain => {
-            copy_into(paged, region, at, source)?;
+            copy_into(paged, region, at, source, &mut Nobody)?;
             Ok(None)
+        }
+        HashChoice::Sha256 => {
+            let mut hashing = Hashing::<Sha256>::new();
+            copy_into(paged, region, at, source, &mut hashing)?;
+            Ok(Some(Digest::Sha256(hashing.finish())))
+        }
+        HashChoice::Sha512 => {
+            let mut hashing = Hashing::<Sha512>::new();
+            copy_into(paged, region, at, source, &mut hashing)?;
+            Ok(Some(Digest::Sha512(hashing.finish())))
         }
     }
 }
@@ -209,6 +226,8 @@ fn attribute_len(hash: HashChoice) -> usize
 {
     match hash {
         HashChoice::Plain => 0,
+        HashChoice::Sha256 => 44,
+        HashChoice::Sha512 => 76,
     }
 }
 

@@ -9,6 +9,7 @@ mod blank;
 mod fault;
 mod formatting;
 mod group;
+mod hashing;
 mod insertion;
 mod laws;
 mod place;

@@ -1,12 +1,12 @@
 //! Writes at places of a region.
-ghost use Rattle.std.specs.Prelude.{◌≡◌, ◌⊎◌, ◌+◌, ◌/◌, ◌<◌, ◌≤◌, length, IsTrue, IsErrOf, OnOk, OnErr, replicate};
+ghost use Rattle.std.specs.Prelude.{◌≡◌, ◌⊎◌, ℕ, List, ◌++◌, ◌+◌, ◌/◌, ◌<◌, ◌≤◌, length, IsTrue, IsErrOf, OnOk, OnErr, replicate};
 ghost use Rattle.flash_format.specs.Head.{header_length};
 ghost use Rattle.flash_store.specs.Bytes.{overwritten, SameOutside};
 ghost use Rattle.flash_store.specs.Device.{Calls};
 ghost use Rattle.flash_store.specs.Regions.{LiesIn, bytes_in};
 
 use flash_format::HEADER_LENGTH;
-use flash_store::{CopyFault, Flash, FlashFault, MemSource, Paged, Region, Source};
+use flash_store::{CopyFault, Flash, FlashFault, MemSource, Nobody, Paged, Region, Source, Watch};
 
 /// Replaces the bytes of a header, whole or not at all.
 pub fn commit_in<F: Flash>(
@@ -65,12 +65,13 @@ pub fn fill_in<F: Flash>(
     paged.fill(region.start() + at, n, byte)
 }
 
-/// Copies a whole source to a place. Where a write fails, its piece may hold anything.
-pub fn copy_into<F: Flash, S: Source>(
+/// Copies a whole source to a place, in sight of a watcher. Where a write fails, its piece may hold anything.
+pub fn copy_into<F: Flash, S: Source, W: Watch>(
     paged: &mut Paged<F>,
     region: Region,
     at: u64,
     source: &mut S,
+    watch: &mut W,
 ) -> Result<(), CopyFault>
     requires region { LiesIn region (F.facts paged.old.device).content }
     requires inside { at + length (S.facts source.old).content ≤ region.size }
@@ -93,10 +94,14 @@ pub fn copy_into<F: Flash, S: Source>(
     ensures torn { IsTrue (F.facts paged.old.device).honest →
         SameOutside at (length (S.facts source.old).content) (bytes_in region (F.facts paged.old.device).content)
         (bytes_in region (F.facts paged.new.device).content) }
+
+    // From an honest source, whatever the device.
+    ensures shown { IsTrue (S.facts source.old).honest → (seen : List ℕ) → W.saw watch.old seen →
+        OnOk result (W.saw watch.new (seen ++ (S.facts source.old).content)) }
 {
     paged.places_fit();
     let n = source.len();
-    paged.copy_in(region.start() + at, n, source)
+    paged.copy_in_watched(region.start() + at, n, source, watch)
 }
 
 /// Writes a few bytes at a place. A refused write may leave anything in its range.
@@ -124,7 +129,7 @@ pub fn write_in<F: Flash>(
         (bytes_in region (F.facts paged.new.device).content) }
 {
     let mut source = MemSource::new(bytes);
-    match copy_into(paged, region, at, &mut source) {
+    match copy_into(paged, region, at, &mut source, &mut Nobody) {
         Ok(()) => Ok(()),
         Err(_) => Err(FlashFault),
     }

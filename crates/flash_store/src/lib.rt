@@ -34,4 +34,4 @@ pub use paged::{CopyFault, Paged};
 pub use range::Region;
 pub use sink::{Sink, SinkFault, WriteSink, put_all};
 pub use source::{Source, SourceFault};
-pub use watch::Watch;
+pub use watch::{Nobody, Watch};

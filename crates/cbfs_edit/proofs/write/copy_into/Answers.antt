@@ -7,18 +7,18 @@ use Rattle.cbfs_edit.proofs.write.copy_into.Goals as goal
 
 pub returns-clause-outside : goal.returns-clause-outside
 returns-clause-outside g c honest =
-    outside_of c.args.region (g.F.Flash.facts c.args.paged.now.device).content (g.F.Flash.facts c.copy_in.new.self.device).content (c.start.result + c.args.at) c.args.at c.len-n.result
-    (omega arith) (omega (arith, c.requires.inside, c.len-n.ensures.length)) (c.copy_in.ensures.outside honest)
+    outside_of c.args.region (g.F.Flash.facts c.args.paged.now.device).content (g.F.Flash.facts c.copy_in_watched.new.self.device).content (c.start.result + c.args.at) c.args.at c.len-n.result
+    (omega arith) (omega (arith, c.requires.inside, c.len-n.ensures.length)) (c.copy_in_watched.ensures.outside honest)
 
 pub returns-clause-copied : goal.returns-clause-copied
 returns-clause-copied g c honest source_honest =
     let content : List ℕ = (g.S.Source.facts c.args.source.now).content in
     let all : take c.len-n.result content ≡ content = take_all c.len-n.result content (omega (arith, c.len-n.ensures.length)) in
-    written_ok c.copy_in.result c.args.region (g.F.Flash.facts c.args.paged.now.device).content _ (c.start.result + c.args.at) c.args.at (length content) content
+    written_ok c.copy_in_watched.result c.args.region (g.F.Flash.facts c.args.paged.now.device).content _ (c.start.result + c.args.at) c.args.at (length content) content
     c.requires.region (omega arith) refl c.requires.inside
-    (on_ok_weaker c.copy_in.result (λ e. e ∙ ap (λ (l : List ℕ). overwritten (g.F.Flash.facts c.args.paged.now.device).content (c.start.result + c.args.at) l) all) (c.copy_in.ensures.copied honest source_honest))
+    (on_ok_weaker c.copy_in_watched.result (λ e. e ∙ ap (λ (l : List ℕ). overwritten (g.F.Flash.facts c.args.paged.now.device).content (c.start.result + c.args.at) l) all) (c.copy_in_watched.ensures.copied honest source_honest))
 
 pub returns-clause-torn : goal.returns-clause-torn
 returns-clause-torn g c honest =
-    changed_at c.args.region (g.F.Flash.facts c.args.paged.now.device).content (g.F.Flash.facts c.copy_in.new.self.device).content (c.start.result + c.args.at) c.args.at (length (g.S.Source.facts c.args.source.now).content)
-    (omega arith) c.requires.inside (rw c.len-n.ensures.length at (c.copy_in.ensures.outside honest))
+    changed_at c.args.region (g.F.Flash.facts c.args.paged.now.device).content (g.F.Flash.facts c.copy_in_watched.new.self.device).content (c.start.result + c.args.at) c.args.at (length (g.S.Source.facts c.args.source.now).content)
+    (omega arith) c.requires.inside (rw c.len-n.ensures.length at (c.copy_in_watched.ensures.outside honest))

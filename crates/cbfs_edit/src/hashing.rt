@@ -1,0 +1,35 @@
+//! Hashers that are shown what is copied.
+ghost use Rattle.std.specs.Prelude.{◌≡◌, ℕ, List, []};
+
+use flash_store::Watch;
+use sha2::Digest;
+
+/// A hasher that is shown what is copied.
+#[derive(Drop)]
+pub struct Hashing<H: Digest> {
+    hasher: H,
+}
+
+impl<H: Digest> Hashing<H> {
+    /// One that was shown nothing yet.
+    pub fn new() -> Hashing<H>
+        ensures { H.holds result.hasher [] }
+    {
+        Hashing { hasher: H::new() }
+    }
+
+    /// The digest of what it was shown.
+    pub fn finish(self) -> H::Output
+        ensures { (seen : List ℕ) → H.holds self.hasher seen → H.digest_of seen result }
+    {
+        self.hasher.finalize()
+    }
+}
+
+impl<H: Digest> Watch for Hashing<H> {
+    ghost saw = { λ w seen. H.holds w.hasher seen };
+
+    fn see(&mut self, bytes: &[u8]) {
+        self.hasher.update(bytes);
+    }
+}
