@@ -8,7 +8,7 @@ use Rattle.clap.proofs.OnLiterals.{clap_on_literals}
 use Rattle.cbfs_commands.specs.Requests.{Request, print, layout, extract, add, remove, read, write}
 use Rattle.flash_format.specs.Numbers.{number_of}
 use Rattle.flash_format.specs.TypeNames.{type_of_text}
-use Rattle.cbfs_edit.specs.declared.addition.HashChoice.TheVariants.{Plain}
+use Rattle.cbfs_edit.specs.declared.addition.HashChoice.TheVariants.{Plain, Sha256}
 use Rattle.cbfs_edit.specs.declared.place.Spot.TheVariants.{Aligned, Fixed}
 use Rattle.cbfs_commands.specs.declared.refusal.Refusal.{Refusal}
 use Rattle.cbfs_commands.specs.declared.refusal.Refusal.TheVariants as refusals
@@ -41,8 +41,8 @@ an_empty_name : asked_by (codes "img" ∷ codes "extract" ∷ codes "-f" ∷ cod
 unfolding clap_on_literals
 an_empty_name = refl
 
-an_addition : asked_by (codes "img" ∷ codes "add" ∷ codes "-n" ∷ codes "a" ∷ codes "-f" ∷ codes "x" ∷ codes "-t" ∷ codes "0x50" ∷ codes "-a" ∷ codes "0x40" ∷ [])
-    ≡ Some (Ok (add (record { region = codes "COREBOOT"; name = codes "a"; kind = 0x50; hash = Plain; spot = Aligned 64 })))
+an_addition : asked_by (codes "img" ∷ codes "add" ∷ codes "-n" ∷ codes "a" ∷ codes "-f" ∷ codes "x" ∷ codes "-t" ∷ codes "0x50" ∷ codes "-a" ∷ codes "0x40" ∷ codes "-A" ∷ codes "sha256" ∷ [])
+    ≡ Some (Ok (add (record { region = codes "COREBOOT"; name = codes "a"; kind = 0x50; hash = Sha256; spot = Aligned 64 })))
 unfolding clap_on_literals number_of type_of_text
 an_addition = refl
 
@@ -63,6 +63,10 @@ a_bad_number = refl
 an_unknown_type : asked_by (codes "img" ∷ codes "add" ∷ codes "-n" ∷ codes "a" ∷ codes "-f" ∷ codes "x" ∷ codes "-t" ∷ codes "rw" ∷ []) ≡ Some (Err refusals.Usage)
 unfolding clap_on_literals number_of type_of_text
 an_unknown_type = refl
+
+an_unknown_digest : asked_by (codes "img" ∷ codes "add" ∷ codes "-n" ∷ codes "a" ∷ codes "-f" ∷ codes "x" ∷ codes "-t" ∷ codes "raw" ∷ codes "-A" ∷ codes "sha1" ∷ []) ≡ Some (Err refusals.Usage)
+unfolding clap_on_literals number_of type_of_text
+an_unknown_digest = refl
 
 an_addition_needs_a_type : fault_of command_line (codes "add" ∷ codes "-n" ∷ codes "a" ∷ codes "-f" ∷ codes "x" ∷ []) ≡ kinds.MissingRequiredArgument ∷ []
 unfolding clap_on_literals

@@ -10,7 +10,8 @@ use Rattle.clap.specs.declared.error.ErrorKind.{ErrorKind}
 use Rattle.clap.specs.declared.error.ErrorKind.TheVariants.{OutOfMemory}
 use Rattle.flash_format.specs.Numbers.{number_of}
 use Rattle.flash_format.specs.TypeNames.{type_of_text}
-use Rattle.cbfs_edit.specs.declared.addition.HashChoice.TheVariants.{Plain}
+use Rattle.cbfs_edit.specs.declared.addition.HashChoice.{HashChoice}
+use Rattle.cbfs_edit.specs.declared.addition.HashChoice.TheVariants.{Plain, Sha256, Sha512}
 use Rattle.cbfs_edit.specs.declared.place.Spot.{Spot}
 use Rattle.cbfs_edit.specs.declared.place.Spot.TheVariants.{First, Aligned, Fixed}
 use Rattle.cbfs_commands.specs.Requests.{Request, asked}
@@ -42,6 +43,9 @@ alignment_option = option_of (codes "alignment") 97 false
 abbrev pub base_option : Rule
 base_option = option_of (codes "base") 98 false
 
+abbrev pub hash_option : Rule
+hash_option = option_of (codes "hash") 65 false
+
 -- a subcommand of a name with these options
 abbrev pub subcommand_of : List ℕ → List Rule → Shape
 subcommand_of name options = record (new_shape name) { rules = options }
@@ -51,7 +55,7 @@ subcommands =
     subcommand_of (codes "print") (region_option ∷ [])
     ∷ subcommand_of (codes "layout") []
     ∷ subcommand_of (codes "extract") (region_option ∷ file_option ∷ name_option ∷ [])
-    ∷ subcommand_of (codes "add") (region_option ∷ name_option ∷ file_option ∷ type_option ∷ alignment_option ∷ base_option ∷ [])
+    ∷ subcommand_of (codes "add") (region_option ∷ name_option ∷ file_option ∷ type_option ∷ alignment_option ∷ base_option ∷ hash_option ∷ [])
     ∷ subcommand_of (codes "remove") (region_option ∷ name_option ∷ [])
     ∷ subcommand_of (codes "read") (region_option ∷ file_option ∷ [])
     ∷ subcommand_of (codes "write") (region_option ∷ file_option ∷ [])
@@ -108,14 +112,25 @@ spot_by (Some alignment) None = option_map Aligned (number_of alignment)
 spot_by None (Some base) = option_map Fixed (number_of base)
 spot_by (Some alignment) (Some base) = None
 
-abbrev pub addition_by : List ℕ → List ℕ → Option ℕ → Option Spot → Result Request Refusal
-addition_by region name (Some kind) (Some spot) = Ok (requests.add (record { region = region; name = name; kind = kind; hash = Plain; spot = spot }))
-addition_by region name _ _ = Err refusals.Usage
+-- the digest that a text names
+abbrev pub hash_named : List ℕ → Option HashChoice
+hash_named text =
+    if bytes_eq text (codes "sha256") then Some Sha256
+    else (if bytes_eq text (codes "sha512") then Some Sha512 else None)
+
+-- none is stored without `-A`
+abbrev pub hash_by : Option (List ℕ) → Option HashChoice
+hash_by None = Some Plain
+hash_by (Some text) = hash_named text
+
+abbrev pub addition_by : List ℕ → List ℕ → Option ℕ → Option HashChoice → Option Spot → Result Request Refusal
+addition_by region name (Some kind) (Some hash) (Some spot) = Ok (requests.add (record { region = region; name = name; kind = kind; hash = hash; spot = spot }))
+addition_by region name _ _ _ = Err refusals.Usage
 
 -- a new component, where its name and its file are there
-abbrev pub addition : List ℕ → Option (List ℕ) → Option (List ℕ) → Option ℕ → Option Spot → Result Request Refusal
-addition region (Some name) (Some file) kind spot = addition_by region name kind spot
-addition region _ _ kind spot = Err refusals.Usage
+abbrev pub addition : List ℕ → Option (List ℕ) → Option (List ℕ) → Option ℕ → Option HashChoice → Option Spot → Result Request Refusal
+addition region (Some name) (Some file) kind hash spot = addition_by region name kind hash spot
+addition region _ _ kind hash spot = Err refusals.Usage
 
 abbrev pub removal : List ℕ → Option (List ℕ) → Result Request Refusal
 removal region None = Err refusals.Usage
@@ -128,7 +143,7 @@ command_of t =
     else (if bytes_eq t.subcommand (codes "layout") then Ok requests.layout
     else (if bytes_eq t.subcommand (codes "extract") then extraction (region_named t) (text_of (codes "name") t) (text_of (codes "file") t)
     else (if bytes_eq t.subcommand (codes "add") then
-        addition (region_named t) (text_of (codes "name") t) (text_of (codes "file") t) (kind_by (text_of (codes "type") t)) (spot_by (text_of (codes "alignment") t) (text_of (codes "base") t))
+        addition (region_named t) (text_of (codes "name") t) (text_of (codes "file") t) (kind_by (text_of (codes "type") t)) (hash_by (text_of (codes "hash") t)) (spot_by (text_of (codes "alignment") t) (text_of (codes "base") t))
     else (if bytes_eq t.subcommand (codes "remove") then removal (region_named t) (text_of (codes "name") t)
     else (if bytes_eq t.subcommand (codes "read") then given (text_of (codes "file") t) (requests.read (region_named t))
     else (if bytes_eq t.subcommand (codes "write") then given (text_of (codes "file") t) (requests.write (region_named t))

@@ -2,7 +2,7 @@
 
 ghost use Rattle.std.specs.Prelude.{◌≡◌, ◌≢◌, ◌⊎◌, [], Some, IfOk, IfErr, codes, drop, map, option_map, true};
 ghost use Rattle.clap.specs.Words.{fault_of, has_subcommand, kind_of, subcommand_rows_of};
-ghost use Rattle.cbfstool.specs.CommandLine.{addition, command_line, command_of, kind_by, refusal_by, seen, spot_by, text_of, texts_of, with_image};
+ghost use Rattle.cbfstool.specs.CommandLine.{addition, command_line, command_of, hash_by, kind_by, refusal_by, seen, spot_by, text_of, texts_of, with_image};
 
 use crate::words::whole_command;
 use cbfs_commands::{Command, Refusal};
@@ -93,17 +93,18 @@ impl<'a> Line<'a> {
     fn addition(&self, region: &'a [u8]) -> Result<Command<'a>, Refusal>
         ensures { seen result ≡ addition region.entry.now (text_of (codes "name") self.now)
             (text_of (codes "file") self.now) (kind_by (text_of (codes "type") self.now))
+            (hash_by (text_of (codes "hash") self.now))
             (spot_by (text_of (codes "alignment") self.now) (text_of (codes "base") self.now)) }
     {
         let (Some(name), Some(_)) = (self.option("name"), self.file()) else {
             return Err(Refusal::Usage);
         };
-        match (self.kind(), self.spot()) {
-            (Some(kind), Some(spot)) => Ok(Command::Add {
+        match (self.kind(), self.hash(), self.spot()) {
+            (Some(kind), Some(hash), Some(spot)) => Ok(Command::Add {
                 region,
                 name: name.as_bytes(),
                 kind,
-                hash: HashChoice::Plain,
+                hash,
                 spot,
             }),
             _ => Err(Refusal::Usage),
@@ -117,6 +118,18 @@ impl<'a> Line<'a> {
         match self.option("type") {
             Some(text) => type_number(text),
             None => None,
+        }
+    }
+
+    /// The digest that `-A` asks for.
+    fn hash(&self) -> Option<HashChoice>
+        ensures { result ≡ hash_by (text_of (codes "hash") self.now) }
+    {
+        match self.option("hash") {
+            None => Some(HashChoice::Plain),
+            Some("sha256") => Some(HashChoice::Sha256),
+            Some("sha512") => Some(HashChoice::Sha512),
+            Some(_) => None,
         }
     }
 

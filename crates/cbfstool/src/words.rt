@@ -53,6 +53,12 @@ const BASE: TextOption = TextOption {
     required: false,
 };
 
+const HASH: TextOption = TextOption {
+    id: "hash",
+    letter: 'A',
+    required: false,
+};
+
 /// A subcommand's name and its options.
 type TableRow = (&'static str, &'static [TextOption]);
 
@@ -60,7 +66,10 @@ const SUBCOMMANDS: [TableRow; 7] = [
     ("print", &[REGION]),
     ("layout", &[]),
     ("extract", &[REGION, FILE, NAME]),
-    ("add", &[REGION, NAME, FILE, TYPE, ALIGNMENT, BASE]),
+    (
+        "add",
+        &[REGION, NAME, FILE, TYPE, ALIGNMENT, BASE, HASH],
+    ),
     ("remove", &[REGION, NAME]),
     ("read", &[REGION, FILE]),
     ("write", &[REGION, FILE]),
