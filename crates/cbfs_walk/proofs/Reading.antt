@@ -3,8 +3,8 @@ use Rattle.std.proofs.Common.{◌≡◌, ℕ, ◌+◌, ◌-◌, ◌*◌, ◌/◌
 use Rattle.std.specs.Prelude.{IfOk, OnErr, IsErrAnd}
 use Rattle.flash_store.specs.Device.{Device}
 use Rattle.flash_store.specs.Pages.{Pages, HasRead, HasAnswered, HasSeen}
-use Rattle.flash_store.specs.Scans.{HasSpent, ScansTo, SpendsTo}
-use Rattle.flash_store.proofs.WindowLemmas.{HasRead-then, HasRead-within, HasScanned-none, ScansTo-none, ScansTo-on, SpendsTo-on, ScansTo-more, SpendsTo-more, ScansTo-then, SpendsTo-then, ScansTo-spends}
+use Rattle.flash_store.specs.Scans.{ScansTo}
+use Rattle.flash_store.proofs.WindowLemmas.{HasRead-then, HasRead-within, ScansTo-none, ScansTo-on, SpendsTo-on, ScansTo-left, ScansTo-faults, ScansTo-more, SpendsTo-more, ScansTo-then, SpendsTo-then, ScansTo-spends, SpendsTo-reads}
 use Rattle.flash_store.specs.Regions.{Range, LiesIn}
 use Rattle.cbfs_walk.specs.Passing.{HasPassed, reads_over}
 
@@ -69,33 +69,16 @@ HasPassed-then facts at place next end old mid new (Ok x) le first p =
     record { spends = SpendsTo-then facts at next end old mid new on p.spends; scans = ScansTo-then facts at next end old mid new on p.scans; cause = tt }
 HasPassed-then facts at place next end old mid new (Err e) le first p =
     let on = ScansTo-on facts at place next old mid le first in
-    record { spends = SpendsTo-then facts at next end old mid new on p.spends; scans = tt; cause = omega (arith, (on.on at old (HasScanned-none facts at old)).spent.read.device.calls.faults, p.cause) }
+    record { spends = SpendsTo-then facts at next end old mid new on p.spends; scans = tt; cause = omega (arith, ScansTo-faults facts at next old mid on, p.cause) }
 
 -- the calls of reads in order
-pub SpendsTo-over : {F : Type 0} (facts : F → Device) (at end n : ℕ) (old new : Pages F) → end < at + 3840 * n → SpendsTo facts at end old new → HasRead facts n old new
-SpendsTo-over facts at end n old new few spends =
-    let spent : HasSpent facts at end old new = spends.on at old (HasScanned-none facts at old) in record {
-      device = record {
-        calls = record {
-          no_fewer = spent.read.device.calls.no_fewer;
-          no_more = omega (arith, spent.calls, spent.above, few);
-          faults = spent.read.device.calls.faults;
-          same_honesty = spent.read.device.calls.same_honesty;
-          same_length = spent.read.device.calls.same_length;
-        };
-        unchanged = spent.read.device.unchanged;
-      };
-      window = spent.read.window;
-    }
-
 pub HasPassed-answers : {F T E : Type 0} (facts : F → Device) (at end n : ℕ) (old new : Pages F) (result : Result T E) → end < at + 3840 * n → HasPassed facts at end old new result → HasAnswered facts n old new result
-HasPassed-answers facts at end n old new result few p = record { read = SpendsTo-over facts at end n old new few p.spends; cause = p.cause }
+HasPassed-answers facts at end n old new result few p = record { read = SpendsTo-reads facts at end n old new few p.spends; cause = p.cause }
 
 -- what such reads leave as it was
 pub ScansTo-reads : {F : Type 0} (facts : F → Device) (at end : ℕ) (old new : Pages F) → ScansTo facts at end old new → HasRead facts (reads_over (end - at)) old new
 ScansTo-reads facts at end old new scans =
-    let spent = (scans.on at old (HasScanned-none facts at old)).spent in
-    SpendsTo-over facts at end (reads_over (end - at)) old new (omega (arith, spent.above)) (ScansTo-spends facts at end old new scans)
+    SpendsTo-reads facts at end (reads_over (end - at)) old new (omega (arith, (ScansTo-left facts at end old new scans).above)) (ScansTo-spends facts at end old new scans)
 
 -- an entry's head, and then what follows in its first bytes
 pub entry_answers : {F T E : Type 0} (facts : F → Device) (start offset n : ℕ) (old mid new : Pages F) (result : Result T E) → offset ≤ n

@@ -1,6 +1,6 @@
 -- Reads through the window: what they leave, one after the other, and how many calls they make. For every crate that
 -- reads a device.
-use Rattle.std.proofs.Common.{◌≡◌, ◌∙◌, ℕ, ◌+◌, ◌-◌, ◌*◌, ◌/◌, ◌≤◌, IsTrue, List, length, take, drop, min, refl, sym, ap, subst, arith, le_refl, ⊎_elim}
+use Rattle.std.proofs.Common.{◌≡◌, ◌∙◌, ℕ, ◌+◌, ◌-◌, ◌*◌, ◌<◌, ◌≤◌, IsTrue, List, length, take, drop, min, refl, sym, ap, subst, arith, le_refl, ⊎_elim}
 use Rattle.std.proofs.Common.{length-take}
 use Rattle.std.specs.Prelude.{slice_range, Result, Ok, Err, IsOk}
 use Rattle.std.proofs.lemmas.Bool.{cases_lt}
@@ -171,9 +171,6 @@ ScansTo-spends facts at end old new scans = record { on = λ start first so_far.
 pub ScansTo-left : {F : Type 0} (facts : F → Device) (at end : ℕ) (old new : Pages F) → ScansTo facts at end old new → HasSpent facts at end old new
 ScansTo-left facts at end old new scans = (scans.on at old (HasScanned-none facts at old)).spent
 
-pub ScansTo-length : {F : Type 0} (facts : F → Device) (at end : ℕ) (old new : Pages F) → ScansTo facts at end old new → length (facts new.device).content ≡ length (facts old.device).content
-ScansTo-length facts at end old new scans = (ScansTo-left facts at end old new scans).read.device.calls.same_length
-
 pub ScansTo-faults : {F : Type 0} (facts : F → Device) (at end : ℕ) (old new : Pages F) → ScansTo facts at end old new → (facts old.device).faults ≤ (facts new.device).faults
 ScansTo-faults facts at end old new scans = (ScansTo-left facts at end old new scans).read.device.calls.faults
 
@@ -204,13 +201,13 @@ pub SpendsTo-then : {F : Type 0} (facts : F → Device) (at place end : ℕ) (ol
 SpendsTo-then facts at place end old mid new one two = record { on = λ start first so_far. two.on start first (one.on start first so_far) }
 
 -- the calls of reads in order, as a number of reads
-pub SpendsTo-reads : {F : Type 0} (facts : F → Device) (at end n : ℕ) (old new : Pages F) → end + 3840 ≤ at + 3840 * n → SpendsTo facts at end old new → HasRead facts n old new
-SpendsTo-reads facts at end n old new enough spends =
+pub SpendsTo-reads : {F : Type 0} (facts : F → Device) (at end n : ℕ) (old new : Pages F) → end < at + 3840 * n → SpendsTo facts at end old new → HasRead facts n old new
+SpendsTo-reads facts at end n old new few spends =
     let spent : HasSpent facts at end old new = spends.on at old (HasScanned-none facts at old) in record {
       device = record {
         calls = record {
           no_fewer = spent.read.device.calls.no_fewer;
-          no_more = omega (arith, spent.calls, spent.above, enough);
+          no_more = omega (arith, spent.calls, spent.above, few);
           faults = spent.read.device.calls.faults;
           same_honesty = spent.read.device.calls.same_honesty;
           same_length = spent.read.device.calls.same_length;
@@ -219,10 +216,3 @@ SpendsTo-reads facts at end n old new enough spends =
       };
       window = spent.read.window;
     }
-
--- enough for a cell, and for what is left of a region
-pub scan_of_cell : (start at span : ℕ) → at ≤ start + span → 64 ≤ span → at + 3840 ≤ start + 3840 * (span / 16)
-scan_of_cell start at span within long = omega arith
-
-pub scan_of_rest : (start at left : ℕ) → at ≤ start + left → at + 3840 ≤ start + 3840 * (left / 16 + 2)
-scan_of_rest start at left within = omega arith
