@@ -22,9 +22,9 @@ fail() {
     exit 1
 }
 
-# has FILE TEXT: the file has this text, and a line feed where the text isn't empty
+# has FILE TEXT: the file has this text, a line feed, and nothing else
 has() {
-    [ "$(cat "$1")" = "$2" ] || fail "$1 has: $(cat "$1")"
+    printf '%s\n' "$2" | cmp -s - "$1" || fail "$1 has: $(cat "$1")"
 }
 
 # missing FILE: there is no such file
@@ -38,23 +38,26 @@ empty() {
     [ ! -s "$1" ] || fail "$1 has bytes"
 }
 
-# does WORDS..: the program ends with status 0, and prints and tells nothing
-does() {
+# runs WORDS..: the program ends with status 0 and tells nothing; what it prints goes to the file printed
+runs() {
     local status=0
     "$tool" "$@" > printed 2> told || status=$?
     [ "$status" = 0 ] || fail "$name $*: status $status, $(cat told)"
-    empty printed
     empty told
 }
 
-# shows FILE WORDS..: the program ends with status 0, prints these bytes, and tells nothing
+# does WORDS..: the same, and it prints nothing
+does() {
+    runs "$@"
+    empty printed
+}
+
+# shows FILE WORDS..: the same, and it prints the bytes of this file
 shows() {
-    local wanted=$1 status=0
+    local wanted=$1
     shift
-    "$tool" "$@" > printed 2> told || status=$?
-    [ "$status" = 0 ] || fail "$name $*: status $status, $(cat told)"
+    runs "$@"
     cmp printed "$wanted"
-    empty told
 }
 
 # refuses STATUS TEXT WORDS..: the program ends with this status, tells this text, and prints nothing; its output goes
