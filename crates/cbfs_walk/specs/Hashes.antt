@@ -2,8 +2,8 @@
 -- The attribute is coreboot's `struct cbfs_file_attr_hash`: a number of an algorithm, big-endian, and the digest. The
 -- numbers are those of vboot's `enum vb2_hash_algorithm`, and the digests those of FIPS 180-4. Which algorithms are
 -- supported, and which lengths of the attribute are accepted, is this project's own.
-use Rattle.std.specs.Prelude.{ℕ, ◌+◌, List, length, slice_range, Option, Some, None, nat_le, ◌&&◌, ◌==◌, if◌then◌else◌}
-use Rattle.std.specs.List.{find}
+use Rattle.std.specs.Prelude.{ℕ, ◌+◌, Bool, List, [], ◌∷◌, length, slice_range, Option, Some, None, nat_le, ◌&&◌, ◌==◌, if◌then◌else◌}
+use Rattle.std.specs.Option.{option_map}
 use Rattle.std.specs.Str.{bytes_eq}
 use Rattle.sha2.specs.Sha256.{sha256}
 use Rattle.sha2.specs.Sha512.{sha512}
@@ -33,12 +33,19 @@ digest_like (Sha512 other) bytes = sha512_of bytes
 
 -- ---- what a hash attribute says
 
--- the digest in the data of a hash attribute, after the algorithm: 32 bytes of SHA-256 (2) or 64 of SHA-512 (3), where
--- the data is as long
+-- n bytes of data with this algorithm hold a digest of SHA-256 (32 bytes after the four of the algorithm)
+abbrev pub has_sha256 : ℕ → ℕ → Bool
+has_sha256 number n = number == 2 && nat_le 36 n
+
+-- or one of SHA-512 (64 bytes)
+abbrev pub has_sha512 : ℕ → ℕ → Bool
+has_sha512 number n = number == 3 && nat_le 68 n
+
+-- the digest in the data of a hash attribute
 unfoldable pub stored_digest : List ℕ → Option Digest
 stored_digest contents =
-    if be32 0 contents == 2 && nat_le 36 (length contents) then Some (Sha256 (slice_range contents 4 36))
-    else (if be32 0 contents == 3 && nat_le 68 (length contents) then Some (Sha512 (slice_range contents 4 68))
+    if has_sha256 (be32 0 contents) (length contents) then Some (Sha256 (slice_range contents 4 36))
+    else (if has_sha512 (be32 0 contents) (length contents) then Some (Sha512 (slice_range contents 4 68))
     else None)
 
 -- a stored digest, and the digest of the content
@@ -50,18 +57,19 @@ abbrev pub state_by : Option Digest → List ℕ → HashState
 state_by None content = Unsupported
 state_by (Some stored) content = compared stored (digest_like stored content)
 
--- the same by the attribute
-abbrev pub state_of : Option Attribute → List ℕ → HashState
+-- the same by the data of a hash attribute, where there is one
+abbrev pub state_of : Option (List ℕ) → List ℕ → HashState
 state_of None content = Absent
-state_of (Some a) content = state_by (stored_digest a.contents) content
+state_of (Some contents) content = state_by (stored_digest contents) content
 
--- the first hash attribute
-abbrev pub hash_in : List Attribute → Option Attribute
-hash_in all = find (λ a. a.tag == HASH) all
+-- the data of the first attribute with a tag
+abbrev pub data_of : ℕ → List Attribute → Option (List ℕ)
+data_of tag [] = None
+data_of tag (a ∷ others) = if a.tag == tag then Some a.contents else data_of tag others
 
 -- what the first hash attribute among a component's attributes says of its content, as it is stored
 abbrev pub hash_state : List Attribute → List ℕ → HashState
-hash_state all content = state_of (hash_in all) content
+hash_state all content = state_of (data_of HASH all) content
 
 -- ---- the same of a component in a region
 
@@ -72,10 +80,6 @@ data_at x found = slice_range x (found.0 + 8) (found.0 + found.1.len)
 abbrev pub content_at : List ℕ → Cell → List ℕ
 content_at x c = slice_range x (c.at + c.head.offset) (c.at + (c.head.offset + c.head.len))
 
-abbrev pub state_at : List ℕ → Cell → Option Placed → HashState
-state_at x c None = Absent
-state_at x c (Some found) = state_by (stored_digest (data_at x found)) (content_at x c)
-
 -- what the first hash attribute of a component says of its content, in a region of these bytes
 abbrev pub hash_state_in : List ℕ → Cell → HashState
-hash_state_in x c = state_at x c (first_of x c HASH)
+hash_state_in x c = state_of (option_map (data_at x) (first_of x c HASH)) (content_at x c)
