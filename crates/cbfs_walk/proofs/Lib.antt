@@ -8,4 +8,5 @@ pub mod Texts
 pub mod CellNames
 pub mod Listing
 pub mod Scanning
+pub mod Hashing
 pub mod Searching

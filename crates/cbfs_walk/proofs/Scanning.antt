@@ -199,7 +199,7 @@ value_is x at end h long inside =
 compression_len : (h : AttrHead) → eqb h.tag COMPRESSION ≡ true → least_len h.tag ≡ 16
 compression_len h e = rw e refl
 
-ends_empty : (y : List ℕ) → length y ≤ 0 → ends_list y ≡ true
+pub ends_empty : (y : List ℕ) → length y ≤ 0 → ends_list y ≡ true
 ends_empty [] e = refl
 ends_empty (b ∷ y) e = absurd (omega (arith, e))
 

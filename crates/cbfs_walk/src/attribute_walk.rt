@@ -128,7 +128,7 @@ pub fn packing<F: Flash>(
 
 /// The place, counted from the region's start, and the head of a component's first attribute with this tag; `None`
 /// where the list ends or is malformed before one.
-fn first_attribute<F: Flash>(
+pub fn first_attribute<F: Flash>(
     paged: &mut Paged<F>,
     region: Region,
     cell: &Cell,
@@ -252,7 +252,7 @@ fn attribute_at<F: Flash>(
 }
 
 /// The big-endian number at a place.
-fn value_at<F: Flash>(paged: &mut Paged<F>, region: Region, at: u64) -> Result<u32, FlashFault>
+pub fn value_at<F: Flash>(paged: &mut Paged<F>, region: Region, at: u64) -> Result<u32, FlashFault>
     requires region { LiesIn region (F.facts paged.old.device).content }
     requires inside { at + 4 ≤ region.size }
 

@@ -1,5 +1,21 @@
 //! The digest that a component has of its content.
-use flash_format::Digest;
+ghost use Rattle.std.specs.Prelude.{◌≡◌, ℕ, ◌+◌, ◌≤◌, false, List, ◌++◌, slice_range, IfOk, OnOk};
+ghost use Rattle.flash_format.specs.declared.digest.Digest.TheVariants as digests;
+ghost use Rattle.flash_format.specs.Head.{is_free};
+ghost use Rattle.flash_format.specs.Components.{cell_attributes, cell_content};
+ghost use Rattle.flash_store.specs.Pages.{HasSeen, HasAnswered, OnHonestIn};
+ghost use Rattle.flash_store.specs.Regions.{LiesIn};
+ghost use Rattle.cbfs_walk.specs.Passing.{HasPassed, reads_over};
+ghost use Rattle.cbfs_walk.specs.Cells.{IsCellIn, cell_in};
+ghost use Rattle.cbfs_walk.specs.Walks.{StandsIn};
+ghost use Rattle.cbfs_walk.specs.Hashes.{digest_like, has_sha256, has_sha512, stored_digest, compared, hash_state, content_at, hash_state_in};
+
+use crate::attribute_walk::{first_attribute, value_at};
+use crate::cell::Cell;
+use crate::read::read_in;
+use flash_format::{AttrHead, Digest};
+use flash_store::{Flash, FlashFault, Paged, Region};
+use sha2::{Sha256, Sha512};
 
 /// What the first hash attribute of a component says of its content, as it is stored.
 #[derive(Clone, Copy, Debug, PartialEq, Eq)]
@@ -12,4 +28,172 @@ pub enum HashState {
     Invalid(Digest),
     /// The attribute has an algorithm that is neither SHA-256 nor SHA-512, or is too short for the algorithm's digest.
     Unsupported,
+}
+
+/// How many bytes of the content are read at once, so that the window has them mostly.
+const PIECE: u64 = 256;
+
+/// Compares the digest in a component's first hash attribute with that of its content, as it is stored. In a cell that
+/// a walk gave every attribute is well formed; in another a malformed one ends the list.
+pub fn check_hash<F: Flash>(
+    paged: &mut Paged<F>,
+    region: Region,
+    cell: &Cell,
+) -> Result<HashState, FlashFault>
+    requires region { LiesIn region (F.facts paged.old.device).content }
+    requires cell { IsCellIn region.size cell.now }
+    requires component { is_free cell.now.head ≡ false }
+
+    // On any device.
+    ensures after { HasAnswered F.facts (reads_over cell.now.span) paged.old paged.new result }
+
+    // On an honest device: in any cell, and in one that stands in the region.
+    ensures value { OnHonestIn F.facts paged.old.device region (λ x.
+        IfOk result (λ state. state ≡ hash_state_in x cell.now)) }
+    ensures state { OnHonestIn F.facts paged.old.device region (λ x. StandsIn x cell.now → IfOk result (λ state.
+        state ≡ hash_state (cell_attributes (cell_in x cell.now)) (cell_content (cell_in x cell.now)))) }
+{
+    paged.places_fit();
+    match first_attribute(paged, region, cell, AttrHead::HASH)? {
+        Some((at, head)) => match stored_digest(paged, region, at + 8, head.len - 8)? {
+            Some(stored) => {
+                let computed = content_digest(paged, region, cell, &stored)?;
+                Ok(compared(stored, &computed))
+            }
+            None => Ok(HashState::Unsupported),
+        },
+        None => Ok(HashState::Absent),
+    }
+}
+
+/// The digest in the n bytes of a hash attribute's data, where it has a known algorithm and is as long.
+fn stored_digest<F: Flash>(
+    paged: &mut Paged<F>,
+    region: Region,
+    at: u64,
+    n: u32,
+) -> Result<Option<Digest>, FlashFault>
+    requires region { LiesIn region (F.facts paged.old.device).content }
+    requires inside { at + n ≤ region.size }
+    requires least { 4 ≤ n }
+
+    ensures after { HasAnswered F.facts 2 paged.old paged.new result }
+    ensures passes { HasPassed F.facts (region.start + at) (region.start + (at + n)) paged.old paged.new result }
+    ensures stored { OnHonestIn F.facts paged.old.device region (λ x.
+        IfOk result (λ stored. stored ≡ stored_digest (slice_range x at (at + n)))) }
+{
+    paged.places_fit();
+    let algorithm = value_at(paged, region, at)?;
+    if has_sha256(algorithm, n) {
+        let mut bytes = [0; 32];
+        read_in(paged, region, at + 4, &mut bytes)?;
+        return Ok(Some(Digest::Sha256(bytes)));
+    }
+    if has_sha512(algorithm, n) {
+        let mut bytes = [0; 64];
+        read_in(paged, region, at + 4, &mut bytes)?;
+        return Ok(Some(Digest::Sha512(bytes)));
+    }
+    Ok(None)
+}
+
+/// Whether n bytes of data with this algorithm hold a digest of SHA-256.
+fn has_sha256(algorithm: u32, n: u32) -> bool
+    ensures { result ≡ has_sha256 algorithm n }
+{
+    algorithm == 2 && n >= 36
+}
+
+/// Whether n bytes of data with this algorithm hold a digest of SHA-512.
+fn has_sha512(algorithm: u32, n: u32) -> bool
+    ensures { result ≡ has_sha512 algorithm n }
+{
+    algorithm == 3 && n >= 68
+}
+
+/// The digest of a component's content by the algorithm of a stored one.
+fn content_digest<F: Flash>(
+    paged: &mut Paged<F>,
+    region: Region,
+    cell: &Cell,
+    stored: &Digest,
+) -> Result<Digest, FlashFault>
+    requires region { LiesIn region (F.facts paged.old.device).content }
+    requires cell { IsCellIn region.size cell.now }
+
+    ensures passes { HasPassed F.facts (region.start + (cell.now.at + cell.now.head.offset))
+        (region.start + (cell.now.at + (cell.now.head.offset + cell.now.head.len))) paged.old paged.new result }
+    ensures digest { OnHonestIn F.facts paged.old.device region (λ x.
+        IfOk result (λ digest. digest ≡ digest_like stored.now (content_at x cell.now))) }
+{
+    paged.places_fit();
+    let from = cell.at + u64::from(cell.head.offset);
+    let end = from + u64::from(cell.head.len);
+    match stored {
+        Digest::Sha256(_) => Ok(Digest::Sha256(digest_between::<F, Sha256>(
+            paged, region, from, end,
+        )?)),
+        Digest::Sha512(_) => Ok(Digest::Sha512(digest_between::<F, Sha512>(
+            paged, region, from, end,
+        )?)),
+    }
+}
+
+/// Whether a stored digest is the content's.
+fn compared(stored: Digest, computed: &Digest) -> HashState
+    ensures { result ≡ compared stored computed.now }
+{
+    if stored.bytes() == computed.bytes() {
+        HashState::Valid(stored)
+    } else {
+        HashState::Invalid(stored)
+    }
+}
+
+/// The digest of the bytes between two places, which are read in order, a piece at a time.
+fn digest_between<F: Flash, D: sha2::Digest>(
+    paged: &mut Paged<F>,
+    region: Region,
+    from: u64,
+    end: u64,
+) -> Result<D::Output, FlashFault>
+    requires region { LiesIn region (F.facts paged.old.device).content }
+    requires order { from ≤ end }
+    requires inside { end ≤ region.size }
+
+    ensures passes { HasPassed F.facts (region.start + from) (region.start + end) paged.old paged.new result }
+    ensures digest { OnHonestIn F.facts paged.old.device region (λ x.
+        IfOk result (D.digest_of (slice_range x from end))) }
+{
+    paged.places_fit();
+    let mut hasher = D::new();
+    let mut at = from;
+    while at < end {
+        let n = (end - at).min(PIECE);
+        take_piece(paged, region, at, n as usize, &mut hasher)?;
+        at += n;
+    }
+    Ok(hasher.finalize())
+}
+
+/// Adds the n bytes from a place on to a hasher's message.
+fn take_piece<F: Flash, D: sha2::Digest>(
+    paged: &mut Paged<F>,
+    region: Region,
+    at: u64,
+    n: usize,
+    hasher: &mut D,
+) -> Result<(), FlashFault>
+    requires region { LiesIn region (F.facts paged.old.device).content }
+    requires inside { at + n ≤ region.size }
+    requires short { n ≤ 4096 }
+
+    ensures after { HasSeen F.facts (region.start + at) n paged.old paged.new result }
+    ensures taken { OnHonestIn F.facts paged.old.device region (λ x. OnOk result
+        ((m : List ℕ) → D.holds hasher.old m → D.holds hasher.new (m ++ slice_range x at (at + n)))) }
+{
+    paged.places_fit();
+    let bytes = paged.piece(region.start() + at, n)?;
+    hasher.update(bytes);
+    Ok(())
 }

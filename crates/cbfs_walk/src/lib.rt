@@ -15,7 +15,7 @@ mod walk;
 
 pub use attribute_walk::{AttrWalk, attributes, packing};
 pub use cell::Cell;
-pub use hashes::HashState;
+pub use hashes::{HashState, check_hash};
 pub use laws::{cells_stand_in_their_image, readings_take_steps, walks_follow_the_cut};
 pub use names::{name, name_is};
 pub use search::{find, is_component};

@@ -1,0 +1,226 @@
+-- The digest of a component's content: the pieces of which it is made, and what the first hash attribute says of it.
+use Rattle.std.proofs.Common.{◌≡◌, ℕ, ◌+◌, ◌-◌, ◌≤◌, Bool, true, false, cond, eqb, IsTrue, List, ◌∷◌, ◌++◌, take, drop, length, length-drop, Option, Some, None, Result, Ok, refl, sym, ap, ◌∙◌, arith, zero, suc, le_refl}
+use Rattle.std.specs.Prelude.{slice_range}
+use Rattle.std.specs.Option.{option_map}
+use Rattle.std.proofs.lemmas.Bool.Decides.{nat_tests}
+use Rattle.byteorder.specs.Endian.{big_number}
+use Rattle.sha2.specs.Sha256.{sha256}
+use Rattle.sha2.specs.Sha512.{sha512}
+use Rattle.flash_format.specs.declared.attribute.AttrHead.{AttrHead}
+use Rattle.flash_format.specs.declared.digest.Digest.{Digest}
+use Rattle.flash_format.specs.declared.digest.Digest.TheVariants as digests
+use Rattle.flash_format.specs.declared.head.Head.{Head}
+use Rattle.flash_format.specs.Head.{be32, is_free}
+use Rattle.flash_format.specs.Attributes.{Attribute, attribute, attributes, attr_head_of, ends_list, HASH}
+use Rattle.flash_format.specs.Entry.{name_end}
+use Rattle.flash_format.specs.Components.{cell_attributes, cell_content}
+use Rattle.flash_format.proofs.AttributeSteps.{attributes_end}
+use Rattle.std.proofs.lemmas.List.{take-append-drop}
+use Rattle.flash_store.specs.Device.{Device}
+use Rattle.flash_store.specs.Pages.{Pages, HasSeen, HasAnswered}
+use Rattle.flash_store.specs.Regions.{Range, LiesIn, bytes_in}
+use Rattle.flash_store.specs.Scans.{ScansTo}
+use Rattle.flash_store.proofs.DeviceLemmas.{honest_still}
+use Rattle.flash_store.proofs.WindowLemmas.{ScansTo-on, ScansTo-then}
+use Rattle.cbfs_walk.specs.Passing.{HasPassed, reads_over}
+use Rattle.cbfs_walk.specs.AttrWalks.{after_first}
+use Rattle.cbfs_walk.specs.Cells.{IsCellIn, cell_in}
+use Rattle.cbfs_walk.specs.Walks.{StandsIn}
+use Rattle.cbfs_walk.specs.Listed.{listed_in, Placed, by_tag, first_within}
+use Rattle.cbfs_walk.specs.Hashes.{sha256_of, sha512_of, digest_like, has_sha256, has_sha512, stored_digest, state_of, data_of, hash_state, data_at, content_at, hash_state_in}
+use Rattle.cbfs_walk.specs.declared.cell.Cell.{Cell}
+use Rattle.cbfs_walk.specs.declared.attribute_walk.Listed as declared
+use Rattle.cbfs_walk.specs.declared.attribute_walk.Listed.TheVariants as listed
+use Rattle.cbfs_walk.proofs.Parts.{range-inner, range-take, range-after, length-range}
+use Rattle.cbfs_walk.proofs.CutLaws.{standing, cell_head, cell_part}
+use Rattle.cbfs_walk.proofs.Listing.{goes, goes_end, goes_malformed, goes_none, goes_on, listed_all}
+use Rattle.cbfs_walk.proofs.Reading.{HasPassed-none, HasPassed-on, HasPassed-then, HasPassed-answers, read_passes}
+use Rattle.cbfs_walk.proofs.Scanning.{Scanning, left_by, scanned, ends_empty}
+
+-- ---- a hasher that takes the bytes between two places, piece by piece
+
+-- neighbouring parts are one
+range-join : (x : List ℕ) (a b n : ℕ) → a ≤ b → slice_range x a b ++ slice_range x b (b + n) ≡ slice_range x a (b + n)
+range-join x a b n le =
+    let there : a + (b - a) ≡ b = omega arith in
+    let whole = slice_range x a (b + n) in
+    let before : take (b - a) whole ≡ slice_range x a b = range-take x a (b + n) (b - a) (omega arith) ∙ ap (slice_range x a) there in
+    let rest : drop (b - a) whole ≡ slice_range x b (b + n) = range-after x a (b + n) (b - a) (omega arith) ∙ ap (λ k. slice_range x k (b + n)) there in
+    rw (← before, ← rest) (take-append-drop (b - a) whole)
+
+-- the hasher holds the bytes of a region between two places
+abbrev pub HoldsPart : {H : Type 0} → (H → List ℕ → Type 0) → Range → List ℕ → ℕ → ℕ → H → Type 0
+HoldsPart holds r image from at hasher = holds hasher (slice_range (bytes_in r image) from at)
+
+-- it has come to a place
+abbrev pub Taking : {F H : Type 0} → (F → Device) → (H → List ℕ → Type 0) → Range → ℕ → ℕ → ℕ → Pages F → Pages F → H → Type 0
+Taking facts holds r from end at old now hasher = Scanning facts r from end at old now (HoldsPart holds r (facts old.device).content from at hasher)
+
+pub lies_still : {F : Type 0} (facts : F → Device) (r : Range) (from end at : ℕ) (old now : Pages F) (Asked : Type 0) → Scanning facts r from end at old now Asked → LiesIn r (facts old.device).content → LiesIn r (facts now.device).content
+lies_still facts r from end at old now Asked s lies = omega (arith, lies, (left_by facts r from end at old now Asked s).calls.same_length)
+
+-- one piece more
+pub taking_more : {F H T E : Type 0} (facts : F → Device) (holds : H → List ℕ → Type 0) (r : Range) (from end at n : ℕ) (old now new : Pages F) (before hasher : H) (x : T) → Taking facts holds r from end at old now before
+    → LiesIn r (facts old.device).content → end ≤ r.size → at + n ≤ end → n ≤ 256 → HasSeen {E = E} facts (r.start + at) n now new (Ok x)
+    → (IsTrue (facts now.device).honest → (m : List ℕ) → holds before m → holds hasher (m ++ slice_range (bytes_in r (facts now.device).content) at (at + n)))
+    → Taking facts holds r from end (at + n) old new hasher
+taking_more {F} {H} {T} {E} facts holds r from end at n old now new before hasher x s lies inside fits short seen taken =
+    let passed : HasPassed {E = E} facts (r.start + at) (r.start + at) now new (Ok x) = read_passes facts r at n now new (Ok x) (lies_still facts r from end at old now _ s lies) (omega (arith, inside, fits)) short seen in
+    record {
+      low = omega (arith, s.low);
+      high = fits;
+      scans = ScansTo-on facts (r.start + from) (r.start + at) (r.start + (at + n)) old new (omega arith) (ScansTo-then facts (r.start + from) (r.start + at) (r.start + at) old now new s.scans passed.scans);
+      asked = λ k.
+          let kept = left_by facts r from end at old now _ s in
+          let more = taken (honest_still kept.calls.same_honesty k) (slice_range (bytes_in r (facts old.device).content) from at) (s.asked k) in
+          rw (← range-join (bytes_in r (facts old.device).content) from at n s.low) (rw (kept.unchanged k) at more);
+    }
+
+-- all were taken
+pub taken_all : {F H T E : Type 0} (facts : F → Device) (holds : H → List ℕ → Type 0) (r : Range) (from end at : ℕ) (old now : Pages F) (hasher : H) (x : T) → Taking facts holds r from end at old now hasher → HasPassed {E = E} facts (r.start + from) (r.start + end) old now (Ok x)
+taken_all facts holds r from end at old now hasher x s = scanned facts r from end at old now now _ (Ok x) s (HasPassed-none facts (r.start + at) now x)
+
+-- ---- the digest in a hash attribute
+
+-- a read after that of the algorithm
+pub after_algorithm : {F T E : Type 0} (facts : F → Device) (r : Range) (at n k : ℕ) (old mid new : Pages F) (result : Result T E) → LiesIn r (facts mid.device).content → at + n ≤ r.size → 4 + k ≤ n → k ≤ 256
+    → ScansTo facts (r.start + at) (r.start + at) old mid → HasSeen facts (r.start + (at + 4)) k mid new result → HasPassed facts (r.start + at) (r.start + (at + n)) old new result
+after_algorithm facts r at n k old mid new result lies inside fits short first seen =
+    HasPassed-on facts (r.start + at) (r.start + (at + 4)) (r.start + (at + n)) old new result (omega (arith, fits))
+    (HasPassed-then facts (r.start + at) (r.start + at) (r.start + (at + 4)) (r.start + (at + 4)) old mid new result (omega arith) first
+    (read_passes facts r (at + 4) k mid new result lies (omega (arith, inside, fits)) short seen))
+
+-- what is read where an attribute's data begins and in the bytes after
+data_parts : (x : List ℕ) (at n number : ℕ) → number ≡ be32 at x → 4 ≤ n → at + n ≤ length x → (be32 0 (slice_range x at (at + n)) ≡ number) × (length (slice_range x at (at + n)) ≡ n)
+data_parts x at n number e room inside = (
+  ap (big_number 4) (range-inner x at (at + n) 0 4 (omega (arith, room)) ∙ ap (λ k. slice_range x k (at + 4)) {x = at + 0} {y = at} (omega arith)) ∙ sym e,
+  length-range x at (at + n) inside ∙ (omega arith),
+)
+
+digest_part : (x : List ℕ) (at n k : ℕ) → 4 + k ≤ n → slice_range x (at + 4) (at + 4 + k) ≡ slice_range (slice_range x at (at + n)) 4 (4 + k)
+digest_part x at n k fits = ap (slice_range x (at + 4)) {x = at + 4 + k} {y = at + (4 + k)} (omega arith) ∙ sym (range-inner x at (at + n) 4 (4 + k) (omega (arith, fits)))
+
+by_tests : (y : List ℕ) (a b : Bool) → has_sha256 (be32 0 y) (length y) ≡ a → has_sha512 (be32 0 y) (length y) ≡ b
+    → cond a (Some (digests.Sha256 (slice_range y 4 36))) (cond b (Some (digests.Sha512 (slice_range y 4 68))) None) ≡ stored_digest y
+unfolding stored_digest
+by_tests y a b e f = rw (← e, ← f) refl
+
+pub long256 : (number n : ℕ) → has_sha256 number n ≡ true → 36 ≤ n
+long256 number n e = grind (arith, nat_tests)
+
+pub long512 : (number n : ℕ) → has_sha512 number n ≡ true → 68 ≤ n
+long512 number n e = grind (arith, nat_tests)
+
+pub stored_sha256 : (x : List ℕ) (at n number : ℕ) (bytes : List ℕ) → at + n ≤ length x → number ≡ be32 at x → has_sha256 number n ≡ true → bytes ≡ slice_range x (at + 4) (at + 4 + 32) → Some (digests.Sha256 bytes) ≡ stored_digest (slice_range x at (at + n))
+stored_sha256 x at n number bytes inside e has read =
+    let long = long256 number n has in
+    let parts = data_parts x at n number e (omega (arith, long)) inside in
+    let y = slice_range x at (at + n) in
+    ap (λ l. Some (digests.Sha256 l)) (read ∙ digest_part x at n 32 long)
+    ∙ by_tests y true (has_sha512 (be32 0 y) (length y)) (ap (λ k. has_sha256 k (length y)) parts.0 ∙ ap (has_sha256 number) parts.1 ∙ has) refl
+
+pub stored_sha512 : (x : List ℕ) (at n number : ℕ) (bytes : List ℕ) → at + n ≤ length x → number ≡ be32 at x → has_sha256 number n ≡ false → has_sha512 number n ≡ true → bytes ≡ slice_range x (at + 4) (at + 4 + 64)
+    → Some (digests.Sha512 bytes) ≡ stored_digest (slice_range x at (at + n))
+stored_sha512 x at n number bytes inside e other has read =
+    let long = long512 number n has in
+    let parts = data_parts x at n number e (omega (arith, long)) inside in
+    let y = slice_range x at (at + n) in
+    ap (λ l. Some (digests.Sha512 l)) (read ∙ digest_part x at n 64 long)
+    ∙ by_tests y false true (ap (λ k. has_sha256 k (length y)) parts.0 ∙ ap (has_sha256 number) parts.1 ∙ other) (ap (λ k. has_sha512 k (length y)) parts.0 ∙ ap (has_sha512 number) parts.1 ∙ has)
+
+pub stored_none : (x : List ℕ) (at n number : ℕ) → 4 ≤ n → at + n ≤ length x → number ≡ be32 at x → has_sha256 number n ≡ false → has_sha512 number n ≡ false → None ≡ stored_digest (slice_range x at (at + n))
+stored_none x at n number room inside e other none =
+    let parts = data_parts x at n number e room inside in
+    let y = slice_range x at (at + n) in
+    by_tests y false false (ap (λ k. has_sha256 k (length y)) parts.0 ∙ ap (has_sha256 number) parts.1 ∙ other) (ap (λ k. has_sha512 k (length y)) parts.0 ∙ ap (has_sha512 number) parts.1 ∙ none)
+
+-- ---- the digest of the content
+
+pub like_sha256 : (x : List ℕ) (c : Cell) (stored : Digest) (old bytes : List ℕ) (from end : ℕ) → stored ≡ digests.Sha256 old → bytes ≡ sha256 (slice_range x from end) → from ≡ c.at + c.head.offset → end ≡ c.at + (c.head.offset + c.head.len)
+    → digests.Sha256 bytes ≡ digest_like stored (content_at x c)
+unfolding sha256_of
+like_sha256 x c stored old bytes from end is e begins ends =
+    ap digests.Sha256 (e ∙ ap (λ k. sha256 (slice_range x k end)) begins ∙ ap (λ k. sha256 (slice_range x (c.at + c.head.offset) k)) ends)
+    ∙ ap (λ d. digest_like d (content_at x c)) (sym is)
+
+pub like_sha512 : (x : List ℕ) (c : Cell) (stored : Digest) (old bytes : List ℕ) (from end : ℕ) → stored ≡ digests.Sha512 old → bytes ≡ sha512 (slice_range x from end) → from ≡ c.at + c.head.offset → end ≡ c.at + (c.head.offset + c.head.len)
+    → digests.Sha512 bytes ≡ digest_like stored (content_at x c)
+unfolding sha512_of
+like_sha512 x c stored old bytes from end is e begins ends =
+    ap digests.Sha512 (e ∙ ap (λ k. sha512 (slice_range x k end)) begins ∙ ap (λ k. sha512 (slice_range x (c.at + c.head.offset) k)) ends)
+    ∙ ap (λ d. digest_like d (content_at x c)) (sym is)
+
+-- ---- the first hash attribute
+
+-- the data of an attribute, or that of the others
+by_use : (tag : ℕ) (x y : List ℕ) (at end : ℕ) (h : AttrHead) (others : List Attribute) (rest : Option Placed) (b : Bool) → y ≡ slice_range x at end → at + h.len ≤ end → h ≡ attr_head_of y
+    → option_map (data_at x) rest ≡ data_of tag others → eqb h.tag tag ≡ b → option_map (data_at x) (cond b (Some (at, h)) rest) ≡ data_of tag (attribute y ∷ others)
+by_use tag x y at end h others rest b is fits head more e =
+    let test : eqb (attribute y).tag tag ≡ b = ap (λ (k : AttrHead). eqb k.tag tag) (sym head) ∙ e in
+    go b ∙ ap (λ t. cond t (Some (attribute y).contents) (data_of tag others)) (sym test)
+  where
+    contents : data_at x (at, h) ≡ (attribute y).contents
+    contents =
+        sym (range-inner x at end 8 h.len (omega (arith, fits))) ∙ ap (λ l. slice_range l 8 h.len) (sym is) ∙ ap (λ (k : AttrHead). slice_range y 8 k.len) head
+
+    go : (t : Bool) → option_map (data_at x) (cond t (Some (at, h)) rest) ≡ cond t (Some (attribute y).contents) (data_of tag others)
+    go true = ap Some contents
+    go false = more
+
+-- among well formed attributes, the data of the first with a tag is the list's
+first_data : (tag n : ℕ) (x : List ℕ) (at end : ℕ) (all : List Attribute) → end ≤ length x → length (slice_range x at end) ≤ n → attributes (slice_range x at end) ≡ Some all
+    → option_map (data_at x) (first_within n tag at (slice_range x at end)) ≡ data_of tag all
+unfolding first_within
+first_data tag zero x at end all inside enough formed =
+    let empty : ends_list (slice_range x at end) ≡ true = ends_empty (slice_range x at end) (omega (arith, enough)) in
+    sym (ap (λ (l : List Attribute). data_of tag l) (goes_none (slice_range x at end) all (attributes_end (slice_range x at end) empty) formed))
+first_data tag (suc n) x at end all inside enough formed = go (first_data tag n x) (listed_in (slice_range x at end)) refl
+  where
+    y : List ℕ
+    y = slice_range x at end
+
+    go : ((p q : ℕ) (others : List Attribute) → q ≤ length x → length (slice_range x p q) ≤ n → attributes (slice_range x p q) ≡ Some others → option_map (data_at x) (first_within n tag p (slice_range x p q)) ≡ data_of tag others)
+        → (l : declared.Listed) → l ≡ listed_in y → option_map (data_at x) (by_tag tag at y l (first_within n tag)) ≡ data_of tag all
+    go later listed.End told = sym (ap (λ (l : List Attribute). data_of tag l) (goes_none y all (goes_end y told) formed))
+    go later listed.Malformed told = let e : (let o : Option (List Attribute) = None in o) ≡ Some all = sym (goes_malformed y told) ∙ formed in absurd cc
+    go later (listed.Attribute h) told =
+        let g = goes y h told in
+        let on = goes_on y h all g formed in
+        let fits : at + h.len ≤ end = omega (arith, g.least, g.inside, length-range x at end inside) in
+        let there : drop h.len y ≡ slice_range x (at + h.len) end = range-after x at end h.len fits in
+        let rest : attributes (slice_range x (at + h.len) end) ≡ Some (after_first all) = ap (λ y. attributes y) (sym there) ∙ on.rest in
+        let short : length (slice_range x (at + h.len) end) ≤ n = omega (arith, length-drop h.len y, ap (λ (y : List ℕ). length y) there, g.least, enough) in
+        let more = later (at + h.len) end (after_first all) inside short rest in
+        by_use tag x y at end h (after_first all) (first_within n tag (at + h.len) (drop h.len y)) (eqb h.tag tag) refl fits g.head
+        (ap (λ z. option_map (data_at x) (first_within n tag (at + h.len) z)) there ∙ more) refl
+        ∙ sym (ap (λ (l : List Attribute). data_of tag l) on.first)
+
+-- what is found in a component that stands in the region
+pub state_found : (x : List ℕ) (size : ℕ) (c : Cell) → c.at + c.head.offset ≤ length x → IsCellIn size c → StandsIn x c → is_free c.head ≡ false
+    → hash_state_in x c ≡ hash_state (cell_attributes (cell_in x c)) (cell_content (cell_in x c))
+state_found x size c inside is stands used =
+    let head = cell_head x c (standing x c stands) is.positive in
+    let content : cell_content (cell_in x c) ≡ content_at x c =
+    ap (λ (h : Head). slice_range (cell_in x c) h.offset (h.offset + h.len)) head ∙ cell_part x c c.head.offset (c.head.offset + c.head.len) is.content in
+    ap (λ d. state_of d (content_at x c)) (first_data HASH (length (slice_range x (c.at + name_end c.head) (c.at + c.head.offset))) x (c.at + name_end c.head) (c.at + c.head.offset) (cell_attributes (cell_in x c)) inside (le_refl _) (listed_all x c stands used))
+    ∙ ap (state_of (data_of HASH (cell_attributes (cell_in x c)))) (sym content)
+
+-- ---- how many calls show a component's digests
+
+-- the reads up to the data of an attribute, and those of the data
+pub data_passes : {F T E : Type 0} (facts : F → Device) (start : ℕ) (c : Cell) (at len : ℕ) (old mid new : Pages F) (result : Result T E) → 8 ≤ len → at + len ≤ c.at + c.head.offset
+    → ScansTo facts (start + (c.at + name_end c.head)) (start + at) old mid → HasPassed facts (start + (at + 8)) (start + (at + 8 + (len - 8))) mid new result
+    → HasPassed facts (start + (c.at + name_end c.head)) (start + (c.at + c.head.offset)) old new result
+data_passes facts start c at len old mid new result room fits first p =
+    HasPassed-on facts (start + (c.at + name_end c.head)) (start + (at + 8 + (len - 8))) (start + (c.at + c.head.offset)) old new result (omega (arith, room, fits))
+    (HasPassed-then facts (start + (c.at + name_end c.head)) (start + at) (start + (at + 8)) (start + (at + 8 + (len - 8))) old mid new result (omega arith) first p)
+
+pub front_answers : {F T E : Type 0} (facts : F → Device) (start size : ℕ) (c : Cell) (old new : Pages F) (result : Result T E) → IsCellIn size c → HasPassed facts (start + (c.at + name_end c.head)) (start + (c.at + c.head.offset)) old new result → HasAnswered facts (reads_over c.span) old new result
+front_answers facts start size c old new result is p =
+    HasPassed-answers facts (start + (c.at + name_end c.head)) (start + (c.at + c.head.offset)) (reads_over c.span) old new result (omega (arith, is.content)) p
+
+pub content_answers : {F T E : Type 0} (facts : F → Device) (start size : ℕ) (c : Cell) (old mid new : Pages F) (result : Result T E) → IsCellIn size c → ScansTo facts (start + (c.at + name_end c.head)) (start + (c.at + c.head.offset)) old mid
+    → HasPassed facts (start + (c.at + c.head.offset)) (start + (c.at + (c.head.offset + c.head.len))) mid new result → HasAnswered facts (reads_over c.span) old new result
+content_answers facts start size c old mid new result is first p =
+    HasPassed-answers facts (start + (c.at + name_end c.head)) (start + (c.at + (c.head.offset + c.head.len))) (reads_over c.span) old new result (omega (arith, is.content))
+    (HasPassed-then facts (start + (c.at + name_end c.head)) (start + (c.at + c.head.offset)) (start + (c.at + c.head.offset)) (start + (c.at + (c.head.offset + c.head.len))) old mid new result (omega arith) first p)
