@@ -1,5 +1,5 @@
 -- Examples of the outcomes of commands, computed over whole images.
-use Rattle.std.proofs.Common.{◌≡◌, ℕ, List, [], ◌∷◌, ◌++◌, ◌-◌, replicate, refl, length, Ok, Err, take}
+use Rattle.std.proofs.Common.{◌≡◌, ℕ, List, [], ◌∷◌, ◌++◌, ◌-◌, replicate, refl, false, length, Ok, Err, take}
 use lib.Chars.{codes}
 use Rattle.std.specs.Int.{w16, w32, w64, to_le_bytes, to_be_bytes}
 use Rattle.std.specs.Fmt.{digits}
@@ -13,7 +13,8 @@ use Rattle.flash_format.specs.Flashmap.{has_signature, fmap_head_of, area_of, is
 use Rattle.flash_format.specs.TypeNames.{name_of_type}
 use Rattle.flash_store.specs.Regions.{region_of}
 use Rattle.cbfs_walk.specs.Finding.{component_in}
-use Rattle.cbfs_commands.specs.Rows.{hexadecimal, printed_byte, printed_type, printed_packing, row_text, rows_from, label, compression}
+use Rattle.cbfs_commands.specs.Rows.{hexadecimal, printed_byte, printed_type, printed_packing, row_text, label, compression}
+use Rattle.cbfs_commands.specs.Details.{rows_from}
 use Rattle.cbfs_commands.specs.Layouts.{layout, map_row, area_row}
 use Rattle.cbfs_commands.specs.declared.refusal.Refusal.TheVariants.{RegionOutside, Damaged, NoFmap, NoRegion, NotCbfs, NotFound, Compressed, SourceSize}
 use Rattle.cbfs_commands.specs.Told.{Answer, Told, shows, refuses}
@@ -57,47 +58,47 @@ prints text answer = record { written = text; answer = answer }
 abbrev coreboot : List ℕ
 coreboot = codes "COREBOOT"
 
-fresh_image : print (image_of (free 468 512)) coreboot ≡ prints (codes "(empty)\t0x0\tnull\t468\tnone\n") (Ok tt)
+fresh_image : print (image_of (free 468 512)) coreboot false ≡ prints (codes "(empty)\t0x0\tnull\t468\tnone\n") (Ok tt)
 unfolding print print_region region_of has_signature fmap_head_of area_of is_valid_head is_map map_from areas_from entry has_magic checked head_of attr_head_of attributes_after cut_after row_text rows_from label compression hexadecimal printed_byte printed_type printed_packing name_of_type digits
 fresh_image = refl
 
-small_component : print (image_of (component (codes "a") 0x50 ++ free 404 448)) coreboot ≡ prints (codes "a\t0x0\traw\t10\tnone\n(empty)\t0x40\tnull\t404\tnone\n") (Ok tt)
+small_component : print (image_of (component (codes "a") 0x50 ++ free 404 448)) coreboot false ≡ prints (codes "a\t0x0\traw\t10\tnone\n(empty)\t0x40\tnull\t404\tnone\n") (Ok tt)
 unfolding print print_region region_of has_signature fmap_head_of area_of is_valid_head is_map map_from areas_from entry has_magic checked head_of attr_head_of attributes_after cut_after row_text rows_from label compression hexadecimal printed_byte printed_type printed_packing name_of_type digits
 small_component = refl
 
-damage_behind_a_component : print (image_of (component (codes "a") 0x50 ++ free 0xffffffff 448)) coreboot ≡ prints (codes "a\t0x0\traw\t10\tnone\n") (Err (Damaged 64 kinds.Extent))
+damage_behind_a_component : print (image_of (component (codes "a") 0x50 ++ free 0xffffffff 448)) coreboot false ≡ prints (codes "a\t0x0\traw\t10\tnone\n") (Err (Damaged 64 kinds.Extent))
 unfolding print print_region region_of has_signature fmap_head_of area_of is_valid_head is_map map_from areas_from entry has_magic checked head_of attr_head_of attributes_after cut_after row_text rows_from label compression hexadecimal printed_byte printed_type printed_packing name_of_type digits
 damage_behind_a_component = refl
 
-tail_behind_free_space : print (image_of (component (codes "a") 0x50 ++ free 344 384 ++ replicate 64 0xff)) coreboot ≡ prints (codes "a\t0x0\traw\t10\tnone\n(empty)\t0x40\tnull\t344\tnone\n") (Ok tt)
+tail_behind_free_space : print (image_of (component (codes "a") 0x50 ++ free 344 384 ++ replicate 64 0xff)) coreboot false ≡ prints (codes "a\t0x0\traw\t10\tnone\n(empty)\t0x40\tnull\t344\tnone\n") (Ok tt)
 unfolding print print_region region_of has_signature fmap_head_of area_of is_valid_head is_map map_from areas_from entry has_magic checked head_of attr_head_of attributes_after cut_after row_text rows_from label compression hexadecimal printed_byte printed_type printed_packing name_of_type digits
 tail_behind_free_space = refl
 
-escaped_name_and_unknown_type : print (image_of (component (codes "a b\\") 0x1234 ++ free 404 448)) coreboot ≡ prints (codes "a\\x20b\\x5c\t0x0\t0x1234\t10\tnone\n(empty)\t0x40\tnull\t404\tnone\n") (Ok tt)
+escaped_name_and_unknown_type : print (image_of (component (codes "a b\\") 0x1234 ++ free 404 448)) coreboot false ≡ prints (codes "a\\x20b\\x5c\t0x0\t0x1234\t10\tnone\n(empty)\t0x40\tnull\t404\tnone\n") (Ok tt)
 unfolding print print_region region_of has_signature fmap_head_of area_of is_valid_head is_map map_from areas_from entry has_magic checked head_of attr_head_of attributes_after cut_after row_text rows_from label compression hexadecimal printed_byte printed_type printed_packing name_of_type digits
 escaped_name_and_unknown_type = refl
 
-packed_component : print (image_of (packed 0x42435a4c 1 ++ free 340 384)) coreboot ≡ prints (codes "p\t0x0\traw\t30\tLZMA\n(empty)\t0x80\tnull\t340\tnone\n") (Ok tt)
+packed_component : print (image_of (packed 0x42435a4c 1 ++ free 340 384)) coreboot false ≡ prints (codes "p\t0x0\traw\t30\tLZMA\n(empty)\t0x80\tnull\t340\tnone\n") (Ok tt)
 unfolding print print_region region_of has_signature fmap_head_of area_of is_valid_head is_map map_from areas_from entry has_magic checked head_of attr_head_of attributes_after cut_after row_text rows_from label compression hexadecimal printed_byte printed_type printed_packing name_of_type digits
 packed_component = refl
 
-map_at_an_odd_place : print (image_behind (codes "__FMAP") (free 468 512)) coreboot ≡ prints (codes "(empty)\t0x0\tnull\t468\tnone\n") (Ok tt)
+map_at_an_odd_place : print (image_behind (codes "__FMAP") (free 468 512)) coreboot false ≡ prints (codes "(empty)\t0x0\tnull\t468\tnone\n") (Ok tt)
 unfolding print print_region region_of has_signature fmap_head_of area_of is_valid_head is_map map_from areas_from entry has_magic checked head_of attr_head_of attributes_after cut_after row_text rows_from label compression hexadecimal printed_byte printed_type printed_packing name_of_type digits
 map_at_an_odd_place = refl
 
-cut_image : print (take 768 (image_of (free 468 512))) coreboot ≡ prints [] (Err RegionOutside)
+cut_image : print (take 768 (image_of (free 468 512))) coreboot false ≡ prints [] (Err RegionOutside)
 unfolding print print_region region_of has_signature fmap_head_of area_of is_valid_head is_map map_from areas_from
 cut_image = refl
 
-no_such_region : print (image_of (free 468 512)) (codes "NONE") ≡ prints [] (Err NoRegion)
+no_such_region : print (image_of (free 468 512)) (codes "NONE") false ≡ prints [] (Err NoRegion)
 unfolding print print_region region_of has_signature fmap_head_of area_of is_valid_head is_map map_from areas_from
 no_such_region = refl
 
-no_cbfs_region : print (image_of (free 468 512)) (codes "REST") ≡ prints [] (Err NotCbfs)
+no_cbfs_region : print (image_of (free 468 512)) (codes "REST") false ≡ prints [] (Err NotCbfs)
 unfolding print print_region region_of has_signature fmap_head_of area_of is_valid_head is_map map_from areas_from entry has_magic checked
 no_cbfs_region = refl
 
-no_map : print (replicate 4096 0xff) coreboot ≡ prints [] (Err NoFmap)
+no_map : print (replicate 4096 0xff) coreboot false ≡ prints [] (Err NoFmap)
 unfolding print print_region region_of has_signature fmap_head_of area_of is_valid_head is_map map_from areas_from
 no_map = refl
 

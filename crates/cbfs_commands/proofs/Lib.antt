@@ -2,6 +2,7 @@ mod Digits
 mod RowLemmas
 mod Telling
 mod Areas
+mod Listing
 mod Printing
 mod Meeting
 mod Examples

@@ -66,7 +66,7 @@ removes name component = record {
 
 -- each command
 abbrev pub deed : Request → Deed
-deed (requests.print region) = tells (λ image. print image region)
+deed (requests.print region verbose) = tells (λ image. print image region verbose)
 deed requests.layout = tells layout
 deed (requests.extract region name) = tells (λ image. extract image region name)
 deed (requests.add a) = adds a

@@ -1,5 +1,5 @@
 -- What each command writes, leaves behind and answers, as a function of the whole image, the command and the source.
-use Rattle.std.specs.Prelude.{◌≡◌, ℕ, ◌<◌, ◌⊎◌, List, [], length, Option, None, Some, Result, Ok, Err, IsErrOf, ◌==◌, if◌then◌else◌}
+use Rattle.std.specs.Prelude.{◌≡◌, ℕ, ◌<◌, ◌⊎◌, Bool, List, [], length, Option, None, Some, Result, Ok, Err, IsErrOf, ◌==◌, if◌then◌else◌}
 use Rattle.std.specs.Io.KnownBytes.{Appends}
 use Rattle.flash_format.specs.Components.{Component, is_packed}
 use Rattle.flash_format.specs.Cut.{Cut, End, complete, tail, damage, cut}
@@ -21,7 +21,7 @@ use Rattle.cbfs_walk.specs.Shaped.{place_after}
 use Rattle.cbfs_walk.specs.Shapes.{shape, refused_or}
 use Rattle.cbfs_commands.specs.declared.refusal.Refusal.TheVariants as refusals
 use Rattle.cbfs_commands.specs.Refusals.{edit_refusal, store_refusal, walk_refusal}
-use Rattle.cbfs_commands.specs.Rows.{rows_from}
+use Rattle.cbfs_commands.specs.Details.{rows_from}
 use Rattle.cbfs_commands.specs.Told.{Answer, Told, shows, refuses, AppendsPrefix}
 
 pub record Outcome : Type 0 where
@@ -41,19 +41,19 @@ ended at tail = Ok tt
 ended at (damage kind) = Err (refusals.Damaged at kind)
 
 -- a row for each cell, then the damage that ends them, at the place after them
-abbrev pub print_cut : ℕ → Cut → Told
-print_cut at c = record { written = rows_from at c.cells; answer = ended (place_after at c.cells) c.end }
+abbrev pub print_cut : Bool → ℕ → Cut → Told
+print_cut verbose at c = record { written = rows_from verbose at c.cells; answer = ended (place_after at c.cells) c.end }
 
-unfoldable pub print_region : List ℕ → Told
-print_region x = refused_or (λ fault. refuses (walk_refusal fault)) (shape x) (print_cut 0 (cut x))
+unfoldable pub print_region : List ℕ → Bool → Told
+print_region x verbose = refused_or (λ fault. refuses (walk_refusal fault)) (shape x) (print_cut verbose 0 (cut x))
 
-abbrev pub print_found : List ℕ → Result Range StoreFault → Told
-print_found image (Err fault) = refuses (store_refusal fault)
-print_found image (Ok region) = print_region (bytes_in region image)
+abbrev pub print_found : List ℕ → Result Range StoreFault → Bool → Told
+print_found image (Err fault) verbose = refuses (store_refusal fault)
+print_found image (Ok region) verbose = print_region (bytes_in region image) verbose
 
--- the rows of the region's cells
-unfoldable pub print : List ℕ → List ℕ → Told
-print image name = print_found image (region_of image name)
+-- the rows of the region's cells, with the lines of its components where verbose
+unfoldable pub print : List ℕ → List ℕ → Bool → Told
+print image name verbose = print_found image (region_of image name) verbose
 
 -- ---- extract
 

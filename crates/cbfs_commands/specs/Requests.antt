@@ -1,5 +1,5 @@
 -- The command that a command line asks for, as contracts see it.
-use Rattle.std.specs.Prelude.{ℕ, List}
+use Rattle.std.specs.Prelude.{ℕ, Bool, List}
 use Rattle.cbfs_edit.specs.declared.addition.HashChoice.{HashChoice}
 use Rattle.cbfs_edit.specs.declared.place.Spot.{Spot}
 use Rattle.cbfs_commands.specs.declared.command.Command.{Command}
@@ -15,7 +15,7 @@ pub record Adding : Type 0 where
 
 -- a command by the bytes of its words
 pub data Request : Type 0 where
-  print : List ℕ → Request
+  print : List ℕ → Bool → Request
   layout : Request
   extract : List ℕ → List ℕ → Request
   add : Adding → Request
@@ -24,7 +24,7 @@ pub data Request : Type 0 where
   write : List ℕ → Request
 
 abbrev pub asked : Command → Request
-asked (commands.Print region) = print region.now
+asked (commands.Print region verbose) = print region.now verbose
 asked commands.Layout = layout
 asked (commands.Extract region name) = extract region.now name.now
 asked (commands.Add region name kind hash spot) = add (record { region = region.now; name = name.now; kind = kind; hash = hash; spot = spot })

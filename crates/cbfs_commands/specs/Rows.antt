@@ -1,10 +1,9 @@
 -- What `print` writes: a row for each cell of a region. The forms of the texts are this project's own.
-use Rattle.std.specs.Prelude.{ℕ, ◌+◌, ◌/◌, ◌%◌, false, not, ◌&&◌, List, [], ◌∷◌, ◌++◌, length, ◌==◌, if◌then◌else◌, unwrap_or}
+use Rattle.std.specs.Prelude.{ℕ, ◌/◌, ◌%◌, false, not, ◌&&◌, List, [], ◌∷◌, ◌++◌, ◌==◌, if◌then◌else◌, unwrap_or}
 use Rattle.std.specs.List.{flat_map}
 use Rattle.std.specs.Fmt.{digits, decimal, digit_glyph}
 use lib.Chars.{codes}
 use Rattle.flash_format.specs.Head.{head_of, is_free}
-use Rattle.flash_format.specs.Cut.{cut}
 use Rattle.flash_format.specs.Components.{cell_name, cell_attributes, packing}
 use Rattle.flash_format.specs.Flashmap.{is_printing}
 use Rattle.flash_format.specs.TypeNames.{name_of_type}
@@ -53,12 +52,3 @@ row_text at h name n = label h name ++ tab ++ hexadecimal at ++ tab ++ printed_t
 -- the row of a cell of these bytes
 abbrev pub row : ℕ → List ℕ → List ℕ
 row at x = row_text at (head_of x) (cell_name x) (packing (cell_attributes x))
-
--- the rows of cells, of which the first stands at this place
-unfoldable pub rows_from : ℕ → List (List ℕ) → List ℕ
-rows_from at [] = []
-rows_from at (x ∷ cells) = row at x ++ rows_from (at + length x) cells
-
--- the text shown of a region
-abbrev pub shown : List ℕ → List ℕ
-shown x = rows_from 0 (cut x).cells

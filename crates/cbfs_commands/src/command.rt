@@ -5,8 +5,8 @@ use cbfs_edit::{HashChoice, Spot};
 /// A command and its words. A region and a component are named by bytes.
 #[derive(Clone, Copy, Debug, PartialEq, Eq)]
 pub enum Command<'a> {
-    /// Writes a row for each cell of the region.
-    Print { region: &'a [u8] },
+    /// Writes a row for each cell of the region; where verbose, with a line for each attribute and for the digest.
+    Print { region: &'a [u8], verbose: bool },
     /// Writes the place of the flashmap, and its areas.
     Layout,
     /// Writes the content of the first component of the name.

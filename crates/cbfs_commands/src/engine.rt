@@ -58,7 +58,7 @@ pub fn run<F: Flash, S: Source, W: Sink>(
         (F.facts paged.new.device).content }
 {
     match command {
-        Command::Print { region } => print(paged, region, out),
+        Command::Print { region, verbose } => print(paged, region, *verbose, out),
         Command::Layout => layout(paged, out),
         Command::Extract { region, name } => extract(paged, region, name, out),
         Command::Add {

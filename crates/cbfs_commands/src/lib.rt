@@ -3,6 +3,7 @@
 
 mod add;
 mod command;
+mod detail;
 mod engine;
 mod extract;
 mod layout;

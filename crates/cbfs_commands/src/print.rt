@@ -6,9 +6,11 @@ ghost use Rattle.flash_store.specs.Regions.{LiesIn, bytes_in};
 ghost use Rattle.cbfs_walk.specs.Cells.{IsCellIn, cell_in};
 ghost use Rattle.cbfs_walk.specs.Walks.{StandsIn};
 ghost use Rattle.cbfs_commands.specs.Outcomes.{print, print_region};
+ghost use Rattle.cbfs_commands.specs.Details.{cell_reads, region_reads, shown_cell};
 ghost use Rattle.cbfs_commands.specs.Rows.{row};
 ghost use Rattle.cbfs_commands.specs.Told.{HasTold, Tells, shows};
 
+use crate::detail::print_details;
 use crate::refusal::{Refusal, store_refusal, walk_refusal};
 use crate::row::{Row, put_row, row_text};
 use cbfs_walk::{Cell, Step, Walk, cells_stand_in_their_image, name, packing};
@@ -34,7 +36,7 @@ fn cell_row<F: Flash>(paged: &mut Paged<F>, region: Region, cell: &Cell) -> Resu
 }
 
 /// Writes the row of a cell.
-fn print_cell<F: Flash, W: Sink>(
+fn print_row<F: Flash, W: Sink>(
     paged: &mut Paged<F>,
     region: Region,
     cell: &Cell,
@@ -53,22 +55,49 @@ fn print_cell<F: Flash, W: Sink>(
     }
 }
 
-/// Writes a row for each cell of a region.
+/// Writes the row of a cell, and where verbose the lines of a component after it.
+fn print_cell<F: Flash, W: Sink>(
+    paged: &mut Paged<F>,
+    region: Region,
+    cell: &Cell,
+    verbose: bool,
+    out: &mut W,
+) -> Result<(), Refusal>
+    requires region { LiesIn region (F.facts paged.old.device).content }
+    requires cell { IsCellIn region.size cell.now }
+
+    ensures after { HasTold F.facts W.faults (cell_reads verbose cell.now.span) paged.old paged.new out.old out.new result }
+    ensures told { OnHonestIn F.facts paged.old.device region (λ x. StandsIn x cell.now → Tells (W.contents
+        out.old) (W.contents out.new) result (shows (shown_cell verbose cell.now.at (cell_in x cell.now)))) }
+{
+    cells_stand_in_their_image();
+    match print_row(paged, region, cell, out) {
+        Ok(()) => {}
+        Err(refusal) => return Err(refusal),
+    }
+    if verbose && !cell.head.is_free() {
+        return print_details(paged, region, cell, out);
+    }
+    Ok(())
+}
+
+/// Writes the rows of a region's cells.
 fn print_region<F: Flash, W: Sink>(
     paged: &mut Paged<F>,
     region: Region,
+    verbose: bool,
     out: &mut W,
 ) -> Result<(), Refusal>
     requires { LiesIn region (F.facts paged.old.device).content }
 
-    ensures after { HasTold F.facts W.faults (region.size / 16 + 2) paged.old paged.new out.old out.new result }
+    ensures after { HasTold F.facts W.faults (region_reads verbose region.size + 2) paged.old paged.new out.old out.new result }
     ensures told { OnHonestIn F.facts paged.old.device region (λ x. Tells (W.contents out.old) (W.contents
-        out.new) result (print_region x)) }
+        out.new) result (print_region x verbose)) }
 {
     let mut walk = Walk::new(region);
     loop {
         match walk.next(paged) {
-            Ok(Step::Cell(cell)) => match print_cell(paged, region, &cell, out) {
+            Ok(Step::Cell(cell)) => match print_cell(paged, region, &cell, verbose, out) {
                 Ok(()) => {}
                 Err(refusal) => return Err(refusal),
             },
@@ -84,14 +113,15 @@ fn print_region<F: Flash, W: Sink>(
 pub fn print<F: Flash, W: Sink>(
     paged: &mut Paged<F>,
     name: &[u8],
+    verbose: bool,
     out: &mut W,
 ) -> Result<(), Refusal>
     ensures after { HasTold F.facts W.faults (2 * length (F.facts paged.old.device).content + 64) paged.old paged.new out.old out.new result }
     ensures told { OnHonest F.facts paged.old.device (λ image. Tells (W.contents out.old) (W.contents out.new)
-        result (print image name.now)) }
+        result (print image name.now verbose)) }
 {
     match flash_store::region(paged, name) {
-        Ok(region) => print_region(paged, region, out),
+        Ok(region) => print_region(paged, region, verbose, out),
         Err(fault) => Err(store_refusal(fault)),
     }
 }

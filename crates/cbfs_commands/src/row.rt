@@ -13,7 +13,7 @@ use flash_store::{Sink, put_all};
 use itoa::Buffer;
 
 /// Room for the longest row: a name of 255 bytes, each escaped, and the other fields.
-const ROW_LEN: usize = 1152;
+pub const ROW_LEN: usize = 1152;
 
 pub type Row = ArrayVec<u8, ROW_LEN>;
 

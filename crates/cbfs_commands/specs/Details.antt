@@ -1,0 +1,68 @@
+-- What `print -v` adds after a component's row: a line for each attribute, and one for its digest. The forms of the texts
+-- are this project's own.
+use Rattle.std.specs.Prelude.{ℕ, ◌+◌, ◌/◌, Bool, not, ◌&&◌, List, [], ◌∷◌, ◌++◌, length, if◌then◌else◌}
+use Rattle.std.specs.List.{flat_map}
+use Rattle.std.specs.Fmt.{decimal}
+use lib.Chars.{codes}
+use Rattle.byteorder.specs.Endian.{big_bytes}
+use Rattle.hex.specs.Hex.{encode_lower}
+use Rattle.flash_format.specs.Head.{head_of, is_free}
+use Rattle.flash_format.specs.Cut.{cut}
+use Rattle.flash_format.specs.Attributes.{Attribute}
+use Rattle.flash_format.specs.Components.{cell_attributes, cell_content}
+use Rattle.flash_format.specs.Made.{digest_bytes}
+use Rattle.flash_format.specs.declared.digest.Digest.{Digest}
+use Rattle.flash_format.specs.declared.digest.Digest.TheVariants as digests
+use Rattle.cbfs_walk.specs.Hashes.{hash_state}
+use Rattle.cbfs_walk.specs.declared.hashes.HashState.{HashState}
+use Rattle.cbfs_walk.specs.declared.hashes.HashState.TheVariants.{Absent, Valid, Invalid, Unsupported}
+use Rattle.cbfs_commands.specs.Rows.{row, tab, line_feed}
+
+-- the line of an attribute: its tag with eight digits, and its length, which counts its head
+unfoldable pub attribute_text : ℕ → ℕ → List ℕ
+attribute_text tag len = codes "\tattr\t0x" ++ encode_lower (big_bytes 4 tag) ++ tab ++ decimal len ++ line_feed
+
+abbrev pub attribute_line : Attribute → List ℕ
+attribute_line a = attribute_text a.tag (8 + length a.contents)
+
+abbrev pub algorithm_name : Digest → List ℕ
+algorithm_name (digests.Sha256 bytes) = codes "sha256"
+algorithm_name (digests.Sha512 bytes) = codes "sha512"
+
+-- the line of a digest: its algorithm, its digits, and whether it is the content's
+abbrev pub digest_line : Digest → List ℕ → List ℕ
+digest_line d verdict = codes "\thash\t" ++ algorithm_name d ++ tab ++ encode_lower (digest_bytes d) ++ tab ++ verdict ++ line_feed
+
+-- the line of what the first hash attribute says, where there is one
+unfoldable pub hash_line : HashState → List ℕ
+hash_line Absent = []
+hash_line (Valid d) = digest_line d (codes "valid")
+hash_line (Invalid d) = digest_line d (codes "invalid")
+hash_line Unsupported = codes "\thash\tunsupported\n"
+
+-- all lines of a component
+abbrev pub details : List ℕ → List ℕ
+details x = flat_map attribute_line (cell_attributes x) ++ hash_line (hash_state (cell_attributes x) (cell_content x))
+
+-- the row of a cell of these bytes at a place, with the lines after it
+abbrev pub shown_cell : Bool → ℕ → List ℕ → List ℕ
+shown_cell verbose at x = row at x ++ (if verbose && not (is_free (head_of x)) then details x else [])
+
+-- the same of cells, of which the first stands at this place
+unfoldable pub rows_from : Bool → ℕ → List (List ℕ) → List ℕ
+rows_from verbose at [] = []
+rows_from verbose at (x ∷ cells) = shown_cell verbose at x ++ rows_from verbose (at + length x) cells
+
+-- the text shown of a region
+abbrev pub shown : List ℕ → Bool → List ℕ
+shown x verbose = rows_from verbose 0 (cut x).cells
+
+-- ---- counts
+
+-- how many calls show a cell of so many bytes
+abbrev pub cell_reads : Bool → ℕ → ℕ
+cell_reads verbose span = 2 + span / 3840 + (if verbose then 1 + span / 8 + span / 3840 else 0)
+
+-- how many show so many bytes of a region
+abbrev pub region_reads : Bool → ℕ → ℕ
+region_reads verbose n = if verbose then n / 4 else n / 16

@@ -1,0 +1,180 @@
+//! The lines that a verbose listing has of a component, after its row.
+
+ghost use Rattle.std.specs.Prelude.{◌≡◌, ◌+◌, ◌/◌, ◌≤◌, ◌++◌, false, length, IsTrue};
+ghost use Rattle.std.specs.List.{flat_map};
+ghost use Rattle.byteorder.specs.Endian.{big_bytes};
+ghost use Rattle.hex.specs.Hex.{encode_lower};
+ghost use Rattle.arrayvec.specs.ArrayVec.{array_vec_len};
+ghost use Rattle.flash_format.specs.Head.{is_free};
+ghost use Rattle.flash_format.specs.Made.{digest_bytes};
+ghost use Rattle.flash_format.specs.Components.{cell_attributes, cell_content};
+ghost use Rattle.flash_store.specs.Pages.{OnHonestIn};
+ghost use Rattle.flash_store.specs.Regions.{LiesIn};
+ghost use Rattle.cbfs_walk.specs.Cells.{IsCellIn, cell_in};
+ghost use Rattle.cbfs_walk.specs.Hashes.{hash_state};
+ghost use Rattle.cbfs_walk.specs.Walks.{StandsIn};
+ghost use Rattle.cbfs_commands.specs.Details.{algorithm_name, attribute_line, attribute_text, details, digest_line, hash_line};
+ghost use Rattle.cbfs_commands.specs.Told.{HasTold, Tells, shows};
+
+use crate::refusal::Refusal;
+use crate::row::{ROW_LEN, Row, push_decimal, push_text, put_row};
+use arrayvec::ArrayVec;
+use byteorder::{BigEndian, ByteOrder};
+use cbfs_walk::{Cell, HashState, attributes, cells_stand_in_their_image, check_hash};
+use flash_format::{AttrHead, Digest, digest_text};
+use flash_store::{Flash, Paged, Region, Sink};
+
+/// Eight digits of a tag.
+fn push_tag(row: &mut Row, tag: u32)
+    requires { array_vec_len row.old + 8 ≤ ROW_LEN }
+    ensures items { row.new.items ≡ row.old.items ++ encode_lower (big_bytes 4 tag) }
+    ensures len { array_vec_len row.new ≡ array_vec_len row.old + 8 }
+{
+    let mut bytes = [0; 4];
+    BigEndian::write_u32(&mut bytes, tag);
+    let mut digits = [0; 8];
+    let _fits = hex::encode_to_slice(&bytes, &mut digits);
+    push_text(row, &digits);
+}
+
+/// The line of an attribute.
+#[tactic(auto, unfolding(crate::specs::Details::attribute_text))]
+fn attribute_row(head: &AttrHead) -> Row
+    ensures { result.items ≡ attribute_text head.now.tag head.now.len }
+{
+    let mut row = ArrayVec::new();
+    push_text(&mut row, b"\tattr\t0x");
+    push_tag(&mut row, head.tag);
+    push_text(&mut row, b"\t");
+    push_decimal(&mut row, head.len);
+    push_text(&mut row, b"\n");
+    row
+}
+
+/// The name of a digest's algorithm.
+fn push_algorithm(row: &mut Row, digest: &Digest)
+    requires { array_vec_len row.old + 6 ≤ ROW_LEN }
+    ensures items { row.new.items ≡ row.old.items ++ algorithm_name digest.now }
+    ensures len { array_vec_len row.new ≡ array_vec_len row.old + 6 }
+{
+    match digest {
+        Digest::Sha256(_) => push_text(row, b"sha256"),
+        Digest::Sha512(_) => push_text(row, b"sha512"),
+    }
+}
+
+/// The digits of a digest.
+fn push_digest(row: &mut Row, digest: &Digest)
+    requires { array_vec_len row.old + 128 ≤ ROW_LEN }
+    ensures items { row.new.items ≡ row.old.items ++ encode_lower (digest_bytes digest.now) }
+    ensures len { array_vec_len row.new ≤ array_vec_len row.old + 128 }
+{
+    let mut digits = [0; 128];
+    let n = digest_text(digest, &mut digits);
+    push_text(row, &digits[..n]);
+}
+
+/// The line of a digest.
+fn digest_row(digest: &Digest, verdict: &[u8]) -> Row
+    requires { length verdict.now ≤ 7 }
+    ensures { result.items ≡ digest_line digest.now verdict.now }
+{
+    let mut row = ArrayVec::new();
+    push_text(&mut row, b"\thash\t");
+    push_algorithm(&mut row, digest);
+    push_text(&mut row, b"\t");
+    push_digest(&mut row, digest);
+    push_text(&mut row, b"\t");
+    push_text(&mut row, verdict);
+    push_text(&mut row, b"\n");
+    row
+}
+
+/// The line of what the first hash attribute says; none where there is no such attribute.
+#[tactic(auto, unfolding(crate::specs::Details::hash_line))]
+fn hash_row(state: &HashState) -> Row
+    ensures { result.items ≡ hash_line state.now }
+{
+    match state {
+        HashState::Absent => ArrayVec::new(),
+        HashState::Valid(digest) => digest_row(digest, b"valid"),
+        HashState::Invalid(digest) => digest_row(digest, b"invalid"),
+        HashState::Unsupported => {
+            let mut row = ArrayVec::new();
+            push_text(&mut row, b"\thash\tunsupported\n");
+            row
+        }
+    }
+}
+
+/// Writes a line for each attribute of a component.
+fn print_attributes<F: Flash, W: Sink>(
+    paged: &mut Paged<F>,
+    region: Region,
+    cell: &Cell,
+    out: &mut W,
+) -> Result<(), Refusal>
+    requires region { LiesIn region (F.facts paged.old.device).content }
+    requires cell { IsCellIn region.size cell.now }
+    requires component { is_free cell.now.head ≡ false }
+
+    ensures after { HasTold F.facts W.faults (cell.now.head.offset / 8) paged.old paged.new out.old out.new result }
+    ensures told { OnHonestIn F.facts paged.old.device region (λ x. StandsIn x cell.now → Tells (W.contents out.old)
+        (W.contents out.new) result (shows (flat_map attribute_line (cell_attributes (cell_in x cell.now))))) }
+{
+    let mut walk = attributes(cell);
+    loop {
+        match walk.next(paged, region) {
+            Ok(Some(head)) => match put_row(out, &attribute_row(&head)) {
+                Ok(()) => {}
+                Err(refusal) => return Err(refusal),
+            },
+            Ok(None) => return Ok(()),
+            Err(_) => return Err(Refusal::Device),
+        }
+    }
+}
+
+/// Writes the line of a component's digest.
+fn print_hash<F: Flash, W: Sink>(
+    paged: &mut Paged<F>,
+    region: Region,
+    cell: &Cell,
+    out: &mut W,
+) -> Result<(), Refusal>
+    requires region { LiesIn region (F.facts paged.old.device).content }
+    requires cell { IsCellIn region.size cell.now }
+    requires component { is_free cell.now.head ≡ false }
+
+    ensures after { HasTold F.facts W.faults (1 + cell.now.span / 3840) paged.old paged.new out.old out.new result }
+    ensures told { OnHonestIn F.facts paged.old.device region (λ x. StandsIn x cell.now → Tells (W.contents out.old)
+        (W.contents out.new) result (shows (hash_line (hash_state (cell_attributes (cell_in x cell.now))
+        (cell_content (cell_in x cell.now)))))) }
+{
+    match check_hash(paged, region, cell) {
+        Ok(state) => put_row(out, &hash_row(&state)),
+        Err(_) => Err(Refusal::Device),
+    }
+}
+
+/// Writes the lines of a component.
+pub fn print_details<F: Flash, W: Sink>(
+    paged: &mut Paged<F>,
+    region: Region,
+    cell: &Cell,
+    out: &mut W,
+) -> Result<(), Refusal>
+    requires region { LiesIn region (F.facts paged.old.device).content }
+    requires cell { IsCellIn region.size cell.now }
+    requires component { is_free cell.now.head ≡ false }
+
+    ensures after { HasTold F.facts W.faults (cell.now.head.offset / 8 + (1 + cell.now.span / 3840)) paged.old paged.new
+        out.old out.new result }
+    ensures told { OnHonestIn F.facts paged.old.device region (λ x. StandsIn x cell.now → Tells (W.contents out.old)
+        (W.contents out.new) result (shows (details (cell_in x cell.now)))) }
+{
+    match print_attributes(paged, region, cell, out) {
+        Ok(()) => print_hash(paged, region, cell, out),
+        Err(refusal) => Err(refusal),
+    }
+}
