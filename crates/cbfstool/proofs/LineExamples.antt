@@ -1,5 +1,5 @@
 -- Command lines, computed by clap's definitions.
-use Rattle.std.proofs.Common.{◌≡◌, ℕ, List, [], ◌∷◌, Option, Some, Result, Ok, Err, refl}
+use Rattle.std.proofs.Common.{◌≡◌, ℕ, List, [], ◌∷◌, Option, Some, Result, Ok, Err, true, false, refl}
 use Rattle.std.specs.Option.{option_map}
 use lib.Chars.{codes}
 use Rattle.clap.specs.Words.{fault_of}
@@ -17,17 +17,21 @@ use Rattle.cbfstool.specs.CommandLine.{command_line, command_of, text_of, texts_
 abbrev asked_by : List (List ℕ) → Option (Result Request Refusal)
 asked_by words = option_map command_of (texts_of words)
 
-no_region : asked_by (codes "img" ∷ codes "print" ∷ []) ≡ Some (Ok (print (codes "COREBOOT")))
+no_region : asked_by (codes "img" ∷ codes "print" ∷ []) ≡ Some (Ok (print (codes "COREBOOT") false))
 unfolding clap_on_literals
 no_region = refl
 
-a_region : asked_by (codes "img" ∷ codes "print" ∷ codes "-r" ∷ codes "RO" ∷ []) ≡ Some (Ok (print (codes "RO")))
+a_region : asked_by (codes "img" ∷ codes "print" ∷ codes "-r" ∷ codes "RO" ∷ []) ≡ Some (Ok (print (codes "RO") false))
 unfolding clap_on_literals
 a_region = refl
 
-an_empty_region : asked_by (codes "img" ∷ codes "print" ∷ codes "-r" ∷ codes "" ∷ []) ≡ Some (Ok (print []))
+an_empty_region : asked_by (codes "img" ∷ codes "print" ∷ codes "-r" ∷ codes "" ∷ []) ≡ Some (Ok (print [] false))
 unfolding clap_on_literals
 an_empty_region = refl
+
+a_verbose_listing : asked_by (codes "img" ∷ codes "print" ∷ codes "-v" ∷ []) ≡ Some (Ok (print (codes "COREBOOT") true))
+unfolding clap_on_literals
+a_verbose_listing = refl
 
 a_layout : asked_by (codes "img" ∷ codes "layout" ∷ []) ≡ Some (Ok layout)
 unfolding clap_on_literals

@@ -19,11 +19,20 @@ use Rattle.cbfs_commands.specs.Requests as requests
 use Rattle.cbfs_commands.specs.declared.command.Command.{Command}
 use Rattle.cbfs_commands.specs.declared.refusal.Refusal.{Refusal}
 use Rattle.cbfs_commands.specs.declared.refusal.Refusal.TheVariants as refusals
-use Rattle.clap.specs.declared.builder.action.ArgAction.TheVariants.{Set}
+use Rattle.clap.specs.declared.builder.action.ArgAction.{ArgAction}
+use Rattle.clap.specs.declared.builder.action.ArgAction.TheVariants.{Set, SetTrue}
 
--- an option of one letter with a value
+-- an option of one letter
+abbrev pub rule_of : List ℕ → ℕ → ArgAction → Bool → Rule
+rule_of id letter action required = record (new_rule id) { short = Some letter; action = Some action; required = required }
+
+-- one with a value
 abbrev pub option_of : List ℕ → ℕ → Bool → Rule
-option_of id letter required = record (new_rule id) { short = Some letter; action = Some Set; required = required }
+option_of id letter required = rule_of id letter Set required
+
+-- one without
+abbrev pub verbose_option : Rule
+verbose_option = rule_of (codes "verbose") 118 SetTrue false
 
 abbrev pub region_option : Rule
 region_option = option_of (codes "region") 114 false
@@ -52,7 +61,7 @@ subcommand_of name options = record (new_shape name) { rules = options }
 
 abbrev pub subcommands : List Shape
 subcommands =
-    subcommand_of (codes "print") (region_option ∷ [])
+    subcommand_of (codes "print") (region_option ∷ verbose_option ∷ [])
     ∷ subcommand_of (codes "layout") []
     ∷ subcommand_of (codes "extract") (region_option ∷ file_option ∷ name_option ∷ [])
     ∷ subcommand_of (codes "add") (region_option ∷ name_option ∷ file_option ∷ type_option ∷ alignment_option ∷ base_option ∷ hash_option ∷ [])
@@ -91,6 +100,11 @@ text_of id t = first_of id t.options
 -- the region of a line without `-r`
 abbrev pub region_named : Texts → List ℕ
 region_named t = unwrap_or (text_of (codes "region") t) (codes "COREBOOT")
+
+-- whether `-v` stands there, whose text clap gives
+abbrev pub verbose_by : Option (List ℕ) → Bool
+verbose_by None = false
+verbose_by (Some text) = bytes_eq text (codes "true")
 
 -- where an option that is required is there
 abbrev pub given : Option (List ℕ) → Request → Result Request Refusal
@@ -139,7 +153,7 @@ removal region (Some name) = Ok (requests.remove region name)
 -- the command that the texts ask for
 abbrev pub command_of : Texts → Result Request Refusal
 command_of t =
-    if bytes_eq t.subcommand (codes "print") then Ok (requests.print (region_named t))
+    if bytes_eq t.subcommand (codes "print") then Ok (requests.print (region_named t) (verbose_by (text_of (codes "verbose") t)))
     else (if bytes_eq t.subcommand (codes "layout") then Ok requests.layout
     else (if bytes_eq t.subcommand (codes "extract") then extraction (region_named t) (text_of (codes "name") t) (text_of (codes "file") t)
     else (if bytes_eq t.subcommand (codes "add") then

@@ -2,19 +2,19 @@
 use Rattle.std.specs.Prelude.{ℕ, List, [], ◌∷◌}
 use Rattle.std.specs.Borrow.{Bor}
 use Rattle.clap.specs.Words.{App, Rule, new_app, with_rule, with_subcommand}
-use Rattle.cbfstool.specs.CommandLine.{option_of}
-use Rattle.cbfstool.specs.declared.words.TextOption.{TextOption}
+use Rattle.cbfstool.specs.CommandLine.{rule_of}
+use Rattle.cbfstool.specs.declared.words.TableOption.{TableOption}
 
-abbrev pub rule_by : TextOption → Rule
-rule_by o = option_of o.id.now o.letter o.required
+abbrev pub rule_by : TableOption → Rule
+rule_by o = rule_of o.id.now o.letter o.action o.required
 
-abbrev pub with_options : App → List TextOption → App
+abbrev pub with_options : App → List TableOption → App
 with_options a [] = a
 with_options a (o ∷ os) = with_options (with_rule a (rule_by o)) os
 
 -- a subcommand's name and its options
 abbrev pub TableRow : Type 0
-TableRow = Bor (List ℕ) × Bor (List TextOption)
+TableRow = Bor (List ℕ) × Bor (List TableOption)
 
 abbrev pub with_row : App → TableRow → App
 with_row a row = with_subcommand a (with_options (new_app row.0.now) row.1.now).top

@@ -2,7 +2,7 @@
 
 ghost use Rattle.std.specs.Prelude.{◌≡◌, ◌≢◌, ◌⊎◌, [], Some, IfOk, IfErr, codes, drop, map, option_map, true};
 ghost use Rattle.clap.specs.Words.{fault_of, has_subcommand, kind_of, subcommand_rows_of};
-ghost use Rattle.cbfstool.specs.CommandLine.{addition, command_line, command_of, hash_by, kind_by, refusal_by, seen, spot_by, text_of, texts_of, with_image};
+ghost use Rattle.cbfstool.specs.CommandLine.{addition, command_line, command_of, hash_by, kind_by, refusal_by, seen, spot_by, text_of, texts_of, verbose_by, with_image};
 
 use crate::words::whole_command;
 use cbfs_commands::{Command, Refusal};
@@ -66,7 +66,10 @@ impl<'a> Line<'a> {
     {
         let region = self.option("region").unwrap_or(DEFAULT_REGION).as_bytes();
         match self.subcommand {
-            "print" => Ok(Command::Print { region }),
+            "print" => Ok(Command::Print {
+                region,
+                verbose: self.verbose(),
+            }),
             "layout" => Ok(Command::Layout),
             "extract" => match (self.option("name"), self.file()) {
                 (Some(name), Some(_)) => Ok(Command::Extract {
@@ -108,6 +111,16 @@ impl<'a> Line<'a> {
                 spot,
             }),
             _ => Err(Refusal::Usage),
+        }
+    }
+
+    /// Whether `-v` stands there.
+    fn verbose(&self) -> bool
+        ensures { result ≡ verbose_by (text_of (codes "verbose") self.now) }
+    {
+        match self.option("verbose") {
+            Some(text) => text == "true",
+            None => false,
         }
     }
 

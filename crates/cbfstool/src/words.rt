@@ -9,61 +9,76 @@ ghost use Rattle.cbfstool.specs.Table.{rule_by, with_options, with_row, with_row
 use clap::{Arg, ArgAction, Command};
 use std::alloc::{AllocError, Global};
 
-/// An option of one letter with a text.
+/// An option of one letter, with a text or, by its action, without.
 #[derive(Clone, Copy)]
-struct TextOption {
+struct TableOption {
     id: &'static str,
     letter: char,
+    action: ArgAction,
     required: bool,
 }
 
-const REGION: TextOption = TextOption {
+const REGION: TableOption = TableOption {
     id: "region",
     letter: 'r',
+    action: ArgAction::Set,
     required: false,
 };
 
-const FILE: TextOption = TextOption {
+const FILE: TableOption = TableOption {
     id: "file",
     letter: 'f',
+    action: ArgAction::Set,
     required: true,
 };
 
-const NAME: TextOption = TextOption {
+const NAME: TableOption = TableOption {
     id: "name",
     letter: 'n',
+    action: ArgAction::Set,
     required: true,
 };
 
-const TYPE: TextOption = TextOption {
+const TYPE: TableOption = TableOption {
     id: "type",
     letter: 't',
+    action: ArgAction::Set,
     required: true,
 };
 
-const ALIGNMENT: TextOption = TextOption {
+const ALIGNMENT: TableOption = TableOption {
     id: "alignment",
     letter: 'a',
+    action: ArgAction::Set,
     required: false,
 };
 
-const BASE: TextOption = TextOption {
+const BASE: TableOption = TableOption {
     id: "base",
     letter: 'b',
+    action: ArgAction::Set,
     required: false,
 };
 
-const HASH: TextOption = TextOption {
+const HASH: TableOption = TableOption {
     id: "hash",
     letter: 'A',
+    action: ArgAction::Set,
+    required: false,
+};
+
+const VERBOSE: TableOption = TableOption {
+    id: "verbose",
+    letter: 'v',
+    action: ArgAction::SetTrue,
     required: false,
 };
 
 /// A subcommand's name and its options.
-type TableRow = (&'static str, &'static [TextOption]);
+type TableRow = (&'static str, &'static [TableOption]);
 
 const SUBCOMMANDS: [TableRow; 7] = [
-    ("print", &[REGION]),
+    ("print", &[REGION, VERBOSE]),
     ("layout", &[]),
     ("extract", &[REGION, FILE, NAME]),
     (
@@ -79,21 +94,21 @@ const SUBCOMMANDS: [TableRow; 7] = [
 fn with_option<'a>(
     alloc: Global,
     command: Command<'a>,
-    option: TextOption,
+    option: TableOption,
 ) -> Result<Command<'a>, AllocError>
     requires local { (fields_of command).has_globals ≡ false }
     ensures local { IfOk result (λ c. (fields_of c).has_globals ≡ false) }
     ensures shape { IfOk result (λ c. app_of c ≡ with_rule (app_of command.entry) (rule_by option)) }
 {
     let arg = Arg::new(alloc, option.id).short(option.letter);
-    command.arg(arg.action(ArgAction::Set).required(option.required))
+    command.arg(arg.action(option.action).required(option.required))
 }
 
 /// The command with these options of its own.
 fn with_options<'a>(
     alloc: Global,
     mut command: Command<'a>,
-    mut options: &[TextOption],
+    mut options: &[TableOption],
 ) -> Result<Command<'a>, AllocError>
     requires local { (fields_of command).has_globals ≡ false }
     ensures local { IfOk result (λ c. (fields_of c).has_globals ≡ false) }
