@@ -1,12 +1,13 @@
-//! Regions written out as bytes, changed on a device in memory and on one that stops at each call in turn.
+//! Regions written out as bytes, changed on a device in memory, on one that stops at each call in turn, and from a source
+//! that stops at each read.
 ghost use Rattle.std.specs.Prelude.{IfSome};
 ghost use Rattle.flash_store.specs.Regions.{LiesIn};
 
-use cbfs_edit::{EditFault, Freed, format, remove};
-use cbfs_walk::find;
+use cbfs_edit::{EditFault, Freed, HashChoice, Placed, Spot, add, format, remove};
+use cbfs_walk::{Cell, Step, Walk};
 use flash_format::DamageKind;
-use flash_store::{FailAt, Flash, MemFlash, Paged, Region};
-use std::alloc::Global;
+use flash_store::{FailAt, FailSource, Flash, MemFlash, MemSource, Paged, Region, Source};
+use std::alloc::{AllocError, Global};
 use std::fmt::Debug;
 use std::process::Abort;
 use std::test::Fail;
@@ -47,6 +48,59 @@ const EMPTY_64: [u8; 28] = *b"LARCHIVE\0\0\0\x24\xff\xff\xff\xff\0\0\0\0\0\0\0\x
 /// The header of an empty entry of 448 bytes inside a region.
 const EMPTY_448: [u8; 28] = *b"LARCHIVE\0\0\x01\xa4\xff\xff\xff\xff\0\0\0\0\0\0\0\x1c\0\0\0\0";
 
+/// Free space of 468 bytes, after a name field of 16, in a region of 512.
+const NULL_468: [u8; 40] =
+    *b"LARCHIVE\0\0\x01\xd4\xff\xff\xff\xff\0\0\0\0\0\0\0\x28\0\0\0\0\0\0\0\0\0\0\0\0\0\0\0\0";
+
+/// Free space of 344 bytes, which leaves 64 bytes of a region of 512 after a cell of 64.
+const NULL_344: [u8; 40] =
+    *b"LARCHIVE\0\0\x01\x58\xff\xff\xff\xff\0\0\0\0\0\0\0\x28\0\0\0\0\0\0\0\0\0\0\0\0\0\0\0\0";
+
+/// The component `a` of ten bytes, as it is added.
+const A: [u8; 38] = *b"LARCHIVE\0\0\0\x0a\0\0\0\x50\0\0\0\0\0\0\0\x1ca\0\0\00123456789";
+
+/// What stands before the 20 bytes of a component `b`, but for a gap of 36.
+const B_20: [u8; 28] = *b"LARCHIVE\0\0\0\x14\0\0\0\x50\0\0\0\0\0\0\0\x40b\0\0\0";
+
+/// What stands before the 16 bytes of a component `b`, but for a gap of 20.
+const B_16: [u8; 28] = *b"LARCHIVE\0\0\0\x10\0\0\0\x50\0\0\0\0\0\0\0\x30b\0\0\0";
+
+/// What stands before the 356 bytes of a component `b`.
+const B_356: [u8; 28] = *b"LARCHIVE\0\0\x01\x64\0\0\0\x50\0\0\0\0\0\0\0\x1cb\0\0\0";
+
+/// What stands before the 9000 bytes of a component `b`.
+const B_9000: [u8; 28] = *b"LARCHIVE\0\0\x23\x28\0\0\0\x50\0\0\0\0\0\0\0\x1cb\0\0\0";
+
+/// Headers of empty entries at a region's end, by their sizes.
+const LAST_192: [u8; 28] = *b"LARCHIVE\0\0\0\xa0\xff\xff\xff\xff\0\0\0\0\0\0\0\x1c\0\0\0\0";
+
+const LAST_320: [u8; 28] = *b"LARCHIVE\0\0\x01\x20\xff\xff\xff\xff\0\0\0\0\0\0\0\x1c\0\0\0\0";
+
+const LAST_448: [u8; 28] = *b"LARCHIVE\0\0\x01\xa0\xff\xff\xff\xff\0\0\0\0\0\0\0\x1c\0\0\0\0";
+
+const LAST_7296: [u8; 28] = *b"LARCHIVE\0\0\x1c\x60\xff\xff\xff\xff\0\0\0\0\0\0\0\x1c\0\0\0\0";
+
+const LAST_16384: [u8; 28] = *b"LARCHIVE\0\0\x3f\xe0\xff\xff\xff\xff\0\0\0\0\0\0\0\x1c\0\0\0\0";
+
+/// The header of an empty entry of 128 bytes inside a region.
+const EMPTY_128: [u8; 28] = *b"LARCHIVE\0\0\0\x64\xff\xff\xff\xff\0\0\0\0\0\0\0\x1c\0\0\0\0";
+
+/// The header of an empty entry of 384 bytes inside a region.
+const EMPTY_384: [u8; 28] = *b"LARCHIVE\0\0\x01\x64\xff\xff\xff\xff\0\0\0\0\0\0\0\x1c\0\0\0\0";
+
+/// Content that looks like an entry.
+const MAGIC_20: [u8; 20] = *b"LARCHIVE89abcdefghij";
+
+const MAGIC_16: [u8; 16] = *b"LARCHIVE89abcdef";
+
+/// Content that fills free space of 384 bytes.
+const MANY: [u8; 356] = [0x61; 356];
+
+const ONE_TOO_MANY: [u8; 357] = [0x61; 357];
+
+/// Content of any length up to 9000.
+const LONG: [u8; 9000] = [0x61; 9000];
+
 /// What stands where in a region, and 0xff elsewhere.
 type Parts<'a> = &'a [(usize, &'a [u8])];
 
@@ -57,6 +111,16 @@ const TWICE: Parts = &[(0, &X1), (64, &X2), (128, &NULL_340)];
 const ONCE: Parts = &[(0, &EMPTY_64), (64, &X2), (128, &NULL_340)];
 
 const FRESH: Parts = &[(0, &EMPTY_512)];
+
+const WITH_A: Parts = &[(0, &A), (64, &LAST_448)];
+
+const WITH_B_LATER: Parts = &[
+    (0, &A),
+    (64, &EMPTY_128),
+    (192, &B_20),
+    (256, &MAGIC_20),
+    (320, &LAST_192),
+];
 
 fn bytes_with(alloc: Global, size: usize, parts: Parts) -> Result<Vec<u8>, Fail> {
     let mut bytes = Vec::from_elem(alloc, 0xffu8, size)?;
@@ -172,67 +236,337 @@ fn a_region_is_formatted(rt: HostRuntime) -> Result<(), Fail> {
     Ok(())
 }
 
+// ---- additions
+
+/// A component that is to be added, and where.
+#[derive(Clone, Copy)]
+struct New<'a> {
+    name: &'a [u8],
+    kind: u32,
+    spot: Spot,
+    content: &'a [u8],
+}
+
+/// The component `b` of the usual type.
+fn b(spot: Spot, content: &[u8]) -> New<'_> {
+    New {
+        name: b"b",
+        kind: 0x50,
+        spot,
+        content,
+    }
+}
+
+const NEW_A: New = New {
+    name: b"a",
+    kind: 0x50,
+    spot: Spot::First,
+    content: b"0123456789",
+};
+
+fn source_of<'a>(rt: &impl Abort, bytes: &'a [u8]) -> MemSource<'a> {
+    assert!(rt; bytes.len() < 1 << 32);
+    MemSource::new(bytes)
+}
+
+/// Adds a component to the whole of a device.
+fn add_to<F: Flash, S: Source>(
+    paged: &mut Paged<F>,
+    new: New,
+    source: &mut S,
+) -> Result<Result<Placed, EditFault>, Fail> {
+    let region = whole(paged).ok_or("no region")?;
+    Ok(add(
+        paged,
+        region,
+        new.name,
+        new.kind,
+        HashChoice::Plain,
+        new.spot,
+        source,
+    ))
+}
+
+/// An addition to a region of 512 bytes answers this, and leaves these bytes.
+fn adds<'a>(
+    rt: &(impl Abort + AllocGlobal),
+    new: New<'_>,
+    before: Parts<'a>,
+    want: Result<Placed, EditFault>,
+    after: Parts<'a>,
+) -> Result<(), Fail> {
+    let mut paged = Paged::new(device_with(rt.alloc(), 512, before)?);
+    let mut source = source_of(rt, new.content);
+    equal(rt, &add_to(&mut paged, new, &mut source)?, &want);
+    let expected = bytes_with(rt.alloc(), 512, after)?;
+    same_bytes(rt, paged.into_flash().bytes(), expected.as_slice());
+    Ok(())
+}
+
+/// An addition that is refused changes nothing.
+fn refuses(
+    rt: &(impl Abort + AllocGlobal),
+    new: New,
+    before: Parts,
+    fault: EditFault,
+) -> Result<(), Fail> {
+    adds(rt, new, before, Err(fault), before)
+}
+
+fn placed(header: u64, content: u64) -> Result<Placed, EditFault> {
+    Ok(Placed { header, content })
+}
+
+#[test]
+fn a_component_is_added_to_free_space(rt: HostRuntime) -> Result<(), Fail> {
+    adds(&rt, NEW_A, FRESH, placed(0, 28), WITH_A)?;
+    let wide: Parts = &[(0, &NULL_468)];
+    adds(&rt, NEW_A, wide, placed(0, 28), WITH_A)?;
+    Ok(())
+}
+
+#[test]
+fn a_component_is_put_where_it_is_wanted(rt: HostRuntime) -> Result<(), Fail> {
+    let next: Parts = &[(0, &A), (64, &B_20), (128, &MAGIC_20), (192, &LAST_320)];
+    let near = b(Spot::Aligned(64), &MAGIC_20);
+    adds(&rt, near, WITH_A, placed(64, 128), next)?;
+    let later = b(Spot::Aligned(256), &MAGIC_20);
+    adds(&rt, later, WITH_A, placed(192, 256), WITH_B_LATER)?;
+    let last: Parts = &[(0, &A), (64, &EMPTY_384), (448, &B_16), (496, &MAGIC_16)];
+    let fixed = b(Spot::Fixed(0x1f0), &MAGIC_16);
+    adds(&rt, fixed, WITH_A, placed(448, 496), last)?;
+    Ok(())
+}
+
+#[test]
+fn what_is_after_the_entries_is_kept(rt: HostRuntime) -> Result<(), Fail> {
+    let before: Parts = &[(0, &A), (64, &NULL_344), (460, b"tail")];
+    let after: Parts = &[(0, &A), (64, &B_356), (92, &MANY), (460, b"tail")];
+    adds(&rt, b(Spot::First, &MANY), before, placed(64, 92), after)?;
+    let longer = b(Spot::First, &ONE_TOO_MANY);
+    refuses(&rt, longer, before, EditFault::NoSpace)?;
+    Ok(())
+}
+
+#[test]
+fn an_addition_that_is_refused_changes_nothing(rt: HostRuntime) -> Result<(), Fail> {
+    refuses(&rt, NEW_A, WITH_A, EditFault::Exists)?;
+    let nameless = New {
+        name: b"",
+        kind: 0,
+        ..NEW_A
+    };
+    refuses(&rt, nameless, FRESH, EditFault::BadName)?;
+    let null = New {
+        name: b"c",
+        kind: 0xffff_ffff,
+        ..NEW_A
+    };
+    refuses(&rt, null, FRESH, EditFault::BadType)?;
+    refuses(&rt, b(Spot::Aligned(0), b""), FRESH, EditFault::BadAlign)?;
+    let damage = EditFault::Damaged {
+        at: 64,
+        kind: DamageKind::Extent,
+    };
+    let damaged: Parts = &[(0, &A), (64, &TOO_LONG)];
+    refuses(&rt, b(Spot::First, b""), damaged, damage)?;
+    Ok(())
+}
+
+/// An addition of `n` bytes to a fresh region of 512 bytes answers this, and leaves these last four bytes.
+fn takes(
+    rt: &(impl Abort + AllocGlobal),
+    spot: Spot,
+    n: usize,
+    want: Result<Placed, EditFault>,
+    last: &[u8; 4],
+) -> Result<(), Fail> {
+    let content = LONG.get(..n).ok_or("too long")?;
+    let mut paged = Paged::new(device_with(rt.alloc(), 512, FRESH)?);
+    let mut source = source_of(rt, content);
+    let answer = add_to(&mut paged, b(spot, content), &mut source)?;
+    equal(rt, &answer, &want);
+    equal(rt, &paged.flash().bytes().get(508..), &Some(&last[..]));
+    Ok(())
+}
+
+#[test]
+fn content_is_put_where_it_has_room(rt: HostRuntime) -> Result<(), Fail> {
+    let none = Err(EditFault::NoSpace);
+    let kept = &[0xff; 4];
+    let covered = &[0x61; 4];
+    takes(&rt, Spot::First, 480, placed(0, 28), kept)?;
+    takes(&rt, Spot::First, 481, none, kept)?;
+    takes(&rt, Spot::Fixed(40), 472, placed(0, 40), covered)?;
+    takes(&rt, Spot::Fixed(40), 473, none, kept)?;
+    takes(&rt, Spot::Fixed(28), 484, placed(0, 28), covered)?;
+    takes(&rt, Spot::Fixed(28), 485, none, kept)?;
+    takes(&rt, Spot::Fixed(27), 0, none, kept)?;
+    Ok(())
+}
+
 // ---- edits that stop
 
-/// What an edit of a region of 512 bytes has left: one empty entry, where it has finished; else the bytes of before, or
-/// an empty entry with anything in its space. Answers whether it has finished.
+/// Puts down a component: its place, and its bytes up to the end of its content.
+fn put_down(told: &mut Vec<u8>, cell: &Cell, bytes: &[u8]) -> Result<(), AllocError> {
+    if cell.head.is_free() {
+        return Ok(());
+    }
+    told.extend_from_slice(&cell.at.to_be_bytes())?;
+    let n = (cell.head.offset as usize).saturating_add(cell.head.len as usize);
+    for byte in bytes.iter().skip(cell.at as usize).take(n) {
+        told.push(*byte)?;
+    }
+    Ok(())
+}
+
+/// Puts down the components up to the end of a walk, and answers whether no entry is damaged.
+fn walk_on(
+    walk: &mut Walk,
+    paged: &mut Paged<MemFlash>,
+    told: &mut Vec<u8>,
+) -> Result<bool, AllocError>
+    requires { LiesIn walk.old.region paged.old.device.content }
+{
+    loop {
+        match walk.next(paged) {
+            Ok(Step::Cell(cell)) => put_down(told, &cell, paged.flash().bytes())?,
+            Ok(Step::Tail(_)) => return Ok(true),
+            Ok(Step::End) => return Ok(true),
+            Err(_) => return Ok(false),
+        }
+    }
+}
+
+/// All components of a device, none of which is damaged.
+fn components(rt: &(impl Abort + AllocGlobal), device: MemFlash) -> Result<Vec<u8>, Fail> {
+    let mut paged = Paged::new(device);
+    let region = whole(&paged).ok_or("no region")?;
+    let mut told = Vec::new(rt.alloc());
+    let whole = walk_on(&mut Walk::new(region), &mut paged, &mut told)?;
+    assert!(rt; whole);
+    Ok(told)
+}
+
+/// An edit of a region: its size, what it holds before, and what it holds after.
+#[derive(Clone, Copy)]
+struct Edit<'a> {
+    size: usize,
+    before: Parts<'a>,
+    after: Parts<'a>,
+}
+
+/// What an edit has left: the bytes of after, where it has finished; else the components of before or, where the device
+/// has refused a call, those of after. Answers whether it has finished.
 fn has_finished(
     rt: &(impl Abort + AllocGlobal),
+    edit: Edit,
     fault: Option<EditFault>,
-    before: Parts,
-    left: &[u8],
+    device: MemFlash,
 ) -> Result<bool, Fail> {
-    let old = bytes_with(rt.alloc(), 512, before)?;
-    let fresh = bytes_with(rt.alloc(), 512, FRESH)?;
     if fault.is_none() {
-        same_bytes(rt, left, fresh.as_slice());
+        let done = bytes_with(rt.alloc(), edit.size, edit.after)?;
+        same_bytes(rt, device.bytes(), done.as_slice());
         return Ok(true);
     }
-    equal(rt, &fault, &Some(EditFault::Device));
-    if left != old.as_slice() {
-        equal(rt, &left.get(..28), &Some(&EMPTY_512[..]));
-        equal(rt, &left.get(508..), &Some(&[0xff; 4][..]));
+    let left = components(rt, device)?;
+    let old = components(rt, device_with(rt.alloc(), edit.size, edit.before)?)?;
+    if left.as_slice() != old.as_slice() {
+        equal(rt, &fault, &Some(EditFault::Device));
+        let new = components(rt, device_with(rt.alloc(), edit.size, edit.after)?)?;
+        same_bytes(rt, left.as_slice(), new.as_slice());
     }
     Ok(false)
 }
 
-/// A removal on a device that refuses all calls after the first k.
-fn removal_stops(rt: &(impl Abort + AllocGlobal), k: u64, part: usize) -> Result<bool, Fail> {
-    let device = device_with(rt.alloc(), 512, BETWEEN)?;
-    let mut paged = Paged::new(FailAt::new(device, k, part));
-    let region = whole(&paged).ok_or("no region")?;
-    let fault = remove(&mut paged, region, b"m").err();
-    let device = paged.into_flash().into_inner();
-    let finished = has_finished(rt, fault, BETWEEN, device.bytes())?;
-    has_whole_components(rt, device)?;
-    Ok(finished)
+/// A device with what an edit finds, which refuses all calls after the first k.
+fn failing(
+    alloc: Global,
+    edit: Edit,
+    k: u64,
+    part: usize,
+) -> Result<Paged<FailAt<MemFlash>>, Fail> {
+    let device = device_with(alloc, edit.size, edit.before)?;
+    Ok(Paged::new(FailAt::new(device, k, part)))
 }
 
-/// The component `m` stands where it stood, or nowhere, and no entry is damaged.
-fn has_whole_components(rt: &impl Abort, device: MemFlash) -> Result<(), Fail> {
-    let mut paged = Paged::new(device);
+fn removal_stops(rt: &(impl Abort + AllocGlobal), k: u64, part: usize) -> Result<bool, Fail> {
+    let edit = Edit {
+        size: 512,
+        before: BETWEEN,
+        after: FRESH,
+    };
+    let mut paged = failing(rt.alloc(), edit, k, part)?;
     let region = whole(&paged).ok_or("no region")?;
-    let found = find(&mut paged, region, b"m").ok().ok_or("damage")?;
-    let at = found.map(|cell| cell.at);
-    assert!(rt; at.is_none() || at == Some(64));
-    Ok(())
+    let fault = remove(&mut paged, region, b"m").err();
+    assert!(rt; fault.is_none() || fault == Some(EditFault::Device));
+    has_finished(rt, edit, fault, paged.into_flash().into_inner())
 }
 
 fn format_stops(rt: &(impl Abort + AllocGlobal), k: u64, part: usize) -> Result<bool, Fail> {
-    let device = device_with(rt.alloc(), 512, TWICE)?;
-    let mut paged = Paged::new(FailAt::new(device, k, part));
+    let edit = Edit {
+        size: 512,
+        before: TWICE,
+        after: FRESH,
+    };
+    let mut paged = failing(rt.alloc(), edit, k, part)?;
     let region = whole(&paged).ok_or("no region")?;
     let fault = format(&mut paged, region).err();
-    let device = paged.into_flash().into_inner();
-    has_finished(rt, fault, TWICE, device.bytes())
+    assert!(rt; fault.is_none() || fault == Some(EditFault::Device));
+    has_finished(rt, edit, fault, paged.into_flash().into_inner())
 }
 
-/// Stops both edits at each call in turn, until one call more lets them finish.
+/// An addition on a device that refuses all calls after the first k.
+fn addition_stops(
+    rt: &(impl Abort + AllocGlobal),
+    new: New,
+    edit: Edit,
+    k: u64,
+    part: usize,
+) -> Result<bool, Fail> {
+    let mut paged = failing(rt.alloc(), edit, k, part)?;
+    let mut source = source_of(rt, new.content);
+    let fault = add_to(&mut paged, new, &mut source)?.err();
+    assert!(rt; fault.is_none() || fault == Some(EditFault::Device));
+    has_finished(rt, edit, fault, paged.into_flash().into_inner())
+}
+
+fn first_addition_stops(
+    rt: &(impl Abort + AllocGlobal),
+    k: u64,
+    part: usize,
+) -> Result<bool, Fail> {
+    let edit = Edit {
+        size: 512,
+        before: FRESH,
+        after: WITH_A,
+    };
+    addition_stops(rt, NEW_A, edit, k, part)
+}
+
+fn later_addition_stops(
+    rt: &(impl Abort + AllocGlobal),
+    k: u64,
+    part: usize,
+) -> Result<bool, Fail> {
+    let edit = Edit {
+        size: 512,
+        before: WITH_A,
+        after: WITH_B_LATER,
+    };
+    let new = b(Spot::Aligned(256), &MAGIC_20);
+    addition_stops(rt, new, edit, k, part)
+}
+
+/// Stops all edits at each call in turn, until one call more lets them finish. None finishes without a call.
 fn stop_each(rt: &(impl Abort + AllocGlobal), part: usize) -> Result<(), Fail> {
     for k in 0..20 {
         let removed = removal_stops(rt, k, part)?;
         let formatted = format_stops(rt, k, part)?;
-        if removed && formatted {
+        let first = first_addition_stops(rt, k, part)?;
+        let later = later_addition_stops(rt, k, part)?;
+        assert!(rt; k > 0 || !(removed | formatted | first | later));
+        if removed & formatted & first & later {
             return Ok(());
         }
     }
@@ -246,4 +580,29 @@ fn an_edit_stops_at_any_call(rt: HostRuntime) -> Result<(), Fail> {
     stop_each(&rt, 17)?;
     stop_each(&rt, 4096)?;
     Ok(())
+}
+
+/// An addition of 9000 bytes from a source that refuses all reads after the first k.
+fn source_stops(rt: &(impl Abort + AllocGlobal), k: u64) -> Result<bool, Fail> {
+    let edit = Edit {
+        size: 16384,
+        before: &[(0, &LAST_16384)],
+        after: &[(0, &B_9000), (28, &LONG), (9088, &LAST_7296)],
+    };
+    let mut paged = Paged::new(device_with(rt.alloc(), edit.size, edit.before)?);
+    let mut source = FailSource::new(source_of(rt, &LONG), k);
+    let fault = add_to(&mut paged, b(Spot::First, &LONG), &mut source)?.err();
+    assert!(rt; fault.is_none() || fault == Some(EditFault::Source));
+    has_finished(rt, edit, fault, paged.into_flash())
+}
+
+#[test]
+fn a_source_stops_at_any_read(rt: HostRuntime) -> Result<(), Fail> {
+    for k in 0..20 {
+        if source_stops(&rt, k)? {
+            assert!(rt; k > 0);
+            return Ok(());
+        }
+    }
+    Err("an addition has not finished")?
 }
