@@ -8,6 +8,18 @@ use Rattle.cbfs_edit.proofs.Added.{by-fault, own-refused, own-by-fault}
 use Rattle.cbfs_edit.proofs.Adding.{told, told_as, refused_as, digest-sized, no_fault, searched, the_place, image_of, added_is, source_leaves, device_leaves}
 use Rattle.cbfs_edit.proofs.addition.add.Goals as goal
 
+pub returns-in-Ok-insert-clause-device : goal.returns-in-Ok-insert-clause-device
+returns-in-Ok-insert-clause-device g c = search rules
+
+pub returns-in-Ok-insert-clause-source : goal.returns-in-Ok-insert-clause-source
+returns-in-Ok-insert-clause-source g c = search rules
+
+pub returns-in-Ok-insert-clause-before : goal.returns-in-Ok-insert-clause-before
+returns-in-Ok-insert-clause-before g c = search rules
+
+pub returns-in-Ok-insert-clause-stopped : goal.returns-in-Ok-insert-clause-stopped
+returns-in-Ok-insert-clause-stopped g c = search rules
+
 pub returns-in-Some-clause-answer : goal.returns-in-Some-clause-answer
 returns-in-Some-clause-answer g c honest =
     let r = c.args.region in
@@ -208,3 +220,9 @@ returns-in-Err-Source-clause-step g c honest source_honest =
       source_leaves r new c.args.spot c.in-Ok.place old mid now (IsTrue (g.S.Source.facts c.args.source.now).honest) c.insert.result c.requires c.places_fit.ensures c.ranges.kind.fits (omega (arith, c.len.ensures))
           (digest-sized c.args.hash content) same is (c.insert.ensures.stopped still) (c.insert.ensures.last still) (search rules),
     )
+
+pub returns-in-Err-Source-clause-calls : goal.returns-in-Err-Source-clause-calls
+returns-in-Err-Source-clause-calls g c = search rules
+
+pub returns-in-Ok-insert-clause-refused : goal.returns-in-Ok-insert-clause-refused
+returns-in-Ok-insert-clause-refused g c = search rules

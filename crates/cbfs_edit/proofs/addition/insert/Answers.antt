@@ -11,6 +11,9 @@ use Rattle.cbfs_edit.proofs.Blanks.{same_region_length}
 use Rattle.cbfs_edit.proofs.Insertions.{blank-last, content-last, front-last, content-blanked, front-blanked, insertion-done, described-is, described_len-is, room-for, attribute-is, attribute-short}
 use Rattle.cbfs_edit.proofs.addition.insert.Goals as goal
 
+pub returns-in_err-write_blank-clause-stopped : goal.returns-in_err-write_blank-clause-stopped
+returns-in_err-write_blank-clause-stopped g c = search rules
+
 pub returns-in_err-write_blank-clause-last : goal.returns-in_err-write_blank-clause-last
 returns-in_err-write_blank-clause-last g c honest whole =
     let r = c.args.region in

@@ -4,6 +4,12 @@ use Rattle.flash_store.proofs.DeviceLemmas.{honest_still, length-bytes_in}
 use Rattle.cbfs_edit.proofs.Changes.{again, wider, begin-within}
 use Rattle.cbfs_edit.proofs.insertion.show.Goals as goal
 
+pub returns-clause-shown : goal.returns-clause-shown
+returns-clause-shown g c = search rules
+
+pub returns-clause-stopped : goal.returns-clause-stopped
+returns-clause-stopped g c = search rules
+
 pub returns-in_err-write_front-clause-torn : goal.returns-in_err-write_front-clause-torn
 returns-in_err-write_front-clause-torn g c honest =
     wider c.args.region.size c.args.place c.args.end (length c.args.front.now) c.requires.room (bytes_in c.args.region (g.F.Flash.facts c.args.paged.now.device).content) (bytes_in c.args.region (g.F.Flash.facts c.write_front.new.paged.device).content)
