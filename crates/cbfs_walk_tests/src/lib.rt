@@ -2,4 +2,6 @@
 #![tactic(auto)]
 
 #[cfg(test)]
+mod hashes;
+#[cfg(test)]
 mod tests;

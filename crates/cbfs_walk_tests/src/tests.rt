@@ -16,7 +16,7 @@ use std::test::Fail;
 type Answer = Result<Step, WalkFault>;
 
 /// The component `a` of ten bytes.
-const A: [u8; 50] =
+pub const A: [u8; 50] =
     *b"LARCHIVE\0\0\0\x0a\0\0\0\x50\0\0\0\0\0\0\0\x28a\0\0\0\0\0\0\0\0\0\0\0\0\0\0\00123456789";
 
 /// A component `x` of one byte.
@@ -100,18 +100,23 @@ const NULL: u32 = 0xffff_ffff;
 /// What stands where in a region, and 0xff elsewhere.
 type Parts<'a> = &'a [(usize, &'a [u8])];
 
-fn device_with(alloc: Global, size: usize, parts: Parts) -> Result<MemFlash, Fail> {
+/// Puts a part to a place of a device's bytes.
+pub fn put(bytes: &mut [u8], at: usize, part: &[u8]) {
+    for (to, from) in bytes.iter_mut().skip(at).zip(part.iter()) {
+        *to = *from;
+    }
+}
+
+pub fn device_with(alloc: Global, size: usize, parts: Parts) -> Result<MemFlash, Fail> {
     let mut bytes = Vec::from_elem(alloc, 0xffu8, size)?;
     for (at, part) in parts {
-        for (to, from) in bytes.iter_mut().skip(*at).zip(part.iter()) {
-            *to = *from;
-        }
+        put(&mut bytes, *at, part);
     }
     Ok(MemFlash::new(bytes)?)
 }
 
 /// The whole of a device.
-fn whole<F: Flash>(paged: &Paged<F>) -> Option<Region>
+pub fn whole<F: Flash>(paged: &Paged<F>) -> Option<Region>
     ensures { IfSome result (λ region. LiesIn region (F.facts paged.now.device).content) }
 {
     Region::within(0, paged.len(), paged.len())
@@ -139,7 +144,7 @@ fn walk_on<F: Flash>(
 }
 
 /// Two values are equal. A call of this is proved sooner than an assertion in place.
-fn equal<T: PartialEq + Debug>(rt: &impl Abort, left: &T, right: &T) {
+pub fn equal<T: PartialEq + Debug>(rt: &impl Abort, left: &T, right: &T) {
     assert_eq!(rt; *left, *right);
 }
 
