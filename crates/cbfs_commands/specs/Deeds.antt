@@ -1,6 +1,7 @@
 -- What a command is to an image: its outcome, what it may change, which sides it uses, and what a stop leaves.
-use Rattle.std.specs.Prelude.{◌≡◌, ℕ, ◌⊎◌, Bool, true, false, List, Option, Some, None, Result, Ok, Err, IsErrOf}
+use Rattle.std.specs.Prelude.{◌≡◌, ℕ, ◌⊎◌, Bool, true, false, List, Option, Some, None, Result, Ok, Err, IsErrOf, IsTrue}
 use Rattle.flash_store.specs.Bytes.{SameOutside}
+use Rattle.flash_store.specs.Device.{Device}
 use Rattle.flash_store.specs.Regions.{Range, bytes_in, region_of}
 use Rattle.flash_store.specs.declared.fmap.StoreFault.{StoreFault}
 use Rattle.cbfs_edit.specs.Additions.{new_component}
@@ -73,6 +74,10 @@ deed (requests.add a) = adds a
 deed (requests.remove region name) = removes region name
 deed (requests.read region) = tells (λ image. read image region)
 deed (requests.write region) = replaces region
+
+-- the source is honest, where the command reads it
+abbrev pub Serves : Deed → Device → Type 0
+Serves d source = IsTrue d.reads_source → IsTrue source.honest
 
 -- bytes outside the region that a command may change are kept; without one all are
 abbrev pub SparesOutside : Option Range → List ℕ → List ℕ → Type 0

@@ -2,7 +2,7 @@
 
 ghost use Rattle.std.specs.Prelude.{◌≡◌, ◌+◌, ◌*◌, ◌/◌, ◌<◌, ◌≤◌, ◌⊎◌, false, length, IsTrue, IsErrOf};
 ghost use Rattle.flash_store.specs.Device.{Calls};
-ghost use Rattle.cbfs_commands.specs.Deeds.{MayHaveWritten, SparesOutside, deed};
+ghost use Rattle.cbfs_commands.specs.Deeds.{MayHaveWritten, Serves, SparesOutside, deed};
 ghost use Rattle.cbfs_commands.specs.Requests.{asked};
 ghost use Rattle.cbfs_commands.specs.Outcomes.{Meets};
 
@@ -49,11 +49,11 @@ pub fn run<F: Flash, S: Source, W: Sink>(
     ensures refused { IsTrue (F.facts paged.old.device).honest →
         MayHaveWritten result ⊎ ((F.facts paged.new.device).content ≡ (F.facts paged.old.device).content) }
 
-    // On an honest device, from an honest source.
-    ensures outcome { IsTrue (F.facts paged.old.device).honest → IsTrue (S.facts source.old).honest →
+    // On an honest device; where the command reads the source, from an honest one.
+    ensures outcome { IsTrue (F.facts paged.old.device).honest → Serves (deed (asked command.now)) (S.facts source.old) →
         Meets (W.contents out.old) (W.contents out.new) (F.facts paged.new.device).content result
         ((deed (asked command.now)).outcome (F.facts paged.old.device).content (S.facts source.old).content) }
-    ensures stopped { IsTrue (F.facts paged.old.device).honest → IsTrue (S.facts source.old).honest →
+    ensures stopped { IsTrue (F.facts paged.old.device).honest → Serves (deed (asked command.now)) (S.facts source.old) →
         (deed (asked command.now)).Stopped (F.facts paged.old.device).content (S.facts source.old).content result
         (F.facts paged.new.device).content }
 {

@@ -1,4 +1,4 @@
-use Rattle.std.proofs.Common.{rules}
+use Rattle.std.proofs.Common.{refl, rules}
 use Rattle.cbfs_commands.proofs.Meeting.{add-silent, remove-silent, write-silent, left-met}
 use Rattle.cbfs_commands.proofs.engine.run.Goals as goal
 
@@ -28,10 +28,10 @@ returns-in-Write-clause-unwritten g c = search rules
 -- What a command does that writes no output.
 
 pub returns-in-Write-clause-outcome : goal.returns-in-Write-clause-outcome
-returns-in-Write-clause-outcome g c = λ h honest. rw c.in-Write.is (left-met _ _ _ _ (write-silent _ _ _) (c.write.ensures.left h honest))
+returns-in-Write-clause-outcome g c = λ h honest. let serves = rw c.in-Write.is at honest in rw c.in-Write.is (left-met _ _ _ _ (write-silent _ _ _) (c.write.ensures.left h (serves refl)))
 
 pub returns-in-Add-clause-outcome : goal.returns-in-Add-clause-outcome
-returns-in-Add-clause-outcome g c = λ h honest. rw c.in-Add.is (left-met _ _ _ _ (add-silent _ _ _ _) (c.add.ensures.left h honest))
+returns-in-Add-clause-outcome g c = λ h honest. let serves = rw c.in-Add.is at honest in rw c.in-Add.is (left-met _ _ _ _ (add-silent _ _ _ _) (c.add.ensures.left h (serves refl)))
 
 pub returns-in-Remove-clause-outcome : goal.returns-in-Remove-clause-outcome
 returns-in-Remove-clause-outcome g c = λ h honest. rw c.in-Remove.is (left-met _ _ _ _ (remove-silent _ _ _) (c.remove.ensures.left h))
