@@ -37,6 +37,15 @@ returns-in_ok-computed-in-Some-2-clause-after g c =
     content_answers _ c.args.region.start c.args.region.size c.args.cell.now _ _ _ _ c.requires.cell front.scans
     (HasPassed-ok _ _ _ _ _ _ _ c.in_ok-computed-in-Some-2.ensures.passes)
 
+pub returns-in_ok-computed-in-Some-2-clause-value : goal.returns-in_ok-computed-in-Some-2-clause-value
+returns-in_ok-computed-in-Some-2-clause-value g c = search rules
+
+pub returns-in-None-2-clause-value : goal.returns-in-None-2-clause-value
+returns-in-None-2-clause-value g c = search rules
+
+pub returns-in-None-clause-value : goal.returns-in-None-clause-value
+returns-in-None-clause-value g c = search rules
+
 pub returns-in_ok-computed-in-Some-2-clause-state : goal.returns-in_ok-computed-in-Some-2-clause-state
 returns-in_ok-computed-in-Some-2-clause-state g c = λ h stands.
     let x = bytes_in c.args.region (g.F.Flash.facts c.args.paged.now.device).content in
