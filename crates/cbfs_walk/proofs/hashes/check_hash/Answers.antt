@@ -50,19 +50,19 @@ pub returns-in_ok-computed-in-Some-2-clause-state : goal.returns-in_ok-computed-
 returns-in_ok-computed-in-Some-2-clause-state g c = λ h stands.
     let x = bytes_in c.args.region (g.F.Flash.facts c.args.paged.now.device).content in
     let inside : c.args.cell.now.at + c.args.cell.now.head.offset ≤ length x = omega (arith, length-region c.args.region _ c.requires.region, c.requires.cell.content, c.requires.cell.inside) in
-    let value : c.compared.result ≡ hash_state_in x c.args.cell.now = search rules in
+    let value : c.compared.result ≡ hash_state_in x c.args.cell.now = returns-in_ok-computed-in-Some-2-clause-value g c h in
     value ∙ state_found x c.args.region.size c.args.cell.now inside c.requires.cell stands c.requires.component
 
 pub returns-in-None-2-clause-state : goal.returns-in-None-2-clause-state
 returns-in-None-2-clause-state g c = λ h stands.
     let x = bytes_in c.args.region (g.F.Flash.facts c.args.paged.now.device).content in
     let inside : c.args.cell.now.at + c.args.cell.now.head.offset ≤ length x = omega (arith, length-region c.args.region _ c.requires.region, c.requires.cell.content, c.requires.cell.inside) in
-    let value : Unsupported ≡ hash_state_in x c.args.cell.now = search rules in
+    let value : Unsupported ≡ hash_state_in x c.args.cell.now = returns-in-None-2-clause-value g c h in
     value ∙ state_found x c.args.region.size c.args.cell.now inside c.requires.cell stands c.requires.component
 
 pub returns-in-None-clause-state : goal.returns-in-None-clause-state
 returns-in-None-clause-state g c = λ h stands.
     let x = bytes_in c.args.region (g.F.Flash.facts c.args.paged.now.device).content in
     let inside : c.args.cell.now.at + c.args.cell.now.head.offset ≤ length x = omega (arith, length-region c.args.region _ c.requires.region, c.requires.cell.content, c.requires.cell.inside) in
-    let value : Absent ≡ hash_state_in x c.args.cell.now = search rules in
+    let value : Absent ≡ hash_state_in x c.args.cell.now = returns-in-None-clause-value g c h in
     value ∙ state_found x c.args.region.size c.args.cell.now inside c.requires.cell stands c.requires.component
