@@ -1,5 +1,7 @@
 //! The texts of the refusals, each command once, and each side that fails.
 
+mod adding;
+
 use cbfs_commands::{Command, Refusal, run};
 use flash_format::DamageKind;
 use flash_store::{
