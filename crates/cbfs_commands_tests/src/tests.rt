@@ -1,6 +1,7 @@
 //! The texts of the refusals, each command once, and each side that fails.
 
 mod adding;
+mod verbose;
 
 use cbfs_commands::{Command, Refusal, run};
 use flash_format::DamageKind;
@@ -31,7 +32,10 @@ const FREE: [u8; 40] =
 
 const COREBOOT: &[u8] = b"COREBOOT";
 
-const PRINT: Command<'static> = Command::Print { region: COREBOOT };
+const PRINT: Command<'static> = Command::Print {
+    region: COREBOOT,
+    verbose: false,
+};
 
 const READ: Command<'static> = Command::Read { region: COREBOOT };
 

@@ -1,20 +1,17 @@
 -- The digest of a component's content: the pieces of which it is made, and what the first hash attribute says of it.
-use Rattle.std.proofs.Common.{◌≡◌, ℕ, ◌+◌, ◌-◌, ◌≤◌, Bool, true, false, cond, eqb, IsTrue, List, ◌∷◌, ◌++◌, take, drop, length, length-drop, Option, Some, None, Result, Ok, refl, sym, ap, ◌∙◌, arith, zero, suc, le_refl}
+use Rattle.std.proofs.Common.{◌≡◌, ℕ, ◌+◌, ◌-◌, ◌≤◌, Bool, true, false, cond, IsTrue, List, ◌++◌, take, drop, length, Some, None, Result, Ok, refl, sym, ap, ◌∙◌, arith}
 use Rattle.std.specs.Prelude.{slice_range}
-use Rattle.std.specs.Option.{option_map}
 use Rattle.std.proofs.lemmas.Bool.Decides.{nat_tests}
 use Rattle.byteorder.specs.Endian.{big_number}
 use Rattle.sha2.specs.Sha256.{sha256}
 use Rattle.sha2.specs.Sha512.{sha512}
-use Rattle.flash_format.specs.declared.attribute.AttrHead.{AttrHead}
 use Rattle.flash_format.specs.declared.digest.Digest.{Digest}
 use Rattle.flash_format.specs.declared.digest.Digest.TheVariants as digests
 use Rattle.flash_format.specs.declared.head.Head.{Head}
 use Rattle.flash_format.specs.Head.{be32, is_free}
-use Rattle.flash_format.specs.Attributes.{Attribute, attribute, attributes, attr_head_of, ends_list, HASH}
+use Rattle.flash_format.specs.Attributes.{HASH}
 use Rattle.flash_format.specs.Entry.{name_end}
 use Rattle.flash_format.specs.Components.{cell_attributes, cell_content}
-use Rattle.flash_format.proofs.AttributeSteps.{attributes_end}
 use Rattle.std.proofs.lemmas.List.{take-append-drop}
 use Rattle.flash_store.specs.Device.{Device}
 use Rattle.flash_store.specs.Pages.{Pages, HasSeen, HasAnswered}
@@ -23,19 +20,14 @@ use Rattle.flash_store.specs.Scans.{ScansTo}
 use Rattle.flash_store.proofs.DeviceLemmas.{honest_still}
 use Rattle.flash_store.proofs.WindowLemmas.{ScansTo-on, ScansTo-then}
 use Rattle.cbfs_walk.specs.Passing.{HasPassed, reads_over}
-use Rattle.cbfs_walk.specs.AttrWalks.{after_first}
 use Rattle.cbfs_walk.specs.Cells.{IsCellIn, cell_in}
 use Rattle.cbfs_walk.specs.Walks.{StandsIn}
-use Rattle.cbfs_walk.specs.Listed.{listed_in, Placed, by_tag, first_within}
-use Rattle.cbfs_walk.specs.Hashes.{sha256_of, sha512_of, digest_like, has_sha256, has_sha512, stored_digest, state_of, data_of, hash_state, data_at, content_at, hash_state_in}
+use Rattle.cbfs_walk.specs.Hashes.{sha256_of, sha512_of, digest_like, has_sha256, has_sha512, stored_digest, state_of, data_of, hash_state, content_at, hash_state_in}
 use Rattle.cbfs_walk.specs.declared.cell.Cell.{Cell}
-use Rattle.cbfs_walk.specs.declared.attribute_walk.Listed as declared
-use Rattle.cbfs_walk.specs.declared.attribute_walk.Listed.TheVariants as listed
 use Rattle.cbfs_walk.proofs.Parts.{range-inner, range-take, range-after, length-range}
 use Rattle.cbfs_walk.proofs.CutLaws.{standing, cell_head, cell_part}
-use Rattle.cbfs_walk.proofs.Listing.{goes, goes_end, goes_malformed, goes_none, goes_on, listed_all}
 use Rattle.cbfs_walk.proofs.Reading.{HasPassed-none, HasPassed-on, HasPassed-then, HasPassed-answers, read_passes}
-use Rattle.cbfs_walk.proofs.Scanning.{Scanning, left_by, scanned, ends_empty}
+use Rattle.cbfs_walk.proofs.Scanning.{data_found, Scanning, left_by, scanned}
 
 -- ---- a hasher that takes the bytes between two places, piece by piece
 
@@ -152,49 +144,6 @@ like_sha512 x c stored old bytes from end is e begins ends =
 
 -- ---- the first hash attribute
 
--- the data of an attribute, or that of the others
-by_use : (tag : ℕ) (x y : List ℕ) (at end : ℕ) (h : AttrHead) (others : List Attribute) (rest : Option Placed) (b : Bool) → y ≡ slice_range x at end → at + h.len ≤ end → h ≡ attr_head_of y
-    → option_map (data_at x) rest ≡ data_of tag others → eqb h.tag tag ≡ b → option_map (data_at x) (cond b (Some (at, h)) rest) ≡ data_of tag (attribute y ∷ others)
-by_use tag x y at end h others rest b is fits head more e =
-    let test : eqb (attribute y).tag tag ≡ b = ap (λ (k : AttrHead). eqb k.tag tag) (sym head) ∙ e in
-    go b ∙ ap (λ t. cond t (Some (attribute y).contents) (data_of tag others)) (sym test)
-  where
-    contents : data_at x (at, h) ≡ (attribute y).contents
-    contents =
-        sym (range-inner x at end 8 h.len (omega (arith, fits))) ∙ ap (λ l. slice_range l 8 h.len) (sym is) ∙ ap (λ (k : AttrHead). slice_range y 8 k.len) head
-
-    go : (t : Bool) → option_map (data_at x) (cond t (Some (at, h)) rest) ≡ cond t (Some (attribute y).contents) (data_of tag others)
-    go true = ap Some contents
-    go false = more
-
--- among well formed attributes, the data of the first with a tag is the list's
-first_data : (tag n : ℕ) (x : List ℕ) (at end : ℕ) (all : List Attribute) → end ≤ length x → length (slice_range x at end) ≤ n → attributes (slice_range x at end) ≡ Some all
-    → option_map (data_at x) (first_within n tag at (slice_range x at end)) ≡ data_of tag all
-unfolding first_within
-first_data tag zero x at end all inside enough formed =
-    let empty : ends_list (slice_range x at end) ≡ true = ends_empty (slice_range x at end) (omega (arith, enough)) in
-    sym (ap (λ (l : List Attribute). data_of tag l) (goes_none (slice_range x at end) all (attributes_end (slice_range x at end) empty) formed))
-first_data tag (suc n) x at end all inside enough formed = go (first_data tag n x) (listed_in (slice_range x at end)) refl
-  where
-    y : List ℕ
-    y = slice_range x at end
-
-    go : ((p q : ℕ) (others : List Attribute) → q ≤ length x → length (slice_range x p q) ≤ n → attributes (slice_range x p q) ≡ Some others → option_map (data_at x) (first_within n tag p (slice_range x p q)) ≡ data_of tag others)
-        → (l : declared.Listed) → l ≡ listed_in y → option_map (data_at x) (by_tag tag at y l (first_within n tag)) ≡ data_of tag all
-    go later listed.End told = sym (ap (λ (l : List Attribute). data_of tag l) (goes_none y all (goes_end y told) formed))
-    go later listed.Malformed told = let e : (let o : Option (List Attribute) = None in o) ≡ Some all = sym (goes_malformed y told) ∙ formed in absurd cc
-    go later (listed.Attribute h) told =
-        let g = goes y h told in
-        let on = goes_on y h all g formed in
-        let fits : at + h.len ≤ end = omega (arith, g.least, g.inside, length-range x at end inside) in
-        let there : drop h.len y ≡ slice_range x (at + h.len) end = range-after x at end h.len fits in
-        let rest : attributes (slice_range x (at + h.len) end) ≡ Some (after_first all) = ap (λ y. attributes y) (sym there) ∙ on.rest in
-        let short : length (slice_range x (at + h.len) end) ≤ n = omega (arith, length-drop h.len y, ap (λ (y : List ℕ). length y) there, g.least, enough) in
-        let more = later (at + h.len) end (after_first all) inside short rest in
-        by_use tag x y at end h (after_first all) (first_within n tag (at + h.len) (drop h.len y)) (eqb h.tag tag) refl fits g.head
-        (ap (λ z. option_map (data_at x) (first_within n tag (at + h.len) z)) there ∙ more) refl
-        ∙ sym (ap (λ (l : List Attribute). data_of tag l) on.first)
-
 -- what is found in a component that stands in the region
 pub state_found : (x : List ℕ) (size : ℕ) (c : Cell) → c.at + c.head.offset ≤ length x → IsCellIn size c → StandsIn x c → is_free c.head ≡ false
     → hash_state_in x c ≡ hash_state (cell_attributes (cell_in x c)) (cell_content (cell_in x c))
@@ -202,7 +151,7 @@ state_found x size c inside is stands used =
     let head = cell_head x c (standing x c stands) is.positive in
     let content : cell_content (cell_in x c) ≡ content_at x c =
     ap (λ (h : Head). slice_range (cell_in x c) h.offset (h.offset + h.len)) head ∙ cell_part x c c.head.offset (c.head.offset + c.head.len) is.content in
-    ap (λ d. state_of d (content_at x c)) (first_data HASH (length (slice_range x (c.at + name_end c.head) (c.at + c.head.offset))) x (c.at + name_end c.head) (c.at + c.head.offset) (cell_attributes (cell_in x c)) inside (le_refl _) (listed_all x c stands used))
+    ap (λ d. state_of d (content_at x c)) (data_found HASH x c inside stands used)
     ∙ ap (state_of (data_of HASH (cell_attributes (cell_in x c)))) (sym content)
 
 -- ---- how many calls show a component's digests

@@ -1,6 +1,6 @@
 -- A scan of attributes on a device, from place to place.
 use Rattle.std.proofs.Common.{◌≡◌, ℕ, ◌+◌, ◌-◌, ◌≤◌, Bool, true, false, cond, IsTrue, List, [], ◌∷◌, drop, Option, Some, None, Result, refl, sym, ap, ◌∙◌, arith, eqb, zero, suc, le_refl, length-drop, length}
-use Rattle.std.specs.Prelude.{slice_range, is_some, unwrap_or}
+use Rattle.std.specs.Prelude.{slice_range, is_some, unwrap_or, IfSome}
 use Rattle.std.specs.Option.{option_map, option_or}
 use Rattle.byteorder.specs.Endian.{big_number}
 use Rattle.flash_format.specs.declared.attribute.AttrHead.{AttrHead}
@@ -17,7 +17,8 @@ use Rattle.flash_store.specs.Regions.{Range, bytes_in}
 use Rattle.cbfs_walk.specs.Cells.{IsCellIn, cell_in}
 use Rattle.cbfs_walk.specs.Walks.{StandsIn}
 use Rattle.cbfs_walk.specs.AttrWalks.{IsAttrIn, after_first}
-use Rattle.cbfs_walk.specs.Listed.{listed_in, Placed, by_tag, first_within, first_in, first_of, value_in}
+use Rattle.cbfs_walk.specs.Hashes.{data_of, data_at}
+use Rattle.cbfs_walk.specs.Listed.{IsAttrOf, listed_in, Placed, by_tag, first_within, first_in, first_of, value_in}
 use Rattle.cbfs_walk.specs.declared.cell.Cell.{Cell}
 use Rattle.cbfs_walk.specs.declared.attribute_walk.Listed as declared
 use Rattle.cbfs_walk.specs.declared.attribute_walk.Listed.TheVariants as listed
@@ -174,58 +175,42 @@ first_begins facts r size tag c from end old is used begins ends =
 pub first_is : (x : List ℕ) (tag : ℕ) (c : Cell) (from end : ℕ) (found : Option Placed) → from ≡ c.at + name_end c.head → end ≡ c.at + c.head.offset → found ≡ first_in tag from (slice_range x from end) → found ≡ first_of x c tag
 first_is x tag c from end found begins ends is = is ∙ ap (λ n. first_in tag n (slice_range x n end)) begins ∙ ap (λ n. first_in tag (c.at + name_end c.head) (slice_range x (c.at + name_end c.head) n)) ends
 
--- ---- the value of the first compression attribute
+-- ---- the data of the first attribute with a tag
 
--- a compression attribute has its value, others have none
-packing_first : (y : List ℕ) (h : AttrHead) (others : List Attribute) → h ≡ attr_head_of y
-    → packing (attribute y ∷ others) ≡ cond (eqb h.tag COMPRESSION) (be32 0 (slice_range y 8 h.len)) (packing others)
-packing_first y h others e = go (eqb (attr_head_of y).tag COMPRESSION)
-    ∙ ap (λ (k : AttrHead). cond (eqb k.tag COMPRESSION) (be32 0 (slice_range y 8 k.len)) (packing others)) (sym e)
+-- the data of an attribute, or that of the others
+by_use : (tag : ℕ) (x y : List ℕ) (at end : ℕ) (h : AttrHead) (others : List Attribute) (rest : Option Placed) (b : Bool) → y ≡ slice_range x at end → at + h.len ≤ end → h ≡ attr_head_of y
+    → option_map (data_at x) rest ≡ data_of tag others → eqb h.tag tag ≡ b → option_map (data_at x) (cond b (Some (at, h)) rest) ≡ data_of tag (attribute y ∷ others)
+by_use tag x y at end h others rest b is fits head more e =
+    let test : eqb (attribute y).tag tag ≡ b = ap (λ (k : AttrHead). eqb k.tag tag) (sym head) ∙ e in
+    go b ∙ ap (λ t. cond t (Some (attribute y).contents) (data_of tag others)) (sym test)
   where
-    go : (b : Bool) → unwrap_or (option_or (cond b (Some (be32 0 (slice_range y 8 (attr_head_of y).len))) None) (packing_in others)) 0
-        ≡ cond b (be32 0 (slice_range y 8 (attr_head_of y).len)) (packing others)
-    go true = refl
-    go false = refl
+    contents : data_at x (at, h) ≡ (attribute y).contents
+    contents =
+        sym (range-inner x at end 8 h.len (omega (arith, fits))) ∙ ap (λ l. slice_range l 8 h.len) (sym is) ∙ ap (λ (k : AttrHead). slice_range y 8 k.len) head
 
--- a value is read where it stands
-value_is : (x : List ℕ) (at end : ℕ) (h : AttrHead) → 16 ≤ h.len → at + h.len ≤ end → be32 0 (slice_range (slice_range x at end) 8 h.len) ≡ be32 (at + 8) x
-value_is x at end h long inside =
-    ap (big_number 4) (
-    range-inner (slice_range x at end) 8 h.len 0 4 (omega (arith, long))
-    ∙ range-inner x at end 8 12 (omega (arith, long, inside))
-    ∙ ap (slice_range x (at + 8)) {x = at + 12} {y = at + 8 + 4} (omega arith)
-    )
+    go : (t : Bool) → option_map (data_at x) (cond t (Some (at, h)) rest) ≡ cond t (Some (attribute y).contents) (data_of tag others)
+    go true = ap Some contents
+    go false = more
 
-compression_len : (h : AttrHead) → eqb h.tag COMPRESSION ≡ true → least_len h.tag ≡ 16
-compression_len h e = rw e refl
-
-pub ends_empty : (y : List ℕ) → length y ≤ 0 → ends_list y ≡ true
+ends_empty : (y : List ℕ) → length y ≤ 0 → ends_list y ≡ true
 ends_empty [] e = refl
 ends_empty (b ∷ y) e = absurd (omega (arith, e))
 
--- the first attribute has the value, or the others have it
-by_use : (x y : List ℕ) (at end : ℕ) (h : AttrHead) (others : List Attribute) (rest : Option Placed) (b : Bool) → eqb h.tag COMPRESSION ≡ b → y ≡ slice_range x at end → Goes y h → at + h.len ≤ end
-    → value_in x rest ≡ packing others → value_in x (cond b (Some (at, h)) rest) ≡ cond b (be32 0 (slice_range y 8 h.len)) (packing others)
-by_use x y at end h others rest false e is g fits more = more
-by_use x y at end h others rest true e is g fits more =
-    let long : 16 ≤ h.len = omega (arith, g.enough, compression_len h e) in
-    sym (ap (λ z. be32 0 (slice_range z 8 h.len)) is ∙ value_is x at end h long fits)
-
--- among well formed attributes, the value of the first with the tag of compression is the list's
-packing_within : (n : ℕ) (x : List ℕ) (at end : ℕ) (all : List Attribute) → end ≤ length x → length (slice_range x at end) ≤ n → attributes (slice_range x at end) ≡ Some all
-    → value_in x (first_within n COMPRESSION at (slice_range x at end)) ≡ packing all
+-- among well formed attributes, the data of the first with a tag is the list's
+first_data : (tag n : ℕ) (x : List ℕ) (at end : ℕ) (all : List Attribute) → end ≤ length x → length (slice_range x at end) ≤ n → attributes (slice_range x at end) ≡ Some all
+    → option_map (data_at x) (first_within n tag at (slice_range x at end)) ≡ data_of tag all
 unfolding first_within
-packing_within zero x at end all inside enough formed =
+first_data tag zero x at end all inside enough formed =
     let empty : ends_list (slice_range x at end) ≡ true = ends_empty (slice_range x at end) (omega (arith, enough)) in
-    sym (ap (λ (l : List Attribute). packing l) (goes_none (slice_range x at end) all (attributes_end (slice_range x at end) empty) formed))
-packing_within (suc n) x at end all inside enough formed = go (packing_within n x) (listed_in (slice_range x at end)) refl
+    sym (ap (λ (l : List Attribute). data_of tag l) (goes_none (slice_range x at end) all (attributes_end (slice_range x at end) empty) formed))
+first_data tag (suc n) x at end all inside enough formed = go (first_data tag n x) (listed_in (slice_range x at end)) refl
   where
     y : List ℕ
     y = slice_range x at end
 
-    go : ((p q : ℕ) (others : List Attribute) → q ≤ length x → length (slice_range x p q) ≤ n → attributes (slice_range x p q) ≡ Some others → value_in x (first_within n COMPRESSION p (slice_range x p q)) ≡ packing others)
-        → (l : declared.Listed) → l ≡ listed_in y → value_in x (by_tag COMPRESSION at y l (first_within n COMPRESSION)) ≡ packing all
-    go later listed.End told = sym (ap (λ (l : List Attribute). packing l) (goes_none y all (goes_end y told) formed))
+    go : ((p q : ℕ) (others : List Attribute) → q ≤ length x → length (slice_range x p q) ≤ n → attributes (slice_range x p q) ≡ Some others → option_map (data_at x) (first_within n tag p (slice_range x p q)) ≡ data_of tag others)
+        → (l : declared.Listed) → l ≡ listed_in y → option_map (data_at x) (by_tag tag at y l (first_within n tag)) ≡ data_of tag all
+    go later listed.End told = sym (ap (λ (l : List Attribute). data_of tag l) (goes_none y all (goes_end y told) formed))
     go later listed.Malformed told = let e : (let o : Option (List Attribute) = None in o) ≡ Some all = sym (goes_malformed y told) ∙ formed in absurd cc
     go later (listed.Attribute h) told =
         let g = goes y h told in
@@ -235,11 +220,45 @@ packing_within (suc n) x at end all inside enough formed = go (packing_within n 
         let rest : attributes (slice_range x (at + h.len) end) ≡ Some (after_first all) = ap (λ y. attributes y) (sym there) ∙ on.rest in
         let short : length (slice_range x (at + h.len) end) ≤ n = omega (arith, length-drop h.len y, ap (λ (y : List ℕ). length y) there, g.least, enough) in
         let more = later (at + h.len) end (after_first all) inside short rest in
-        by_use x y at end h (after_first all) (first_within n COMPRESSION (at + h.len) (drop h.len y)) (eqb h.tag COMPRESSION) refl refl g fits
-        (ap (λ z. value_in x (first_within n COMPRESSION (at + h.len) z)) there ∙ more)
-        ∙ sym (ap (λ (l : List Attribute). packing l) on.first ∙ packing_first y h (after_first all) g.head)
+        by_use tag x y at end h (after_first all) (first_within n tag (at + h.len) (drop h.len y)) (eqb h.tag tag) refl fits g.head
+        (ap (λ z. option_map (data_at x) (first_within n tag (at + h.len) z)) there ∙ more) refl
+        ∙ sym (ap (λ (l : List Attribute). data_of tag l) on.first)
+
+-- the data that is found in a component that stands in the region
+pub data_found : (tag : ℕ) (x : List ℕ) (c : Cell) → c.at + c.head.offset ≤ length x → StandsIn x c → is_free c.head ≡ false → option_map (data_at x) (first_of x c tag) ≡ data_of tag (cell_attributes (cell_in x c))
+data_found tag x c inside stands used =
+    first_data tag (length (slice_range x (c.at + name_end c.head) (c.at + c.head.offset))) x (c.at + name_end c.head) (c.at + c.head.offset) (cell_attributes (cell_in x c)) inside (le_refl _) (listed_all x c stands used)
+
+-- ---- the value of the first compression attribute
+
+-- the value that stands first in data, 0 without any
+abbrev value_of : Option (List ℕ) → ℕ
+value_of None = 0
+value_of (Some contents) = be32 0 contents
+
+packing_data : (all : List Attribute) → value_of (data_of COMPRESSION all) ≡ packing all
+packing_data [] = refl
+packing_data (a ∷ others) = go (eqb a.tag COMPRESSION) (packing_data others)
+  where
+    go : (b : Bool) → value_of (data_of COMPRESSION others) ≡ packing others → value_of (cond b (Some a.contents) (data_of COMPRESSION others)) ≡ unwrap_or (option_or (cond b (Some (be32 0 a.contents)) None) (packing_in others)) 0
+    go true more = refl
+    go false more = more
+
+compression_len : (h : AttrHead) → h.tag ≡ COMPRESSION → least_len h.tag ≡ 16
+compression_len h e = rw e refl
+
+-- a value is read where it stands
+value_is : (x : List ℕ) (c : Cell) (found : Option Placed) → IfSome found (IsAttrOf c COMPRESSION) → value_in x found ≡ value_of (option_map (data_at x) found)
+value_is x c None is = refl
+value_is x c (Some found) is =
+    let long : 16 ≤ found.1.len = omega (arith, is.attribute.least, compression_len found.1 is.has) in
+    sym (ap (big_number 4) (
+    range-inner x (found.0 + 8) (found.0 + found.1.len) 0 4 (omega (arith, long))
+    ∙ ap (λ k. slice_range x k (found.0 + 8 + 4)) {x = found.0 + 8 + 0} {y = found.0 + 8} (omega arith)
+    ))
 
 -- the value that is found in a component that stands in the region
-pub packing_found : (x : List ℕ) (c : Cell) → c.at + c.head.offset ≤ length x → StandsIn x c → is_free c.head ≡ false → value_in x (first_of x c COMPRESSION) ≡ packing (cell_attributes (cell_in x c))
-packing_found x c inside stands used =
-    packing_within (length (slice_range x (c.at + name_end c.head) (c.at + c.head.offset))) x (c.at + name_end c.head) (c.at + c.head.offset) (cell_attributes (cell_in x c)) inside (le_refl _) (listed_all x c stands used)
+pub packing_found : (x : List ℕ) (c : Cell) (found : Option Placed) → found ≡ first_of x c COMPRESSION → IfSome found (IsAttrOf c COMPRESSION) → c.at + c.head.offset ≤ length x → StandsIn x c → is_free c.head ≡ false
+    → value_in x found ≡ packing (cell_attributes (cell_in x c))
+packing_found x c found first is inside stands used =
+    value_is x c found is ∙ ap (λ f. value_of (option_map (data_at x) f)) first ∙ ap value_of (data_found COMPRESSION x c inside stands used) ∙ packing_data (cell_attributes (cell_in x c))

@@ -42,9 +42,9 @@ const DIGEST: [u8; 32] = *b"\xba\x78\x16\xbf\x8f\x01\xcf\xea\x41\x41\x40\xde\x5d
 \xb0\x03\x61\xa3\x96\x17\x7a\x9c\xb4\x10\xff\x61\xf2\x00\x15\xad";
 
 /// What stands where in an image of 4096 bytes, and 0xff elsewhere.
-type Parts<'a> = &'a [(usize, &'a [u8])];
+pub type Parts<'a> = &'a [(usize, &'a [u8])];
 
-const EMPTY: Parts = &[(0, &MAP), (0x200, &FRESH)];
+pub const EMPTY: Parts = &[(0, &MAP), (0x200, &FRESH)];
 
 fn image_of(alloc: Global, parts: Parts) -> Result<Vec<u8>, AllocError> {
     let mut image = Vec::from_elem(alloc, 0xff, 4096)?;
@@ -54,7 +54,7 @@ fn image_of(alloc: Global, parts: Parts) -> Result<Vec<u8>, AllocError> {
     Ok(image)
 }
 
-fn device_of(alloc: Global, parts: Parts) -> Result<Paged<MemFlash>, Fail> {
+pub fn device_of(alloc: Global, parts: Parts) -> Result<Paged<MemFlash>, Fail> {
     let device = MemFlash::new(image_of(alloc, parts)?).map_err(|_| "too large")?;
     Ok(Paged::new(device))
 }
@@ -71,12 +71,12 @@ fn raw(name: &[u8], hash: HashChoice, spot: Spot) -> Command<'_> {
 }
 
 /// The addition at the first place with room.
-fn first(name: &[u8], hash: HashChoice) -> Command<'_> {
+pub fn first(name: &[u8], hash: HashChoice) -> Command<'_> {
     raw(name, hash, Spot::First)
 }
 
 /// An addition of this content is answered so, and writes no output.
-fn adds(
+pub fn adds(
     rt: &(impl Abort + AllocGlobal),
     paged: &mut Paged<MemFlash>,
     command: &Command,
@@ -90,7 +90,7 @@ fn adds(
 }
 
 /// A command that is done writes this.
-fn writes(
+pub fn writes(
     rt: &(impl Abort + AllocGlobal),
     paged: &mut Paged<MemFlash>,
     command: &Command,

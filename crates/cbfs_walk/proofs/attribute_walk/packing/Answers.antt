@@ -1,9 +1,8 @@
-use Rattle.std.proofs.Common.{arith, ap, ◌∙◌, ◌+◌, ◌≤◌, length}
+use Rattle.std.proofs.Common.{arith, ◌+◌, ◌≤◌, length}
 use Rattle.flash_format.specs.Entry.{name_end}
 use Rattle.flash_store.specs.Regions.{bytes_in}
 use Rattle.flash_store.proofs.DeviceLemmas.{honest_still}
 use Rattle.cbfs_walk.specs.Passing.{reads_over}
-use Rattle.cbfs_walk.specs.Listed.{value_in}
 use Rattle.cbfs_walk.proofs.Parts.{length-region}
 use Rattle.cbfs_walk.proofs.Reading.{HasPassed-answers, HasPassed-then, IfOk-to}
 use Rattle.cbfs_walk.proofs.CellNames.{has_field}
@@ -26,11 +25,11 @@ returns-in-Some-clause-packing g c = λ h stands.
     let inside : c.args.cell.now.at + c.args.cell.now.head.offset ≤ length x = omega (arith, length-region c.args.region _ c.requires.region, c.requires.cell.content, c.requires.cell.inside) in
     let calls = c.first_attribute.ensures.after.read.device in
     let found = rw c.in-Some.is at (c.in_ok-at.ensures.first h) in
-    IfOk-to _ _ _ (ap (value_in x) found ∙ packing_found x c.args.cell.now inside stands c.requires.component) (rw (calls.unchanged h) at (c.value_at.ensures.value (honest_still calls.calls.same_honesty h)))
+    IfOk-to _ _ _ (packing_found x c.args.cell.now _ found (rw c.in-Some.is at c.in_ok-at.ensures.attribute) inside stands c.requires.component) (rw (calls.unchanged h) at (c.value_at.ensures.value (honest_still calls.calls.same_honesty h)))
 
 pub returns-in-None-clause-packing : goal.returns-in-None-clause-packing
 returns-in-None-clause-packing g c = λ h stands.
     let x = bytes_in c.args.region (g.F.Flash.facts c.args.paged.now.device).content in
     let inside : c.args.cell.now.at + c.args.cell.now.head.offset ≤ length x = omega (arith, length-region c.args.region _ c.requires.region, c.requires.cell.content, c.requires.cell.inside) in
     let found = rw c.in-None.is at (c.in_ok-at.ensures.first h) in
-    ap (value_in x) found ∙ packing_found x c.args.cell.now inside stands c.requires.component
+    packing_found x c.args.cell.now _ found tt inside stands c.requires.component
