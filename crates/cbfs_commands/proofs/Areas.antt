@@ -1,8 +1,8 @@
 -- The rows of the areas of a table, one by one.
-use Rattle.std.proofs.Common.{◌≡◌, ℕ, ◌+◌, ◌-◌, ◌*◌, ◌<◌, ◌≤◌, IsTrue, List, [], ◌++◌, drop, Option, suc, refl, sym, ap, ◌∙◌, arith, append_assoc, subst, Ok, Err, inl, Some, None}
+use Rattle.std.proofs.Common.{◌≡◌, ℕ, ◌+◌, ◌-◌, ◌*◌, ◌<◌, ◌≤◌, IsTrue, List, [], ◌++◌, drop, Option, suc, refl, sym, ap, ◌∙◌, arith, subst, Ok, Err, inl, Some, None}
 use Rattle.std.specs.List.{flat_map}
 use Rattle.std.specs.Option.{option_map}
-use Rattle.std.proofs.lemmas.List.{drop-drop, append-nil}
+use Rattle.std.proofs.lemmas.List.{drop-drop}
 use Rattle.std.specs.Io.KnownBytes.{Appends}
 use Rattle.std.proofs.KnownBytes.{Appends-nil}
 use Rattle.flash_format.specs.Flashmap.{area_of, areas_from, map_of, fmap_head_of}

@@ -6,11 +6,17 @@ use cbfs_edit::{HashChoice, Spot};
 #[derive(Clone, Copy, Debug, PartialEq, Eq)]
 pub enum Command<'a> {
     /// Writes a row for each cell of the region; where verbose, with a line for each attribute and for the digest.
-    Print { region: &'a [u8], verbose: bool },
+    Print {
+        region: &'a [u8],
+        verbose: bool,
+    },
     /// Writes the place of the flashmap, and its areas.
     Layout,
     /// Writes the content of the first component of the name.
-    Extract { region: &'a [u8], name: &'a [u8] },
+    Extract {
+        region: &'a [u8],
+        name: &'a [u8],
+    },
     /// Puts the source into free space of the region, as the content of a component.
     Add {
         region: &'a [u8],
@@ -21,9 +27,16 @@ pub enum Command<'a> {
         spot: Spot,
     },
     /// Puts free space in place of the first component of the name.
-    Remove { region: &'a [u8], name: &'a [u8] },
+    Remove {
+        region: &'a [u8],
+        name: &'a [u8],
+    },
     /// Writes the bytes of the region.
-    Read { region: &'a [u8] },
+    Read {
+        region: &'a [u8],
+    },
     /// Replaces the region by the source, which has its size.
-    Write { region: &'a [u8] },
+    Write {
+        region: &'a [u8],
+    },
 }

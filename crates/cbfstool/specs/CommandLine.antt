@@ -157,7 +157,7 @@ command_of t =
     else (if bytes_eq t.subcommand (codes "layout") then Ok requests.layout
     else (if bytes_eq t.subcommand (codes "extract") then extraction (region_named t) (text_of (codes "name") t) (text_of (codes "file") t)
     else (if bytes_eq t.subcommand (codes "add") then
-        addition (region_named t) (text_of (codes "name") t) (text_of (codes "file") t) (kind_by (text_of (codes "type") t)) (hash_by (text_of (codes "hash") t)) (spot_by (text_of (codes "alignment") t) (text_of (codes "base") t))
+    addition (region_named t) (text_of (codes "name") t) (text_of (codes "file") t) (kind_by (text_of (codes "type") t)) (hash_by (text_of (codes "hash") t)) (spot_by (text_of (codes "alignment") t) (text_of (codes "base") t))
     else (if bytes_eq t.subcommand (codes "remove") then removal (region_named t) (text_of (codes "name") t)
     else (if bytes_eq t.subcommand (codes "read") then given (text_of (codes "file") t) (requests.read (region_named t))
     else (if bytes_eq t.subcommand (codes "write") then given (text_of (codes "file") t) (requests.write (region_named t))

@@ -81,10 +81,7 @@ const SUBCOMMANDS: [TableRow; 7] = [
     ("print", &[REGION, VERBOSE]),
     ("layout", &[]),
     ("extract", &[REGION, FILE, NAME]),
-    (
-        "add",
-        &[REGION, NAME, FILE, TYPE, ALIGNMENT, BASE, HASH],
-    ),
+    ("add", &[REGION, NAME, FILE, TYPE, ALIGNMENT, BASE, HASH]),
     ("remove", &[REGION, NAME]),
     ("read", &[REGION, FILE]),
     ("write", &[REGION, FILE]),

@@ -1,5 +1,4 @@
-use Rattle.std.proofs.Common.{sym, ap, ◌∙◌}
-use Rattle.cbfs_commands.proofs.Listing.{listing_start, listing_reads, listing_fails, listing_ends, listing_stops, listing_more}
+use Rattle.cbfs_commands.proofs.Listing.{listing_fails, listing_ends, listing_stops, listing_more}
 use Rattle.cbfs_commands.proofs.Telling.{told-text}
 use Rattle.cbfs_commands.proofs.detail.print_attributes.Goals as goal
 

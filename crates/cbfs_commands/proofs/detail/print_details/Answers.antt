@@ -1,11 +1,10 @@
-use Rattle.std.specs.List.{flat_map}
 use Rattle.std.proofs.Common.{List, ℕ, subst, sym}
 use Rattle.flash_format.specs.Components.{cell_attributes, cell_content}
 use Rattle.flash_store.specs.Regions.{bytes_in}
 use Rattle.cbfs_walk.specs.Cells.{cell_in}
 use Rattle.cbfs_walk.specs.Hashes.{hash_state}
 use Rattle.cbfs_walk.specs.Walks.{StandsIn}
-use Rattle.cbfs_commands.specs.Details.{attribute_line, hash_line}
+use Rattle.cbfs_commands.specs.Details.{hash_line}
 use Rattle.cbfs_commands.specs.Told.{shows, Tells}
 use Rattle.flash_store.proofs.DeviceLemmas.{honest_still}
 use Rattle.cbfs_commands.proofs.Telling.{told-text, tells-then, tells-stopped}

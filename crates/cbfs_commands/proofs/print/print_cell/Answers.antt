@@ -5,7 +5,7 @@ use Rattle.flash_store.specs.Regions.{bytes_in}
 use Rattle.cbfs_walk.specs.Cells.{cell_in}
 use Rattle.cbfs_walk.specs.Walks.{StandsIn}
 use Rattle.cbfs_commands.specs.Rows.{row}
-use Rattle.cbfs_commands.specs.Details.{details, shown_cell}
+use Rattle.cbfs_commands.specs.Details.{details}
 use Rattle.cbfs_commands.specs.Told.{shows, Tells}
 use Rattle.flash_store.proofs.DeviceLemmas.{honest_still}
 use Rattle.cbfs_commands.proofs.Telling.{told-text, tells-then, tells-stopped}
