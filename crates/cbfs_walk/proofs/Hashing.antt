@@ -164,8 +164,8 @@ data_passes facts start c at len old mid new result room fits first p =
     HasPassed-on facts (start + (c.at + name_end c.head)) (start + (at + 8 + (len - 8))) (start + (c.at + c.head.offset)) old new result (omega (arith, room, fits))
     (HasPassed-then facts (start + (c.at + name_end c.head)) (start + at) (start + (at + 8)) (start + (at + 8 + (len - 8))) old mid new result (omega arith) first p)
 
-pub front_answers : {F T E : Type 0} (facts : F → Device) (start size : ℕ) (c : Cell) (old new : Pages F) (result : Result T E) → IsCellIn size c → HasPassed facts (start + (c.at + name_end c.head)) (start + (c.at + c.head.offset)) old new result → HasAnswered facts (reads_over c.span) old new result
-front_answers facts start size c old new result is p =
+pub attributes_answers : {F T E : Type 0} (facts : F → Device) (start size : ℕ) (c : Cell) (old new : Pages F) (result : Result T E) → IsCellIn size c → HasPassed facts (start + (c.at + name_end c.head)) (start + (c.at + c.head.offset)) old new result → HasAnswered facts (reads_over c.span) old new result
+attributes_answers facts start size c old new result is p =
     HasPassed-answers facts (start + (c.at + name_end c.head)) (start + (c.at + c.head.offset)) (reads_over c.span) old new result (omega (arith, is.content)) p
 
 pub content_answers : {F T E : Type 0} (facts : F → Device) (start size : ℕ) (c : Cell) (old mid new : Pages F) (result : Result T E) → IsCellIn size c → ScansTo facts (start + (c.at + name_end c.head)) (start + (c.at + c.head.offset)) old mid

@@ -30,7 +30,8 @@ pub enum HashState {
     Unsupported,
 }
 
-/// How many bytes of the content are read at once, so that the window has them mostly.
+/// How many bytes of the content are read at once: no more than a read in order may have, so that the device is called
+/// for each window and not for each piece.
 const PIECE: u64 = 256;
 
 /// Compares the digest in a component's first hash attribute with that of its content, as it is stored. In a cell that

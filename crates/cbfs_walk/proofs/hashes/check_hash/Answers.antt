@@ -4,37 +4,37 @@ use Rattle.cbfs_walk.specs.Hashes.{hash_state_in}
 use Rattle.cbfs_walk.specs.declared.hashes.HashState.TheVariants.{Absent, Unsupported}
 use Rattle.cbfs_walk.proofs.Parts.{length-region}
 use Rattle.cbfs_walk.proofs.Reading.{HasPassed-ok, HasPassed-raised}
-use Rattle.cbfs_walk.proofs.Hashing.{data_passes, front_answers, content_answers, state_found}
+use Rattle.cbfs_walk.proofs.Hashing.{data_passes, attributes_answers, content_answers, state_found}
 use Rattle.cbfs_walk.proofs.hashes.check_hash.Goals as goal
 
 pub returns-in_err-stored-in-Some-clause-after : goal.returns-in_err-stored-in-Some-clause-after
 returns-in_err-stored-in-Some-clause-after g c =
     let attribute = rw c.in-Some.is at c.in_ok-at.ensures.attribute in
     let reached = rw c.in-Some.is at c.in_ok-at.ensures.reached in
-    front_answers _ c.args.region.start c.args.region.size c.args.cell.now _ _ _ c.requires.cell
+    attributes_answers _ c.args.region.start c.args.region.size c.args.cell.now _ _ _ c.requires.cell
     (data_passes _ c.args.region.start c.args.cell.now c.in-Some.at c.in-Some.head.len _ _ _ _ attribute.attribute.head attribute.attribute.inside reached (HasPassed-raised _ _ _ _ _ _ _ _ c.from_residual-in_err-stored-in-Some.ensures.1 c.in_err-stored-in-Some.ensures.passes))
 
 pub returns-in-None-2-clause-after : goal.returns-in-None-2-clause-after
 returns-in-None-2-clause-after g c =
     let attribute = rw c.in-Some.is at c.in_ok-at.ensures.attribute in
     let reached = rw c.in-Some.is at c.in_ok-at.ensures.reached in
-    front_answers _ c.args.region.start c.args.region.size c.args.cell.now _ _ _ c.requires.cell
+    attributes_answers _ c.args.region.start c.args.region.size c.args.cell.now _ _ _ c.requires.cell
     (data_passes _ c.args.region.start c.args.cell.now c.in-Some.at c.in-Some.head.len _ _ _ _ attribute.attribute.head attribute.attribute.inside reached (HasPassed-ok _ _ _ _ _ _ _ c.in_ok-stored-in-Some.ensures.passes))
 
 pub returns-in_err-computed-in-Some-2-clause-after : goal.returns-in_err-computed-in-Some-2-clause-after
 returns-in_err-computed-in-Some-2-clause-after g c =
     let attribute = rw c.in-Some.is at c.in_ok-at.ensures.attribute in
     let reached = rw c.in-Some.is at c.in_ok-at.ensures.reached in
-    let front = data_passes _ c.args.region.start c.args.cell.now c.in-Some.at c.in-Some.head.len _ _ _ _ attribute.attribute.head attribute.attribute.inside reached c.in_ok-stored-in-Some.ensures.passes in
-    content_answers _ c.args.region.start c.args.region.size c.args.cell.now _ _ _ _ c.requires.cell front.scans
+    let first = data_passes _ c.args.region.start c.args.cell.now c.in-Some.at c.in-Some.head.len _ _ _ _ attribute.attribute.head attribute.attribute.inside reached c.in_ok-stored-in-Some.ensures.passes in
+    content_answers _ c.args.region.start c.args.region.size c.args.cell.now _ _ _ _ c.requires.cell first.scans
     (HasPassed-raised _ _ _ _ _ _ _ _ c.from_residual-in_err-computed-in-Some-2.ensures.1 c.in_err-computed-in-Some-2.ensures.passes)
 
 pub returns-in_ok-computed-in-Some-2-clause-after : goal.returns-in_ok-computed-in-Some-2-clause-after
 returns-in_ok-computed-in-Some-2-clause-after g c =
     let attribute = rw c.in-Some.is at c.in_ok-at.ensures.attribute in
     let reached = rw c.in-Some.is at c.in_ok-at.ensures.reached in
-    let front = data_passes _ c.args.region.start c.args.cell.now c.in-Some.at c.in-Some.head.len _ _ _ _ attribute.attribute.head attribute.attribute.inside reached c.in_ok-stored-in-Some.ensures.passes in
-    content_answers _ c.args.region.start c.args.region.size c.args.cell.now _ _ _ _ c.requires.cell front.scans
+    let first = data_passes _ c.args.region.start c.args.cell.now c.in-Some.at c.in-Some.head.len _ _ _ _ attribute.attribute.head attribute.attribute.inside reached c.in_ok-stored-in-Some.ensures.passes in
+    content_answers _ c.args.region.start c.args.region.size c.args.cell.now _ _ _ _ c.requires.cell first.scans
     (HasPassed-ok _ _ _ _ _ _ _ c.in_ok-computed-in-Some-2.ensures.passes)
 
 pub returns-in_ok-computed-in-Some-2-clause-value : goal.returns-in_ok-computed-in-Some-2-clause-value
