@@ -41,13 +41,17 @@ impl Model for FileSource {
 }
 
 impl FileSource {
-    /// Opens a file for reading. A file that isn't there or may not be read is `Failed`; one of 2^32 bytes or more is
-    /// `TooLarge`.
+    /// Opens a file for reading. A file that isn't there or may not be read is `Failed`, and so is a pipe, a device or a
+    /// directory, which don't tell how many bytes they give; a file of 2^32 bytes or more is `TooLarge`.
     pub fn open<R: Files<File = File>>(rt: &R, path: &str) -> Result<FileSource, OpenFault>
         ensures { IfOk result (λ source. (source.calls ≡ 0) × (source.faults ≡ 0)) }
     {
         let file = OpenOptions::new().read(true).open(rt, path)?;
-        let len = checked_length(file.metadata()?.len())?;
+        let metadata = file.metadata()?;
+        if !metadata.is_file() {
+            return Err(OpenFault::Failed);
+        }
+        let len = checked_length(metadata.len())?;
         Ok(FileSource {
             file,
             len,
