@@ -1,4 +1,4 @@
-//! The commands on an image: print, layout, extract, remove, read and write.
+//! The commands on an image: print, layout, extract, add, remove, read and write.
 #![tactic(auto)]
 
 mod add;

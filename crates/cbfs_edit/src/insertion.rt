@@ -12,11 +12,8 @@ ghost use Rattle.cbfs_edit.specs.Insertions.{ChangesFrom, HasRoom, IsUnfinished,
 
 use crate::place::Place;
 use crate::write::{commit_in, write_in};
-use flash_format::{HEADER_LENGTH, Meta, empty_header, write_meta};
+use flash_format::{HEADER_LENGTH, LONGEST_FRONT, Meta, empty_header, write_meta};
 use flash_store::{Flash, FlashFault, Paged, Region};
-
-/// The most bytes that stand before a content: a head of 24, a name field of 128, an attribute of 76, a gap of 63.
-const FRONT_ROOM: usize = 291;
 
 /// How many bytes of the component's front the last commit writes.
 fn held_back(place: Place) -> usize
@@ -173,7 +170,7 @@ pub fn describe<F: Flash>(
         ChangesFrom place.run.start place place.content (bytes_in region (F.facts paged.old.device).content)
         (bytes_in region (F.facts paged.new.device).content) }
 {
-    let mut front = [0; FRONT_ROOM];
+    let mut front = [0; LONGEST_FRONT];
     let n = write_meta(meta, &mut front);
     show(paged, region, place, end, &front[..n])
 }

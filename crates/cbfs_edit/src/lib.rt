@@ -1,4 +1,4 @@
-//! Changes to CBFS regions on a device: components are removed and regions formatted.
+//! Changes to CBFS regions on a device: components are added and removed, and regions formatted.
 //!
 //! No call takes memory. A change writes the header of one empty entry first, whole or not at all, and fills the rest
 //! after it, so that a device that stops at any call leaves the components of before or those of after.

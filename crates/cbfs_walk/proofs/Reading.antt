@@ -1,23 +1,12 @@
 -- Calls that read, one after the other, and what the last of them answers.
-use Rattle.std.proofs.Common.{◌≡◌, ℕ, ◌+◌, ◌-◌, ◌*◌, ◌/◌, ◌<◌, ◌≤◌, Result, Ok, Err, ◌∙◌, refl, arith, le_refl, length}
-use Rattle.std.specs.Prelude.{IfOk, OnErr, IsErrAnd}
+use Rattle.std.proofs.Common.{◌≡◌, ℕ, ◌+◌, ◌-◌, ◌*◌, ◌<◌, ◌≤◌, Result, Ok, Err, ◌∙◌, refl, arith, le_refl, length}
+use Rattle.std.specs.Prelude.{IfOk, IsErrAnd}
 use Rattle.flash_store.specs.Device.{Device}
 use Rattle.flash_store.specs.Pages.{Pages, HasRead, HasAnswered, HasSeen}
 use Rattle.flash_store.specs.Scans.{ScansTo}
-use Rattle.flash_store.proofs.WindowLemmas.{HasRead-then, HasRead-within, ScansTo-none, ScansTo-on, SpendsTo-on, ScansTo-left, ScansTo-faults, ScansTo-more, SpendsTo-more, ScansTo-then, SpendsTo-then, ScansTo-spends, SpendsTo-reads}
+use Rattle.flash_store.proofs.WindowLemmas.{ScansTo-none, ScansTo-on, SpendsTo-on, ScansTo-left, ScansTo-faults, ScansTo-more, SpendsTo-more, ScansTo-then, SpendsTo-then, ScansTo-spends, SpendsTo-reads}
 use Rattle.flash_store.specs.Regions.{Range, LiesIn}
 use Rattle.cbfs_walk.specs.Passing.{HasPassed, reads_over}
-
-OnErr-after : {T E : Type 0} (result : Result T E) (a b c : ℕ) → a ≤ b → OnErr result (b < c) → OnErr result (a < c)
-OnErr-after (Ok x) a b c le told = tt
-OnErr-after (Err e) a b c le told = omega (arith, le, told)
-
--- an answer after other reads
-pub HasAnswered-then : {F T E : Type 0} (facts : F → Device) (n k m : ℕ) (old mid new : Pages F) (result : Result T E) → n + k ≤ m → HasRead facts n old mid → HasAnswered facts k mid new result → HasAnswered facts m old new result
-HasAnswered-then facts n k m old mid new result le first second = record {
-  read = HasRead-within facts (n + k) m old new le (HasRead-then facts n k old mid new first second.read);
-  cause = OnErr-after result _ _ _ first.device.calls.faults second.cause;
-}
 
 -- an answer that equals one equals what equals it
 pub IfOk-to : {E : Type 0} (result : Result ℕ E) (v w : ℕ) → v ≡ w → IfOk result (λ x. x ≡ v) → IfOk result (λ x. x ≡ w)
@@ -102,11 +91,3 @@ list_passes facts start at offset from end old mid new result low there first p 
     HasPassed-on facts (start + at) (start + end) (start + at + offset) old new result (omega (arith, there))
     (HasPassed-then facts (start + at) (start + at) (start + (at + 24)) (start + end) old old new result (omega arith) (ScansTo-none facts (start + at) old)
     (HasPassed-then facts (start + (at + 24)) (start + (at + 24)) (start + from) (start + end) old mid new result (omega (arith, low)) first p))
-
--- ---- the calls for a cell, and for what is left of a region, in the words of a whole region
-
-pub over_cell : (span : ℕ) → 64 ≤ span → reads_over span ≤ span / 16
-over_cell span long = omega arith
-
-pub over_rest : (left : ℕ) → reads_over left ≤ left / 16 + 2
-over_rest left = omega arith

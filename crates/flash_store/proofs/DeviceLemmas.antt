@@ -3,7 +3,7 @@ use Rattle.std.proofs.Common.{◌≡◌, ℕ, ◌+◌, ◌≤◌, Bool, IsTrue, 
 use Rattle.std.specs.Prelude.{List, length}
 use Rattle.std.proofs.Common.{length-take, length-drop}
 use Rattle.flash_store.specs.Regions.{Range, LiesIn, bytes_in}
-use Rattle.flash_store.specs.Device.{Device, OneCall, Reads}
+use Rattle.flash_store.specs.Device.{Device, Reads}
 
 -- a device stays honest
 pub honest_still : {old new : Bool} → new ≡ old → IsTrue old → IsTrue new
@@ -25,19 +25,6 @@ Reads-then n k old mid new first second = record {
     same_length = second.calls.same_length ∙ first.calls.same_length;
   };
   unchanged = λ h. second.unchanged (honest_still first.calls.same_honesty h) ∙ first.unchanged h;
-}
-
--- one read more
-pub Reads-more : (n : ℕ) (old mid new : Device) → Reads n old mid → OneCall mid new → (IsTrue mid.honest → new.content ≡ mid.content) → Reads (n + 1) old new
-Reads-more n old mid new so_far call kept = record {
-  calls = record {
-    no_fewer = omega (arith, so_far.calls.no_fewer, call.calls);
-    no_more = omega (arith, so_far.calls.no_more, call.calls);
-    faults = omega (arith, so_far.calls.faults, call.faults);
-    same_honesty = call.same_honesty ∙ so_far.calls.same_honesty;
-    same_length = call.same_length ∙ so_far.calls.same_length;
-  };
-  unchanged = λ h. kept (honest_still so_far.calls.same_honesty h) ∙ so_far.unchanged h;
 }
 
 pub Reads-within : (n k : ℕ) (old new : Device) → n ≤ k → Reads n old new → Reads k old new
