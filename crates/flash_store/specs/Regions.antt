@@ -18,15 +18,15 @@ bytes_in region image = slice_range image region.start (region.start + region.si
 abbrev pub LiesIn : Range → List ℕ → Type 0
 LiesIn region image = region.start + region.size ≤ length image
 
--- the area as a region, where it lies inside the image
-abbrev pub inside : List ℕ → Option Area → Result Range StoreFault
-inside image None = Err faults.NoRegion
-inside image (Some a) = if nat_lt (length image) (a.offset + a.size) then Err faults.RegionOutside else Ok (record { start = a.offset; size = a.size })
+-- the area as a region, where it lies inside an image of so many bytes
+abbrev pub inside : ℕ → Option Area → Result Range StoreFault
+inside image_len None = Err faults.NoRegion
+inside image_len (Some a) = if nat_lt image_len (a.offset + a.size) then Err faults.RegionOutside else Ok (record { start = a.offset; size = a.size })
 
 -- the first area of the name in the map at a place, as a region
 abbrev pub region_under : List ℕ → List ℕ → Option ℕ → Result Range StoreFault
 region_under image name None = Err faults.NoFmap
-region_under image name (Some q) = inside image (area_in image q name)
+region_under image name (Some q) = inside (length image) (area_in image q name)
 
 -- where the first area of the name in the image's flashmap lies
 unfoldable pub region_of : List ℕ → List ℕ → Result Range StoreFault

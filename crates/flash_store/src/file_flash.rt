@@ -1,5 +1,5 @@
 //! A device in a file. That a file is honest is a premise: no contract says it or denies it.
-ghost use Rattle.std.specs.Prelude.{◌≡◌, ◌<◌, OnErr, IfOk};
+ghost use Rattle.std.specs.Prelude.{◌≡◌, ◌<◌, length, OnErr, IfOk};
 ghost use Rattle.flash_store.specs.Device.{OneCall};
 
 use crate::counter::Counter;
@@ -52,13 +52,41 @@ impl FileFlash {
     {
         let file = OpenOptions::new().read(true).write(true).open(rt, path)?;
         let len = checked_length(file.metadata()?.len())?;
-        Ok(FileFlash {
+        Ok(Self::in_file(file, len))
+    }
+
+    /// Makes a file for a device of `size` bytes, or empties the one that is there, and writes all of it as 0xff. A file that
+    /// can't be made, opened or written is `Failed`.
+    pub fn create<R: Files<File = File>>(
+        rt: &R,
+        path: &str,
+        size: u32,
+    ) -> Result<FileFlash, OpenFault>
+        ensures made { IfOk result (λ device.
+            (device.calls ≡ 0) × (device.faults ≡ 0) × (length device.content ≡ size)) }
+    {
+        let file = OpenOptions::new()
+            .read(true)
+            .write(true)
+            .create(true)
+            .truncate(true)
+            .open(rt, path)?;
+        write_blank(&file, size)?;
+        Ok(Self::in_file(file, size))
+    }
+
+    /// The device in a file of `len` bytes.
+    fn in_file(file: File, len: u32) -> FileFlash
+        ensures fresh { (result.calls ≡ 0) × (result.faults ≡ 0) }
+        ensures length { length result.content ≡ len }
+    {
+        FileFlash {
             file,
             len,
             calls: Counter::new(),
             faults: Counter::new(),
             honest: Snapshot::of(&false),
-        })
+        }
     }
 
     /// Counts a call, and the fault where it failed.
@@ -75,6 +103,21 @@ impl FileFlash {
             }
         }
     }
+}
+
+/// How many bytes of a new file are written at once.
+const BLANK: usize = 65536;
+
+/// Writes `size` bytes 0xff from the file's start on.
+fn write_blank(file: &File, size: u32) -> io::Result<()> {
+    let blank = [0xff; BLANK];
+    let mut at = 0;
+    while at < size {
+        let n = (size - at).min(BLANK as u32);
+        file.write_all_at(&blank[..n as usize], u64::from(at))?;
+        at += n;
+    }
+    Ok(())
 }
 
 impl Flash for FileFlash {

@@ -5,7 +5,7 @@ ghost use Rattle.flash_format.specs.Flashmap.{fmap_head_len, area_len, map_len, 
 ghost use Rattle.flash_store.specs.Device.{Reads};
 ghost use Rattle.flash_store.specs.Pages.{HasRead, HasAnswered};
 ghost use Rattle.flash_store.specs.Fmap.{HasSignatureAt, map_head, map_head_in, found_in};
-ghost use Rattle.flash_store.specs.Regions.{LiesIn, region_of};
+ghost use Rattle.flash_store.specs.Regions.{LiesIn, inside, region_of};
 ghost use Rattle.memchr.specs.Find.{IsFirst};
 
 use crate::flash::{Flash, FlashFault, PIECE};
@@ -176,6 +176,22 @@ fn area_named<F: Flash>(
     Ok(None)
 }
 
+/// The area as a region of an image of `image_len` bytes. What is refused: no area (5), an area that doesn't lie inside the
+/// image (6).
+pub fn region_of_area(area: Option<Area>, image_len: u64) -> Result<Region, StoreFault>
+    ensures answer { result ≡ inside image_len area }
+    ensures lies_in { IfOk result (λ region. region.start + region.size ≤ image_len) }
+    ensures no_device_fault { IsErrOf result StoreFault.Device → ⊥ }
+{
+    let Some(area) = area else {
+        return Err(StoreFault::NoRegion);
+    };
+    match Region::within(u64::from(area.offset), u64::from(area.size), image_len) {
+        Some(region) => Ok(region),
+        None => Err(StoreFault::RegionOutside),
+    }
+}
+
 /// Where the first area of the name lies, by the image's flashmap. What is refused first: no map (4), no area of the name
 /// in it (5), an area that doesn't lie inside the image (6); a fault of the device (1) where it happens.
 #[tactic(auto, unfolding(crate::specs::Regions::region_of))]
@@ -191,14 +207,8 @@ pub fn region<F: Flash>(paged: &mut Paged<F>, name: &[u8]) -> Result<Region, Sto
     let Some(map) = find_fmap(paged)? else {
         return Err(StoreFault::NoFmap);
     };
-    let Some(area) = area_named(paged, &map, name)? else {
-        return Err(StoreFault::NoRegion);
-    };
-    let image_len = paged.len();
-    match Region::within(u64::from(area.offset), u64::from(area.size), image_len) {
-        Some(region) => Ok(region),
-        None => Err(StoreFault::RegionOutside),
-    }
+    let area = area_named(paged, &map, name)?;
+    region_of_area(area, paged.len())
 }
 
 /// The head of the valid map that a source begins with.

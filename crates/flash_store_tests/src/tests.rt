@@ -495,3 +495,24 @@ fn open_sparse(
     equal(rt, &opened(rt, "sparse.bin"), &(answer, answer));
     Ok(())
 }
+
+#[test]
+fn a_file_is_made_for_a_device(rt: HostRuntime) -> Result<(), Fail> {
+    make(&rt, 5000)?;
+    make(&rt, 4096)?;
+    make(&rt, 0)?;
+    fs::remove_file(&rt, "made.bin")?;
+    let refused = FileFlash::create(&rt, "absent/made.bin", 1).map(|device| device.len());
+    equal(&rt, &refused, &Err(OpenFault::Failed));
+    Ok(())
+}
+
+/// The device has its length, and its file so many bytes 0xff and no others.
+fn make(rt: &(impl Abort + AllocGlobal + Files<File = File>), size: u32) -> Result<(), Fail> {
+    let device = FileFlash::create(rt, "made.bin", size)?;
+    equal(rt, &device.len(), &u64::from(size));
+    let expected = image(rt.alloc(), size as usize, 0, &[])?;
+    let written = fs::read(rt, "made.bin")?;
+    same_bytes(rt, written.as_slice(), expected.as_slice());
+    Ok(())
+}
