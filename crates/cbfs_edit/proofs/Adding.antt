@@ -70,6 +70,15 @@ pub the_place : (x : List ℕ) (new : NewComponent) (spot : Spot) (place : Place
 the_place x new spot place (inl failed) = absurd cc
 the_place x new spot place (inr found) = sym found
 
+-- what the search for a place has answered, once the caller's own checks are passed
+module _ (x name : List ℕ) (kind : ℕ) (hash : HashChoice) (content : List ℕ) (spot : Spot) (own : Option EditFault) (attribute header len : ℕ)
+    (passed : (fault : EditFault) → own ≡ Some fault → ⊥) (own_is : own ≡ own_fault name kind spot) (attribute_is : attribute ≡ attribute_len hash) (header_is : header ≡ meta_length (length name) attribute) (len_is : len ≡ length content) where
+  pub found_in : (r : Result Place EditFault) → IsErrOf r faults.Device ⊎ (r ≡ placing_in x name (record { header = header; len = len; spot = spot })) → IsErrOf r faults.Device ⊎ (r ≡ addition_in x (new_component name kind hash content) spot)
+  found_in r found = searched x name kind hash content spot header len r (header_is ∙ ap (λ n. meta_length (length name) n) attribute_is) len_is (no_fault own passed ∙ own_is) found
+
+  pub place_found : (place : Place) → (let a : Result Place EditFault = Ok place in IsErrOf a faults.Device ⊎ (a ≡ placing_in x name (record { header = header; len = len; spot = spot }))) → addition_in x (new_component name kind hash content) spot ≡ Ok place
+  place_found place found = the_place x (new_component name kind hash content) spot place (found_in (Ok place) found)
+
 -- the image after a change of its region alone
 pub image_of : (r : Range) (u old mid new : List ℕ) → LiesIn r old → mid ≡ old → length new ≡ length mid → SameOutside r.start r.size mid new → bytes_in r new ≡ u → new ≡ overwritten old r.start u
 image_of r u old mid new lies same size outside is =
@@ -78,6 +87,10 @@ image_of r u old mid new lies same size outside is =
 
 pub added_is : (x : List ℕ) (new : NewComponent) (spot : Spot) (place : Place) → addition_in x new spot ≡ Ok place → added_to x new spot ≡ added x new place
 added_is x new spot place is = ap (λ (a : Result Place EditFault). after_addition x new a) is
+
+-- what is written over a region that the search has left as it was
+pub written : (r : Range) (new : NewComponent) (spot : Spot) (place : Place) (old mid now : List ℕ) → mid ≡ old → addition_in (bytes_in r old) new spot ≡ Ok place → bytes_in r now ≡ added (bytes_in r mid) new place → bytes_in r now ≡ added_to (bytes_in r old) new spot
+written r new spot place old mid now same is there = there ∙ ap (λ (l : List ℕ). added (bytes_in r l) new place) same ∙ sym (added_is (bytes_in r old) new spot place is)
 
 module _ (r : Range) (new : NewComponent) (spot : Spot) (place : Place) (old mid now : List ℕ) (honest : Type 0) (result : Result (Unit {0}) CopyFault) (lies : LiesIn r old) (small : length old < 2 ^ 32) (kind_small : new.kind < 2 ^ 32)
     (content_small : length new.content < 2 ^ 32) (digest : IsDigest new.digest) (same : mid ≡ old) (is : addition_in (bytes_in r old) new spot ≡ Ok place)

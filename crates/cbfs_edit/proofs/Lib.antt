@@ -18,5 +18,7 @@ pub mod Assembly
 pub mod Changes
 pub mod Inserted
 pub mod Insertions
+pub mod Inserting
 pub mod Added
 pub mod Adding
+pub mod EditLists

@@ -71,6 +71,8 @@ fn copy_content<F: Flash, S: Source>(
     ensures source { IsErrOf result CopyFault.Source → (S.facts source.old).faults < (S.facts source.new).faults }
     ensures no_output { IsErrOf result CopyFault.Output → ⊥ }
     ensures digest_len { IfOk result (λ digest. hash_len digest ≡ attribute_len hash) }
+    ensures same_source { IsTrue (S.facts source.old).honest →
+        (S.facts source.new).content ≡ (S.facts source.old).content }
 
     // On an honest device, the second and the third from an honest source.
     ensures outside { IsTrue (F.facts paged.old.device).honest →
@@ -157,6 +159,8 @@ fn insert<F: Flash, S: Source>(
         (F.facts paged.old.device).faults < (F.facts paged.new.device).faults }
     ensures source { IsErrOf result CopyFault.Source → (S.facts source.old).faults < (S.facts source.new).faults }
     ensures no_output { IsErrOf result CopyFault.Output → ⊥ }
+    ensures same_source { IsTrue (S.facts source.old).honest →
+        (S.facts source.new).content ≡ (S.facts source.old).content }
 
     // On an honest device.
     ensures outside { IsTrue (F.facts paged.old.device).honest →
@@ -260,6 +264,10 @@ pub fn add<F: Flash, S: Source>(
     ensures device { IsErrOf result EditFault.Device →
         (F.facts paged.old.device).faults < (F.facts paged.new.device).faults }
     ensures source { IsErrOf result EditFault.Source → (S.facts source.old).faults < (S.facts source.new).faults }
+
+    // On any device, from an honest source.
+    ensures same_source { IsTrue (S.facts source.old).honest →
+        (S.facts source.new).content ≡ (S.facts source.old).content }
 
     // On an honest device, from any source.
     ensures answer { OnHonestIn F.facts paged.old.device region (λ x.

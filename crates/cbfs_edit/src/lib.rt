@@ -1,4 +1,5 @@
-//! Changes to CBFS regions on a device: components are added and removed, and regions formatted.
+//! Changes to CBFS regions on a device: components are added and removed, one by one or as a list of edits, and regions
+//! formatted.
 //!
 //! No call takes memory. A change writes the header of one empty entry first, whole or not at all, and fills the rest
 //! after it, so that a device that stops at any call leaves the components of before or those of after.
@@ -6,6 +7,7 @@
 
 mod addition;
 mod blank;
+mod edit;
 mod fault;
 mod formatting;
 mod group;
@@ -17,6 +19,7 @@ mod removal;
 mod write;
 
 pub use addition::{HashChoice, Placed, add};
+pub use edit::{Edit, Reply, apply_all};
 pub use fault::EditFault;
 pub use formatting::format;
 pub use group::Freed;

@@ -96,6 +96,8 @@ pub fn copy_into<F: Flash, S: Source, W: Watch>(
         (bytes_in region (F.facts paged.new.device).content) }
 
     // From an honest source, whatever the device.
+    ensures same_source { IsTrue (S.facts source.old).honest →
+        (S.facts source.new).content ≡ (S.facts source.old).content }
     ensures shown { IsTrue (S.facts source.old).honest → (seen : List ℕ) → W.saw watch.old seen →
         OnOk result (W.saw watch.new (seen ++ (S.facts source.old).content)) }
 {

@@ -40,7 +40,7 @@ const TOO_LONG: [u8; 40] =
     *b"LARCHIVE\xff\xff\xff\xff\xff\xff\xff\xff\0\0\0\0\0\0\0\x28\0\0\0\0\0\0\0\0\0\0\0\0\0\0\0\0";
 
 /// The header of an empty entry of 512 bytes at a region's end.
-const EMPTY_512: [u8; 28] = *b"LARCHIVE\0\0\x01\xe0\xff\xff\xff\xff\0\0\0\0\0\0\0\x1c\0\0\0\0";
+pub const EMPTY_512: [u8; 28] = *b"LARCHIVE\0\0\x01\xe0\xff\xff\xff\xff\0\0\0\0\0\0\0\x1c\0\0\0\0";
 
 /// The header of an empty entry of 64 bytes inside a region.
 const EMPTY_64: [u8; 28] = *b"LARCHIVE\0\0\0\x24\xff\xff\xff\xff\0\0\0\0\0\0\0\x1c\0\0\0\0";
@@ -57,7 +57,7 @@ const NULL_344: [u8; 40] =
     *b"LARCHIVE\0\0\x01\x58\xff\xff\xff\xff\0\0\0\0\0\0\0\x28\0\0\0\0\0\0\0\0\0\0\0\0\0\0\0\0";
 
 /// The component `a` of ten bytes, as it is added.
-const A: [u8; 38] = *b"LARCHIVE\0\0\0\x0a\0\0\0\x50\0\0\0\0\0\0\0\x1ca\0\0\00123456789";
+pub const A: [u8; 38] = *b"LARCHIVE\0\0\0\x0a\0\0\0\x50\0\0\0\0\0\0\0\x1ca\0\0\00123456789";
 
 /// What stands before the 20 bytes of a component `b`, but for a gap of 36.
 const B_20: [u8; 28] = *b"LARCHIVE\0\0\0\x14\0\0\0\x50\0\0\0\0\0\0\0\x40b\0\0\0";
@@ -89,7 +89,7 @@ const EMPTY_128: [u8; 28] = *b"LARCHIVE\0\0\0\x64\xff\xff\xff\xff\0\0\0\0\0\0\0\
 const EMPTY_384: [u8; 28] = *b"LARCHIVE\0\0\x01\x64\xff\xff\xff\xff\0\0\0\0\0\0\0\x1c\0\0\0\0";
 
 /// Content that looks like an entry.
-const MAGIC_20: [u8; 20] = *b"LARCHIVE89abcdefghij";
+pub const MAGIC_20: [u8; 20] = *b"LARCHIVE89abcdefghij";
 
 const MAGIC_16: [u8; 16] = *b"LARCHIVE89abcdef";
 
@@ -102,7 +102,7 @@ const ONE_TOO_MANY: [u8; 357] = [0x61; 357];
 const LONG: [u8; 9000] = [0x61; 9000];
 
 /// What stands where in a region, and 0xff elsewhere.
-type Parts<'a> = &'a [(usize, &'a [u8])];
+pub type Parts<'a> = &'a [(usize, &'a [u8])];
 
 const BETWEEN: Parts = &[(0, &DELETED), (64, &M), (128, &NULL_340)];
 
@@ -110,7 +110,7 @@ const TWICE: Parts = &[(0, &X1), (64, &X2), (128, &NULL_340)];
 
 const ONCE: Parts = &[(0, &EMPTY_64), (64, &X2), (128, &NULL_340)];
 
-const FRESH: Parts = &[(0, &EMPTY_512)];
+pub const FRESH: Parts = &[(0, &EMPTY_512)];
 
 const WITH_A: Parts = &[(0, &A), (64, &LAST_448)];
 
@@ -122,7 +122,7 @@ const WITH_B_LATER: Parts = &[
     (320, &LAST_192),
 ];
 
-fn bytes_with(alloc: Global, size: usize, parts: Parts) -> Result<Vec<u8>, Fail> {
+pub fn bytes_with(alloc: Global, size: usize, parts: Parts) -> Result<Vec<u8>, Fail> {
     let mut bytes = Vec::from_elem(alloc, 0xffu8, size)?;
     for (at, part) in parts {
         for (to, from) in bytes.iter_mut().skip(*at).zip(part.iter()) {
@@ -132,7 +132,7 @@ fn bytes_with(alloc: Global, size: usize, parts: Parts) -> Result<Vec<u8>, Fail>
     Ok(bytes)
 }
 
-fn device_with(alloc: Global, size: usize, parts: Parts) -> Result<MemFlash, Fail> {
+pub fn device_with(alloc: Global, size: usize, parts: Parts) -> Result<MemFlash, Fail> {
     Ok(MemFlash::new(bytes_with(alloc, size, parts)?)?)
 }
 
@@ -144,11 +144,11 @@ fn whole<F: Flash>(paged: &Paged<F>) -> Option<Region>
 }
 
 /// Two values are equal. A call of this is proved sooner than an assertion in place.
-fn equal<T: PartialEq + Debug>(rt: &impl Abort, left: &T, right: &T) {
+pub fn equal<T: PartialEq + Debug>(rt: &impl Abort, left: &T, right: &T) {
     assert_eq!(rt; *left, *right);
 }
 
-fn same_bytes(rt: &impl Abort, left: &[u8], right: &[u8]) {
+pub fn same_bytes(rt: &impl Abort, left: &[u8], right: &[u8]) {
     assert_eq!(rt; left, right);
 }
 
@@ -264,7 +264,7 @@ const NEW_A: New = New {
     content: b"0123456789",
 };
 
-fn source_of<'a>(rt: &impl Abort, bytes: &'a [u8]) -> MemSource<'a> {
+pub fn source_of<'a>(rt: &impl Abort, bytes: &'a [u8]) -> MemSource<'a> {
     assert!(rt; bytes.len() < 1 << 32);
     MemSource::new(bytes)
 }
@@ -439,7 +439,7 @@ fn walk_on(
 }
 
 /// All components of a device, none of which is damaged.
-fn components(rt: &(impl Abort + AllocGlobal), device: MemFlash) -> Result<Vec<u8>, Fail> {
+pub fn components(rt: &(impl Abort + AllocGlobal), device: MemFlash) -> Result<Vec<u8>, Fail> {
     let mut paged = Paged::new(device);
     let region = whole(&paged).ok_or("no region")?;
     let mut told = Vec::new(rt.alloc());
@@ -490,23 +490,49 @@ fn failing(
     Ok(Paged::new(FailAt::new(device, k, part)))
 }
 
-fn removal_stops(rt: &(impl Abort + AllocGlobal), k: u64, part: usize) -> Result<bool, Fail> {
+/// A removal on a device that refuses all calls after the first k.
+fn removal_stops(
+    rt: &(impl Abort + AllocGlobal),
+    name: &[u8],
+    edit: Edit,
+    k: u64,
+    part: usize,
+) -> Result<bool, Fail> {
+    let mut paged = failing(rt.alloc(), edit, k, part)?;
+    let region = whole(&paged).ok_or("no region")?;
+    let fault = remove(&mut paged, region, name).err();
+    assert!(rt; fault.is_none() || fault == Some(EditFault::Device));
+    has_finished(rt, edit, fault, paged.into_flash().into_inner())
+}
+
+/// A removal that joins free space on both sides.
+fn joining_removal_stops(
+    rt: &(impl Abort + AllocGlobal),
+    k: u64,
+    part: usize,
+) -> Result<bool, Fail> {
     let edit = Edit {
         size: 512,
         before: BETWEEN,
         after: FRESH,
     };
-    let mut paged = failing(rt.alloc(), edit, k, part)?;
-    let region = whole(&paged).ok_or("no region")?;
-    let fault = remove(&mut paged, region, b"m").err();
-    assert!(rt; fault.is_none() || fault == Some(EditFault::Device));
-    has_finished(rt, edit, fault, paged.into_flash().into_inner())
+    removal_stops(rt, b"m", edit, k, part)
+}
+
+/// The removal of the first of two components of a name.
+fn first_removal_stops(rt: &(impl Abort + AllocGlobal), k: u64, part: usize) -> Result<bool, Fail> {
+    let edit = Edit {
+        size: 512,
+        before: TWICE,
+        after: ONCE,
+    };
+    removal_stops(rt, b"x", edit, k, part)
 }
 
 fn format_stops(rt: &(impl Abort + AllocGlobal), k: u64, part: usize) -> Result<bool, Fail> {
     let edit = Edit {
         size: 512,
-        before: TWICE,
+        before: WITH_A,
         after: FRESH,
     };
     let mut paged = failing(rt.alloc(), edit, k, part)?;
@@ -561,12 +587,13 @@ fn later_addition_stops(
 /// Stops all edits at each call in turn, until one call more lets them finish. None finishes without a call.
 fn stop_each(rt: &(impl Abort + AllocGlobal), part: usize) -> Result<(), Fail> {
     for k in 0..20 {
-        let removed = removal_stops(rt, k, part)?;
+        let joined = joining_removal_stops(rt, k, part)?;
+        let removed = first_removal_stops(rt, k, part)?;
         let formatted = format_stops(rt, k, part)?;
         let first = first_addition_stops(rt, k, part)?;
         let later = later_addition_stops(rt, k, part)?;
-        assert!(rt; k > 0 || !(removed | formatted | first | later));
-        if removed & formatted & first & later {
+        assert!(rt; k > 0 || !(joined | removed | formatted | first | later));
+        if joined & removed & formatted & first & later {
             return Ok(());
         }
     }

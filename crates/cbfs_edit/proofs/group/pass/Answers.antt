@@ -6,3 +6,6 @@ returns-then-branch-clause-passed g c = search rules
 
 pub returns-in-Whole-clause-passed : goal.returns-in-Whole-clause-passed
 returns-in-Whole-clause-passed g c = search rules
+
+pub returns-then-is_free-2-clause-after : goal.returns-then-is_free-2-clause-after
+returns-then-is_free-2-clause-after g c = search rules

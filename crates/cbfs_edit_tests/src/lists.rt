@@ -1,0 +1,221 @@
+//! Lists of edits, on a device in memory and on one that refuses a single call.
+ghost use Rattle.std.specs.Prelude.{◌≡◌, ◌+◌, ◌<◌, ◌≤◌, true, IfSome, IsTrue};
+ghost use Rattle.flash_store.specs.Regions.{LiesIn};
+
+use crate::tests::{
+    A, EMPTY_512, FRESH, MAGIC_20, Parts, bytes_with, components, device_with, equal, same_bytes,
+    source_of,
+};
+use cbfs_edit::{Edit, EditFault, Freed, HashChoice, Placed, Reply, Spot, apply_all};
+use flash_format::HEADER_LENGTH;
+use flash_store::{Counter, Flash, FlashFault, MemFlash, MemSource, Paged, Region};
+use std::process::Abort;
+use std::test::Fail;
+
+/// What stands before the 20 bytes of a component `b`.
+const B_20: [u8; 28] = *b"LARCHIVE\0\0\0\x14\0\0\0\x50\0\0\0\0\0\0\0\x1cb\0\0\0";
+
+/// The header of an empty entry of 384 bytes at a region's end.
+const LAST_384: [u8; 28] = *b"LARCHIVE\0\0\x01\x60\xff\xff\xff\xff\0\0\0\0\0\0\0\x1c\0\0\0\0";
+
+/// The header of an empty entry of 448 bytes at a region's end.
+const LAST_448: [u8; 28] = *b"LARCHIVE\0\0\x01\xa0\xff\xff\xff\xff\0\0\0\0\0\0\0\x1c\0\0\0\0";
+
+/// The header of an empty entry of 64 bytes inside a region.
+const EMPTY_64: [u8; 28] = *b"LARCHIVE\0\0\0\x24\xff\xff\xff\xff\0\0\0\0\0\0\0\x1c\0\0\0\0";
+
+/// A fresh region of 512 bytes inside an image.
+const IMAGE: Parts = &[(0, b"before"), (512, &EMPTY_512), (1024, b"after")];
+
+const BOTH: Parts = &[(0, &A), (64, &B_20), (92, &MAGIC_20), (128, &LAST_384)];
+
+const B_LATER: Parts = &[
+    (0, &EMPTY_64),
+    (64, &B_20),
+    (92, &MAGIC_20),
+    (128, &LAST_384),
+];
+
+const B_FIRST: Parts = &[(0, &B_20), (28, &MAGIC_20), (64, &LAST_448)];
+
+const STOPPED: Reply = Reply::Refused(EditFault::Device);
+
+/// A part of a device.
+fn part_of<F: Flash>(paged: &Paged<F>, start: u64, size: u64) -> Option<Region>
+    ensures { IfSome result (λ region. LiesIn region (F.facts paged.now.device).content) }
+{
+    Region::within(start, size, paged.len())
+}
+
+/// A component of the usual type is to be added to the first free space.
+fn addition<'a>(rt: &impl Abort, name: &'a [u8], content: &'a [u8]) -> Edit<'a, MemSource<'a>> {
+    Edit::Add {
+        name,
+        kind: 0x50,
+        hash: HashChoice::Plain,
+        spot: Spot::First,
+        source: source_of(rt, content),
+    }
+}
+
+fn placed(header: u64, content: u64) -> Reply {
+    Reply::Placed(Placed { header, content })
+}
+
+fn freed(start: u64, end: u64) -> Reply {
+    Reply::Freed(Freed { start, end })
+}
+
+#[test]
+fn each_edit_of_a_list_has_its_reply(rt: HostRuntime) -> Result<(), Fail> {
+    let mut paged = Paged::new(device_with(rt.alloc(), 1536, IMAGE)?);
+    let mut edits = [
+        addition(&rt, b"a", b"0123456789"),
+        addition(&rt, b"a", b"0123456789"),
+        Edit::Remove { name: b"z" },
+        Edit::Remove { name: b"a" },
+    ];
+    let mut replies = [STOPPED; 4];
+    let region = part_of(&paged, 512, 512).ok_or("no region")?;
+    apply_all(&mut paged, region, &mut edits, &mut replies);
+    let exists = Reply::Refused(EditFault::Exists);
+    let not_found = Reply::Refused(EditFault::NotFound);
+    let want = [placed(0, 28), exists, not_found, freed(0, 512)];
+    equal(&rt, &replies, &want);
+    let image = bytes_with(rt.alloc(), 1536, IMAGE)?;
+    same_bytes(&rt, paged.into_flash().bytes(), image.as_slice());
+    Ok(())
+}
+
+// ---- a device that works again
+
+/// A device that refuses one call, and does nothing then.
+#[derive(Drop)]
+struct FailOnce {
+    device: MemFlash,
+    /// How many calls there are up to the one that is refused; 0 once it was.
+    left: u64,
+    calls: Counter,
+    faults: Counter,
+}
+
+impl FailOnce {
+    /// The call of this number is refused, from 1 on.
+    fn new(device: MemFlash, number: u64) -> FailOnce {
+        FailOnce {
+            device,
+            left: number,
+            calls: Counter::new(),
+            faults: Counter::new(),
+        }
+    }
+
+    /// Counts a call, and says whether it is the one that is refused.
+    fn is_due(&mut self) -> bool
+        ensures device { self.new.device ≡ self.old.device }
+        ensures counted { self.new.calls ≡ self.old.calls + 1 }
+        ensures faults { self.old.faults ≤ self.new.faults }
+        ensures due { IsTrue result → self.old.faults < self.new.faults }
+    {
+        self.calls.tick();
+        let due = self.left == 1;
+        self.left = self.left.saturating_sub(1);
+        if due {
+            self.faults.tick();
+        }
+        due
+    }
+}
+
+impl Flash for FailOnce {
+    ghost facts = { λ f. record {
+      content = f.device.content;
+      calls = f.calls;
+      faults = f.faults;
+      honest = true;
+    } };
+
+    fn len(&self) -> u64 {
+        self.device.len()
+    }
+
+    fn read_at(&mut self, at: u64, out: &mut [u8]) -> Result<(), FlashFault> {
+        if self.is_due() {
+            return Err(FlashFault);
+        }
+        self.device.read_at(at, out)
+    }
+
+    fn write_at(&mut self, at: u64, bytes: &[u8]) -> Result<(), FlashFault> {
+        if self.is_due() {
+            return Err(FlashFault);
+        }
+        self.device.write_at(at, bytes)
+    }
+
+    fn commit_at(&mut self, at: u64, bytes: &[u8; HEADER_LENGTH]) -> Result<(), FlashFault> {
+        if self.is_due() {
+            return Err(FlashFault);
+        }
+        self.device.commit_at(at, bytes)
+    }
+}
+
+/// The replies where the edit of this number is stopped, and what components may be left, as regions that hold them.
+fn wanted(stopped: Option<usize>) -> ([Reply; 3], [Parts<'static>; 2]) {
+    let first = placed(0, 28);
+    let second = placed(64, 92);
+    let not_found = Reply::Refused(EditFault::NotFound);
+    match stopped {
+        None => ([first, second, freed(0, 64)], [B_LATER, B_LATER]),
+        Some(0) => ([STOPPED, first, not_found], [B_FIRST, B_FIRST]),
+        Some(1) => ([first, STOPPED, freed(0, 512)], [FRESH, FRESH]),
+        Some(_) => ([first, second, STOPPED], [BOTH, B_LATER]),
+    }
+}
+
+/// Two components are added and the first is removed, on a device that refuses the call of a number. Answers which of
+/// them was stopped.
+fn stopped_at(rt: &(impl Abort + AllocGlobal), number: u64) -> Result<Option<usize>, Fail> {
+    let device = device_with(rt.alloc(), 512, FRESH)?;
+    let mut paged = Paged::new(FailOnce::new(device, number));
+    let mut edits = [
+        addition(rt, b"a", b"0123456789"),
+        addition(rt, b"b", &MAGIC_20),
+        Edit::Remove { name: b"a" },
+    ];
+    let mut replies = [Reply::Refused(EditFault::Source); 3];
+    let region = part_of(&paged, 0, 512).ok_or("no region")?;
+    apply_all(&mut paged, region, &mut edits, &mut replies);
+    let stopped = replies.iter().position(|reply| *reply == STOPPED);
+    let (want, left) = wanted(stopped);
+    equal(rt, &replies, &want);
+    leaves(rt, paged.into_flash().device, left)?;
+    Ok(stopped)
+}
+
+/// A device has the components of one of two regions.
+fn leaves(rt: &(impl Abort + AllocGlobal), device: MemFlash, left: [Parts; 2]) -> Result<(), Fail> {
+    let found = components(rt, device)?;
+    let one = components(rt, device_with(rt.alloc(), 512, left[0])?)?;
+    if found.as_slice() != one.as_slice() {
+        let other = components(rt, device_with(rt.alloc(), 512, left[1])?)?;
+        same_bytes(rt, found.as_slice(), other.as_slice());
+    }
+    Ok(())
+}
+
+#[test]
+fn a_stopped_edit_does_not_stop_the_later_ones(rt: HostRuntime) -> Result<(), Fail> {
+    let mut seen = [false; 3];
+    for number in 1..60 {
+        match stopped_at(&rt, number)? {
+            Some(at) => seen[at.min(2)] = true,
+            None => {
+                equal(&rt, &seen, &[true; 3]);
+                return Ok(());
+            }
+        }
+    }
+    Err("no list has finished")?
+}
