@@ -4,5 +4,6 @@ mod Telling
 mod Areas
 mod Listing
 mod Printing
+mod Planning
 mod Meeting
 mod Examples

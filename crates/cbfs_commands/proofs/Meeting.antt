@@ -1,7 +1,9 @@
--- A write, an addition and a removal as the outcome of a command: they write no output.
-use Rattle.std.proofs.Common.{◌≡◌, ℕ, inl, inr, Bool, true, false, cond, List, [], length, Option, Result, Ok, Err, refl, sym, arith, subst, eqb}
+-- A write, an addition, a removal and a creation as the outcome of a command: they write no output.
+use Rattle.std.proofs.Common.{◌≡◌, ◌∙◌, ℕ, inl, inr, Bool, true, false, cond, List, [], length, drop, length-drop, ◌+◌, Option, Result, Ok, Err, refl, sym, arith, subst, eqb}
 use Rattle.std.specs.Io.KnownBytes.{Appends}
 use Rattle.std.proofs.KnownBytes.{Appends-nil}
+use Rattle.std.proofs.lemmas.List.{nil_from_length}
+use Rattle.flash_store.specs.Bytes.{SameOutside}
 use Rattle.flash_store.specs.Regions.{Range, bytes_in, region_of}
 use Rattle.flash_store.specs.declared.fmap.StoreFault.{StoreFault}
 use Rattle.cbfs_edit.specs.Removals.{removal_in}
@@ -10,8 +12,11 @@ use Rattle.cbfs_edit.specs.Additions.{NewComponent, addition_in}
 use Rattle.cbfs_edit.specs.declared.group.Freed.{Freed}
 use Rattle.cbfs_edit.specs.declared.place.Place.{Place}
 use Rattle.cbfs_edit.specs.declared.place.Spot.{Spot}
+use Rattle.cbfs_commands.specs.declared.plan.Plan.{Plan}
+use Rattle.cbfs_commands.specs.declared.refusal.Refusal.{Refusal}
+use Rattle.cbfs_commands.specs.Creations.{plan_for}
 use Rattle.cbfs_commands.specs.Told.{Answer}
-use Rattle.cbfs_commands.specs.Outcomes.{Outcome, LeavesOr, Meets, addition, add, add_found, removal, remove, remove_found, write, write_found}
+use Rattle.cbfs_commands.specs.Outcomes.{Outcome, LeavesOr, Meets, addition, add, add_found, create, creation, removal, remove, remove_found, write, write_found}
 
 written-none : (image : List ℕ) (found : Result Range StoreFault) (source : List ℕ) → (write_found image found source).written ≡ []
 written-none image (Err fault) source = refl
@@ -51,6 +56,22 @@ add-found-none image (Ok region) new spot = added-none image region new (additio
 pub add-silent : (image region : List ℕ) (new : NewComponent) (spot : Spot) → (add image region new spot).written ≡ []
 unfolding add
 add-silent image region new spot = add-found-none image (region_of image region) new spot
+
+created-none : (image source : List ℕ) (r : Result Plan Refusal) → (creation image source r).written ≡ []
+created-none image source (Err refusal) = refl
+created-none image source (Ok plan) = refl
+
+-- `create` writes no output
+pub create-silent : (image : List ℕ) (names : List (List ℕ)) (source : List ℕ) → (create image names source).written ≡ []
+unfolding create
+create-silent image names source = created-none image source (plan_for (length image) names source)
+
+-- all bytes lie in the whole image
+pub whole-image : (image now : List ℕ) → length now ≡ length image → SameOutside 0 (length image) image now
+whole-image image now same = record {
+  before = refl;
+  after = nil_from_length (drop (0 + length image) now) (omega (arith, same, length-drop (0 + length image) now)) ∙ sym (nil_from_length (drop (0 + length image) image) (omega (arith, length-drop (0 + length image) image)));
+}
 
 -- a command without output that left what the outcome says
 pub left-met : (out : Option (List ℕ)) (image : List ℕ) (answer : Answer) (o : Outcome) → o.written ≡ [] → LeavesOr image answer o → Meets out out image answer o

@@ -1,5 +1,6 @@
 -- What a command is to an image: its outcome, what it may change, which sides it uses, and what a stop leaves.
-use Rattle.std.specs.Prelude.{◌≡◌, ℕ, ◌⊎◌, Bool, true, false, List, Option, Some, None, Result, Ok, Err, IsErrOf, IsTrue}
+use Rattle.std.specs.Prelude.{◌≡◌, ℕ, ◌+◌, ◌/◌, ◌⊎◌, Bool, true, false, List, length, Option, Some, None, Result, Ok, Err, IsErrOf, IsTrue}
+use Rattle.flash_format.specs.Flashmap.{area_len}
 use Rattle.flash_store.specs.Bytes.{SameOutside}
 use Rattle.flash_store.specs.Device.{Device}
 use Rattle.flash_store.specs.Regions.{Range, bytes_in, region_of}
@@ -10,16 +11,21 @@ use Rattle.cbfs_commands.specs.declared.refusal.Refusal.TheVariants as refusals
 use Rattle.cbfs_commands.specs.Layouts.{layout}
 use Rattle.cbfs_commands.specs.Requests.{Adding, Request}
 use Rattle.cbfs_commands.specs.Requests as requests
-use Rattle.cbfs_commands.specs.Outcomes.{Outcome, StopsIn, AddStopsIn, reading, print, extract, add, remove, read, write}
+use Rattle.cbfs_commands.specs.Outcomes.{Outcome, StopsIn, AddStopsIn, reading, print, extract, add, remove, read, write, create}
 use Rattle.cbfs_commands.specs.Told.{Answer, Told}
 
--- by the image, the source, the answer and the image that is left
+-- By the image, the source, the answer and the image that is left; the calls of the source are at most so many by its length.
 pub record Deed : Type 1 where
   pub outcome : List ℕ → List ℕ → Outcome
   pub target : List ℕ → Option Range
   pub reads_source : Bool
   pub writes_output : Bool
+  pub source_calls : ℕ → ℕ
   pub Stopped : List ℕ → List ℕ → Answer → List ℕ → Type 0
+
+-- the calls that read a source of n bytes once
+abbrev pub copying_calls : ℕ → ℕ
+copying_calls n = n / 4096 + 1
 
 abbrev pub found : Result Range StoreFault → Option Range
 found (Err fault) = None
@@ -32,6 +38,7 @@ tells told = record {
   target = λ image. None;
   reads_source = false;
   writes_output = true;
+  source_calls = λ n. 0;
   Stopped = λ image source answer now. now ≡ image;
 }
 
@@ -42,6 +49,7 @@ replaces name = record {
   target = λ image. found (region_of image name);
   reads_source = true;
   writes_output = false;
+  source_calls = copying_calls;
   Stopped = λ image source answer now. (region : Range) → region_of image name ≡ Ok region → StopsIn image region source now answer;
 }
 
@@ -52,6 +60,7 @@ adds a = record {
   target = λ image. found (region_of image a.region);
   reads_source = true;
   writes_output = false;
+  source_calls = copying_calls;
   Stopped = λ image source answer now. (region : Range) → region_of image a.region ≡ Ok region → AddStopsIn (bytes_in region image) (new_component a.name a.kind a.hash source) a.spot answer (bytes_in region now);
 }
 
@@ -62,7 +71,19 @@ removes name component = record {
   target = λ image. found (region_of image name);
   reads_source = false;
   writes_output = false;
+  source_calls = λ n. 0;
   Stopped = λ image source answer now. (region : Range) → region_of image name ≡ Ok region → IsErrOf answer refusals.Device → LeavesWhole (bytes_in region image) component (bytes_in region now);
+}
+
+-- the command that makes the whole image from the source: of a stop only the size is promised
+abbrev pub creates : List (List ℕ) → Deed
+creates names = record {
+  outcome = λ image source. create image names source;
+  target = λ image. Some (record { start = 0; size = length image });
+  reads_source = true;
+  writes_output = false;
+  source_calls = λ n. n / area_len + n / 4096 + 3;
+  Stopped = λ image source answer now. length now ≡ length image;
 }
 
 -- each command
@@ -74,6 +95,7 @@ deed (requests.add a) = adds a
 deed (requests.remove region name) = removes region name
 deed (requests.read region) = tells (λ image. read image region)
 deed (requests.write region) = replaces region
+deed (requests.create names) = creates names
 
 -- the source is honest, where the command reads it
 abbrev pub Serves : Deed → Device → Type 0

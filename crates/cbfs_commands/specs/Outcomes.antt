@@ -19,7 +19,10 @@ use Rattle.cbfs_edit.specs.declared.place.Spot.{Spot}
 use Rattle.cbfs_walk.specs.Finding.{Found, component_in}
 use Rattle.cbfs_walk.specs.Shaped.{place_after}
 use Rattle.cbfs_walk.specs.Shapes.{shape, refused_or}
+use Rattle.cbfs_commands.specs.declared.plan.Plan.{Plan}
+use Rattle.cbfs_commands.specs.declared.refusal.Refusal.{Refusal}
 use Rattle.cbfs_commands.specs.declared.refusal.Refusal.TheVariants as refusals
+use Rattle.cbfs_commands.specs.Creations.{created, plan_for}
 use Rattle.cbfs_commands.specs.Refusals.{edit_refusal, store_refusal, walk_refusal}
 use Rattle.cbfs_commands.specs.Details.{rows_from}
 use Rattle.cbfs_commands.specs.Told.{Answer, Told, shows, refuses, AppendsPrefix}
@@ -133,6 +136,16 @@ write_found image (Ok region) source = write_region image region source
 -- the source in place of the region's bytes
 unfoldable pub write : List ℕ → List ℕ → List ℕ → Outcome
 write image name source = write_found image (region_of image name) source
+
+-- ---- create
+
+abbrev pub creation : List ℕ → List ℕ → Result Plan Refusal → Outcome
+creation image source (Err refusal) = reading image (refuses refusal)
+creation image source (Ok plan) = record { written = []; image = created (length image) plan source; answer = Ok tt }
+
+-- the whole image by the flashmap that the source begins with
+unfoldable pub create : List ℕ → List (List ℕ) → List ℕ → Outcome
+create image names source = creation image source (plan_for (length image) names source)
 
 -- ---- what a call does
 

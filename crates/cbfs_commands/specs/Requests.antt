@@ -1,5 +1,5 @@
 -- The command that a command line asks for, as contracts see it.
-use Rattle.std.specs.Prelude.{ℕ, Bool, List}
+use Rattle.std.specs.Prelude.{ℕ, Bool, List, map}
 use Rattle.cbfs_edit.specs.declared.addition.HashChoice.{HashChoice}
 use Rattle.cbfs_edit.specs.declared.place.Spot.{Spot}
 use Rattle.cbfs_commands.specs.declared.command.Command.{Command}
@@ -22,6 +22,7 @@ pub data Request : Type 0 where
   remove : List ℕ → List ℕ → Request
   read : List ℕ → Request
   write : List ℕ → Request
+  create : List (List ℕ) → Request
 
 abbrev pub asked : Command → Request
 asked (commands.Print region verbose) = print region.now verbose
@@ -31,3 +32,4 @@ asked (commands.Add region name kind hash spot) = add (record { region = region.
 asked (commands.Remove region name) = remove region.now name.now
 asked (commands.Read region) = read region.now
 asked (commands.Write region) = write region.now
+asked (commands.Create regions) = create (map (λ name. name.now) regions.items)

@@ -1,9 +1,11 @@
 //! What a command line asks for.
 
+use crate::table::MOST_REGIONS;
+use arrayvec::ArrayVec;
 use cbfs_edit::{HashChoice, Spot};
 
 /// A command and its words. A region and a component are named by bytes.
-#[derive(Clone, Copy, Debug, PartialEq, Eq)]
+#[derive(Clone, Debug, PartialEq, Eq, Drop)]
 pub enum Command<'a> {
     /// Writes a row for each cell of the region; where verbose, with a line for each attribute and for the digest.
     Print {
@@ -38,5 +40,9 @@ pub enum Command<'a> {
     /// Replaces the region by the source, which has its size.
     Write {
         region: &'a [u8],
+    },
+    /// Makes the whole image from a flashmap, the source, with each of these regions as one empty entry.
+    Create {
+        regions: ArrayVec<&'a [u8], MOST_REGIONS>,
     },
 }

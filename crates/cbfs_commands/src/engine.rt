@@ -8,6 +8,7 @@ ghost use Rattle.cbfs_commands.specs.Outcomes.{Meets};
 
 use crate::add::add;
 use crate::command::Command;
+use crate::create::create;
 use crate::extract::extract;
 use crate::layout::layout;
 use crate::print::print;
@@ -27,7 +28,7 @@ pub fn run<F: Flash, S: Source, W: Sink>(
     // On any device, from any source, into any sink.
     ensures calls { Calls (2 * length (F.facts paged.old.device).content + 64)
         (F.facts paged.old.device) (F.facts paged.new.device) }
-    ensures source_calls { Calls (length (S.facts source.old).content / 4096 + 1)
+    ensures source_calls { Calls ((deed (asked command.now)).source_calls (length (S.facts source.old).content))
         (S.facts source.old) (S.facts source.new) }
     ensures faults { W.faults out.old ≤ W.faults out.new }
 
@@ -71,5 +72,6 @@ pub fn run<F: Flash, S: Source, W: Sink>(
         Command::Remove { region, name } => remove(paged, region, name),
         Command::Read { region } => read(paged, region, out),
         Command::Write { region } => write(paged, region, source),
+        Command::Create { regions } => create(paged, regions.as_slice(), source),
     }
 }

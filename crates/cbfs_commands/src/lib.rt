@@ -1,19 +1,23 @@
-//! The commands on an image: print, layout, extract, add, remove, read and write.
+//! The commands on an image: print, layout, extract, add, remove, read, write and create.
 #![tactic(auto)]
 
 mod add;
 mod command;
+mod create;
 mod detail;
 mod engine;
 mod extract;
 mod layout;
+mod plan;
 mod print;
 mod read;
 mod refusal;
 mod remove;
 mod row;
+mod table;
 mod write;
 
 pub use command::Command;
 pub use engine::run;
 pub use refusal::Refusal;
+pub use table::{MOST_REGIONS, create_size};

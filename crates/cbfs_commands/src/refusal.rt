@@ -63,6 +63,13 @@ pub enum Refusal {
     /// 17: the source's length isn't the region's size.
     #[error("source size differs from the region")]
     SourceSize,
+    /// 18: the source isn't the flashmap of an image of this size.
+    #[error("bad flashmap")]
+    TableBad,
+    /// 19: the area FMAP is missing, lies outside the image or has no room for the flashmap, or a named region overlaps it or
+    /// another one.
+    #[error("bad FMAP area")]
+    FmapArea,
     /// 20: the words are no command line.
     #[error("bad command line")]
     Usage,

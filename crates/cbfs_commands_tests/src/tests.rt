@@ -1,12 +1,14 @@
 //! The texts of the refusals, each command once, and each side that fails.
 
 mod adding;
+mod creating;
+mod hostile;
 mod verbose;
 
 use cbfs_commands::{Command, Refusal, run};
 use flash_format::DamageKind;
 use flash_store::{
-    FailAt, FailSource, FileFlash, FileSource, Flash, MemFlash, MemSource, Paged, Source, WriteSink,
+    FailAt, FileFlash, FileSource, Flash, MemFlash, MemSource, Paged, Source, WriteSink,
 };
 use std::alloc::{AllocError, Global};
 use std::fmt::Debug;
@@ -114,6 +116,8 @@ fn more_refusals_are_told_by_their_texts(rt: HostRuntime) -> Result<(), Fail> {
     told(&rt, Refusal::Compressed, "component is compressed")?;
     let size = "source size differs from the region";
     told(&rt, Refusal::SourceSize, size)?;
+    told(&rt, Refusal::TableBad, "bad flashmap")?;
+    told(&rt, Refusal::FmapArea, "bad FMAP area")?;
     told(&rt, Refusal::Usage, "bad command line")?;
     told(&rt, Refusal::Memory, "out of memory")?;
     told(&rt, Refusal::TooLarge, "image too large")
@@ -208,16 +212,6 @@ fn a_device_that_fails(rt: HostRuntime) -> Result<(), Fail> {
     Ok(())
 }
 
-#[test]
-fn a_source_that_fails(rt: HostRuntime) -> Result<(), Fail> {
-    let mut paged = Paged::new(device(rt.alloc())?);
-    let mut source = FailSource::new(MemSource::new(&[7; 512]), 0);
-    let fault = Err(Refusal::Source);
-    let _written = run_into(&rt, &mut paged, &WRITE, &mut source, fault);
-    same_bytes(&rt, paged.flash().bytes(), &small_image(rt.alloc())?);
-    Ok(())
-}
-
 /// A writer over memory that takes `piece` bytes a call, and refuses once it has `room` bytes.
 #[derive(Drop)]
 struct Short {
@@ -244,37 +238,6 @@ impl Write for Short {
     }
 }
 
-/// Prints into a writer of this piece and room.
-fn print_into(
-    rt: &(impl Abort + AllocGlobal),
-    piece: usize,
-    room: usize,
-    answer: Result<(), Refusal>,
-    text: &[u8],
-) -> Result<(), Fail> {
-    let mut paged = Paged::new(device(rt.alloc())?);
-    let taken = Vec::new(rt.alloc());
-    let mut out = WriteSink::new(Short { taken, piece, room });
-    let answered = run(&mut paged, &PRINT, &mut MemSource::new(&[]), &mut out);
-    equal(rt, &answered, &answer);
-    let Short { taken, .. } = out.into_inner();
-    same_bytes(rt, &taken, text);
-    Ok(())
-}
-
-#[test]
-fn a_writer_that_takes_little_or_nothing(rt: HostRuntime) -> Result<(), Fail> {
-    print_into(&rt, 3, 4096, Ok(()), SHOWN)?;
-    print_into(
-        &rt,
-        4096,
-        18,
-        Err(Refusal::Output),
-        b"a\t0x0\traw\t10\tnone\n",
-    )?;
-    print_into(&rt, 0, 4096, Err(Refusal::Output), b"")
-}
-
 #[test]
 fn an_image_in_a_file(rt: HostRuntime) -> Result<(), Fail> {
     fs::write(&rt, "image.rom", small_image(rt.alloc())?.as_slice())?;
@@ -287,5 +250,7 @@ fn an_image_in_a_file(rt: HostRuntime) -> Result<(), Fail> {
     let mut wanted = small_image(rt.alloc())?;
     put(&mut wanted, 0x200, &[7; 512]);
     same_bytes(&rt, &fs::read(&rt, "image.rom")?, &wanted);
+    fs::remove_file(&rt, "image.rom")?;
+    fs::remove_file(&rt, "source")?;
     Ok(())
 }

@@ -1,18 +1,18 @@
 -- Command lines, computed by clap's definitions.
-use Rattle.std.proofs.Common.{◌≡◌, ℕ, List, [], ◌∷◌, Option, Some, Result, Ok, Err, true, false, refl}
+use Rattle.std.proofs.Common.{◌≡◌, ℕ, List, [], ◌∷◌, ◌++◌, replicate, Option, Some, Result, Ok, Err, true, false, refl}
 use Rattle.std.specs.Option.{option_map}
 use lib.Chars.{codes}
 use Rattle.clap.specs.Words.{fault_of}
 use Rattle.clap.specs.declared.error.kind.ErrorKind.TheVariants as kinds
 use Rattle.clap.proofs.OnLiterals.{clap_on_literals}
-use Rattle.cbfs_commands.specs.Requests.{Request, print, layout, extract, add, remove, read, write}
+use Rattle.cbfs_commands.specs.Requests.{Request, print, layout, extract, add, remove, read, write, create}
 use Rattle.flash_format.specs.Numbers.{number_of}
 use Rattle.flash_format.specs.TypeNames.{type_of_text}
 use Rattle.cbfs_edit.specs.declared.addition.HashChoice.TheVariants.{Plain, Sha256}
 use Rattle.cbfs_edit.specs.declared.place.Spot.TheVariants.{Aligned, Fixed}
 use Rattle.cbfs_commands.specs.declared.refusal.Refusal.{Refusal}
 use Rattle.cbfs_commands.specs.declared.refusal.Refusal.TheVariants as refusals
-use Rattle.cbfstool.specs.CommandLine.{command_line, command_of, text_of, texts_of}
+use Rattle.cbfstool.specs.CommandLine.{command_line, command_of, creation_of, names_in, text_of, texts_of}
 
 abbrev asked_by : List (List ℕ) → Option (Result Request Refusal)
 asked_by words = option_map command_of (texts_of words)
@@ -91,6 +91,40 @@ letters_and_texts_in_one_word = refl
 a_file : option_map (text_of (codes "file")) (texts_of (codes "img" ∷ codes "extract" ∷ codes "-n" ∷ codes "a" ∷ codes "-f" ∷ codes "x y" ∷ [])) ≡ Some (Some (codes "x y"))
 unfolding clap_on_literals
 a_file = refl
+
+a_creation : asked_by (codes "img" ∷ codes "create" ∷ codes "-M" ∷ codes "t" ∷ codes "-r" ∷ codes "B,C" ∷ []) ≡ Some (Ok (create (codes "B" ∷ codes "C" ∷ [])))
+unfolding clap_on_literals
+a_creation = refl
+
+a_flashmap : option_map (text_of (codes "file")) (texts_of (codes "img" ∷ codes "create" ∷ codes "-M" ∷ codes "t" ∷ codes "-r" ∷ codes "B,C" ∷ [])) ≡ Some (Some (codes "t"))
+unfolding clap_on_literals
+a_flashmap = refl
+
+a_creation_without_names : asked_by (codes "img" ∷ codes "create" ∷ codes "-M" ∷ codes "t" ∷ []) ≡ Some (Ok (create (codes "COREBOOT" ∷ [])))
+unfolding clap_on_literals
+a_creation_without_names = refl
+
+a_name_given_twice : asked_by (codes "img" ∷ codes "create" ∷ codes "-M" ∷ codes "t" ∷ codes "-r" ∷ codes "B,B" ∷ []) ≡ Some (Ok (create (codes "B" ∷ codes "B" ∷ [])))
+unfolding clap_on_literals
+a_name_given_twice = refl
+
+an_empty_name_in_a_list : asked_by (codes "img" ∷ codes "create" ∷ codes "-M" ∷ codes "t" ∷ codes "-r" ∷ codes "B,,C" ∷ []) ≡ Some (Err refusals.Usage)
+unfolding clap_on_literals
+an_empty_name_in_a_list = refl
+
+an_empty_list : asked_by (codes "img" ∷ codes "create" ∷ codes "-M" ∷ codes "t" ∷ codes "-r" ∷ codes "" ∷ []) ≡ Some (Err refusals.Usage)
+unfolding clap_on_literals
+an_empty_list = refl
+
+sixteen_names : creation_of (names_in (codes "A,A,A,A,A,A,A,A,A,A,A,A,A,A,A,B")) ≡ Ok (create (replicate 15 (codes "A") ++ codes "B" ∷ []))
+sixteen_names = refl
+
+seventeen_names : creation_of (names_in (codes "A,A,A,A,A,A,A,A,A,A,A,A,A,A,A,A,B")) ≡ Err refusals.Usage
+seventeen_names = refl
+
+create_needs_a_flashmap : fault_of command_line (codes "create" ∷ codes "-r" ∷ codes "B" ∷ []) ≡ kinds.MissingRequiredArgument ∷ []
+unfolding clap_on_literals
+create_needs_a_flashmap = refl
 
 print_is_taken : fault_of command_line (codes "print" ∷ []) ≡ []
 unfolding clap_on_literals

@@ -1,6 +1,8 @@
 -- The command line as clap's definitions have it: a subcommand that has to be there, and its options; and the line
 -- that words make by it.
-use Rattle.std.specs.Prelude.{ℕ, Bool, true, false, List, [], ◌∷◌, ◌&&◌, Option, Some, None, Result, Ok, Err, option_map, unwrap_or, is_some, if◌then◌else◌}
+use Rattle.std.specs.Prelude.{ℕ, Bool, true, false, List, [], ◌∷◌, length, ◌==◌, ◌&&◌, ◌||◌, nat_lt, Option, Some, None, Result, Ok, Err, option_map, unwrap_or, is_some, if◌then◌else◌}
+use Rattle.std.specs.Borrow.{Bor}
+use Rattle.std.specs.List.{list_any, slice_split}
 use Rattle.std.specs.Str.{bytes_eq}
 use lib.Chars.{codes}
 use Rattle.clap.specs.Words.{App, Rule, Row, Shape, first_of, new_rule}
@@ -40,6 +42,10 @@ region_option = option_of (codes "region") 114 false
 abbrev pub file_option : Rule
 file_option = option_of (codes "file") 102 true
 
+-- the flashmap of a new image, also a file of the line
+abbrev pub map_option : Rule
+map_option = option_of (codes "file") 77 true
+
 abbrev pub name_option : Rule
 name_option = option_of (codes "name") 110 true
 
@@ -68,6 +74,7 @@ subcommands =
     ∷ subcommand_of (codes "remove") (region_option ∷ name_option ∷ [])
     ∷ subcommand_of (codes "read") (region_option ∷ file_option ∷ [])
     ∷ subcommand_of (codes "write") (region_option ∷ file_option ∷ [])
+    ∷ subcommand_of (codes "create") (map_option ∷ region_option ∷ [])
     ∷ []
 
 -- the words after IMAGE
@@ -107,9 +114,9 @@ verbose_by None = false
 verbose_by (Some text) = bytes_eq text (codes "true")
 
 -- where an option that is required is there
-abbrev pub given : Option (List ℕ) → Request → Result Request Refusal
+abbrev pub given : Option (List ℕ) → Result Request Refusal → Result Request Refusal
 given None r = Err refusals.Usage
-given (Some text) r = Ok r
+given (Some text) r = r
 
 abbrev pub extraction : List ℕ → Option (List ℕ) → Option (List ℕ) → Result Request Refusal
 extraction region name file = if is_some name && is_some file then Ok (requests.extract region (unwrap_or name [])) else Err refusals.Usage
@@ -150,6 +157,22 @@ abbrev pub removal : List ℕ → Option (List ℕ) → Result Request Refusal
 removal region None = Err refusals.Usage
 removal region (Some name) = Ok (requests.remove region name)
 
+-- the names of a list, which stand between its commas
+abbrev pub names_in : List ℕ → List (List ℕ)
+names_in list = slice_split (λ b. b == 44) list
+
+-- those of the rest of a list, where there is one
+abbrev pub names_of : Option (Bor (List ℕ)) → List (List ℕ)
+names_of None = []
+names_of (Some list) = names_in list.now
+
+abbrev pub is_empty : List ℕ → Bool
+is_empty name = length name == 0
+
+-- a new image with regions of these names: at most 16, none of them empty
+abbrev pub creation_of : List (List ℕ) → Result Request Refusal
+creation_of names = if nat_lt 16 (length names) || list_any is_empty names then Err refusals.Usage else Ok (requests.create names)
+
 -- the command that the texts ask for
 abbrev pub command_of : Texts → Result Request Refusal
 command_of t =
@@ -159,9 +182,10 @@ command_of t =
     else (if bytes_eq t.subcommand (codes "add") then
     addition (region_named t) (text_of (codes "name") t) (text_of (codes "file") t) (kind_by (text_of (codes "type") t)) (hash_by (text_of (codes "hash") t)) (spot_by (text_of (codes "alignment") t) (text_of (codes "base") t))
     else (if bytes_eq t.subcommand (codes "remove") then removal (region_named t) (text_of (codes "name") t)
-    else (if bytes_eq t.subcommand (codes "read") then given (text_of (codes "file") t) (requests.read (region_named t))
-    else (if bytes_eq t.subcommand (codes "write") then given (text_of (codes "file") t) (requests.write (region_named t))
-    else Err refusals.Usage))))))
+    else (if bytes_eq t.subcommand (codes "read") then given (text_of (codes "file") t) (Ok (requests.read (region_named t)))
+    else (if bytes_eq t.subcommand (codes "write") then given (text_of (codes "file") t) (Ok (requests.write (region_named t)))
+    else (if bytes_eq t.subcommand (codes "create") then given (text_of (codes "file") t) (creation_of (names_in (region_named t)))
+    else Err refusals.Usage)))))))
 
 abbrev pub seen : Result Command Refusal → Result Request Refusal
 seen (Ok command) = Ok (asked command)

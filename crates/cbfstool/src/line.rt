@@ -1,11 +1,12 @@
 //! The command line: IMAGE, a subcommand, and its options.
 
-ghost use Rattle.std.specs.Prelude.{◌≡◌, ◌≢◌, ◌⊎◌, [], Some, IfOk, IfErr, codes, drop, map, option_map, true};
+ghost use Rattle.std.specs.Prelude.{◌≡◌, ◌≢◌, ◌<◌, ◌⊎◌, [], ◌∷◌, length, Some, IfSome, IfOk, IfErr, codes, drop, map, option_map, true};
 ghost use Rattle.clap.specs.Words.{fault_of, has_subcommand, kind_of, subcommand_rows_of};
-ghost use Rattle.cbfstool.specs.CommandLine.{addition, command_line, command_of, hash_by, kind_by, refusal_by, seen, spot_by, text_of, texts_of, verbose_by, with_image};
+ghost use Rattle.cbfstool.specs.CommandLine.{addition, command_line, command_of, creation_of, hash_by, kind_by, names_in, names_of, refusal_by, seen, spot_by, text_of, texts_of, verbose_by, with_image};
 
 use crate::words::whole_command;
-use cbfs_commands::{Command, Refusal};
+use arrayvec::ArrayVec;
+use cbfs_commands::{Command, MOST_REGIONS, Refusal};
 use cbfs_edit::{HashChoice, Spot};
 use clap::error::ErrorKind;
 use clap::{ArgMatches, Error};
@@ -13,7 +14,7 @@ use flash_format::{read_number, type_number};
 use std::alloc::Global;
 use std::marker::Model;
 
-/// The region that a command names without `-r`.
+/// The region that a command names without `-r`, and the one that a new image gets.
 const DEFAULT_REGION: &str = "COREBOOT";
 
 /// A command line that was read: the image's path, the subcommand and its options.
@@ -45,7 +46,7 @@ impl<'a> Line<'a> {
         self.image
     }
 
-    /// The path that `-f` gives.
+    /// The path that `-f` gives, or for `create` `-M`.
     pub fn file(&self) -> Option<&'a str>
         ensures { option_map (λ t. t.now) result ≡ text_of (codes "file") self.now }
     {
@@ -64,7 +65,8 @@ impl<'a> Line<'a> {
     pub fn command(&self) -> Result<Command<'a>, Refusal>
         ensures { seen result ≡ command_of self.now }
     {
-        let region = self.option("region").unwrap_or(DEFAULT_REGION).as_bytes();
+        let regions = self.option("region").unwrap_or(DEFAULT_REGION);
+        let region = regions.as_bytes();
         match self.subcommand {
             "print" => Ok(Command::Print {
                 region,
@@ -88,6 +90,7 @@ impl<'a> Line<'a> {
             },
             "read" if self.file().is_some() => Ok(Command::Read { region }),
             "write" if self.file().is_some() => Ok(Command::Write { region }),
+            "create" if self.file().is_some() => creation(regions),
             _ => Err(Refusal::Usage),
         }
     }
@@ -156,6 +159,35 @@ impl<'a> Line<'a> {
             (None, Some(text)) => read_number(text).map(Spot::Fixed),
             (Some(_), Some(_)) => None,
         }
+    }
+}
+
+/// The creation of an image with the regions of a list. Refused as a bad command line where a name is empty, or where there
+/// are more than 16.
+fn creation<'a>(list: &'a str) -> Result<Command<'a>, Refusal>
+    ensures { seen result ≡ creation_of (names_in list.entry.now) }
+{
+    let mut regions: ArrayVec<&[u8], MOST_REGIONS> = ArrayVec::new();
+    let mut rest = Some(list);
+    while let Some(names) = rest {
+        let (name, others) = first_name(names);
+        if name.is_empty() || regions.is_full() {
+            return Err(Refusal::Usage);
+        }
+        regions.push(name.as_bytes());
+        rest = others;
+    }
+    Ok(Command::Create { regions })
+}
+
+/// What stands before the first comma, and what stands after it where there is one.
+fn first_name<'a>(list: &'a str) -> (&'a str, Option<&'a str>)
+    ensures names { names_in list.entry.now ≡ result.0.now ∷ names_of result.1 }
+    ensures shorter { IfSome result.1 (λ rest. length rest.now < length list.entry.now) }
+{
+    match list.split_once(',') {
+        Some((name, rest)) => (name, Some(rest)),
+        None => (list, None),
     }
 }
 

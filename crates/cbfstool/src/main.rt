@@ -1,4 +1,4 @@
-//! Lists and changes the regions of a flash image, as coreboot's cbfstool does.
+//! Lists and changes the regions of a flash image and makes new ones, as coreboot's cbfstool does.
 #![tactic(auto)]
 
 mod line;
@@ -6,12 +6,12 @@ mod line;
 mod tests;
 mod words;
 
-pub use cbfs_commands::{Command, Refusal, run};
-use flash_store::{FileFlash, FileSource, MemSource, OpenFault, Paged, WriteSink};
+pub use cbfs_commands::{Command, Refusal, create_size, run};
+use flash_store::{FileFlash, FileSource, MemSource, OpenFault, Paged, Source, WriteSink};
 pub use line::{Line, read_line};
 use std::env;
 use std::fs::File;
-use std::io::{self, ErrorKind};
+use std::io::{self, BufWriter, ErrorKind, Write};
 use std::process::ExitCode;
 
 const USAGE: &str = "\
@@ -28,47 +28,107 @@ fn open_refusal(fault: OpenFault, failed: Refusal) -> Refusal {
     }
 }
 
-/// What a command uses besides the image; without an output file it prints.
+fn open_source(rt: &HostRuntime, path: &str) -> Result<FileSource, Refusal> {
+    FileSource::open(rt, path).map_err(|fault| open_refusal(fault, Refusal::Source))
+}
+
+/// How many bytes of output are collected before they are written.
+const COLLECTED: usize = 65536;
+
+/// What a command uses besides the image.
 #[derive(Drop)]
 enum Side {
-    Neither,
+    Nothing,
+    Printed,
     Source(FileSource),
-    Output(WriteSink<File>),
+    Output(File),
 }
 
 /// Opens the file that the command reads, or makes the one that it writes.
 fn open_side(rt: &HostRuntime, command: &Command, file: Option<&str>) -> Result<Side, Refusal> {
-    let Some(path) = file else {
-        return Ok(Side::Neither);
-    };
+    let path = file.unwrap_or("");
     match command {
-        Command::Print { .. } | Command::Layout | Command::Remove { .. } => Ok(Side::Neither),
+        Command::Print { .. } | Command::Layout => Ok(Side::Printed),
+        Command::Remove { .. } => Ok(Side::Nothing),
         Command::Extract { .. } | Command::Read { .. } => match File::create(rt, path) {
-            Ok(file) => Ok(Side::Output(WriteSink::new(file))),
+            Ok(file) => Ok(Side::Output(file)),
             Err(fault) if fault.kind() == ErrorKind::OutOfMemory => Err(Refusal::Memory),
             Err(_) => Err(Refusal::Output),
         },
-        Command::Add { .. } | Command::Write { .. } => match FileSource::open(rt, path) {
-            Ok(source) => Ok(Side::Source(source)),
-            Err(fault) => Err(open_refusal(fault, Refusal::Source)),
-        },
+        Command::Add { .. } | Command::Write { .. } | Command::Create { .. } => {
+            Ok(Side::Source(open_source(rt, path)?))
+        }
     }
+}
+
+/// Runs a command whose output is collected. What it told before a refusal is written, too.
+fn run_into<W: Write + Drop>(
+    rt: &HostRuntime,
+    paged: &mut Paged<FileFlash>,
+    command: &Command,
+    output: W,
+) -> Result<(), Refusal> {
+    let Ok(collected) = BufWriter::with_capacity(rt.alloc(), COLLECTED, output) else {
+        return Err(Refusal::Memory);
+    };
+    let mut out = WriteSink::new(collected);
+    let answer = run(paged, command, &mut MemSource::new(&[]), &mut out);
+    match out.into_inner().flush() {
+        Ok(()) => answer,
+        Err(_) => Err(Refusal::Output),
+    }
+}
+
+/// Runs a command that writes no output, on a source.
+fn run_from<S: Source>(
+    rt: &HostRuntime,
+    paged: &mut Paged<FileFlash>,
+    command: &Command,
+    mut source: S,
+) -> Result<(), Refusal> {
+    run(
+        paged,
+        command,
+        &mut source,
+        &mut WriteSink::new(io::writer(rt)),
+    )
+}
+
+/// Makes the image of the flashmap in a file.
+fn create(
+    rt: &HostRuntime,
+    command: &Command,
+    image: &str,
+    file: Option<&str>,
+) -> Result<(), Refusal> {
+    let Some(path) = file else {
+        return Err(Refusal::Usage);
+    };
+    let mut source = open_source(rt, path)?;
+    let size = create_size(&mut source)?;
+    let image = match FileFlash::create(rt, image, size) {
+        Ok(image) => image,
+        Err(fault) => return Err(open_refusal(fault, Refusal::Device)),
+    };
+    run_from(rt, &mut Paged::new(image), command, source)
 }
 
 /// Opens the image and the file of a line, and runs its command.
 fn execute(rt: &HostRuntime, line: &Line) -> Result<(), Refusal> {
     let command = line.command()?;
+    if matches!(command, Command::Create { .. }) {
+        return create(rt, &command, line.image(), line.file());
+    }
     let image = match FileFlash::open(rt, line.image()) {
         Ok(image) => image,
         Err(fault) => return Err(open_refusal(fault, Refusal::Device)),
     };
     let mut paged = Paged::new(image);
-    let mut nothing = MemSource::new(&[]);
-    let mut printed = WriteSink::new(io::writer(rt));
     match open_side(rt, &command, line.file())? {
-        Side::Neither => run(&mut paged, &command, &mut nothing, &mut printed),
-        Side::Source(mut source) => run(&mut paged, &command, &mut source, &mut printed),
-        Side::Output(mut out) => run(&mut paged, &command, &mut nothing, &mut out),
+        Side::Nothing => run_from(rt, &mut paged, &command, MemSource::new(&[])),
+        Side::Printed => run_into(rt, &mut paged, &command, io::writer(rt)),
+        Side::Source(source) => run_from(rt, &mut paged, &command, source),
+        Side::Output(file) => run_into(rt, &mut paged, &command, file),
     }
 }
 

@@ -32,6 +32,14 @@ const FILE: TableOption = TableOption {
     required: true,
 };
 
+/// The flashmap of a new image.
+const MAP: TableOption = TableOption {
+    id: "file",
+    letter: 'M',
+    action: ArgAction::Set,
+    required: true,
+};
+
 const NAME: TableOption = TableOption {
     id: "name",
     letter: 'n',
@@ -77,7 +85,7 @@ const VERBOSE: TableOption = TableOption {
 /// A subcommand's name and its options.
 type TableRow = (&'static str, &'static [TableOption]);
 
-const SUBCOMMANDS: [TableRow; 7] = [
+const SUBCOMMANDS: [TableRow; 8] = [
     ("print", &[REGION, VERBOSE]),
     ("layout", &[]),
     ("extract", &[REGION, FILE, NAME]),
@@ -85,6 +93,7 @@ const SUBCOMMANDS: [TableRow; 7] = [
     ("remove", &[REGION, NAME]),
     ("read", &[REGION, FILE]),
     ("write", &[REGION, FILE]),
+    ("create", &[MAP, REGION]),
 ];
 
 /// The command with one more option of its own.

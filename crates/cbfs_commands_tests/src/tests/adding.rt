@@ -17,7 +17,7 @@ const LATER_MAP: [u8; 182] =
 \0\x04\0\0\0\x0c\0\0REST\0\0\0\0\0\0\0\0\0\0\0\0\0\0\0\0\0\0\0\0\0\0\0\0\0\0\0\0\0\0";
 
 /// A flashmap of two areas: FMAP of 512 bytes, and COREBOOT of 3584.
-const OTHER_MAP: [u8; 140] =
+pub const OTHER_MAP: [u8; 140] =
     *b"__FMAP__\x01\x01\0\0\0\xff\0\0\0\0\0\x10\0\0FLASH\0\0\0\0\0\0\0\0\0\0\0\0\0\0\0\0\0\0\0\0\0\0\0\0\0\0\0\x02\0\
 \0\0\0\0\0\x02\0\0FMAP\0\0\0\0\0\0\0\0\0\0\0\0\0\0\0\0\0\0\0\0\0\0\0\0\0\0\0\0\0\0\
 \0\x02\0\0\0\x0e\0\0COREBOOT\0\0\0\0\0\0\0\0\0\0\0\0\0\0\0\0\0\0\0\0\0\0\0\0\0\0";
@@ -46,7 +46,7 @@ pub type Parts<'a> = &'a [(usize, &'a [u8])];
 
 pub const EMPTY: Parts = &[(0, &MAP), (0x200, &FRESH)];
 
-fn image_of(alloc: Global, parts: Parts) -> Result<Vec<u8>, AllocError> {
+pub fn image_of(alloc: Global, parts: Parts) -> Result<Vec<u8>, AllocError> {
     let mut image = Vec::from_elem(alloc, 0xff, 4096)?;
     for (at, part) in parts {
         put(&mut image, *at, part);
@@ -102,7 +102,7 @@ pub fn writes(
 }
 
 /// These bytes stand in the image at this place.
-fn holds(rt: &impl Abort, paged: &Paged<MemFlash>, at: usize, wanted: &[u8]) {
+pub fn holds(rt: &impl Abort, paged: &Paged<MemFlash>, at: usize, wanted: &[u8]) {
     let rest = paged.flash().bytes().get(at..).unwrap_or(&[]);
     same_bytes(rt, rest.get(..wanted.len()).unwrap_or(&[]), wanted);
 }

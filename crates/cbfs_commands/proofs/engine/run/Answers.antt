@@ -1,5 +1,5 @@
 use Rattle.std.proofs.Common.{refl, rules}
-use Rattle.cbfs_commands.proofs.Meeting.{add-silent, remove-silent, write-silent, left-met}
+use Rattle.cbfs_commands.proofs.Meeting.{add-silent, create-silent, remove-silent, write-silent, left-met, whole-image}
 use Rattle.cbfs_commands.proofs.engine.run.Goals as goal
 
 -- Goals that the must-fail edits break, which then fail at once.
@@ -35,3 +35,12 @@ returns-in-Add-clause-outcome g c = λ h honest. let serves = rw c.in-Add.is at 
 
 pub returns-in-Remove-clause-outcome : goal.returns-in-Remove-clause-outcome
 returns-in-Remove-clause-outcome g c = λ h honest. rw c.in-Remove.is (left-met _ _ _ _ (remove-silent _ _ _) (c.remove.ensures.left h))
+
+pub returns-in-Create-clause-outcome : goal.returns-in-Create-clause-outcome
+returns-in-Create-clause-outcome g c = λ h honest.
+    let serves = rw c.in-Create.is at honest in
+    let left = rw c.as_slice.ensures.value at (c.create.ensures.left h (serves refl)) in
+    rw c.in-Create.is (left-met _ _ _ _ (create-silent _ _ _) left)
+
+pub returns-in-Create-clause-spares : goal.returns-in-Create-clause-spares
+returns-in-Create-clause-spares g c = λ h. rw c.in-Create.is (whole-image _ _ c.create.ensures.after.calls.same_length)

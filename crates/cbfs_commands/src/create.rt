@@ -1,0 +1,109 @@
+//! The command `create`.
+
+ghost use Rattle.std.specs.Prelude.{◌≡◌, ◌⊎◌, ◌+◌, ◌*◌, ◌/◌, ◌<◌, ◌≤◌, All, length, map, IsTrue, OnOk, OnErr, Err};
+ghost use Rattle.flash_format.specs.Flashmap.{area_len};
+ghost use Rattle.flash_store.specs.Device.{Calls};
+ghost use Rattle.flash_store.specs.Pages.{OnHonest};
+ghost use Rattle.cbfs_commands.specs.declared.table.TheConstants.{MOST_REGIONS};
+ghost use Rattle.cbfs_commands.specs.Creations.{Fits, IsPlace, created, formatted_all, formatted_at};
+ghost use Rattle.cbfs_commands.specs.Deeds.{MayHaveWritten};
+ghost use Rattle.cbfs_commands.specs.Outcomes.{HasWritten, LeavesOr, create};
+
+use crate::plan::{Plan, read_plan};
+use crate::refusal::Refusal;
+use cbfs_edit::{EditFault, format};
+use flash_store::{CopyFault, Flash, Paged, Region, Source};
+
+/// Makes a region one empty entry.
+fn format_place<F: Flash>(paged: &mut Paged<F>, place: Region) -> Result<(), Refusal>
+    requires { IsPlace (length (F.facts paged.old.device).content) place }
+
+    ensures calls { Calls (length (F.facts paged.old.device).content / 4096 + 2) (F.facts paged.old.device)
+        (F.facts paged.new.device) }
+    ensures cause { OnErr result ((F.facts paged.old.device).faults < (F.facts paged.new.device).faults) }
+    ensures is { OnErr result (result ≡ Err Refusal.Device) }
+    ensures formatted { OnHonest F.facts paged.old.device (λ image.
+        OnOk result ((F.facts paged.new.device).content ≡ formatted_at image place)) }
+{
+    match format(paged, place) {
+        Ok(()) => Ok(()),
+        Err(_) => Err(Refusal::Device),
+    }
+}
+
+/// Makes each region one empty entry, in order.
+fn format_all<F: Flash>(paged: &mut Paged<F>, mut places: &[Region]) -> Result<(), Refusal>
+    requires { All (IsPlace (length (F.facts paged.old.device).content)) places.now }
+
+    ensures calls { Calls (length places.entry.now * (length (F.facts paged.old.device).content / 4096 + 2))
+        (F.facts paged.old.device) (F.facts paged.new.device) }
+    ensures cause { OnErr result ((F.facts paged.old.device).faults < (F.facts paged.new.device).faults) }
+    ensures is { OnErr result (result ≡ Err Refusal.Device) }
+    ensures formatted { OnHonest F.facts paged.old.device (λ image.
+        OnOk result ((F.facts paged.new.device).content ≡ formatted_all image places.entry.now)) }
+{
+    while let [place, rest @ ..] = places {
+        match format_place(paged, *place) {
+            Ok(()) => {}
+            Err(refusal) => return Err(refusal),
+        }
+        places = rest;
+    }
+    Ok(())
+}
+
+/// Writes the image that is planned.
+fn write_plan<F: Flash, S: Source>(
+    paged: &mut Paged<F>,
+    plan: &Plan,
+    source: &mut S,
+) -> Result<(), Refusal>
+    requires { Fits (length (F.facts paged.old.device).content) (length (S.facts source.old).content) plan.now }
+
+    ensures after { HasWritten F.facts S.facts (length (F.facts paged.old.device).content / 128 + 34)
+        (length (S.facts source.old).content / 4096 + 1) paged.old paged.new source.old source.new result }
+    ensures is { MayHaveWritten result }
+    ensures created { IsTrue (F.facts paged.old.device).honest → IsTrue (S.facts source.old).honest → OnOk result
+        ((F.facts paged.new.device).content
+        ≡ created (length (F.facts paged.old.device).content) plan.now (S.facts source.old).content) }
+{
+    let image_len = paged.len();
+    if paged.fill(0, image_len, 0xff).is_err() {
+        return Err(Refusal::Device);
+    }
+    match paged.copy_in(plan.map.start(), plan.map_len, source) {
+        Ok(()) => format_all(paged, plan.regions.as_slice()),
+        Err(CopyFault::Device) => Err(Refusal::Device),
+        Err(CopyFault::Source) => Err(Refusal::Source),
+        Err(CopyFault::Output) => unreachable!(),
+    }
+}
+
+/// Makes the whole image from the flashmap that the source begins with: 0xff throughout, the table in the area FMAP, and each
+/// named region one empty entry. Nothing is written before everything is checked.
+#[tactic(auto, unfolding(crate::specs::Outcomes::create))]
+pub fn create<F: Flash, S: Source>(
+    paged: &mut Paged<F>,
+    names: &[&[u8]],
+    source: &mut S,
+) -> Result<(), Refusal>
+    requires { length names.now ≤ MOST_REGIONS }
+
+    // On any device, from any source.
+    ensures after { HasWritten F.facts S.facts (2 * length (F.facts paged.old.device).content + 64)
+        (length (S.facts source.old).content / area_len + length (S.facts source.old).content / 4096 + 3)
+        paged.old paged.new source.old source.new result }
+
+    // On an honest device.
+    ensures refused { OnHonest F.facts paged.old.device (λ image.
+        MayHaveWritten result ⊎ ((F.facts paged.new.device).content ≡ image)) }
+    ensures left { OnHonest F.facts paged.old.device (λ image. IsTrue (S.facts source.old).honest →
+        LeavesOr (F.facts paged.new.device).content result
+        (create image (map (λ n. n.now) names.now) (S.facts source.old).content)) }
+{
+    let image_len = paged.len();
+    match read_plan(names, source, image_len) {
+        Ok(plan) => write_plan(paged, &plan, source),
+        Err(refusal) => Err(refusal),
+    }
+}

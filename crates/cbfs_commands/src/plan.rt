@@ -1,0 +1,156 @@
+//! The plan of a new image: where its flashmap goes, and which regions are formatted.
+
+ghost use Rattle.std.specs.Prelude.{◌≡◌, ◌⊎◌, ◌+◌, ◌/◌, ◌<◌, ◌≤◌, ℕ, All, length, map, nat_lt, IsTrue, IsErrOf, IfOk};
+ghost use Rattle.std.specs.List.{list_any};
+ghost use Rattle.flash_format.specs.Flashmap.{area_len, map_len};
+ghost use Rattle.flash_store.specs.Device.{Reads};
+ghost use Rattle.cbfs_commands.specs.Creations.{Fits, HasNoFault, IsPlace, items_of, map_place, overlap, plan_for, plan_of, region_place, region_places, some_overlap};
+
+use crate::refusal::{Refusal, store_refusal};
+use crate::table::{MOST_REGIONS, first_areas, head_for};
+use arrayvec::ArrayVec;
+use flash_format::{Area, FmapHead};
+use flash_store::{Region, Source, region_of_area};
+
+/// Where everything goes in a new image.
+#[derive(Drop)]
+pub struct Plan {
+    /// The area that the table is written to.
+    pub map: Region,
+    /// How many bytes the table has.
+    pub map_len: u64,
+    /// The regions that are formatted, in the order in which they were named.
+    pub regions: ArrayVec<Region, MOST_REGIONS>,
+}
+
+/// Where the map's area lies, which has room for the table.
+fn map_place(area: Option<Area>, map_len: u64, image_len: u64) -> Result<Region, Refusal>
+    ensures is { result ≡ map_place image_len map_len area }
+    ensures no_fault { HasNoFault result }
+{
+    match region_of_area(area, image_len) {
+        Ok(place) if place.size() >= map_len => Ok(place),
+        _ => Err(Refusal::FmapArea),
+    }
+}
+
+/// Where a region's area lies, which has the size of a CBFS.
+fn region_place(area: Option<Area>, image_len: u64) -> Result<Region, Refusal>
+    ensures is { result ≡ region_place image_len area }
+    ensures no_fault { HasNoFault result }
+    ensures place { IfOk result (λ place. IsPlace image_len place) }
+{
+    match region_of_area(area, image_len) {
+        Ok(place) if place.size() == 0 || place.size() % 64 != 0 => Err(Refusal::RegionShape),
+        Ok(place) => Ok(place),
+        Err(fault) => Err(store_refusal(fault)),
+    }
+}
+
+/// Where the areas of all regions lie.
+fn region_places(
+    areas: &[Option<Area>],
+    image_len: u64,
+) -> Result<ArrayVec<Region, MOST_REGIONS>, Refusal>
+    requires { length areas.now ≤ MOST_REGIONS }
+    ensures is { items_of result ≡ region_places image_len areas.now }
+    ensures no_fault { HasNoFault result }
+    ensures places { IfOk result (λ places. All (IsPlace image_len) places.items) }
+{
+    let mut places = ArrayVec::new();
+    for i in 0..areas.len() {
+        match region_place(areas[i], image_len) {
+            Ok(place) => places.push(place),
+            Err(refusal) => return Err(refusal),
+        }
+    }
+    Ok(places)
+}
+
+/// Whether two ranges have a byte in common.
+fn overlap(a: &Region, b: &Region) -> bool
+    ensures { result ≡ overlap a.now b.now }
+{
+    begins_before_end(a, b) && begins_before_end(b, a)
+}
+
+fn begins_before_end(a: &Region, b: &Region) -> bool
+    ensures { result ≡ nat_lt a.now.start (b.now.start + b.now.size) }
+{
+    a.start() < b.start() || a.start() - b.start() < b.size()
+}
+
+fn overlaps_any(place: &Region, others: &[Region]) -> bool
+    ensures { result ≡ list_any (overlap place.now) others.now }
+{
+    others.iter().any(|other| overlap(place, other))
+}
+
+/// Whether any two of the ranges have a byte in common.
+fn some_overlap(mut places: &[Region]) -> bool
+    ensures { result ≡ some_overlap places.entry.now }
+{
+    while let [first, rest @ ..] = places {
+        if overlaps_any(first, rest) {
+            return true;
+        }
+        places = rest;
+    }
+    false
+}
+
+/// How many bytes a table has, with its areas.
+fn map_len(head: &FmapHead) -> u64
+    ensures { result ≡ map_len head.now }
+{
+    FmapHead::LENGTH as u64 + Area::LENGTH as u64 * u64::from(head.nareas)
+}
+
+/// The plan by the areas that were found.
+fn plan_of(
+    head: &FmapHead,
+    map: Option<Area>,
+    regions: &[Option<Area>],
+    image_len: u64,
+) -> Result<Plan, Refusal>
+    requires { length regions.now ≤ MOST_REGIONS }
+    ensures is { result ≡ plan_of image_len (map_len head.now) map regions.now }
+    ensures no_fault { HasNoFault result }
+    ensures fits { (m : ℕ) → map_len head.now ≤ m → IfOk result (λ plan. Fits image_len m plan) }
+{
+    let map_len = map_len(head);
+    let map = map_place(map, map_len, image_len)?;
+    let regions = region_places(regions, image_len)?;
+    if overlaps_any(&map, &regions) || some_overlap(&regions) {
+        return Err(Refusal::FmapArea);
+    }
+    Ok(Plan {
+        map,
+        map_len,
+        regions,
+    })
+}
+
+/// The plan of an image of `image_len` bytes with the regions of these names, by the table that the source begins with.
+#[tactic(auto, unfolding(crate::specs::Creations::plan_for))]
+pub fn read_plan<S: Source>(
+    names: &[&[u8]],
+    source: &mut S,
+    image_len: u64,
+) -> Result<Plan, Refusal>
+    requires { length names.now ≤ MOST_REGIONS }
+
+    ensures calls { Reads (length (S.facts source.old).content / area_len + 1) (S.facts source.old) (S.facts source.new) }
+    ensures cause { IsErrOf result Refusal.Source → (S.facts source.old).faults < (S.facts source.new).faults }
+    ensures no_device { IsErrOf result Refusal.Device → ⊥ }
+    ensures no_output { IsErrOf result Refusal.Output → ⊥ }
+    ensures fits { IfOk result (λ plan. Fits image_len (length (S.facts source.old).content) plan) }
+    ensures plan { IsTrue (S.facts source.old).honest → IsErrOf result Refusal.Source
+        ⊎ (result ≡ plan_for image_len (map (λ n. n.now) names.now) (S.facts source.old).content) }
+{
+    let head = head_for(source, image_len)?;
+    let Ok(found) = first_areas(source, &head, names) else {
+        return Err(Refusal::Source);
+    };
+    plan_of(&head, found.map, &found.regions[..names.len()], image_len)
+}

@@ -1,0 +1,113 @@
+//! The flashmap that an image is made from: a table at the start of a source.
+
+ghost use Rattle.std.specs.Prelude.{◌≡◌, ◌⊎◌, ◌<◌, ◌≤◌, ◌++◌, ◌∷◌, [], List, Option, length, map, take, drop, IsTrue, IsErrOf, IfOk, IfErr, OnErr};
+ghost use Rattle.flash_format.specs.declared.flashmap.Area.{Area};
+ghost use Rattle.flash_format.specs.Flashmap.{fmap_head_len, map_len, areas_from};
+ghost use Rattle.flash_store.specs.Device.{Reads};
+ghost use Rattle.cbfs_commands.specs.Creations.{head_for, first_area, first_areas, map_area_name, stated_size};
+
+use crate::refusal::Refusal;
+use flash_format::{Area, FmapHead};
+use flash_store::{Source, SourceFault, area_in_source, map_in_source};
+
+/// How many regions one image can be made with.
+pub const MOST_REGIONS: usize = 16;
+
+/// The name of the area that holds the flashmap itself.
+const MAP_AREA: &[u8] = b"FMAP";
+
+/// The size of the image that a source is the flashmap of, as its head states it. Refused where the source doesn't begin with
+/// a valid flashmap whose areas lie within it (18), or can't be read (3).
+pub fn create_size<S: Source>(source: &mut S) -> Result<u32, Refusal>
+    ensures calls { Reads 1 (S.facts source.old) (S.facts source.new) }
+    ensures cause { IsErrOf result Refusal.Source → (S.facts source.old).faults < (S.facts source.new).faults }
+    ensures refusals { IfErr result (λ refusal. (refusal ≡ Refusal.Source) ⊎ (refusal ≡ Refusal.TableBad)) }
+    ensures size { IsTrue (S.facts source.old).honest →
+        IsErrOf result Refusal.Source ⊎ (result ≡ stated_size (S.facts source.old).content) }
+{
+    match map_in_source(source) {
+        Ok(Some(head)) => Ok(head.size),
+        Ok(None) => Err(Refusal::TableBad),
+        Err(_) => Err(Refusal::Source),
+    }
+}
+
+/// The head of a table that is one for an image of `image_len` bytes.
+pub fn head_for<S: Source>(source: &mut S, image_len: u64) -> Result<FmapHead, Refusal>
+    ensures calls { Reads 1 (S.facts source.old) (S.facts source.new) }
+    ensures cause { IsErrOf result Refusal.Source → (S.facts source.old).faults < (S.facts source.new).faults }
+    ensures no_device { IsErrOf result Refusal.Device → ⊥ }
+    ensures no_output { IsErrOf result Refusal.Output → ⊥ }
+    ensures fits { IfOk result (λ head. map_len head ≤ length (S.facts source.old).content) }
+    ensures head { IsTrue (S.facts source.old).honest →
+        IsErrOf result Refusal.Source ⊎ (result ≡ head_for image_len (S.facts source.old).content) }
+{
+    match map_in_source(source) {
+        Ok(Some(head)) if u64::from(head.size) == image_len => Ok(head),
+        Ok(_) => Err(Refusal::TableBad),
+        Err(_) => Err(Refusal::Source),
+    }
+}
+
+/// The first area with the map's own name, and the first with each region's name.
+#[derive(Drop)]
+pub struct FoundAreas {
+    pub map: Option<Area>,
+    /// As many as there are names; what follows is `None`.
+    pub regions: [Option<Area>; MOST_REGIONS],
+}
+
+/// The area that is kept for a name: the one before, or this one where it is the first of the name.
+fn noted(before: Option<Area>, name: &[u8], area: &Area) -> Option<Area>
+    ensures { (seen : List Area) → before ≡ first_area seen name.now
+        → result ≡ first_area (seen ++ area.now ∷ []) name.now }
+{
+    match before {
+        Some(first) => Some(first),
+        None if area.name_is(name) => Some(*area),
+        None => None,
+    }
+}
+
+/// Keeps an area for each name that it is the first of.
+fn note_each(found: &mut [Option<Area>; MOST_REGIONS], names: &[&[u8]], area: &Area)
+    requires { length names.now ≤ MOST_REGIONS }
+    ensures { (seen : List Area) (rest : List (Option Area)) →
+        found.old ≡ first_areas seen (map (λ n. n.now) names.now) ++ rest →
+        found.new ≡ first_areas (seen ++ area.now ∷ []) (map (λ n. n.now) names.now) ++ rest }
+{
+    for i in 0..names.len() {
+        found[i] = noted(found[i], names[i], area);
+    }
+}
+
+/// The first area of the table with each name. The areas are read once.
+pub fn first_areas<S: Source>(
+    source: &mut S,
+    head: &FmapHead,
+    names: &[&[u8]],
+) -> Result<FoundAreas, SourceFault>
+    requires inside { map_len head.now ≤ length (S.facts source.old).content }
+    requires few { length names.now ≤ MOST_REGIONS }
+
+    ensures calls { Reads head.now.nareas (S.facts source.old) (S.facts source.new) }
+    ensures cause { OnErr result ((S.facts source.old).faults < (S.facts source.new).faults) }
+
+    // From an honest source.
+    ensures map { IsTrue (S.facts source.old).honest → IfOk result (λ found. found.map ≡ first_area
+        (areas_from head.now.nareas (drop fmap_head_len (S.facts source.old).content)) map_area_name) }
+    ensures regions { IsTrue (S.facts source.old).honest → IfOk result (λ found. take (length names.now) found.regions
+        ≡ first_areas (areas_from head.now.nareas (drop fmap_head_len (S.facts source.old).content))
+        (map (λ n. n.now) names.now)) }
+{
+    let mut found = FoundAreas {
+        map: None,
+        regions: [None; MOST_REGIONS],
+    };
+    for i in 0..head.nareas {
+        let area = area_in_source(source, head, i)?;
+        found.map = noted(found.map, MAP_AREA, &area);
+        note_each(&mut found.regions, names, &area);
+    }
+    Ok(found)
+}
