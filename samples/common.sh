@@ -73,7 +73,8 @@ refuses() {
 }
 
 # each_growth LEAST FILE WORDS..: with each growth of memory refused in turn, until a run has none of the number, the
-# program tells the want of memory and leaves no byte in the file; there are more growths than the least
+# program tells the want of memory and leaves no byte in the file; there are more growths than the least. What it prints
+# goes to the file printed, and only where that is the file it may print anything once none is refused
 each_growth() {
     local least=$1 file=$2 growths=0 status
     shift 2
@@ -89,7 +90,7 @@ each_growth() {
         [ ! -s "$file" ] || fail "growth $growths of memory refused: $file has bytes"
     done
     [ "$status" = 0 ] || fail "no growth of memory refused: status $status"
-    empty printed
+    [ "$file" = printed ] || empty printed
     empty told
     [ "$growths" -gt "$least" ] || fail "only $growths growths of memory"
     echo "memory: each of $((growths - 1)) growths refused is told"

@@ -1,0 +1,307 @@
+# What samples/moving runs its rows with: the files, what is compared, and what is made at random.
+
+# make_files: makes the files of the rows, with coreboot's tools, in the current folder
+make_files() {
+    cat > chip.fmd <<'FMD'
+FLASH@0xfff00000 1M {
+	SI_DESC 4K
+	SI_ME 60K
+	RW_SECTION_A 256K {
+		VBLOCK_A 8K
+		FW_MAIN_A(CBFS)
+		RW_FWID_A 64
+	}
+	RW_SECTION_B 256K {
+		VBLOCK_B 8K
+		FW_MAIN_B(CBFS)      # the second copy
+		RW_FWID_B 64
+	}
+	RW_MRC_CACHE(PRESERVE) 64K
+	EC 16K
+	BOOTBLOCK 16K
+	FMAP 4K
+	GBB 24K
+	RO_FRID 64
+	COREBOOT(CBFS)@704K
+}
+FMD
+    fmaptool chip.fmd chip.fmap
+    seq 60000 > numbered
+    part 1000 16384 > bootblock.bin
+    part 2000 10000 > short.bin
+    part 3000 5000 > logo.bmp
+    part 4000 8192 > vblock.bin
+    part 5000 253888 > main.bin
+    part 6000 20 > fwid
+    printf ptr_ > pointer
+    make_elf > payload.elf
+    cbfstool coreboot.rom create -M chip.fmap -r COREBOOT,FW_MAIN_A,FW_MAIN_B
+    part 7000 700 > content
+    cbfstool coreboot.rom add -f content -n config -t raw
+    part 8000 30000 > content
+    cbfstool coreboot.rom add -f content -n fallback/romstage -t "simple elf" -r COREBOOT,FW_MAIN_A
+    cbfstool coreboot.rom add -f content -n pci1234,5678.rom -t optionrom -a 64
+    cbfstool coreboot.rom add -f content -n mrc.bin -t mrc -b 0x18000
+    cbfstool coreboot.rom add -f pointer -n oemmanifest.bin -t raw -b 0x20000
+    part 9000 61440 > content
+    cbfstool coreboot.rom write -r SI_ME -f content
+    rm content
+    cp "$top/samples/types.rom" "$top/samples/hashes.rom" "$top/samples/packed.rom" .
+    cp hashes.rom digests.rom
+    # (the digest of another algorithm, which isn't checked here)
+    cbfstool digests.rom remove -n "h sha1"
+    cp coreboot.rom pointer.rom
+    printf KEEP | dd of=pointer.rom bs=1 seek=$((0x100000 - 4)) conv=notrunc status=none
+    cp coreboot.rom payload.rom
+    cbfstool payload.rom add-payload -f payload.elf -n fallback/payload
+    cbfstool legacy.rom create -m x86 -s 64K
+    : > empty.rom
+    { printf x && cat chip.fmap && head -c 1048576 /dev/zero; } | head -c 1048576 > shifted.rom
+    # (the length of the second component, and that of the first attribute)
+    cp types.rom long.rom
+    spot=$(grep -abo LARCHIVE long.rom | sed -n '2s/:.*//p')
+    printf '\177\377\377\377' | dd of=long.rom bs=1 seek=$((spot + 8)) conv=notrunc status=none
+    cp hashes.rom looped.rom
+    spot=$(grep -abo LARCHIVE looped.rom | sed -n '1s/:.*//p')
+    spot=$((spot + $(od -An -tu4 --endian=big -j $((spot + 16)) -N 4 looped.rom)))
+    printf '\0\0\0\0' | dd of=looped.rom bs=1 seek=$((spot + 4)) conv=notrunc status=none
+    chmod 644 ./*
+    chmod 666 ./*.rom
+}
+
+# part PLACE SIZE: so many of the numbered bytes from a place on
+part() {
+    dd if=numbered iflag=skip_bytes,count_bytes skip="$1" count="$2" status=none
+}
+
+# make_elf: a program for 32-bit x86 that returns, with one segment at 1 MiB
+make_elf() {
+    # head: 32 bits, low byte first; a program for x86; one segment, whose head is at 52; two sections, from 0x1050 on
+    printf '\177ELF\1\1\1\0\0\0\0\0\0\0\0\0\2\0\3\0\1\0\0\0\0\0\20\0\64\0\0\0\120\20\0\0\0\0\0\0\64\0\40\0\1\0\50\0\2\0\1\0'
+    # segment: 64 bytes at 0x1000 of the file go to 1 MiB
+    printf '\1\0\0\0\0\20\0\0\0\0\20\0\0\0\20\0\100\0\0\0\100\0\0\0\5\0\0\0\0\20\0\0'
+    head -c $((0x1000 - 84)) /dev/zero
+    printf '\303'
+    head -c 63 /dev/zero
+    printf '\0.shstrtab\0\0\0\0\0\0'
+    # sections: none, and the names of the sections
+    head -c 40 /dev/zero
+    printf '\1\0\0\0\3\0\0\0\0\0\0\0\0\0\0\0\100\20\0\0\13\0\0\0\0\0\0\0\0\0\0\0\1\0\0\0\0\0\0\0'
+}
+
+# without_lengths IMAGE [REGION]: the image, with NULs for the length of each free cell that is the last of its region, or
+# of this region alone
+without_lengths() {
+    local area offset shown at place
+    cp "$1" "$work/normal.rom"
+    while IFS=$'\t' read -r area offset _; do
+        [ "$area" = "${2:-$area}" ] || continue
+        IFS=$'\t' read -r shown at _ < <(cbfstool "$1" print -r "$area" 2> /dev/null | tail -n 1) || continue
+        [ "$shown" = "(empty)" ] || continue
+        place=$((offset + at + 8))
+        printf '\0\0\0\0' | dd of="$work/normal.rom" bs=1 seek="$place" conv=notrunc status=none
+    done < <(cbfstool "$1" layout | sed 1d)
+    cat "$work/normal.rom"
+}
+
+# their_rows: the rows that coreboot's prints, with tabs
+their_rows() {
+    # (its columns are parted by blanks, and a type may have one; two lines of headings come first in each region)
+    sed -E '/^FMAP REGION: /d; /^Name +Offset +Type/d
+        s/^(.*[^ ]) +(0x[0-9a-f]+) +(.*[^ ]) +([0-9]+) ([^ ]+) *$/\1\t\2\t\3\t\4\t\5/'
+}
+
+# their_areas, our_areas: name, offset and size of each area
+their_areas() {
+    sed -n -E "s/^'(.*)' \((.*, )?size ([0-9]+), offset ([0-9]+)\)$/\1 \4 \3/p"
+}
+our_areas() {
+    local area offset size
+    sed 1d | while IFS=$'\t' read -r area offset size _; do
+        echo "$area $((offset)) $size"
+    done
+}
+
+# same_cells IMAGE IMAGE: each program lists the same cells of both, and extracts the same contents
+same_cells() {
+    local shown count=0 tool image words
+    without_lengths "$1" > "$work/one.rom"
+    without_lengths "$2" > "$work/other.rom"
+    cbfstool "$work/one.rom" print > "$work/rows" || wrong "ours doesn't list the image of coreboot's"
+    for image in one other; do
+        cbfstool "$work/$image.rom" print | diff "$work/rows" - >&2 || wrong "the cells differ"
+        "$theirs" "$work/$image.rom" print | their_rows | sed ':a; s/^\([^\t]*\) /\1\\x20/; ta' | diff "$work/rows" - >&2 ||
+            wrong "coreboot's lists otherwise"
+    done
+    while IFS=$'\t' read -r shown _; do
+        [ "$shown" != "(empty)" ] || continue
+        count=$((count + 1))
+        cbfstool "$1" extract -n "$(printf %b "$shown")" -f "$work/wanted" || wrong "ours doesn't extract $shown"
+        for image in "$1" "$2"; do
+            for tool in cbfstool "$theirs"; do
+                rm -f "$work/content"
+                words=(extract -n "$(printf %b "$shown")" -f "$work/content")
+                # (coreboot's would make an ELF of a payload)
+                [ "$tool" = cbfstool ] || words+=(-U)
+                "$tool" "$image" "${words[@]}" > /dev/null 2>&1 || :
+                cmp "$work/wanted" "$work/content" >&2 || wrong "$tool extracts another $shown"
+            done
+        done
+    done < "$work/rows"
+    [ "$count" -gt 4 ] || wrong "only $count components"
+}
+
+# pick COUNT: a number below COUNT, as `picked`; the row of numbers depends on the seed alone
+pick() {
+    state=$(((state * 1103515245 + 12345) & 0x7fffffff))
+    picked=$(((state >> 8) % $1))
+}
+
+# chance PERCENT
+chance() {
+    pick 100
+    [ "$picked" -lt "$1" ]
+}
+
+# put_number N: writes the number in one of the ways
+put_number() {
+    pick 4
+    if [ $(($1 % 1024)) = 0 ] && [ "$1" != 0 ] && [ "$picked" -lt 2 ]; then
+        text+="$(($1 / 1024))K"
+    elif [ "$picked" = 2 ]; then
+        text+=$(printf '0x%X' "$1")
+    else
+        text+=$1
+    fi
+}
+
+# put_parts SIZE DEPTH: writes parts for a section of this size, mostly such that they fit
+put_parts() {
+    local size=$1 depth=$2 at=0 count left wanted omitted="" number
+    pick 4
+    count=$((picked + 1))
+    for ((number = 0; number < count; number++)); do
+        left=$((size - at))
+        [ "$left" -gt 0 ] || left=1
+        pick 3
+        wanted=$((left / (count - number + picked)))
+        ! chance 50 || wanted=$((wanted / 64 * 64))
+        [ "$wanted" -gt 0 ] || ! chance 90 || wanted=1
+        names=$((names + 1))
+        ! chance 1 || names=$((names - 1))
+        text+=" S$names"
+        ! chance 15 || text+="(PRESERVE)"
+        if chance 25; then
+            pick 3
+            at=$((at + left / 8 * picked))
+            ! chance 2 || at=$((at - left / 2))
+            [ "$at" -ge 0 ] || at=0
+            text+="@"
+            put_number "$at"
+            omitted=""
+            left=$((size - at))
+            [ "$wanted" -le "$left" ] || chance 3 || wanted=$((left > 0 ? left : 1))
+        fi
+        if [ -z "$omitted" ] && [ $((number + 1)) = "$count" ] && chance 60; then
+            omitted=yes wanted=$left
+        elif [ -n "$omitted" ] || ! chance 4; then
+            chance 2 || { text+=" " && put_number "$wanted"; }
+        else
+            # (what is left of this run is shared with those behind it)
+            omitted=yes
+        fi
+        at=$((at + wanted))
+        if [ "$depth" -lt 3 ] && [ "$wanted" -gt 256 ] && chance 30; then
+            text+=" {"
+            put_parts "$wanted" $((depth + 1))
+            text+=" }"
+        fi
+        ! chance 3 || text+=$' # a comment {\n\t'
+    done
+}
+
+# random_descriptors COUNT: both compile each descriptor to the same table, or both refuse it
+random_descriptors() {
+    local each text dropped names their_status our_status accepted=0 refused=0 empty=0 size
+    state=$seed
+    for ((each = 0; each < $1; each++)); do
+        names=0
+        pick 8
+        size=$((65536 << picked))
+        text="FLASH"
+        ! chance 50 || { text+="@" && put_number $((0x100000000 - size)); }
+        text+=" "
+        put_number "$size"
+        text+=$' {\n\tFMAP 8K COREBOOT(CBFS) '
+        put_number $((size / 4))
+        put_parts $((size - 8192 - size / 4)) 1
+        text+=$'\n}\n'
+        # (a word is dropped, or there is one too many)
+        dropped=${text/ S2/ }
+        # (parts without any are told in the table of descriptors)
+        ! chance 5 || [[ $dropped =~ \{[[:space:]]*\} ]] || text=$dropped
+        ! chance 3 || text=${text/ \{/ 010 \{}
+        printf %s "$text" > random.fmd
+        rm -f theirs.fmap ours.fmap
+        their_status=0 our_status=0
+        "$theirs_fmap" random.fmd theirs.fmap > /dev/null 2>&1 || their_status=$?
+        fmaptool random.fmd ours.fmap > told 2>&1 || our_status=$?
+        case $their_status,$our_status in
+            0,0)
+                accepted=$((accepted + 1))
+                cmp theirs.fmap ours.fmap || fail "seed $seed, descriptor $each: other tables: $text"
+                ;;
+            [1-9],1) refused=$((refused + 1)) ;;
+            0,1)
+                # (the one that is told in the table of descriptors)
+                grep -q "^fmaptool: empty section " told || fail "seed $seed, descriptor $each: $(cat told): $text"
+                cbfstool theirs.fmap layout | grep -P '\t0\t0x[0-9a-f]+$' > /dev/null || fail "seed $seed, descriptor $each: $text"
+                empty=$((empty + 1))
+                ;;
+            *) fail "seed $seed, descriptor $each: statuses $their_status and $our_status: $(cat told): $text" ;;
+        esac
+    done
+    stated "of $1 descriptors both compile $accepted, to equal tables, and refuse $refused; of $empty coreboot's makes an empty area"
+}
+
+# random_additions COUNT: both leave the same image, but for the length of the last free cell
+random_additions() {
+    local each image name size differing=0 words
+    state=$seed
+    for ((each = 0; each < $1; each++)); do
+        pick 3
+        case $picked in
+            0) image=types ;;
+            1) image=hashes ;;
+            2) image=packed ;;
+        esac
+        pick 127
+        name=$(printf "%0$((picked + 1))d" "$each")
+        name=${name:0:$((picked + 1))}
+        pick 3001
+        size=$picked
+        dd if="$files/numbered" iflag=skip_bytes,count_bytes skip=$((each * 37)) count="$size" of=content status=none
+        words=(-n "$name" -t raw -f content)
+        pick 3
+        case $picked in
+            1) words+=(-A sha256) ;;
+            2) words+=(-A sha512) ;;
+        esac
+        cp "$files/$image.rom" theirs.rom
+        cp "$files/$image.rom" ours.rom
+        "$theirs" theirs.rom add "${words[@]}" > /dev/null 2>&1 || fail "seed $seed, addition $each: coreboot's fails"
+        cbfstool ours.rom add "${words[@]}" || fail "seed $seed, addition $each: ours fails"
+        ! cmp -s theirs.rom ours.rom || continue
+        differing=$((differing + 1))
+        without_lengths theirs.rom COREBOOT > "$work/one.rom"
+        without_lengths ours.rom COREBOOT > "$work/other.rom"
+        cmp "$work/one.rom" "$work/other.rom" || fail "seed $seed, addition $each: other images: ${words[*]}"
+    done
+    stated "$1 additions leave the same images, but for the length of the last free cell in $differing of them"
+}
+
+# stated TEXT: tells what was seen; from the default seed it is what the document says
+stated() {
+    echo "seed $seed: $1"
+    [ "$seed" != 1 ] || grep -qF -e "$1" "$top/docs/MOVING.md" || { number="the end" && wrong "doesn't say: $1"; }
+}
