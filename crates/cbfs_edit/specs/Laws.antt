@@ -29,11 +29,11 @@ NoGroupNoComponent = (x name : List ℕ) → group_of x name ≡ None → All (I
 abbrev pub BlankedRunsKeepTheComponents : Type 0
 BlankedRunsKeepTheComponents = (x : List ℕ) (run : Freed) (y : List ℕ) → length x % 64 ≡ 0 → length x < 2 ^ 32 → Contains (runs x) run → IsBlanked x run y → SameCells y x
 
--- each run is a maximal group of neighbouring free cells
+-- each run is a maximal row of neighbouring free cells
 abbrev pub RunsAreMaximal : Type 0
 RunsAreMaximal = (x : List ℕ) (run : Freed) → Contains (runs x) run → IsRunOf 0 (cut x).cells run
 
--- and each maximal group is a run
+-- and each maximal row is a run
 abbrev pub MaximalRunsAreThere : Type 0
 MaximalRunsAreThere = (x : List ℕ) (run : Freed) → IsRunOf 0 (cut x).cells run → Contains (runs x) run
 

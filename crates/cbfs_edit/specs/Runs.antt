@@ -10,7 +10,7 @@ use Rattle.cbfs_edit.specs.declared.group.Freed.{Freed}
 abbrev pub add_run : ℕ → ℕ → List Freed → List Freed
 add_run start end others = if nat_lt start end then record { start = start; end = end } ∷ others else others
 
--- The maximal groups of neighbouring free cells, among cells of which the first stands at a place. The free cells right
+-- The maximal rows of neighbouring free cells, among cells of which the first stands at a place. The free cells right
 -- before that place begin at `start`.
 unfoldable pub runs_from : ℕ → ℕ → List (List ℕ) → List Freed
 runs_from start at [] = add_run start at []

@@ -9,7 +9,7 @@ use Rattle.flash_format.specs.Head.{head_of, is_free}
 use Rattle.flash_format.specs.Entry.{name_end, name_field, name_of, is_nul, has_name}
 use Rattle.flash_format.specs.Components.{cell_name}
 use Rattle.flash_store.specs.declared.flash.FlashFault.{FlashFault}
-use Rattle.cbfs_walk.specs.Cells.{IsCellIn, cell_in}
+use Rattle.cbfs_walk.specs.Cells.{PassesChecks, cell_in}
 use Rattle.cbfs_walk.specs.Walks.{StandsIn}
 use Rattle.cbfs_walk.specs.declared.cell.Cell.{Cell}
 use Rattle.cbfs_walk.proofs.Parts.{range-drop, range-take, length-range, name_read}
@@ -23,12 +23,12 @@ pub record HasField (size : ℕ) (c : Cell) : Type 0 where
   pub high : name_end c.head ≤ c.head.offset
   pub inside : c.at + name_end c.head ≤ size
 
-pub has_field : (size : ℕ) (c : Cell) → IsCellIn size c → is_free c.head ≡ false → HasField size c
+pub has_field : (size : ℕ) (c : Cell) → PassesChecks size c → is_free c.head ≡ false → HasField size c
 has_field size c is used =
-    let k = checks_give (size - c.at) c.head c.span is.checks in
+    let k = checks_give (size - c.at) c.head c.span is in
     let low = k.name_low used in
     let high = k.name_high used in
-    record { low = low; high = high; inside = omega (arith, high, is.content, is.inside) }
+    record { low = low; high = high; inside = omega (arith, high, k.room, k.inside) }
 
 -- the bytes of the name field
 abbrev pub field_of : List ℕ → Cell → List ℕ
@@ -39,9 +39,10 @@ pub record ShowsName (x : List ℕ) (c : Cell) : Type 0 where
   pub short : position_or_len is_nul (field_of x c) < 256
   pub within : position_or_len is_nul (field_of x c) < length (field_of x c)
 
-pub shows_name : (x : List ℕ) (size : ℕ) (c : Cell) → IsCellIn size c → is_free c.head ≡ false → StandsIn x c → ShowsName x c
+pub shows_name : (x : List ℕ) (size : ℕ) (c : Cell) → PassesChecks size c → is_free c.head ≡ false → StandsIn x c → ShowsName x c
 shows_name x size c is used stands =
     let s = standing x c stands in
+    let k = checks_give (size - c.at) c.head c.span is in
     let f = has_field size c is used in
     let whole = component_whole (drop c.at x) c.span s.entry (ap is_free (sym s.head) ∙ used) in
     let there : name_field (head_of (drop c.at x)) (drop c.at x) ≡ field_of x c =
@@ -50,8 +51,8 @@ shows_name x size c is used stands =
     let parts = text_within 256 (field_of x c) nul in
     record {
       name =
-          ap (λ (h : Head). name_of (name_field h (cell_in x c))) (cell_head x c s is.positive)
-          ∙ ap (before_first is_nul) (cell_part x c 24 (name_end c.head) (omega (arith, f.high, is.content)));
+          ap (λ (h : Head). name_of (name_field h (cell_in x c))) (cell_head x c s k.positive)
+          ∙ ap (before_first is_nul) (cell_part x c 24 (name_end c.head) (omega (arith, f.high, k.fits)));
       short = parts.0;
       within = parts.1;
     }
@@ -60,7 +61,7 @@ shows_name x size c is used stands =
 field_prefix : (x : List ℕ) (c : Cell) (n : ℕ) → 24 + n ≤ name_end c.head → take n (field_of x c) ≡ slice_range x (c.at + 24) (c.at + 24 + n)
 field_prefix x c n room = range-take x (c.at + 24) (c.at + name_end c.head) n (omega (arith, room))
 
-module _ (x : List ℕ) (size : ℕ) (c : Cell) (is : IsCellIn size c) (used : is_free c.head ≡ false) (len : length x ≡ size) where
+module _ (x : List ℕ) (size : ℕ) (c : Cell) (is : PassesChecks size c) (used : is_free c.head ≡ false) (len : length x ≡ size) where
   length-field : length (field_of x c) + 24 ≡ name_end c.head
   length-field =
       let f = has_field size c is used in

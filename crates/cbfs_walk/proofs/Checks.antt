@@ -1,5 +1,5 @@
 -- What the checks of a head say, and how they make an entry.
-use Rattle.std.proofs.Common.{◌≡◌, ℕ, ◌+◌, ◌%◌, ◌≤◌, Bool, true, false, cond, not, ◌&&◌, ◌||◌, List, length, Some, None, Ok, Err, refl, sym, ap, ◌∙◌, arith, eqb, ltb}
+use Rattle.std.proofs.Common.{◌≡◌, ℕ, ◌+◌, ◌-◌, ◌%◌, ◌≤◌, Bool, true, false, cond, not, ◌&&◌, ◌||◌, List, length, Some, None, Ok, Err, refl, sym, ap, ◌∙◌, arith, eqb, ltb}
 use Rattle.std.proofs.lemmas.Bool.{ltb-false}
 use Rattle.flash_format.specs.declared.head.Head.{Head}
 use Rattle.flash_format.specs.declared.head.Extent.{Extent}
@@ -8,7 +8,8 @@ use Rattle.flash_format.specs.Head.{is_free, attributes_misplaced, checked, roun
 use Rattle.flash_format.specs.Entry.{Entry, absent, damaged, cell, entry, under, front, present, component, name_end}
 use Rattle.flash_format.proofs.CutSteps.{checked_ok}
 use Rattle.cbfs_walk.specs.Cells as cells
-use Rattle.cbfs_walk.specs.Cells.{IsCellIn}
+use Rattle.cbfs_walk.specs.Cells.{PassesChecks}
+use Rattle.cbfs_walk.specs.declared.cell.Cell.{Cell}
 
 pub record IsGood (left : ℕ) (h : Head) (span : ℕ) : Type 0 where
   pub room : 24 ≤ h.offset
@@ -51,6 +52,10 @@ checks_give left h span ok =
   where
     rounds : (left n : ℕ) → 24 ≤ n → n ≤ left → (64 ≤ round64 n) × (round64 n % 64 ≡ 0) × (left % 64 ≡ 0 → round64 n ≤ left) × (n ≤ round64 n)
     rounds left n some le = (omega arith, omega arith, λ h. omega arith, omega arith)
+
+-- the content of a cell whose head passes its checks ends in the region
+pub content_inside : (size : ℕ) (c : Cell) → PassesChecks size c → c.at + (c.head.offset + c.head.len) ≤ size
+content_inside size c ok = let k = checks_give (size - c.at) c.head c.span ok in omega (arith, k.room, k.inside)
 
 pub checked_extent : (h : Head) (left : ℕ) (e : Extent) → Ok e ≡ checked h left → cells.IsChecked left h e.span
 checked_extent h left e is =

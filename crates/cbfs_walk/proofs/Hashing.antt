@@ -20,11 +20,12 @@ use Rattle.flash_store.specs.Scans.{ScansTo}
 use Rattle.flash_store.proofs.DeviceLemmas.{honest_still}
 use Rattle.flash_store.proofs.WindowLemmas.{ScansTo-on, ScansTo-then}
 use Rattle.cbfs_walk.specs.Passing.{HasPassed, reads_over}
-use Rattle.cbfs_walk.specs.Cells.{IsCellIn, cell_in}
+use Rattle.cbfs_walk.specs.Cells.{PassesChecks, cell_in}
 use Rattle.cbfs_walk.specs.Walks.{StandsIn}
 use Rattle.cbfs_walk.specs.Hashes.{sha256_of, sha512_of, digest_like, has_sha256, has_sha512, stored_digest, state_of, data_of, hash_state, content_at, hash_state_in}
 use Rattle.cbfs_walk.specs.declared.cell.Cell.{Cell}
 use Rattle.cbfs_walk.proofs.Parts.{range-inner, range-take, range-after, length-range}
+use Rattle.cbfs_walk.proofs.Checks.{checks_give}
 use Rattle.cbfs_walk.proofs.CutLaws.{standing, cell_head, cell_part}
 use Rattle.cbfs_walk.proofs.Reading.{HasPassed-none, HasPassed-on, HasPassed-then, HasPassed-answers, read_passes}
 use Rattle.cbfs_walk.proofs.Scanning.{data_found, Scanning, left_by, scanned}
@@ -145,12 +146,13 @@ like_sha512 x c stored old bytes from end is e begins ends =
 -- ---- the first hash attribute
 
 -- what is found in a component that stands in the region
-pub state_found : (x : List ℕ) (size : ℕ) (c : Cell) → c.at + c.head.offset ≤ length x → IsCellIn size c → StandsIn x c → is_free c.head ≡ false
+pub state_found : (x : List ℕ) (size : ℕ) (c : Cell) → c.at + c.head.offset ≤ length x → PassesChecks size c → StandsIn x c → is_free c.head ≡ false
     → hash_state_in x c ≡ hash_state (cell_attributes (cell_in x c)) (cell_content (cell_in x c))
 state_found x size c inside is stands used =
-    let head = cell_head x c (standing x c stands) is.positive in
+    let k = checks_give (size - c.at) c.head c.span is in
+    let head = cell_head x c (standing x c stands) k.positive in
     let content : cell_content (cell_in x c) ≡ content_at x c =
-    ap (λ (h : Head). slice_range (cell_in x c) h.offset (h.offset + h.len)) head ∙ cell_part x c c.head.offset (c.head.offset + c.head.len) is.content in
+    ap (λ (h : Head). slice_range (cell_in x c) h.offset (h.offset + h.len)) head ∙ cell_part x c c.head.offset (c.head.offset + c.head.len) k.fits in
     ap (λ d. state_of d (content_at x c)) (data_found HASH x c inside stands used)
     ∙ ap (state_of (data_of HASH (cell_attributes (cell_in x c)))) (sym content)
 
@@ -164,12 +166,12 @@ data_passes facts start c at len old mid new result room fits first p =
     HasPassed-on facts (start + (c.at + name_end c.head)) (start + (at + 8 + (len - 8))) (start + (c.at + c.head.offset)) old new result (omega (arith, room, fits))
     (HasPassed-then facts (start + (c.at + name_end c.head)) (start + at) (start + (at + 8)) (start + (at + 8 + (len - 8))) old mid new result (omega arith) first p)
 
-pub attributes_answers : {F T E : Type 0} (facts : F → Device) (start size : ℕ) (c : Cell) (old new : Pages F) (result : Result T E) → IsCellIn size c → HasPassed facts (start + (c.at + name_end c.head)) (start + (c.at + c.head.offset)) old new result → HasAnswered facts (reads_over c.span) old new result
+pub attributes_answers : {F T E : Type 0} (facts : F → Device) (start size : ℕ) (c : Cell) (old new : Pages F) (result : Result T E) → PassesChecks size c → HasPassed facts (start + (c.at + name_end c.head)) (start + (c.at + c.head.offset)) old new result → HasAnswered facts (reads_over c.span) old new result
 attributes_answers facts start size c old new result is p =
-    HasPassed-answers facts (start + (c.at + name_end c.head)) (start + (c.at + c.head.offset)) (reads_over c.span) old new result (omega (arith, is.content)) p
+    HasPassed-answers facts (start + (c.at + name_end c.head)) (start + (c.at + c.head.offset)) (reads_over c.span) old new result (omega (arith, (checks_give (size - c.at) c.head c.span is).fits)) p
 
-pub content_answers : {F T E : Type 0} (facts : F → Device) (start size : ℕ) (c : Cell) (old mid new : Pages F) (result : Result T E) → IsCellIn size c → ScansTo facts (start + (c.at + name_end c.head)) (start + (c.at + c.head.offset)) old mid
+pub content_answers : {F T E : Type 0} (facts : F → Device) (start size : ℕ) (c : Cell) (old mid new : Pages F) (result : Result T E) → PassesChecks size c → ScansTo facts (start + (c.at + name_end c.head)) (start + (c.at + c.head.offset)) old mid
     → HasPassed facts (start + (c.at + c.head.offset)) (start + (c.at + (c.head.offset + c.head.len))) mid new result → HasAnswered facts (reads_over c.span) old new result
 content_answers facts start size c old mid new result is first p =
-    HasPassed-answers facts (start + (c.at + name_end c.head)) (start + (c.at + (c.head.offset + c.head.len))) (reads_over c.span) old new result (omega (arith, is.content))
+    HasPassed-answers facts (start + (c.at + name_end c.head)) (start + (c.at + (c.head.offset + c.head.len))) (reads_over c.span) old new result (omega (arith, (checks_give (size - c.at) c.head c.span is).fits))
     (HasPassed-then facts (start + (c.at + name_end c.head)) (start + (c.at + c.head.offset)) (start + (c.at + c.head.offset)) (start + (c.at + (c.head.offset + c.head.len))) old mid new result (omega arith) first p)

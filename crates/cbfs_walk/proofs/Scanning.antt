@@ -14,7 +14,7 @@ use Rattle.flash_store.specs.Pages.{Pages}
 use Rattle.flash_store.specs.Scans.{ScansTo}
 use Rattle.cbfs_walk.specs.Passing.{HasPassed, reads_over}
 use Rattle.flash_store.specs.Regions.{Range, bytes_in}
-use Rattle.cbfs_walk.specs.Cells.{IsCellIn, cell_in}
+use Rattle.cbfs_walk.specs.Cells.{PassesChecks, cell_in}
 use Rattle.cbfs_walk.specs.Walks.{StandsIn}
 use Rattle.cbfs_walk.specs.AttrWalks.{IsAttrIn, after_first}
 use Rattle.cbfs_walk.specs.Hashes.{data_of, data_at}
@@ -165,7 +165,7 @@ first_none facts r tag from end at l old now s told other k =
     sym (before.same ∙ none_listed before.left tag at list l (rw ((left_by facts r from end at old now _ s).unchanged k) at (told (honest_still (left_by facts r from end at old now _ s).calls.same_honesty k))) other)
 
 -- where a scan of a component's attributes begins
-pub first_begins : {F : Type 0} (facts : F → Device) (r : Range) (size tag : ℕ) (c : Cell) (from end : ℕ) (old : Pages F) → IsCellIn size c → is_free c.head ≡ false → from ≡ c.at + name_end c.head → end ≡ c.at + c.head.offset
+pub first_begins : {F : Type 0} (facts : F → Device) (r : Range) (size tag : ℕ) (c : Cell) (from end : ℕ) (old : Pages F) → PassesChecks size c → is_free c.head ≡ false → from ≡ c.at + name_end c.head → end ≡ c.at + c.head.offset
     → Scanning facts r from end from old old (FirstFrom r (facts old.device).content tag from end from)
 first_begins facts r size tag c from end old is used begins ends =
     let f = has_field size c is used in

@@ -8,6 +8,10 @@ use Rattle.cbfs_walk.specs.declared.cell.Cell.{Cell}
 abbrev pub IsChecked : ℕ → Head → ℕ → Type 0
 IsChecked left head span = checked head left ≡ Ok (record { content = head.offset; span = span })
 
+-- the head of a cell passes its checks where the cell stands in a region of this size, and it has that span
+abbrev pub PassesChecks : ℕ → Cell → Type 0
+PassesChecks size c = IsChecked (size - c.at) c.head c.span
+
 -- a cell that lies in a region of this size, and its content in the cell
 pub record IsCellIn (size : ℕ) (c : Cell) : Type 0 where
   pub aligned : c.at % 64 ≡ 0
@@ -15,7 +19,7 @@ pub record IsCellIn (size : ℕ) (c : Cell) : Type 0 where
   pub whole : c.span % 64 ≡ 0
   pub inside : c.at + c.span ≤ size
   pub content : c.head.offset + c.head.len ≤ c.span
-  pub checks : IsChecked (size - c.at) c.head c.span
+  pub checks : PassesChecks size c
 
 -- the bytes of a cell, of all those of its region
 abbrev pub cell_in : List ℕ → Cell → List ℕ

@@ -8,12 +8,12 @@ ghost use Rattle.flash_store.specs.Pages.{HasAnswered, OnHonestIn};
 ghost use Rattle.flash_store.specs.Regions.{LiesIn};
 ghost use Rattle.flash_store.specs.Scans.{ScansTo};
 ghost use Rattle.cbfs_walk.specs.Passing.{HasPassed, reads_over};
-ghost use Rattle.cbfs_walk.specs.Cells.{IsCellIn, cell_in};
+ghost use Rattle.cbfs_walk.specs.Cells.{PassesChecks, cell_in};
 ghost use Rattle.cbfs_walk.specs.Walks.{StandsIn};
 ghost use Rattle.cbfs_walk.specs.AttrWalks.{attr_walk_of, attr_moved, attr_reads, IsAttrIn, attributes_left, first_head, after_first};
 ghost use Rattle.cbfs_walk.specs.Listed.{IsListedIn, listed_in, IsAttrOf, first_of, value_in};
 
-use crate::cell::Cell;
+use crate::cell::{Cell, content_fits};
 use crate::names::name_end;
 use crate::read::read_in;
 use byteorder::{BigEndian, ByteOrder};
@@ -107,7 +107,7 @@ pub fn packing<F: Flash>(
     cell: &Cell,
 ) -> Result<u32, FlashFault>
     requires region { LiesIn region (F.facts paged.old.device).content }
-    requires cell { IsCellIn region.size cell.now }
+    requires cell { PassesChecks region.size cell.now }
     requires component { is_free cell.now.head ≡ false }
 
     // On any device.
@@ -120,6 +120,7 @@ pub fn packing<F: Flash>(
         IfOk result (λ value. value ≡ packing (cell_attributes (cell_in x cell.now)))) }
 {
     paged.places_fit();
+    content_fits(cell, region);
     match first_attribute(paged, region, cell, AttrHead::COMPRESSION)? {
         Some((at, _)) => value_at(paged, region, at + 8),
         None => Ok(0),
@@ -135,7 +136,7 @@ pub fn first_attribute<F: Flash>(
     tag: u32,
 ) -> Result<Option<(u64, AttrHead)>, FlashFault>
     requires region { LiesIn region (F.facts paged.old.device).content }
-    requires cell { IsCellIn region.size cell.now }
+    requires cell { PassesChecks region.size cell.now }
     requires component { is_free cell.now.head ≡ false }
 
     ensures after { HasAnswered F.facts (reads_over cell.now.head.offset) paged.old paged.new result }
@@ -148,6 +149,7 @@ pub fn first_attribute<F: Flash>(
         IfOk result (λ found. found ≡ first_of x cell.now tag)) }
 {
     paged.places_fit();
+    content_fits(cell, region);
     let end = cell.at + u64::from(cell.head.offset);
     let mut at = cell.at + u64::from(name_end(&cell.head));
     loop {

@@ -6,12 +6,12 @@ ghost use Rattle.flash_format.specs.Components.{cell_attributes, cell_content};
 ghost use Rattle.flash_store.specs.Pages.{HasSeen, HasAnswered, OnHonestIn};
 ghost use Rattle.flash_store.specs.Regions.{LiesIn};
 ghost use Rattle.cbfs_walk.specs.Passing.{HasPassed, reads_over};
-ghost use Rattle.cbfs_walk.specs.Cells.{IsCellIn, cell_in};
+ghost use Rattle.cbfs_walk.specs.Cells.{PassesChecks, cell_in};
 ghost use Rattle.cbfs_walk.specs.Walks.{StandsIn};
 ghost use Rattle.cbfs_walk.specs.Hashes.{digest_like, has_sha256, has_sha512, stored_digest, compared, hash_state, content_at, hash_state_in};
 
 use crate::attribute_walk::{first_attribute, value_at};
-use crate::cell::Cell;
+use crate::cell::{Cell, content_fits};
 use crate::read::read_in;
 use flash_format::{AttrHead, Digest};
 use flash_store::{Flash, FlashFault, Paged, Region};
@@ -42,7 +42,7 @@ pub fn check_hash<F: Flash>(
     cell: &Cell,
 ) -> Result<HashState, FlashFault>
     requires region { LiesIn region (F.facts paged.old.device).content }
-    requires cell { IsCellIn region.size cell.now }
+    requires cell { PassesChecks region.size cell.now }
     requires component { is_free cell.now.head ≡ false }
 
     // On any device.
@@ -55,6 +55,7 @@ pub fn check_hash<F: Flash>(
         state ≡ hash_state (cell_attributes (cell_in x cell.now)) (cell_content (cell_in x cell.now)))) }
 {
     paged.places_fit();
+    content_fits(cell, region);
     match first_attribute(paged, region, cell, AttrHead::HASH)? {
         Some((at, head)) => match stored_digest(paged, region, at + 8, head.len - 8)? {
             Some(stored) => {
@@ -120,7 +121,7 @@ fn content_digest<F: Flash>(
     stored: &Digest,
 ) -> Result<Digest, FlashFault>
     requires region { LiesIn region (F.facts paged.old.device).content }
-    requires cell { IsCellIn region.size cell.now }
+    requires cell { PassesChecks region.size cell.now }
 
     ensures passes { HasPassed F.facts (region.start + (cell.now.at + cell.now.head.offset))
         (region.start + (cell.now.at + (cell.now.head.offset + cell.now.head.len))) paged.old paged.new result }
@@ -128,6 +129,7 @@ fn content_digest<F: Flash>(
         IfOk result (λ digest. digest ≡ digest_like stored.now (content_at x cell.now))) }
 {
     paged.places_fit();
+    content_fits(cell, region);
     let from = cell.at + u64::from(cell.head.offset);
     let end = from + u64::from(cell.head.len);
     match stored {

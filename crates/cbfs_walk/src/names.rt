@@ -8,10 +8,10 @@ ghost use Rattle.flash_format.specs.Components.{cell_name};
 ghost use Rattle.flash_store.specs.Pages.{HasAnswered, OnHonestIn};
 ghost use Rattle.flash_store.specs.Regions.{LiesIn};
 ghost use Rattle.cbfs_walk.specs.Passing.{HasPassed};
-ghost use Rattle.cbfs_walk.specs.Cells.{IsCellIn, cell_in};
+ghost use Rattle.cbfs_walk.specs.Cells.{PassesChecks, cell_in};
 ghost use Rattle.cbfs_walk.specs.Walks.{StandsIn};
 
-use crate::cell::Cell;
+use crate::cell::{Cell, content_fits};
 use crate::read::read_in;
 use flash_format::Head;
 use flash_store::{Flash, FlashFault, Paged, Region};
@@ -28,7 +28,7 @@ pub fn name<F: Flash>(
     out: &mut [u8; 256],
 ) -> Result<usize, FlashFault>
     requires region { LiesIn region (F.facts paged.old.device).content }
-    requires cell { IsCellIn region.size cell.now }
+    requires cell { PassesChecks region.size cell.now }
     requires component { is_free cell.now.head ≡ false }
 
     // On any device.
@@ -42,6 +42,7 @@ pub fn name<F: Flash>(
         IfOk result (λ n. n ≡ length (cell_name (cell_in x cell.now)))) }
 {
     paged.places_fit();
+    content_fits(cell, region);
     let n = name_room(&cell.head).min(LONGEST);
     read_text(paged, region, cell.at + 24, &mut out[..n])
 }
@@ -54,7 +55,7 @@ pub fn name_is<F: Flash>(
     name: &[u8],
 ) -> Result<bool, FlashFault>
     requires region { LiesIn region (F.facts paged.old.device).content }
-    requires cell { IsCellIn region.size cell.now }
+    requires cell { PassesChecks region.size cell.now }
     requires component { is_free cell.now.head ≡ false }
 
     // On any device.
@@ -65,6 +66,7 @@ pub fn name_is<F: Flash>(
         IfOk result (λ named. named ≡ bytes_eq (cell_name (cell_in x cell.now)) name.now)) }
 {
     paged.places_fit();
+    content_fits(cell, region);
     if name.len() > LONGEST || name.len() >= name_room(&cell.head) {
         return Ok(false);
     }

@@ -5,7 +5,7 @@ ghost use Rattle.flash_format.specs.Head.{is_free};
 ghost use Rattle.flash_format.specs.Components.{cell_name, component_at};
 ghost use Rattle.flash_store.specs.Pages.{HasRead, HasAnswered, OnHonestIn};
 ghost use Rattle.flash_store.specs.Regions.{LiesIn};
-ghost use Rattle.cbfs_walk.specs.Cells.{IsCellIn, cell_in};
+ghost use Rattle.cbfs_walk.specs.Cells.{IsCellIn, PassesChecks, cell_in};
 ghost use Rattle.cbfs_walk.specs.Walks.{StandsIn};
 ghost use Rattle.cbfs_walk.specs.Finding.{component_in, find_in, find_reads};
 
@@ -62,7 +62,7 @@ pub fn is_component<F: Flash>(
     name: &[u8],
 ) -> Result<bool, FlashFault>
     requires region { LiesIn region (F.facts paged.old.device).content }
-    requires cell { IsCellIn region.size cell.now }
+    requires cell { PassesChecks region.size cell.now }
 
     // On any device.
     ensures after { HasAnswered F.facts 1 paged.old paged.new result }

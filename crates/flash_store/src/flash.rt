@@ -17,7 +17,7 @@ pub trait Flash: Drop {
     /// Its bytes, the calls but `len` and the faults so far, and whether it is honest.
     ghost facts: { Self → Device };
 
-    /// How many bytes there are. it makes no call, and no call changes it.
+    /// How many bytes there are. It makes no call, and no call changes it.
     fn len(&self) -> u64
         ensures length { result ≡ length (facts self.now).content }
         ensures below { result < 2 ^ 32 };

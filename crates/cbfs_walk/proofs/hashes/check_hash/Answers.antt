@@ -3,6 +3,7 @@ use Rattle.flash_store.specs.Regions.{bytes_in}
 use Rattle.cbfs_walk.specs.Hashes.{hash_state_in}
 use Rattle.cbfs_walk.specs.declared.hashes.HashState.TheVariants.{Absent, Unsupported}
 use Rattle.cbfs_walk.proofs.Parts.{length-region}
+use Rattle.cbfs_walk.proofs.Checks.{content_inside}
 use Rattle.cbfs_walk.proofs.Reading.{HasPassed-ok, HasPassed-raised}
 use Rattle.cbfs_walk.proofs.Hashing.{data_passes, attributes_answers, content_answers, state_found}
 use Rattle.cbfs_walk.proofs.hashes.check_hash.Goals as goal
@@ -49,20 +50,20 @@ returns-in-None-clause-value g c = search rules
 pub returns-in_ok-computed-in-Some-2-clause-state : goal.returns-in_ok-computed-in-Some-2-clause-state
 returns-in_ok-computed-in-Some-2-clause-state g c = λ h stands.
     let x = bytes_in c.args.region (g.F.Flash.facts c.args.paged.now.device).content in
-    let inside : c.args.cell.now.at + c.args.cell.now.head.offset ≤ length x = omega (arith, length-region c.args.region _ c.requires.region, c.requires.cell.content, c.requires.cell.inside) in
+    let inside : c.args.cell.now.at + c.args.cell.now.head.offset ≤ length x = omega (arith, length-region c.args.region _ c.requires.region, content_inside c.args.region.size c.args.cell.now c.requires.cell) in
     let value : c.compared.result ≡ hash_state_in x c.args.cell.now = returns-in_ok-computed-in-Some-2-clause-value g c h in
     value ∙ state_found x c.args.region.size c.args.cell.now inside c.requires.cell stands c.requires.component
 
 pub returns-in-None-2-clause-state : goal.returns-in-None-2-clause-state
 returns-in-None-2-clause-state g c = λ h stands.
     let x = bytes_in c.args.region (g.F.Flash.facts c.args.paged.now.device).content in
-    let inside : c.args.cell.now.at + c.args.cell.now.head.offset ≤ length x = omega (arith, length-region c.args.region _ c.requires.region, c.requires.cell.content, c.requires.cell.inside) in
+    let inside : c.args.cell.now.at + c.args.cell.now.head.offset ≤ length x = omega (arith, length-region c.args.region _ c.requires.region, content_inside c.args.region.size c.args.cell.now c.requires.cell) in
     let value : Unsupported ≡ hash_state_in x c.args.cell.now = returns-in-None-2-clause-value g c h in
     value ∙ state_found x c.args.region.size c.args.cell.now inside c.requires.cell stands c.requires.component
 
 pub returns-in-None-clause-state : goal.returns-in-None-clause-state
 returns-in-None-clause-state g c = λ h stands.
     let x = bytes_in c.args.region (g.F.Flash.facts c.args.paged.now.device).content in
-    let inside : c.args.cell.now.at + c.args.cell.now.head.offset ≤ length x = omega (arith, length-region c.args.region _ c.requires.region, c.requires.cell.content, c.requires.cell.inside) in
+    let inside : c.args.cell.now.at + c.args.cell.now.head.offset ≤ length x = omega (arith, length-region c.args.region _ c.requires.region, content_inside c.args.region.size c.args.cell.now c.requires.cell) in
     let value : Absent ≡ hash_state_in x c.args.cell.now = returns-in-None-clause-value g c h in
     value ∙ state_found x c.args.region.size c.args.cell.now inside c.requires.cell stands c.requires.component
