@@ -1,7 +1,7 @@
 //! From a descriptor to its table.
 
-ghost use Rattle.std.specs.Prelude.{◌≡◌, ◌<◌, ◌≤◌, ◌⊎◌, OnOk, IfOk, IfErr};
-ghost use Rattle.fmap_compiler.specs.Outcome.{Compiles, HasCompiled, IsRefused, IsPrefixOf, ReadsPrefix, Refuses};
+ghost use Rattle.std.specs.Prelude.{◌≡◌, ◌+◌, ◌<◌, ◌≤◌, ◌⊎◌, OnOk, IfOk, IfErr};
+ghost use Rattle.fmap_compiler.specs.Outcome.{reading_limit, Compiles, HasCompiled, IsRefused, IsPrefixOf, ReadsPrefix, Refuses};
 
 use crate::reader::TextReader;
 use crate::refusal::Refusal;
@@ -17,6 +17,7 @@ fn read_text<R: TextReader>(alloc: Global, reader: &mut R) -> Result<Vec<u8>, Re
     ensures text { IfOk result (λ text. IsPrefixOf (R.remaining reader.old) text.items) }
     ensures cause { IfErr result (λ refusal. refusal ≡ Refusal.Read → R.faults reader.old < R.faults reader.new) }
     ensures refused { IfErr result (λ refusal. (refusal ≡ Refusal.Read) ⊎ (refusal ≡ Refusal.Descriptor FmdFault.Memory)) }
+    ensures stops { R.given reader.new ≤ R.given reader.old + reading_limit }
     ensures read { ReadsPrefix (R.remaining reader.old) (R.remaining reader.new) }
     ensures faults { R.faults reader.old ≤ R.faults reader.new }
 {
@@ -60,7 +61,9 @@ pub fn run<R: TextReader, W: Sink>(
     ensures output_cause { IfErr result (λ refusal. refusal ≡ Refusal.Output → W.faults writer.old < W.faults writer.new) }
     // A refusal of the descriptor is its first, with nothing written; an output fault leaves a part of the table.
     ensures refused { IfErr result (λ refusal. IsRefused refusal (R.remaining reader.old) (W.contents writer.old) (W.contents writer.new)) }
-    // No more is read than it takes to know that a text is too long.
+    // No more is read than it takes to know that a text is too long, from any reader.
+    ensures stops { R.given reader.new ≤ R.given reader.old + reading_limit }
+    // What is read are the first bytes, where the reader tells them.
     ensures read { ReadsPrefix (R.remaining reader.old) (R.remaining reader.new) }
     ensures reader_faults { R.faults reader.old ≤ R.faults reader.new }
     ensures writer_faults { W.faults writer.old ≤ W.faults writer.new }

@@ -1,6 +1,6 @@
 //! Where a descriptor's text comes from.
 
-ghost use Rattle.std.specs.Prelude.{◌≡◌, ℕ, ◌<◌, ◌≤◌, List, Option, OnErr};
+ghost use Rattle.std.specs.Prelude.{◌≡◌, ℕ, ◌+◌, ◌<◌, ◌≤◌, List, Option, OnErr, MatchResult};
 ghost use Rattle.std.specs.Io.{ReadsAtMost};
 ghost use Rattle.std.specs.Io.KnownBytes.{ReadConsumes};
 
@@ -17,6 +17,9 @@ pub trait TextReader {
     /// The bytes that it has left, where it tells them.
     ghost remaining: { Self → Option (List ℕ) };
 
+    /// How many bytes the reader has given.
+    ghost given: { Self → ℕ };
+
     /// How often the reader has failed.
     ghost faults: { Self → ℕ };
 
@@ -25,6 +28,7 @@ pub trait TextReader {
     fn read_some(&mut self, room: &mut [u8]) -> Result<usize, ReadFault>
         ensures bound { ReadsAtMost result room.new }
         ensures bytes { ReadConsumes (remaining self.old) (remaining self.new) result room.new }
+        ensures given { MatchResult result (λ n. given self.new ≡ given self.old + n) (λ _. given self.new ≡ given self.old) }
         ensures faults { faults self.old ≤ faults self.new }
         ensures cause { OnErr result (faults self.old < faults self.new) };
 }
@@ -33,6 +37,7 @@ pub trait TextReader {
 #[derive(Drop)]
 pub struct ReadText<R: Read> {
     reader: R,
+    given: Counter,
     faults: Counter,
 }
 
@@ -41,15 +46,16 @@ impl<R: Read> Model for ReadText<R> {
 
     ghost Value = { Reader R };
 
-    ghost view = { λ t. record { reader = t.reader; faults = t.faults } };
+    ghost view = { λ t. record { reader = t.reader; given = t.given; faults = t.faults } };
 }
 
 impl<R: Read> ReadText<R> {
     pub fn new(reader: R) -> ReadText<R>
-        ensures { result ≡ record { reader = reader; faults = 0 } }
+        ensures { result ≡ record { reader = reader; given = 0; faults = 0 } }
     {
         ReadText {
             reader,
+            given: Counter::new(),
             faults: Counter::new(),
         }
     }
@@ -57,7 +63,11 @@ impl<R: Read> ReadText<R> {
     pub fn into_inner(self) -> R
         ensures { result ≡ self.reader }
     {
-        let ReadText { reader, faults: _ } = self;
+        let ReadText {
+            reader,
+            given: _,
+            faults: _,
+        } = self;
         reader
     }
 }
@@ -65,11 +75,16 @@ impl<R: Read> ReadText<R> {
 impl<R: Read> TextReader for ReadText<R> {
     ghost remaining = { λ t. R.remaining t.reader };
 
+    ghost given = { λ t. t.given };
+
     ghost faults = { λ t. t.faults };
 
     fn read_some(&mut self, room: &mut [u8]) -> Result<usize, ReadFault> {
         match self.reader.read(room) {
-            Ok(count) => Ok(count),
+            Ok(count) => {
+                self.given.add(count);
+                Ok(count)
+            }
             Err(_) => {
                 self.faults.tick();
                 Err(ReadFault)
