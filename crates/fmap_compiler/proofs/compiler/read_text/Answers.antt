@@ -15,6 +15,11 @@ returns-then-is_err-clause-read g c =
     ReadsPrefix-append _ _ _ c.loop-buffer.text.items (take c.in-Ok.count c.read_some.new.room) c.loop-buffer.invariant.consumed read.bytes.0
     (omega (arith, length-append c.loop-buffer.text.items (take c.in-Ok.count c.read_some.new.room), read.bound.1, c.read_some.auto.room, length-take c.min-room.result c.loop-buffer.buffer))
 
+pub returns-then-is_err-clause-stops : goal.returns-then-is_err-clause-stops
+returns-then-is_err-clause-stops g c =
+    let read = c.in-Ok.ensures in
+    omega (arith, read.given, read.bound.1, c.loop-buffer.invariant.given, c.read_some.auto.room, length-take c.min-room.result c.loop-buffer.buffer)
+
 pub returns-clause-text : goal.returns-clause-text
 returns-clause-text g c = IsPrefixOf-full _ _ c.loop-buffer.text.items c.loop-buffer.invariant.consumed (omega (arith, c.loop-buffer.invariant.within, c.loop-buffer-test.false, c.len.ensures))
 
