@@ -6,4 +6,5 @@ mod Listing
 mod Printing
 mod Planning
 mod Meeting
+mod Blameless
 mod Examples

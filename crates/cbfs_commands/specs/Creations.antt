@@ -1,6 +1,6 @@
 -- What `create` makes of a flashmap: the table that it begins with, the places of the map and of the regions by the
 -- table's areas, and the image. What is asked of them, and the order of the checks, are this project's own.
-use Rattle.std.specs.Prelude.{◌≡◌, ℕ, ◌+◌, ◌≤◌, Bool, false, ◌&&◌, ◌||◌, All, List, [], ◌∷◌, take, map, drop, replicate, nat_lt, Option, Some, None, Result, Ok, Err, IsErrOf, ◌==◌, if◌then◌else◌}
+use Rattle.std.specs.Prelude.{◌≡◌, ℕ, ◌+◌, ◌≤◌, Bool, false, ◌&&◌, ◌||◌, All, List, [], ◌∷◌, take, map, drop, replicate, nat_lt, Option, Some, None, Result, Ok, Err, ◌==◌, if◌then◌else◌}
 use Rattle.std.specs.List.{find, list_any}
 use lib.Chars.{codes}
 use Rattle.arrayvec.specs.ArrayVec.{ArrayVec}
@@ -47,12 +47,6 @@ first_areas areas names = map (first_area areas) names
 -- the name of the area that holds the map itself
 abbrev pub map_area_name : List ℕ
 map_area_name = codes "FMAP"
-
--- no side has failed: not the device, the writer or the source
-pub record HasNoFault {T : Type 0} (answer : Result T Refusal) : Type 0 where
-  pub device : IsErrOf answer refusals.Device → ⊥
-  pub output : IsErrOf answer refusals.Output → ⊥
-  pub source : IsErrOf answer refusals.Source → ⊥
 
 -- ---- the places
 

@@ -7,3 +7,4 @@ pub mod Layouts
 pub mod Creations
 pub mod Outcomes
 pub mod Deeds
+pub mod Laws

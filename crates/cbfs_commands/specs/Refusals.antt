@@ -1,4 +1,5 @@
--- The refusals of the layers below, as a command answers them.
+-- The refusals of the layers below, as a command answers them, and answers that blame no side.
+use Rattle.std.specs.Prelude.{Result, IsErrOf}
 use Rattle.flash_store.specs.declared.fmap.StoreFault.{StoreFault}
 use Rattle.flash_store.specs.declared.fmap.StoreFault.TheVariants as store
 use Rattle.cbfs_walk.specs.declared.walk.WalkFault.{WalkFault}
@@ -32,3 +33,9 @@ edit_refusal edit.NoSpace = refusals.NoSpace
 edit_refusal edit.BadName = refusals.BadName
 edit_refusal edit.BadType = refusals.BadType
 edit_refusal edit.BadAlign = refusals.BadAlign
+
+-- the answer blames no side: not the device, the output or the source
+pub record HasNoFault {T : Type 0} (answer : Result T Refusal) : Type 0 where
+  pub device : IsErrOf answer refusals.Device → ⊥
+  pub output : IsErrOf answer refusals.Output → ⊥
+  pub source : IsErrOf answer refusals.Source → ⊥

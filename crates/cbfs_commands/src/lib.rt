@@ -7,6 +7,7 @@ mod create;
 mod detail;
 mod engine;
 mod extract;
+mod laws;
 mod layout;
 mod plan;
 mod print;
@@ -19,5 +20,6 @@ mod write;
 
 pub use command::Command;
 pub use engine::run;
+pub use laws::outcomes_have_no_fault;
 pub use refusal::Refusal;
 pub use table::{MOST_REGIONS, create_size};

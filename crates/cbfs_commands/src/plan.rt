@@ -4,7 +4,8 @@ ghost use Rattle.std.specs.Prelude.{◌≡◌, ◌⊎◌, ◌+◌, ◌/◌, ◌<
 ghost use Rattle.std.specs.List.{list_any};
 ghost use Rattle.flash_format.specs.Flashmap.{area_len, map_len};
 ghost use Rattle.flash_store.specs.Device.{Reads};
-ghost use Rattle.cbfs_commands.specs.Creations.{Fits, HasNoFault, IsPlace, items_of, map_place, overlap, plan_for, plan_of, region_place, region_places, some_overlap};
+ghost use Rattle.cbfs_commands.specs.Creations.{Fits, IsPlace, items_of, map_place, overlap, plan_for, plan_of, region_place, region_places, some_overlap};
+ghost use Rattle.cbfs_commands.specs.Refusals.{HasNoFault};
 
 use crate::refusal::{Refusal, store_refusal};
 use crate::table::{MOST_REGIONS, first_areas, head_for};

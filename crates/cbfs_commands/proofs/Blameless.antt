@@ -1,0 +1,287 @@
+-- No outcome's own answer blames a side: each of its refusals is one of the image, the command or the source as they are.
+use Rattle.std.proofs.Common.{ℕ, Bool, true, false, cond, List, [], ◌∷◌, length, nat_lt, ◌+◌, ◌==◌, ◌&&◌, is_some, Option, Some, None, Result, Ok, Err, subst}
+use Rattle.std.specs.Prelude.{⊤}
+use Rattle.flash_format.specs.declared.flashmap.Area.{Area}
+use Rattle.flash_format.specs.declared.flashmap.FmapHead.{FmapHead}
+use Rattle.flash_format.specs.Components.{Component, components, is_packed}
+use Rattle.flash_format.specs.Cut.{End, complete, tail, damage, cut}
+use Rattle.flash_format.specs.Entry.{entry}
+use Rattle.flash_format.specs.Flashmap.{map_len, map_of, area_in}
+use Rattle.flash_store.specs.Fmap.{map_head}
+use Rattle.flash_store.specs.Regions.{Range, bytes_in, inside, region_of, region_under}
+use Rattle.flash_store.specs.declared.fmap.StoreFault.{StoreFault}
+use Rattle.cbfs_walk.specs.Finding.{Found, component_in, first_named, found_or, not_found}
+use Rattle.cbfs_walk.specs.Shaped.{place_after}
+use Rattle.cbfs_walk.specs.Shapes.{has_bad_size, is_absent, refused_or, shape}
+use Rattle.cbfs_walk.specs.declared.walk.WalkFault.{WalkFault}
+use Rattle.cbfs_walk.specs.declared.walk.WalkFault.TheVariants as walk
+use Rattle.cbfs_edit.specs.Additions.{NewComponent, addition_in, is_bad_align, is_bad_name, is_bad_type, unless_faulty, wanted_for}
+use Rattle.cbfs_edit.specs.Groups.{group_of}
+use Rattle.cbfs_edit.specs.Places.{place_of, placed, placing_in}
+use Rattle.cbfs_edit.specs.Removals.{found, removal_in, unless_damaged}
+use Rattle.cbfs_edit.specs.declared.fault.EditFault.{EditFault}
+use Rattle.cbfs_edit.specs.declared.fault.EditFault.TheVariants as edit
+use Rattle.cbfs_edit.specs.declared.group.Freed.{Freed}
+use Rattle.cbfs_edit.specs.declared.place.Place.{Place}
+use Rattle.cbfs_edit.specs.declared.place.Spot.{Spot}
+use Rattle.cbfs_edit.specs.declared.place.Wanted.{Wanted}
+use Rattle.cbfs_commands.specs.declared.plan.Plan.{Plan}
+use Rattle.cbfs_commands.specs.declared.refusal.Refusal.{Refusal}
+use Rattle.cbfs_commands.specs.declared.refusal.Refusal.TheVariants as refusals
+use Rattle.cbfs_commands.specs.Creations.{head_by, map_place, place_and, plan_at, plan_by, plan_for, plan_of, plan_when, region_places, some_overlap, with_room, with_shape}
+use Rattle.cbfs_commands.specs.Deeds.{deed}
+use Rattle.cbfs_commands.specs.Layouts.{layout, layout_under}
+use Rattle.cbfs_commands.specs.Outcomes.{Outcome, add, add_found, addition, create, creation, ended, extract, extract_found, extract_found_component, print, print_found, print_region, read, read_found, remove, remove_found, removal, told_component, write, write_found}
+use Rattle.cbfs_commands.specs.Refusals.{HasNoFault, edit_refusal, store_refusal, walk_refusal}
+use Rattle.cbfs_commands.specs.Requests.{Adding, Request}
+use Rattle.cbfs_commands.specs.Requests as requests
+use Rattle.cbfs_commands.specs.Told.{Answer, Told}
+
+-- a refusal that blames no side
+abbrev BlamesNone : Refusal → Type 0
+BlamesNone refusals.Device = ⊥
+BlamesNone refusals.Output = ⊥
+BlamesNone refusals.Source = ⊥
+BlamesNone _ = ⊤
+
+-- the same of an answer, by the refusal that its fault is told as
+abbrev Blameless : {T E : Type 0} → (E → Refusal) → Result T E → Type 0
+Blameless tell (Ok value) = ⊤
+Blameless tell (Err fault) = BlamesNone (tell fault)
+
+abbrev itself : Refusal → Refusal
+itself refusal = refusal
+
+-- one of two answers
+when : {T E : Type 0} (tell : E → Refusal) (b : Bool) (x y : Result T E) → Blameless tell x → Blameless tell y → Blameless tell (cond b x y)
+when tell true x y left right = left
+when tell false x y left right = right
+
+-- ---- regions, their shape and their cells
+
+inside-blameless : (n : ℕ) (area : Option Area) → Blameless store_refusal (inside n area)
+inside-blameless n None = tt
+inside-blameless n (Some a) = when store_refusal (nat_lt n (a.offset + a.size)) _ _ tt tt
+
+region_of-blameless : (image name : List ℕ) → Blameless store_refusal (region_of image name)
+unfolding region_of
+region_of-blameless image name = go (map_of image)
+  where
+    go : (q : Option ℕ) → Blameless store_refusal (region_under image name q)
+    go None = tt
+    go (Some q) = inside-blameless (length image) (area_in image q name)
+
+-- what holds of the two refusals by a region's shape, and of what is answered without one
+unless-misshapen : {A : Type 0} (P : A → Type 0) (refuse : WalkFault → A) (x : List ℕ) (otherwise : A) → P (refuse walk.RegionShape) → P (refuse walk.NotCbfs) → P otherwise → P (refused_or refuse (shape x) otherwise)
+unless-misshapen P refuse x otherwise misshapen empty other = go (has_bad_size (length x)) (0 == 0 && is_absent (entry x))
+  where
+    go : (bad absent : Bool) → P (refused_or refuse (cond bad (Some walk.RegionShape) (cond absent (Some walk.NotCbfs) None)) otherwise)
+    go true absent = misshapen
+    go false true = empty
+    go false false = other
+
+not_found-blameless : (at : ℕ) (end : End) → Blameless walk_refusal (not_found at end)
+not_found-blameless at complete = tt
+not_found-blameless at tail = tt
+not_found-blameless at (damage kind) = tt
+
+found_or-blameless : (c : Option Component) (otherwise : Found) → Blameless walk_refusal otherwise → Blameless walk_refusal (found_or c otherwise)
+found_or-blameless None otherwise other = other
+found_or-blameless (Some c) otherwise other = tt
+
+component_in-blameless : (x name : List ℕ) → Blameless walk_refusal (component_in x name)
+unfolding component_in
+component_in-blameless x name = unless-misshapen (λ (r : Found). Blameless walk_refusal r) _ x _ tt tt (found_or-blameless (first_named name (components x)) _ (not_found-blameless (place_after 0 (cut x).cells) (cut x).end))
+
+-- ---- edits
+
+unless_damaged-blameless : {T : Type 0} (at : ℕ) (end : End) (otherwise : Result T EditFault) → Blameless edit_refusal otherwise → Blameless edit_refusal (unless_damaged at end otherwise)
+unless_damaged-blameless at complete otherwise other = other
+unless_damaged-blameless at tail otherwise other = other
+unless_damaged-blameless at (damage kind) otherwise other = tt
+
+found-blameless : (group : Option Freed) → Blameless edit_refusal (found group)
+found-blameless None = tt
+found-blameless (Some group) = tt
+
+removal_in-blameless : (x name : List ℕ) → Blameless edit_refusal (removal_in x name)
+unfolding removal_in
+removal_in-blameless x name = unless-misshapen (λ (r : Result Freed EditFault). Blameless edit_refusal r) _ x _ tt tt (unless_damaged-blameless (place_after 0 (cut x).cells) (cut x).end _ (found-blameless (group_of x name)))
+
+placed-blameless : (place : Option Place) → Blameless edit_refusal (placed place)
+placed-blameless None = tt
+placed-blameless (Some place) = tt
+
+placing_in-blameless : (x name : List ℕ) (wanted : Wanted) → Blameless edit_refusal (placing_in x name wanted)
+unfolding placing_in
+placing_in-blameless x name wanted = unless-misshapen (λ (r : Result Place EditFault). Blameless edit_refusal r) _ x _ tt tt (unless_damaged-blameless (place_after 0 (cut x).cells) (cut x).end _ (unless_exists (is_some (first_named name (components x)))))
+  where
+    unless_exists : (b : Bool) → Blameless edit_refusal (cond b (Err edit.Exists) (placed (place_of x wanted)))
+    unless_exists true = tt
+    unless_exists false = placed-blameless (place_of x wanted)
+
+addition_in-blameless : (x : List ℕ) (new : NewComponent) (spot : Spot) → Blameless edit_refusal (addition_in x new spot)
+unfolding addition_in
+addition_in-blameless x new spot = go (is_bad_name new.name) (is_bad_type new.kind) (is_bad_align spot)
+  where
+    go : (name kind align : Bool) → Blameless edit_refusal (unless_faulty (cond name (Some edit.BadName) (cond kind (Some edit.BadType) (cond align (Some edit.BadAlign) None))) (placing_in x new.name (wanted_for new spot)))
+    go true kind align = tt
+    go false true align = tt
+    go false false true = tt
+    go false false false = placing_in-blameless x new.name (wanted_for new spot)
+
+-- ---- plans
+
+head_by-blameless : (n : ℕ) (head : Option FmapHead) → Blameless itself (head_by n head)
+head_by-blameless n None = tt
+head_by-blameless n (Some head) = when itself (head.size == n) _ _ tt tt
+
+with_room-blameless : (len : ℕ) (place : Result Range StoreFault) → Blameless itself (with_room len place)
+with_room-blameless len (Err fault) = tt
+with_room-blameless len (Ok place) = when itself (nat_lt place.size len) _ _ tt tt
+
+with_shape-blameless : (place : Result Range StoreFault) → Blameless store_refusal place → Blameless itself (with_shape place)
+with_shape-blameless (Err fault) own = own
+with_shape-blameless (Ok place) own = when itself (has_bad_size place.size) _ _ tt tt
+
+place_and-blameless : (place : Result Range Refusal) (rest : Result (List Range) Refusal) → Blameless itself place → Blameless itself rest → Blameless itself (place_and place rest)
+place_and-blameless (Err refusal) rest own others = own
+place_and-blameless (Ok place) (Err refusal) own others = others
+place_and-blameless (Ok place) (Ok places) own others = tt
+
+region_places-blameless : (n : ℕ) (areas : List (Option Area)) → Blameless itself (region_places n areas)
+region_places-blameless n [] = tt
+region_places-blameless n (area ∷ areas) = place_and-blameless _ _ (with_shape-blameless (inside n area) (inside-blameless n area)) (region_places-blameless n areas)
+
+plan_when-blameless : (len : ℕ) (place : Range) (places : Result (List Range) Refusal) → Blameless itself places → Blameless itself (plan_when len place places)
+plan_when-blameless len place (Err refusal) own = own
+plan_when-blameless len place (Ok places) own = when itself (some_overlap (place ∷ places)) _ _ tt tt
+
+plan_at-blameless : (n len : ℕ) (place : Result Range Refusal) (areas : List (Option Area)) → Blameless itself place → Blameless itself (plan_at n len place areas)
+plan_at-blameless n len (Err refusal) areas own = own
+plan_at-blameless n len (Ok place) areas own = plan_when-blameless len place _ (region_places-blameless n areas)
+
+plan_of-blameless : (n len : ℕ) (area : Option Area) (areas : List (Option Area)) → Blameless itself (plan_of n len area areas)
+plan_of-blameless n len area areas = plan_at-blameless n len (map_place n len area) areas (with_room-blameless len (inside n area))
+
+plan_by-blameless : (n : ℕ) (names : List (List ℕ)) (source : List ℕ) (head : Result FmapHead Refusal) → Blameless itself head → Blameless itself (plan_by n names source head)
+plan_by-blameless n names source (Err refusal) own = own
+plan_by-blameless n names source (Ok head) own = plan_of-blameless n (map_len head) _ _
+
+plan_for-blameless : (n : ℕ) (names : List (List ℕ)) (source : List ℕ) → Blameless itself (plan_for n names source)
+unfolding plan_for
+plan_for-blameless n names source = plan_by-blameless n names source _ (head_by-blameless n (map_head source))
+
+-- ---- commands
+
+ended-blameless : (at : ℕ) (end : End) → Blameless itself (ended at end)
+ended-blameless at complete = tt
+ended-blameless at tail = tt
+ended-blameless at (damage kind) = tt
+
+print-blameless : (image name : List ℕ) (verbose : Bool) → Blameless itself (print image name verbose).answer
+unfolding print print_region
+print-blameless image name verbose = go (region_of image name) (region_of-blameless image name)
+  where
+    go : (found : Result Range StoreFault) → Blameless store_refusal found → Blameless itself (print_found image found verbose).answer
+    go (Err fault) own = own
+    go (Ok region) own = unless-misshapen (λ (t : Told). Blameless itself t.answer) _ (bytes_in region image) _ tt tt (ended-blameless _ _)
+
+layout-blameless : (image : List ℕ) → Blameless itself (layout image).answer
+unfolding layout
+layout-blameless image = go (map_of image)
+  where
+    go : (q : Option ℕ) → Blameless itself (layout_under image q).answer
+    go None = tt
+    go (Some q) = tt
+
+told_component-blameless : (c : Component) → Blameless itself (told_component c).answer
+told_component-blameless c = go (is_packed c.attributes) _ _ tt tt
+  where
+    go : (b : Bool) (t u : Told) → Blameless itself t.answer → Blameless itself u.answer → Blameless itself (cond b t u).answer
+    go true t u left right = left
+    go false t u left right = right
+
+extract_found_component-blameless : (c : Found) → Blameless walk_refusal c → Blameless itself (extract_found_component c).answer
+extract_found_component-blameless (Err fault) own = own
+extract_found_component-blameless (Ok None) own = tt
+extract_found_component-blameless (Ok (Some c)) own = told_component-blameless c
+
+extract-blameless : (image region name : List ℕ) → Blameless itself (extract image region name).answer
+unfolding extract
+extract-blameless image region name = go (region_of image region) (region_of-blameless image region)
+  where
+    go : (found : Result Range StoreFault) → Blameless store_refusal found → Blameless itself (extract_found image found name).answer
+    go (Err fault) own = own
+    go (Ok region) own = extract_found_component-blameless _ (component_in-blameless (bytes_in region image) name)
+
+removal-blameless : (image : List ℕ) (region : Range) (group : Result Freed EditFault) → Blameless edit_refusal group → Blameless itself (removal image region group).answer
+removal-blameless image region (Err fault) own = own
+removal-blameless image region (Ok group) own = tt
+
+remove-blameless : (image region name : List ℕ) → Blameless itself (remove image region name).answer
+unfolding remove
+remove-blameless image region name = go (region_of image region) (region_of-blameless image region)
+  where
+    go : (found : Result Range StoreFault) → Blameless store_refusal found → Blameless itself (remove_found image found name).answer
+    go (Err fault) own = own
+    go (Ok region) own = removal-blameless image region _ (removal_in-blameless (bytes_in region image) name)
+
+addition-blameless : (image : List ℕ) (region : Range) (new : NewComponent) (place : Result Place EditFault) → Blameless edit_refusal place → Blameless itself (addition image region new place).answer
+addition-blameless image region new (Err fault) own = own
+addition-blameless image region new (Ok place) own = tt
+
+add-blameless : (image region : List ℕ) (new : NewComponent) (spot : Spot) → Blameless itself (add image region new spot).answer
+unfolding add
+add-blameless image region new spot = go (region_of image region) (region_of-blameless image region)
+  where
+    go : (found : Result Range StoreFault) → Blameless store_refusal found → Blameless itself (add_found image found new spot).answer
+    go (Err fault) own = own
+    go (Ok region) own = addition-blameless image region new _ (addition_in-blameless (bytes_in region image) new spot)
+
+read-blameless : (image name : List ℕ) → Blameless itself (read image name).answer
+unfolding read
+read-blameless image name = go (region_of image name) (region_of-blameless image name)
+  where
+    go : (found : Result Range StoreFault) → Blameless store_refusal found → Blameless itself (read_found image found).answer
+    go (Err fault) own = own
+    go (Ok region) own = tt
+
+write-blameless : (image name source : List ℕ) → Blameless itself (write image name source).answer
+unfolding write
+write-blameless image name source = go (region_of image name) (region_of-blameless image name)
+  where
+    sized : (b : Bool) (o p : Outcome) → Blameless itself o.answer → Blameless itself p.answer → Blameless itself (cond b o p).answer
+    sized true o p left right = left
+    sized false o p left right = right
+
+    go : (found : Result Range StoreFault) → Blameless store_refusal found → Blameless itself (write_found image found source).answer
+    go (Err fault) own = own
+    go (Ok region) own = sized (length source == region.size) _ _ tt tt
+
+create-blameless : (image : List ℕ) (names : List (List ℕ)) (source : List ℕ) → Blameless itself (create image names source).answer
+unfolding create
+create-blameless image names source = go (plan_for (length image) names source) (plan_for-blameless (length image) names source)
+  where
+    go : (plan : Result Plan Refusal) → Blameless itself plan → Blameless itself (creation image source plan).answer
+    go (Err refusal) own = own
+    go (Ok plan) own = tt
+
+-- ---- the law
+
+no_fault : (answer : Answer) → Blameless itself answer → HasNoFault answer
+no_fault answer own = record {
+  device = λ blamed. subst (λ (a : Answer). Blameless itself a) blamed own;
+  output = λ blamed. subst (λ (a : Answer). Blameless itself a) blamed own;
+  source = λ blamed. subst (λ (a : Answer). Blameless itself a) blamed own;
+}
+
+pub outcome-blameless : (r : Request) (image source : List ℕ) → HasNoFault ((deed r).outcome image source).answer
+outcome-blameless (requests.print region verbose) image source = no_fault _ (print-blameless image region verbose)
+outcome-blameless requests.layout image source = no_fault _ (layout-blameless image)
+outcome-blameless (requests.extract region name) image source = no_fault _ (extract-blameless image region name)
+outcome-blameless (requests.add a) image source = no_fault _ (add-blameless image a.region _ a.spot)
+outcome-blameless (requests.remove region name) image source = no_fault _ (remove-blameless image region name)
+outcome-blameless (requests.read region) image source = no_fault _ (read-blameless image region)
+outcome-blameless (requests.write region) image source = no_fault _ (write-blameless image region source)
+outcome-blameless (requests.create names) image source = no_fault _ (create-blameless image names source)

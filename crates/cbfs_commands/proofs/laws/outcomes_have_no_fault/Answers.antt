@@ -1,0 +1,5 @@
+use Rattle.cbfs_commands.proofs.Blameless.{outcome-blameless}
+use Rattle.cbfs_commands.proofs.laws.outcomes_have_no_fault.Goals as goal
+
+pub returns : goal.returns
+returns c = outcome-blameless
