@@ -191,6 +191,14 @@ fn a_stop_of_either_side(rt: HostRuntime) -> Result<(), Fail> {
     Ok(())
 }
 
+/// Removes the files that a test has made.
+fn remove(rt: &HostRuntime, names: &[&str]) -> Result<(), Fail> {
+    for name in names {
+        fs::remove_file(rt, name)?;
+    }
+    Ok(())
+}
+
 #[test]
 fn an_image_is_made_in_a_file(rt: HostRuntime) -> Result<(), Fail> {
     fs::write(&rt, "flashmap", &MAP)?;
@@ -214,5 +222,5 @@ fn an_image_is_made_in_a_file(rt: HostRuntime) -> Result<(), Fail> {
         &shown,
         b"a\t0x0\traw\t10\tnone\n(empty)\t0x40\tnull\t416\tnone\n",
     );
-    Ok(())
+    remove(&rt, &["flashmap", "digits", "created.rom"])
 }
