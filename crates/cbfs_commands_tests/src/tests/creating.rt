@@ -10,8 +10,9 @@ use flash_store::{
     FailAt, FailSource, FileFlash, FileSource, Flash, MemFlash, MemSource, Paged, Source,
 };
 use std::alloc::Global;
-use std::fs;
+use std::fs::{self, File};
 use std::process::Abort;
+use std::rt::Files;
 use std::test::Fail;
 
 /// A flashmap of 4096 bytes: FMAP of 1024, B of 2048 after it, and C of 1024 after that.
@@ -191,8 +192,54 @@ fn a_stop_of_either_side(rt: HostRuntime) -> Result<(), Fail> {
     Ok(())
 }
 
+/// A command on an image in a file, with a source that is a file too, writes this text.
+fn tells(
+    rt: &(impl Abort + AllocGlobal),
+    paged: &mut Paged<FileFlash>,
+    command: &Command,
+    source: &mut FileSource,
+    text: &[u8],
+) {
+    let told = run_into(rt, paged, command, source, Ok(()));
+    same_bytes(rt, &told, text);
+}
+
+/// Makes an image's file from a table in another file.
+fn make(
+    rt: &(impl Abort + AllocGlobal + Files<File = File>),
+    image: &str,
+    table: &str,
+) -> Result<(), Fail> {
+    let mut source = FileSource::open(rt, table)?;
+    let size = create_size(&mut source).map_err(|_| "no size")?;
+    let mut paged = Paged::new(FileFlash::create(rt, image, size)?);
+    tells(rt, &mut paged, &creation(&[COREBOOT]), &mut source, b"");
+    Ok(())
+}
+
+/// Adds a file to an image that has just been made.
+fn add(
+    rt: &(impl Abort + AllocGlobal + Files<File = File>),
+    image: &str,
+    content: &str,
+) -> Result<(), Fail> {
+    let mut paged = Paged::new(FileFlash::open(rt, image)?);
+    let mut source = FileSource::open(rt, content)?;
+    tells(rt, &mut paged, &PRINT, &mut source, FRESH_TEXT);
+    let addition = first(b"a", HashChoice::Plain);
+    tells(rt, &mut paged, &addition, &mut source, b"");
+    let after = b"a\t0x0\traw\t10\tnone\n(empty)\t0x40\tnull\t416\tnone\n";
+    tells(rt, &mut paged, &PRINT, &mut source, after);
+    Ok(())
+}
+
+fn is_fresh(rt: &(impl Abort + AllocGlobal + Files<File = File>), image: &str) -> Result<(), Fail> {
+    same_bytes(rt, &fs::read(rt, image)?, &image_of(rt.alloc(), EMPTY)?);
+    Ok(())
+}
+
 /// Removes the files that a test has made.
-fn remove(rt: &HostRuntime, names: &[&str]) -> Result<(), Fail> {
+fn remove(rt: &impl Files<File = File>, names: &[&str]) -> Result<(), Fail> {
     for name in names {
         fs::remove_file(rt, name)?;
     }
@@ -203,24 +250,8 @@ fn remove(rt: &HostRuntime, names: &[&str]) -> Result<(), Fail> {
 fn an_image_is_made_in_a_file(rt: HostRuntime) -> Result<(), Fail> {
     fs::write(&rt, "flashmap", &MAP)?;
     fs::write(&rt, "digits", b"0123456789")?;
-    let mut source = FileSource::open(&rt, "flashmap")?;
-    let size = create_size(&mut source).map_err(|_| "no size")?;
-    let mut paged = Paged::new(FileFlash::create(&rt, "created.rom", size)?);
-    let create = creation(&[COREBOOT]);
-    let _none = run_into(&rt, &mut paged, &create, &mut source, Ok(()));
-    let made = fs::read(&rt, "created.rom")?;
-    same_bytes(&rt, &made, &image_of(rt.alloc(), EMPTY)?);
-    let mut paged = Paged::new(FileFlash::open(&rt, "created.rom")?);
-    let shown = run_into(&rt, &mut paged, &PRINT, &mut source, Ok(()));
-    same_bytes(&rt, &shown, FRESH_TEXT);
-    let mut digits = FileSource::open(&rt, "digits")?;
-    let add = first(b"a", HashChoice::Plain);
-    let _none = run_into(&rt, &mut paged, &add, &mut digits, Ok(()));
-    let shown = run_into(&rt, &mut paged, &PRINT, &mut digits, Ok(()));
-    same_bytes(
-        &rt,
-        &shown,
-        b"a\t0x0\traw\t10\tnone\n(empty)\t0x40\tnull\t416\tnone\n",
-    );
+    make(&rt, "created.rom", "flashmap")?;
+    is_fresh(&rt, "created.rom")?;
+    add(&rt, "created.rom", "digits")?;
     remove(&rt, &["flashmap", "digits", "created.rom"])
 }
