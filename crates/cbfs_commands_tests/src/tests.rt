@@ -12,9 +12,10 @@ use flash_store::{
 };
 use std::alloc::{AllocError, Global};
 use std::fmt::Debug;
-use std::fs;
+use std::fs::{self, File};
 use std::io::{self, ErrorKind, Write};
 use std::process::Abort;
+use std::rt::Files;
 use std::test::Fail;
 
 /// The flashmap of an image of 4096 bytes: FMAP and COREBOOT of 512 bytes each, and REST.
@@ -238,18 +239,38 @@ impl Write for Short {
     }
 }
 
+/// Lists an image in a file, and writes a region of it from another file.
+fn change(
+    rt: &(impl Abort + AllocGlobal + Files<File = File>),
+    image: &str,
+    content: &str,
+) -> Result<(), Fail> {
+    let mut paged = Paged::new(FileFlash::open(rt, image)?);
+    let mut source = FileSource::open(rt, content)?;
+    let shown = run_into(rt, &mut paged, &PRINT, &mut source, Ok(()));
+    same_bytes(rt, &shown, SHOWN);
+    let _none = run_into(rt, &mut paged, &WRITE, &mut source, Ok(()));
+    Ok(())
+}
+
+/// The file has the small image with these bytes as the region.
+fn is_changed(
+    rt: &(impl Abort + AllocGlobal + Files<File = File>),
+    image: &str,
+    region: &[u8],
+) -> Result<(), Fail> {
+    let mut wanted = small_image(rt.alloc())?;
+    put(&mut wanted, 0x200, region);
+    same_bytes(rt, &fs::read(rt, image)?, &wanted);
+    Ok(())
+}
+
 #[test]
 fn an_image_in_a_file(rt: HostRuntime) -> Result<(), Fail> {
     fs::write(&rt, "image.rom", small_image(rt.alloc())?.as_slice())?;
     fs::write(&rt, "source", [7; 512].as_slice())?;
-    let mut paged = Paged::new(FileFlash::open(&rt, "image.rom")?);
-    let mut source = FileSource::open(&rt, "source")?;
-    let shown = run_into(&rt, &mut paged, &PRINT, &mut source, Ok(()));
-    same_bytes(&rt, &shown, SHOWN);
-    let _none = run_into(&rt, &mut paged, &WRITE, &mut source, Ok(()));
-    let mut wanted = small_image(rt.alloc())?;
-    put(&mut wanted, 0x200, &[7; 512]);
-    same_bytes(&rt, &fs::read(&rt, "image.rom")?, &wanted);
+    change(&rt, "image.rom", "source")?;
+    is_changed(&rt, "image.rom", &[7; 512])?;
     fs::remove_file(&rt, "image.rom")?;
     fs::remove_file(&rt, "source")?;
     Ok(())
