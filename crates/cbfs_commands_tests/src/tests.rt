@@ -62,7 +62,7 @@ fn small_image(alloc: Global) -> Result<Vec<u8>, AllocError> {
 }
 
 fn device(alloc: Global) -> Result<MemFlash, Fail> {
-    Ok(MemFlash::new(small_image(alloc)?).map_err(|_| "too large")?)
+    Ok(MemFlash::new(small_image(alloc)?)?)
 }
 
 /// Two values are equal. A call of this is proved sooner than an assertion in place.
@@ -166,14 +166,19 @@ fn each_reading_command(rt: HostRuntime) -> Result<(), Fail> {
     shows(&rt, &extract, b"0123456789", Ok(()))
 }
 
+/// Writes these bytes as the region, and reads them.
+fn write_and_read(rt: &(impl Abort + AllocGlobal), paged: &mut Paged<MemFlash>, bytes: &[u8; 512]) {
+    let mut source = MemSource::new(bytes);
+    let none = run_into(rt, paged, &WRITE, &mut source, Ok(()));
+    equal(rt, &none.len(), &0);
+    let read = run_into(rt, paged, &READ, &mut source, Ok(()));
+    same_bytes(rt, &read, bytes);
+}
+
 #[test]
 fn a_region_is_written_and_read(rt: HostRuntime) -> Result<(), Fail> {
     let mut paged = Paged::new(device(rt.alloc())?);
-    let mut source = MemSource::new(&[7; 512]);
-    let none = run_into(&rt, &mut paged, &WRITE, &mut source, Ok(()));
-    equal(&rt, &none.len(), &0);
-    let read = run_into(&rt, &mut paged, &READ, &mut source, Ok(()));
-    same_bytes(&rt, &read, &[7; 512]);
+    write_and_read(&rt, &mut paged, &[7; 512]);
     let mut wanted = small_image(rt.alloc())?;
     put(&mut wanted, 0x200, &[7; 512]);
     same_bytes(&rt, paged.flash().bytes(), &wanted);

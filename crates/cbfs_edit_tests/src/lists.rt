@@ -3,7 +3,7 @@ ghost use Rattle.std.specs.Prelude.{◌≡◌, ◌+◌, ◌<◌, ◌≤◌, true
 ghost use Rattle.flash_store.specs.Regions.{LiesIn};
 
 use crate::tests::{
-    A, EMPTY_512, FRESH, MAGIC_20, Parts, bytes_with, components, device_with, equal, same_bytes,
+    A, EMPTY_512, FRESH, MAGIC_20, Parts, components, device_with, equal, holds, same_bytes,
     source_of,
 };
 use cbfs_edit::{Edit, EditFault, Freed, HashChoice, Placed, Reply, Spot, apply_all};
@@ -66,6 +66,20 @@ fn freed(start: u64, end: u64) -> Reply {
     Reply::Freed(Freed { start, end })
 }
 
+/// The edits of a list have these replies, in the region of 512 bytes inside an image.
+fn answers<F: Flash>(
+    rt: &impl Abort,
+    paged: &mut Paged<F>,
+    edits: &mut [Edit<'_, MemSource<'_>>; 4],
+    want: &[Reply; 4],
+) -> Result<(), Fail> {
+    let mut replies = [STOPPED; 4];
+    let region = part_of(paged, 512, 512).ok_or("no region")?;
+    apply_all(paged, region, edits, &mut replies);
+    equal(rt, &replies, want);
+    Ok(())
+}
+
 #[test]
 fn each_edit_of_a_list_has_its_reply(rt: HostRuntime) -> Result<(), Fail> {
     let mut paged = Paged::new(device_with(rt.alloc(), 1536, IMAGE)?);
@@ -75,16 +89,11 @@ fn each_edit_of_a_list_has_its_reply(rt: HostRuntime) -> Result<(), Fail> {
         Edit::Remove { name: b"z" },
         Edit::Remove { name: b"a" },
     ];
-    let mut replies = [STOPPED; 4];
-    let region = part_of(&paged, 512, 512).ok_or("no region")?;
-    apply_all(&mut paged, region, &mut edits, &mut replies);
     let exists = Reply::Refused(EditFault::Exists);
     let not_found = Reply::Refused(EditFault::NotFound);
     let want = [placed(0, 28), exists, not_found, freed(0, 512)];
-    equal(&rt, &replies, &want);
-    let image = bytes_with(rt.alloc(), 1536, IMAGE)?;
-    same_bytes(&rt, paged.into_flash().bytes(), image.as_slice());
-    Ok(())
+    answers(&rt, &mut paged, &mut edits, &want)?;
+    holds(&rt, paged.flash(), 1536, IMAGE)
 }
 
 // ---- a device that works again

@@ -122,12 +122,17 @@ const WITH_B_LATER: Parts = &[
     (320, &LAST_192),
 ];
 
+/// Puts a part to a place of a device's bytes.
+fn put(bytes: &mut [u8], at: usize, part: &[u8]) {
+    for (to, from) in bytes.iter_mut().skip(at).zip(part.iter()) {
+        *to = *from;
+    }
+}
+
 pub fn bytes_with(alloc: Global, size: usize, parts: Parts) -> Result<Vec<u8>, Fail> {
     let mut bytes = Vec::from_elem(alloc, 0xffu8, size)?;
     for (at, part) in parts {
-        for (to, from) in bytes.iter_mut().skip(*at).zip(part.iter()) {
-            *to = *from;
-        }
+        put(&mut bytes, *at, part);
     }
     Ok(bytes)
 }
@@ -154,6 +159,27 @@ pub fn same_bytes(rt: &impl Abort, left: &[u8], right: &[u8]) {
 
 // ---- whole edits
 
+/// A device holds these bytes.
+pub fn holds(
+    rt: &(impl Abort + AllocGlobal),
+    device: &MemFlash,
+    size: usize,
+    parts: Parts,
+) -> Result<(), Fail> {
+    let expected = bytes_with(rt.alloc(), size, parts)?;
+    same_bytes(rt, device.bytes(), expected.as_slice());
+    Ok(())
+}
+
+/// Removes a component from the whole of a device.
+fn remove_from<F: Flash>(
+    paged: &mut Paged<F>,
+    name: &[u8],
+) -> Result<Result<Freed, EditFault>, Fail> {
+    let region = whole(paged).ok_or("no region")?;
+    Ok(remove(paged, region, name))
+}
+
 /// A removal from a region of these bytes answers this, and leaves these.
 fn removes(
     rt: &(impl Abort + AllocGlobal),
@@ -164,11 +190,8 @@ fn removes(
 ) -> Result<(), Fail> {
     let (size, parts) = before;
     let mut paged = Paged::new(device_with(rt.alloc(), size, parts)?);
-    let region = whole(&paged).ok_or("no region")?;
-    equal(rt, &remove(&mut paged, region, name), &want);
-    let expected = bytes_with(rt.alloc(), size, after)?;
-    same_bytes(rt, paged.into_flash().bytes(), expected.as_slice());
-    Ok(())
+    equal(rt, &remove_from(&mut paged, name)?, &want);
+    holds(rt, paged.flash(), size, after)
 }
 
 #[test]
@@ -210,6 +233,12 @@ fn what_is_refused_changes_nothing(rt: HostRuntime) -> Result<(), Fail> {
     Ok(())
 }
 
+/// Formats the whole of a device.
+fn format_all<F: Flash>(paged: &mut Paged<F>) -> Result<Result<(), EditFault>, Fail> {
+    let region = whole(paged).ok_or("no region")?;
+    Ok(format(paged, region))
+}
+
 /// A format of a region of these bytes answers this, and leaves these.
 fn formats(
     rt: &(impl Abort + AllocGlobal),
@@ -219,11 +248,8 @@ fn formats(
 ) -> Result<(), Fail> {
     let (size, parts) = before;
     let mut paged = Paged::new(device_with(rt.alloc(), size, parts)?);
-    let region = whole(&paged).ok_or("no region")?;
-    equal(rt, &format(&mut paged, region), &want);
-    let expected = bytes_with(rt.alloc(), size, after)?;
-    same_bytes(rt, paged.into_flash().bytes(), expected.as_slice());
-    Ok(())
+    equal(rt, &format_all(&mut paged)?, &want);
+    holds(rt, paged.flash(), size, after)
 }
 
 #[test]
@@ -298,9 +324,7 @@ fn adds<'a>(
     let mut paged = Paged::new(device_with(rt.alloc(), 512, before)?);
     let mut source = source_of(rt, new.content);
     equal(rt, &add_to(&mut paged, new, &mut source)?, &want);
-    let expected = bytes_with(rt.alloc(), 512, after)?;
-    same_bytes(rt, paged.into_flash().bytes(), expected.as_slice());
-    Ok(())
+    holds(rt, paged.flash(), 512, after)
 }
 
 /// An addition that is refused changes nothing.
@@ -456,27 +480,42 @@ struct Edit<'a> {
     after: Parts<'a>,
 }
 
-/// What an edit has left: the bytes of after, where it has finished; else the components of before or, where the device
-/// has refused a call, those of after. Answers whether it has finished.
+/// A stopped edit has left the components of before or, where the device has refused a call, those of after.
+fn leaves_whole(
+    rt: &(impl Abort + AllocGlobal),
+    edit: Edit,
+    fault: EditFault,
+    device: MemFlash,
+) -> Result<(), Fail> {
+    let left = components(rt, device)?;
+    let old = components(rt, device_with(rt.alloc(), edit.size, edit.before)?)?;
+    if left.as_slice() != old.as_slice() {
+        equal(rt, &fault, &EditFault::Device);
+        let new = components(rt, device_with(rt.alloc(), edit.size, edit.after)?)?;
+        same_bytes(rt, left.as_slice(), new.as_slice());
+    }
+    Ok(())
+}
+
+/// An edit has finished and left the bytes of after, or this side has stopped it. Answers whether it has finished.
 fn has_finished(
     rt: &(impl Abort + AllocGlobal),
     edit: Edit,
     fault: Option<EditFault>,
+    side: EditFault,
     device: MemFlash,
 ) -> Result<bool, Fail> {
-    if fault.is_none() {
-        let done = bytes_with(rt.alloc(), edit.size, edit.after)?;
-        same_bytes(rt, device.bytes(), done.as_slice());
-        return Ok(true);
+    match fault {
+        None => {
+            holds(rt, &device, edit.size, edit.after)?;
+            Ok(true)
+        }
+        Some(fault) => {
+            equal(rt, &fault, &side);
+            leaves_whole(rt, edit, fault, device)?;
+            Ok(false)
+        }
     }
-    let left = components(rt, device)?;
-    let old = components(rt, device_with(rt.alloc(), edit.size, edit.before)?)?;
-    if left.as_slice() != old.as_slice() {
-        equal(rt, &fault, &Some(EditFault::Device));
-        let new = components(rt, device_with(rt.alloc(), edit.size, edit.after)?)?;
-        same_bytes(rt, left.as_slice(), new.as_slice());
-    }
-    Ok(false)
 }
 
 /// A device with what an edit finds, which refuses all calls after the first k.
@@ -499,10 +538,9 @@ fn removal_stops(
     part: usize,
 ) -> Result<bool, Fail> {
     let mut paged = failing(rt.alloc(), edit, k, part)?;
-    let region = whole(&paged).ok_or("no region")?;
-    let fault = remove(&mut paged, region, name).err();
-    assert!(rt; fault.is_none() || fault == Some(EditFault::Device));
-    has_finished(rt, edit, fault, paged.into_flash().into_inner())
+    let fault = remove_from(&mut paged, name)?.err();
+    let device = paged.into_flash().into_inner();
+    has_finished(rt, edit, fault, EditFault::Device, device)
 }
 
 /// A removal that joins free space on both sides.
@@ -536,10 +574,9 @@ fn format_stops(rt: &(impl Abort + AllocGlobal), k: u64, part: usize) -> Result<
         after: FRESH,
     };
     let mut paged = failing(rt.alloc(), edit, k, part)?;
-    let region = whole(&paged).ok_or("no region")?;
-    let fault = format(&mut paged, region).err();
-    assert!(rt; fault.is_none() || fault == Some(EditFault::Device));
-    has_finished(rt, edit, fault, paged.into_flash().into_inner())
+    let fault = format_all(&mut paged)?.err();
+    let device = paged.into_flash().into_inner();
+    has_finished(rt, edit, fault, EditFault::Device, device)
 }
 
 /// An addition on a device that refuses all calls after the first k.
@@ -553,8 +590,8 @@ fn addition_stops(
     let mut paged = failing(rt.alloc(), edit, k, part)?;
     let mut source = source_of(rt, new.content);
     let fault = add_to(&mut paged, new, &mut source)?.err();
-    assert!(rt; fault.is_none() || fault == Some(EditFault::Device));
-    has_finished(rt, edit, fault, paged.into_flash().into_inner())
+    let device = paged.into_flash().into_inner();
+    has_finished(rt, edit, fault, EditFault::Device, device)
 }
 
 fn first_addition_stops(
@@ -619,8 +656,7 @@ fn source_stops(rt: &(impl Abort + AllocGlobal), k: u64) -> Result<bool, Fail> {
     let mut paged = Paged::new(device_with(rt.alloc(), edit.size, edit.before)?);
     let mut source = FailSource::new(source_of(rt, &LONG), k);
     let fault = add_to(&mut paged, b(Spot::First, &LONG), &mut source)?.err();
-    assert!(rt; fault.is_none() || fault == Some(EditFault::Source));
-    has_finished(rt, edit, fault, paged.into_flash())
+    has_finished(rt, edit, fault, EditFault::Source, paged.into_flash())
 }
 
 #[test]

@@ -1,9 +1,9 @@
 //! Digests of components: those of FIPS 180-4, and those that another program made of contents at a block's end, at a
 //! piece's and at a window's.
-use crate::tests::{A, device_with, equal, put, whole};
-use cbfs_walk::{HashState, check_hash, find};
+use crate::tests::{A, device_with, equal, found, put};
+use cbfs_walk::{HashState, check_hash};
 use flash_format::Digest;
-use flash_store::{FailAt, FlashFault, MemFlash, Paged};
+use flash_store::{FailAt, Flash, FlashFault, MemFlash, Paged};
 use std::alloc::{AllocError, Global};
 use std::process::Abort;
 use std::test::Fail;
@@ -54,13 +54,16 @@ fn device_of(
     Ok(MemFlash::new(bytes)?)
 }
 
+/// What a check of the component of this name tells.
+fn state_of<F: Flash>(paged: &mut Paged<F>, name: &[u8]) -> Result<HashState, Fail> {
+    let (region, cell) = found(paged, name)?;
+    Ok(check_hash(paged, region, &cell)?)
+}
+
 /// The component of this name on a device has this state.
 fn has_state(rt: &impl Abort, device: MemFlash, name: &[u8], want: HashState) -> Result<(), Fail> {
     let mut paged = Paged::new(device);
-    let region = whole(&paged).ok_or("no region")?;
-    let found = find(&mut paged, region, name).ok().ok_or("a fault")?;
-    let cell = found.ok_or("no component")?;
-    equal(rt, &check_hash(&mut paged, region, &cell)?, &want);
+    equal(rt, &state_of(&mut paged, name)?, &want);
     Ok(())
 }
 
@@ -100,9 +103,11 @@ fn other_attributes_are_told(rt: HostRuntime) -> Result<(), Fail> {
 
 /// So many bytes, which count from 0 to 250 again and again.
 fn content_of(alloc: Global, len: usize) -> Result<Vec<u8>, AllocError> {
-    let mut bytes = Vec::from_elem(alloc, 0u8, len)?;
-    for (i, byte) in bytes.iter_mut().enumerate() {
-        *byte = (i % 251) as u8;
+    let mut bytes = Vec::from_elem(alloc, 0, len)?;
+    let mut next: u8 = 0;
+    for byte in bytes.iter_mut() {
+        *byte = next;
+        next = next.wrapping_add(1) % 251;
     }
     Ok(bytes)
 }
@@ -191,9 +196,7 @@ fn fails_after(
 ) -> Result<(), Fail> {
     let content = content_of(rt.alloc(), 4097)?;
     let mut paged = Paged::new(device_of(rt, &SHA256, &COUNT_256_4097, &content)?);
-    let region = whole(&paged).ok_or("no region")?;
-    let found = find(&mut paged, region, b"h").ok().ok_or("a fault")?;
-    let cell = found.ok_or("no component")?;
+    let (region, cell) = found(&mut paged, b"h")?;
     let mut paged = Paged::new(FailAt::new(paged.into_flash(), calls, 0));
     assert!(rt; region.start() + region.size() <= paged.len());
     equal(rt, &check_hash(&mut paged, region, &cell), &want);

@@ -1,5 +1,7 @@
 //! Regions written out as bytes, a device that lies, and one that fails at each call in turn.
-ghost use Rattle.std.specs.Prelude.{◌≡◌, IfSome};
+ghost use Rattle.std.specs.Prelude.{◌≡◌, false, IfOk, IfSome};
+ghost use Rattle.flash_format.specs.Head.{is_free};
+ghost use Rattle.cbfs_walk.specs.Cells.{IsCellIn};
 ghost use Rattle.flash_store.specs.Regions.{LiesIn};
 
 use cbfs_walk::{
@@ -256,19 +258,49 @@ fn the_first_component_of_a_name_is_found(rt: HostRuntime) -> Result<(), Fail> {
     Ok(())
 }
 
+/// The whole of a device, and the component of this name there.
+pub fn found<F: Flash>(paged: &mut Paged<F>, name: &[u8]) -> Result<(Region, Cell), Fail>
+    ensures region { IfOk result (λ (region, cell). LiesIn region (F.facts paged.new.device).content) }
+    ensures cell { IfOk result (λ (region, cell). IsCellIn region.size cell) }
+    ensures component { IfOk result (λ (_, cell). is_free cell.head ≡ false) }
+{
+    let region = whole(paged).ok_or("no region")?;
+    match find(paged, region, name) {
+        Ok(Some(cell)) => Ok((region, cell)),
+        Ok(None) => Err("no component")?,
+        Err(_) => Err("a fault")?,
+    }
+}
+
+/// The component `p` has its name.
+fn has_its_name<F: Flash>(rt: &impl Abort, paged: &mut Paged<F>) -> Result<(), Fail> {
+    let (region, cell) = found(paged, b"p")?;
+    let mut text = [0; 256];
+    equal(rt, &name(paged, region, &cell, &mut text)?, &1);
+    equal(rt, &text[0], &b'p');
+    equal(rt, &name_is(paged, region, &cell, b"p")?, &true);
+    equal(rt, &is_component(paged, region, &cell, b"p")?, &true);
+    Ok(())
+}
+
 #[test]
 fn a_name_is_read(rt: HostRuntime) -> Result<(), Fail> {
     let parts: Parts = &[(0, &PACKED), (128, &NULL_340)];
     let mut paged = Paged::new(device_with(rt.alloc(), 512, parts)?);
-    let region = whole(&paged).ok_or("no region")?;
-    let found = find(&mut paged, region, b"p").ok().ok_or("a fault")?;
-    let cell = found.ok_or("no component")?;
-    let mut text = [0; 256];
-    equal(&rt, &name(&mut paged, region, &cell, &mut text)?, &1);
-    equal(&rt, &text[0], &b'p');
-    equal(&rt, &name_is(&mut paged, region, &cell, b"p")?, &true);
-    equal(&rt, &is_component(&mut paged, region, &cell, b"p")?, &true);
-    Ok(())
+    has_its_name(&rt, &mut paged)
+}
+
+fn packing_of<F: Flash>(paged: &mut Paged<F>) -> Result<u32, Fail> {
+    let (region, cell) = found(paged, b"p")?;
+    Ok(packing(paged, region, &cell)?)
+}
+
+/// The heads of the first two attributes of the component `p`.
+fn heads_of<F: Flash>(paged: &mut Paged<F>) -> Result<[Option<AttrHead>; 2], Fail> {
+    let (region, cell) = found(paged, b"p")?;
+    let mut list = attributes(&cell);
+    let first = list.next(paged, region)?;
+    Ok([first, list.next(paged, region)?])
 }
 
 /// The component `p` has this value of compression, and one attribute, of this tag.
@@ -280,14 +312,9 @@ fn has_attribute(
 ) -> Result<(), Fail> {
     let parts: Parts = &[(0, component), (128, &NULL_340)];
     let mut paged = Paged::new(device_with(rt.alloc(), 512, parts)?);
-    let region = whole(&paged).ok_or("no region")?;
-    let found = find(&mut paged, region, b"p").ok().ok_or("a fault")?;
-    let cell = found.ok_or("no component")?;
-    equal(rt, &packing(&mut paged, region, &cell)?, &value);
-    let mut list = attributes(&cell);
-    let first = list.next(&mut paged, region)?;
-    equal(rt, &first, &Some(AttrHead { tag, len: 16 }));
-    equal(rt, &list.next(&mut paged, region)?, &None);
+    equal(rt, &packing_of(&mut paged)?, &value);
+    let only = [Some(AttrHead { tag, len: 16 }), None];
+    equal(rt, &heads_of(&mut paged)?, &only);
     Ok(())
 }
 
@@ -414,6 +441,14 @@ fn a_walk_goes_on_after_each_fault(rt: HostRuntime) -> Result<(), Fail> {
     Ok(())
 }
 
+/// Where a component stands that was found.
+fn place_of(found: Result<Option<Cell>, WalkFault>) -> Result<Option<u64>, WalkFault> {
+    match found? {
+        Some(cell) => Ok(Some(cell.at)),
+        None => Ok(None),
+    }
+}
+
 /// A search of a device whose calls after the first few fail answers this.
 fn searches(
     rt: &(impl Abort + AllocGlobal),
@@ -424,8 +459,7 @@ fn searches(
     let device = device_with(rt.alloc(), 4544, LONGER)?;
     let mut paged = Paged::new(FailAt::new(device, calls, 0));
     let region = whole(&paged).ok_or("no region")?;
-    let found = find(&mut paged, region, name);
-    equal(rt, &found.map(|cell| cell.map(|cell| cell.at)), &want);
+    equal(rt, &place_of(find(&mut paged, region, name)), &want);
     Ok(())
 }
 

@@ -55,7 +55,7 @@ pub fn image_of(alloc: Global, parts: Parts) -> Result<Vec<u8>, AllocError> {
 }
 
 pub fn device_of(alloc: Global, parts: Parts) -> Result<Paged<MemFlash>, Fail> {
-    let device = MemFlash::new(image_of(alloc, parts)?).map_err(|_| "too large")?;
+    let device = MemFlash::new(image_of(alloc, parts)?)?;
     Ok(Paged::new(device))
 }
 

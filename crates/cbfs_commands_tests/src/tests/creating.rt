@@ -86,7 +86,7 @@ fn what_is_refused_leaves_the_image(rt: HostRuntime) -> Result<(), Fail> {
 #[test]
 fn a_flashmap_of_another_size(rt: HostRuntime) -> Result<(), Fail> {
     let bytes = Vec::from_elem(rt.alloc(), 7, 8192)?;
-    let device = MemFlash::new(bytes).map_err(|_| "too large")?;
+    let device = MemFlash::new(bytes)?;
     let mut paged = Paged::new(device);
     let refused = Err(Refusal::TableBad);
     adds(&rt, &mut paged, &creation(&[COREBOOT]), &MAP, refused);
@@ -169,7 +169,7 @@ fn stops<F: Flash, S: Source>(
 
 /// The device of an empty image.
 fn empty(alloc: Global) -> Result<MemFlash, Fail> {
-    Ok(device_of(alloc, EMPTY)?.into_flash())
+    Ok(MemFlash::new(image_of(alloc, EMPTY)?)?)
 }
 
 #[test]
@@ -211,7 +211,7 @@ fn make(
     table: &str,
 ) -> Result<(), Fail> {
     let mut source = FileSource::open(rt, table)?;
-    let size = create_size(&mut source).map_err(|_| "no size")?;
+    let size = create_size(&mut source)?;
     let mut paged = Paged::new(FileFlash::create(rt, image, size)?);
     tells(rt, &mut paged, &creation(&[COREBOOT]), &mut source, b"");
     Ok(())

@@ -15,7 +15,7 @@ use std::test::Fail;
 const SHOWN_A: &[u8] = b"a\t0x0\traw\t10\tnone\n";
 
 fn device_of(image: Vec<u8>) -> Result<Paged<MemFlash>, Fail> {
-    Ok(Paged::new(MemFlash::new(image).map_err(|_| "too large")?))
+    Ok(Paged::new(MemFlash::new(image)?))
 }
 
 /// A command on the image writes this text.

@@ -5,7 +5,7 @@ use super::{COREBOOT, MAP, put};
 use cbfs_commands::Command;
 use cbfs_edit::HashChoice;
 use flash_store::{MemFlash, Paged};
-use std::alloc::Global;
+use std::alloc::{AllocError, Global};
 use std::test::Fail;
 
 const VERBOSE: Command<'static> = Command::Print {
@@ -13,18 +13,23 @@ const VERBOSE: Command<'static> = Command::Print {
     verbose: true,
 };
 
-/// The same image with another byte at a place.
+/// A copy of an image with another byte at a place.
+fn copied(alloc: Global, bytes: &[u8], at: usize, byte: u8) -> Result<Vec<u8>, AllocError> {
+    let mut image = Vec::from_elem(alloc, 0, 4096)?;
+    put(&mut image, 0, bytes);
+    put(&mut image, at, &[byte]);
+    Ok(image)
+}
+
+/// A device with the same image but for a byte at a place.
 fn changed(
     alloc: Global,
     paged: &Paged<MemFlash>,
     at: usize,
     byte: u8,
 ) -> Result<Paged<MemFlash>, Fail> {
-    let mut image = Vec::from_elem(alloc, 0, 4096)?;
-    put(&mut image, 0, paged.flash().bytes());
-    put(&mut image, at, &[byte]);
-    let device = MemFlash::new(image).map_err(|_| "too large")?;
-    Ok(Paged::new(device))
+    let image = copied(alloc, paged.flash().bytes(), at, byte)?;
+    Ok(Paged::new(MemFlash::new(image)?))
 }
 
 #[test]
