@@ -44,3 +44,6 @@ returns-in-Create-clause-outcome g c = λ h honest.
 
 pub returns-in-Create-clause-spares : goal.returns-in-Create-clause-spares
 returns-in-Create-clause-spares g c = λ h. rw c.in-Create.is (whole-image _ _ c.create.ensures.after.calls.same_length)
+
+pub returns-in-Layout-clause-source_calls : goal.returns-in-Layout-clause-source_calls
+returns-in-Layout-clause-source_calls g c = search rules
