@@ -1,14 +1,9 @@
 //! Lists and changes the regions of a flash image and makes new ones, as coreboot's cbfstool does.
 #![tactic(auto)]
 
-mod line;
-#[cfg(test)]
-mod tests;
-mod words;
-
 pub use cbfs_commands::{Command, Refusal, create_size, run};
+pub use cbfs_line::{Line, read_line};
 use flash_store::{FileFlash, FileSource, MemSource, OpenFault, Paged, Source, WriteSink};
-pub use line::{Line, read_line};
 use std::env;
 use std::fs::File;
 use std::io::{self, BufWriter, ErrorKind, Write};

@@ -1,0 +1,24 @@
+-- What clap's command is with the options and the subcommands of a table.
+use Rattle.std.specs.Prelude.{ℕ, List, [], ◌∷◌}
+use Rattle.std.specs.Borrow.{Bor}
+use Rattle.clap.specs.Words.{App, Rule, new_app, with_rule, with_subcommand}
+use Rattle.cbfs_line.specs.CommandLine.{rule_of}
+use Rattle.cbfs_line.specs.declared.words.TableOption.{TableOption}
+
+abbrev pub rule_by : TableOption → Rule
+rule_by o = rule_of o.id.now o.letter o.action o.required
+
+abbrev pub with_options : App → List TableOption → App
+with_options a [] = a
+with_options a (o ∷ os) = with_options (with_rule a (rule_by o)) os
+
+-- a subcommand's name and its options
+abbrev pub TableRow : Type 0
+TableRow = Bor (List ℕ) × Bor (List TableOption)
+
+abbrev pub with_row : App → TableRow → App
+with_row a row = with_subcommand a (with_options (new_app row.0.now) row.1.now).top
+
+abbrev pub with_rows : App → List TableRow → App
+with_rows a [] = a
+with_rows a (row ∷ rows) = with_rows (with_row a row) rows

@@ -1,0 +1,7 @@
+//! The command line of cbfstool: IMAGE, a subcommand and its options, as clap reads them, and the command that they ask for.
+#![tactic(auto)]
+
+mod line;
+mod words;
+
+pub use line::{Line, read_line};

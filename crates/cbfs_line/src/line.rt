@@ -1,0 +1,238 @@
+//! The command line: IMAGE, a subcommand, and its options.
+
+ghost use Rattle.std.specs.Prelude.{◌≡◌, ◌≢◌, ◌<◌, ◌⊎◌, [], ◌∷◌, length, Some, IfSome, IfOk, IfErr, codes, drop, map, option_map, true};
+ghost use Rattle.clap.specs.Words.{fault_of, has_subcommand, kind_of, subcommand_rows_of};
+ghost use Rattle.cbfs_line.specs.CommandLine.{addition, command_line, command_of, creation_of, hash_by, kind_by, names_in, names_of, refusal_by, seen, spot_by, text_of, texts_of, verbose_by, with_image};
+
+use crate::words::whole_command;
+use arrayvec::ArrayVec;
+use cbfs_commands::{Command, MOST_REGIONS, Refusal};
+use cbfs_edit::{HashChoice, Spot};
+use clap::error::ErrorKind;
+use clap::{ArgMatches, Error};
+use flash_format::{read_number, type_number};
+use std::alloc::Global;
+use std::marker::Model;
+
+/// The region that a command names without `-r`, and the one that a new image gets.
+const DEFAULT_REGION: &str = "COREBOOT";
+
+/// A command line that was read: the image's path, the subcommand and its options.
+#[derive(Drop)]
+pub struct Line<'a> {
+    image: &'a str,
+    subcommand: &'a str,
+    options: ArgMatches<'a>,
+}
+
+impl<'a> Model for Line<'a> {
+    ghost use Rattle.clap.specs.Words.{found_of, rows_of};
+    ghost use Rattle.cbfs_line.specs.CommandLine.{Texts};
+
+    ghost Value = { Texts };
+
+    ghost view = { λ l. record {
+      image = l.image.now;
+      subcommand = l.subcommand.now;
+      options = rows_of (found_of l.options);
+    } };
+}
+
+impl<'a> Line<'a> {
+    /// The path of the image: the first word.
+    pub fn image(&self) -> &'a str
+        ensures { result.now ≡ self.now.image }
+    {
+        self.image
+    }
+
+    /// The path that `-f` gives, or for `create` `-M`.
+    pub fn file(&self) -> Option<&'a str>
+        ensures { option_map (λ t. t.now) result ≡ text_of (codes "file") self.now }
+    {
+        self.option("file")
+    }
+
+    /// The text of an option.
+    fn option(&self, id: &str) -> Option<&'a str>
+        ensures { option_map (λ t. t.now) result ≡ text_of id.now self.now }
+    {
+        self.options.get_str(id)
+    }
+
+    /// The command that the words ask for. Refused as a bad command line where the subcommand is none of
+    /// ours, or where an option that it requires is missing.
+    pub fn command(&self) -> Result<Command<'a>, Refusal>
+        ensures { seen result ≡ command_of self.now }
+    {
+        let regions = self.option("region").unwrap_or(DEFAULT_REGION);
+        let region = regions.as_bytes();
+        match self.subcommand {
+            "print" => Ok(Command::Print {
+                region,
+                verbose: self.verbose(),
+            }),
+            "layout" => Ok(Command::Layout),
+            "extract" => match (self.option("name"), self.file()) {
+                (Some(name), Some(_)) => Ok(Command::Extract {
+                    region,
+                    name: name.as_bytes(),
+                }),
+                _ => Err(Refusal::Usage),
+            },
+            "add" => self.addition(region),
+            "remove" => match self.option("name") {
+                Some(name) => Ok(Command::Remove {
+                    region,
+                    name: name.as_bytes(),
+                }),
+                None => Err(Refusal::Usage),
+            },
+            "read" if self.file().is_some() => Ok(Command::Read { region }),
+            "write" if self.file().is_some() => Ok(Command::Write { region }),
+            "create" if self.file().is_some() => creation(regions),
+            _ => Err(Refusal::Usage),
+        }
+    }
+
+    /// The addition that the words ask for.
+    fn addition(&self, region: &'a [u8]) -> Result<Command<'a>, Refusal>
+        ensures { seen result ≡ addition region.entry.now (text_of (codes "name") self.now)
+            (text_of (codes "file") self.now) (kind_by (text_of (codes "type") self.now))
+            (hash_by (text_of (codes "hash") self.now))
+            (spot_by (text_of (codes "alignment") self.now) (text_of (codes "base") self.now)) }
+    {
+        let (Some(name), Some(_)) = (self.option("name"), self.file()) else {
+            return Err(Refusal::Usage);
+        };
+        match (self.kind(), self.hash(), self.spot()) {
+            (Some(kind), Some(hash), Some(spot)) => Ok(Command::Add {
+                region,
+                name: name.as_bytes(),
+                kind,
+                hash,
+                spot,
+            }),
+            _ => Err(Refusal::Usage),
+        }
+    }
+
+    /// Whether `-v` stands there.
+    fn verbose(&self) -> bool
+        ensures { result ≡ verbose_by (text_of (codes "verbose") self.now) }
+    {
+        match self.option("verbose") {
+            Some(text) => text == "true",
+            None => false,
+        }
+    }
+
+    /// The type that `-t` gives.
+    fn kind(&self) -> Option<u32>
+        ensures { result ≡ kind_by (text_of (codes "type") self.now) }
+    {
+        match self.option("type") {
+            Some(text) => type_number(text),
+            None => None,
+        }
+    }
+
+    /// The digest that `-A` asks for.
+    fn hash(&self) -> Option<HashChoice>
+        ensures { result ≡ hash_by (text_of (codes "hash") self.now) }
+    {
+        match self.option("hash") {
+            None => Some(HashChoice::Plain),
+            Some("sha256") => Some(HashChoice::Sha256),
+            Some("sha512") => Some(HashChoice::Sha512),
+            Some(_) => None,
+        }
+    }
+
+    /// Where the content of a new component shall begin.
+    fn spot(&self) -> Option<Spot>
+        ensures { result ≡ spot_by (text_of (codes "alignment") self.now) (text_of (codes "base") self.now) }
+    {
+        match (self.option("alignment"), self.option("base")) {
+            (None, None) => Some(Spot::First),
+            (Some(text), None) => read_number(text).map(Spot::Aligned),
+            (None, Some(text)) => read_number(text).map(Spot::Fixed),
+            (Some(_), Some(_)) => None,
+        }
+    }
+}
+
+/// The creation of an image with the regions of a list. Refused as a bad command line where a name is empty, or where there
+/// are more than 16.
+fn creation<'a>(list: &'a str) -> Result<Command<'a>, Refusal>
+    ensures { seen result ≡ creation_of (names_in list.entry.now) }
+{
+    let mut regions: ArrayVec<&[u8], MOST_REGIONS> = ArrayVec::new();
+    let mut rest = Some(list);
+    while let Some(names) = rest {
+        let (name, others) = first_name(names);
+        if name.is_empty() || regions.is_full() {
+            return Err(Refusal::Usage);
+        }
+        regions.push(name.as_bytes());
+        rest = others;
+    }
+    Ok(Command::Create { regions })
+}
+
+/// What stands before the first comma, and what stands after it where there is one.
+fn first_name<'a>(list: &'a str) -> (&'a str, Option<&'a str>)
+    ensures names { names_in list.entry.now ≡ result.0.now ∷ names_of result.1 }
+    ensures shorter { IfSome result.1 (λ rest. length rest.now < length list.entry.now) }
+{
+    match list.split_once(',') {
+        Some((name, rest)) => (name, Some(rest)),
+        None => (list, None),
+    }
+}
+
+/// The refusal of words that clap doesn't take.
+fn refusal_of(error: Error) -> Refusal
+    ensures { result ≡ refusal_by (kind_of error) }
+{
+    match error.kind() {
+        ErrorKind::OutOfMemory => Refusal::Memory,
+        _ => Refusal::Usage,
+    }
+}
+
+/// The line of these matches, which have a subcommand.
+fn line_of<'a>(image: &'a str, mut matches: ArgMatches<'a>) -> Line<'a>
+    requires { has_subcommand matches ≡ true }
+    ensures { Some result ≡ option_map (with_image image.entry.now) (subcommand_rows_of matches.entry) }
+{
+    let (subcommand, options) = matches.remove_subcommand().unwrap();
+    Line {
+        image,
+        subcommand,
+        options,
+    }
+}
+
+/// Reads the words after the program's name: IMAGE, and a command line in which clap finds no fault. Refused as a
+/// bad command line without any word, and where clap finds one, which a wish for its help is too; and for want of
+/// memory.
+pub fn read_line<'a>(alloc: Global, words: &'a [&'a str]) -> Result<Line<'a>, Refusal>
+    ensures line { IfOk result (λ line. Some line ≡ texts_of (map (λ w. w.now) words.entry.now)) }
+    ensures refusals { IfErr result (λ refusal. (refusal ≡ Refusal.Usage) ⊎ (refusal ≡ Refusal.Memory)) }
+    ensures wordless { words.entry.now ≡ [] → IfErr result (λ refusal. refusal ≡ Refusal.Usage) }
+    ensures faultless { IfOk result (λ _. fault_of command_line (map (λ w. w.now) (drop 1 words.entry.now)) ≡ []) }
+    ensures usage { words.entry.now ≢ [] → fault_of command_line (map (λ w. w.now) (drop 1 words.entry.now)) ≡ [] →
+        IfErr result (λ refusal. refusal ≡ Refusal.Memory) }
+{
+    let Some((image, rest)) = words.split_first() else {
+        return Err(Refusal::Usage);
+    };
+    let Ok(command) = whole_command(alloc) else {
+        return Err(Refusal::Memory);
+    };
+    match command.try_get_matches_from(rest) {
+        Ok(matches) => Ok(line_of(image, matches)),
+        Err(error) => Err(refusal_of(error)),
+    }
+}

@@ -1,0 +1,169 @@
+//! The command line that clap reads: one level of subcommands with their options.
+
+ghost use Rattle.std.specs.Prelude.{◌≡◌, IfOk, true, false};
+ghost use Rattle.clap.specs.Words.{app_of, with_rule};
+ghost use Rattle.clap.specs.declared.builder.command.Command.TheViews.{out-Command as fields_of};
+ghost use Rattle.cbfs_line.specs.CommandLine.{command_line};
+ghost use Rattle.cbfs_line.specs.Table.{rule_by, with_options, with_row, with_rows};
+
+use clap::{Arg, ArgAction, Command};
+use std::alloc::{AllocError, Global};
+
+/// An option of one letter, with a text or, by its action, without.
+#[derive(Clone, Copy)]
+struct TableOption {
+    id: &'static str,
+    letter: char,
+    action: ArgAction,
+    required: bool,
+}
+
+const REGION: TableOption = TableOption {
+    id: "region",
+    letter: 'r',
+    action: ArgAction::Set,
+    required: false,
+};
+
+const FILE: TableOption = TableOption {
+    id: "file",
+    letter: 'f',
+    action: ArgAction::Set,
+    required: true,
+};
+
+/// The flashmap of a new image.
+const MAP: TableOption = TableOption {
+    id: "file",
+    letter: 'M',
+    action: ArgAction::Set,
+    required: true,
+};
+
+const NAME: TableOption = TableOption {
+    id: "name",
+    letter: 'n',
+    action: ArgAction::Set,
+    required: true,
+};
+
+const TYPE: TableOption = TableOption {
+    id: "type",
+    letter: 't',
+    action: ArgAction::Set,
+    required: true,
+};
+
+const ALIGNMENT: TableOption = TableOption {
+    id: "alignment",
+    letter: 'a',
+    action: ArgAction::Set,
+    required: false,
+};
+
+const BASE: TableOption = TableOption {
+    id: "base",
+    letter: 'b',
+    action: ArgAction::Set,
+    required: false,
+};
+
+const HASH: TableOption = TableOption {
+    id: "hash",
+    letter: 'A',
+    action: ArgAction::Set,
+    required: false,
+};
+
+const VERBOSE: TableOption = TableOption {
+    id: "verbose",
+    letter: 'v',
+    action: ArgAction::SetTrue,
+    required: false,
+};
+
+/// A subcommand's name and its options.
+type TableRow = (&'static str, &'static [TableOption]);
+
+const SUBCOMMANDS: [TableRow; 8] = [
+    ("print", &[REGION, VERBOSE]),
+    ("layout", &[]),
+    ("extract", &[REGION, FILE, NAME]),
+    ("add", &[REGION, NAME, FILE, TYPE, ALIGNMENT, BASE, HASH]),
+    ("remove", &[REGION, NAME]),
+    ("read", &[REGION, FILE]),
+    ("write", &[REGION, FILE]),
+    ("create", &[MAP, REGION]),
+];
+
+/// The command with one more option of its own.
+fn with_option<'a>(
+    alloc: Global,
+    command: Command<'a>,
+    option: TableOption,
+) -> Result<Command<'a>, AllocError>
+    requires local { (fields_of command).has_globals ≡ false }
+    ensures local { IfOk result (λ c. (fields_of c).has_globals ≡ false) }
+    ensures shape { IfOk result (λ c. app_of c ≡ with_rule (app_of command.entry) (rule_by option)) }
+{
+    let arg = Arg::new(alloc, option.id).short(option.letter);
+    command.arg(arg.action(option.action).required(option.required))
+}
+
+/// The command with these options of its own.
+fn with_options<'a>(
+    alloc: Global,
+    mut command: Command<'a>,
+    mut options: &[TableOption],
+) -> Result<Command<'a>, AllocError>
+    requires local { (fields_of command).has_globals ≡ false }
+    ensures local { IfOk result (λ c. (fields_of c).has_globals ≡ false) }
+    ensures shape { IfOk result (λ c. app_of c ≡ with_options (app_of command.entry) options.entry.now) }
+{
+    while let [option, rest @ ..] = options {
+        command = with_option(alloc, command, *option)?;
+        options = rest;
+    }
+    Ok(command)
+}
+
+/// The command with the subcommand of one more row.
+fn with_row<'a>(
+    alloc: Global,
+    command: Command<'a>,
+    row: TableRow,
+) -> Result<Command<'a>, AllocError>
+    requires local { (fields_of command).has_globals ≡ false }
+    ensures local { IfOk result (λ c. (fields_of c).has_globals ≡ false) }
+    ensures shape { IfOk result (λ c. app_of c ≡ with_row (app_of command.entry) row.entry) }
+{
+    let subcommand = with_options(alloc, Command::new(alloc, row.0), row.1)?;
+    command.subcommand(subcommand)
+}
+
+/// The command with the subcommands of these rows.
+fn with_rows<'a>(
+    alloc: Global,
+    mut command: Command<'a>,
+    mut rows: &[TableRow],
+) -> Result<Command<'a>, AllocError>
+    requires local { (fields_of command).has_globals ≡ false }
+    ensures local { IfOk result (λ c. (fields_of c).has_globals ≡ false) }
+    ensures shape { IfOk result (λ c. app_of c ≡ with_rows (app_of command.entry) rows.entry.now) }
+{
+    while let [row, rest @ ..] = rows {
+        command = with_row(alloc, command, *row)?;
+        rows = rest;
+    }
+    Ok(command)
+}
+
+/// The words after IMAGE: a subcommand, which has to be there, and its options.
+pub fn whole_command<'a>(alloc: Global) -> Result<Command<'a>, AllocError>
+    ensures local { IfOk result (λ c. (fields_of c).has_globals ≡ false) }
+    ensures needs { IfOk result (λ c. (fields_of c).subcommand_required ≡ true) }
+    ensures shape { IfOk result (λ c. app_of c ≡ command_line) }
+{
+    let command = Command::new(alloc, "cbfstool").no_binary_name(true);
+    with_rows(alloc, command.subcommand_required(true), &SUBCOMMANDS)
+}
