@@ -44,25 +44,35 @@ const READ: Command<'static> = Command::Read { region: COREBOOT };
 
 const WRITE: Command<'static> = Command::Write { region: COREBOOT };
 
+/// What stands where in an image, and 0xff elsewhere.
+type Parts<'a> = &'a [(usize, &'a [u8])];
+
+/// An image with the component and free space in the region.
+const SMALL: Parts = &[(0, &MAP), (0x200, &A), (0x240, &FREE)];
+
+/// The small image with other bytes as the region.
+const WRITTEN: Parts = &[(0, &MAP), (0x200, &[7; 512])];
+
 const SHOWN: &[u8] = b"a\t0x0\traw\t10\tnone\n(empty)\t0x40\tnull\t404\tnone\n";
 
+/// Puts a part to its place, where it has room.
 fn put(bytes: &mut [u8], at: usize, part: &[u8]) {
-    for (to, from) in bytes.iter_mut().skip(at).zip(part) {
-        *to = *from;
+    if at <= bytes.len() && part.len() <= bytes.len() - at {
+        bytes[at..at + part.len()].copy_from_slice(part);
     }
 }
 
-/// An image with the component and free space in the region.
-fn small_image(alloc: Global) -> Result<Vec<u8>, AllocError> {
+fn image_of(alloc: Global, parts: Parts) -> Result<Vec<u8>, AllocError> {
     let mut image = Vec::from_elem(alloc, 0xff, 4096)?;
-    put(&mut image, 0, &MAP);
-    put(&mut image, 0x200, &A);
-    put(&mut image, 0x240, &FREE);
+    for (at, part) in parts {
+        put(&mut image, *at, part);
+    }
     Ok(image)
 }
 
-fn device(alloc: Global) -> Result<MemFlash, Fail> {
-    Ok(MemFlash::new(small_image(alloc)?)?)
+fn device_of(alloc: Global, parts: Parts) -> Result<Paged<MemFlash>, Fail> {
+    let device = MemFlash::new(image_of(alloc, parts)?)?;
+    Ok(Paged::new(device))
 }
 
 /// Two values are equal. A call of this is proved sooner than an assertion in place.
@@ -124,97 +134,108 @@ fn more_refusals_are_told_by_their_texts(rt: HostRuntime) -> Result<(), Fail> {
     told(&rt, Refusal::TooLarge, "image too large")
 }
 
-/// Runs a command, whose output is kept.
-fn run_into<F: Flash, S: Source>(
+/// A command is answered so, and writes this.
+fn runs<F: Flash, S: Source>(
     rt: &(impl Abort + AllocGlobal),
     paged: &mut Paged<F>,
     command: &Command,
     source: &mut S,
     answer: Result<(), Refusal>,
-) -> Vec<u8> {
+    text: &[u8],
+) {
     let mut out = WriteSink::new(Vec::new(rt.alloc()));
     let answered = run(paged, command, source, &mut out);
     equal(rt, &answered, &answer);
-    out.into_inner()
+    same_bytes(rt, &out.into_inner(), text);
 }
 
-/// A command writes this of the small image, and leaves the image as it was.
-fn shows(
+/// A command with this content as its source is answered so, and writes nothing.
+fn answers(
     rt: &(impl Abort + AllocGlobal),
+    paged: &mut Paged<MemFlash>,
+    command: &Command,
+    content: &[u8],
+    answer: Result<(), Refusal>,
+) {
+    assert!(rt; content.len() < 4096);
+    runs(
+        rt,
+        paged,
+        command,
+        &mut MemSource::new(content),
+        answer,
+        b"",
+    );
+}
+
+/// A command without a source is done, and writes this.
+fn writes(
+    rt: &(impl Abort + AllocGlobal),
+    paged: &mut Paged<MemFlash>,
     command: &Command,
     text: &[u8],
-    answer: Result<(), Refusal>,
-) -> Result<(), Fail> {
-    let mut paged = Paged::new(device(rt.alloc())?);
-    let mut none = MemSource::new(&[]);
-    let written = run_into(rt, &mut paged, command, &mut none, answer);
-    same_bytes(rt, &written, text);
-    same_bytes(rt, paged.flash().bytes(), &small_image(rt.alloc())?);
-    Ok(())
+) {
+    runs(rt, paged, command, &mut MemSource::new(&[]), Ok(()), text);
+}
+
+/// These bytes stand in the image at this place.
+fn holds(rt: &impl Abort, paged: &Paged<MemFlash>, at: usize, wanted: &[u8]) {
+    let rest = paged.flash().bytes().get(at..).unwrap_or(&[]);
+    same_bytes(rt, rest.get(..wanted.len()).unwrap_or(&[]), wanted);
 }
 
 #[test]
 fn each_reading_command(rt: HostRuntime) -> Result<(), Fail> {
-    shows(&rt, &PRINT, SHOWN, Ok(()))?;
+    let mut paged = device_of(rt.alloc(), SMALL)?;
+    writes(&rt, &mut paged, &PRINT, SHOWN);
     let map =
         b"fmap\t0x0\tFLASH\t4096\t3\nFMAP\t0x0\t512\t0x0\nCOREBOOT\t0x200\t512\t0x0\nREST\t0x400\t3072\t0x0\n";
-    shows(&rt, &Command::Layout, map, Ok(()))?;
+    writes(&rt, &mut paged, &Command::Layout, map);
     let extract = Command::Extract {
         region: COREBOOT,
         name: b"a",
     };
-    shows(&rt, &extract, b"0123456789", Ok(()))
-}
-
-/// Writes these bytes as the region, and reads them.
-fn write_and_read(rt: &(impl Abort + AllocGlobal), paged: &mut Paged<MemFlash>, bytes: &[u8; 512]) {
-    let mut source = MemSource::new(bytes);
-    let none = run_into(rt, paged, &WRITE, &mut source, Ok(()));
-    equal(rt, &none.len(), &0);
-    let read = run_into(rt, paged, &READ, &mut source, Ok(()));
-    same_bytes(rt, &read, bytes);
+    writes(&rt, &mut paged, &extract, b"0123456789");
+    holds(&rt, &paged, 0, &image_of(rt.alloc(), SMALL)?);
+    Ok(())
 }
 
 #[test]
 fn a_region_is_written_and_read(rt: HostRuntime) -> Result<(), Fail> {
-    let mut paged = Paged::new(device(rt.alloc())?);
-    write_and_read(&rt, &mut paged, &[7; 512]);
-    let mut wanted = small_image(rt.alloc())?;
-    put(&mut wanted, 0x200, &[7; 512]);
-    same_bytes(&rt, paged.flash().bytes(), &wanted);
+    let mut paged = device_of(rt.alloc(), SMALL)?;
+    answers(&rt, &mut paged, &WRITE, &[7; 512], Ok(()));
+    writes(&rt, &mut paged, &READ, &[7; 512]);
+    holds(&rt, &paged, 0, &image_of(rt.alloc(), WRITTEN)?);
     Ok(())
 }
 
 #[test]
 fn a_component_is_removed(rt: HostRuntime) -> Result<(), Fail> {
-    let mut paged = Paged::new(device(rt.alloc())?);
+    let mut paged = device_of(rt.alloc(), SMALL)?;
     let remove = Command::Remove {
         region: COREBOOT,
         name: b"a",
     };
-    let mut none = MemSource::new(&[]);
-    let written = run_into(&rt, &mut paged, &remove, &mut none, Ok(()));
-    equal(&rt, &written.len(), &0);
-    let shown = run_into(&rt, &mut paged, &PRINT, &mut none, Ok(()));
-    same_bytes(&rt, &shown, b"(empty)\t0x0\tnull\t480\tnone\n");
+    answers(&rt, &mut paged, &remove, b"", Ok(()));
+    writes(&rt, &mut paged, &PRINT, b"(empty)\t0x0\tnull\t480\tnone\n");
     let fault = Err(Refusal::NotFound);
-    let _none = run_into(&rt, &mut paged, &remove, &mut none, fault);
+    answers(&rt, &mut paged, &remove, b"", fault);
     Ok(())
 }
 
 #[test]
-fn a_device_that_fails(rt: HostRuntime) -> Result<(), Fail> {
-    let mut paged = Paged::new(FailAt::new(device(rt.alloc())?, 1, 0));
-    let mut none = MemSource::new(&[]);
+fn a_device_that_fails_as_it_is_read(rt: HostRuntime) -> Result<(), Fail> {
+    let device = device_of(rt.alloc(), SMALL)?.into_flash();
+    let mut paged = Paged::new(FailAt::new(device, 0, 0));
     let fault = Err(Refusal::Device);
-    let _written = run_into(
+    runs(
         &rt,
         &mut paged,
-        &WRITE,
-        &mut MemSource::new(&[7; 512]),
+        &PRINT,
+        &mut MemSource::new(&[]),
         fault,
+        b"",
     );
-    let _written = run_into(&rt, &mut paged, &PRINT, &mut none, fault);
     Ok(())
 }
 
@@ -252,31 +273,36 @@ fn change(
 ) -> Result<(), Fail> {
     let mut paged = Paged::new(FileFlash::open(rt, image)?);
     let mut source = FileSource::open(rt, content)?;
-    let shown = run_into(rt, &mut paged, &PRINT, &mut source, Ok(()));
-    same_bytes(rt, &shown, SHOWN);
-    let _none = run_into(rt, &mut paged, &WRITE, &mut source, Ok(()));
+    runs(rt, &mut paged, &PRINT, &mut source, Ok(()), SHOWN);
+    runs(rt, &mut paged, &WRITE, &mut source, Ok(()), b"");
     Ok(())
 }
 
-/// The file has the small image with these bytes as the region.
-fn is_changed(
+/// The file has this image.
+fn file_holds(
     rt: &(impl Abort + AllocGlobal + Files<File = File>),
     image: &str,
-    region: &[u8],
+    parts: Parts,
 ) -> Result<(), Fail> {
-    let mut wanted = small_image(rt.alloc())?;
-    put(&mut wanted, 0x200, region);
+    let wanted = image_of(rt.alloc(), parts)?;
     same_bytes(rt, &fs::read(rt, image)?, &wanted);
+    Ok(())
+}
+
+/// Removes the files that a test has made.
+fn remove(rt: &impl Files<File = File>, names: &[&str]) -> Result<(), Fail> {
+    for name in names {
+        fs::remove_file(rt, name)?;
+    }
     Ok(())
 }
 
 #[test]
 fn an_image_in_a_file(rt: HostRuntime) -> Result<(), Fail> {
-    fs::write(&rt, "image.rom", small_image(rt.alloc())?.as_slice())?;
+    let image = image_of(rt.alloc(), SMALL)?;
+    fs::write(&rt, "image.rom", image.as_slice())?;
     fs::write(&rt, "source", [7; 512].as_slice())?;
     change(&rt, "image.rom", "source")?;
-    is_changed(&rt, "image.rom", &[7; 512])?;
-    fs::remove_file(&rt, "image.rom")?;
-    fs::remove_file(&rt, "source")?;
-    Ok(())
+    file_holds(&rt, "image.rom", WRITTEN)?;
+    remove(&rt, &["image.rom", "source"])
 }

@@ -1,14 +1,12 @@
 //! Lists of edits, on a device in memory and on one that refuses a single call.
-ghost use Rattle.std.specs.Prelude.{◌≡◌, ◌+◌, ◌<◌, ◌≤◌, true, IfSome, IsTrue};
-ghost use Rattle.flash_store.specs.Regions.{LiesIn};
+ghost use Rattle.std.specs.Prelude.{◌≡◌, ◌+◌, ◌<◌, ◌≤◌, true, IsTrue};
 
 use crate::tests::{
-    A, EMPTY_512, FRESH, MAGIC_20, Parts, components, device_with, equal, holds, same_bytes,
-    source_of,
+    A, EMPTY_512, FRESH, MAGIC_20, Parts, device_with, equal, holds, leaves, part_of, source_of,
 };
 use cbfs_edit::{Edit, EditFault, Freed, HashChoice, Placed, Reply, Spot, apply_all};
 use flash_format::HEADER_LENGTH;
-use flash_store::{Counter, Flash, FlashFault, MemFlash, MemSource, Paged, Region};
+use flash_store::{Counter, Flash, FlashFault, MemFlash, MemSource, Paged};
 use std::process::Abort;
 use std::test::Fail;
 
@@ -40,13 +38,6 @@ const B_FIRST: Parts = &[(0, &B_20), (28, &MAGIC_20), (64, &LAST_448)];
 
 const STOPPED: Reply = Reply::Refused(EditFault::Device);
 
-/// A part of a device.
-fn part_of<F: Flash>(paged: &Paged<F>, start: u64, size: u64) -> Option<Region>
-    ensures { IfSome result (λ region. LiesIn region (F.facts paged.now.device).content) }
-{
-    Region::within(start, size, paged.len())
-}
-
 /// A component of the usual type is to be added to the first free space.
 fn addition<'a>(rt: &impl Abort, name: &'a [u8], content: &'a [u8]) -> Edit<'a, MemSource<'a>> {
     Edit::Add {
@@ -72,12 +63,11 @@ fn answers<F: Flash>(
     paged: &mut Paged<F>,
     edits: &mut [Edit<'_, MemSource<'_>>; 4],
     want: &[Reply; 4],
-) -> Result<(), Fail> {
+) {
     let mut replies = [STOPPED; 4];
-    let region = part_of(paged, 512, 512).ok_or("no region")?;
+    let region = part_of(rt, paged, 512, 512);
     apply_all(paged, region, edits, &mut replies);
     equal(rt, &replies, want);
-    Ok(())
 }
 
 #[test]
@@ -92,7 +82,7 @@ fn each_edit_of_a_list_has_its_reply(rt: HostRuntime) -> Result<(), Fail> {
     let exists = Reply::Refused(EditFault::Exists);
     let not_found = Reply::Refused(EditFault::NotFound);
     let want = [placed(0, 28), exists, not_found, freed(0, 512)];
-    answers(&rt, &mut paged, &mut edits, &want)?;
+    answers(&rt, &mut paged, &mut edits, &want);
     holds(&rt, paged.flash(), 1536, IMAGE)
 }
 
@@ -194,24 +184,13 @@ fn stopped_at(rt: &(impl Abort + AllocGlobal), number: u64) -> Result<Option<usi
         Edit::Remove { name: b"a" },
     ];
     let mut replies = [Reply::Refused(EditFault::Source); 3];
-    let region = part_of(&paged, 0, 512).ok_or("no region")?;
+    let region = part_of(rt, &paged, 0, 512);
     apply_all(&mut paged, region, &mut edits, &mut replies);
     let stopped = replies.iter().position(|reply| *reply == STOPPED);
     let (want, left) = wanted(stopped);
     equal(rt, &replies, &want);
-    leaves(rt, paged.into_flash().device, left)?;
+    leaves(rt, paged.into_flash().device, 512, left)?;
     Ok(stopped)
-}
-
-/// A device has the components of one of two regions.
-fn leaves(rt: &(impl Abort + AllocGlobal), device: MemFlash, left: [Parts; 2]) -> Result<(), Fail> {
-    let found = components(rt, device)?;
-    let one = components(rt, device_with(rt.alloc(), 512, left[0])?)?;
-    if found.as_slice() != one.as_slice() {
-        let other = components(rt, device_with(rt.alloc(), 512, left[1])?)?;
-        same_bytes(rt, found.as_slice(), other.as_slice());
-    }
-    Ok(())
 }
 
 #[test]

@@ -1,6 +1,5 @@
 //! Regions written out as bytes, changed on a device in memory, on one that stops at each call in turn, and from a source
 //! that stops at each read.
-ghost use Rattle.std.specs.Prelude.{IfSome};
 ghost use Rattle.flash_store.specs.Regions.{LiesIn};
 
 use cbfs_edit::{EditFault, Freed, HashChoice, Placed, Spot, add, format, remove};
@@ -124,8 +123,8 @@ const WITH_B_LATER: Parts = &[
 
 /// Puts a part to a place of a device's bytes.
 fn put(bytes: &mut [u8], at: usize, part: &[u8]) {
-    for (to, from) in bytes.iter_mut().skip(at).zip(part.iter()) {
-        *to = *from;
+    if at <= bytes.len() && part.len() <= bytes.len() - at {
+        bytes[at..at + part.len()].copy_from_slice(part);
     }
 }
 
@@ -141,11 +140,18 @@ pub fn device_with(alloc: Global, size: usize, parts: Parts) -> Result<MemFlash,
     Ok(MemFlash::new(bytes_with(alloc, size, parts)?)?)
 }
 
-/// The whole of a device.
-fn whole<F: Flash>(paged: &Paged<F>) -> Option<Region>
-    ensures { IfSome result (λ region. LiesIn region (F.facts paged.now.device).content) }
+/// A part of a device.
+pub fn part_of<F: Flash>(rt: &impl Abort, paged: &Paged<F>, start: u64, size: u64) -> Region
+    ensures { LiesIn result (F.facts paged.now.device).content }
 {
-    Region::within(0, paged.len(), paged.len())
+    Region::within(start, size, paged.len()).expect(rt, "a region")
+}
+
+/// The whole of a device.
+fn whole<F: Flash>(rt: &impl Abort, paged: &Paged<F>) -> Region
+    ensures { LiesIn result (F.facts paged.now.device).content }
+{
+    part_of(rt, paged, 0, paged.len())
 }
 
 /// Two values are equal. A call of this is proved sooner than an assertion in place.
@@ -173,11 +179,12 @@ pub fn holds(
 
 /// Removes a component from the whole of a device.
 fn remove_from<F: Flash>(
+    rt: &impl Abort,
     paged: &mut Paged<F>,
     name: &[u8],
-) -> Result<Result<Freed, EditFault>, Fail> {
-    let region = whole(paged).ok_or("no region")?;
-    Ok(remove(paged, region, name))
+) -> Result<Freed, EditFault> {
+    let region = whole(rt, paged);
+    remove(paged, region, name)
 }
 
 /// A removal from a region of these bytes answers this, and leaves these.
@@ -190,7 +197,7 @@ fn removes(
 ) -> Result<(), Fail> {
     let (size, parts) = before;
     let mut paged = Paged::new(device_with(rt.alloc(), size, parts)?);
-    equal(rt, &remove_from(&mut paged, name)?, &want);
+    equal(rt, &remove_from(rt, &mut paged, name), &want);
     holds(rt, paged.flash(), size, after)
 }
 
@@ -234,9 +241,9 @@ fn what_is_refused_changes_nothing(rt: HostRuntime) -> Result<(), Fail> {
 }
 
 /// Formats the whole of a device.
-fn format_all<F: Flash>(paged: &mut Paged<F>) -> Result<Result<(), EditFault>, Fail> {
-    let region = whole(paged).ok_or("no region")?;
-    Ok(format(paged, region))
+fn format_all<F: Flash>(rt: &impl Abort, paged: &mut Paged<F>) -> Result<(), EditFault> {
+    let region = whole(rt, paged);
+    format(paged, region)
 }
 
 /// A format of a region of these bytes answers this, and leaves these.
@@ -248,7 +255,7 @@ fn formats(
 ) -> Result<(), Fail> {
     let (size, parts) = before;
     let mut paged = Paged::new(device_with(rt.alloc(), size, parts)?);
-    equal(rt, &format_all(&mut paged)?, &want);
+    equal(rt, &format_all(rt, &mut paged), &want);
     holds(rt, paged.flash(), size, after)
 }
 
@@ -297,20 +304,14 @@ pub fn source_of<'a>(rt: &impl Abort, bytes: &'a [u8]) -> MemSource<'a> {
 
 /// Adds a component to the whole of a device.
 fn add_to<F: Flash, S: Source>(
+    rt: &impl Abort,
     paged: &mut Paged<F>,
     new: New,
     source: &mut S,
-) -> Result<Result<Placed, EditFault>, Fail> {
-    let region = whole(paged).ok_or("no region")?;
-    Ok(add(
-        paged,
-        region,
-        new.name,
-        new.kind,
-        HashChoice::Plain,
-        new.spot,
-        source,
-    ))
+) -> Result<Placed, EditFault> {
+    let region = whole(rt, paged);
+    let plain = HashChoice::Plain;
+    add(paged, region, new.name, new.kind, plain, new.spot, source)
 }
 
 /// An addition to a region of 512 bytes answers this, and leaves these bytes.
@@ -323,7 +324,7 @@ fn adds<'a>(
 ) -> Result<(), Fail> {
     let mut paged = Paged::new(device_with(rt.alloc(), 512, before)?);
     let mut source = source_of(rt, new.content);
-    equal(rt, &add_to(&mut paged, new, &mut source)?, &want);
+    equal(rt, &add_to(rt, &mut paged, new, &mut source), &want);
     holds(rt, paged.flash(), 512, after)
 }
 
@@ -405,12 +406,13 @@ fn takes(
     want: Result<Placed, EditFault>,
     last: &[u8; 4],
 ) -> Result<(), Fail> {
-    let content = LONG.get(..n).ok_or("too long")?;
+    let content = LONG.get(..n).unwrap_or(&LONG);
     let mut paged = Paged::new(device_with(rt.alloc(), 512, FRESH)?);
     let mut source = source_of(rt, content);
-    let answer = add_to(&mut paged, b(spot, content), &mut source)?;
+    let answer = add_to(rt, &mut paged, b(spot, content), &mut source);
     equal(rt, &answer, &want);
-    equal(rt, &paged.flash().bytes().get(508..), &Some(&last[..]));
+    let bytes = paged.flash().bytes();
+    same_bytes(rt, bytes.get(508..).unwrap_or(bytes), last);
     Ok(())
 }
 
@@ -465,10 +467,10 @@ fn walk_on(
 /// All components of a device, none of which is damaged.
 pub fn components(rt: &(impl Abort + AllocGlobal), device: MemFlash) -> Result<Vec<u8>, Fail> {
     let mut paged = Paged::new(device);
-    let region = whole(&paged).ok_or("no region")?;
+    let region = whole(rt, &paged);
     let mut told = Vec::new(rt.alloc());
-    let whole = walk_on(&mut Walk::new(region), &mut paged, &mut told)?;
-    assert!(rt; whole);
+    let ends = walk_on(&mut Walk::new(region), &mut paged, &mut told)?;
+    assert!(rt; ends);
     Ok(told)
 }
 
@@ -480,24 +482,24 @@ struct Edit<'a> {
     after: Parts<'a>,
 }
 
-/// A stopped edit has left the components of before or, where the device has refused a call, those of after.
-fn leaves_whole(
+/// A device has the components of one of two regions of this size.
+pub fn leaves(
     rt: &(impl Abort + AllocGlobal),
-    edit: Edit,
-    fault: EditFault,
     device: MemFlash,
+    size: usize,
+    left: [Parts; 2],
 ) -> Result<(), Fail> {
-    let left = components(rt, device)?;
-    let old = components(rt, device_with(rt.alloc(), edit.size, edit.before)?)?;
-    if left.as_slice() != old.as_slice() {
-        equal(rt, &fault, &EditFault::Device);
-        let new = components(rt, device_with(rt.alloc(), edit.size, edit.after)?)?;
-        same_bytes(rt, left.as_slice(), new.as_slice());
+    let found = components(rt, device)?;
+    let one = components(rt, device_with(rt.alloc(), size, left[0])?)?;
+    if found.as_slice() != one.as_slice() {
+        let other = components(rt, device_with(rt.alloc(), size, left[1])?)?;
+        same_bytes(rt, found.as_slice(), other.as_slice());
     }
     Ok(())
 }
 
-/// An edit has finished and left the bytes of after, or this side has stopped it. Answers whether it has finished.
+/// An edit has finished and left the bytes of after, or this side has stopped it: then it has left the components of
+/// before or, where the device has refused a call, those of after. Answers whether it has finished.
 fn has_finished(
     rt: &(impl Abort + AllocGlobal),
     edit: Edit,
@@ -505,17 +507,17 @@ fn has_finished(
     side: EditFault,
     device: MemFlash,
 ) -> Result<bool, Fail> {
-    match fault {
-        None => {
-            holds(rt, &device, edit.size, edit.after)?;
-            Ok(true)
-        }
-        Some(fault) => {
-            equal(rt, &fault, &side);
-            leaves_whole(rt, edit, fault, device)?;
-            Ok(false)
-        }
+    if fault.is_none() {
+        holds(rt, &device, edit.size, edit.after)?;
+        return Ok(true);
     }
+    equal(rt, &fault, &Some(side));
+    let last = match side {
+        EditFault::Device => edit.after,
+        _ => edit.before,
+    };
+    leaves(rt, device, edit.size, [edit.before, last])?;
+    Ok(false)
 }
 
 /// A device with what an edit finds, which refuses all calls after the first k.
@@ -538,7 +540,7 @@ fn removal_stops(
     part: usize,
 ) -> Result<bool, Fail> {
     let mut paged = failing(rt.alloc(), edit, k, part)?;
-    let fault = remove_from(&mut paged, name)?.err();
+    let fault = remove_from(rt, &mut paged, name).err();
     let device = paged.into_flash().into_inner();
     has_finished(rt, edit, fault, EditFault::Device, device)
 }
@@ -574,7 +576,7 @@ fn format_stops(rt: &(impl Abort + AllocGlobal), k: u64, part: usize) -> Result<
         after: FRESH,
     };
     let mut paged = failing(rt.alloc(), edit, k, part)?;
-    let fault = format_all(&mut paged)?.err();
+    let fault = format_all(rt, &mut paged).err();
     let device = paged.into_flash().into_inner();
     has_finished(rt, edit, fault, EditFault::Device, device)
 }
@@ -589,7 +591,7 @@ fn addition_stops(
 ) -> Result<bool, Fail> {
     let mut paged = failing(rt.alloc(), edit, k, part)?;
     let mut source = source_of(rt, new.content);
-    let fault = add_to(&mut paged, new, &mut source)?.err();
+    let fault = add_to(rt, &mut paged, new, &mut source).err();
     let device = paged.into_flash().into_inner();
     has_finished(rt, edit, fault, EditFault::Device, device)
 }
@@ -655,7 +657,7 @@ fn source_stops(rt: &(impl Abort + AllocGlobal), k: u64) -> Result<bool, Fail> {
     };
     let mut paged = Paged::new(device_with(rt.alloc(), edit.size, edit.before)?);
     let mut source = FailSource::new(source_of(rt, &LONG), k);
-    let fault = add_to(&mut paged, b(Spot::First, &LONG), &mut source)?.err();
+    let fault = add_to(rt, &mut paged, b(Spot::First, &LONG), &mut source).err();
     has_finished(rt, edit, fault, EditFault::Source, paged.into_flash())
 }
 

@@ -1,12 +1,9 @@
 //! Components that are added to a region.
 
-use super::{A, COREBOOT, MAP, PRINT, damage, equal, put, run_into, same_bytes};
+use super::{A, COREBOOT, MAP, PRINT, Parts, answers, damage, device_of, holds, image_of, writes};
 use cbfs_commands::{Command, Refusal};
 use cbfs_edit::{HashChoice, Spot};
 use flash_format::DamageKind;
-use flash_store::{MemFlash, MemSource, Paged};
-use std::alloc::{AllocError, Global};
-use std::process::Abort;
 use std::test::Fail;
 
 /// The flashmap of an image of 4096 bytes that stands after the region: COREBOOT and FMAP of 512 bytes each, and REST.
@@ -41,23 +38,14 @@ const TOO_LONG: [u8; 40] =
 const DIGEST: [u8; 32] = *b"\xba\x78\x16\xbf\x8f\x01\xcf\xea\x41\x41\x40\xde\x5d\xae\x22\x23\
 \xb0\x03\x61\xa3\x96\x17\x7a\x9c\xb4\x10\xff\x61\xf2\x00\x15\xad";
 
-/// What stands where in an image of 4096 bytes, and 0xff elsewhere.
-pub type Parts<'a> = &'a [(usize, &'a [u8])];
+/// A fresh region before the flashmap.
+const MAP_LATER: Parts = &[(0, &FRESH), (0x200, &LATER_MAP)];
+
+const DAMAGED: Parts = &[(0, &MAP), (0x200, &A), (0x240, &TOO_LONG)];
+
+const WITH_PACKED: Parts = &[(0, &MAP), (0x200, &PACKED), (0x280, &FRESH_384)];
 
 pub const EMPTY: Parts = &[(0, &MAP), (0x200, &FRESH)];
-
-pub fn image_of(alloc: Global, parts: Parts) -> Result<Vec<u8>, AllocError> {
-    let mut image = Vec::from_elem(alloc, 0xff, 4096)?;
-    for (at, part) in parts {
-        put(&mut image, *at, part);
-    }
-    Ok(image)
-}
-
-pub fn device_of(alloc: Global, parts: Parts) -> Result<Paged<MemFlash>, Fail> {
-    let device = MemFlash::new(image_of(alloc, parts)?)?;
-    Ok(Paged::new(device))
-}
 
 /// The addition of a component of the type raw.
 fn raw(name: &[u8], hash: HashChoice, spot: Spot) -> Command<'_> {
@@ -75,43 +63,11 @@ pub fn first(name: &[u8], hash: HashChoice) -> Command<'_> {
     raw(name, hash, Spot::First)
 }
 
-/// An addition of this content is answered so, and writes no output.
-pub fn adds(
-    rt: &(impl Abort + AllocGlobal),
-    paged: &mut Paged<MemFlash>,
-    command: &Command,
-    content: &[u8],
-    answer: Result<(), Refusal>,
-) {
-    assert!(rt; content.len() < 4096);
-    let mut source = MemSource::new(content);
-    let written = run_into(rt, paged, command, &mut source, answer);
-    equal(rt, &written.len(), &0);
-}
-
-/// A command that is done writes this.
-pub fn writes(
-    rt: &(impl Abort + AllocGlobal),
-    paged: &mut Paged<MemFlash>,
-    command: &Command,
-    text: &[u8],
-) {
-    let mut none = MemSource::new(&[]);
-    let written = run_into(rt, paged, command, &mut none, Ok(()));
-    same_bytes(rt, &written, text);
-}
-
-/// These bytes stand in the image at this place.
-pub fn holds(rt: &impl Abort, paged: &Paged<MemFlash>, at: usize, wanted: &[u8]) {
-    let rest = paged.flash().bytes().get(at..).unwrap_or(&[]);
-    same_bytes(rt, rest.get(..wanted.len()).unwrap_or(&[]), wanted);
-}
-
 #[test]
 fn components_are_added(rt: HostRuntime) -> Result<(), Fail> {
     let mut paged = device_of(rt.alloc(), EMPTY)?;
     let a = first(b"a", HashChoice::Plain);
-    adds(&rt, &mut paged, &a, b"0123456789", Ok(()));
+    answers(&rt, &mut paged, &a, b"0123456789", Ok(()));
     let shown = b"a\t0x0\traw\t10\tnone\n(empty)\t0x40\tnull\t416\tnone\n";
     writes(&rt, &mut paged, &PRINT, shown);
     let extract = Command::Extract {
@@ -120,7 +76,7 @@ fn components_are_added(rt: HostRuntime) -> Result<(), Fail> {
     };
     writes(&rt, &mut paged, &extract, b"0123456789");
     let b = raw(b"b", HashChoice::Plain, Spot::Aligned(64));
-    adds(&rt, &mut paged, &b, b"LARCHIVE 9abcdefghij", Ok(()));
+    answers(&rt, &mut paged, &b, b"LARCHIVE 9abcdefghij", Ok(()));
     let shown = b"a\t0x0\traw\t10\tnone\nb\t0x40\traw\t20\tnone\n(empty)\t0xc0\tnull\t288\tnone\n";
     writes(&rt, &mut paged, &PRINT, shown);
     Ok(())
@@ -128,9 +84,9 @@ fn components_are_added(rt: HostRuntime) -> Result<(), Fail> {
 
 #[test]
 fn a_map_that_is_added_before_the_map_takes_its_place(rt: HostRuntime) -> Result<(), Fail> {
-    let mut paged = device_of(rt.alloc(), &[(0, &FRESH), (0x200, &LATER_MAP)])?;
+    let mut paged = device_of(rt.alloc(), MAP_LATER)?;
     let m = first(b"m", HashChoice::Plain);
-    adds(&rt, &mut paged, &m, &OTHER_MAP, Ok(()));
+    answers(&rt, &mut paged, &m, &OTHER_MAP, Ok(()));
     holds(&rt, &paged, 0x1c, &OTHER_MAP);
     let shown = b"fmap\t0x1c\tFLASH\t4096\t2\nFMAP\t0x0\t512\t0x0\nCOREBOOT\t0x200\t3584\t0x0\n";
     writes(&rt, &mut paged, &Command::Layout, shown);
@@ -139,21 +95,19 @@ fn a_map_that_is_added_before_the_map_takes_its_place(rt: HostRuntime) -> Result
 
 #[test]
 fn a_damage_refuses_an_addition(rt: HostRuntime) -> Result<(), Fail> {
-    let parts: Parts = &[(0, &MAP), (0x200, &A), (0x240, &TOO_LONG)];
-    let mut paged = device_of(rt.alloc(), parts)?;
+    let mut paged = device_of(rt.alloc(), DAMAGED)?;
     let b = first(b"b", HashChoice::Plain);
     let extent = damage(0x40, DamageKind::Extent);
-    adds(&rt, &mut paged, &b, b"0123456789", Err(extent));
-    holds(&rt, &paged, 0, &image_of(rt.alloc(), parts)?);
+    answers(&rt, &mut paged, &b, b"0123456789", Err(extent));
+    holds(&rt, &paged, 0, &image_of(rt.alloc(), DAMAGED)?);
     Ok(())
 }
 
 #[test]
 fn an_addition_keeps_a_packed_component(rt: HostRuntime) -> Result<(), Fail> {
-    let parts: Parts = &[(0, &MAP), (0x200, &PACKED), (0x280, &FRESH_384)];
-    let mut paged = device_of(rt.alloc(), parts)?;
+    let mut paged = device_of(rt.alloc(), WITH_PACKED)?;
     let a = first(b"a", HashChoice::Plain);
-    adds(&rt, &mut paged, &a, b"0123456789", Ok(()));
+    answers(&rt, &mut paged, &a, b"0123456789", Ok(()));
     holds(&rt, &paged, 0x200, &PACKED);
     let shown = b"c\t0x0\traw\t72\tLZMA\na\t0x80\traw\t10\tnone\n(empty)\t0xc0\tnull\t288\tnone\n";
     writes(&rt, &mut paged, &PRINT, shown);
@@ -164,12 +118,12 @@ fn an_addition_keeps_a_packed_component(rt: HostRuntime) -> Result<(), Fail> {
 fn a_digest_of_sha_256_is_stored(rt: HostRuntime) -> Result<(), Fail> {
     let mut paged = device_of(rt.alloc(), EMPTY)?;
     let empty = first(b"e", HashChoice::Sha256);
-    adds(&rt, &mut paged, &empty, b"", Ok(()));
+    answers(&rt, &mut paged, &empty, b"", Ok(()));
     holds(&rt, &paged, 0x210, b"\0\0\0\x1c\0\0\0\x48e\0\0\0");
     let shown = b"e\t0x0\traw\t0\tnone\n(empty)\t0x80\tnull\t352\tnone\n";
     writes(&rt, &mut paged, &PRINT, shown);
     let abc = first(b"f", HashChoice::Sha256);
-    adds(&rt, &mut paged, &abc, b"abc", Ok(()));
+    answers(&rt, &mut paged, &abc, b"abc", Ok(()));
     holds(&rt, &paged, 0x200 + 168, &DIGEST);
     holds(&rt, &paged, 0x200 + 200, b"abc");
     let shown = b"e\t0x0\traw\t0\tnone\nf\t0x80\traw\t3\tnone\n(empty)\t0x100\tnull\t224\tnone\n";
@@ -181,10 +135,10 @@ fn a_digest_of_sha_256_is_stored(rt: HostRuntime) -> Result<(), Fail> {
 fn a_digest_of_sha_512_takes_more_room(rt: HostRuntime) -> Result<(), Fail> {
     let mut paged = device_of(rt.alloc(), EMPTY)?;
     let empty = first(b"e", HashChoice::Sha512);
-    adds(&rt, &mut paged, &empty, b"", Ok(()));
+    answers(&rt, &mut paged, &empty, b"", Ok(()));
     holds(&rt, &paged, 0x214, b"\0\0\0\x68e\0\0\0");
     let abc = first(b"f", HashChoice::Sha512);
-    adds(&rt, &mut paged, &abc, b"abc", Ok(()));
+    answers(&rt, &mut paged, &abc, b"abc", Ok(()));
     holds(&rt, &paged, 0x200 + 232, b"abc");
     Ok(())
 }

@@ -1,7 +1,10 @@
 //! Whole images that are made from a flashmap.
 
-use super::adding::{EMPTY, OTHER_MAP, adds, device_of, first, holds, image_of, writes};
-use super::{A, COREBOOT, MAP, PRINT, equal, run_into, same_bytes};
+use super::adding::{EMPTY, OTHER_MAP, first};
+use super::{
+    A, COREBOOT, MAP, PRINT, Parts, answers, device_of, equal, file_holds, holds, image_of, remove,
+    runs, writes,
+};
 use arrayvec::ArrayVec;
 use cbfs_commands::{Command, MOST_REGIONS, Refusal, create_size};
 use cbfs_edit::HashChoice;
@@ -21,6 +24,14 @@ const TOUCHING: [u8; 182] =
 \0\0\0\0\0\x04\0\0FMAP\0\0\0\0\0\0\0\0\0\0\0\0\0\0\0\0\0\0\0\0\0\0\0\0\0\0\0\0\0\0\
 \0\x04\0\0\0\x08\0\0B\0\0\0\0\0\0\0\0\0\0\0\0\0\0\0\0\0\0\0\0\0\0\0\0\0\0\0\0\0\0\0\0\0\
 \0\x0c\0\0\0\x04\0\0C\0\0\0\0\0\0\0\0\0\0\0\0\0\0\0\0\0\0\0\0\0\0\0\0\0\0\0\0\0\0\0\0\0";
+
+/// An image that was in use.
+const USED: Parts = &[(0, &A), (0x200, &A), (0xfce, &A)];
+
+/// The names of 16 regions.
+const NAMES: &[&[u8]] = &[
+    b"A", b"B", b"C", b"D", b"E", b"F", b"G", b"H", b"I", b"J", b"K", b"L", b"M", b"N", b"O", b"P",
+];
 
 const FRESH_TEXT: &[u8] = b"(empty)\t0x0\tnull\t480\tnone\n";
 
@@ -45,17 +56,16 @@ fn refuses(
     map: &[u8],
     refusal: Refusal,
 ) -> Result<(), Fail> {
-    let mut paged = device_of(rt.alloc(), &[(0x200, &A)])?;
-    adds(rt, &mut paged, &creation(names), map, Err(refusal));
-    let before = image_of(rt.alloc(), &[(0x200, &A)])?;
-    holds(rt, &paged, 0, &before);
+    let mut paged = device_of(rt.alloc(), USED)?;
+    answers(rt, &mut paged, &creation(names), map, Err(refusal));
+    holds(rt, &paged, 0, &image_of(rt.alloc(), USED)?);
     Ok(())
 }
 
 #[test]
 fn an_image_is_made_whatever_was_there(rt: HostRuntime) -> Result<(), Fail> {
-    let mut paged = device_of(rt.alloc(), &[(0x200, &A), (0xfce, &A)])?;
-    adds(&rt, &mut paged, &creation(&[COREBOOT]), &MAP, Ok(()));
+    let mut paged = device_of(rt.alloc(), USED)?;
+    answers(&rt, &mut paged, &creation(&[COREBOOT]), &MAP, Ok(()));
     holds(&rt, &paged, 0, &image_of(rt.alloc(), EMPTY)?);
     writes(&rt, &mut paged, &PRINT, FRESH_TEXT);
     Ok(())
@@ -63,9 +73,9 @@ fn an_image_is_made_whatever_was_there(rt: HostRuntime) -> Result<(), Fail> {
 
 #[test]
 fn regions_may_touch(rt: HostRuntime) -> Result<(), Fail> {
-    let mut paged = device_of(rt.alloc(), &[(0, &A)])?;
+    let mut paged = device_of(rt.alloc(), USED)?;
     let both = creation(&[b"B", b"C"]);
-    adds(&rt, &mut paged, &both, &TOUCHING, Ok(()));
+    answers(&rt, &mut paged, &both, &TOUCHING, Ok(()));
     let b = b"(empty)\t0x0\tnull\t2016\tnone\n";
     writes(&rt, &mut paged, &print(b"B"), b);
     let c = b"(empty)\t0x0\tnull\t992\tnone\n";
@@ -89,7 +99,7 @@ fn a_flashmap_of_another_size(rt: HostRuntime) -> Result<(), Fail> {
     let device = MemFlash::new(bytes)?;
     let mut paged = Paged::new(device);
     let refused = Err(Refusal::TableBad);
-    adds(&rt, &mut paged, &creation(&[COREBOOT]), &MAP, refused);
+    answers(&rt, &mut paged, &creation(&[COREBOOT]), &MAP, refused);
     holds(&rt, &paged, 0, &Vec::from_elem(rt.alloc(), 7, 8192)?);
     Ok(())
 }
@@ -141,13 +151,9 @@ fn map_of_sixteen(alloc: Global) -> Result<Vec<u8>, Fail> {
 
 #[test]
 fn sixteen_regions_are_formatted(rt: HostRuntime) -> Result<(), Fail> {
-    let mut paged = device_of(rt.alloc(), &[(0, &A)])?;
-    let names: [&[u8]; 16] = [
-        b"A", b"B", b"C", b"D", b"E", b"F", b"G", b"H", b"I", b"J", b"K", b"L", b"M", b"N", b"O",
-        b"P",
-    ];
+    let mut paged = device_of(rt.alloc(), USED)?;
     let map = map_of_sixteen(rt.alloc())?;
-    adds(&rt, &mut paged, &creation(&names), &map, Ok(()));
+    answers(&rt, &mut paged, &creation(NAMES), &map, Ok(()));
     let shown = b"(empty)\t0x0\tnull\t32\tnone\n";
     writes(&rt, &mut paged, &print(b"A"), shown);
     writes(&rt, &mut paged, &print(b"P"), shown);
@@ -158,50 +164,49 @@ fn sixteen_regions_are_formatted(rt: HostRuntime) -> Result<(), Fail> {
 fn stops<F: Flash, S: Source>(
     rt: &(impl Abort + AllocGlobal),
     device: F,
-    mut source: S,
+    source: &mut S,
     answer: Result<(), Refusal>,
 ) {
-    let mut paged = Paged::new(device);
     let create = creation(&[COREBOOT]);
-    let _none = run_into(rt, &mut paged, &create, &mut source, answer);
-    equal(rt, &paged.len(), &4096);
+    runs(rt, &mut Paged::new(device), &create, source, answer, b"");
 }
 
-/// The device of an empty image.
-fn empty(alloc: Global) -> Result<MemFlash, Fail> {
-    Ok(MemFlash::new(image_of(alloc, EMPTY)?)?)
+/// The device refuses all calls after the first k.
+fn device_stops(
+    rt: &(impl Abort + AllocGlobal),
+    k: u64,
+    answer: Result<(), Refusal>,
+) -> Result<(), Fail> {
+    let device = device_of(rt.alloc(), EMPTY)?.into_flash();
+    let device = FailAt::new(device, k, 17);
+    stops(rt, device, &mut MemSource::new(&MAP), answer);
+    Ok(())
+}
+
+/// The source refuses all reads after the first k.
+fn source_stops(
+    rt: &(impl Abort + AllocGlobal),
+    k: u64,
+    answer: Result<(), Refusal>,
+) -> Result<(), Fail> {
+    let device = device_of(rt.alloc(), EMPTY)?.into_flash();
+    let mut source = FailSource::new(MemSource::new(&MAP), k);
+    stops(rt, device, &mut source, answer);
+    Ok(())
 }
 
 #[test]
 fn a_stop_of_either_side(rt: HostRuntime) -> Result<(), Fail> {
-    let fault = Err(Refusal::Device);
     // One call fills, one writes the table, and two make the region an empty entry.
     for k in 0..4 {
-        let device = FailAt::new(empty(rt.alloc())?, k, 17);
-        stops(&rt, device, MemSource::new(&MAP), fault);
+        device_stops(&rt, k, Err(Refusal::Device))?;
     }
-    let device = FailAt::new(empty(rt.alloc())?, 4, 17);
-    stops(&rt, device, MemSource::new(&MAP), Ok(()));
+    device_stops(&rt, 4, Ok(()))?;
     // One read for the head, one for each of three areas, and one for the table.
     for k in 0..5 {
-        let source = FailSource::new(MemSource::new(&MAP), k);
-        stops(&rt, empty(rt.alloc())?, source, Err(Refusal::Source));
+        source_stops(&rt, k, Err(Refusal::Source))?;
     }
-    let source = FailSource::new(MemSource::new(&MAP), 5);
-    stops(&rt, empty(rt.alloc())?, source, Ok(()));
-    Ok(())
-}
-
-/// A command on an image in a file, with a source that is a file too, writes this text.
-fn tells(
-    rt: &(impl Abort + AllocGlobal),
-    paged: &mut Paged<FileFlash>,
-    command: &Command,
-    source: &mut FileSource,
-    text: &[u8],
-) {
-    let told = run_into(rt, paged, command, source, Ok(()));
-    same_bytes(rt, &told, text);
+    source_stops(&rt, 5, Ok(()))
 }
 
 /// Makes an image's file from a table in another file.
@@ -213,7 +218,8 @@ fn make(
     let mut source = FileSource::open(rt, table)?;
     let size = create_size(&mut source)?;
     let mut paged = Paged::new(FileFlash::create(rt, image, size)?);
-    tells(rt, &mut paged, &creation(&[COREBOOT]), &mut source, b"");
+    let create = creation(&[COREBOOT]);
+    runs(rt, &mut paged, &create, &mut source, Ok(()), b"");
     Ok(())
 }
 
@@ -225,24 +231,11 @@ fn add(
 ) -> Result<(), Fail> {
     let mut paged = Paged::new(FileFlash::open(rt, image)?);
     let mut source = FileSource::open(rt, content)?;
-    tells(rt, &mut paged, &PRINT, &mut source, FRESH_TEXT);
+    runs(rt, &mut paged, &PRINT, &mut source, Ok(()), FRESH_TEXT);
     let addition = first(b"a", HashChoice::Plain);
-    tells(rt, &mut paged, &addition, &mut source, b"");
+    runs(rt, &mut paged, &addition, &mut source, Ok(()), b"");
     let after = b"a\t0x0\traw\t10\tnone\n(empty)\t0x40\tnull\t416\tnone\n";
-    tells(rt, &mut paged, &PRINT, &mut source, after);
-    Ok(())
-}
-
-fn is_fresh(rt: &(impl Abort + AllocGlobal + Files<File = File>), image: &str) -> Result<(), Fail> {
-    same_bytes(rt, &fs::read(rt, image)?, &image_of(rt.alloc(), EMPTY)?);
-    Ok(())
-}
-
-/// Removes the files that a test has made.
-fn remove(rt: &impl Files<File = File>, names: &[&str]) -> Result<(), Fail> {
-    for name in names {
-        fs::remove_file(rt, name)?;
-    }
+    runs(rt, &mut paged, &PRINT, &mut source, Ok(()), after);
     Ok(())
 }
 
@@ -251,7 +244,7 @@ fn an_image_is_made_in_a_file(rt: HostRuntime) -> Result<(), Fail> {
     fs::write(&rt, "flashmap", &MAP)?;
     fs::write(&rt, "digits", b"0123456789")?;
     make(&rt, "created.rom", "flashmap")?;
-    is_fresh(&rt, "created.rom")?;
+    file_holds(&rt, "created.rom", EMPTY)?;
     add(&rt, "created.rom", "digits")?;
     remove(&rt, &["flashmap", "digits", "created.rom"])
 }

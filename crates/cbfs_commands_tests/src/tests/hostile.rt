@@ -1,8 +1,8 @@
 //! Images that are cut anywhere or have other numbers, and outputs, sources and devices that fail at each place in turn.
 
 use super::{
-    COREBOOT, MAP, PRINT, READ, SHOWN, Short, WRITE, damage, equal, put, run_into, same_bytes,
-    small_image,
+    COREBOOT, MAP, PRINT, READ, SHOWN, SMALL, Short, WRITE, damage, device_of, equal, image_of,
+    put, runs, same_bytes,
 };
 use cbfs_commands::{Command, Refusal, run};
 use flash_format::DamageKind;
@@ -14,7 +14,7 @@ use std::test::Fail;
 /// What is shown of the first component.
 const SHOWN_A: &[u8] = b"a\t0x0\traw\t10\tnone\n";
 
-fn device_of(image: Vec<u8>) -> Result<Paged<MemFlash>, Fail> {
+fn device_with(image: Vec<u8>) -> Result<Paged<MemFlash>, Fail> {
     Ok(Paged::new(MemFlash::new(image)?))
 }
 
@@ -26,10 +26,15 @@ fn shows(
     text: &[u8],
     answer: Result<(), Refusal>,
 ) -> Result<(), Fail> {
-    let mut paged = device_of(image)?;
-    let mut none = MemSource::new(&[]);
-    let written = run_into(rt, &mut paged, command, &mut none, answer);
-    same_bytes(rt, &written, text);
+    let mut paged = device_with(image)?;
+    runs(
+        rt,
+        &mut paged,
+        command,
+        &mut MemSource::new(&[]),
+        answer,
+        text,
+    );
     Ok(())
 }
 
@@ -42,7 +47,7 @@ fn cut(
     answer: Result<(), Refusal>,
 ) -> Result<(), Fail> {
     for len in from..to {
-        let mut image = small_image(rt.alloc())?;
+        let mut image = image_of(rt.alloc(), SMALL)?;
         image.truncate(len);
         shows(rt, image, &PRINT, text, answer)?;
     }
@@ -72,7 +77,7 @@ fn finds_map(
     at: usize,
     shown: &[u8],
 ) -> Result<(), Fail> {
-    let mut image = small_image(rt.alloc())?;
+    let mut image = image_of(rt.alloc(), SMALL)?;
     put(&mut image, 0, start);
     put(&mut image, at, &MAP);
     shows(rt, image, &Command::Layout, shown, Ok(()))
@@ -100,7 +105,7 @@ fn changed(
     answer: Result<(), Refusal>,
 ) -> Result<(), Fail> {
     assert!(rt; at < 512);
-    let mut image = small_image(rt.alloc())?;
+    let mut image = image_of(rt.alloc(), SMALL)?;
     put(&mut image, 0x200 + at, &number.to_be_bytes());
     shows(rt, image, &PRINT, text, answer)
 }
@@ -119,7 +124,7 @@ fn free_space_with_other_numbers(rt: HostRuntime) -> Result<(), Fail> {
     changed(&rt, 64 + 20, 24, SHOWN, Ok(()))?;
     changed(&rt, 64 + 20, 44, SHOWN, Ok(()))?;
     changed(&rt, 64 + 20, 45, SHOWN_A, extent)?;
-    let mut image = small_image(rt.alloc())?;
+    let mut image = image_of(rt.alloc(), SMALL)?;
     put(&mut image, 0x248, &[0xff; 4]);
     put(&mut image, 0x254, &[0xff; 4]);
     shows(&rt, image, &PRINT, SHOWN_A, extent)
@@ -152,7 +157,7 @@ fn tells(
     text: &[u8],
     answer: Result<(), Refusal>,
 ) -> Result<(), Fail> {
-    let mut paged = device_of(small_image(rt.alloc())?)?;
+    let mut paged = device_of(rt.alloc(), SMALL)?;
     let taken = Vec::new(rt.alloc());
     let mut out = WriteSink::new(Short { taken, piece, room });
     let answered = run(&mut paged, command, &mut MemSource::new(&[]), &mut out);
@@ -186,7 +191,7 @@ REST\t0x400\t3072\t0x0\n";
         name: b"a",
     };
     tells_what_has_room(&rt, &extract, b"0123456789")?;
-    let image = small_image(rt.alloc())?;
+    let image = image_of(rt.alloc(), SMALL)?;
     tells_what_has_room(&rt, &READ, image.get(0x200..0x400).ok_or("region")?)
 }
 
@@ -221,14 +226,13 @@ fn source_of<'a>(rt: &impl Abort, bytes: &'a [u8]) -> MemSource<'a> {
 
 /// How many bytes of the source the region begins with.
 fn copied(image: &[u8], source: &[u8]) -> usize {
-    let mut count = 0usize;
-    for (one, other) in image.iter().skip(HALF).zip(source) {
-        if *one != *other {
-            return count;
+    let region = image.get(HALF..).unwrap_or(&[]);
+    for i in 0..source.len() {
+        if region.get(i) != source.get(i) {
+            return i;
         }
-        count = count.wrapping_add(1);
     }
-    count
+    source.len()
 }
 
 /// The region begins with the source's first bytes, then come at most so many others, and all else is as it was.
@@ -248,10 +252,10 @@ fn is_stopped(
 
 /// A source refuses all reads after the first k.
 fn source_stops(rt: &(impl Abort + AllocGlobal), bytes: &[u8], k: u64) -> Result<(), Fail> {
-    let mut paged = device_of(halves(rt.alloc())?)?;
+    let mut paged = device_with(halves(rt.alloc())?)?;
     let mut source = FailSource::new(source_of(rt, bytes), k);
     let fault = Err(Refusal::Source);
-    let _none = run_into(rt, &mut paged, &WRITE, &mut source, fault);
+    runs(rt, &mut paged, &WRITE, &mut source, fault, b"");
     is_stopped(rt, paged.flash().bytes(), bytes, 0)
 }
 
@@ -299,7 +303,7 @@ fn device_stops(
     k: u64,
     part: usize,
 ) -> Result<bool, Fail> {
-    let device = device_of(halves(rt.alloc())?)?.into_flash();
+    let device = device_with(halves(rt.alloc())?)?.into_flash();
     let mut paged = Paged::new(FailAt::new(device, k, part));
     let answer = write_half(rt, &mut paged, source);
     is_left(rt, answer, paged.into_flash().into_inner().bytes(), source)

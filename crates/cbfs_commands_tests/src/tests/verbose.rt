@@ -1,25 +1,17 @@
 //! Listings with attributes and digests.
 
-use super::adding::{EMPTY, Parts, adds, device_of, first, writes};
-use super::{COREBOOT, MAP, put};
+use super::adding::{EMPTY, first};
+use super::{COREBOOT, MAP, Parts, answers, device_of, writes};
 use cbfs_commands::Command;
 use cbfs_edit::HashChoice;
 use flash_store::{MemFlash, Paged};
-use std::alloc::{AllocError, Global};
+use std::alloc::Global;
 use std::test::Fail;
 
 const VERBOSE: Command<'static> = Command::Print {
     region: COREBOOT,
     verbose: true,
 };
-
-/// A copy of an image with another byte at a place.
-fn copied(alloc: Global, bytes: &[u8], at: usize, byte: u8) -> Result<Vec<u8>, AllocError> {
-    let mut image = Vec::from_elem(alloc, 0, 4096)?;
-    put(&mut image, 0, bytes);
-    put(&mut image, at, &[byte]);
-    Ok(image)
-}
 
 /// A device with the same image but for a byte at a place.
 fn changed(
@@ -28,15 +20,14 @@ fn changed(
     at: usize,
     byte: u8,
 ) -> Result<Paged<MemFlash>, Fail> {
-    let image = copied(alloc, paged.flash().bytes(), at, byte)?;
-    Ok(Paged::new(MemFlash::new(image)?))
+    device_of(alloc, &[(0, paged.flash().bytes()), (at, &[byte])])
 }
 
 #[test]
 fn an_empty_content_with_sha_256(rt: HostRuntime) -> Result<(), Fail> {
     let mut paged = device_of(rt.alloc(), EMPTY)?;
     let e = first(b"e", HashChoice::Sha256);
-    adds(&rt, &mut paged, &e, b"", Ok(()));
+    answers(&rt, &mut paged, &e, b"", Ok(()));
     let shown = b"e\t0x0\traw\t0\tnone\n\tattr\t0x68736148\t44\n\
 \thash\tsha256\te3b0c44298fc1c149afbf4c8996fb92427ae41e4649b934ca495991b7852b855\tvalid\n\
 (empty)\t0x80\tnull\t352\tnone\n";
@@ -48,7 +39,7 @@ fn an_empty_content_with_sha_256(rt: HostRuntime) -> Result<(), Fail> {
 fn a_changed_byte_with_sha_256(rt: HostRuntime) -> Result<(), Fail> {
     let mut paged = device_of(rt.alloc(), EMPTY)?;
     let f = first(b"f", HashChoice::Sha256);
-    adds(&rt, &mut paged, &f, b"abc", Ok(()));
+    answers(&rt, &mut paged, &f, b"abc", Ok(()));
     let mut wrong = changed(rt.alloc(), &paged, 0x200 + 74, b'd')?;
     let shown = b"f\t0x0\traw\t3\tnone\n\tattr\t0x68736148\t44\n\
 \thash\tsha256\tba7816bf8f01cfea414140de5dae2223b00361a396177a9cb410ff61f20015ad\tinvalid\n\
@@ -65,7 +56,7 @@ fn a_changed_byte_with_sha_256(rt: HostRuntime) -> Result<(), Fail> {
 fn an_empty_content_with_sha_512(rt: HostRuntime) -> Result<(), Fail> {
     let mut paged = device_of(rt.alloc(), EMPTY)?;
     let g = first(b"g", HashChoice::Sha512);
-    adds(&rt, &mut paged, &g, b"", Ok(()));
+    answers(&rt, &mut paged, &g, b"", Ok(()));
     let shown = b"g\t0x0\traw\t0\tnone\n\tattr\t0x68736148\t76\n\
 \thash\tsha512\tcf83e1357eefb8bdf1542850d66d8007d620e4050b5715dc83f4a921d36ce9ce\
 47d0d13c5d85f2b0ff8318d2877eec2f63b931bd47417a81a538327af927da3e\tvalid\n\
@@ -78,7 +69,7 @@ fn an_empty_content_with_sha_512(rt: HostRuntime) -> Result<(), Fail> {
 fn a_changed_byte_with_sha_512(rt: HostRuntime) -> Result<(), Fail> {
     let mut paged = device_of(rt.alloc(), EMPTY)?;
     let h = first(b"h", HashChoice::Sha512);
-    adds(&rt, &mut paged, &h, b"abc", Ok(()));
+    answers(&rt, &mut paged, &h, b"abc", Ok(()));
     let mut wrong = changed(rt.alloc(), &paged, 0x200 + 106, b'd')?;
     let shown = b"h\t0x0\traw\t3\tnone\n\tattr\t0x68736148\t76\n\
 \thash\tsha512\tddaf35a193617abacc417349ae20413112e6fa4e89a97ea20a9eeee64b55d39a\
@@ -93,10 +84,11 @@ const SHORT: [u8; 104] =
     *b"LARCHIVE\0\0\0\0\0\0\0\x50\0\0\0\x1c\0\0\0\x68i\0\0\0hsaH\0\0\0\x4b\0\0\0\x03\
 \0\0\0\0\0\0\0\0\0\0\0\0\0\0\0\0\0\0\0\0\0\0\0\0\0\0\0\0\0\0\0\0\0\0\0\0\0\0\0\0\0\0\0\0\0\0\0\0\0\0\0\0\0\0\0\0\0\0\0\0\0\0\0\xff";
 
+const WITH_SHORT: Parts = &[(0, &MAP), (0x200, &SHORT)];
+
 #[test]
 fn a_cut_digest_is_unsupported(rt: HostRuntime) -> Result<(), Fail> {
-    let parts: Parts = &[(0, &MAP), (0x200, &SHORT)];
-    let mut paged = device_of(rt.alloc(), parts)?;
+    let mut paged = device_of(rt.alloc(), WITH_SHORT)?;
     let shown = b"i\t0x0\traw\t0\tnone\n\tattr\t0x68736148\t75\n\thash\tunsupported\n";
     writes(&rt, &mut paged, &VERBOSE, shown);
     Ok(())
