@@ -32,7 +32,7 @@ SameOutside-overwritten old at n bytes short within = record {
   after = drop-overwritten old at bytes (at + n) (omega arith) within;
 }
 
-further : (old new : List ℕ) (a b : ℕ) → a ≤ b → drop a new ≡ drop a old → drop b new ≡ drop b old
+pub further : (old new : List ℕ) (a b : ℕ) → a ≤ b → drop a new ≡ drop a old → drop b new ≡ drop b old
 further old new a b le e =
     let b_is : a + (b - a) ≡ b = omega arith in
     let joined : drop (a + (b - a)) new ≡ drop (a + (b - a)) old = sym (drop-drop (b - a) a new) ∙ ap (drop (b - a)) e ∙ drop-drop (b - a) a old in
@@ -60,7 +60,7 @@ overwritten-more_at old at m xs ys e within =
     subst (λ k. at + k ≤ length old → overwritten (overwritten old at xs) (at + k) ys ≡ overwritten old at (xs ++ ys)) e (overwritten-more old at xs ys) within
 
 -- what is taken is decided by a longer prefix
-nearer : (old new : List ℕ) (a b : ℕ) → a ≤ b → take b new ≡ take b old → take a new ≡ take a old
+pub nearer : (old new : List ℕ) (a b : ℕ) → a ≤ b → take b new ≡ take b old → take a new ≡ take a old
 nearer old new a b le e = sym (take-take a b new le) ∙ ap (take a) e ∙ take-take a b old le
 
 -- two changes within a range are a change within it

@@ -5,3 +5,4 @@ pub mod CopyLemmas
 pub mod WindowLemmas
 pub mod FmapLemmas
 pub mod AreaLemmas
+pub mod StoringLemmas

@@ -9,3 +9,4 @@ pub mod Output
 pub mod Pages
 pub mod Regions
 pub mod Scans
+pub mod Storing

@@ -1,62 +1,32 @@
-//! A device in a file. That a file is honest is a premise: no contract says it or denies it.
-ghost use Rattle.std.specs.Prelude.{◌≡◌, ◌<◌, length, OnErr, IfOk};
-ghost use Rattle.flash_store.specs.Device.{OneCall};
+//! A device in a file of the system.
+ghost use Rattle.std.specs.Prelude.{◌≡◌, IfOk, IsTrue, length, replicate};
 
-use crate::counter::Counter;
-use crate::flash::{Flash, FlashFault};
-use crate::open_fault::{OpenFault, checked_length};
-use flash_format::HEADER_LENGTH;
-use std::fs::{File, OpenOptions};
-use std::io;
-use std::marker::Model;
-use std::os::unix::fs::FileExt;
+use crate::ahead::Ahead;
+use crate::erased::Erased;
+use crate::open_fault::OpenFault;
+use crate::os_file::OsFile;
+use crate::stored_flash::StoredFlash;
+use std::fs::File;
 use std::rt::Files;
-use std::snapshot::Snapshot;
 
-/// A device in a file that is open for reading and writing. Each call is one call to the file.
+/// A device in a file that is open for reading and writing and locked. The lock ends with the device.
 ///
-/// Its length is the file's when it was opened: what is added later isn't seen, and a call for bytes that the file has
-/// lost is refused. A commit is one write; whether the system makes that whole isn't known, so every fact that a contract
-/// says of an honest device is, for a file, a premise about the system.
-#[derive(Drop)]
-pub struct FileFlash {
-    file: File,
-    len: u32,
-    calls: Counter,
-    faults: Counter,
-    honest: Snapshot<bool>,
-}
+/// Whether the system's files do what they answer isn't known, so every fact that a contract says of an honest device is,
+/// for this one, a premise about one call of the system at a time.
+pub type FileFlash = StoredFlash<Ahead<Erased<OsFile>>>;
 
-impl Model for FileFlash {
-    ghost use Rattle.std.specs.Prelude.{◌≡◌, replicate, false};
-    ghost use Rattle.flash_store.specs.Device.{Device};
-
-    ghost Value = { Device };
-
-    // No clause ties what a file gives to a list of bytes, so this one can promise nothing of its bytes.
-    ghost view = { λ f. record {
-      content = replicate f.len 0;
-      calls = f.calls;
-      faults = f.faults;
-      honest = f.honest.value;
-    } };
-
-    ghost invariant = { λ f. f.honest.value ≡ false };
-}
-
-impl FileFlash {
-    /// Opens a file for reading and writing. A file that isn't there or may not be read or written is `Failed`; one of 2^32
-    /// bytes or more is `TooLarge`.
+impl StoredFlash<Ahead<Erased<OsFile>>> {
+    /// Opens a file for reading and writing, and waits while another command holds its lock. A file that isn't there, may
+    /// not be read or written, or can't tell its length, as a pipe, is `Failed`; one of 2^32 bytes or more is `TooLarge`.
     pub fn open<R: Files<File = File>>(rt: &R, path: &str) -> Result<FileFlash, OpenFault>
         ensures { IfOk result (λ device. (device.calls ≡ 0) × (device.faults ≡ 0)) }
     {
-        let file = OpenOptions::new().read(true).write(true).open(rt, path)?;
-        let len = checked_length(file.metadata()?.len())?;
-        Ok(Self::in_file(file, len))
+        let file = OsFile::open(rt, path)?;
+        Ok(StoredFlash::new(Ahead::new(Erased::new(file))))
     }
 
-    /// Makes a file for a device of `size` bytes, or empties the one that is there, and writes all of it as 0xff. A file that
-    /// can't be made, opened or written is `Failed`.
+    /// Makes a file for a device of `size` bytes, or empties the one that is there once it has its lock, and writes all of
+    /// it as 0xff. A file that can't be made, opened or written is `Failed`, and so is a block device with less room.
     pub fn create<R: Files<File = File>>(
         rt: &R,
         path: &str,
@@ -64,81 +34,12 @@ impl FileFlash {
     ) -> Result<FileFlash, OpenFault>
         ensures made { IfOk result (λ device.
             (device.calls ≡ 0) × (device.faults ≡ 0) × (length device.content ≡ size)) }
+        ensures erased { IfOk result (λ device. IsTrue device.honest →
+            device.content ≡ replicate size 0xff) }
     {
-        let file = OpenOptions::new()
-            .read(true)
-            .write(true)
-            .create(true)
-            .truncate(true)
-            .open(rt, path)?;
-        write_blank(&file, size)?;
-        Ok(Self::in_file(file, size))
-    }
-
-    /// The device in a file of `len` bytes.
-    fn in_file(file: File, len: u32) -> FileFlash
-        ensures fresh { (result.calls ≡ 0) × (result.faults ≡ 0) }
-        ensures length { length result.content ≡ len }
-    {
-        FileFlash {
-            file,
-            len,
-            calls: Counter::new(),
-            faults: Counter::new(),
-            honest: Snapshot::of(&false),
+        match Erased::erase(OsFile::create(rt, path, size)?) {
+            Ok(file) => Ok(StoredFlash::new(Ahead::new(file))),
+            Err(_) => Err(OpenFault::Failed),
         }
-    }
-
-    /// Counts a call, and the fault where it failed.
-    fn counted(&mut self, answer: io::Result<()>) -> Result<(), FlashFault>
-        ensures call { OneCall self.old self.new }
-        ensures cause { OnErr result (self.old.faults < self.new.faults) }
-    {
-        self.calls.tick();
-        match answer {
-            Ok(()) => Ok(()),
-            Err(_) => {
-                self.faults.tick();
-                Err(FlashFault)
-            }
-        }
-    }
-}
-
-/// How many bytes of a new file are written at once.
-const BLANK: usize = 65536;
-
-/// Writes `size` bytes 0xff from the file's start on.
-fn write_blank(file: &File, size: u32) -> io::Result<()> {
-    let blank = [0xff; BLANK];
-    let mut at = 0;
-    while at < size {
-        let n = (size - at).min(BLANK as u32);
-        file.write_all_at(&blank[..n as usize], u64::from(at))?;
-        at += n;
-    }
-    Ok(())
-}
-
-impl Flash for FileFlash {
-    ghost facts = { λ f. f };
-
-    fn len(&self) -> u64 {
-        u64::from(self.len)
-    }
-
-    fn read_at(&mut self, at: u64, out: &mut [u8]) -> Result<(), FlashFault> {
-        let answer = self.file.read_exact_at(out, at);
-        self.counted(answer)
-    }
-
-    fn write_at(&mut self, at: u64, bytes: &[u8]) -> Result<(), FlashFault> {
-        let answer = self.file.write_all_at(bytes, at);
-        self.counted(answer)
-    }
-
-    fn commit_at(&mut self, at: u64, bytes: &[u8; HEADER_LENGTH]) -> Result<(), FlashFault> {
-        let answer = self.file.write_all_at(bytes, at);
-        self.counted(answer)
     }
 }

@@ -1,8 +1,9 @@
 //! What no clause shows: bytes from outside, real files, and that each call does its work.
 use flash_format::{FmapHead, HEADER_LENGTH};
 use flash_store::{
-    CopyFault, FailAt, FailSource, FileFlash, FileSource, Flash, FlashFault, MemFlash, MemSource,
-    OpenFault, PIECE, Paged, Sink, Source, StoreFault, WriteSink, area, find_fmap, put_all, region,
+    Ahead, CopyFault, Erased, FailAt, FailSource, FileFlash, FileSource, FlakyFile, Flash,
+    FlashFault, MemFlash, MemSource, OpenFault, PIECE, Paged, Sink, Source, StoreFault,
+    StoredFlash, StoredSource, WriteSink, area, find_fmap, put_all, region,
 };
 use std::alloc::{AllocError, Global};
 use std::fmt::Debug;
@@ -389,6 +390,71 @@ fn agrees(rt: &impl Abort, paged: &mut Paged<Counting<MemFlash>>, written: &[u8]
     );
 }
 
+/// A file of 100 numbered bytes that moves at most 7 bytes a call and is interrupted at every fourth.
+fn flaky(rt: &(impl Abort + AllocGlobal), calls: u64) -> Result<FlakyFile, Fail> {
+    let bytes = numbered(rt.alloc(), 100)?;
+    assert!(rt; bytes.len() < 1 << 32);
+    Ok(FlakyFile::new(bytes, 7, 3, calls))
+}
+
+#[test]
+fn a_device_in_a_file_moves_all(rt: HostRuntime) -> Result<(), Fail> {
+    let mut device = StoredFlash::new(Ahead::new(Erased::new(flaky(&rt, 1000)?)));
+    let mut seen = [0; 50];
+    assert!(rt; read_at(&rt, &mut device, 3, &mut seen).is_ok());
+    same_bytes(
+        &rt,
+        &seen,
+        part_of(&rt, numbered(rt.alloc(), 100)?.as_slice(), 3, 53),
+    );
+    assert!(rt; write_at(&rt, &mut device, 20, &[200; 60]).is_ok());
+    assert!(rt; commit_at(&rt, &mut device, 1, &[2; HEADER_LENGTH]).is_ok());
+    let mut wanted = numbered(rt.alloc(), 100)?;
+    write_over(&rt, &mut wanted, 20, &[200; 60]);
+    write_over(&rt, &mut wanted, 1, &[2; HEADER_LENGTH]);
+    let file = device.into_inner().into_inner().into_inner();
+    same_bytes(&rt, file.bytes(), wanted.as_slice());
+    Ok(())
+}
+
+/// Puts bytes in place of those from `at` on.
+fn write_over(rt: &impl Abort, bytes: &mut Vec<u8>, at: usize, new: &[u8]) {
+    assert!(rt; at <= bytes.len() && new.len() <= bytes.len() - at);
+    bytes[at..at + new.len()].copy_from_slice(new);
+}
+
+#[test]
+fn a_source_in_a_file_moves_all(rt: HostRuntime) -> Result<(), Fail> {
+    let mut source = StoredSource::new(flaky(&rt, 1000)?);
+    let mut paged = Paged::new(MemFlash::new(image(rt.alloc(), 100, 0, &[])?)?);
+    copy_in(&rt, &mut paged, 0, 100, &mut source)?;
+    same_bytes(
+        &rt,
+        paged.flash().bytes(),
+        numbered(rt.alloc(), 100)?.as_slice(),
+    );
+    Ok(())
+}
+
+#[test]
+fn a_file_is_erased(rt: HostRuntime) -> Result<(), Fail> {
+    let Ok(file) = Erased::erase(flaky(&rt, 1000)?) else {
+        return Err("refused")?;
+    };
+    let mut device = StoredFlash::new(file);
+    assert!(rt; write_at(&rt, &mut device, 10, &[0xff; 50]).is_ok());
+    assert!(rt; write_at(&rt, &mut device, 30, b"new").is_ok());
+    assert!(rt; write_at(&rt, &mut device, 20, &[0xff; 11]).is_ok());
+    let file = device.into_inner().into_inner();
+    same_bytes(
+        &rt,
+        file.bytes(),
+        image(rt.alloc(), 100, 31, b"ew")?.as_slice(),
+    );
+    assert!(rt; Erased::erase(flaky(&rt, 10)?).is_err());
+    Ok(())
+}
+
 #[test]
 fn a_file_is_written_and_read(rt: HostRuntime) -> Result<(), Fail> {
     fs::write(&rt, "input.bin", "0123456789")?;
@@ -454,6 +520,21 @@ fn read_cut(rt: &(impl Abort + Files<File = File>)) -> Result<[bool; 2], Fail> {
     Ok(first_and_last(rt, &mut device))
 }
 
+#[test]
+fn a_source_that_was_cut_refuses_what_it_lost(rt: HostRuntime) -> Result<(), Fail> {
+    let long = numbered(rt.alloc(), 5000)?;
+    fs::write(&rt, "source.bin", long.as_slice())?;
+    let mut source = FileSource::open(&rt, "source.bin")?;
+    let mut paged = Paged::new(MemFlash::new(image(rt.alloc(), 5000, 0, &[])?)?);
+    fs::write(&rt, "source.bin", part_of(&rt, long.as_slice(), 0, 4100))?;
+    let copied = copy_in(&rt, &mut paged, 0, 5000, &mut source);
+    equal(&rt, &copied, &Err(CopyFault::Source));
+    let left = image(rt.alloc(), 5000, 0, part_of(&rt, long.as_slice(), 0, 4096))?;
+    same_bytes(&rt, paged.flash().bytes(), left.as_slice());
+    fs::remove_file(&rt, "source.bin")?;
+    Ok(())
+}
+
 /// Which of two reads pass.
 fn first_and_last<F: Flash>(rt: &impl Abort, device: &mut F) -> [bool; 2] {
     let mut out = [0; 5];
@@ -474,6 +555,7 @@ fn opened(
 
 #[test]
 fn files_are_opened_by_their_length(rt: HostRuntime) -> Result<(), Fail> {
+    let _absent = fs::remove_file(&rt, "absent.bin");
     open_sparse(&rt, 0xffff_ffff, Ok(0xffff_ffff))?;
     open_sparse(&rt, 1 << 32, Err(OpenFault::TooLarge))?;
     fs::remove_file(&rt, "sparse.bin")?;
@@ -501,6 +583,10 @@ fn a_file_is_made_for_a_device(rt: HostRuntime) -> Result<(), Fail> {
     make(&rt, 5000)?;
     make(&rt, 4096)?;
     make(&rt, 0)?;
+    // (around the pieces in which it is written)
+    make(&rt, 65536)?;
+    make(&rt, 65537)?;
+    make(&rt, 200_000)?;
     fs::remove_file(&rt, "made.bin")?;
     let refused = FileFlash::create(&rt, "absent/made.bin", 1).map(|device| device.len());
     equal(&rt, &refused, &Err(OpenFault::Failed));

@@ -1,0 +1,131 @@
+-- Bytes that are moved some at a time.
+use Rattle.std.proofs.Common.{◌≡◌, ◌⊎◌, ◌∙◌, sym, ap, subst, take-add, IsTrue, Bool, ℕ, ◌+◌, ◌-◌, ◌≤◌, List, length, take, drop, arith, ◌++◌, length-append, length-take, length-drop, replicate, refl, inl, inr}
+use Rattle.std.proofs.lemmas.List.{length-take-le, take_rest, drop-drop, length-replicate, take-replicate, replicate-append-replicate, drop-replicate, take-take, drop-take}
+use Rattle.std.proofs.lemmas.Slice.{take-put_mid}
+use Rattle.std.proofs.Math.Seq.{take-append-add, take-length}
+use borrow.Rule.Slice.PartMut.{put_mid}
+use Rattle.flash_store.specs.Bytes.{overwritten, SameOutside}
+use Rattle.flash_store.specs.Storing.{Stored, SameFile, SameBytes, IsErased}
+use Rattle.std.specs.Prelude.{slice_range}
+use Rattle.flash_store.proofs.BytesLemmas.{nearer, further, slice_range_is, overwritten_is, overwritten-more_at, SameOutside-overwritten, SameOutside-trans}
+
+-- a file is as faithful as it was
+pub faithful_still : {old new : Bool} → new ≡ old → IsTrue old → IsTrue new
+faithful_still same h = subst IsTrue (sym same) h
+
+-- calls after calls
+pub SameFile-trans : {a b c : Stored} → SameFile a b → SameFile b c → SameFile a c
+SameFile-trans first second = record {
+  same_faith = second.same_faith ∙ first.same_faith;
+  same_length = second.same_length ∙ first.same_length;
+}
+
+-- what is left of the bytes
+pub length-rest : (bytes : List ℕ) (done : ℕ) → length (take (length bytes - done) (drop done bytes)) ≡ length bytes - done
+length-rest bytes done = ap length (take_rest bytes done) ∙ length-drop done bytes
+
+-- after a part of them, some more are written
+pub Written-more : (old mid new : List ℕ) (at done n : ℕ) (bytes : List ℕ) → done + n ≤ length bytes → at + length bytes ≤ length old
+    → mid ≡ overwritten old at (take done bytes) → new ≡ overwritten mid (at + done) (take n (take (length bytes - done) (drop done bytes))) → new ≡ overwritten old at (take (done + n) bytes)
+Written-more old mid new at done n bytes within inside so_far now =
+    now ∙ ap (λ rest. overwritten mid (at + done) (take n rest)) (take_rest bytes done) ∙ ap (λ m. overwritten m (at + done) (take n (drop done bytes))) so_far
+    ∙ overwritten-more_at old at done (take done bytes) (take n (drop done bytes)) (length-take-le done bytes (omega (arith, within))) (omega (arith, within, inside))
+    ∙ ap (overwritten old at) (sym (take-add done n bytes))
+
+-- a part of them is written inside their range
+pub Written-outside : (old mid : List ℕ) (at done : ℕ) (bytes : List ℕ) → done ≤ length bytes → at + length bytes ≤ length old
+    → mid ≡ overwritten old at (take done bytes) → SameOutside at (length bytes) old mid
+Written-outside old mid at done bytes within inside so_far =
+    rw so_far (SameOutside-overwritten old at (length bytes) (take done bytes) (rw (length-take-le done bytes within) within) (omega (arith, inside)))
+
+-- and so is what a call leaves that failed behind it
+pub Written-torn : (old mid new : List ℕ) (at done : ℕ) (bytes : List ℕ) → done ≤ length bytes → at + length bytes ≤ length old
+    → mid ≡ overwritten old at (take done bytes) → SameOutside (at + done) (length (take (length bytes - done) (drop done bytes))) mid new → SameOutside at (length bytes) old new
+Written-torn old mid new at done bytes within inside so_far torn =
+    SameOutside-trans old mid new at (length bytes) done (length bytes - done) (omega (arith, within)) (Written-outside old mid at done bytes within inside so_far) (subst (λ k. SameOutside (at + done) k mid new) (length-rest bytes done) torn)
+
+-- a list whose end was replaced
+pub length-ended : (out tail : List ℕ) (done : ℕ) → done ≤ length out → length tail ≡ length out - done → length (put_mid done (length out - done) out tail) ≡ length out
+length-ended out tail done within size = grind (arith, length-append, length-take, length-drop)
+
+ended : (out tail : List ℕ) (done : ℕ) → done ≤ length out → length tail ≡ length out - done → put_mid done (length out - done) out tail ≡ take done out ++ tail
+ended out tail done within size =
+    sym (take-length (put_mid done (length out - done) out tail))
+    ∙ take-put_mid done (length out - done) out tail (length (put_mid done (length out - done) out tail)) (length-ended out tail done within size ∙ omega (arith, within, size)) within
+
+-- behind a part of them, some more are read
+pub Read-more : (out tail x : List ℕ) (at done n : ℕ) → done ≤ length out → length tail ≡ length out - done
+    → take done out ≡ take done (drop at x) → take n tail ≡ take n (drop (at + done) x)
+    → take (done + n) (put_mid done (length out - done) out tail) ≡ take (done + n) (drop at x)
+Read-more out tail x at done n within size had now =
+    ap (take (done + n)) (ended out tail done within size)
+    ∙ ap (λ k. take (k + n) (take done out ++ tail)) (sym (length-take-le done out within))
+    ∙ take-append-add (take done out) tail n
+    ∙ ap (λ front. front ++ take n tail) had
+    ∙ ap (λ rest. take done (drop at x) ++ rest) (now ∙ ap (take n) (sym (drop-drop done at x)))
+    ∙ sym (take-add done n (drop at x))
+
+-- reads after reads
+pub SameBytes-trans : {a b c : Stored} → SameBytes a b → SameBytes b c → SameBytes a c
+SameBytes-trans first second = record {
+  same = SameFile-trans first.same second.same;
+  unchanged = λ h. second.unchanged (faithful_still first.same.same_faith h) ∙ first.unchanged h;
+}
+
+-- 0xff behind 0xff
+pub Erased-more : (mid new : List ℕ) (at n m : ℕ) → n ≤ m → at + n ≤ length mid → take at mid ≡ replicate at 255
+    → new ≡ overwritten mid at (take n (replicate m 255)) → take (at + n) new ≡ replicate (at + n) 255
+Erased-more mid new at n m short inside so_far now =
+    let xs : List ℕ = replicate n 255 in
+    let size : length xs ≡ n = length-replicate n 255 in
+    ap (take (at + n)) (now ∙ ap (overwritten mid at) (take-replicate n m 255 short))
+    ∙ ap (λ k. take (at + k) (overwritten mid at xs)) (sym size)
+    ∙ ap (take (at + length xs)) (overwritten_is mid at xs)
+    ∙ take-put_mid at (length xs) mid xs (at + length xs) refl (omega (arith, inside))
+    ∙ ap (λ front. front ++ xs) so_far
+    ∙ replicate-append-replicate at n 255
+
+-- ---- erased stretches
+
+-- a part of one
+pub IsErased-part : (x : List ℕ) (from to at n : ℕ) → from ≤ at → at + n ≤ to → IsErased from to x → slice_range x at (at + n) ≡ replicate n 255
+IsErased-part x from to at n low high all =
+    let skip : ℕ = at - from in
+    let m : ℕ = to - from in
+    let d : List ℕ = drop from x in
+    let start : skip + from ≡ at = omega (arith, low) in
+    slice_range_is x at n
+    ∙ ap (λ k. take n (drop k x)) (sym start ∙ omega arith)
+    ∙ ap (take n) (sym (drop-drop skip from x))
+    ∙ sym (drop-take skip n d)
+    ∙ ap (drop skip) (sym (take-take (skip + n) m d (omega (arith, low, high))) ∙ ap (take (skip + n)) all ∙ take-replicate (skip + n) m 255 (omega (arith, low, high)))
+    ∙ drop-replicate skip (skip + n) 255
+    ∙ ap (λ k. replicate k 255) (omega arith)
+
+-- the same as a stretch
+pub IsErased-inside : (x : List ℕ) (from to a b : ℕ) → from ≤ a → a ≤ b → b ≤ to → IsErased from to x → IsErased a b x
+IsErased-inside x from to a b low order high all =
+    let whole : a + (b - a) ≡ b = omega (arith, order) in
+    subst (λ k. slice_range x a k ≡ replicate (b - a) 255) whole (IsErased-part x from to a (b - a) low (omega (arith, order, high)) all)
+
+-- one that a change doesn't touch
+pub IsErased-apart : (x y : List ℕ) (at n from to : ℕ) → from ≤ to → (from ≡ to) ⊎ (to ≤ at) ⊎ (at + n ≤ from) → SameOutside at n x y → IsErased from to x → IsErased from to y
+IsErased-apart x y at n from to order (inl none) same all = let zero : to - from ≡ 0 = omega (arith, none) in rw zero refl
+IsErased-apart x y at n from to order (inr (inl before)) same all =
+    let whole : from + (to - from) ≡ to = omega (arith, order) in
+    sym (drop-take from (to - from) y)
+    ∙ ap (drop from) (nearer x y (from + (to - from)) at (omega (arith, order, before)) same.before)
+    ∙ drop-take from (to - from) x
+    ∙ all
+IsErased-apart x y at n from to order (inr (inr behind)) same all =
+    ap (take (to - from)) (further x y (at + n) from behind same.after) ∙ all
+
+-- a part of what was read ahead
+pub Held-part : (window x : List ℕ) (from held at n : ℕ) → from ≤ at → at - from ≤ held → n ≤ held - (at - from) → take held window ≡ take held (drop from x)
+    → take n (take (held - (at - from)) (drop (at - from) window)) ≡ take n (drop at x)
+Held-part window x from held at n before within short had =
+    let skip : ℕ = at - from in
+    let whole : held ≡ skip + (held - skip) = omega (arith, within) in
+    let step : take (held - skip) (drop skip window) ≡ take (held - skip) (drop skip (drop from x)) =
+    sym (drop-take skip (held - skip) window) ∙ ap (λ k. drop skip (take k window)) (sym whole) ∙ ap (drop skip) had ∙ ap (λ k. drop skip (take k (drop from x))) whole ∙ drop-take skip (held - skip) (drop from x) in
+    ap (take n) step ∙ take-take n (held - skip) (drop skip (drop from x)) short ∙ ap (take n) (drop-drop skip from x ∙ ap (λ k. drop k x) (omega (arith, before)))

@@ -1,0 +1,153 @@
+//! A file that is read ahead.
+ghost use Rattle.std.specs.Prelude.{◌≡◌, ◌+◌, ◌-◌, ◌≤◌, IfOk, IsTrue, length, take, drop};
+ghost use Rattle.flash_store.specs.Storing.{SameBytes};
+
+use crate::storage::{Storage, StorageFault};
+use std::marker::Model;
+
+/// How many bytes are read ahead.
+const AHEAD: usize = 65536;
+
+/// How far from the end of the last read one may begin that goes on: before it, since what stands across its end is read
+/// again; behind it, since contents are skipped.
+const NEAR: u64 = 4096;
+
+/// A file whose reads are answered from a window where they can be. A read that goes on where the last one ended fills the
+/// window; any other asks for what it needs and no more.
+#[derive(Drop)]
+pub struct Ahead<S: Storage> {
+    storage: S,
+    window: [u8; AHEAD],
+    from: u64,
+    to: u64,
+    next: u64,
+}
+
+impl<S: Storage> Model for Ahead<S> {
+    ghost use Rattle.std.specs.Prelude.{◌≡◌, ◌-◌, ◌≤◌, length, take, drop, IsTrue};
+    ghost use Rattle.flash_store.specs.Storing.{Stored};
+
+    ghost Value = { Stored };
+
+    ghost view = { λ f. S.facts f.storage };
+
+    ghost invariant = { λ f. (f.from ≤ f.to) × (f.to - f.from ≤ length f.window)
+        × (IsTrue (S.facts f.storage).faithful →
+        take (f.to - f.from) f.window ≡ take (f.to - f.from) (drop f.from (S.facts f.storage).content)) };
+}
+
+impl<S: Storage> Ahead<S> {
+    /// The file, of which nothing was read.
+    pub fn new(storage: S) -> Ahead<S>
+        ensures { result ≡ S.facts storage }
+    {
+        Ahead {
+            storage,
+            window: [0; AHEAD],
+            from: 0,
+            to: 0,
+            next: u64::MAX,
+        }
+    }
+
+    /// The other file, with what was written.
+    pub fn into_inner(self) -> S
+        ensures { S.facts result ≡ self }
+    {
+        let Ahead { storage, .. } = self;
+        storage
+    }
+
+    /// What the window holds from `at` on.
+    fn held_from(&self, at: u64) -> &[u8]
+        ensures { IsTrue self.now.faithful →
+            result.now ≡ take (length result.now) (drop at self.now.content) }
+    {
+        if at < self.from || at > self.to {
+            return &[];
+        }
+        part(
+            &self.window,
+            (at - self.from) as usize,
+            (self.to - self.from) as usize,
+        )
+    }
+
+    /// Loads the window from `at` on.
+    fn fill(&mut self, at: u64) -> Result<(), StorageFault>
+        requires { at ≤ length self.old.content }
+        ensures { SameBytes self.old self.new }
+    {
+        self.from = at;
+        self.to = at;
+        let left = self.storage.len() - at;
+        let n = left.min(AHEAD as u64) as usize;
+        let held = read_front(&mut self.storage, at, &mut self.window, n)?;
+        self.to += held as u64;
+        Ok(())
+    }
+}
+
+/// Reads some of n bytes from `at` on into the front of `out`, and says how many.
+fn read_front<S: Storage>(
+    storage: &mut S,
+    at: u64,
+    out: &mut [u8],
+    n: usize,
+) -> Result<usize, StorageFault>
+    requires inside { at + n ≤ length (S.facts storage.old).content }
+    requires room { n ≤ length out.old }
+
+    ensures after { SameBytes (S.facts storage.old) (S.facts storage.new) }
+    ensures short { IfOk result (λ k. k ≤ n) }
+    ensures read { IsTrue (S.facts storage.old).faithful → IfOk result (λ k.
+        take k out.new ≡ take k (drop at (S.facts storage.old).content)) }
+{
+    storage.read_some(at, &mut out[..n])
+}
+
+/// The bytes from one place up to another.
+fn part(bytes: &[u8], from: usize, to: usize) -> &[u8]
+    requires order { from ≤ to }
+    requires inside { to ≤ length bytes.now }
+    ensures { result.now ≡ take (to - from) (drop from bytes.now) }
+{
+    &bytes[from..to]
+}
+
+/// Copies the first bytes, as many as there are and fit, and says how many.
+fn copy_first(bytes: &[u8], out: &mut [u8]) -> usize
+    ensures fits { result ≤ length out.old }
+    ensures there { result ≤ length bytes.now }
+    ensures copied { take result out.new ≡ take result bytes.now }
+{
+    let n = bytes.len().min(out.len());
+    out[..n].copy_from_slice(&bytes[..n]);
+    n
+}
+
+impl<S: Storage> Storage for Ahead<S> {
+    ghost facts = { λ f. f };
+
+    fn len(&self) -> u64 {
+        self.storage.len()
+    }
+
+    fn read_some(&mut self, at: u64, out: &mut [u8]) -> Result<usize, StorageFault> {
+        if self.held_from(at).is_empty() {
+            if at.abs_diff(self.next) > NEAR {
+                self.next = at.wrapping_add(out.len() as u64);
+                return self.storage.read_some(at, out);
+            }
+            self.fill(at)?;
+        }
+        let n = copy_first(self.held_from(at), out);
+        self.next = at.wrapping_add(n as u64);
+        Ok(n)
+    }
+
+    fn write_some(&mut self, at: u64, bytes: &[u8]) -> Result<usize, StorageFault> {
+        self.to = self.from;
+        self.storage.write_some(at, bytes)
+    }
+}

@@ -1,0 +1,56 @@
+//! One call of a file.
+ghost use Rattle.std.specs.Prelude.{◌≡◌, ◌⊎◌, ◌+◌, ◌^◌, ◌<◌, ◌≤◌, length, take, drop, IsTrue, IfOk, IsErrOf};
+ghost use Rattle.flash_store.specs.Bytes.{overwritten, SameOutside};
+ghost use Rattle.flash_store.specs.Storing.{Stored, SameFile, SameBytes};
+
+use flash_format::HEADER_LENGTH;
+
+/// Why a call moved nothing, or not all that it should have.
+#[derive(Clone, Copy, Debug, PartialEq, Eq, Drop)]
+pub enum StorageFault {
+    /// It was interrupted, and may be made again.
+    Interrupted,
+    /// It failed.
+    Failed,
+}
+
+/// A file that is read and written by position, a call of the system each. A call may move fewer bytes than it was asked
+/// to. Places count the file's bytes from 0.
+pub trait Storage: Drop {
+    /// Its bytes, and whether it is faithful: each call does what it answers.
+    ghost facts: { Self → Stored };
+
+    /// How many bytes there are. No call changes it.
+    fn len(&self) -> u64
+        ensures length { result ≡ length (facts self.now).content }
+        ensures below { result < 2 ^ 32 };
+
+    /// Reads some of the bytes from `at` on into the front of `out`, and says how many. Behind them, and after a fault,
+    /// `out` may hold anything.
+    fn read_some(&mut self, at: u64, out: &mut [u8]) -> Result<usize, StorageFault>
+        requires inside { at + length out.old ≤ length (facts self.old).content }
+
+        ensures after { SameBytes (facts self.old) (facts self.new) }
+        ensures short { IfOk result (λ n. n ≤ length out.old) }
+        ensures read { IsTrue (facts self.old).faithful → IfOk result (λ n.
+            take n out.new ≡ take n (drop at (facts self.old).content)) };
+
+    /// Writes some of the first bytes from `at` on, and says how many.
+    fn write_some(&mut self, at: u64, bytes: &[u8]) -> Result<usize, StorageFault>
+        requires inside { at + length bytes.now ≤ length (facts self.old).content }
+
+        ensures after { SameFile (facts self.old) (facts self.new) }
+        ensures short { IfOk result (λ n. n ≤ length bytes.now) }
+
+        // Of a faithful file, all but the first whatever it answers.
+        ensures written { IsTrue (facts self.old).faithful → IfOk result (λ n.
+            (facts self.new).content ≡ overwritten (facts self.old).content at (take n bytes.now)) }
+        ensures torn { IsTrue (facts self.old).faithful →
+            SameOutside at (length bytes.now) (facts self.old).content (facts self.new).content }
+        ensures interrupted { IsTrue (facts self.old).faithful → IsErrOf result StorageFault.Interrupted →
+            (facts self.new).content ≡ (facts self.old).content }
+        // A write of no more than a header is whole or absent.
+        ensures whole { IsTrue (facts self.old).faithful → length bytes.now ≤ HEADER_LENGTH →
+            ((facts self.new).content ≡ (facts self.old).content)
+            ⊎ ((facts self.new).content ≡ overwritten (facts self.old).content at bytes.now) };
+}

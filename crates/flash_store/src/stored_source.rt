@@ -1,0 +1,66 @@
+//! A source in a file.
+ghost use Rattle.std.specs.Prelude.{◌≡◌};
+
+use crate::counter::Counter;
+use crate::source::{Source, SourceFault};
+use crate::storage::Storage;
+use crate::transfer::read_whole;
+use std::marker::Model;
+
+/// A source in a file, which is honest exactly where the file is faithful.
+#[derive(Drop)]
+pub struct StoredSource<S: Storage> {
+    storage: S,
+    calls: Counter,
+    faults: Counter,
+}
+
+impl<S: Storage> Model for StoredSource<S> {
+    ghost use Rattle.flash_store.specs.Device.{Device};
+
+    ghost Value = { Device };
+
+    ghost view = { λ f. record {
+      content = (S.facts f.storage).content;
+      calls = f.calls;
+      faults = f.faults;
+      honest = (S.facts f.storage).faithful;
+    } };
+}
+
+impl<S: Storage> StoredSource<S> {
+    /// The source in a file, before any read.
+    pub fn new(storage: S) -> StoredSource<S>
+        ensures { result ≡ record {
+          content = (S.facts storage).content;
+          calls = 0;
+          faults = 0;
+          honest = (S.facts storage).faithful;
+        } }
+    {
+        StoredSource {
+            storage,
+            calls: Counter::new(),
+            faults: Counter::new(),
+        }
+    }
+}
+
+impl<S: Storage> Source for StoredSource<S> {
+    ghost facts = { λ f. f };
+
+    fn len(&self) -> u64 {
+        self.storage.len()
+    }
+
+    fn read_at(&mut self, at: u64, out: &mut [u8]) -> Result<(), SourceFault> {
+        self.calls.tick();
+        match read_whole(&mut self.storage, at, out) {
+            Ok(()) => Ok(()),
+            Err(_) => {
+                self.faults.tick();
+                Err(SourceFault)
+            }
+        }
+    }
+}
