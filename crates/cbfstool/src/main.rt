@@ -30,48 +30,65 @@ fn open_source(rt: &HostRuntime, path: &str) -> Result<FileSource, Refusal> {
 /// How many bytes of output are collected before they are written.
 const COLLECTED: usize = 65536;
 
-/// What a command uses besides the image.
+/// The file that a command writes, which is made once there is memory for its output.
 #[derive(Drop)]
-enum Side {
-    Nothing,
-    Printed,
-    Source(FileSource),
-    Output(File),
+struct OutputFile {
+    file: Option<File>,
 }
 
-/// Opens the file that the command reads, or makes the one that it writes.
-fn open_side(rt: &HostRuntime, command: &Command, file: Option<&str>) -> Result<Side, Refusal> {
-    let path = file.unwrap_or("");
-    match command {
-        Command::Print { .. } | Command::Layout => Ok(Side::Printed),
-        Command::Remove { .. } => Ok(Side::Nothing),
-        Command::Extract { .. } | Command::Read { .. } => match File::create(rt, path) {
-            Ok(file) => Ok(Side::Output(file)),
-            Err(fault) if fault.kind() == ErrorKind::OutOfMemory => Err(Refusal::Memory),
-            Err(_) => Err(Refusal::Output),
-        },
-        Command::Add { .. } | Command::Write { .. } | Command::Create { .. } => {
-            Ok(Side::Source(open_source(rt, path)?))
+impl Write for OutputFile {
+    fn write(&mut self, bytes: &[u8]) -> io::Result<usize> {
+        match &mut self.file {
+            Some(file) => file.write(bytes),
+            None => Err(io::Error::from(ErrorKind::NotFound)),
         }
+    }
+
+    fn flush(&mut self) -> io::Result<()> {
+        Ok(())
     }
 }
 
-/// Runs a command whose output is collected. What it told before a refusal is written, too.
+/// What a command writes, before it is written.
+type Collected<W> = BufWriter<W>;
+
+/// Takes the memory for what is collected.
+fn collect<W: Write + Drop>(rt: &HostRuntime, output: W) -> Result<Collected<W>, Refusal> {
+    BufWriter::with_capacity(rt.alloc(), COLLECTED, output).map_err(|_| Refusal::Memory)
+}
+
+/// Makes the file that a command writes, or empties it.
+fn make_output(rt: &HostRuntime, path: &str) -> Result<File, Refusal> {
+    match File::create(rt, path) {
+        Ok(file) => Ok(file),
+        Err(fault) if fault.kind() == ErrorKind::OutOfMemory => Err(Refusal::Memory),
+        Err(_) => Err(Refusal::Output),
+    }
+}
+
+/// Runs a command that writes output. What it told before a refusal is written, too.
 fn run_into<W: Write + Drop>(
+    paged: &mut Paged<FileFlash>,
+    command: &Command,
+    collected: Collected<W>,
+) -> Result<(), Refusal> {
+    let mut out = WriteSink::new(collected);
+    let answer = run(paged, command, &mut MemSource::new(&[]), &mut out);
+    let written = out.into_inner().flush();
+    answer?;
+    written.map_err(|_| Refusal::Output)
+}
+
+/// Runs a command whose output goes into a file.
+fn run_into_file(
     rt: &HostRuntime,
     paged: &mut Paged<FileFlash>,
     command: &Command,
-    output: W,
+    path: &str,
 ) -> Result<(), Refusal> {
-    let Ok(collected) = BufWriter::with_capacity(rt.alloc(), COLLECTED, output) else {
-        return Err(Refusal::Memory);
-    };
-    let mut out = WriteSink::new(collected);
-    let answer = run(paged, command, &mut MemSource::new(&[]), &mut out);
-    match out.into_inner().flush() {
-        Ok(()) => answer,
-        Err(_) => Err(Refusal::Output),
-    }
+    let mut collected = collect(rt, OutputFile { file: None })?;
+    collected.get_mut().file = Some(make_output(rt, path)?);
+    run_into(paged, command, collected)
 }
 
 /// Runs a command that writes no output, on a source.
@@ -119,11 +136,18 @@ fn execute(rt: &HostRuntime, line: &Line) -> Result<(), Refusal> {
         Err(fault) => return Err(open_refusal(fault, Refusal::Device)),
     };
     let mut paged = Paged::new(image);
-    match open_side(rt, &command, line.file())? {
-        Side::Nothing => run_from(rt, &mut paged, &command, MemSource::new(&[])),
-        Side::Printed => run_into(rt, &mut paged, &command, io::writer(rt)),
-        Side::Source(source) => run_from(rt, &mut paged, &command, source),
-        Side::Output(file) => run_into(rt, &mut paged, &command, file),
+    let path = line.file().unwrap_or("");
+    match command {
+        Command::Print { .. } | Command::Layout => {
+            run_into(&mut paged, &command, collect(rt, io::writer(rt))?)
+        }
+        Command::Extract { .. } | Command::Read { .. } => {
+            run_into_file(rt, &mut paged, &command, path)
+        }
+        Command::Remove { .. } => run_from(rt, &mut paged, &command, MemSource::new(&[])),
+        Command::Add { .. } | Command::Write { .. } | Command::Create { .. } => {
+            run_from(rt, &mut paged, &command, open_source(rt, path)?)
+        }
     }
 }
 
