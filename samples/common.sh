@@ -96,15 +96,17 @@ each_growth() {
     echo "memory: each of $((growths - 1)) growths refused is told"
 }
 
-# with_short_writes WORDS..: runs a check of a call where each write takes half of its bytes, as `with_short_writes does ..`
-with_short_writes() {
-    local checked=$tool
-    cc -shared -fPIC -o short_writes.so "$samples/short_writes.c" -ldl
+# with_short_calls READS|WRITES WORDS..: runs a check of a call where each read, or each write, moves half of its bytes, as
+# `with_short_calls WRITES does ..`
+with_short_calls() {
+    local kind=$1 checked=$tool
+    shift
+    [ -e short_calls.so ] || cc -shared -fPIC -o short_calls.so "$samples/short_calls.c" -ldl
     rm -f was_short
-    printf '#!/bin/sh\nSHORT=was_short LD_PRELOAD=./short_writes.so exec "%s" "$@"\n' "$checked" > halved
+    printf '#!/bin/sh\nSHORT_%s=was_short LD_PRELOAD=./short_calls.so exec "%s" "$@"\n' "$kind" "$checked" > halved
     chmod 755 halved
     tool=./halved
     "$@"
     tool=$checked
-    [ -e was_short ] || fail "$*: no write was short"
+    [ -e was_short ] || fail "$*: none of the $kind was short"
 }
