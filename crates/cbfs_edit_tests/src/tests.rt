@@ -103,17 +103,17 @@ const LONG: [u8; 9000] = [0x61; 9000];
 /// What stands where in a region, and 0xff elsewhere.
 pub type Parts<'a> = &'a [(usize, &'a [u8])];
 
-const BETWEEN: Parts = &[(0, &DELETED), (64, &M), (128, &NULL_340)];
+pub const BETWEEN: Parts = &[(0, &DELETED), (64, &M), (128, &NULL_340)];
 
-const TWICE: Parts = &[(0, &X1), (64, &X2), (128, &NULL_340)];
+pub const TWICE: Parts = &[(0, &X1), (64, &X2), (128, &NULL_340)];
 
-const ONCE: Parts = &[(0, &EMPTY_64), (64, &X2), (128, &NULL_340)];
+pub const ONCE: Parts = &[(0, &EMPTY_64), (64, &X2), (128, &NULL_340)];
 
 pub const FRESH: Parts = &[(0, &EMPTY_512)];
 
-const WITH_A: Parts = &[(0, &A), (64, &LAST_448)];
+pub const WITH_A: Parts = &[(0, &A), (64, &LAST_448)];
 
-const WITH_B_LATER: Parts = &[
+pub const WITH_B_LATER: Parts = &[
     (0, &A),
     (64, &EMPTY_128),
     (192, &B_20),
@@ -178,7 +178,7 @@ pub fn holds(
 }
 
 /// Removes a component from the whole of a device.
-fn remove_from<F: Flash>(
+pub fn remove_from<F: Flash>(
     rt: &impl Abort,
     paged: &mut Paged<F>,
     name: &[u8],
@@ -241,7 +241,7 @@ fn what_is_refused_changes_nothing(rt: HostRuntime) -> Result<(), Fail> {
 }
 
 /// Formats the whole of a device.
-fn format_all<F: Flash>(rt: &impl Abort, paged: &mut Paged<F>) -> Result<(), EditFault> {
+pub fn format_all<F: Flash>(rt: &impl Abort, paged: &mut Paged<F>) -> Result<(), EditFault> {
     let region = whole(rt, paged);
     format(paged, region)
 }
@@ -273,15 +273,15 @@ fn a_region_is_formatted(rt: HostRuntime) -> Result<(), Fail> {
 
 /// A component that is to be added, and where.
 #[derive(Clone, Copy)]
-struct New<'a> {
+pub struct New<'a> {
     name: &'a [u8],
     kind: u32,
     spot: Spot,
-    content: &'a [u8],
+    pub content: &'a [u8],
 }
 
 /// The component `b` of the usual type.
-fn b(spot: Spot, content: &[u8]) -> New<'_> {
+pub fn b(spot: Spot, content: &[u8]) -> New<'_> {
     New {
         name: b"b",
         kind: 0x50,
@@ -290,7 +290,7 @@ fn b(spot: Spot, content: &[u8]) -> New<'_> {
     }
 }
 
-const NEW_A: New = New {
+pub const NEW_A: New = New {
     name: b"a",
     kind: 0x50,
     spot: Spot::First,
@@ -303,7 +303,7 @@ pub fn source_of<'a>(rt: &impl Abort, bytes: &'a [u8]) -> MemSource<'a> {
 }
 
 /// Adds a component to the whole of a device.
-fn add_to<F: Flash, S: Source>(
+pub fn add_to<F: Flash, S: Source>(
     rt: &impl Abort,
     paged: &mut Paged<F>,
     new: New,
@@ -476,10 +476,10 @@ pub fn components(rt: &(impl Abort + AllocGlobal), device: MemFlash) -> Result<V
 
 /// An edit of a region: its size, what it holds before, and what it holds after.
 #[derive(Clone, Copy)]
-struct Edit<'a> {
-    size: usize,
-    before: Parts<'a>,
-    after: Parts<'a>,
+pub struct Edit<'a> {
+    pub size: usize,
+    pub before: Parts<'a>,
+    pub after: Parts<'a>,
 }
 
 /// A device has the components of one of two regions of this size.
@@ -500,7 +500,7 @@ pub fn leaves(
 
 /// An edit has finished and left the bytes of after, or this side has stopped it: then it has left the components of
 /// before or, where the device has refused a call, those of after. Answers whether it has finished.
-fn has_finished(
+pub fn has_finished(
     rt: &(impl Abort + AllocGlobal),
     edit: Edit,
     fault: Option<EditFault>,

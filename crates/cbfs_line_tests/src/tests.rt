@@ -1,6 +1,7 @@
 //! Words that ask for a command, and words that don't.
 
 use cbfs_commands::{Command, Refusal};
+use cbfs_edit::{HashChoice, Spot};
 use cbfs_line::read_line;
 use std::test::Fail;
 
@@ -14,6 +15,27 @@ fn words_ask_for_a_command(rt: HostRuntime) -> Result<(), Fail> {
     assert!(rt; line.file() == Some("x y"));
     let region = b"COREBOOT";
     let command = Command::Extract { region, name: b"a" };
+    assert_eq!(rt; line.command(), Ok(command));
+    Ok(())
+}
+
+#[test]
+fn a_line_with_every_option(rt: HostRuntime) -> Result<(), Fail> {
+    let words = [
+        "img", "add", "-r", "FW", "-n", "a", "-f", "x", "-t", "raw", "-a", "64", "-A", "sha512",
+    ];
+    let Ok(line) = read_line(rt.alloc(), &words) else {
+        return Err("no line".into());
+    };
+    assert!(rt; line.image() == "img");
+    assert!(rt; line.file() == Some("x"));
+    let command = Command::Add {
+        region: b"FW",
+        name: b"a",
+        kind: 0x50,
+        hash: HashChoice::Sha512,
+        spot: Spot::Aligned(64),
+    };
     assert_eq!(rt; line.command(), Ok(command));
     Ok(())
 }
