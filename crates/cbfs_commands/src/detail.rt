@@ -18,7 +18,6 @@ ghost use Rattle.cbfs_commands.specs.Told.{HasTold, Tells, shows};
 
 use crate::refusal::Refusal;
 use crate::row::{ROW_LEN, Row, push_decimal, push_text, put_row};
-use arrayvec::ArrayVec;
 use byteorder::{BigEndian, ByteOrder};
 use cbfs_walk::{Cell, HashState, attributes, cells_stand_in_their_image, check_hash};
 use flash_format::{AttrHead, Digest, digest_text};
@@ -39,16 +38,15 @@ fn push_tag(row: &mut Row, tag: u32)
 
 /// The line of an attribute.
 #[tactic(auto, unfolding(crate::specs::Details::attribute_text))]
-fn attribute_row(head: &AttrHead) -> Row
-    ensures { result.items ≡ attribute_text head.now.tag head.now.len }
+fn set_attribute_row(row: &mut Row, head: &AttrHead)
+    ensures { row.new.items ≡ attribute_text head.now.tag head.now.len }
 {
-    let mut row = ArrayVec::new();
-    push_text(&mut row, b"\tattr\t0x");
-    push_tag(&mut row, head.tag);
-    push_text(&mut row, b"\t");
-    push_decimal(&mut row, head.len);
-    push_text(&mut row, b"\n");
-    row
+    row.clear();
+    push_text(row, b"\tattr\t0x");
+    push_tag(row, head.tag);
+    push_text(row, b"\t");
+    push_decimal(row, head.len);
+    push_text(row, b"\n");
 }
 
 /// The name of a digest's algorithm.
@@ -75,34 +73,32 @@ fn push_digest(row: &mut Row, digest: &Digest)
 }
 
 /// The line of a digest.
-fn digest_row(digest: &Digest, verdict: &[u8]) -> Row
+fn set_digest_row(row: &mut Row, digest: &Digest, verdict: &[u8])
     requires { length verdict.now ≤ 7 }
-    ensures { result.items ≡ digest_line digest.now verdict.now }
+    ensures { row.new.items ≡ digest_line digest.now verdict.now }
 {
-    let mut row = ArrayVec::new();
-    push_text(&mut row, b"\thash\t");
-    push_algorithm(&mut row, digest);
-    push_text(&mut row, b"\t");
-    push_digest(&mut row, digest);
-    push_text(&mut row, b"\t");
-    push_text(&mut row, verdict);
-    push_text(&mut row, b"\n");
-    row
+    row.clear();
+    push_text(row, b"\thash\t");
+    push_algorithm(row, digest);
+    push_text(row, b"\t");
+    push_digest(row, digest);
+    push_text(row, b"\t");
+    push_text(row, verdict);
+    push_text(row, b"\n");
 }
 
 /// The line of what the first hash attribute says; none where there is no such attribute.
 #[tactic(auto, unfolding(crate::specs::Details::hash_line))]
-fn hash_row(state: &HashState) -> Row
-    ensures { result.items ≡ hash_line state.now }
+fn set_hash_row(row: &mut Row, state: &HashState)
+    ensures { row.new.items ≡ hash_line state.now }
 {
     match state {
-        HashState::Absent => ArrayVec::new(),
-        HashState::Valid(digest) => digest_row(digest, b"valid"),
-        HashState::Invalid(digest) => digest_row(digest, b"invalid"),
+        HashState::Absent => row.clear(),
+        HashState::Valid(digest) => set_digest_row(row, digest, b"valid"),
+        HashState::Invalid(digest) => set_digest_row(row, digest, b"invalid"),
         HashState::Unsupported => {
-            let mut row = ArrayVec::new();
-            push_text(&mut row, b"\thash\tunsupported\n");
-            row
+            row.clear();
+            push_text(row, b"\thash\tunsupported\n");
         }
     }
 }
@@ -112,6 +108,7 @@ fn print_attributes<F: Flash, W: Sink>(
     paged: &mut Paged<F>,
     region: Region,
     cell: &Cell,
+    row: &mut Row,
     out: &mut W,
 ) -> Result<(), Refusal>
     requires region { LiesIn region (F.facts paged.old.device).content }
@@ -125,10 +122,13 @@ fn print_attributes<F: Flash, W: Sink>(
     let mut walk = attributes(cell);
     loop {
         match walk.next(paged, region) {
-            Ok(Some(head)) => match put_row(out, &attribute_row(&head)) {
-                Ok(()) => {}
-                Err(refusal) => return Err(refusal),
-            },
+            Ok(Some(head)) => {
+                set_attribute_row(row, &head);
+                match put_row(out, row) {
+                    Ok(()) => {}
+                    Err(refusal) => return Err(refusal),
+                }
+            }
             Ok(None) => return Ok(()),
             Err(_) => return Err(Refusal::Device),
         }
@@ -140,6 +140,7 @@ fn print_hash<F: Flash, W: Sink>(
     paged: &mut Paged<F>,
     region: Region,
     cell: &Cell,
+    row: &mut Row,
     out: &mut W,
 ) -> Result<(), Refusal>
     requires region { LiesIn region (F.facts paged.old.device).content }
@@ -152,7 +153,10 @@ fn print_hash<F: Flash, W: Sink>(
         (cell_content (cell_in x cell.now)))))) }
 {
     match check_hash(paged, region, cell) {
-        Ok(state) => put_row(out, &hash_row(&state)),
+        Ok(state) => {
+            set_hash_row(row, &state);
+            put_row(out, row)
+        }
         Err(_) => Err(Refusal::Device),
     }
 }
@@ -162,6 +166,7 @@ pub fn print_details<F: Flash, W: Sink>(
     paged: &mut Paged<F>,
     region: Region,
     cell: &Cell,
+    row: &mut Row,
     out: &mut W,
 ) -> Result<(), Refusal>
     requires region { LiesIn region (F.facts paged.old.device).content }
@@ -173,8 +178,8 @@ pub fn print_details<F: Flash, W: Sink>(
     ensures told { OnHonestIn F.facts paged.old.device region (λ x. StandsIn x cell.now → Tells (W.contents out.old)
         (W.contents out.new) result (shows (details (cell_in x cell.now)))) }
 {
-    match print_attributes(paged, region, cell, out) {
-        Ok(()) => print_hash(paged, region, cell, out),
+    match print_attributes(paged, region, cell, row, out) {
+        Ok(()) => print_hash(paged, region, cell, row, out),
         Err(refusal) => Err(refusal),
     }
 }

@@ -14,37 +14,35 @@ use flash_format::Area;
 use flash_store::{Flash, FoundMap, Paged, Sink, area, find_fmap};
 
 #[tactic(auto, unfolding(crate::specs::Layouts::map_row))]
-fn map_row(map: &FoundMap) -> Row
-    ensures { result.items ≡ map_row map.now.at map.now.head }
+fn set_map_row(row: &mut Row, map: &FoundMap)
+    ensures { row.new.items ≡ map_row map.now.at map.now.head }
 {
-    let mut row = ArrayVec::new();
-    push_text(&mut row, b"fmap");
-    push_text(&mut row, b"\t");
-    push_hexadecimal(&mut row, map.at);
-    push_text(&mut row, b"\t");
-    push_name(&mut row, map.head.text());
-    push_text(&mut row, b"\t");
-    push_decimal(&mut row, map.head.size);
-    push_text(&mut row, b"\t");
-    push_decimal(&mut row, u32::from(map.head.nareas));
-    push_text(&mut row, b"\n");
-    row
+    row.clear();
+    push_text(row, b"fmap");
+    push_text(row, b"\t");
+    push_hexadecimal(row, map.at);
+    push_text(row, b"\t");
+    push_name(row, map.head.text());
+    push_text(row, b"\t");
+    push_decimal(row, map.head.size);
+    push_text(row, b"\t");
+    push_decimal(row, u32::from(map.head.nareas));
+    push_text(row, b"\n");
 }
 
 #[tactic(auto, unfolding(crate::specs::Layouts::area_row))]
-fn area_row(area: &Area) -> Row
-    ensures { result.items ≡ area_row area.now }
+fn set_area_row(row: &mut Row, area: &Area)
+    ensures { row.new.items ≡ area_row area.now }
 {
-    let mut row = ArrayVec::new();
-    push_name(&mut row, area.text());
-    push_text(&mut row, b"\t");
-    push_hexadecimal(&mut row, u64::from(area.offset));
-    push_text(&mut row, b"\t");
-    push_decimal(&mut row, area.size);
-    push_text(&mut row, b"\t");
-    push_hexadecimal(&mut row, u64::from(area.flags));
-    push_text(&mut row, b"\n");
-    row
+    row.clear();
+    push_name(row, area.text());
+    push_text(row, b"\t");
+    push_hexadecimal(row, u64::from(area.offset));
+    push_text(row, b"\t");
+    push_decimal(row, area.size);
+    push_text(row, b"\t");
+    push_hexadecimal(row, u64::from(area.flags));
+    push_text(row, b"\n");
 }
 
 /// Writes the row of the area of this number.
@@ -52,6 +50,7 @@ fn list_area<F: Flash, W: Sink>(
     paged: &mut Paged<F>,
     map: &FoundMap,
     i: u16,
+    row: &mut Row,
     out: &mut W,
 ) -> Result<(), Refusal>
     requires inside { map.now.at + map_len map.now.head ≤ length (F.facts paged.old.device).content }
@@ -62,7 +61,10 @@ fn list_area<F: Flash, W: Sink>(
         result (shows (area_row (area_of (drop (map.now.at + fmap_head_len + area_len * i) image))))) }
 {
     match area(paged, map, i) {
-        Ok(area) => put_row(out, &area_row(&area)),
+        Ok(area) => {
+            set_area_row(row, &area);
+            put_row(out, row)
+        }
         Err(_) => Err(Refusal::Device),
     }
 }
@@ -71,6 +73,7 @@ fn list_area<F: Flash, W: Sink>(
 fn list_areas<F: Flash, W: Sink>(
     paged: &mut Paged<F>,
     map: &FoundMap,
+    row: &mut Row,
     out: &mut W,
 ) -> Result<(), Refusal>
     requires { map.now.at + map_len map.now.head ≤ length (F.facts paged.old.device).content }
@@ -80,7 +83,7 @@ fn list_areas<F: Flash, W: Sink>(
         result (shows (flat_map area_row (areas_from map.now.head.nareas (drop (map.now.at + fmap_head_len) image))))) }
 {
     for i in 0..map.head.nareas {
-        match list_area(paged, map, i, out) {
+        match list_area(paged, map, i, row, out) {
             Ok(()) => {}
             Err(refusal) => return Err(refusal),
         }
@@ -101,8 +104,10 @@ pub fn layout<F: Flash, W: Sink>(paged: &mut Paged<F>, out: &mut W) -> Result<()
         Ok(None) => return Err(Refusal::NoFmap),
         Err(_) => return Err(Refusal::Device),
     };
-    match put_row(out, &map_row(&map)) {
-        Ok(()) => list_areas(paged, &map, out),
+    let mut row = ArrayVec::new();
+    set_map_row(&mut row, &map);
+    match put_row(out, &row) {
+        Ok(()) => list_areas(paged, &map, &mut row, out),
         Err(refusal) => Err(refusal),
     }
 }

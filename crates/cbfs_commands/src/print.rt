@@ -1,6 +1,6 @@
 //! The command `print`.
 
-ghost use Rattle.std.specs.Prelude.{◌≡◌, ◌+◌, ◌*◌, ◌/◌, ◌<◌, ◌≤◌, length, IsTrue, IsErrOf, OnErr, IfOk};
+ghost use Rattle.std.specs.Prelude.{◌≡◌, ◌+◌, ◌*◌, ◌/◌, ◌<◌, ◌≤◌, length, IsTrue, IsErrOf, OnErr, OnOk};
 ghost use Rattle.flash_store.specs.Pages.{HasAnswered, OnHonest, OnHonestIn};
 ghost use Rattle.flash_store.specs.Regions.{LiesIn, bytes_in};
 ghost use Rattle.cbfs_walk.specs.Cells.{IsCellIn, cell_in};
@@ -12,27 +12,35 @@ ghost use Rattle.cbfs_commands.specs.Told.{HasTold, Tells, shows};
 
 use crate::detail::print_details;
 use crate::refusal::{Refusal, store_refusal, walk_refusal};
-use crate::row::{Row, put_row, row_text};
+use crate::row::{Row, put_row, set_row_text};
+use arrayvec::ArrayVec;
 use cbfs_walk::{Cell, Step, Walk, cells_stand_in_their_image, name, packing};
 use flash_store::{Flash, FlashFault, Paged, Region, Sink};
 
-/// The row of a cell.
-fn cell_row<F: Flash>(paged: &mut Paged<F>, region: Region, cell: &Cell) -> Result<Row, FlashFault>
+/// Makes the buffer the row of a cell. After a fault it may hold anything.
+fn set_cell_row<F: Flash>(
+    paged: &mut Paged<F>,
+    region: Region,
+    cell: &Cell,
+    buffer: &mut Row,
+) -> Result<(), FlashFault>
     requires region { LiesIn region (F.facts paged.old.device).content }
     requires cell { IsCellIn region.size cell.now }
 
     ensures after { HasAnswered F.facts (2 + cell.now.span / 3840) paged.old paged.new result }
-    ensures row { OnHonestIn F.facts paged.old.device region (λ x. StandsIn x cell.now → IfOk result (λ shown.
-        shown.items ≡ row cell.now.at (cell_in x cell.now))) }
+    ensures row { OnHonestIn F.facts paged.old.device region (λ x. StandsIn x cell.now → OnOk result (buffer.new.items
+        ≡ row cell.now.at (cell_in x cell.now))) }
 {
     cells_stand_in_their_image();
     if cell.head.is_free() {
-        return Ok(row_text(cell.at, &cell.head, &[], 0));
+        set_row_text(buffer, cell.at, &cell.head, &[], 0);
+        return Ok(());
     }
     let mut field = [0; 256];
     let len = name(paged, region, cell, &mut field)?;
     let value = packing(paged, region, cell)?;
-    Ok(row_text(cell.at, &cell.head, &field[..len], value))
+    set_row_text(buffer, cell.at, &cell.head, &field[..len], value);
+    Ok(())
 }
 
 /// Writes the row of a cell.
@@ -40,6 +48,7 @@ fn print_row<F: Flash, W: Sink>(
     paged: &mut Paged<F>,
     region: Region,
     cell: &Cell,
+    buffer: &mut Row,
     out: &mut W,
 ) -> Result<(), Refusal>
     requires region { LiesIn region (F.facts paged.old.device).content }
@@ -49,8 +58,8 @@ fn print_row<F: Flash, W: Sink>(
     ensures told { OnHonestIn F.facts paged.old.device region (λ x. StandsIn x cell.now → Tells (W.contents
         out.old) (W.contents out.new) result (shows (row cell.now.at (cell_in x cell.now)))) }
 {
-    match cell_row(paged, region, cell) {
-        Ok(row) => put_row(out, &row),
+    match set_cell_row(paged, region, cell, buffer) {
+        Ok(()) => put_row(out, buffer),
         Err(_) => Err(Refusal::Device),
     }
 }
@@ -61,6 +70,7 @@ fn print_cell<F: Flash, W: Sink>(
     region: Region,
     cell: &Cell,
     verbose: bool,
+    buffer: &mut Row,
     out: &mut W,
 ) -> Result<(), Refusal>
     requires region { LiesIn region (F.facts paged.old.device).content }
@@ -71,12 +81,12 @@ fn print_cell<F: Flash, W: Sink>(
         out.old) (W.contents out.new) result (shows (shown_cell verbose cell.now.at (cell_in x cell.now)))) }
 {
     cells_stand_in_their_image();
-    match print_row(paged, region, cell, out) {
+    match print_row(paged, region, cell, buffer, out) {
         Ok(()) => {}
         Err(refusal) => return Err(refusal),
     }
     if verbose && !cell.head.is_free() {
-        return print_details(paged, region, cell, out);
+        return print_details(paged, region, cell, buffer, out);
     }
     Ok(())
 }
@@ -94,13 +104,16 @@ fn print_region<F: Flash, W: Sink>(
     ensures told { OnHonestIn F.facts paged.old.device region (λ x. Tells (W.contents out.old) (W.contents
         out.new) result (print_region x verbose)) }
 {
+    let mut buffer = ArrayVec::new();
     let mut walk = Walk::new(region);
     loop {
         match walk.next(paged) {
-            Ok(Step::Cell(cell)) => match print_cell(paged, region, &cell, verbose, out) {
-                Ok(()) => {}
-                Err(refusal) => return Err(refusal),
-            },
+            Ok(Step::Cell(cell)) => {
+                match print_cell(paged, region, &cell, verbose, &mut buffer, out) {
+                    Ok(()) => {}
+                    Err(refusal) => return Err(refusal),
+                }
+            }
             Ok(Step::Tail(_)) => return Ok(()),
             Ok(Step::End) => return Ok(()),
             Err(fault) => return Err(walk_refusal(fault)),

@@ -15,6 +15,7 @@ use itoa::Buffer;
 /// Room for the longest row: a name of 255 bytes, each escaped, and the other fields.
 pub const ROW_LEN: usize = 1152;
 
+/// The buffer of a row. A listing has one for all its rows, since a new one would be filled with zeros each time.
 pub type Row = ArrayVec<u8, ROW_LEN>;
 
 pub fn push_text(row: &mut Row, text: &[u8])
@@ -150,25 +151,24 @@ fn push_compression(row: &mut Row, head: &Head, packing: u32)
     }
 }
 
-/// The row of the cell with this head at a place: its name, and the value of its first compression attribute.
-/// Of a free cell neither is looked at.
+/// Makes this the row of the cell with this head at a place: its name, and the value of its first compression attribute.
+/// Of a free cell neither is looked at. What the row held before is dropped.
 #[tactic(auto, unfolding(crate::specs::Rows::row_text))]
-pub fn row_text(at: u64, head: &Head, name: &[u8], packing: u32) -> Row
+pub fn set_row_text(row: &mut Row, at: u64, head: &Head, name: &[u8], packing: u32)
     requires { length name.now ≤ 255 }
-    ensures { result.items ≡ row_text at head.now name.now packing }
+    ensures { row.new.items ≡ row_text at head.now name.now packing }
 {
-    let mut row = ArrayVec::new();
-    push_label(&mut row, head, name);
-    push_text(&mut row, b"\t");
-    push_hexadecimal(&mut row, at);
-    push_text(&mut row, b"\t");
-    push_type(&mut row, head.kind);
-    push_text(&mut row, b"\t");
-    push_decimal(&mut row, head.len);
-    push_text(&mut row, b"\t");
-    push_compression(&mut row, head, packing);
-    push_text(&mut row, b"\n");
-    row
+    row.clear();
+    push_label(row, head, name);
+    push_text(row, b"\t");
+    push_hexadecimal(row, at);
+    push_text(row, b"\t");
+    push_type(row, head.kind);
+    push_text(row, b"\t");
+    push_decimal(row, head.len);
+    push_text(row, b"\t");
+    push_compression(row, head, packing);
+    push_text(row, b"\n");
 }
 
 /// Writes a row.
