@@ -76,17 +76,16 @@ fn edit<'a>(before: &'a [(usize, &'a [u8])], after: &'a [(usize, &'a [u8])]) -> 
     }
 }
 
-/// How many of all edits finish within these calls of the file.
-fn finish(rt: &(impl Abort + AllocGlobal), calls: Calls) -> Result<u32, Fail> {
+/// Which of all edits finish within these calls of the file.
+fn finish(rt: &(impl Abort + AllocGlobal), calls: Calls) -> Result<[bool; 5], Fail> {
     let later = b(Spot::Aligned(256), &MAGIC_20);
-    let answers = [
+    Ok([
         removes(rt, b"m", edit(BETWEEN, FRESH), calls)?,
         removes(rt, b"x", edit(TWICE, ONCE), calls)?,
         formats(rt, edit(WITH_A, FRESH), calls)?,
         adds(rt, NEW_A, edit(FRESH, WITH_A), calls)?,
         adds(rt, later, edit(WITH_A, WITH_B_LATER), calls)?,
-    ];
-    Ok(answers.iter().map(|answer| u32::from(*answer)).sum())
+    ])
 }
 
 /// Stops all edits at each call of the file in turn, until one call more lets them finish. None finishes without a call.
@@ -98,8 +97,8 @@ fn stop_each(rt: &(impl Abort + AllocGlobal), most: usize, between: u64) -> Resu
             made,
         };
         let finished = finish(rt, calls)?;
-        assert!(rt; made > 0 || finished == 0);
-        if finished == 5 {
+        assert!(rt; made > 0 || finished == [false; 5]);
+        if finished == [true; 5] {
             return Ok(());
         }
     }
@@ -121,12 +120,12 @@ fn a_file_that_never_answers_is_refused(rt: HostRuntime) -> Result<(), Fail> {
         between: 5000,
         made: 5000,
     };
-    assert!(rt; finish(&rt, nothing)? == 0);
+    assert!(rt; finish(&rt, nothing)? == [false; 5]);
     let interrupted = Calls {
         most: 4096,
         between: 0,
         made: u64::MAX,
     };
-    assert!(rt; finish(&rt, interrupted)? == 0);
+    assert!(rt; finish(&rt, interrupted)? == [false; 5]);
     Ok(())
 }
