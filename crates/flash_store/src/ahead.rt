@@ -6,7 +6,7 @@ use crate::storage::{Storage, StorageFault};
 use std::marker::Model;
 
 /// How many bytes are read ahead.
-const AHEAD: usize = 65536;
+const AHEAD: usize = 16384;
 
 /// How far from the end of the last read one may begin that goes on: before it, since what stands across its end is read
 /// again; behind it, since contents are skipped.
