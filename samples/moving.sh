@@ -1,8 +1,10 @@
 # What samples/moving runs its rows with: the files, what is compared, and what is made at random.
 
-# make_files: makes the files of the rows, with coreboot's tools, in the current folder
-make_files() {
-    cat > chip.fmd <<'FMD'
+# board NUMBER: writes the descriptor of one of two boards, whose regions have the same names, other places and other sizes
+board() {
+    case $1 in
+        1)
+            cat <<'FMD'
 FLASH@0xfff00000 1M {
 	SI_DESC 4K
 	SI_ME 60K
@@ -11,31 +13,57 @@ FLASH@0xfff00000 1M {
 		FW_MAIN_A(CBFS)
 		RW_FWID_A 64
 	}
-	RW_SECTION_B 256K {
-		VBLOCK_B 8K
-		FW_MAIN_B(CBFS)      # the second copy
-		RW_FWID_B 64
-	}
+	RW_SECTION_B 256K { VBLOCK_B 8K FW_MAIN_B ( CBFS ) RW_FWID_B 64 } # the second copy
 	RW_MRC_CACHE(PRESERVE) 64K
 	EC 16K
 	BOOTBLOCK 16K
 	FMAP 4K
-	GBB 24K
-	RO_FRID 64
+	GBB 8K
+	RO_FRID 64              # what follows begins at no multiple of 128
+	FULL_2(PRESERVE CBFS) 8K
+	SMM_3(CBFS)
 	COREBOOT(CBFS)@704K
 }
 FMD
+            ;;
+        2)
+            cat <<'FMD'
+# FULL_2(CBFS) and COREBOOT(CBFS) begin at no multiple of 128, and the map stands between them
+FLASH@0xffe00000 2M {
+	SI_DESC 8K SI_ME 60K RO_FRID 128 RW_FWID_A 192 FULL_2(CBFS
+		PRESERVE) 4K
+	SMM_3 (CBFS) 0x6000 { }
+	RW_SECTION_A@192K { VBLOCK_A 4K FW_MAIN_A(CBFS) 320K }
+	RW_SECTION_B@0x90040 { VBLOCK_B 4K FW_MAIN_B(CBFS) 320K RW_FWID_B 64 } RW_MRC_CACHE@1M 64K
+	EC 32K BOOTBLOCK 32K GBB 4K FMAP@0x140000 2K COREBOOT(CBFS)@0x1a0040
+}
+FMD
+            ;;
+    esac
+}
+
+# size_of AREA: its size, as coreboot's tool lists it
+size_of() {
+    cbfstool coreboot.rom layout -w | their_areas | sed -n "s/^$1 .* //p"
+}
+
+# make_files NUMBER: makes the files of the rows for a board, with coreboot's tools, in the current folder
+make_files() {
+    # (its compiler takes no empty list of parts)
+    board "$1" | sed 's/{ }//' > chip.fmd
     fmaptool chip.fmd chip.fmap
     seq 60000 > numbered
+    cbfstool coreboot.rom create -M chip.fmap -r COREBOOT,FW_MAIN_A,FW_MAIN_B,FULL_2,SMM_3
     part 1000 16384 > bootblock.bin
     part 2000 10000 > short.bin
     part 3000 5000 > logo.bmp
-    part 4000 8192 > vblock.bin
-    part 5000 253888 > main.bin
+    part 4000 "$(size_of VBLOCK_A)" > vblock.bin
+    part 5000 "$(size_of FW_MAIN_B)" > main.bin
     part 6000 20 > fwid
     printf ptr_ > pointer
     make_elf > payload.elf
-    cbfstool coreboot.rom create -M chip.fmap -r COREBOOT,FW_MAIN_A,FW_MAIN_B
+    # (as the image of an embedded controller has one)
+    { part 7000 900 && make_map && part 8000 600; } > ec.bin
     part 7000 700 > content
     cbfstool coreboot.rom add -f content -n config -t raw
     part 8000 30000 > content
@@ -43,15 +71,24 @@ FMD
     cbfstool coreboot.rom add -f content -n pci1234,5678.rom -t optionrom -a 64
     cbfstool coreboot.rom add -f content -n mrc.bin -t mrc -b 0x18000
     cbfstool coreboot.rom add -f pointer -n oemmanifest.bin -t raw -b 0x20000
-    part 9000 61440 > content
+    part 9000 $(($(size_of FULL_2) - 28)) > content
+    cbfstool coreboot.rom add -f content -n all -t raw -r FULL_2
+    part 9000 "$(size_of SI_ME)" > content
     cbfstool coreboot.rom write -r SI_ME -f content
     rm content
     cp "$top/samples/types.rom" "$top/samples/hashes.rom" "$top/samples/packed.rom" .
     cp hashes.rom digests.rom
     # (the digest of another algorithm, which isn't checked here)
     cbfstool digests.rom remove -n "h sha1"
+    if [ "$1" = 2 ]; then
+        # a name with a blank, and a digest that isn't that of the content any more
+        cbfstool coreboot.rom add -f fwid -n "boot order 2" -t raw
+        spot=$(grep -abo LARCHIVE digests.rom | sed -n '1s/:.*//p')
+        spot=$((spot + $(od -An -tu4 --endian=big -j $((spot + 20)) -N 4 digests.rom)))
+        printf '\377' | dd of=digests.rom bs=1 seek="$spot" conv=notrunc status=none
+    fi
     cp coreboot.rom pointer.rom
-    printf KEEP | dd of=pointer.rom bs=1 seek=$((0x100000 - 4)) conv=notrunc status=none
+    printf KEEP | dd of=pointer.rom bs=1 seek=$(($(stat -c %s pointer.rom) - 4)) conv=notrunc status=none
     cp coreboot.rom payload.rom
     cbfstool payload.rom add-payload -f payload.elf -n fallback/payload
     cbfstool legacy.rom create -m x86 -s 64K
@@ -65,8 +102,18 @@ FMD
     spot=$(grep -abo LARCHIVE looped.rom | sed -n '1s/:.*//p')
     spot=$((spot + $(od -An -tu4 --endian=big -j $((spot + 16)) -N 4 looped.rom)))
     printf '\0\0\0\0' | dd of=looped.rom bs=1 seek=$((spot + 4)) conv=notrunc status=none
+    printf '%%.bin:\n\tcbfstool coreboot.rom extract -n $* -f $@\n' > plain.mk
+    { echo .DELETE_ON_ERROR: && cat plain.mk; } > whole.mk
     chmod 644 ./*
     chmod 666 ./*.rom
+}
+
+# make_map: a flashmap of 4096 bytes with one area
+make_map() {
+    printf '__FMAP__\1\1\0\0\0\0\0\0\0\0\0\20\0\0EC'
+    head -c 30 /dev/zero
+    printf '\1\0\0\0\0\0\0\20\0\0EC_RO'
+    head -c 29 /dev/zero
 }
 
 # part PLACE SIZE: so many of the numbered bytes from a place on
@@ -104,11 +151,12 @@ without_lengths() {
     cat "$work/normal.rom"
 }
 
-# their_rows: the rows that coreboot's prints, with tabs
+# their_rows: the rows that coreboot's prints, with tabs, and with `\x20` for a blank in a name
 their_rows() {
     # (its columns are parted by blanks, and a type may have one; two lines of headings come first in each region)
     sed -E '/^FMAP REGION: /d; /^Name +Offset +Type/d
-        s/^(.*[^ ]) +(0x[0-9a-f]+) +(.*[^ ]) +([0-9]+) ([^ ]+) *$/\1\t\2\t\3\t\4\t\5/'
+        s/^(.*[^ ]) +(0x[0-9a-f]+) +(.*[^ ]) +([0-9]+) ([^ ]+) *$/\1\t\2\t\3\t\4\t\5/
+        :a; s/^([^\t]*) /\1\\x20/; ta'
 }
 
 # their_areas, our_areas: name, offset and size of each area
@@ -130,7 +178,7 @@ same_cells() {
     cbfstool "$work/one.rom" print > "$work/rows" || wrong "ours doesn't list the image of coreboot's"
     for image in one other; do
         cbfstool "$work/$image.rom" print | diff "$work/rows" - >&2 || wrong "the cells differ"
-        "$theirs" "$work/$image.rom" print | their_rows | sed ':a; s/^\([^\t]*\) /\1\\x20/; ta' | diff "$work/rows" - >&2 ||
+        "$theirs" "$work/$image.rom" print | their_rows | diff "$work/rows" - >&2 ||
             wrong "coreboot's lists otherwise"
     done
     while IFS=$'\t' read -r shown _; do
