@@ -1,5 +1,5 @@
 # Completion of cbfstool for bash: commands, options, types and digests; regions as `layout` lists them, and components as
-# `print` does.
+# `print` does. A program of the same name that lists otherwise gives no names.
 
 # _cbfstool_words: `words` are the words up to the cursor, joined again where bash parts them at one of its marks
 _cbfstool_words() {
@@ -25,7 +25,7 @@ _cbfstool_plain() {
 # _cbfstool_offer NAME..: those names that begin with the current word are offered, quoted as it is; `before` is what
 # stands before a name in that word
 _cbfstool_offer() {
-    local before=${before-} name quote="" shown
+    local name quote="" shown
     [[ $cur != [\"\']* ]] || quote=${cur:0:1}
     _cbfstool_plain "${cur#"$quote"}"
     for name; do
@@ -38,12 +38,12 @@ _cbfstool_offer() {
     [[ $quote || -z $mark ]] || COMPREPLY=("${COMPREPLY[@]#"$mark"}")
 }
 
-# _cbfstool_regions FILE: the names of the areas, as `names`
+# _cbfstool_regions FILE: the names of the areas, as `names`; none where the listing isn't ours
 _cbfstool_regions() {
     local head shown name
     names=()
     {
-        read -r head
+        IFS= read -r head && [[ $head == fmap$'\t'* ]] || return 0
         while IFS=$'\t' read -r shown _; do
             printf -v name %b "$shown"
             names+=("$name")
@@ -51,15 +51,26 @@ _cbfstool_regions() {
     } < <("$tool" "$1" layout 2> /dev/null)
 }
 
-# _cbfstool_components FILE REGION: the names of the components, as `names`
+# _cbfstool_holding FILE: those of the `names` whose region holds components
+_cbfstool_holding() {
+    local name held=()
+    for name in "${names[@]}"; do
+        [[ -z $("$tool" "$1" print "-r=$name" 2> /dev/null | head -c 1) ]] || held+=("$name")
+    done
+    names=("${held[@]}")
+}
+
+# _cbfstool_components FILE REGION: the names of the components, as `names`; none where the listing isn't ours
 _cbfstool_components() {
     local shown kind name
+    _cbfstool_regions "$1"
+    ((${#names[@]})) || return 0
     names=()
     while IFS=$'\t' read -r shown _ kind _; do
         [[ $shown != "(empty)" || $kind != @(null|deleted) ]] || continue
         printf -v name %b "$shown"
         names+=("$name")
-    done < <("$tool" "$1" print -r "$2" 2> /dev/null)
+    done < <("$tool" "$1" print "-r=$2" 2> /dev/null)
 }
 
 # _cbfstool_given LETTER: whether the option was given; its text as `given`
@@ -78,8 +89,9 @@ _cbfstool_given() {
     return 1
 }
 
-_cbfstool_options() {
-    local options option offered=()
+# _cbfstool_letters COMMAND: the letters of its options, as `options`
+_cbfstool_letters() {
+    options=
     case $1 in
         print) options="r v" ;;
         extract) options="r n f" ;;
@@ -88,6 +100,11 @@ _cbfstool_options() {
         read | write) options="r f" ;;
         create) options="M r" ;;
     esac
+}
+
+# _cbfstool_options: offers those that can still be given
+_cbfstool_options() {
+    local option offered=()
     for option in $options; do
         _cbfstool_given "$option" && continue
         [[ $option == a ]] && _cbfstool_given b && continue
@@ -97,8 +114,45 @@ _cbfstool_options() {
     _cbfstool_offer "${offered[@]}"
 }
 
+# _cbfstool_text LETTER: offers texts of the option
+_cbfstool_text() {
+    case $1 in
+        f | M)
+            if [[ $before ]]; then
+                _cbfstool_plain "${cur#"$before"}"
+                mapfile -t names < <(compgen -f -- "$plain")
+                _cbfstool_offer "${names[@]}"
+            else
+                compopt -o default
+            fi
+            ;;
+        r)
+            if [[ ${words[2]} == create ]]; then
+                _cbfstool_given M || return 0
+                image=$given
+                [[ $cur != *,* ]] || before=${cur%,*},
+            fi
+            _cbfstool_regions "$image"
+            [[ ${words[2]} != @(extract|add|remove) ]] || _cbfstool_holding "$image"
+            _cbfstool_offer "${names[@]}"
+            ;;
+        n)
+            [[ ${words[2]} != add ]] || return 0
+            given=COREBOOT
+            _cbfstool_given r
+            _cbfstool_components "$image" "$given"
+            _cbfstool_offer "${names[@]}"
+            ;;
+        t)
+            _cbfstool_offer bootblock "cbfs header" "legacy stage" stage "simple elf" fit_payload optionrom bootsplash raw \
+                vsa mbi microcode fsp mrc cmos_default spd mrc_cache cmos_layout
+            ;;
+        A) _cbfstool_offer sha256 sha512 ;;
+    esac
+}
+
 _cbfstool() {
-    local words names=() plain given before cur tool image
+    local words names=() plain given before="" cur tool image options
     COMPREPLY=()
     _cbfstool_words
     cur=${words[-1]}
@@ -106,34 +160,22 @@ _cbfstool() {
     tool=$plain
     _cbfstool_plain "${words[1]}"
     image=$plain
-    case ${#words[@]},${words[-2]} in
-        2,*) compopt -o default ;;
-        3,*) _cbfstool_offer print layout extract add remove read write create ;;
-        *,-f | *,-M) compopt -o default ;;
-        *,-r)
-            if [[ ${words[2]} == create ]]; then
-                _cbfstool_given M || return 0
-                image=$given
-                [[ $cur != *,* ]] || before=${cur%,*},
-            fi
-            _cbfstool_regions "$image"
-            _cbfstool_offer "${names[@]}"
-            ;;
-        *,-n)
-            [[ ${words[2]} != add ]] || return 0
-            given=COREBOOT
-            _cbfstool_given r
-            _cbfstool_components "$image" "$given"
-            _cbfstool_offer "${names[@]}"
-            ;;
-        *,-t)
-            _cbfstool_offer bootblock "cbfs header" "legacy stage" stage "simple elf" fit_payload optionrom bootsplash raw \
-                vsa mbi microcode fsp mrc cmos_default spd mrc_cache cmos_layout
-            ;;
-        *,-A) _cbfstool_offer sha256 sha512 ;;
-        *,-a | *,-b) ;;
-        *) _cbfstool_options "${words[2]}" ;;
-    esac
+    _cbfstool_letters "${words[2]-}"
+    if [[ ${#words[@]} == 2 ]]; then
+        compopt -o default
+    elif [[ ${#words[@]} == 3 ]]; then
+        _cbfstool_offer print layout extract add remove read write create
+    elif [[ ${words[-2]} == -[rnftabAM] ]]; then
+        _cbfstool_text "${words[-2]:1}"
+    elif [[ $cur == -[rnftabAM]?* ]]; then
+        # (a text behind its option in one word, as `-rNAME` or `-r=NAME`)
+        [[ $options == *${cur:1:1}* ]] || return 0
+        before=${cur:0:2}
+        [[ $cur != -?=* ]] || before+="="
+        _cbfstool_text "${cur:1:1}"
+    else
+        _cbfstool_options
+    fi
 }
 
 complete -F _cbfstool cbfstool

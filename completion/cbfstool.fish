@@ -1,5 +1,5 @@
 # Completion of cbfstool for fish: commands, options, types and digests; regions as `layout` lists them, and components as
-# `print` does.
+# `print` does. A program of the same name that lists otherwise gives no names.
 
 # The file of the image, without what quotes it.
 function __cbfstool_image
@@ -52,23 +52,46 @@ function __cbfstool_names
     end
 end
 
+# The areas of a file, as they are listed; none where the listing isn't ours.
+function __cbfstool_areas
+    set -l words (commandline -opc)
+    string unescape -- $words[1] | read -l tool
+    set -l rows ($tool $argv[1] layout 2> /dev/null)
+    string match -q -r '^fmap\t' -- $rows[1]; or return 1
+    printf '%s\n' $rows[2..] | cut -f 1
+end
+
+# Of the names that are read those whose region holds components.
+function __cbfstool_holding
+    set -l words (commandline -opc)
+    string unescape -- $words[1] | read -l tool
+    while read -l name
+        $tool $argv[1] print -r=$name 2> /dev/null | read -l row; and printf '%s\n' $name
+    end
+end
+
 function __cbfstool_regions
     set -l words (commandline -opc)
     set -l file (__cbfstool_image)
-    set -l before ""
     if __cbfstool_is create
         set file (__cbfstool_given M); or return
-        set before (string match -r '^.*,' -- (commandline -ct))
+        # (what stands before the names, without the option in the same word)
+        set -l before (string replace -r '^-r=?' '' -- (commandline -ct) | string match -r '^.*,')
+        __cbfstool_areas $file | __cbfstool_names | string replace -r '^' "$before"
+    else if __cbfstool_is extract add remove
+        __cbfstool_areas $file | __cbfstool_names | __cbfstool_holding $file
+    else
+        __cbfstool_areas $file | __cbfstool_names
     end
-    string unescape -- $words[1] | read -l tool
-    $tool $file layout 2> /dev/null | tail -n +2 | cut -f 1 | __cbfstool_names | string replace -r '^' "$before"
 end
 
 function __cbfstool_components
     set -l words (commandline -opc)
     set -l region (__cbfstool_given r); or set region COREBOOT
+    set -l file (__cbfstool_image)
+    __cbfstool_areas $file > /dev/null; or return
     string unescape -- $words[1] | read -l tool
-    $tool (__cbfstool_image) print -r $region 2> /dev/null |
+    $tool $file print -r=$region 2> /dev/null |
         string match -rv '^\(empty\)\t[^\t]*\t(null|deleted)\t' | cut -f 1 | __cbfstool_names
 end
 
