@@ -1,11 +1,16 @@
 # make: proves and builds both programs, as the README says.
-# make install: puts the programs, the manual pages and the completions in place; PREFIX and DESTDIR say where. It takes
-# the programs as they lie, and builds those that aren't there.
-# make uninstall: removes what `make install` puts there.
+# make install: puts the programs, the manual pages, the completions and the documents in place; PREFIX and DESTDIR say
+# where. With SUFFIX=-proved, or another one, programs, pages and completions have names with this end, and leave coreboot's
+# alone. It takes the programs as they lie, and builds those that aren't there.
+# make uninstall: removes what `make install` puts there, with the same SUFFIX.
+# make dist: puts the same into one archive in out/, which runs wherever it is unpacked.
+# make deb: puts the same into a Debian package in out/, with the suffix -proved where none is given.
 # make check: the quick test.
 
 PREFIX = /usr/local
 DESTDIR =
+SUFFIX =
+OUT = out
 
 BIN = $(PREFIX)/bin
 MAN1 = $(PREFIX)/share/man/man1
@@ -13,16 +18,36 @@ MAN5 = $(PREFIX)/share/man/man5
 BASH_FILES = $(PREFIX)/share/bash-completion/completions
 ZSH_FILES = $(PREFIX)/share/zsh/site-functions
 FISH_FILES = $(PREFIX)/share/fish/vendor_completions.d
-FOLDERS = $(BIN) $(MAN1) $(MAN5) $(BASH_FILES) $(ZSH_FILES) $(FISH_FILES)
-FILES = $(BIN)/cbfstool $(BIN)/fmaptool \
-	$(MAN1)/cbfstool.1 $(MAN1)/fmaptool.1 $(MAN5)/fmd.5 \
-	$(BASH_FILES)/cbfstool $(BASH_FILES)/fmaptool \
-	$(ZSH_FILES)/_cbfstool $(ZSH_FILES)/_fmaptool \
-	$(FISH_FILES)/cbfstool.fish $(FISH_FILES)/fmaptool.fish
+DOC = $(PREFIX)/share/doc/cbfstool$(SUFFIX)
+# (the folder of the documents as the pages name it)
+DOC_SHOWN = $(DOC)
+FOLDERS = $(BIN) $(MAN1) $(MAN5) $(BASH_FILES) $(ZSH_FILES) $(FISH_FILES) $(DOC)/docs $(DOC)
+DOCUMENTS = DECISIONS.md DEVELOPING.md FORMAT.md MOVING.md PROMISES.md
+FILES = $(BIN)/cbfstool$(SUFFIX) $(BIN)/fmaptool$(SUFFIX) \
+	$(MAN1)/cbfstool$(SUFFIX).1 $(MAN1)/fmaptool$(SUFFIX).1 $(MAN5)/fmd$(SUFFIX).5 \
+	$(BASH_FILES)/cbfstool$(SUFFIX) $(BASH_FILES)/fmaptool$(SUFFIX) \
+	$(ZSH_FILES)/_cbfstool$(SUFFIX) $(ZSH_FILES)/_fmaptool$(SUFFIX) \
+	$(FISH_FILES)/cbfstool$(SUFFIX).fish $(FISH_FILES)/fmaptool$(SUFFIX).fish \
+	$(DOC)/README.md $(DOC)/LICENSE $(addprefix $(DOC)/docs/,$(DOCUMENTS))
 CBFSTOOL = crates/cbfstool/out/cbfstool
 FMAPTOOL = crates/fmaptool/out/fmaptool
 INSTALL = install
 INSTALL_DATA = $(INSTALL) -m 644
+
+VERSION = $(shell git log -1 --format=%cd --date=format:0.%Y%m%d 2> /dev/null || date +0.%Y%m%d)
+MAINTAINER = the founders of the proved cbfstool and fmaptool <nobody@localhost>
+ARCHIVE = cbfstool$(SUFFIX)-$(VERSION)-$(shell uname -m)
+# (the oldest C library that has all that the programs call)
+LIBC = $(shell objdump -T $(CBFSTOOL) $(FMAPTOOL) | sed -n 's/.*GLIBC_\([0-9.]*\).*/\1/p' | sort -Vu | tail -n 1)
+
+# A page with the names of the programs and pages as they are installed: in macros as they are, in examples with dashes that
+# stay dashes. What the programs print begins with their plain names and a colon.
+NAMES = \(cbfstool\|fmaptool\)\>\([^:]\|$$\)
+ESCAPED = $(subst -,\\-,$(SUFFIX))
+CAPITALS = $(shell printf %s '$(SUFFIX)' | tr a-z A-Z)
+PAGE = sed -e '/^\./s/$(NAMES)/\1$(SUFFIX)\2/g' -e '/^[^.]/s/$(NAMES)/\1$(ESCAPED)\2/g' \
+	-e 's/\<\(Xr\|Nm\) fmd\>/&$(SUFFIX)/' -e 's/^\(\.Dt [A-Z]*\)/\1$(CAPITALS)/' \
+	-e 's,^\.Pa docs/,.Pa $(DOC_SHOWN)/docs/,'
 
 # (without words a program prints its usage)
 all:
@@ -38,20 +63,68 @@ $(FMAPTOOL):
 check:
 	samples/check
 
-install: $(CBFSTOOL) $(FMAPTOOL)
-	for folder in $(FOLDERS); do $(INSTALL) -d "$(DESTDIR)$$folder" || exit; done
-	$(INSTALL) -m 755 $(CBFSTOOL) $(FMAPTOOL) "$(DESTDIR)$(BIN)"
-	$(INSTALL_DATA) man/cbfstool.1 man/fmaptool.1 "$(DESTDIR)$(MAN1)"
-	$(INSTALL_DATA) man/fmd.5 "$(DESTDIR)$(MAN5)"
-	$(INSTALL_DATA) completion/cbfstool.bash "$(DESTDIR)$(BASH_FILES)/cbfstool"
-	$(INSTALL_DATA) completion/fmaptool.bash "$(DESTDIR)$(BASH_FILES)/fmaptool"
-	$(INSTALL_DATA) completion/_cbfstool completion/_fmaptool "$(DESTDIR)$(ZSH_FILES)"
-	$(INSTALL_DATA) completion/cbfstool.fish completion/fmaptool.fish "$(DESTDIR)$(FISH_FILES)"
+install: put
+	@[ -n "$(SUFFIX)" ] || { \
+		same=; \
+		for program in cbfstool fmaptool; do \
+			found=$$(IFS=:; for folder in $$PATH; do \
+				[ "$$folder" = "$(BIN)" ] || [ ! -x "$$folder/$$program" ] || { echo "$$folder/$$program"; break; }; done); \
+			same="$$same$${found:+ $$found}"; \
+		done; \
+		[ -z "$$same" ] || echo "install: programs of the same names:$$same; PATH says which ones run, and SUFFIX=-proved gives other names"; }
 
-# Folders that other programs use too stay, but empty ones of a staging folder go.
+put: $(CBFSTOOL) $(FMAPTOOL)
+	case "$(SUFFIX)" in *[!A-Za-z0-9._+-]*) echo "SUFFIX has other marks than . _ + -" >&2; exit 1 ;; esac
+	for folder in $(FOLDERS); do $(INSTALL) -d "$(DESTDIR)$$folder" || exit; done
+	$(INSTALL) -m 755 $(CBFSTOOL) "$(DESTDIR)$(BIN)/cbfstool$(SUFFIX)"
+	$(INSTALL) -m 755 $(FMAPTOOL) "$(DESTDIR)$(BIN)/fmaptool$(SUFFIX)"
+	$(PAGE) man/cbfstool.1 > "$(DESTDIR)$(MAN1)/cbfstool$(SUFFIX).1"
+	$(PAGE) man/fmaptool.1 > "$(DESTDIR)$(MAN1)/fmaptool$(SUFFIX).1"
+	$(PAGE) man/fmd.5 > "$(DESTDIR)$(MAN5)/fmd$(SUFFIX).5"
+	for program in cbfstool fmaptool; do \
+		name=$$program$(SUFFIX); \
+		sed "s/$$program/$$name/g" completion/$$program.bash > "$(DESTDIR)$(BASH_FILES)/$$name" && \
+		sed "s/$$program/$$name/g" completion/_$$program > "$(DESTDIR)$(ZSH_FILES)/_$$name" && \
+		sed "s/$$program/$$name/g" completion/$$program.fish > "$(DESTDIR)$(FISH_FILES)/$$name.fish" || exit; done
+	$(INSTALL_DATA) README.md LICENSE "$(DESTDIR)$(DOC)"
+	$(INSTALL_DATA) $(addprefix docs/,$(DOCUMENTS)) "$(DESTDIR)$(DOC)/docs"
+	cd "$(DESTDIR)/" && chmod 644 $(patsubst /%,%,$(filter $(MAN1)/% $(MAN5)/% $(BASH_FILES)/% $(ZSH_FILES)/% $(FISH_FILES)/%,$(FILES)))
+
+# Folders that other programs use too stay, but the one of the documents, and empty ones of a staging folder, go.
 uninstall:
 	for file in $(FILES); do rm -f "$(DESTDIR)$$file" || exit; done
 	if [ -n "$(DESTDIR)" ]; then cd "$(DESTDIR)" && for folder in $(FOLDERS); do \
-		rmdir -p ".$$folder" 2> /dev/null; done; fi; :
+		rmdir -p ".$$folder" 2> /dev/null; done; \
+	else rmdir "$(DOC)/docs" "$(DOC)" 2> /dev/null; fi; :
 
-.PHONY: all check install uninstall
+# (the pages name the documents from the archive's own folder)
+dist: $(CBFSTOOL) $(FMAPTOOL)
+	rm -rf "$(OUT)/dist"
+	mkdir -p "$(OUT)/dist"
+	$(MAKE) put DESTDIR="$$(cd "$(OUT)/dist" && pwd)" PREFIX=/$(ARCHIVE) DOC_SHOWN=share/doc/cbfstool$(SUFFIX)
+	tar -C "$(OUT)/dist" --sort=name --owner=0 --group=0 --numeric-owner -czf "$(OUT)/$(ARCHIVE).tar.gz" $(ARCHIVE)
+	rm -rf "$(OUT)/dist"
+	@echo "$(OUT)/$(ARCHIVE).tar.gz"
+
+deb: $(CBFSTOOL) $(FMAPTOOL)
+	rm -rf "$(OUT)/deb"
+	mkdir -p "$(OUT)/deb"
+	$(MAKE) package SUFFIX="$(or $(SUFFIX),-proved)" PREFIX=/usr ZSH_FILES=/usr/share/zsh/vendor-completions \
+		DESTDIR="$$(cd "$(OUT)/deb" && pwd)"
+	rm -rf "$(OUT)/deb"
+
+package: put
+	gzip -9n "$(DESTDIR)$(MAN1)"/*.1 "$(DESTDIR)$(MAN5)"/*.5
+	mv "$(DESTDIR)$(DOC)/LICENSE" "$(DESTDIR)$(DOC)/copyright"
+	$(INSTALL) -d "$(DESTDIR)/DEBIAN"
+	printf '%s\n' "Package: cbfstool$(SUFFIX)" "Version: $(VERSION)" "Architecture: $$(dpkg --print-architecture)" \
+		"Maintainer: $(MAINTAINER)" "Section: utils" "Priority: optional" "Depends: libc6 (>= $(LIBC))" \
+		"Description: proved cbfstool and fmaptool for coreboot flash images" \
+		" cbfstool$(SUFFIX) lists, reads and changes the regions of a flash image, and" \
+		" fmaptool$(SUFFIX) compiles a flashmap descriptor. Their names leave those of" \
+		" coreboot-utils alone." > "$(DESTDIR)/DEBIAN/control"
+	cd "$(DESTDIR)" && find usr -type f -exec md5sum {} + | sort -k 2 > DEBIAN/md5sums
+	chmod -R u=rwX,go=rX "$(DESTDIR)"
+	dpkg-deb --root-owner-group --build "$(DESTDIR)" "$(OUT)/cbfstool$(SUFFIX)_$(VERSION)_$$(dpkg --print-architecture).deb"
+
+.PHONY: all check install put uninstall dist deb package
