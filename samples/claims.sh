@@ -1,6 +1,8 @@
 # What samples/claims compares, with the pages of the folder `pages`.
 
-all_claims() {
+# claims CHECK..: these checks of the pages, in a new folder
+claims() {
+    local check
     rm -rf "$work/claims"
     mkdir "$work/claims"
     cd "$work/claims"
@@ -13,14 +15,9 @@ all_claims() {
     cbfstool types.rom read -f whole
     printf abc > abc
     read_synopsis
-    listed_refusals
-    words
-    limits
-    defaults
-    options
-    refusals
-    tables
-    completions
+    for check; do
+        "$check"
+    done
 }
 
 # section PAGE NAME: the lines of a section
@@ -503,7 +500,7 @@ said() {
     grep -o . <<< "${letters[$1]}" | LC_ALL=C sort | tr -d '\n'
 }
 
-# tables: the README names the same commands, and for each option the commands that take it
+# tables: the README names the same commands, for each option the commands that take it, and the same defaults
 tables() {
     local command letter name by all
     sed -n '/^| Command | Example/,/^$/s/^| `\([a-z]*\)` | `cbfstool [^ ]* \([a-z]*\) \?\([^`]*\)`.*/\1 \2 \3/p' "$top/README.md" > rows
@@ -526,6 +523,11 @@ tables() {
     for command in "${commands[@]}"; do
         for letter in $(grep -o . <<< "${letters[$command]}" || :); do echo "$command $letter"; done
     done | LC_ALL=C sort > by_synopsis
+    for letter in r A; do
+        by=$(grep "^| .-$letter " "$top/README.md" | sed -n 's/.*[ `]\([A-Za-z0-9_]\{1,\}\)`\{0,1\} without it.*/\1/p')
+        name=$(item "$letter" | tr '\n' ' ' | sed -E 's/.*The default is (\.Ql )?([^., ]*).*/\2/')
+        [ "$by" = "$name" ] || fail "claims: the README's default of -$letter is $by, that of the page $name"
+    done
     LC_ALL=C sort by_readme | diff by_synopsis - > differ || fail "claims: the README's options differ: $(cat differ)"
 }
 
