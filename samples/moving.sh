@@ -32,7 +32,7 @@ FMD
 FLASH@0xffe00000 2M {
 	SI_DESC 8K SI_ME 60K RO_FRID 128 RW_FWID_A 192 FULL_2(CBFS
 		PRESERVE) 4K
-	SMM_3 (CBFS) 0x6000 { }
+	SMM_3 (CBFS) 0x6000
 	RW_SECTION_A@192K { VBLOCK_A 4K FW_MAIN_A(CBFS) 320K }
 	RW_SECTION_B@0x90040 { VBLOCK_B 4K FW_MAIN_B(CBFS) 320K RW_FWID_B 64 } RW_MRC_CACHE@1M 64K
 	EC 32K BOOTBLOCK 32K GBB 4K FMAP@0x140000 2K COREBOOT(CBFS)@0x1a0040
@@ -49,8 +49,7 @@ size_of() {
 
 # make_files NUMBER: makes the files of the rows for a board, with coreboot's tools, in the current folder
 make_files() {
-    # (its compiler takes no empty list of parts)
-    board "$1" | sed 's/{ }//' > chip.fmd
+    board "$1" > chip.fmd
     fmaptool chip.fmd chip.fmap
     seq 60000 > numbered
     cbfstool coreboot.rom create -M chip.fmap -r COREBOOT,FW_MAIN_A,FW_MAIN_B,FULL_2,SMM_3
