@@ -239,9 +239,16 @@ refusals() {
     compiler_refusals
 }
 
-# provoke NUMBER TEXT: the program refuses something with this text, and the status that the page says
+# also WORDS..: the words are refused with the `text` too
+also() {
+    again "$@"
+    [ "$status" = 1 ] && [ "$(cat told)" = "cbfstool: $text" ]
+}
+
+# provoke NUMBER TEXT: the program refuses something with this text, and the status that the page says; where the page names
+# several causes, in each of these ways
 provoke() {
-    local wanted=1
+    local wanted=1 text=$2 size
     cp types.rom tried.rom
     case $1 in
         1)
@@ -269,11 +276,32 @@ provoke() {
             [ "$status" = 1 ] && [ "$(cat told)" = "cbfstool: $2" ] || return 1
             again write -f absent
             ;;
-        4) : > tried.rom && again print ;;
-        5) again print -r COREBOOT,FW_MAIN_A ;;
+        4)
+            head -c $((0x4a00)) types.rom > tried.rom && also print || return 1
+            cp abc tried.rom && also print || return 1
+            : > tried.rom && again print
+            ;;
+        5)
+            also print -r coreboot && also print -r COREBOOT,FW_MAIN_A || return 1
+            # (a map before the image's own)
+            { printf '__FMAP__\1\1' && head -c 8 /dev/zero && printf '\0\1\0\0A' && head -c 33 /dev/zero; } |
+                dd of=tried.rom conv=notrunc status=none
+            also print || return 1
+            # (no area of the name that is taken without one)
+            fmaptool /dev/stdin only.fmap <<< "F 4K { FMAP 1K A }"
+            cbfstool tried.rom create -M only.fmap -r A
+            again print
+            ;;
         6) head -c $((0x6000)) types.rom > tried.rom && again print ;;
         7) cp odd.rom tried.rom && again print -r ODD ;;
-        8) again print -r GBB ;;
+        8)
+            also print -r GBB || return 1
+            cbfstool tried.rom create -M board.fmap
+            also print -r FW_MAIN_A || return 1
+            tr 'L' 'x' < whole > other
+            cbfstool tried.rom write -f other
+            again print
+            ;;
         9)
             damages || return 1
             cp types.rom tried.rom
@@ -282,7 +310,20 @@ provoke() {
             ;;
         10) again extract -n absent -f out ;;
         11) again add -n t/raw -t raw -f abc ;;
-        12) again add -n new -t raw -f whole ;;
+        12)
+            also add -n new -t raw -f abc -b 0 && also add -n new -t raw -f abc -b 4 && also add -n new -t raw -f abc -b 0xfffc0000 &&
+                also add -n new -t raw -f abc -a 0x100000 || return 1
+            # (the whole region but its last four bytes; with -b these too)
+            cbfstool tried.rom create -M board.fmap
+            size=$(stat -c %s whole)
+            head -c $((size - 31)) whole > all
+            also add -n new -t raw -f all || return 1
+            head -c $((size - 28)) whole > all
+            cbfstool tried.rom add -n new -t raw -f all -b 28 && cbfstool tried.rom remove -n new || return 1
+            head -c $((size - 32)) whole > all
+            cbfstool tried.rom add -n new -t raw -f all && cbfstool tried.rom remove -n new || return 1
+            again add -n new -t raw -f whole
+            ;;
         13) cp "$top/samples/packed.rom" tried.rom && again extract -n lzma -f out ;;
         14) again add -n "" -t raw -f abc ;;
         15)
