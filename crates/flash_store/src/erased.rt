@@ -1,25 +1,33 @@
 //! A file of which it is known what is still erased.
 ghost use Rattle.std.specs.Prelude.{◌≡◌, ◌⊎◌, ◌+◌, ◌≤◌, IfOk, IsTrue, length, replicate, slice_range};
-ghost use Rattle.flash_store.specs.Storing.{SameFile};
+ghost use Rattle.flash_store.specs.Storing.{SameFile, SameBytes, IsErased};
 
 use crate::flash::PIECE;
 use crate::storage::{Storage, StorageFault};
 use crate::transfer::write_whole;
 use std::marker::Model;
 
-/// Bytes of the erase value.
-const ERASED: [u8; PIECE] = [0xff; PIECE];
-
 /// How many bytes of a new file are written at once.
-const FIRST: usize = 65536;
+const MANY: usize = 65536;
+
+/// The most bytes that one look reads.
+const LOOK: usize = 16384;
+
+/// How many writes are made without a look once one has seen something else than 0xff.
+const UNSEEN: u32 = 15;
+
+/// Bytes of the erase value.
+const ERASED: [u8; MANY] = [0xff; MANY];
 
 /// A file with a stretch in which each byte is 0xff. A write of such bytes inside it makes no call, since it changes
-/// nothing.
+/// nothing; before one outside it is made, the file is looked at.
 #[derive(Drop)]
 pub struct Erased<S: Storage> {
     storage: S,
     from: u64,
     to: u64,
+    look: usize,
+    unseen: u32,
 }
 
 impl<S: Storage> Model for Erased<S> {
@@ -43,6 +51,8 @@ impl<S: Storage> Erased<S> {
             storage,
             from: 0,
             to: 0,
+            look: PIECE,
+            unseen: 0,
         }
     }
 
@@ -58,6 +68,8 @@ impl<S: Storage> Erased<S> {
             storage,
             from: 0,
             to,
+            look: PIECE,
+            unseen: 0,
         })
     }
 
@@ -69,22 +81,67 @@ impl<S: Storage> Erased<S> {
         storage
     }
 
+    /// Whether 0xff is to be written where the file is seen to have it; then what is seen is the stretch from then on.
+    /// The more is seen to be erased, the more is looked at; where something else is seen, the next writes aren't spared.
+    fn looks_erased(&mut self, at: u64, bytes: &[u8]) -> bool
+        requires { at + length bytes.now ≤ length self.old.content }
+
+        ensures after { SameBytes self.old self.new }
+        ensures same { IsTrue result → IsTrue self.old.faithful →
+            slice_range self.old.content at (at + length bytes.now) ≡ bytes.now }
+    {
+        if bytes.len() > MANY || !is_erased(bytes) {
+            return false;
+        }
+        if self.unseen > 0 {
+            self.unseen -= 1;
+            return false;
+        }
+        let to = erased_up_to(&mut self.storage, at, self.look);
+        if to - at < bytes.len() as u64 {
+            self.look = PIECE;
+            self.unseen = UNSEEN;
+            return false;
+        }
+        self.from = at;
+        self.to = to;
+        self.look = self.look.saturating_mul(4);
+        self.has(at, bytes)
+    }
+
     /// Whether it is known that these bytes stand from `at` on.
     fn has(&self, at: u64, bytes: &[u8]) -> bool
         ensures { IsTrue result → IsTrue self.now.faithful →
             slice_range self.now.content at (at + length bytes.now) ≡ bytes.now }
     {
         let n = bytes.len();
-        if at < self.from || at > self.to || n as u64 > self.to - at || n > PIECE {
+        if at < self.from || at > self.to || n as u64 > self.to - at || n > MANY {
             return false;
         }
         is_erased(bytes)
     }
 }
 
+/// Up to where the bytes from `at` on are 0xff, as far as one read of up to `look` bytes tells: all that it gives, or none.
+fn erased_up_to<S: Storage>(storage: &mut S, at: u64, look: usize) -> u64
+    requires { at ≤ length (S.facts storage.old).content }
+
+    ensures after { SameBytes (S.facts storage.old) (S.facts storage.new) }
+    ensures inside { (at ≤ result) × (result ≤ length (S.facts storage.old).content) }
+    ensures erased { IsTrue (S.facts storage.old).faithful →
+        IsErased at result (S.facts storage.old).content }
+{
+    let mut seen = [0; LOOK];
+    let n = (storage.len() - at).min(look.min(LOOK) as u64) as usize;
+    match storage.read_some(at, &mut seen[..n]) {
+        Ok(k) if is_erased(&seen[..k]) => at + k as u64,
+        Ok(_) | Err(_) => at,
+    }
+}
+
 /// Whether each byte is 0xff.
 fn is_erased(bytes: &[u8]) -> bool
-    requires { length bytes.now ≤ PIECE }
+    requires { length bytes.now ≤ MANY }
     ensures { IsTrue result → bytes.now ≡ replicate (length bytes.now) 0xff }
 {
     bytes == &ERASED[..bytes.len()]
@@ -113,12 +170,11 @@ fn write_erased<S: Storage>(storage: &mut S) -> Result<(), StorageFault>
     ensures erased { IfOk result (λ _. IsTrue (S.facts storage.old).faithful →
         (S.facts storage.new).content ≡ replicate (length (S.facts storage.old).content) 0xff) }
 {
-    let erased = [0xff; FIRST];
     let end = storage.len();
     let mut at = 0;
     while at < end {
-        let n = (end - at).min(FIRST as u64);
-        write_whole(storage, at, &erased[..n as usize])?;
+        let n = (end - at).min(MANY as u64);
+        write_whole(storage, at, &ERASED[..n as usize])?;
         at += n;
     }
     Ok(())
@@ -137,6 +193,9 @@ impl<S: Storage> Storage for Erased<S> {
 
     fn write_some(&mut self, at: u64, bytes: &[u8]) -> Result<usize, StorageFault> {
         if self.has(at, bytes) {
+            return Ok(bytes.len());
+        }
+        if self.looks_erased(at, bytes) {
             return Ok(bytes.len());
         }
         let _below = self.storage.len();

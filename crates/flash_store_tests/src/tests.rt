@@ -400,25 +400,31 @@ fn flaky(rt: &(impl Abort + AllocGlobal), calls: u64) -> Result<FlakyFile, Fail>
 #[test]
 fn a_device_in_a_file_moves_all(rt: HostRuntime) -> Result<(), Fail> {
     let mut device = StoredFlash::new(Ahead::new(Erased::new(flaky(&rt, 1000)?)));
-    let mut seen = [0; 50];
-    assert!(rt; read_at(&rt, &mut device, 3, &mut seen).is_ok());
-    same_bytes(
-        &rt,
-        &seen,
-        part_of(&rt, numbered(rt.alloc(), 100)?.as_slice(), 3, 53),
-    );
-    assert!(rt; write_at(&rt, &mut device, 20, &[200; 60]).is_ok());
-    assert!(rt; commit_at(&rt, &mut device, 1, &[2; HEADER_LENGTH]).is_ok());
-    let mut wanted = numbered(rt.alloc(), 100)?;
-    write_over(&rt, &mut wanted, 20, &[200; 60]);
-    write_over(&rt, &mut wanted, 1, &[2; HEADER_LENGTH]);
+    move_parts(&rt, &mut device);
     let file = device.into_inner().into_inner().into_inner();
-    same_bytes(&rt, file.bytes(), wanted.as_slice());
+    holds_parts(&rt, file.bytes())
+}
+
+/// Reads some of the numbered bytes, writes over some and over the first but one.
+fn move_parts<F: Flash>(rt: &impl Abort, device: &mut F) {
+    let mut seen = [0; 50];
+    assert!(rt; read_at(rt, device, 3, &mut seen).is_ok());
+    assert!(rt; seen[0] == 3 && seen[30] == 33 && seen[49] == 52);
+    assert!(rt; write_at(rt, device, 20, &[200; 60]).is_ok());
+    assert!(rt; commit_at(rt, device, 1, &[2; HEADER_LENGTH]).is_ok());
+}
+
+/// The numbered bytes with these parts.
+fn holds_parts(rt: &(impl Abort + AllocGlobal), bytes: &[u8]) -> Result<(), Fail> {
+    let mut wanted = numbered(rt.alloc(), 100)?;
+    write_over(rt, wanted.as_mut_slice(), 20, &[200; 60]);
+    write_over(rt, wanted.as_mut_slice(), 1, &[2; HEADER_LENGTH]);
+    same_bytes(rt, bytes, wanted.as_slice());
     Ok(())
 }
 
 /// Puts bytes in place of those from `at` on.
-fn write_over(rt: &impl Abort, bytes: &mut Vec<u8>, at: usize, new: &[u8]) {
+fn write_over(rt: &impl Abort, bytes: &mut [u8], at: usize, new: &[u8]) {
     assert!(rt; at <= bytes.len() && new.len() <= bytes.len() - at);
     bytes[at..at + new.len()].copy_from_slice(new);
 }
@@ -426,14 +432,17 @@ fn write_over(rt: &impl Abort, bytes: &mut Vec<u8>, at: usize, new: &[u8]) {
 #[test]
 fn a_source_in_a_file_moves_all(rt: HostRuntime) -> Result<(), Fail> {
     let mut source = StoredSource::new(flaky(&rt, 1000)?);
-    let mut paged = Paged::new(MemFlash::new(image(rt.alloc(), 100, 0, &[])?)?);
-    copy_in(&rt, &mut paged, 0, 100, &mut source)?;
-    same_bytes(
-        &rt,
-        paged.flash().bytes(),
-        numbered(rt.alloc(), 100)?.as_slice(),
-    );
+    let mut seen = [0; 100];
+    read_source(&rt, &mut source, &mut seen);
+    let wanted = numbered(rt.alloc(), 100)?;
+    same_bytes(&rt, &seen, wanted.as_slice());
     Ok(())
+}
+
+/// Reads a source from its start on.
+fn read_source<S: Source>(rt: &impl Abort, source: &mut S, out: &mut [u8]) {
+    assert!(rt; out.len() <= PIECE && out.len() as u64 <= source.len());
+    assert!(rt; source.read_at(0, out).is_ok());
 }
 
 #[test]
@@ -442,16 +451,24 @@ fn a_file_is_erased(rt: HostRuntime) -> Result<(), Fail> {
         return Err("refused")?;
     };
     let mut device = StoredFlash::new(file);
-    assert!(rt; write_at(&rt, &mut device, 10, &[0xff; 50]).is_ok());
-    assert!(rt; write_at(&rt, &mut device, 30, b"new").is_ok());
-    assert!(rt; write_at(&rt, &mut device, 20, &[0xff; 11]).is_ok());
+    erase_parts(&rt, &mut device);
+    let wanted = image(rt.alloc(), 100, 31, b"ew")?;
     let file = device.into_inner().into_inner();
-    same_bytes(
-        &rt,
-        file.bytes(),
-        image(rt.alloc(), 100, 31, b"ew")?.as_slice(),
-    );
-    assert!(rt; Erased::erase(flaky(&rt, 10)?).is_err());
+    same_bytes(&rt, file.bytes(), wanted.as_slice());
+    Ok(())
+}
+
+/// Writes over 0xff, and 0xff over the first byte of that again.
+fn erase_parts<F: Flash>(rt: &impl Abort, device: &mut F) {
+    assert!(rt; write_at(rt, device, 10, &[0xff; 50]).is_ok());
+    assert!(rt; write_at(rt, device, 30, b"new").is_ok());
+    assert!(rt; write_at(rt, device, 20, &[0xff; 11]).is_ok());
+}
+
+#[test]
+fn a_file_that_refuses_is_not_erased(rt: HostRuntime) -> Result<(), Fail> {
+    let refused = Erased::erase(flaky(&rt, 10)?).is_err();
+    assert!(rt; refused);
     Ok(())
 }
 
@@ -522,17 +539,22 @@ fn read_cut(rt: &(impl Abort + Files<File = File>)) -> Result<[bool; 2], Fail> {
 
 #[test]
 fn a_source_that_was_cut_refuses_what_it_lost(rt: HostRuntime) -> Result<(), Fail> {
-    let long = numbered(rt.alloc(), 5000)?;
-    fs::write(&rt, "source.bin", long.as_slice())?;
-    let mut source = FileSource::open(&rt, "source.bin")?;
+    let mut source = cut_source(&rt)?;
     let mut paged = Paged::new(MemFlash::new(image(rt.alloc(), 5000, 0, &[])?)?);
-    fs::write(&rt, "source.bin", part_of(&rt, long.as_slice(), 0, 4100))?;
     let copied = copy_in(&rt, &mut paged, 0, 5000, &mut source);
     equal(&rt, &copied, &Err(CopyFault::Source));
-    let left = image(rt.alloc(), 5000, 0, part_of(&rt, long.as_slice(), 0, 4096))?;
+    let left = image(rt.alloc(), 5000, 0, &[7; PIECE])?;
     same_bytes(&rt, paged.flash().bytes(), left.as_slice());
-    fs::remove_file(&rt, "source.bin")?;
     Ok(())
+}
+
+/// A source of 5000 bytes, of which the last 900 are gone.
+fn cut_source(rt: &(impl AllocGlobal + Files<File = File>)) -> Result<FileSource, Fail> {
+    fs::write(rt, "source.bin", [7; 5000].as_slice())?;
+    let source = FileSource::open(rt, "source.bin")?;
+    fs::write(rt, "source.bin", [7; 4100].as_slice())?;
+    fs::remove_file(rt, "source.bin")?;
+    Ok(source)
 }
 
 /// Which of two reads pass.

@@ -5,4 +5,4 @@ use Rattle.std.proofs.lemmas.Bool.Decides.{Decides-eqb}
 use Rattle.flash_store.proofs.erased.is_erased.Goals as goal
 
 pub returns : goal.returns
-returns c = λ same. (slice_eq-Decides Decides-eqb _ _ _ c.eq.ensures).0 same ∙ take-replicate (length c.args.bytes.now) 4096 255 c.requires
+returns c = λ same. (slice_eq-Decides Decides-eqb _ _ _ c.eq.ensures).0 same ∙ take-replicate (length c.args.bytes.now) 65536 255 c.requires
