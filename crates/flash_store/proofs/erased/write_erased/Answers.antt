@@ -1,4 +1,4 @@
-use Rattle.std.proofs.Common.{◌≡◌, ◌∙◌, ◌+◌, ◌-◌, ◌≤◌, length, take, arith}
+use Rattle.std.proofs.Common.{arith}
 use Rattle.flash_store.proofs.StoringLemmas.{Erased-more, faithful_still, SameFile-trans}
 use Rattle.flash_store.proofs.erased.write_erased.Goals as goal
 

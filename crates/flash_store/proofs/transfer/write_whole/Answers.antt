@@ -1,4 +1,4 @@
-use Rattle.std.proofs.Common.{◌≡◌, ◌∙◌, ◌+◌, ◌-◌, ◌≤◌, length, arith}
+use Rattle.std.proofs.Common.{◌+◌, ◌≤◌, length, arith}
 use Rattle.flash_store.proofs.StoringLemmas.{Written-more, Written-outside, Written-torn, faithful_still, SameFile-trans, length-rest}
 use Rattle.flash_store.proofs.transfer.write_whole.Goals as goal
 

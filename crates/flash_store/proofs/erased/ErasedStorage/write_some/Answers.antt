@@ -1,4 +1,4 @@
-use Rattle.std.proofs.Common.{◌≡◌, ◌∙◌, ◌-◌, ◌≤◌, length, take, drop, arith, sym, ap, subst, IsTrue}
+use Rattle.std.proofs.Common.{◌∙◌, length, arith, sym, ap, subst, IsTrue}
 use Rattle.std.proofs.Math.Seq.{take-length}
 use Rattle.flash_store.specs.Bytes.{overwritten}
 use Rattle.flash_store.proofs.BytesLemmas.{overwritten-same}
