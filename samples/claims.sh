@@ -242,7 +242,7 @@ refusals() {
 # also WORDS..: the words are refused with the `text` too
 also() {
     again "$@"
-    [ "$status" = 1 ] && [ "$(cat told)" = "cbfstool: $text" ]
+    [[ "$status" = 1 && "$(cat told)" = "cbfstool: $text" ]]
 }
 
 # provoke NUMBER TEXT: the program refuses something with this text, and the status that the page says; where the page names
@@ -344,7 +344,7 @@ provoke() {
         22) truncate -s 4G tried.rom && again print && rm tried.rom ;;
         *) return 1 ;;
     esac
-    [ "$status" = "$wanted" ] && [ "$(cat told)" = "cbfstool: $2" ]
+    [[ "$status" = "$wanted" && "$(cat told)" = "cbfstool: $2" ]]
 }
 
 # damages: each kind of damage that the page names is told of the first entry of an image
