@@ -110,3 +110,19 @@ with_short_calls() {
     tool=$checked
     [ -e was_short ] || fail "$*: none of the $kind was short"
 }
+
+# Whether strace is here and may trace.
+traces() { strace -o traced -e inject=pwrite64:error=EIO:when=1 true > /dev/null 2>&1; }
+
+# with_calls CALL HOW PATH WORDS..: a check of a call where strace does this to these calls that name the path, or its file
+with_calls() {
+    local call=$1 how=$2 path=$3 checked=$tool
+    shift 3
+    printf '#!/bin/sh\nexec strace -o traced -P "%s" -e trace="%s" -e inject="%s:%s" "%s" "$@"\n' \
+        "$path" "$call" "$call" "$how" "$checked" > traced_tool
+    chmod 755 traced_tool
+    tool=./traced_tool
+    "$@"
+    tool=$checked
+    grep -q INJECTED traced || fail "$*: no $call of $path was changed"
+}

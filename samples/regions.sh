@@ -198,6 +198,3 @@ but_free() {
     head -c $((start + from + 28)) "$1"
     tail -c +$((start + free_to + 1)) "$1"
 }
-
-# Whether strace is here and may trace.
-traces() { strace -o traced -e inject=pwrite64:error=EIO:when=1 true > /dev/null 2>&1; }
