@@ -3,6 +3,7 @@
 mod adding;
 mod creating;
 mod hostile;
+mod stopping;
 mod verbose;
 
 use cbfs_commands::{Command, Refusal, run};
