@@ -35,7 +35,12 @@ INSTALL = install
 INSTALL_DATA = $(INSTALL) -m 644
 
 VERSION = $(shell git log -1 --format=%cd --date=format:0.%Y%m%d 2> /dev/null || date +0.%Y%m%d)
-MAINTAINER = the founders of the proved cbfstool and fmaptool <nobody@localhost>
+# (whom a package names: what git is told of its user here, as `git config user.name NAME` and `git config user.email ADDRESS`
+# set it, or who made the last commit; `make deb MAINTAINER='NAME <ADDRESS>'` names another)
+GIT_NAME = $(shell git config user.name 2> /dev/null)
+GIT_ADDRESS = $(shell git config user.email 2> /dev/null)
+GIT_AUTHOR = $(shell git log -1 --format='%an <%ae>' 2> /dev/null)
+MAINTAINER = $(if $(and $(GIT_NAME),$(GIT_ADDRESS)),$(GIT_NAME) <$(GIT_ADDRESS)>,$(or $(GIT_AUTHOR),nobody <nobody@localhost>))
 ARCHIVE = cbfstool$(SUFFIX)-$(VERSION)-$(shell uname -m)
 # (the oldest C library that has all that the programs call)
 LIBC = $(shell objdump -T $(CBFSTOOL) $(FMAPTOOL) | sed -n 's/.*GLIBC_\([0-9.]*\).*/\1/p' | sort -Vu | tail -n 1)
@@ -118,7 +123,7 @@ package: put
 	mv "$(DESTDIR)$(DOC)/LICENSE" "$(DESTDIR)$(DOC)/copyright"
 	$(INSTALL) -d "$(DESTDIR)/DEBIAN"
 	printf '%s\n' "Package: cbfstool$(SUFFIX)" "Version: $(VERSION)" "Architecture: $$(dpkg --print-architecture)" \
-		"Maintainer: $(MAINTAINER)" "Section: utils" "Priority: optional" "Depends: libc6 (>= $(LIBC))" \
+		'Maintainer: $(subst ','\'',$(MAINTAINER))' "Section: utils" "Priority: optional" "Depends: libc6 (>= $(LIBC))" \
 		"Description: proved cbfstool and fmaptool for coreboot flash images" \
 		" cbfstool$(SUFFIX) lists, reads and changes the regions of a flash image, and" \
 		" fmaptool$(SUFFIX) compiles a flashmap descriptor. Their names leave those of" \
