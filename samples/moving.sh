@@ -76,6 +76,7 @@ make_files() {
     cbfstool coreboot.rom write -r SI_ME -f content
     rm content
     cp "$top/samples/types.rom" "$top/samples/hashes.rom" "$top/samples/packed.rom" .
+    [ "$1" = 1 ] || move_samples
     cp hashes.rom digests.rom
     # (the digest of another algorithm, which isn't checked here)
     cbfstool digests.rom remove -n "h sha1"
@@ -85,6 +86,8 @@ make_files() {
         spot=$(grep -abo LARCHIVE digests.rom | sed -n '1s/:.*//p')
         spot=$((spot + $(od -An -tu4 --endian=big -j $((spot + 20)) -N 4 digests.rom)))
         printf '\377' | dd of=digests.rom bs=1 seek="$spot" conv=notrunc status=none
+        cbfstool hashes.rom remove -n "h sha1"
+        cbfstool hashes.rom add -f fwid -n "my sha1 2" -t raw
     fi
     cp coreboot.rom pointer.rom
     printf KEEP | dd of=pointer.rom bs=1 seek=$(($(stat -c %s pointer.rom) - 4)) conv=notrunc status=none
@@ -92,19 +95,49 @@ make_files() {
     cbfstool payload.rom add-payload -f payload.elf -n fallback/payload
     cbfstool legacy.rom create -m x86 -s 64K
     : > empty.rom
-    { printf x && cat chip.fmap && head -c 1048576 /dev/zero; } | head -c 1048576 > shifted.rom
-    # (the length of the second component, and that of the first attribute)
+    { if [ "$1" = 1 ]; then printf x; else seq 57; fi && cat chip.fmap && head -c 1048576 /dev/zero; } | head -c 1048576 > shifted.rom
+    # (the length of t/spd, and that of the first attribute of a cell, the third one on the second board)
     cp types.rom long.rom
-    spot=$(grep -abo LARCHIVE long.rom | sed -n '2s/:.*//p')
-    printf '\177\377\377\377' | dd of=long.rom bs=1 seek=$((spot + 8)) conv=notrunc status=none
+    spot=$(grep -abo t/spd long.rom | sed -n '1s/:.*//p')
+    printf '\177\377\377\377' | dd of=long.rom bs=1 seek=$((spot - 16)) conv=notrunc status=none
     cp hashes.rom looped.rom
-    spot=$(grep -abo LARCHIVE looped.rom | sed -n '1s/:.*//p')
+    spot=$(grep -abo LARCHIVE looped.rom | sed -n "$(($1 * 2 - 1))s/:.*//p")
     spot=$((spot + $(od -An -tu4 --endian=big -j $((spot + 16)) -N 4 looped.rom)))
     printf '\0\0\0\0' | dd of=looped.rom bs=1 seek=$((spot + 4)) conv=notrunc status=none
     printf '%%.bin:\n\tcbfstool coreboot.rom extract -n $* -f $@\n' > plain.mk
     { echo .DELETE_ON_ERROR: && cat plain.mk; } > whole.mk
     chmod 644 ./*
     chmod 666 ./*.rom
+}
+
+# move_samples: puts the regions of the samples into images of another size, at an odd place before the map; in that of the
+# types t/spd stands elsewhere, and a type without a name has another number; in that of what is packed a length is another
+move_samples() {
+    local sample size spot
+    for sample in types hashes packed; do
+        cbfstool "$sample.rom" read -r COREBOOT -f region
+        size=$(stat -c %s region)
+        echo "ODD 96K { GAP.1 0x1c40 COREBOOT(CBFS) $size REST@72K 20K FMAP 1K TAIL_2 }" > moved.fmd
+        fmaptool moved.fmd moved.fmap
+        rm "$sample.rom"
+        cbfstool "$sample.rom" create -M moved.fmap
+        cbfstool "$sample.rom" write -F -r COREBOOT -f region
+    done
+    cbfstool types.rom remove -n t/raw
+    cbfstool types.rom remove -n t/spd
+    part 9000 60 > content
+    cbfstool types.rom add -f content -n t/raw -t raw
+    cbfstool types.rom add -f fwid -n t/spd -t spd
+    spot=$(grep -abo unknown types.rom | sed -n '1s/:.*//p')
+    printf '\276\357' | dd of=types.rom bs=1 seek=$((spot - 10)) conv=notrunc status=none
+    rm region moved.fmd moved.fmap content
+}
+
+# of_other_board: what a row says of the first board, for the second
+of_other_board() {
+    sed 's/`0xdfc0`/`0xefc0`/; s/`1048576`/`2097152`/; s/`65536`/`98304`/; s/`0x1234`/`0xbeef`/
+        s/ at 0x40: extent/ at 0x4c0: extent/; s/ at 0x0: attribute/ at 0x80: attribute/
+        s/`h sha1`/`my sha1 2`/; s/`h\\x20sha1`/`my\\x20sha1\\x202`/'
 }
 
 # make_map: a flashmap of 4096 bytes with one area
