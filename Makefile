@@ -66,7 +66,7 @@ $(FMAPTOOL):
 	cd crates/fmaptool && rt run > /dev/null
 
 check:
-	samples/check
+	checks/check
 
 install: put
 	@[ -n "$(SUFFIX)" ] || { \

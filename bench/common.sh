@@ -1,4 +1,4 @@
-# What the scripts share that measure our cbfstool beside coreboot's; for bash, after samples/programs.sh.
+# What the scripts share that measure our cbfstool beside coreboot's; for bash, after checks/programs.sh.
 
 # peers: `ours` and `theirs` are the two programs, `theirs` empty where coreboot's isn't here; what isn't here to measure
 # with is told

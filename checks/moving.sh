@@ -1,4 +1,4 @@
-# What samples/moving runs its rows with: the files, what is compared, and what is made at random.
+# What checks/moving runs its rows with: the files, what is compared, and what is made at random.
 
 # board NUMBER: writes the descriptor of one of two boards, whose regions have the same names, other places and other sizes
 board() {

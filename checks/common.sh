@@ -3,7 +3,7 @@
 # prepare NAME [PROGRAM]: takes the program, or builds the one of this name, and goes to a new folder.
 prepare() {
     name=$1
-    samples=$PWD/samples
+    samples=$PWD/samples checks=$PWD/checks
     local program=${2:-}
     if [ -z "$program" ]; then
         (cd "crates/$name" && rt run > /dev/null)
@@ -78,7 +78,7 @@ refuses() {
 each_growth() {
     local least=$1 file=$2 growths=0 status
     shift 2
-    cc -shared -fPIC -o refuse_memory.so "$samples/refuse_memory.c"
+    cc -shared -fPIC -o refuse_memory.so "$checks/refuse_memory.c"
     while true; do
         growths=$((growths + 1)) status=0
         rm -f "$file" was_refused
@@ -101,7 +101,7 @@ each_growth() {
 with_short_calls() {
     local kind=$1 checked=$tool
     shift
-    [ -e short_calls.so ] || cc -shared -fPIC -o short_calls.so "$samples/short_calls.c" -ldl
+    [ -e short_calls.so ] || cc -shared -fPIC -o short_calls.so "$checks/short_calls.c" -ldl
     rm -f was_short
     printf '#!/bin/sh\nSHORT_%s=was_short LD_PRELOAD=./short_calls.so exec "%s" "$@"\n' "$kind" "$checked" > halved
     chmod 755 halved

@@ -1,4 +1,4 @@
-# What samples/claims compares, with the pages of the folder `pages`.
+# What checks/claims compares, with the pages of the folder `pages`.
 
 # claims CHECK..: these checks of the pages, in a new folder
 claims() {
@@ -337,7 +337,7 @@ provoke() {
         19) again create -M board.fmap -r COREBOOT,FMAP ;;
         20) wanted=2 && again ;;
         21)
-            cc -shared -fPIC -o refuse_memory.so "$top/samples/refuse_memory.c"
+            cc -shared -fPIC -o refuse_memory.so "$top/checks/refuse_memory.c"
             status=0
             REFUSED=was_refused REFUSE_AT=1 LD_PRELOAD=./refuse_memory.so cbfstool tried.rom print > printed 2> told || status=$?
             ;;
