@@ -595,3 +595,22 @@ completions() {
         done
     done
 }
+
+# libraries: the README of each crate's folder names just what its crate has for others; one of tests names its crate
+libraries() {
+    local folder name file
+    for folder in "$top"/crates/*/; do
+        name=$(basename "$folder")
+        file=$pages/$name.README
+        [ -e "$file" ] || file=$folder/README.md
+        [ "$(head -n 1 "$file")" = "# $name" ] || fail "claims: the README of $name has another title"
+        [ "$(wc -l < "$file")" -le 25 ] || fail "claims: the README of $name has $(wc -l < "$file") lines"
+        case $name in
+            *_tests) grep -F "[${name%_tests}](../${name%_tests})" "$file" > /dev/null || fail "claims: the README of $name names no crate" && continue ;;
+            cbfstool | fmaptool) continue ;;
+        esac
+        sed -n '/^pub use [a-z_]*::/,/;/p; s/^pub mod \(.*\);/ \1/p' "$folder/src/lib.rt" | sed 's/.*:://' | grep -oE '[A-Za-z_][A-Za-z_0-9]*' | LC_ALL=C sort > used
+        sed -n '/^|---/,/^$/s/^| \([^|]*\) |.*/\1/p' "$file" | grep -oE '`[^`]*`' | tr -d '`' | LC_ALL=C sort > named
+        [ "$(wc -l < used)" -gt 1 ] && diff used named > differ || fail "claims: the README of $name names others: $(cat differ)"
+    done
+}
