@@ -21,14 +21,14 @@ FISH_FILES = $(PREFIX)/share/fish/vendor_completions.d
 DOC = $(PREFIX)/share/doc/cbfstool$(SUFFIX)
 # (the folder of the documents as the pages name it)
 DOC_SHOWN = $(DOC)
-FOLDERS = $(BIN) $(MAN1) $(MAN5) $(BASH_FILES) $(ZSH_FILES) $(FISH_FILES) $(DOC)/docs $(DOC)
-DOCUMENTS = layers.svg DECISIONS.md DEVELOPING.md FORMAT.md MOVING.md PROMISES.md
+FOLDERS = $(BIN) $(MAN1) $(MAN5) $(BASH_FILES) $(ZSH_FILES) $(FISH_FILES) $(DOC)/docs $(DOC)/bench $(DOC)
+DOCUMENTS = bench.svg growth.svg layers.svg DECISIONS.md DEVELOPING.md FORMAT.md MOVING.md PROMISES.md
 FILES = $(BIN)/cbfstool$(SUFFIX) $(BIN)/fmaptool$(SUFFIX) \
 	$(MAN1)/cbfstool$(SUFFIX).1 $(MAN1)/fmaptool$(SUFFIX).1 $(MAN5)/fmd$(SUFFIX).5 \
 	$(BASH_FILES)/cbfstool$(SUFFIX) $(BASH_FILES)/fmaptool$(SUFFIX) \
 	$(ZSH_FILES)/_cbfstool$(SUFFIX) $(ZSH_FILES)/_fmaptool$(SUFFIX) \
 	$(FISH_FILES)/cbfstool$(SUFFIX).fish $(FISH_FILES)/fmaptool$(SUFFIX).fish \
-	$(DOC)/README.md $(DOC)/LICENSE $(addprefix $(DOC)/docs/,$(DOCUMENTS))
+	$(DOC)/README.md $(DOC)/LICENSE $(DOC)/bench/RESULTS.md $(addprefix $(DOC)/docs/,$(DOCUMENTS))
 CBFSTOOL = crates/cbfstool/out/cbfstool
 FMAPTOOL = crates/fmaptool/out/fmaptool
 INSTALL = install
@@ -93,6 +93,7 @@ put: $(CBFSTOOL) $(FMAPTOOL)
 		sed "s/$$program/$$name/g" completion/$$program.fish > "$(DESTDIR)$(FISH_FILES)/$$name.fish" || exit; done
 	$(INSTALL_DATA) README.md LICENSE "$(DESTDIR)$(DOC)"
 	$(INSTALL_DATA) $(addprefix docs/,$(DOCUMENTS)) "$(DESTDIR)$(DOC)/docs"
+	$(INSTALL_DATA) bench/RESULTS.md "$(DESTDIR)$(DOC)/bench"
 	cd "$(DESTDIR)/" && chmod 644 $(patsubst /%,%,$(filter $(MAN1)/% $(MAN5)/% $(BASH_FILES)/% $(ZSH_FILES)/% $(FISH_FILES)/%,$(FILES)))
 
 # Folders that other programs use too stay, but the one of the documents, and empty ones of a staging folder, go.
@@ -100,7 +101,7 @@ uninstall:
 	for file in $(FILES); do rm -f "$(DESTDIR)$$file" || exit; done
 	if [ -n "$(DESTDIR)" ]; then cd "$(DESTDIR)" && for folder in $(FOLDERS); do \
 		rmdir -p ".$$folder" 2> /dev/null; done; \
-	else rmdir "$(DOC)/docs" "$(DOC)" 2> /dev/null; fi; :
+	else rmdir "$(DOC)/docs" "$(DOC)/bench" "$(DOC)" 2> /dev/null; fi; :
 
 # (the pages name the documents from the archive's own folder)
 dist: $(CBFSTOOL) $(FMAPTOOL)
