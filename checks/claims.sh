@@ -553,14 +553,14 @@ tables() {
         done
     done < rows
     : > by_readme
-    while IFS='|' read -r _ name _ by _; do
+    while IFS='|' read -r _ name by _; do
         letter=$(sed 's/^ `-\(.\).*/\1/' <<< "$name")
         case $by in
             *"all but"*) all=$(printf '%s\n' "${commands[@]}" | grep -vxF -e "$(grep -o '`[a-z]*`' <<< "$by" | tr -d '`')") ;;
             *) all=$(grep -o '`[a-z]*`' <<< "$by" | tr -d '`') ;;
         esac
         for command in $all; do echo "$command $letter"; done >> by_readme
-    done < <(sed -n '/^| Option | Example/,/^$/p' "$top/README.md" | grep '^| `-')
+    done < <(sed -n '/^| Option | Taken by/,/^$/p' "$top/README.md" | grep '^| `-')
     for command in "${commands[@]}"; do
         for letter in $(grep -o . <<< "${letters[$command]}" || :); do echo "$command $letter"; done
     done | LC_ALL=C sort > by_synopsis
