@@ -22,7 +22,7 @@ DOC = $(PREFIX)/share/doc/cbfstool$(SUFFIX)
 # (the folder of the documents as the pages name it)
 DOC_SHOWN = $(DOC)
 FOLDERS = $(BIN) $(MAN1) $(MAN5) $(BASH_FILES) $(ZSH_FILES) $(FISH_FILES) $(DOC)/docs $(DOC)/bench $(DOC)
-DOCUMENTS = bench.svg growth.svg layers.svg DECISIONS.md DEVELOPING.md FORMAT.md MOVING.md PROMISES.md
+DOCUMENTS = bench.svg growth.svg layers.svg DECISIONS.md DEVELOPING.md FORMAT.md MISTAKES.md MOVING.md PROMISES.md
 FILES = $(BIN)/cbfstool$(SUFFIX) $(BIN)/fmaptool$(SUFFIX) \
 	$(MAN1)/cbfstool$(SUFFIX).1 $(MAN1)/fmaptool$(SUFFIX).1 $(MAN5)/fmd$(SUFFIX).5 \
 	$(BASH_FILES)/cbfstool$(SUFFIX) $(BASH_FILES)/fmaptool$(SUFFIX) \
