@@ -28,13 +28,14 @@ FILES = $(BIN)/cbfstool$(SUFFIX) $(BIN)/fmaptool$(SUFFIX) \
 	$(BASH_FILES)/cbfstool$(SUFFIX) $(BASH_FILES)/fmaptool$(SUFFIX) \
 	$(ZSH_FILES)/_cbfstool$(SUFFIX) $(ZSH_FILES)/_fmaptool$(SUFFIX) \
 	$(FISH_FILES)/cbfstool$(SUFFIX).fish $(FISH_FILES)/fmaptool$(SUFFIX).fish \
-	$(DOC)/README.md $(DOC)/LICENSE $(DOC)/bench/RESULTS.md $(addprefix $(DOC)/docs/,$(DOCUMENTS))
+	$(DOC)/README.md $(DOC)/CHANGELOG.md $(DOC)/LICENSE $(DOC)/bench/RESULTS.md $(addprefix $(DOC)/docs/,$(DOCUMENTS))
 CBFSTOOL = crates/cbfstool/out/cbfstool
 FMAPTOOL = crates/fmaptool/out/fmaptool
 INSTALL = install
 INSTALL_DATA = $(INSTALL) -m 644
 
-VERSION = $(shell git log -1 --format=%cd --date=format:0.%Y%m%d 2> /dev/null || date +0.%Y%m%d)
+# (the pages name it too)
+VERSION = $(shell cat VERSION)
 # (whom a package names: what git is told of its user here, as `git config user.name NAME` and `git config user.email ADDRESS`
 # set it, or who made the last commit; `make deb MAINTAINER='NAME <ADDRESS>'` names another)
 GIT_NAME = $(shell git config user.name 2> /dev/null)
@@ -91,7 +92,7 @@ put: $(CBFSTOOL) $(FMAPTOOL)
 		sed "s/$$program/$$name/g" completion/$$program.bash > "$(DESTDIR)$(BASH_FILES)/$$name" && \
 		sed "s/$$program/$$name/g" completion/_$$program > "$(DESTDIR)$(ZSH_FILES)/_$$name" && \
 		sed "s/$$program/$$name/g" completion/$$program.fish > "$(DESTDIR)$(FISH_FILES)/$$name.fish" || exit; done
-	$(INSTALL_DATA) README.md LICENSE "$(DESTDIR)$(DOC)"
+	$(INSTALL_DATA) README.md CHANGELOG.md LICENSE "$(DESTDIR)$(DOC)"
 	$(INSTALL_DATA) $(addprefix docs/,$(DOCUMENTS)) "$(DESTDIR)$(DOC)/docs"
 	$(INSTALL_DATA) bench/RESULTS.md "$(DESTDIR)$(DOC)/bench"
 	cd "$(DESTDIR)/" && chmod 644 $(patsubst /%,%,$(filter $(MAN1)/% $(MAN5)/% $(BASH_FILES)/% $(ZSH_FILES)/% $(FISH_FILES)/%,$(FILES)))

@@ -614,3 +614,37 @@ libraries() {
         [ "$(wc -l < used)" -gt 1 ] && diff used named > differ || fail "claims: the README of $name names others: $(cat differ)"
     done
 }
+
+# walks: what docs/DEVELOPING.md tells of how the program is read names files and functions that are there; its examples of a
+# proof, a test and an edit stand so in the crates, line by line
+walks() {
+    local file=$pages/DEVELOPING.md word line count=0
+    [ -e "$file" ] || file=$top/docs/DEVELOPING.md
+    sed -n '/^## Reading it/,/^## How layers compose/p' "$file" | grep '^[0-9]' | grep -oE '`[A-Za-z_][A-Za-z_0-9:/.]*`' | tr -d '`' | sort -u > words
+    while read -r word; do
+        count=$((count + 1))
+        case $word in
+            *.rt) [ -n "$(find "$top/crates" -path "*/$word")" ] || fail "claims: DEVELOPING.md names $word, which isn't there" ;;
+            *) grep -rqw --include='*.rt' --exclude-dir=out -e "${word##*::}" "$top/crates" || [ -d "$top/crates/$word" ] ||
+                fail "claims: DEVELOPING.md names $word, which isn't there" ;;
+        esac
+    done < words
+    [ "$count" -gt 40 ] || fail "claims: only $count names in the walks of DEVELOPING.md"
+    sed -n '/^## How a proof/,/^## The gate/p' "$file" | awk '/^```/ { block = !block; next } block && NF' > lines
+    [ "$(wc -l < lines)" -gt 10 ] || fail "claims: only $(wc -l < lines) lines of examples in DEVELOPING.md"
+    while IFS= read -r line; do
+        grep -rqF --include='*.rt' --include='*.antt' --include='*.edit' --exclude-dir=out -e "$line" "$top/crates" ||
+            fail "claims: DEVELOPING.md has an example that isn't in the crates: $line"
+    done < lines
+}
+
+# versions: the pages and the newest heading of CHANGELOG.md name the version
+versions() {
+    local page version
+    version=$(cat "$top/VERSION")
+    [[ $version =~ ^[0-9]+(\.[0-9]+)+$ ]] || fail "claims: $version is no version"
+    for page in cbfstool.1 fmaptool.1 fmd.5; do
+        section "$page" HISTORY | grep -xF "This page is of version $version." > /dev/null || fail "claims: $page isn't of version $version"
+    done
+    [ "$(grep -m 1 '^## ' "$top/CHANGELOG.md")" = "## $version" ] || fail "claims: CHANGELOG.md begins with $(grep -m 1 '^## ' "$top/CHANGELOG.md"), and not with $version"
+}
