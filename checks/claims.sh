@@ -248,7 +248,7 @@ also() {
 # provoke NUMBER TEXT: the program refuses something with this text, and the status that the page says; where the page names
 # several causes, in each of these ways
 provoke() {
-    local wanted=1 text=$2 size
+    local wanted=1 text=$2 size words parts
     cp types.rom tried.rom
     case $1 in
         1)
@@ -259,6 +259,12 @@ provoke() {
             again print
             rmdir tried.rom
             [ "$status" = 1 ] && [ "$(cat told)" = "cbfstool: $2" ] || return 1
+            # (the image as the file to write is lost)
+            for words in "extract -n t/raw" read; do
+                cp types.rom tried.rom
+                again $words -f tried.rom
+                [ "$status" = 1 ] && [ "$(cat told)" = "cbfstool: $2" ] && [ ! -s tried.rom ] || return 1
+            done
             cp types.rom tried.rom
             chmod 444 tried.rom
             status=0
@@ -287,13 +293,26 @@ provoke() {
             { printf '__FMAP__\1\1' && head -c 8 /dev/zero && printf '\0\1\0\0A' && head -c 33 /dev/zero; } |
                 dd of=tried.rom conv=notrunc status=none
             also print || return 1
+            # (a new image is empty by then)
+            cp types.rom tried.rom
+            also create -M board.fmap -r COREBOOT,ABSENT || return 1
+            tr -d '\377' < tried.rom > left
+            again layout
+            [ ! -s left ] && [ "$(cat told)" = "cbfstool: no FMAP" ] || return 1
             # (no area of the name that is taken without one)
             fmaptool /dev/stdin only.fmap <<< "F 4K { FMAP 1K A }"
             cbfstool tried.rom create -M only.fmap -r A
             again print
             ;;
         6) head -c $((0x6000)) types.rom > tried.rom && again print ;;
-        7) cp odd.rom tried.rom && again print -r ODD ;;
+        7)
+            # (a section whose size the compiler takes, given or left over)
+            for parts in "A(CBFS) 100" "A(CBFS)@8K B@0x3f20"; do
+                compiles "F 64K { FMAP 1K $parts }"
+                [ "$status" = 0 ] && also create -M out.fmap -r A || return 1
+            done
+            cp odd.rom tried.rom && again print -r ODD
+            ;;
         8)
             also print -r GBB || return 1
             cbfstool tried.rom create -M board.fmap
@@ -333,7 +352,13 @@ provoke() {
             ;;
         16) again add -n new -t raw -f abc -a 0 ;;
         17) again write -f abc ;;
-        18) again create -M abc ;;
+        18)
+            # (a descriptor, an empty table, one that was cut off, and another size of the image)
+            also create -M board.fmd || return 1
+            : > cut.fmap && also create -M cut.fmap || return 1
+            head -c 100 board.fmap > cut.fmap && also create -M cut.fmap || return 1
+            again create -M abc
+            ;;
         19) again create -M board.fmap -r COREBOOT,FMAP ;;
         20) wanted=2 && again ;;
         21)
@@ -484,6 +509,9 @@ limits() {
         [ "$status" = 0 ] || fail "claims: the type $type: status $status"
         cbfstool tried.rom print > listed
         [ "$(sed -n 's/^new\t[^\t]*\t\([^\t]*\)\t.*/\1/p' listed)" = "$type" ] || fail "claims: $type is listed otherwise"
+        # (a type makes no attribute)
+        cbfstool tried.rom print -v | awk '/^new\t/ { inside = 1; next } /^[^\t]/ { inside = 0 } inside' > listed
+        [ ! -s listed ] || fail "claims: -t $type makes: $(cat listed)"
     done < <(item t | sed '/^or a number/,$d' | quoted)
     [ "$(item t | sed '/^or a number/,$d' | quoted | sort)" = "$(sed -n '/fn type_named/,/^}/s/^ *"\(.*\)" => .*/\1/p' \
         "$top/crates/flash_format/src/type_names.rt" | grep -vx -e null -e deleted | sort)" ] || fail "claims: other types than the sources'"
