@@ -3,8 +3,8 @@
 # where. With SUFFIX=-proved, or another one, programs, pages and completions have names with this end, and leave coreboot's
 # alone. It takes the programs as they lie, and builds those that aren't there.
 # make uninstall: removes what `make install` puts there, with the same SUFFIX.
-# make dist: puts the same into one archive in out/, which runs wherever it is unpacked.
-# make deb: puts the same into a Debian package in out/, with the suffix -proved where none is given.
+# make dist: puts the same into one archive in out/, which runs wherever it is unpacked, with dist/README.md at its top.
+# make deb: puts the same into a Debian package in out/, with the suffix -proved where none is given, and README.Debian.
 # make check: the quick test.
 
 PREFIX = /usr/local
@@ -104,11 +104,17 @@ uninstall:
 		rmdir -p ".$$folder" 2> /dev/null; done; \
 	else rmdir "$(DOC)/docs" "$(DOC)/bench" "$(DOC)" 2> /dev/null; fi; :
 
+# What is unpacked has a README of its own, with the names of the programs as they are there, and the sample that it uses.
+OWN_README = sed -e 's/\<\(cbfstool\|fmaptool\|man fmd\)\>/&$(SUFFIX)/g'
+
 # (the pages name the documents from the archive's own folder)
 dist: $(CBFSTOOL) $(FMAPTOOL)
 	rm -rf "$(OUT)/dist"
 	mkdir -p "$(OUT)/dist"
 	$(MAKE) put DESTDIR="$$(cd "$(OUT)/dist" && pwd)" PREFIX=/$(ARCHIVE) DOC_SHOWN=share/doc/cbfstool$(SUFFIX)
+	$(OWN_README) dist/README.md > "$(OUT)/dist/$(ARCHIVE)/README.md"
+	$(INSTALL) -d "$(OUT)/dist/$(ARCHIVE)/samples"
+	$(INSTALL_DATA) samples/board.fmd "$(OUT)/dist/$(ARCHIVE)/samples"
 	tar -C "$(OUT)/dist" --sort=name --owner=0 --group=0 --numeric-owner -czf "$(OUT)/$(ARCHIVE).tar.gz" $(ARCHIVE)
 	rm -rf "$(OUT)/dist"
 	@echo "$(OUT)/$(ARCHIVE).tar.gz"
@@ -123,6 +129,10 @@ deb: $(CBFSTOOL) $(FMAPTOOL)
 package: put
 	gzip -9n "$(DESTDIR)$(MAN1)"/*.1 "$(DESTDIR)$(MAN5)"/*.5
 	mv "$(DESTDIR)$(DOC)/LICENSE" "$(DESTDIR)$(DOC)/copyright"
+	$(OWN_README) -e '/^This archive runs /d; /^\$$ PATH=/d; s/^Put its .*/In an empty folder:/; s/this archive/this package/' \
+		-e 's,\<share/doc/,/usr/share/doc/,; s,\<samples/,$(DOC)/samples/,' dist/README.md > "$(DESTDIR)$(DOC)/README.Debian"
+	$(INSTALL) -d "$(DESTDIR)$(DOC)/samples"
+	$(INSTALL_DATA) samples/board.fmd "$(DESTDIR)$(DOC)/samples"
 	$(INSTALL) -d "$(DESTDIR)/DEBIAN"
 	printf '%s\n' "Package: cbfstool$(SUFFIX)" "Version: $(VERSION)" "Architecture: $$(dpkg --print-architecture)" \
 		'Maintainer: $(subst ','\'',$(MAINTAINER))' "Section: utils" "Priority: optional" "Depends: libc6 (>= $(LIBC))" \
