@@ -643,6 +643,22 @@ libraries() {
     done
 }
 
+# mistakes: each edit, test and law that docs/MISTAKES.md names as what refuses a mistake is there
+mistakes() {
+    local file=$pages/MISTAKES.md word count=0
+    [ -e "$file" ] || file=$top/docs/MISTAKES.md
+    while read -r word; do
+        case $word in
+            checks/*) [ -e "$top/$word" ] || fail "claims: MISTAKES.md names $word, which isn't there" ;;
+            *_*) [ -d "$top/crates/$word" ] || [ -n "$(find "$top"/crates/*/must-fail -name "$word.edit")" ] ||
+                grep -rqsE --include='*.rt' --include='*.antt' "(fn|^) ?$word( :|\\(|<)" "$top"/crates/*/{src,specs,proofs} ||
+                fail "claims: MISTAKES.md names $word, which isn't there" ;;
+        esac
+        count=$((count + 1))
+    done < <(sed -n '/^## The mistakes/,/^## Planted/p' "$file" | cut -d '|' -f 3 | grep -o '`[^`]*`' | tr -d '`' | sort -u)
+    [ "$count" -gt 60 ] || fail "claims: only $count names in MISTAKES.md"
+}
+
 # walks: what docs/DEVELOPING.md tells of how the program is read names files and functions that are there; its examples of a
 # proof, a test and an edit stand so in the crates, line by line
 walks() {
