@@ -3,6 +3,7 @@ use Rattle.std.proofs.Common.{◌≡◌, ℕ, ◌+◌, inl, inr, List, [], ◌++
 use Rattle.std.proofs.lemmas.List.{take-append-le}
 use Rattle.std.proofs.Math.Seq.{take-append-add}
 use Rattle.std.specs.Io.KnownBytes.{Appends}
+use Rattle.std.specs.Result.{IsErrAnd}
 use Rattle.std.proofs.KnownBytes.{Appends-nil, Appends-trans}
 use Rattle.cbfs_commands.specs.declared.refusal.Refusal.{Refusal}
 use Rattle.cbfs_commands.specs.declared.refusal.Refusal.TheVariants as refusals
@@ -57,6 +58,11 @@ tells-stopped old new refusal text t (inr (inr failed)) =
         rw (take-append-le failed.1.0 text t.written failed.1.1) failed.1.2,
       ),
     ))
+
+-- an answer that hands a refusal on
+pub handed : (answer : Answer) (refusal : Refusal) → IsErrAnd answer (λ r. r ≡ refusal) → answer ≡ Err refusal
+handed (Ok done) refusal is = absurd is
+handed (Err other) refusal is = ap (λ (r : Refusal). (let a : Answer = Err r in a)) is
 
 -- a text that was told whole was written
 pub told-text : (old new : Option (List ℕ)) (text : List ℕ) → Tells old new (Ok tt) (shows text) → Appends old new text

@@ -2,6 +2,8 @@
 use Rattle.std.specs.Prelude.{Result, IsErrOf}
 use Rattle.flash_store.specs.declared.fmap.StoreFault.{StoreFault}
 use Rattle.flash_store.specs.declared.fmap.StoreFault.TheVariants as store
+use Rattle.flash_store.specs.declared.paged.CopyFault.{CopyFault}
+use Rattle.flash_store.specs.declared.paged.CopyFault.TheVariants as copy
 use Rattle.cbfs_walk.specs.declared.walk.WalkFault.{WalkFault}
 use Rattle.cbfs_walk.specs.declared.walk.WalkFault.TheVariants as walk
 use Rattle.cbfs_edit.specs.declared.fault.EditFault.{EditFault}
@@ -14,6 +16,11 @@ store_refusal store.Device = refusals.Device
 store_refusal store.NoFmap = refusals.NoFmap
 store_refusal store.NoRegion = refusals.NoRegion
 store_refusal store.RegionOutside = refusals.RegionOutside
+
+abbrev pub copy_refusal : CopyFault → Refusal
+copy_refusal copy.Device = refusals.Device
+copy_refusal copy.Output = refusals.Output
+copy_refusal copy.Source = refusals.Source
 
 abbrev pub walk_refusal : WalkFault → Refusal
 walk_refusal walk.Device = refusals.Device

@@ -8,7 +8,7 @@ ghost use Rattle.cbfs_edit.specs.Additions.{new_component};
 ghost use Rattle.cbfs_commands.specs.Deeds.{MayHaveWritten, SparesOutside, found};
 ghost use Rattle.cbfs_commands.specs.Outcomes.{AddStopsIn, HasWritten, LeavesOr, add, add_region};
 
-use crate::refusal::{Refusal, edit_refusal, store_refusal};
+use crate::refusal::Refusal;
 use cbfs_edit::{HashChoice, Spot};
 use flash_store::{Flash, Paged, Region, Source};
 
@@ -40,10 +40,8 @@ fn add_region<F: Flash, S: Source>(
         AddStopsIn (bytes_in region image) (new_component name.now kind hash (S.facts source.old).content) spot result
         (bytes_in region (F.facts paged.new.device).content)) }
 {
-    match cbfs_edit::add(paged, region, name, kind, hash, spot, source) {
-        Ok(_) => Ok(()),
-        Err(fault) => Err(edit_refusal(fault)),
-    }
+    cbfs_edit::add(paged, region, name, kind, hash, spot, source)?;
+    Ok(())
 }
 
 /// Puts the source into free space of the region, as the content of a component.
@@ -74,8 +72,6 @@ pub fn add<F: Flash, S: Source>(
         AddStopsIn (bytes_in found image) (new_component name.now kind hash (S.facts source.old).content) spot result
         (bytes_in found (F.facts paged.new.device).content)) }
 {
-    match flash_store::region(paged, region) {
-        Ok(region) => add_region(paged, region, name, kind, hash, spot, source),
-        Err(fault) => Err(store_refusal(fault)),
-    }
+    let region = flash_store::region(paged, region)?;
+    add_region(paged, region, name, kind, hash, spot, source)
 }

@@ -12,7 +12,7 @@ ghost use Rattle.cbfs_commands.specs.Outcomes.{HasWritten, LeavesOr, create};
 use crate::plan::{Plan, read_plan};
 use crate::refusal::Refusal;
 use cbfs_edit::{EditFault, format};
-use flash_store::{CopyFault, Flash, Paged, Region, Source};
+use flash_store::{Flash, Paged, Region, Source};
 
 /// Makes a region one empty entry.
 fn format_place<F: Flash>(paged: &mut Paged<F>, place: Region) -> Result<(), Refusal>
@@ -43,10 +43,7 @@ fn format_all<F: Flash>(paged: &mut Paged<F>, mut places: &[Region]) -> Result<(
         OnOk result ((F.facts paged.new.device).content ≡ formatted_all image places.entry.now)) }
 {
     while let [place, rest @ ..] = places {
-        match format_place(paged, *place) {
-            Ok(()) => {}
-            Err(refusal) => return Err(refusal),
-        }
+        format_place(paged, *place)?;
         places = rest;
     }
     Ok(())
@@ -68,15 +65,9 @@ fn write_plan<F: Flash, S: Source>(
         ≡ created (length (F.facts paged.old.device).content) plan.now (S.facts source.old).content) }
 {
     let image_len = paged.len();
-    if paged.fill(0, image_len, 0xff).is_err() {
-        return Err(Refusal::Device);
-    }
-    match paged.copy_in(plan.map.start(), plan.map_len, source) {
-        Ok(()) => format_all(paged, plan.regions.as_slice()),
-        Err(CopyFault::Device) => Err(Refusal::Device),
-        Err(CopyFault::Source) => Err(Refusal::Source),
-        Err(CopyFault::Output) => unreachable!(),
-    }
+    paged.fill(0, image_len, 0xff)?;
+    paged.copy_in(plan.map.start(), plan.map_len, source)?;
+    format_all(paged, plan.regions.as_slice())
 }
 
 /// Makes the whole image from the flashmap that the source begins with: 0xff throughout, the table in the area FMAP, and each
@@ -102,8 +93,6 @@ pub fn create<F: Flash, S: Source>(
         (create image (map (λ n. n.now) names.now) (S.facts source.old).content)) }
 {
     let image_len = paged.len();
-    match read_plan(names, source, image_len) {
-        Ok(plan) => write_plan(paged, &plan, source),
-        Err(refusal) => Err(refusal),
-    }
+    let plan = read_plan(names, source, image_len)?;
+    write_plan(paged, &plan, source)
 }

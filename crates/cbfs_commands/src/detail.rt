@@ -121,16 +121,12 @@ fn print_attributes<F: Flash, W: Sink>(
 {
     let mut walk = attributes(cell);
     loop {
-        match walk.next(paged, region) {
-            Ok(Some(head)) => {
+        match walk.next(paged, region)? {
+            Some(head) => {
                 set_attribute_row(row, &head);
-                match put_row(out, row) {
-                    Ok(()) => {}
-                    Err(refusal) => return Err(refusal),
-                }
+                put_row(out, row)?;
             }
-            Ok(None) => return Ok(()),
-            Err(_) => return Err(Refusal::Device),
+            None => return Ok(()),
         }
     }
 }
@@ -152,13 +148,9 @@ fn print_hash<F: Flash, W: Sink>(
         (W.contents out.new) result (shows (hash_line (hash_state (cell_attributes (cell_in x cell.now))
         (cell_content (cell_in x cell.now)))))) }
 {
-    match check_hash(paged, region, cell) {
-        Ok(state) => {
-            set_hash_row(row, &state);
-            put_row(out, row)
-        }
-        Err(_) => Err(Refusal::Device),
-    }
+    let state = check_hash(paged, region, cell)?;
+    set_hash_row(row, &state);
+    put_row(out, row)
 }
 
 /// Writes the lines of a component.
@@ -178,8 +170,6 @@ pub fn print_details<F: Flash, W: Sink>(
     ensures told { OnHonestIn F.facts paged.old.device region (λ x. StandsIn x cell.now → Tells (W.contents out.old)
         (W.contents out.new) result (shows (details (cell_in x cell.now)))) }
 {
-    match print_attributes(paged, region, cell, row, out) {
-        Ok(()) => print_hash(paged, region, cell, row, out),
-        Err(refusal) => Err(refusal),
-    }
+    print_attributes(paged, region, cell, row, out)?;
+    print_hash(paged, region, cell, row, out)
 }

@@ -11,7 +11,7 @@ ghost use Rattle.cbfs_commands.specs.Outcomes.{extract, extract_region, told_com
 ghost use Rattle.cbfs_commands.specs.Told.{HasTold, Tells};
 
 use crate::read::copy_out;
-use crate::refusal::{Refusal, store_refusal, walk_refusal};
+use crate::refusal::Refusal;
 use cbfs_walk::{Cell, cells_stand_in_their_image, find, packing};
 use flash_store::{Flash, Paged, Region, Sink};
 
@@ -32,14 +32,11 @@ fn extract_component<F: Flash, W: Sink>(
 {
     cells_stand_in_their_image();
     paged.places_fit();
-    match packing(paged, region, cell) {
-        Ok(0) => {
-            let start = region.start() + cell.at + u64::from(cell.head.offset);
-            copy_out(paged, start, u64::from(cell.head.len), out)
-        }
-        Ok(_) => Err(Refusal::Compressed),
-        Err(_) => Err(Refusal::Device),
+    if packing(paged, region, cell)? != 0 {
+        return Err(Refusal::Compressed);
     }
+    let start = region.start() + cell.at + u64::from(cell.head.offset);
+    copy_out(paged, start, u64::from(cell.head.len), out)
 }
 
 /// Writes the content of the first component of the name in a region, and walks no further than that component.
@@ -55,10 +52,9 @@ fn extract_region<F: Flash, W: Sink>(
     ensures told { OnHonestIn F.facts paged.old.device region (λ x. Tells (W.contents out.old) (W.contents
         out.new) result (extract_region x name.now)) }
 {
-    match find(paged, region, name) {
-        Ok(Some(cell)) => extract_component(paged, region, &cell, out),
-        Ok(None) => Err(Refusal::NotFound),
-        Err(fault) => Err(walk_refusal(fault)),
+    match find(paged, region, name)? {
+        Some(cell) => extract_component(paged, region, &cell, out),
+        None => Err(Refusal::NotFound),
     }
 }
 
@@ -74,8 +70,6 @@ pub fn extract<F: Flash, W: Sink>(
     ensures told { OnHonest F.facts paged.old.device (λ image. Tells (W.contents out.old) (W.contents out.new)
         result (extract image region.now name.now)) }
 {
-    match flash_store::region(paged, region) {
-        Ok(region) => extract_region(paged, region, name, out),
-        Err(fault) => Err(store_refusal(fault)),
-    }
+    let region = flash_store::region(paged, region)?;
+    extract_region(paged, region, name, out)
 }

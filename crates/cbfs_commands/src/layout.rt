@@ -60,13 +60,9 @@ fn list_area<F: Flash, W: Sink>(
     ensures told { OnHonest F.facts paged.old.device (λ image. Tells (W.contents out.old) (W.contents out.new)
         result (shows (area_row (area_of (drop (map.now.at + fmap_head_len + area_len * i) image))))) }
 {
-    match area(paged, map, i) {
-        Ok(area) => {
-            set_area_row(row, &area);
-            put_row(out, row)
-        }
-        Err(_) => Err(Refusal::Device),
-    }
+    let listed = area(paged, map, i)?;
+    set_area_row(row, &listed);
+    put_row(out, row)
 }
 
 /// Writes the rows of all areas, in the map's order.
@@ -83,10 +79,7 @@ fn list_areas<F: Flash, W: Sink>(
         result (shows (flat_map area_row (areas_from map.now.head.nareas (drop (map.now.at + fmap_head_len) image))))) }
 {
     for i in 0..map.head.nareas {
-        match list_area(paged, map, i, row, out) {
-            Ok(()) => {}
-            Err(refusal) => return Err(refusal),
-        }
+        list_area(paged, map, i, row, out)?;
     }
     Ok(())
 }
@@ -99,15 +92,11 @@ pub fn layout<F: Flash, W: Sink>(paged: &mut Paged<F>, out: &mut W) -> Result<()
     ensures told { OnHonest F.facts paged.old.device (λ image. Tells (W.contents out.old) (W.contents out.new)
         result (layout image)) }
 {
-    let map = match find_fmap(paged) {
-        Ok(Some(map)) => map,
-        Ok(None) => return Err(Refusal::NoFmap),
-        Err(_) => return Err(Refusal::Device),
+    let Some(map) = find_fmap(paged)? else {
+        return Err(Refusal::NoFmap);
     };
     let mut row = ArrayVec::new();
     set_map_row(&mut row, &map);
-    match put_row(out, &row) {
-        Ok(()) => list_areas(paged, &map, &mut row, out),
-        Err(refusal) => Err(refusal),
-    }
+    put_row(out, &row)?;
+    list_areas(paged, &map, &mut row, out)
 }

@@ -7,7 +7,7 @@ ghost use Rattle.flash_store.specs.Device.{Reads};
 ghost use Rattle.cbfs_commands.specs.Creations.{Fits, IsPlace, items_of, map_place, overlap, plan_for, plan_of, region_place, region_places, some_overlap};
 ghost use Rattle.cbfs_commands.specs.Refusals.{HasNoFault};
 
-use crate::refusal::{Refusal, store_refusal};
+use crate::refusal::Refusal;
 use crate::table::{MOST_REGIONS, first_areas, head_for};
 use arrayvec::ArrayVec;
 use flash_format::{Area, FmapHead};
@@ -41,11 +41,11 @@ fn region_place(area: Option<Area>, image_len: u64) -> Result<Region, Refusal>
     ensures no_fault { HasNoFault result }
     ensures place { IfOk result (λ place. IsPlace image_len place) }
 {
-    match region_of_area(area, image_len) {
-        Ok(place) if place.size() == 0 || place.size() % 64 != 0 => Err(Refusal::RegionShape),
-        Ok(place) => Ok(place),
-        Err(fault) => Err(store_refusal(fault)),
+    let place = region_of_area(area, image_len)?;
+    if place.size() == 0 || place.size() % 64 != 0 {
+        return Err(Refusal::RegionShape);
     }
+    Ok(place)
 }
 
 /// Where the areas of all regions lie.
@@ -60,10 +60,7 @@ fn region_places(
 {
     let mut places = ArrayVec::new();
     for i in 0..areas.len() {
-        match region_place(areas[i], image_len) {
-            Ok(place) => places.push(place),
-            Err(refusal) => return Err(refusal),
-        }
+        places.push(region_place(areas[i], image_len)?);
     }
     Ok(places)
 }

@@ -11,7 +11,7 @@ ghost use Rattle.cbfs_commands.specs.Rows.{row};
 ghost use Rattle.cbfs_commands.specs.Told.{HasTold, Tells, shows};
 
 use crate::detail::print_details;
-use crate::refusal::{Refusal, store_refusal, walk_refusal};
+use crate::refusal::Refusal;
 use crate::row::{Row, put_row, set_row_text};
 use arrayvec::ArrayVec;
 use cbfs_walk::{Cell, Step, Walk, cells_stand_in_their_image, name, packing};
@@ -58,10 +58,8 @@ fn print_row<F: Flash, W: Sink>(
     ensures told { OnHonestIn F.facts paged.old.device region (λ x. StandsIn x cell.now → Tells (W.contents
         out.old) (W.contents out.new) result (shows (row cell.now.at (cell_in x cell.now)))) }
 {
-    match set_cell_row(paged, region, cell, buffer) {
-        Ok(()) => put_row(out, buffer),
-        Err(_) => Err(Refusal::Device),
-    }
+    set_cell_row(paged, region, cell, buffer)?;
+    put_row(out, buffer)
 }
 
 /// Writes the row of a cell, and where verbose the lines of a component after it.
@@ -81,10 +79,7 @@ fn print_cell<F: Flash, W: Sink>(
         out.old) (W.contents out.new) result (shows (shown_cell verbose cell.now.at (cell_in x cell.now)))) }
 {
     cells_stand_in_their_image();
-    match print_row(paged, region, cell, buffer, out) {
-        Ok(()) => {}
-        Err(refusal) => return Err(refusal),
-    }
+    print_row(paged, region, cell, buffer, out)?;
     if verbose && !cell.head.is_free() {
         return print_details(paged, region, cell, buffer, out);
     }
@@ -107,16 +102,10 @@ fn print_region<F: Flash, W: Sink>(
     let mut buffer = ArrayVec::new();
     let mut walk = Walk::new(region);
     loop {
-        match walk.next(paged) {
-            Ok(Step::Cell(cell)) => {
-                match print_cell(paged, region, &cell, verbose, &mut buffer, out) {
-                    Ok(()) => {}
-                    Err(refusal) => return Err(refusal),
-                }
-            }
-            Ok(Step::Tail(_)) => return Ok(()),
-            Ok(Step::End) => return Ok(()),
-            Err(fault) => return Err(walk_refusal(fault)),
+        match walk.next(paged)? {
+            Step::Cell(cell) => print_cell(paged, region, &cell, verbose, &mut buffer, out)?,
+            Step::Tail(_) => return Ok(()),
+            Step::End => return Ok(()),
         }
     }
 }
@@ -133,8 +122,6 @@ pub fn print<F: Flash, W: Sink>(
     ensures told { OnHonest F.facts paged.old.device (λ image. Tells (W.contents out.old) (W.contents out.new)
         result (print image name.now verbose)) }
 {
-    match flash_store::region(paged, name) {
-        Ok(region) => print_region(paged, region, verbose, out),
-        Err(fault) => Err(store_refusal(fault)),
-    }
+    let region = flash_store::region(paged, name)?;
+    print_region(paged, region, verbose, out)
 }

@@ -5,8 +5,8 @@ ghost use Rattle.flash_store.specs.Pages.{OnHonest, OnHonestIn};
 ghost use Rattle.cbfs_commands.specs.Outcomes.{read};
 ghost use Rattle.cbfs_commands.specs.Told.{HasTold, Tells, shows};
 
-use crate::refusal::{Refusal, store_refusal};
-use flash_store::{CopyFault, Flash, Paged, Sink};
+use crate::refusal::Refusal;
+use flash_store::{Flash, Paged, Sink};
 
 /// Writes a range of the image.
 pub fn copy_out<F: Flash, W: Sink>(
@@ -21,12 +21,8 @@ pub fn copy_out<F: Flash, W: Sink>(
     ensures told { OnHonest F.facts paged.old.device (λ image. Tells (W.contents out.old) (W.contents out.new)
         result (shows (slice_range image start (start + size)))) }
 {
-    match paged.copy_out(start, size, out) {
-        Ok(()) => Ok(()),
-        Err(CopyFault::Device) => Err(Refusal::Device),
-        Err(CopyFault::Output) => Err(Refusal::Output),
-        Err(CopyFault::Source) => unreachable!(),
-    }
+    paged.copy_out(start, size, out)?;
+    Ok(())
 }
 
 /// Writes the bytes of a region.
@@ -40,8 +36,6 @@ pub fn read<F: Flash, W: Sink>(
     ensures told { OnHonest F.facts paged.old.device (λ image. Tells (W.contents out.old) (W.contents out.new)
         result (read image name.now)) }
 {
-    match flash_store::region(paged, name) {
-        Ok(region) => copy_out(paged, region.start(), region.size(), out),
-        Err(fault) => Err(store_refusal(fault)),
-    }
+    let region = flash_store::region(paged, name)?;
+    copy_out(paged, region.start(), region.size(), out)
 }

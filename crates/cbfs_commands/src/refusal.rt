@@ -1,12 +1,13 @@
 //! Why a command is refused.
 
 ghost use Rattle.std.specs.Prelude.{◌≡◌};
-ghost use Rattle.cbfs_commands.specs.Refusals.{edit_refusal, store_refusal, walk_refusal};
+ghost use Rattle.cbfs_commands.specs.Refusals.{copy_refusal, edit_refusal, store_refusal, walk_refusal};
+ghost use Rattle.cbfs_commands.specs.declared.refusal.Refusal.TheVariants as refusals;
 
 use cbfs_edit::EditFault;
 use cbfs_walk::WalkFault;
 use flash_format::DamageKind;
-use flash_store::StoreFault;
+use flash_store::{CopyFault, FlashFault, SinkFault, SourceFault, StoreFault};
 use thiserror::Error;
 
 /// The refusals of a command, each with its number; the text is what the program prints of it.
@@ -92,46 +93,91 @@ fn damage(kind: DamageKind) -> &'static str {
     }
 }
 
-/// The refusal of a command whose region isn't to be had.
-pub fn store_refusal(fault: StoreFault) -> Refusal
-    ensures { result ≡ store_refusal fault }
-{
-    match fault {
-        StoreFault::Device => Refusal::Device,
-        StoreFault::NoFmap => Refusal::NoFmap,
-        StoreFault::NoRegion => Refusal::NoRegion,
-        StoreFault::RegionOutside => Refusal::RegionOutside,
+/// A call of the device failed.
+impl From<FlashFault> for Refusal {
+    ghost from_gives = { λ _ refusal. refusal ≡ refusals.Device };
+
+    fn from(_: FlashFault) -> Refusal {
+        Refusal::Device
     }
 }
 
-/// The refusal of a command whose walk ends.
-pub fn walk_refusal(fault: WalkFault) -> Refusal
-    ensures { result ≡ walk_refusal fault }
-{
-    match fault {
-        WalkFault::Device => Refusal::Device,
-        WalkFault::RegionShape => Refusal::RegionShape,
-        WalkFault::NotCbfs => Refusal::NotCbfs,
-        WalkFault::Damaged { at, kind } => Refusal::Damaged { at, kind },
+/// A read of the source failed.
+impl From<SourceFault> for Refusal {
+    ghost from_gives = { λ _ refusal. refusal ≡ refusals.Source };
+
+    fn from(_: SourceFault) -> Refusal {
+        Refusal::Source
     }
 }
 
-/// The refusal of a command whose edit is refused.
-pub fn edit_refusal(fault: EditFault) -> Refusal
-    ensures is { result ≡ edit_refusal fault }
-    ensures source { result ≡ Refusal.Source → fault ≡ EditFault.Source }
-{
-    match fault {
-        EditFault::Device => Refusal::Device,
-        EditFault::Source => Refusal::Source,
-        EditFault::RegionShape => Refusal::RegionShape,
-        EditFault::NotCbfs => Refusal::NotCbfs,
-        EditFault::Damaged { at, kind } => Refusal::Damaged { at, kind },
-        EditFault::NotFound => Refusal::NotFound,
-        EditFault::Exists => Refusal::Exists,
-        EditFault::NoSpace => Refusal::NoSpace,
-        EditFault::BadName => Refusal::BadName,
-        EditFault::BadType => Refusal::BadType,
-        EditFault::BadAlign => Refusal::BadAlign,
+/// The writer failed.
+impl From<SinkFault> for Refusal {
+    ghost from_gives = { λ _ refusal. refusal ≡ refusals.Output };
+
+    fn from(_: SinkFault) -> Refusal {
+        Refusal::Output
+    }
+}
+
+/// A copy stopped.
+impl From<CopyFault> for Refusal {
+    ghost from_gives = { λ fault refusal. refusal ≡ copy_refusal fault };
+
+    fn from(fault: CopyFault) -> Refusal {
+        match fault {
+            CopyFault::Device => Refusal::Device,
+            CopyFault::Output => Refusal::Output,
+            CopyFault::Source => Refusal::Source,
+        }
+    }
+}
+
+/// The region isn't to be had.
+impl From<StoreFault> for Refusal {
+    ghost from_gives = { λ fault refusal. refusal ≡ store_refusal fault };
+
+    fn from(fault: StoreFault) -> Refusal {
+        match fault {
+            StoreFault::Device => Refusal::Device,
+            StoreFault::NoFmap => Refusal::NoFmap,
+            StoreFault::NoRegion => Refusal::NoRegion,
+            StoreFault::RegionOutside => Refusal::RegionOutside,
+        }
+    }
+}
+
+/// A walk has ended.
+impl From<WalkFault> for Refusal {
+    ghost from_gives = { λ fault refusal. refusal ≡ walk_refusal fault };
+
+    fn from(fault: WalkFault) -> Refusal {
+        match fault {
+            WalkFault::Device => Refusal::Device,
+            WalkFault::RegionShape => Refusal::RegionShape,
+            WalkFault::NotCbfs => Refusal::NotCbfs,
+            WalkFault::Damaged { at, kind } => Refusal::Damaged { at, kind },
+        }
+    }
+}
+
+/// An edit is refused.
+impl From<EditFault> for Refusal {
+    ghost from_gives = { λ fault refusal. refusal ≡ edit_refusal fault };
+
+    fn from(fault: EditFault) -> Refusal {
+        match fault {
+            EditFault::Device => Refusal::Device,
+            EditFault::Source => Refusal::Source,
+            EditFault::RegionShape => Refusal::RegionShape,
+            EditFault::NotCbfs => Refusal::NotCbfs,
+            EditFault::Damaged { at, kind } => Refusal::Damaged { at, kind },
+            EditFault::NotFound => Refusal::NotFound,
+            EditFault::Exists => Refusal::Exists,
+            EditFault::NoSpace => Refusal::NoSpace,
+            EditFault::BadName => Refusal::BadName,
+            EditFault::BadType => Refusal::BadType,
+            EditFault::BadAlign => Refusal::BadAlign,
+        }
     }
 }

@@ -8,7 +8,7 @@ ghost use Rattle.cbfs_edit.specs.Stops.{LeavesWhole};
 ghost use Rattle.cbfs_commands.specs.Deeds.{MayHaveWritten, SparesOutside, found};
 ghost use Rattle.cbfs_commands.specs.Outcomes.{HasEdited, LeavesOr, remove, remove_region};
 
-use crate::refusal::{Refusal, edit_refusal, store_refusal};
+use crate::refusal::Refusal;
 use flash_store::{Flash, Paged, Region};
 
 /// Puts free space in place of the first component of the name in a region.
@@ -28,10 +28,8 @@ fn remove_region<F: Flash>(paged: &mut Paged<F>, region: Region, name: &[u8]) ->
     ensures stopped { OnHonest F.facts paged.old.device (λ image. IsErrOf result Refusal.Device →
         LeavesWhole (bytes_in region image) name.now (bytes_in region (F.facts paged.new.device).content)) }
 {
-    match cbfs_edit::remove(paged, region, name) {
-        Ok(_) => Ok(()),
-        Err(fault) => Err(edit_refusal(fault)),
-    }
+    cbfs_edit::remove(paged, region, name)?;
+    Ok(())
 }
 
 /// Puts free space in place of the first component of the name.
@@ -51,8 +49,6 @@ pub fn remove<F: Flash>(paged: &mut Paged<F>, region: &[u8], name: &[u8]) -> Res
         IsErrOf result Refusal.Device →
         LeavesWhole (bytes_in found image) name.now (bytes_in found (F.facts paged.new.device).content)) }
 {
-    match flash_store::region(paged, region) {
-        Ok(region) => remove_region(paged, region, name),
-        Err(fault) => Err(store_refusal(fault)),
-    }
+    let region = flash_store::region(paged, region)?;
+    remove_region(paged, region, name)
 }

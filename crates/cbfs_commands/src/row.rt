@@ -178,8 +178,6 @@ pub fn put_row<W: Sink>(out: &mut W, row: &Row) -> Result<(), Refusal>
     ensures only { OnErr result (result ≡ Err Refusal.Output) }
     ensures told { Tells (W.contents out.old) (W.contents out.new) result (shows row.now.items) }
 {
-    match put_all(out, row.as_slice()) {
-        Ok(()) => Ok(()),
-        Err(_) => Err(Refusal::Output),
-    }
+    put_all(out, row.as_slice())?;
+    Ok(())
 }

@@ -25,10 +25,9 @@ pub fn create_size<S: Source>(source: &mut S) -> Result<u32, Refusal>
     ensures size { IsTrue (S.facts source.old).honest →
         IsErrOf result Refusal.Source ⊎ (result ≡ stated_size (S.facts source.old).content) }
 {
-    match map_in_source(source) {
-        Ok(Some(head)) => Ok(head.size),
-        Ok(None) => Err(Refusal::TableBad),
-        Err(_) => Err(Refusal::Source),
+    match map_in_source(source)? {
+        Some(head) => Ok(head.size),
+        None => Err(Refusal::TableBad),
     }
 }
 
@@ -42,10 +41,9 @@ pub fn head_for<S: Source>(source: &mut S, image_len: u64) -> Result<FmapHead, R
     ensures head { IsTrue (S.facts source.old).honest →
         IsErrOf result Refusal.Source ⊎ (result ≡ head_for image_len (S.facts source.old).content) }
 {
-    match map_in_source(source) {
-        Ok(Some(head)) if u64::from(head.size) == image_len => Ok(head),
-        Ok(_) => Err(Refusal::TableBad),
-        Err(_) => Err(Refusal::Source),
+    match map_in_source(source)? {
+        Some(head) if u64::from(head.size) == image_len => Ok(head),
+        _ => Err(Refusal::TableBad),
     }
 }
 

@@ -7,8 +7,8 @@ ghost use Rattle.flash_store.specs.Regions.{Range, LiesIn, region_of};
 ghost use Rattle.cbfs_commands.specs.Deeds.{MayHaveWritten, SparesOutside, found};
 ghost use Rattle.cbfs_commands.specs.Outcomes.{HasWritten, LeavesOr, StopsIn, write, write_region};
 
-use crate::refusal::{Refusal, store_refusal};
-use flash_store::{CopyFault, Flash, Paged, Region, Source};
+use crate::refusal::Refusal;
+use flash_store::{Flash, Paged, Region, Source};
 
 /// Replaces the bytes of a region, front to back.
 fn write_region<F: Flash, S: Source>(
@@ -37,12 +37,8 @@ fn write_region<F: Flash, S: Source>(
     if source.len() != region.size() {
         return Err(Refusal::SourceSize);
     }
-    match paged.copy_in(region.start(), region.size(), source) {
-        Ok(()) => Ok(()),
-        Err(CopyFault::Device) => Err(Refusal::Device),
-        Err(CopyFault::Source) => Err(Refusal::Source),
-        Err(CopyFault::Output) => unreachable!(),
-    }
+    paged.copy_in(region.start(), region.size(), source)?;
+    Ok(())
 }
 
 /// Replaces the bytes of a region by the source, which has its size.
@@ -70,8 +66,6 @@ pub fn write<F: Flash, S: Source>(
         StopsIn (F.facts paged.old.device).content region (S.facts source.old).content
         (F.facts paged.new.device).content result }
 {
-    match flash_store::region(paged, name) {
-        Ok(region) => write_region(paged, region, source),
-        Err(fault) => Err(store_refusal(fault)),
-    }
+    let region = flash_store::region(paged, name)?;
+    write_region(paged, region, source)
 }

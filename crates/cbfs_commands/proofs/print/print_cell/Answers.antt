@@ -8,13 +8,13 @@ use Rattle.cbfs_commands.specs.Rows.{row}
 use Rattle.cbfs_commands.specs.Details.{details}
 use Rattle.cbfs_commands.specs.Told.{shows, Tells}
 use Rattle.flash_store.proofs.DeviceLemmas.{honest_still}
-use Rattle.cbfs_commands.proofs.Telling.{told-text, tells-then, tells-stopped}
+use Rattle.cbfs_commands.proofs.Telling.{handed, told-text, tells-then, tells-stopped}
 use Rattle.cbfs_commands.proofs.print.print_cell.Goals as goal
 
-pub returns-in-Err-clause-told : goal.returns-in-Err-clause-told
-returns-in-Err-clause-told g c = λ h stands.
+pub returns-in_err-print_row-clause-told : goal.returns-in_err-print_row-clause-told
+returns-in_err-print_row-clause-told g c = λ h stands.
     let x : List ℕ = cell_in (bytes_in c.args.region (g.F.Flash.facts c.args.paged.now.device).content) c.args.cell.now in
-    tells-stopped _ _ _ _ (shows (cond (c.args.verbose && not (is_free (head_of x))) (details x) [])) (c.in-Err.ensures.told h stands)
+    rw (handed _ c.in_err-print_row.field-0.0 c.from_residual.ensures.1) (tells-stopped _ _ _ _ (shows (cond (c.args.verbose && not (is_free (head_of x))) (details x) [])) (c.in_err-print_row.ensures.told h stands))
 
 pub returns-then-not-is_free-clause-told : goal.returns-then-not-is_free-clause-told
 returns-then-not-is_free-clause-told g c = λ h stands.
@@ -31,4 +31,4 @@ returns-then-not-is_free-clause-told g c = λ h stands.
     let lines = subst (λ (l : List ℕ). Tells (g.W.Sink.contents c.print_row.new.out) (g.W.Sink.contents c.print_details.new.out) c.print_details.result (shows (details (cell_in (bytes_in r l) cell)))) same
     (c.print_details.ensures.told (honest_still c.print_row.ensures.after.read.device.calls.same_honesty h) there) in
     subst (λ (b : Bool). Tells (g.W.Sink.contents c.args.out.now) (g.W.Sink.contents c.print_details.new.out) c.print_details.result (shows (row cell.at x ++ cond b (details x) []))) (sym both)
-    (tells-then _ _ _ _ (row cell.at x) (shows (details x)) (told-text _ _ _ (c.in-Ok.ensures.told h stands)) lines)
+    (tells-then _ _ _ _ (row cell.at x) (shows (details x)) (told-text _ _ _ (c.in_ok-print_row.ensures.told h stands)) lines)
