@@ -5,7 +5,7 @@ ghost use Rattle.std.specs.Str.{bytes_eq};
 ghost use Rattle.flash_format.specs.Head.{is_free};
 ghost use Rattle.flash_format.specs.Entry.{name_field, name_end, has_name, is_nul};
 ghost use Rattle.flash_format.specs.Components.{cell_name};
-ghost use Rattle.flash_store.specs.Pages.{HasAnswered, OnHonestIn};
+ghost use Rattle.flash_store.specs.Pages.{HasAnswered, HasSeen, OnHonestIn};
 ghost use Rattle.flash_store.specs.Regions.{LiesIn};
 ghost use Rattle.cbfs_walk.specs.Passing.{HasPassed};
 ghost use Rattle.cbfs_walk.specs.Cells.{PassesChecks, cell_in};
@@ -91,9 +91,8 @@ pub fn has_name_end<F: Flash>(
         IfOk result (λ ends. ends ≡ has_name (name_field head.now (drop at x)))) }
 {
     paged.places_fit();
-    let mut field = [0; 256];
-    let n = name_room(head).min(field.len());
-    shows_nul(paged, region, at + 24, &mut field[..n])
+    let n = name_room(head).min(256);
+    shows_nul(paged, region, at + 24, n)
 }
 
 /// Where the name field of a component ends, and its attributes begin.
@@ -130,49 +129,36 @@ fn is_text_at<F: Flash>(
     ensures same { OnHonestIn F.facts paged.old.device region (λ x. IfOk result (λ same. same
         ≡ bytes_eq (before_first is_nul (slice_range x at (at + (length text.now + 1)))) text.now)) }
 {
-    let mut field = [0; 256];
-    has_text(paged, region, at, &mut field[..text.len() + 1], text)
+    paged.places_fit();
+    let bytes = paged.piece(region.start() + at, text.len() + 1)?;
+    Ok(shows_text(bytes, text))
 }
 
-/// Reads bytes, and answers whether those before the first NUL are this text.
-fn has_text<F: Flash>(
-    paged: &mut Paged<F>,
-    region: Region,
-    at: u64,
-    field: &mut [u8],
-    text: &[u8],
-) -> Result<bool, FlashFault>
-    requires region { LiesIn region (F.facts paged.old.device).content }
-    requires inside { at + length field.old ≤ region.size }
-    requires short { length field.old ≤ 4096 }
-
-    ensures after { HasAnswered F.facts 1 paged.old paged.new result }
-    ensures same { OnHonestIn F.facts paged.old.device region (λ x. IfOk result (λ same. same
-        ≡ bytes_eq (before_first is_nul (slice_range x at (at + length field.old))) text.now)) }
+/// Whether the bytes before the first NUL are this text.
+fn shows_text(bytes: &[u8], text: &[u8]) -> bool
+    ensures { result ≡ bytes_eq (before_first is_nul bytes.now) text.now }
 {
-    let end = read_text(paged, region, at, field)?;
-    Ok(&field[..end] == text)
+    &bytes[..text_len(bytes)] == text
 }
 
-/// Reads bytes, and answers whether a NUL is among them.
+/// Whether a NUL is among the n bytes at a place.
 fn shows_nul<F: Flash>(
     paged: &mut Paged<F>,
     region: Region,
     at: u64,
-    field: &mut [u8],
+    n: usize,
 ) -> Result<bool, FlashFault>
     requires region { LiesIn region (F.facts paged.old.device).content }
-    requires inside { at + length field.old ≤ region.size }
-    requires short { length field.old ≤ 4096 }
+    requires inside { at + n ≤ region.size }
+    requires short { n ≤ 4096 }
 
-    ensures after { HasAnswered F.facts 1 paged.old paged.new result }
-    ensures passes { length field.old ≤ 256 →
-        HasPassed F.facts (region.start + at) (region.start + at) paged.old paged.new result }
+    ensures after { HasSeen F.facts (region.start + at) n paged.old paged.new result }
     ensures nul { OnHonestIn F.facts paged.old.device region (λ x.
-        IfOk result (λ nul. nul ≡ list_any is_nul (slice_range x at (at + length field.old)))) }
+        IfOk result (λ nul. nul ≡ list_any is_nul (slice_range x at (at + n)))) }
 {
-    let end = read_text(paged, region, at, field)?;
-    Ok(end < field.len())
+    paged.places_fit();
+    let bytes = paged.piece(region.start() + at, n)?;
+    Ok(text_len(bytes) < n)
 }
 
 /// Reads bytes, and answers how many of them stand before the first NUL, or all.
@@ -187,8 +173,6 @@ fn read_text<F: Flash>(
     requires short { length out.old ≤ 4096 }
 
     ensures after { HasAnswered F.facts 1 paged.old paged.new result }
-    ensures passes { length out.old ≤ 256 →
-        HasPassed F.facts (region.start + at) (region.start + at) paged.old paged.new result }
     ensures len { IfOk result (λ n. n ≡ length (before_first is_nul out.new)) }
     ensures read { OnHonestIn F.facts paged.old.device region (λ x.
         OnOk result (out.new ≡ slice_range x at (at + length out.old))) }
