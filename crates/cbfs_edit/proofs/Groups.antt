@@ -16,7 +16,7 @@ use Rattle.flash_store.specs.Bytes.{overwritten, SameOutside}
 use Rattle.flash_store.proofs.BytesLemmas.{SameOutside-overwritten, length-overwritten}
 use Rattle.cbfs_edit.specs.Groups.{IsCellRange}
 use Rattle.cbfs_edit.specs.Removals.{last_four, kept_at, removed}
-use Rattle.cbfs_edit.specs.Stops.{IsBlanked, IsStopped}
+use Rattle.cbfs_edit.specs.Stops.{IsBlanked, IsStopped, SameCells}
 use Rattle.cbfs_edit.specs.declared.group.Freed.{Freed}
 
 -- ---- where a group lies
@@ -96,10 +96,17 @@ module _ (x : List ℕ) (group : Freed) (g : CellsBetween x group.start group.en
   removed-bytes : removed x group ≡ overwritten x group.start (blank_header (group.end - group.start) (group.end == length x) ++ space)
   removed-bytes = ap (λ b. overwritten x group.start (blank_header (group.end - group.start) b ++ space)) (is_some-cond (group.end == length x) (last_four x))
 
-  -- A stop after the commit: the cells are those of the finished removal.
+  -- After the commit the cells are those of the finished removal.
+  pub blanked-same : (y : List ℕ) → IsBlanked x group y → SameCells y (removed x group)
+  blanked-same y is = record {
+    components = blanked-components x group g range small y is.more is.room is.bytes ∙ sym (blanked-components x group g range small (removed x group) space removed-room removed-bytes);
+    end = blanked-end x group g range small y is.more is.room is.bytes ∙ sym (blanked-end x group g range small (removed x group) space removed-room removed-bytes);
+  }
+
+  -- A stop after it.
   pub blanked-stopped : (y : List ℕ) → IsBlanked x group y → last_four y ≡ last_four x → IsStopped x group (removed x group) (length x - 4) y
   blanked-stopped y is last = record {
-    components = inr (blanked-components x group g range small y is.more is.room is.bytes ∙ sym (blanked-components x group g range small (removed x group) space removed-room removed-bytes));
+    components = inr (blanked-same y is).components;
     end = blanked-end x group g range small y is.more is.room is.bytes;
     same_length = blanked-length x group g range small y is.more is.room is.bytes;
     outside = blanked-outside x group g range small y is.more is.room is.bytes;

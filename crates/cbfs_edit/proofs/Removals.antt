@@ -1,5 +1,5 @@
 -- An accepted removal has a group, in a region of a good size.
-use Rattle.std.proofs.Common.{◌≡◌, ◌⊎◌, inl, inr, ℕ, ◌%◌, ◌^◌, ◌<◌, Bool, true, false, cond, List, length, Option, Some, None, Result, Ok, Err, refl, sym, ap, subst, arith}
+use Rattle.std.proofs.Common.{◌≡◌, ◌⊎◌, inl, inr, ℕ, ◌-◌, ◌%◌, ◌^◌, ◌<◌, Bool, true, false, cond, List, length, Option, Some, None, Result, Ok, Err, refl, sym, ap, subst, arith}
 use Rattle.std.specs.Prelude.{IsErrOf}
 use Rattle.flash_store.specs.Regions.{Range, LiesIn, bytes_in}
 use Rattle.flash_store.proofs.DeviceLemmas.{length-bytes_in}
@@ -15,13 +15,13 @@ use Rattle.cbfs_edit.specs.Groups.{group_of}
 use Rattle.cbfs_edit.specs.Removals.{last_four, unless_damaged, found, removed, removal_in}
 use Rattle.flash_store.specs.Bytes.{overwritten, SameOutside}
 use Rattle.flash_store.proofs.RegionLemmas.{image_is}
-use Rattle.cbfs_edit.specs.Stops.{IsBlanked, LeavesWhole}
+use Rattle.cbfs_edit.specs.Stops.{IsBlanked, IsStopped, LeavesWhole}
 use Rattle.cbfs_edit.specs.Laws.{BlankedGroupsLackTheComponent}
 use Rattle.cbfs_edit.specs.declared.fault.EditFault.{EditFault}
 use Rattle.cbfs_edit.specs.declared.fault.EditFault.TheVariants as faults
 use Rattle.cbfs_edit.specs.declared.group.Freed.{Freed}
 use Rattle.cbfs_edit.proofs.Parts.{the_group}
-use Rattle.cbfs_edit.proofs.Groups.{group_range, blanked-stopped}
+use Rattle.cbfs_edit.proofs.Groups.{group_range, blanked-same, blanked-stopped}
 
 pub record IsAccepted (x name : List ℕ) (group : Freed) : Type 0 where
   pub whole : length x % 64 ≡ 0
@@ -55,7 +55,14 @@ accepted x name group is = go (has_bad_size (length x)) (is_absent (entry x)) re
     }
 
 pub blanked_lacks : BlankedGroupsLackTheComponent
-blanked_lacks x name group y small is blanked last =
+blanked_lacks x name group y small is blanked =
+    let a = accepted x name group is in
+    let g = the_group x name group a.whole a.group_is in
+    blanked-same x group g.cells (group_range x group g.cells g.some) small y blanked
+
+-- a stop after the commit of a removal that was accepted
+blanked_stops : (x name : List ℕ) (group : Freed) (y : List ℕ) → length x < 2 ^ 32 → removal_in x name ≡ Ok group → IsBlanked x group y → last_four y ≡ last_four x → IsStopped x group (removed x group) (length x - 4) y
+blanked_stops x name group y small is blanked last =
     let a = accepted x name group is in
     let g = the_group x name group a.whole a.group_is in
     blanked-stopped x group g.cells (group_range x group g.cells g.some) small y blanked last
@@ -76,7 +83,7 @@ removal_leaves r name group old mid new lies small same answer stopped last = to
 
     left : removal_in (bytes_in r old) name ≡ Ok group → (bytes_in r new ≡ bytes_in r old) ⊎ IsBlanked (bytes_in r old) group (bytes_in r new) → last_four (bytes_in r new) ≡ last_four (bytes_in r old) → LeavesWhole (bytes_in r old) name (bytes_in r new)
     left is (inl unchanged) kept = inl unchanged
-    left is (inr blanked) kept = inr (group, is, blanked_lacks (bytes_in r old) name group (bytes_in r new) (omega (arith, size, lies, small)) is blanked kept)
+    left is (inr blanked) kept = inr (group, is, blanked_stops (bytes_in r old) name group (bytes_in r new) (omega (arith, size, lies, small)) is blanked kept)
 
     told : (let a : Result Freed EditFault = Ok group in IsErrOf a faults.Device ⊎ (a ≡ removal_in (bytes_in r old) name)) → LeavesWhole (bytes_in r old) name (bytes_in r new)
     told (inl e) = absurd cc

@@ -1,11 +1,11 @@
 -- The laws that the edits rest on.
-use Rattle.std.specs.Prelude.{◌≡◌, ℕ, ◌-◌, ◌%◌, ◌^◌, ◌<◌, All, Contains, List, length, Ok, Option, Some, None}
+use Rattle.std.specs.Prelude.{◌≡◌, ℕ, ◌%◌, ◌^◌, ◌<◌, All, Contains, List, length, Ok, Option, Some, None}
 use Rattle.flash_format.specs.Cut.{cut}
 use Rattle.flash_format.specs.Made.{IsDigest}
 use Rattle.cbfs_edit.specs.Additions.{NewComponent, AddsOne, addition_in}
 use Rattle.cbfs_edit.specs.Groups.{group_of, IsNot, IsGroupOf}
-use Rattle.cbfs_edit.specs.Removals.{last_four, removed, removal_in}
-use Rattle.cbfs_edit.specs.Stops.{IsBlanked, IsStopped, SameCells}
+use Rattle.cbfs_edit.specs.Removals.{removed, removal_in}
+use Rattle.cbfs_edit.specs.Stops.{IsBlanked, SameCells}
 use Rattle.cbfs_edit.specs.Runs.{runs, IsRunOf}
 use Rattle.cbfs_edit.specs.Places.{IsWanted, IsPlace, place_of}
 use Rattle.cbfs_edit.specs.declared.group.Freed.{Freed}
@@ -13,9 +13,10 @@ use Rattle.cbfs_edit.specs.declared.place.Wanted.{Wanted}
 use Rattle.cbfs_edit.specs.declared.place.Place.{Place}
 use Rattle.cbfs_edit.specs.declared.place.Spot.{Spot}
 
--- once the first commit of a removal is done, the components are those of the finished one
+-- once the header of an empty entry stands over the group of a removal, whatever the rest of the group holds, the
+-- components are those of the finished removal
 abbrev pub BlankedGroupsLackTheComponent : Type 0
-BlankedGroupsLackTheComponent = (x name : List ℕ) (group : Freed) (y : List ℕ) → length x < 2 ^ 32 → removal_in x name ≡ Ok group → IsBlanked x group y → last_four y ≡ last_four x → IsStopped x group (removed x group) (length x - 4) y
+BlankedGroupsLackTheComponent = (x name : List ℕ) (group : Freed) (y : List ℕ) → length x < 2 ^ 32 → removal_in x name ≡ Ok group → IsBlanked x group y → SameCells y (removed x group)
 
 -- the group that a removal takes is the first component of the name, with all free cells that touch it
 abbrev pub GroupsAreExact : Type 0

@@ -34,7 +34,7 @@ pub enum HashChoice {
     Sha512,
 }
 
-/// Where a new component stands, counted from the region's start: its header, at a multiple of 64, and its content.
+/// Where a new component stands, counted from the region's start: its head, at a multiple of 64, and its content.
 #[derive(Clone, Copy, Debug, PartialEq, Eq)]
 pub struct Placed {
     pub header: u64,
@@ -237,8 +237,8 @@ fn attribute_len(hash: HashChoice) -> usize
 
 /// Adds a component whose content is the whole source, and answers where it stands.
 ///
-/// It is put into the first free space that has room for it, at the least place there that the spot allows; blanks of
-/// free space are left before it and after it. The last four bytes of the region are kept, but for those that content
+/// It is put into the first free space that has room for it, at the least place there that the spot allows; an empty
+/// entry each is left of the free space before it and after it. The last four bytes of the region are kept, but for those that content
 /// with a fixed place covers.
 ///
 /// The refusals come in this order: a bad name, a bad type, a bad alignment, the region's size, no entry at its start, the

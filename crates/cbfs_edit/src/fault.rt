@@ -5,8 +5,9 @@ ghost use Rattle.cbfs_edit.specs.Refusals.{refusal_of};
 use cbfs_walk::WalkFault;
 use flash_format::DamageKind;
 
-/// Why an edit is refused. The numbers are those of the refusals that the commands print. After `Device` and `Source` the
-/// components are those of before or those of after; after any other refusal the device is as it was.
+/// Why an edit is refused. The numbers are those of the refusals that the commands print. After `Device` the
+/// components are those of before or those of after, after `Source` those of before; after any other refusal the device is
+/// as it was.
 #[derive(Clone, Copy, Debug, PartialEq, Eq)]
 pub enum EditFault {
     /// The device refused a call (1).

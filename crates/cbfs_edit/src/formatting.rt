@@ -14,7 +14,7 @@ use flash_store::{Flash, Paged, Region};
 /// Makes the whole region one empty entry, whatever it holds, damaged or no CBFS at all. Its last four bytes are kept.
 ///
 /// It reads nothing. It is refused by the region's size, or by the device: then the region is as it was, or it is one
-/// empty entry already, whose bytes after the header may be anything.
+/// free cell, whose last four bytes are kept.
 pub fn format<F: Flash>(paged: &mut Paged<F>, region: Region) -> Result<(), EditFault>
     requires { LiesIn region (F.facts paged.old.device).content }
 

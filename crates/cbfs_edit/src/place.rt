@@ -35,7 +35,7 @@ pub struct Wanted {
     pub spot: Spot,
 }
 
-/// Where a component is put: the run of free cells, and in it the component's header and its content.
+/// Where a component is put: the run of free cells, and in it the component's head and its content.
 #[derive(Clone, Copy, Debug, PartialEq, Eq)]
 pub struct Place {
     pub run: Freed,
@@ -182,7 +182,7 @@ fn place_in_row(wanted: Wanted, region: Region, row: Freed) -> Option<Place>
     place_in(wanted, region, row)
 }
 
-/// The place in a run: the header at the last multiple of 64 that leaves it room.
+/// The place in a run: the head at the last multiple of 64 that leaves room for the metadata before the content.
 fn place_in(wanted: Wanted, region: Region, run: Freed) -> Option<Place>
     requires wanted { IsWanted wanted }
     requires run { IsCellRange run region.size }

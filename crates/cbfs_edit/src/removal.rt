@@ -19,9 +19,8 @@ use flash_store::{Flash, Paged, Region};
 ///
 /// It goes through all entries before it writes, so a damaged one anywhere refuses it. The refusals come in this order:
 /// the region's size, no entry at its start, the first damaged entry, no component of the name; a fault of the device
-/// comes whenever the device refuses a call. Only that fault may leave a change: either nothing is written, or the
-/// component is gone with its free space, as after a whole removal, and the bytes of the empty entry after its header
-/// may be anything. Then the same call answers `NotFound`, or takes the next component of the name.
+/// comes whenever the device refuses a call. Only that fault may leave a change: the components are then those of before, or
+/// those of a whole removal, and outside the group nothing has changed.
 pub fn remove<F: Flash>(
     paged: &mut Paged<F>,
     region: Region,

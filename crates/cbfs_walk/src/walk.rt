@@ -81,7 +81,8 @@ impl Walk {
 
     /// The next cell, or how the cells end. After a device's fault it stands where it stood, and the next call
     /// tries the same entry again; after any other end it answers the same again. It reads an entry in order, so that
-    /// the device is called once, and once more for each 3840 bytes of the entry up to its content.
+    /// the device is called once, and once more for each 3840 bytes of its cell, or of what is left of the region where it
+    /// gives none.
     pub fn next<F: Flash>(&mut self, paged: &mut Paged<F>) -> Result<Step, WalkFault>
         requires { LiesIn self.old.region (F.facts paged.old.device).content }
 
