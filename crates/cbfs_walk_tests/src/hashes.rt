@@ -4,9 +4,7 @@ use crate::tests::{A, device_with, equal, found, put};
 use cbfs_walk::{HashState, check_hash};
 use flash_format::Digest;
 use flash_store::{FailAt, Flash, FlashFault, MemFlash, Paged};
-use std::alloc::{AllocError, Global};
 use std::process::Abort;
-use std::test::Fail;
 
 /// The digests of `abc`.
 const ABC_256: [u8; 32] =
@@ -37,12 +35,12 @@ fn device_of(
     first: &[u8; 12],
     digest: &[u8],
     content: &[u8],
-) -> Result<MemFlash, Fail> {
+) -> MemFlash {
     assert!(rt; digest.len() <= 64 && content.len() <= 4200);
     let begin = 52 + digest.len();
     let len = content.len() as u32;
     let offset = begin as u32;
-    let mut bytes = Vec::from_elem(rt.alloc(), 0xffu8, 4544)?;
+    let mut bytes = Vec::from_elem(rt.alloc(), 0xffu8, 4544).expect(rt, "memory");
     put(&mut bytes, 0, b"LARCHIVE");
     put(&mut bytes, 8, &len.to_be_bytes());
     put(&mut bytes, 12, b"\0\0\0\x50\0\0\0\x28");
@@ -51,20 +49,18 @@ fn device_of(
     put(&mut bytes, 40, first);
     put(&mut bytes, 52, digest);
     put(&mut bytes, begin, content);
-    Ok(MemFlash::new(bytes)?)
+    MemFlash::new(bytes).expect(rt, "a device")
 }
 
-/// What a check of the component of this name tells.
-fn state_of<F: Flash>(paged: &mut Paged<F>, name: &[u8]) -> Result<HashState, Fail> {
-    let (region, cell) = found(paged, name)?;
-    Ok(check_hash(paged, region, &cell)?)
+/// A check of the component of this name tells this.
+fn is_in_state<F: Flash>(rt: &impl Abort, paged: &mut Paged<F>, name: &[u8], want: HashState) {
+    let (region, cell) = found(rt, paged, name);
+    equal(rt, &check_hash(paged, region, &cell), &Ok(want));
 }
 
 /// The component of this name on a device has this state.
-fn has_state(rt: &impl Abort, device: MemFlash, name: &[u8], want: HashState) -> Result<(), Fail> {
-    let mut paged = Paged::new(device);
-    equal(rt, &state_of(&mut paged, name)?, &want);
-    Ok(())
+fn has_state(rt: &impl Abort, device: MemFlash, name: &[u8], want: HashState) {
+    is_in_state(rt, &mut Paged::new(device), name, want);
 }
 
 /// The component `h` with this attribute and content has this state.
@@ -74,55 +70,54 @@ fn row(
     digest: &[u8],
     content: &[u8],
     want: HashState,
-) -> Result<(), Fail> {
-    has_state(rt, device_of(rt, first, digest, content)?, b"h", want)
+) {
+    has_state(rt, device_of(rt, first, digest, content), b"h", want);
 }
 
 #[test]
-fn digests_of_the_standard_are_known(rt: HostRuntime) -> Result<(), Fail> {
+fn digests_of_the_standard_are_known(rt: HostRuntime) {
     let stored = Digest::Sha256(ABC_256);
-    row(&rt, &SHA256, &ABC_256, b"abc", HashState::Valid(stored))?;
-    row(&rt, &SHA256, &ABC_256, b"bbc", HashState::Invalid(stored))?;
-    row(&rt, &SHA256, &ABC_256, b"abb", HashState::Invalid(stored))?;
+    row(&rt, &SHA256, &ABC_256, b"abc", HashState::Valid(stored));
+    row(&rt, &SHA256, &ABC_256, b"bbc", HashState::Invalid(stored));
+    row(&rt, &SHA256, &ABC_256, b"abb", HashState::Invalid(stored));
     let stored = Digest::Sha512(ABC_512);
-    row(&rt, &SHA512, &ABC_512, b"abc", HashState::Valid(stored))?;
-    row(&rt, &SHA512, &ABC_512, b"abd", HashState::Invalid(stored))?;
-    Ok(())
+    row(&rt, &SHA512, &ABC_512, b"abc", HashState::Valid(stored));
+    row(&rt, &SHA512, &ABC_512, b"abd", HashState::Invalid(stored));
 }
 
 #[test]
-fn other_attributes_are_told(rt: HostRuntime) -> Result<(), Fail> {
+fn other_attributes_are_told(rt: HostRuntime) {
     let unsupported = HashState::Unsupported;
-    row(&rt, &OTHER_ALGORITHM, &ABC_256, b"abc", unsupported)?;
-    row(&rt, &SHORT_256, &ABC_256[..31], b"abc", unsupported)?;
-    row(&rt, &SHORT_512, &ABC_512[..63], b"abc", unsupported)?;
-    row(&rt, &OTHER_TAG, &ABC_256, b"abc", HashState::Absent)?;
-    let device = device_with(rt.alloc(), 512, &[(0, &A)])?;
-    has_state(&rt, device, b"a", HashState::Absent)
+    row(&rt, &OTHER_ALGORITHM, &ABC_256, b"abc", unsupported);
+    row(&rt, &SHORT_256, &ABC_256[..31], b"abc", unsupported);
+    row(&rt, &SHORT_512, &ABC_512[..63], b"abc", unsupported);
+    row(&rt, &OTHER_TAG, &ABC_256, b"abc", HashState::Absent);
+    let device = device_with(&rt, 512, &[(0, &A)]);
+    has_state(&rt, device, b"a", HashState::Absent);
 }
 
 /// So many bytes, which count from 0 to 250 again and again.
-fn content_of(alloc: Global, len: usize) -> Result<Vec<u8>, AllocError> {
-    let mut bytes = Vec::from_elem(alloc, 0, len)?;
+fn content_of(rt: &(impl Abort + AllocGlobal), len: usize) -> Vec<u8> {
+    let mut bytes = Vec::from_elem(rt.alloc(), 0, len).expect(rt, "memory");
     let mut next: u8 = 0;
     for byte in bytes.iter_mut() {
         *byte = next;
         next = next.wrapping_add(1) % 251;
     }
-    Ok(bytes)
+    bytes
 }
 
 /// A content of so many bytes has this digest.
-fn has_sha256(rt: &(impl Abort + AllocGlobal), len: usize, digest: [u8; 32]) -> Result<(), Fail> {
-    let content = content_of(rt.alloc(), len)?;
+fn has_sha256(rt: &(impl Abort + AllocGlobal), len: usize, digest: [u8; 32]) {
+    let content = content_of(rt, len);
     let want = HashState::Valid(Digest::Sha256(digest));
-    row(rt, &SHA256, &digest, &content, want)
+    row(rt, &SHA256, &digest, &content, want);
 }
 
-fn has_sha512(rt: &(impl Abort + AllocGlobal), len: usize, digest: [u8; 64]) -> Result<(), Fail> {
-    let content = content_of(rt.alloc(), len)?;
+fn has_sha512(rt: &(impl Abort + AllocGlobal), len: usize, digest: [u8; 64]) {
+    let content = content_of(rt, len);
     let want = HashState::Valid(Digest::Sha512(digest));
-    row(rt, &SHA512, &digest, &content, want)
+    row(rt, &SHA512, &digest, &content, want);
 }
 
 /// Digests of SHA-256, made by Python, each under the length of its content.
@@ -170,44 +165,37 @@ const COUNT_512_4097: [u8; 64] =
     *b"\x79\x2d\x06\xa3\xe2\x41\x88\x27\xf6\x05\x9c\xd7\x8d\xbb\x16\xd0\x7b\xf8\x6b\xfd\x3f\x54\x2e\x32\x6d\xac\x9f\xe5\xed\x9e\x50\x37\xcd\xd2\xac\x00\xbe\x62\x5a\xdd\x28\xe0\xe2\x40\x8a\xa6\x11\x86\x71\xe9\xe5\x78\x72\xc6\xb7\x8a\x32\x7b\x16\x92\xbe\x44\x40\x78";
 
 #[test]
-fn contents_of_each_length_are_hashed(rt: HostRuntime) -> Result<(), Fail> {
-    has_sha256(&rt, 0, COUNT_256_0)?;
-    has_sha256(&rt, 55, COUNT_256_55)?;
-    has_sha256(&rt, 56, COUNT_256_56)?;
-    has_sha256(&rt, 63, COUNT_256_63)?;
-    has_sha256(&rt, 64, COUNT_256_64)?;
-    has_sha256(&rt, 127, COUNT_256_127)?;
-    has_sha256(&rt, 128, COUNT_256_128)?;
-    has_sha256(&rt, 4096, COUNT_256_4096)?;
-    has_sha256(&rt, 4097, COUNT_256_4097)?;
-    has_sha512(&rt, 111, COUNT_512_111)?;
-    has_sha512(&rt, 112, COUNT_512_112)?;
-    has_sha512(&rt, 127, COUNT_512_127)?;
-    has_sha512(&rt, 128, COUNT_512_128)?;
-    has_sha512(&rt, 4097, COUNT_512_4097)?;
-    Ok(())
+fn contents_of_each_length_are_hashed(rt: HostRuntime) {
+    has_sha256(&rt, 0, COUNT_256_0);
+    has_sha256(&rt, 55, COUNT_256_55);
+    has_sha256(&rt, 56, COUNT_256_56);
+    has_sha256(&rt, 63, COUNT_256_63);
+    has_sha256(&rt, 64, COUNT_256_64);
+    has_sha256(&rt, 127, COUNT_256_127);
+    has_sha256(&rt, 128, COUNT_256_128);
+    has_sha256(&rt, 4096, COUNT_256_4096);
+    has_sha256(&rt, 4097, COUNT_256_4097);
+    has_sha512(&rt, 111, COUNT_512_111);
+    has_sha512(&rt, 112, COUNT_512_112);
+    has_sha512(&rt, 127, COUNT_512_127);
+    has_sha512(&rt, 128, COUNT_512_128);
+    has_sha512(&rt, 4097, COUNT_512_4097);
 }
 
 /// A cell on a device whose calls after the first few fail has this state.
-fn fails_after(
-    rt: &(impl Abort + AllocGlobal),
-    calls: u64,
-    want: Result<HashState, FlashFault>,
-) -> Result<(), Fail> {
-    let content = content_of(rt.alloc(), 4097)?;
-    let mut paged = Paged::new(device_of(rt, &SHA256, &COUNT_256_4097, &content)?);
-    let (region, cell) = found(&mut paged, b"h")?;
+fn fails_after(rt: &(impl Abort + AllocGlobal), calls: u64, want: Result<HashState, FlashFault>) {
+    let content = content_of(rt, 4097);
+    let mut paged = Paged::new(device_of(rt, &SHA256, &COUNT_256_4097, &content));
+    let (region, cell) = found(rt, &mut paged, b"h");
     let mut paged = Paged::new(FailAt::new(paged.into_flash(), calls, 0));
     assert!(rt; region.start() + region.size() <= paged.len());
     equal(rt, &check_hash(&mut paged, region, &cell), &want);
-    Ok(())
 }
 
 #[test]
-fn a_check_tells_each_fault(rt: HostRuntime) -> Result<(), Fail> {
+fn a_check_tells_each_fault(rt: HostRuntime) {
     let valid = HashState::Valid(Digest::Sha256(COUNT_256_4097));
-    fails_after(&rt, 0, Err(FlashFault))?;
-    fails_after(&rt, 1, Err(FlashFault))?;
-    fails_after(&rt, 2, Ok(valid))?;
-    Ok(())
+    fails_after(&rt, 0, Err(FlashFault));
+    fails_after(&rt, 1, Err(FlashFault));
+    fails_after(&rt, 2, Ok(valid));
 }

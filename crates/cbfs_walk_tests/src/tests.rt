@@ -1,5 +1,5 @@
 //! Regions written out as bytes, a device that lies, and one that fails at each call in turn.
-ghost use Rattle.std.specs.Prelude.{◌≡◌, false, IfOk, IfSome};
+ghost use Rattle.std.specs.Prelude.{◌≡◌, false};
 ghost use Rattle.flash_format.specs.Head.{is_free};
 ghost use Rattle.cbfs_walk.specs.Cells.{IsCellIn};
 ghost use Rattle.flash_store.specs.Regions.{LiesIn};
@@ -9,11 +9,9 @@ use cbfs_walk::{
 };
 use flash_format::{AttrHead, DamageKind, HEADER_LENGTH, Head};
 use flash_store::{Counter, FailAt, Flash, FlashFault, MemFlash, Paged, Region};
-use std::alloc::{AllocError, Global};
 use std::fmt::Debug;
 use std::marker::Model;
 use std::process::Abort;
-use std::test::Fail;
 
 type Answer = Result<Step, WalkFault>;
 
@@ -109,38 +107,39 @@ pub fn put(bytes: &mut [u8], at: usize, part: &[u8]) {
     }
 }
 
-pub fn device_with(alloc: Global, size: usize, parts: Parts) -> Result<MemFlash, Fail> {
-    let mut bytes = Vec::from_elem(alloc, 0xffu8, size)?;
+pub fn device_with(rt: &(impl Abort + AllocGlobal), size: usize, parts: Parts) -> MemFlash {
+    let mut bytes = Vec::from_elem(rt.alloc(), 0xffu8, size).expect(rt, "memory");
     for (at, part) in parts {
         put(&mut bytes, *at, part);
     }
-    Ok(MemFlash::new(bytes)?)
+    MemFlash::new(bytes).expect(rt, "a device")
 }
 
 /// The whole of a device.
-pub fn whole<F: Flash>(paged: &Paged<F>) -> Option<Region>
-    ensures { IfSome result (λ region. LiesIn region (F.facts paged.now.device).content) }
+pub fn whole<F: Flash>(rt: &impl Abort, paged: &Paged<F>) -> Region
+    ensures { LiesIn result (F.facts paged.now.device).content }
 {
-    Region::within(0, paged.len(), paged.len())
+    Region::within(0, paged.len(), paged.len()).expect(rt, "a region")
 }
 
 /// Adds the answers of a walk up to its end or a device's fault.
 fn walk_on<F: Flash>(
+    rt: &impl Abort,
     walk: &mut Walk,
     paged: &mut Paged<F>,
     answers: &mut Vec<Answer>,
-) -> Result<(), AllocError>
+)
     requires { LiesIn walk.old.region (F.facts paged.old.device).content }
     ensures { walk.new.region ≡ walk.old.region }
 {
     loop {
         let answer = walk.next(paged);
-        answers.push(answer)?;
+        answers.push(answer).expect(rt, "memory");
         match answer {
             Ok(Step::Cell(_)) => {}
-            Ok(Step::Tail(_)) => return Ok(()),
-            Ok(Step::End) => return Ok(()),
-            Err(_) => return Ok(()),
+            Ok(Step::Tail(_)) => return,
+            Ok(Step::End) => return,
+            Err(_) => return,
         }
     }
 }
@@ -176,22 +175,16 @@ fn damaged(at: u64, kind: DamageKind) -> WalkFault {
 // ---- walks
 
 /// A walk over a region of these bytes answers this.
-fn walks(
-    rt: &(impl Abort + AllocGlobal),
-    size: usize,
-    parts: Parts,
-    want: &[Answer],
-) -> Result<(), Fail> {
-    let mut paged = Paged::new(device_with(rt.alloc(), size, parts)?);
-    let region = whole(&paged).ok_or("no region")?;
+fn walks(rt: &(impl Abort + AllocGlobal), size: usize, parts: Parts, want: &[Answer]) {
+    let mut paged = Paged::new(device_with(rt, size, parts));
     let mut answers = Vec::new(rt.alloc());
-    walk_on(&mut Walk::new(region), &mut paged, &mut answers)?;
+    let mut walk = Walk::new(whole(rt, &paged));
+    walk_on(rt, &mut walk, &mut paged, &mut answers);
     same_answers(rt, &answers, want);
-    Ok(())
 }
 
 #[test]
-fn walks_give_the_cells_and_how_they_end(rt: HostRuntime) -> Result<(), Fail> {
+fn walks_give_the_cells_and_how_they_end(rt: HostRuntime) {
     let a = gives(0, 10, RAW, 64);
     let free = gives(64, 404, NULL, 448);
     walks(
@@ -199,34 +192,32 @@ fn walks_give_the_cells_and_how_they_end(rt: HostRuntime) -> Result<(), Fail> {
         512,
         &[(0, &A), (64, &NULL_404)],
         &[a, free, Ok(Step::End)],
-    )?;
+    );
     let free = gives(64, 344, NULL, 384);
     walks(
         &rt,
         512,
         &[(0, &A), (64, &NULL_344)],
         &[a, free, Ok(Step::Tail(448))],
-    )?;
+    );
     let extent = Err(damaged(64, DamageKind::Extent));
-    walks(&rt, 512, &[(0, &A), (64, &NULL_TOO_LONG)], &[a, extent])?;
-    Ok(())
+    walks(&rt, 512, &[(0, &A), (64, &NULL_TOO_LONG)], &[a, extent]);
 }
 
 /// The entry at a region's start fails a check, the first of them this one.
-fn refuses(rt: &(impl Abort + AllocGlobal), entry: &[u8], kind: DamageKind) -> Result<(), Fail> {
-    walks(rt, 512, &[(0, entry)], &[Err(damaged(0, kind))])
+fn refuses(rt: &(impl Abort + AllocGlobal), entry: &[u8], kind: DamageKind) {
+    walks(rt, 512, &[(0, entry)], &[Err(damaged(0, kind))]);
 }
 
 #[test]
-fn walks_refuse_what_fails_a_check(rt: HostRuntime) -> Result<(), Fail> {
-    refuses(&rt, &NO_CONTENT, DamageKind::Offset)?;
-    refuses(&rt, &NO_NUL, DamageKind::Name)?;
-    refuses(&rt, &ATTRIBUTES_IN_HEAD, DamageKind::AttrOffset)?;
-    refuses(&rt, &SHORT_ATTRIBUTE, DamageKind::AttrLength)?;
-    refuses(&rt, &LONG_ATTRIBUTE, DamageKind::AttrLength)?;
-    walks(&rt, 512, &[(0, &NO_MAGIC)], &[Err(WalkFault::NotCbfs)])?;
-    walks(&rt, 500, &[(0, &A)], &[Err(WalkFault::RegionShape)])?;
-    Ok(())
+fn walks_refuse_what_fails_a_check(rt: HostRuntime) {
+    refuses(&rt, &NO_CONTENT, DamageKind::Offset);
+    refuses(&rt, &NO_NUL, DamageKind::Name);
+    refuses(&rt, &ATTRIBUTES_IN_HEAD, DamageKind::AttrOffset);
+    refuses(&rt, &SHORT_ATTRIBUTE, DamageKind::AttrLength);
+    refuses(&rt, &LONG_ATTRIBUTE, DamageKind::AttrLength);
+    walks(&rt, 512, &[(0, &NO_MAGIC)], &[Err(WalkFault::NotCbfs)]);
+    walks(&rt, 500, &[(0, &A)], &[Err(WalkFault::RegionShape)]);
 }
 
 // ---- searches, names and attributes
@@ -237,94 +228,80 @@ fn finds(
     parts: Parts,
     name: &[u8],
     want: Result<Option<Cell>, WalkFault>,
-) -> Result<(), Fail> {
-    let mut paged = Paged::new(device_with(rt.alloc(), 512, parts)?);
-    let region = whole(&paged).ok_or("no region")?;
+) {
+    let mut paged = Paged::new(device_with(rt, 512, parts));
+    let region = whole(rt, &paged);
     equal(rt, &find(&mut paged, region, name), &want);
-    Ok(())
 }
 
 #[test]
-fn the_first_component_of_a_name_is_found(rt: HostRuntime) -> Result<(), Fail> {
+fn the_first_component_of_a_name_is_found(rt: HostRuntime) {
     let a = Ok(Some(cell(0, 10, RAW, 64)));
     let x = Ok(Some(cell(0, 1, RAW, 64)));
     let extent = Err(damaged(64, DamageKind::Extent));
-    finds(&rt, &[(0, &A), (64, &NULL_404)], b"a", a)?;
-    finds(&rt, &[(0, &A), (64, &NULL_404)], b"z", Ok(None))?;
-    finds(&rt, &[(0, &X1), (64, &X2), (128, &NULL_340)], b"x", x)?;
-    finds(&rt, &[(0, &A), (64, &NULL_TOO_LONG)], b"a", a)?;
-    finds(&rt, &[(0, &A), (64, &NULL_TOO_LONG)], b"z", extent)?;
-    finds(&rt, &[(0, &NO_MAGIC)], b"a", Err(WalkFault::NotCbfs))?;
-    Ok(())
+    finds(&rt, &[(0, &A), (64, &NULL_404)], b"a", a);
+    finds(&rt, &[(0, &A), (64, &NULL_404)], b"z", Ok(None));
+    finds(&rt, &[(0, &X1), (64, &X2), (128, &NULL_340)], b"x", x);
+    finds(&rt, &[(0, &A), (64, &NULL_TOO_LONG)], b"a", a);
+    finds(&rt, &[(0, &A), (64, &NULL_TOO_LONG)], b"z", extent);
+    finds(&rt, &[(0, &NO_MAGIC)], b"a", Err(WalkFault::NotCbfs));
 }
 
 /// The whole of a device, and the component of this name there.
-pub fn found<F: Flash>(paged: &mut Paged<F>, name: &[u8]) -> Result<(Region, Cell), Fail>
-    ensures region { IfOk result (λ (region, cell). LiesIn region (F.facts paged.new.device).content) }
-    ensures cell { IfOk result (λ (region, cell). IsCellIn region.size cell) }
-    ensures component { IfOk result (λ (_, cell). is_free cell.head ≡ false) }
+pub fn found<F: Flash>(rt: &impl Abort, paged: &mut Paged<F>, name: &[u8]) -> (Region, Cell)
+    ensures region { LiesIn result.0 (F.facts paged.new.device).content }
+    ensures cell { IsCellIn result.0.size result.1 }
+    ensures component { is_free result.1.head ≡ false }
 {
-    let region = whole(paged).ok_or("no region")?;
-    match find(paged, region, name) {
-        Ok(Some(cell)) => Ok((region, cell)),
-        Ok(None) => Err("no component")?,
-        Err(_) => Err("a fault")?,
-    }
+    let region = whole(rt, paged);
+    let cell = find(paged, region, name).expect(rt, "a search");
+    (region, cell.expect(rt, "a component"))
 }
 
 /// The component `p` has its name.
-fn has_its_name<F: Flash>(rt: &impl Abort, paged: &mut Paged<F>) -> Result<(), Fail> {
-    let (region, cell) = found(paged, b"p")?;
+fn has_its_name<F: Flash>(rt: &impl Abort, paged: &mut Paged<F>) {
+    let (region, cell) = found(rt, paged, b"p");
     let mut text = [0; 256];
-    equal(rt, &name(paged, region, &cell, &mut text)?, &1);
+    equal(rt, &name(paged, region, &cell, &mut text), &Ok(1));
     equal(rt, &text[0], &b'p');
-    equal(rt, &name_is(paged, region, &cell, b"p")?, &true);
-    equal(rt, &is_component(paged, region, &cell, b"p")?, &true);
-    Ok(())
+    equal(rt, &name_is(paged, region, &cell, b"p"), &Ok(true));
+    equal(rt, &is_component(paged, region, &cell, b"p"), &Ok(true));
 }
 
 #[test]
-fn a_name_is_read(rt: HostRuntime) -> Result<(), Fail> {
+fn a_name_is_read(rt: HostRuntime) {
     let parts: Parts = &[(0, &PACKED), (128, &NULL_340)];
-    let mut paged = Paged::new(device_with(rt.alloc(), 512, parts)?);
-    has_its_name(&rt, &mut paged)
+    has_its_name(&rt, &mut Paged::new(device_with(&rt, 512, parts)));
 }
 
-fn packing_of<F: Flash>(paged: &mut Paged<F>) -> Result<u32, Fail> {
-    let (region, cell) = found(paged, b"p")?;
-    Ok(packing(paged, region, &cell)?)
+fn has_packing<F: Flash>(rt: &impl Abort, paged: &mut Paged<F>, value: u32) {
+    let (region, cell) = found(rt, paged, b"p");
+    equal(rt, &packing(paged, region, &cell), &Ok(value));
 }
 
-/// The heads of the first two attributes of the component `p`.
-fn heads_of<F: Flash>(paged: &mut Paged<F>) -> Result<[Option<AttrHead>; 2], Fail> {
-    let (region, cell) = found(paged, b"p")?;
+/// The component `p` has one attribute, of this tag.
+fn has_one_attribute<F: Flash>(rt: &impl Abort, paged: &mut Paged<F>, tag: u32) {
+    let (region, cell) = found(rt, paged, b"p");
     let mut list = attributes(&cell);
-    let first = list.next(paged, region)?;
-    Ok([first, list.next(paged, region)?])
+    let only = Some(AttrHead { tag, len: 16 });
+    equal(rt, &list.next(paged, region), &Ok(only));
+    equal(rt, &list.next(paged, region), &Ok(None));
 }
 
 /// The component `p` has this value of compression, and one attribute, of this tag.
-fn has_attribute(
-    rt: &(impl Abort + AllocGlobal),
-    component: &[u8],
-    value: u32,
-    tag: u32,
-) -> Result<(), Fail> {
+fn has_attribute(rt: &(impl Abort + AllocGlobal), component: &[u8], value: u32, tag: u32) {
     let parts: Parts = &[(0, component), (128, &NULL_340)];
-    let mut paged = Paged::new(device_with(rt.alloc(), 512, parts)?);
-    equal(rt, &packing_of(&mut paged)?, &value);
-    let only = [Some(AttrHead { tag, len: 16 }), None];
-    equal(rt, &heads_of(&mut paged)?, &only);
-    Ok(())
+    let mut paged = Paged::new(device_with(rt, 512, parts));
+    has_packing(rt, &mut paged, value);
+    has_one_attribute(rt, &mut paged, tag);
 }
 
 #[test]
-fn attributes_are_read(rt: HostRuntime) -> Result<(), Fail> {
-    has_attribute(&rt, &PACKED, 1, AttrHead::COMPRESSION)?;
-    has_attribute(&rt, &PACKED_OTHERWISE, 7, AttrHead::COMPRESSION)?;
-    has_attribute(&rt, &UNPACKED, 0, AttrHead::COMPRESSION)?;
-    has_attribute(&rt, &OTHER_ATTRIBUTE, 0, 0x1234)?;
-    Ok(())
+fn attributes_are_read(rt: HostRuntime) {
+    has_attribute(&rt, &PACKED, 1, AttrHead::COMPRESSION);
+    has_attribute(&rt, &PACKED_OTHERWISE, 7, AttrHead::COMPRESSION);
+    has_attribute(&rt, &UNPACKED, 0, AttrHead::COMPRESSION);
+    has_attribute(&rt, &OTHER_ATTRIBUTE, 0, 0x1234);
 }
 
 // ---- devices that lie or fail
@@ -374,52 +351,53 @@ impl Flash for Liar {
 }
 
 #[test]
-fn a_walk_over_lies_ends(rt: HostRuntime) -> Result<(), Fail> {
+fn a_walk_over_lies_ends(rt: HostRuntime) {
     let mut paged = Paged::new(Liar {
         len: 16384,
         told: 0,
         calls: Counter::new(),
     });
-    let region = whole(&paged).ok_or("no region")?;
-    let mut walk = Walk::new(region);
+    let mut walk = Walk::new(whole(&rt, &paged));
     let mut answers = Vec::new(rt.alloc());
-    walk_on(&mut walk, &mut paged, &mut answers)?;
+    walk_on(&rt, &mut walk, &mut paged, &mut answers);
     // Four calls: contents of 30 and then of 60 bytes in cells of 128, of 90 and of 120 in cells of 192.
     equal(&rt, &walk.steps(), &106);
-    equal(&rt, &answers.len(), &107);
+    ends_in_lies(&rt, &answers);
+}
+
+fn ends_in_lies(rt: &impl Abort, answers: &[Answer]) {
+    equal(rt, &answers.len(), &107);
     equal(
-        &rt,
+        rt,
         &answers.get(85).copied(),
         &Some(gives(12224, 90, RAW, 192)),
     );
     equal(
-        &rt,
-        &answers.pop(),
+        rt,
+        &answers.last().copied(),
         &Some(Err(damaged(16256, DamageKind::Extent))),
     );
-    Ok(())
 }
 
 /// A long component, one whose head ends a buffer and whose name is in the next, and free space: two calls to read.
 const LONGER: &[(usize, &[u8])] = &[(0, &LONG), (4032, &WIDE), (4056, b"w\0"), (4160, &NULL_340)];
 
 /// A walk over a device whose calls after the first few fail, and then over one that holds the same, answers this.
-fn goes_on(rt: &(impl Abort + AllocGlobal), calls: u64, want: &[Answer]) -> Result<(), Fail> {
-    let device = device_with(rt.alloc(), 4544, LONGER)?;
+fn goes_on(rt: &(impl Abort + AllocGlobal), calls: u64, want: &[Answer]) {
+    let device = device_with(rt, 4544, LONGER);
     let mut paged = Paged::new(FailAt::new(device, calls, 0));
-    let region = whole(&paged).ok_or("no region")?;
+    let region = whole(rt, &paged);
     let mut walk = Walk::new(region);
     let mut answers = Vec::new(rt.alloc());
-    walk_on(&mut walk, &mut paged, &mut answers)?;
+    walk_on(rt, &mut walk, &mut paged, &mut answers);
     let mut paged = Paged::new(paged.into_flash().into_inner());
     assert!(rt; region.start() + region.size() <= paged.len());
-    walk_on(&mut walk, &mut paged, &mut answers)?;
+    walk_on(rt, &mut walk, &mut paged, &mut answers);
     same_answers(rt, &answers, want);
-    Ok(())
 }
 
 #[test]
-fn a_walk_goes_on_after_each_fault(rt: HostRuntime) -> Result<(), Fail> {
+fn a_walk_goes_on_after_each_fault(rt: HostRuntime) {
     let head = Head {
         len: 10,
         kind: RAW,
@@ -435,10 +413,9 @@ fn a_walk_goes_on_after_each_fault(rt: HostRuntime) -> Result<(), Fail> {
     let free = gives(4160, 340, NULL, 384);
     let end = Ok(Step::End);
     let fault = Err(WalkFault::Device);
-    goes_on(&rt, 0, &[fault, long, wide, free, end])?;
-    goes_on(&rt, 1, &[long, fault, wide, free, end])?;
-    goes_on(&rt, 2, &[long, wide, free, end, end])?;
-    Ok(())
+    goes_on(&rt, 0, &[fault, long, wide, free, end]);
+    goes_on(&rt, 1, &[long, fault, wide, free, end]);
+    goes_on(&rt, 2, &[long, wide, free, end, end]);
 }
 
 /// Where a component stands that was found.
@@ -455,20 +432,18 @@ fn searches(
     calls: u64,
     name: &[u8],
     want: Result<Option<u64>, WalkFault>,
-) -> Result<(), Fail> {
-    let device = device_with(rt.alloc(), 4544, LONGER)?;
+) {
+    let device = device_with(rt, 4544, LONGER);
     let mut paged = Paged::new(FailAt::new(device, calls, 0));
-    let region = whole(&paged).ok_or("no region")?;
+    let region = whole(rt, &paged);
     equal(rt, &place_of(find(&mut paged, region, name)), &want);
-    Ok(())
 }
 
 #[test]
-fn a_search_tells_each_fault(rt: HostRuntime) -> Result<(), Fail> {
-    searches(&rt, 0, b"a", Err(WalkFault::Device))?;
-    searches(&rt, 1, b"a", Ok(Some(0)))?;
-    searches(&rt, 1, b"w", Err(WalkFault::Device))?;
-    searches(&rt, 2, b"w", Ok(Some(4032)))?;
-    searches(&rt, 2, b"z", Ok(None))?;
-    Ok(())
+fn a_search_tells_each_fault(rt: HostRuntime) {
+    searches(&rt, 0, b"a", Err(WalkFault::Device));
+    searches(&rt, 1, b"a", Ok(Some(0)));
+    searches(&rt, 1, b"w", Err(WalkFault::Device));
+    searches(&rt, 2, b"w", Ok(Some(4032)));
+    searches(&rt, 2, b"z", Ok(None));
 }
