@@ -2,33 +2,31 @@
 
 use cbfs_commands::{Command, Refusal};
 use cbfs_edit::{HashChoice, Spot};
-use cbfs_line::read_line;
-use std::test::Fail;
+use cbfs_line::{Line, read_line};
+use std::process::Abort;
 
-#[test]
-fn words_ask_for_a_command(rt: HostRuntime) -> Result<(), Fail> {
-    let words = ["img", "extract", "-n", "a", "-f", "x y"];
-    let Ok(line) = read_line(rt.alloc(), &words) else {
-        return Err("no line".into());
-    };
+/// The line has this file, and asks for this.
+fn asks_for(rt: &impl Abort, line: &Line<'_>, file: &str, command: Result<Command<'_>, Refusal>) {
     assert!(rt; line.image() == "img");
-    assert!(rt; line.file() == Some("x y"));
-    let region = b"COREBOOT";
-    let command = Command::Extract { region, name: b"a" };
-    assert_eq!(rt; line.command(), Ok(command));
-    Ok(())
+    assert!(rt; line.file() == Some(file));
+    assert_eq!(rt; line.command(), command);
 }
 
 #[test]
-fn a_line_with_every_option(rt: HostRuntime) -> Result<(), Fail> {
+fn words_ask_for_a_command(rt: HostRuntime) {
+    let words = ["img", "extract", "-n", "a", "-f", "x y"];
+    let line = read_line(rt.alloc(), &words).expect(&rt, "a line");
+    let region = b"COREBOOT";
+    let command = Command::Extract { region, name: b"a" };
+    asks_for(&rt, &line, "x y", Ok(command));
+}
+
+#[test]
+fn a_line_with_every_option(rt: HostRuntime) {
     let words = [
         "img", "add", "-r", "FW", "-n", "a", "-f", "x", "-t", "raw", "-a", "64", "-A", "sha512",
     ];
-    let Ok(line) = read_line(rt.alloc(), &words) else {
-        return Err("no line".into());
-    };
-    assert!(rt; line.image() == "img");
-    assert!(rt; line.file() == Some("x"));
+    let line = read_line(rt.alloc(), &words).expect(&rt, "a line");
     let command = Command::Add {
         region: b"FW",
         name: b"a",
@@ -36,8 +34,7 @@ fn a_line_with_every_option(rt: HostRuntime) -> Result<(), Fail> {
         hash: HashChoice::Sha512,
         spot: Spot::Aligned(64),
     };
-    assert_eq!(rt; line.command(), Ok(command));
-    Ok(())
+    asks_for(&rt, &line, "x", Ok(command));
 }
 
 #[test]
@@ -45,23 +42,24 @@ fn a_line_without_a_command(rt: HostRuntime) {
     assert!(rt; read_line(rt.alloc(), &["img"]).err() == Some(Refusal::Usage));
 }
 
-#[test]
-fn words_ask_for_a_new_image(rt: HostRuntime) -> Result<(), Fail> {
-    let words = ["img", "create", "-M", "t", "-r", "B,C"];
-    let Ok(line) = read_line(rt.alloc(), &words) else {
-        return Err("no line".into());
-    };
-    assert!(rt; line.file() == Some("t"));
+/// The line asks for an image with these regions.
+fn creates(rt: &impl Abort, line: &Line<'_>, wanted: &[&[u8]]) {
     let Ok(Command::Create { regions }) = line.command() else {
-        return Err("no creation".into());
+        rt.panic("no creation");
     };
-    let wanted: [&[u8]; 2] = [b"B", b"C"];
-    assert!(rt; regions.as_slice() == wanted.as_slice());
-    Ok(())
+    assert!(rt; regions.as_slice() == wanted);
 }
 
 #[test]
-fn seventeen_regions_are_too_many(rt: HostRuntime) -> Result<(), Fail> {
+fn words_ask_for_a_new_image(rt: HostRuntime) {
+    let words = ["img", "create", "-M", "t", "-r", "B,C"];
+    let line = read_line(rt.alloc(), &words).expect(&rt, "a line");
+    assert!(rt; line.file() == Some("t"));
+    creates(&rt, &line, &[b"B", b"C"]);
+}
+
+#[test]
+fn seventeen_regions_are_too_many(rt: HostRuntime) {
     let words = [
         "img",
         "create",
@@ -70,9 +68,6 @@ fn seventeen_regions_are_too_many(rt: HostRuntime) -> Result<(), Fail> {
         "-r",
         "A,B,C,D,E,F,G,H,I,J,K,L,M,N,O,P,Q",
     ];
-    let Ok(line) = read_line(rt.alloc(), &words) else {
-        return Err("no line".into());
-    };
-    assert!(rt; line.command() == Err(Refusal::Usage));
-    Ok(())
+    let line = read_line(rt.alloc(), &words).expect(&rt, "a line");
+    asks_for(&rt, &line, "t", Err(Refusal::Usage));
 }

@@ -4,9 +4,9 @@ use flash_store::WriteSink;
 use fmap_compiler::{ReadText, Refusal, run};
 use fmd_lang::{Expected, FmdFault};
 use std::alloc::{AllocError, Global};
+use std::fmt::Debug;
 use std::io::{self, ErrorKind, Read, Write};
 use std::process::Abort;
-use std::test::Fail;
 
 const TEXT: &[u8] = b"FLASH@0xff000000 0x1000 { FMAP 0x200 COREBOOT(CBFS) }";
 
@@ -112,6 +112,11 @@ impl Write for Short {
     }
 }
 
+/// Two values are equal. A call of this is proved sooner than an assertion in place.
+fn equal<T: PartialEq + Debug>(rt: &impl Abort, left: &T, right: &T) {
+    assert_eq!(rt; *left, *right);
+}
+
 fn same_bytes(rt: &impl Abort, left: &[u8], right: &[u8]) {
     assert_eq!(rt; left, right);
 }
@@ -125,8 +130,8 @@ fn compiles<R: Read + Drop>(
 ) {
     let mut writer = WriteSink::new(Vec::new(rt.alloc()));
     let answer = run(rt.alloc(), &mut ReadText::new(reader), &mut writer);
-    assert_eq!(rt; answer, wanted);
-    assert_eq!(rt; writer.into_inner().as_slice(), bytes);
+    equal(rt, &answer, &wanted);
+    same_bytes(rt, &writer.into_inner(), bytes);
 }
 
 /// A reader of the text by pieces.
@@ -139,14 +144,13 @@ fn in_pieces(pieces: &[usize], good: usize) -> Pieces<'_> {
 }
 
 #[test]
-fn any_pieces_make_the_same_table(rt: HostRuntime) -> Result<(), Fail> {
-    let table = table(rt.alloc())?;
+fn any_pieces_make_the_same_table(rt: HostRuntime) {
+    let table = table(rt.alloc()).expect(&rt, "memory");
     let sizes = [1, 2, 3, 5, 8, 13, 21];
     compiles(&rt, in_pieces(&[], usize::MAX), Ok(()), &table);
     compiles(&rt, in_pieces(&sizes, usize::MAX), Ok(()), &table);
     compiles(&rt, in_pieces(&[4096], usize::MAX), Ok(()), &table);
     compiles(&rt, TEXT, Ok(()), &table);
-    Ok(())
 }
 
 #[test]
@@ -180,29 +184,27 @@ fn writes(
     room: usize,
     wanted: Result<(), Refusal>,
     written: usize,
-) -> Result<(), Fail> {
-    let table = table(rt.alloc())?;
+) {
+    let table = table(rt.alloc()).expect(rt, "memory");
     let taken = Vec::new(rt.alloc());
     let mut writer = WriteSink::new(Short { taken, piece, room });
     let answer = run(rt.alloc(), &mut ReadText::new(TEXT), &mut writer);
-    assert_eq!(rt; answer, wanted, "{piece} bytes a call, {room} in all");
-    let prefix = table.get(..written).ok_or("prefix")?;
+    equal(rt, &answer, &wanted);
+    let prefix = table.get(..written).expect(rt, "a prefix");
     same_bytes(rt, &writer.into_inner().taken, prefix);
-    Ok(())
 }
 
 #[test]
-fn a_writer_that_fails_has_a_prefix_of_the_table(rt: HostRuntime) -> Result<(), Fail> {
+fn a_writer_that_fails_has_a_prefix_of_the_table(rt: HostRuntime) {
     let fault = Err(Refusal::Output);
-    writes(&rt, 140, 60, fault, 60)?;
-    writes(&rt, 7, 60, fault, 60)?;
-    writes(&rt, 140, 139, fault, 139)?;
-    writes(&rt, 140, 0, fault, 0)?;
-    writes(&rt, 3, 140, Ok(()), 140)?;
-    writes(&rt, 1, 140, Ok(()), 140)?;
+    writes(&rt, 140, 60, fault, 60);
+    writes(&rt, 7, 60, fault, 60);
+    writes(&rt, 140, 139, fault, 139);
+    writes(&rt, 140, 0, fault, 0);
+    writes(&rt, 3, 140, Ok(()), 140);
+    writes(&rt, 1, 140, Ok(()), 140);
     // It takes nothing, and doesn't fail.
-    writes(&rt, 0, 140, fault, 0)?;
-    Ok(())
+    writes(&rt, 0, 140, fault, 0);
 }
 
 /// So many blanks are refused so, and so many are read.
@@ -210,9 +212,9 @@ fn refused_blanks(rt: &(impl Abort + AllocGlobal), left: usize, fault: FmdFault,
     let mut reader = ReadText::new(Blanks { left, taken: 0 });
     let mut writer = WriteSink::new(Vec::new(rt.alloc()));
     let answer = run(rt.alloc(), &mut reader, &mut writer);
-    assert_eq!(rt; answer, Err(Refusal::Descriptor(fault)), "{left} blanks");
-    assert_eq!(rt; reader.into_inner().taken, taken, "{left} blanks");
-    assert_eq!(rt; writer.into_inner().len(), 0, "{left} blanks");
+    equal(rt, &answer, &Err(Refusal::Descriptor(fault)));
+    equal(rt, &reader.into_inner().taken, &taken);
+    equal(rt, &writer.into_inner().len(), &0);
 }
 
 #[test]
@@ -230,17 +232,15 @@ fn no_more_is_read_than_tells_that_a_text_is_too_long(rt: HostRuntime) {
     refused_blanks(&rt, 0, no_section, 0);
 }
 
-fn told(rt: &(impl Abort + AllocGlobal), refusal: Refusal, text: &str) -> Result<(), Fail> {
-    let told = format!(in rt.alloc(); "{refusal}")?;
+fn told(rt: &(impl Abort + AllocGlobal), refusal: Refusal, text: &str) {
+    let told = format!(in rt.alloc(); "{refusal}").expect(rt, "memory");
     assert_eq!(rt; told.as_str(), text);
-    Ok(())
 }
 
 #[test]
-fn refusals_are_told_by_their_texts(rt: HostRuntime) -> Result<(), Fail> {
+fn refusals_are_told_by_their_texts(rt: HostRuntime) {
     let fault = Refusal::Descriptor(FmdFault::NoFmap);
-    told(&rt, fault, "no FMAP section")?;
-    told(&rt, Refusal::Read, "read fault")?;
-    told(&rt, Refusal::Output, "output fault")?;
-    Ok(())
+    told(&rt, fault, "no FMAP section");
+    told(&rt, Refusal::Read, "read fault");
+    told(&rt, Refusal::Output, "output fault");
 }
