@@ -7,11 +7,10 @@ use flash_store::{
 };
 use std::alloc::{AllocError, Global};
 use std::fmt::Debug;
-use std::fs;
 use std::fs::{File, OpenOptions};
 use std::process::Abort;
 use std::rt::Files;
-use std::test::Fail;
+use std::{fs, io};
 
 /// An image of 0xff with these bytes at a place, as far as they lie inside.
 fn image(alloc: Global, len: usize, at: usize, part: &[u8]) -> Result<Vec<u8>, AllocError> {
@@ -22,6 +21,18 @@ fn image(alloc: Global, len: usize, at: usize, part: &[u8]) -> Result<Vec<u8>, A
         }
     }
     Ok(bytes)
+}
+
+/// A device in memory with such an image.
+fn device(rt: &(impl Abort + AllocGlobal), len: usize, at: usize, part: &[u8]) -> MemFlash {
+    let bytes = image(rt.alloc(), len, at, part).expect(rt, "memory");
+    MemFlash::new(bytes).expect(rt, "a device")
+}
+
+/// The bytes are such an image.
+fn is_image(rt: &(impl Abort + AllocGlobal), bytes: &[u8], len: usize, at: usize, part: &[u8]) {
+    let expected = image(rt.alloc(), len, at, part).expect(rt, "memory");
+    same_bytes(rt, bytes, expected.as_slice());
 }
 
 /// Two values are equal. A test that calls this is proved in a third of a second, and not in the two seconds of an
@@ -153,14 +164,13 @@ fn pull_and_push<F: Flash, S: Source>(
     paged: &mut Paged<F>,
     source: &mut S,
     at: u64,
-) -> Result<(), Fail> {
+) {
     let len = paged.len();
     let has = source.len();
     assert!(rt; at <= len && has <= PIECE as u64);
     assert!(rt; has <= len - at);
-    let _pulled = paged.pull(source, 0, has as usize)?;
-    paged.push(at)?;
-    Ok(())
+    let _pulled = paged.pull(source, 0, has as usize).expect(rt, "a piece");
+    paged.push(at).expect(rt, "a write");
 }
 
 fn read_small<F: Flash>(
@@ -196,18 +206,18 @@ fn head() -> [u8; FmapHead::LENGTH] {
     head
 }
 
-fn found_at(bytes: Vec<u8>) -> Result<Option<u64>, Fail> {
-    let mut paged = Paged::new(MemFlash::new(bytes)?);
-    Ok(find_fmap(&mut paged)?.map(|map| map.at))
+/// Where the map is found that begins at a place.
+fn found_at(rt: &(impl Abort + AllocGlobal), place: usize) -> Option<u64> {
+    let mut paged = Paged::new(device(rt, 8192, place, &head()));
+    let found = find_fmap(&mut paged).expect(rt, "a search");
+    found.map(|map| map.at)
 }
 
 #[test]
-fn a_map_is_found_at_each_place_across_pieces(rt: HostRuntime) -> Result<(), Fail> {
+fn a_map_is_found_at_each_place_across_pieces(rt: HostRuntime) {
     for place in 4083..4104 {
-        let bytes = image(rt.alloc(), 8192, place, &head())?;
-        equal(&rt, &found_at(bytes)?, &Some(place as u64));
+        equal(&rt, &found_at(&rt, place), &Some(place as u64));
     }
-    Ok(())
 }
 
 /// The map of a flash of 4096 bytes at 0xff000000 with the areas FMAP of 512 bytes and COREBOOT of the rest.
@@ -219,31 +229,29 @@ FMAP\x00\x00\x00\x00\x00\x00\x00\x00\x00\x00\x00\x00\x00\x00\x00\x00\x00\x00\x00
 COREBOOT\x00\x00\x00\x00\x00\x00\x00\x00\x00\x00\x00\x00\x00\x00\x00\x00\x00\x00\x00\x00\x00\x00\x00\x00\x00\x00";
 
 #[test]
-fn areas_are_those_of_the_map(rt: HostRuntime) -> Result<(), Fail> {
-    let bytes = image(rt.alloc(), 4096, 0x80, &MAP)?;
-    let mut paged = Paged::new(MemFlash::new(bytes)?);
-    expect_area(&rt, &mut paged)
+fn areas_are_those_of_the_map(rt: HostRuntime) {
+    expect_area(&rt, &mut Paged::new(device(&rt, 4096, 0x80, &MAP)));
 }
 
 /// The map of MAP at 0x80, and its second area.
-fn expect_area<F: Flash>(rt: &impl Abort, paged: &mut Paged<F>) -> Result<(), Fail> {
-    let map = find_fmap(paged)?.ok_or("no map")?;
+fn expect_area<F: Flash>(rt: &impl Abort, paged: &mut Paged<F>) {
+    let found = find_fmap(paged).expect(rt, "a search");
+    let map = found.expect(rt, "a map");
     assert!(rt; map.head.nareas == 2);
-    let second = area(paged, &map, 1)?;
+    let second = area(paged, &map, 1).expect(rt, "an area");
     equal(
         rt,
         &(map.at, second.offset, second.size),
         &(0x80, 0x200, 0xe00),
     );
-    Ok(())
 }
 
 #[test]
-fn a_region_is_refused_in_order(rt: HostRuntime) -> Result<(), Fail> {
-    look_up(&rt, 4096, b"COREBOOT", Ok((0x200, 0xe00)))?;
-    look_up(&rt, 768, b"COREBOOT", Err(StoreFault::RegionOutside))?;
-    look_up(&rt, 768, b"NONE", Err(StoreFault::NoRegion))?;
-    look_up(&rt, 100, b"COREBOOT", Err(StoreFault::NoFmap))
+fn a_region_is_refused_in_order(rt: HostRuntime) {
+    look_up(&rt, 4096, b"COREBOOT", Ok((0x200, 0xe00)));
+    look_up(&rt, 768, b"COREBOOT", Err(StoreFault::RegionOutside));
+    look_up(&rt, 768, b"NONE", Err(StoreFault::NoRegion));
+    look_up(&rt, 100, b"COREBOOT", Err(StoreFault::NoFmap));
 }
 
 /// The region of a name in so many bytes that begin with the map.
@@ -252,23 +260,18 @@ fn look_up(
     len: usize,
     word: &[u8],
     expected: Result<(u64, u64), StoreFault>,
-) -> Result<(), Fail> {
-    let bytes = image(rt.alloc(), len, 0, &MAP)?;
-    let mut paged = Paged::new(MemFlash::new(bytes)?);
+) {
+    let mut paged = Paged::new(device(rt, len, 0, &MAP));
     let answer = region(&mut paged, word).map(|found| (found.start(), found.size()));
     equal(rt, &answer, &expected);
-    Ok(())
 }
 
 #[test]
-fn a_device_refuses_after_its_first_calls(rt: HostRuntime) -> Result<(), Fail> {
-    let device = MemFlash::new(image(rt.alloc(), 64, 0, &[])?)?;
-    let mut device = FailAt::new(device, 2, 3);
+fn a_device_refuses_after_its_first_calls(rt: HostRuntime) {
+    let mut device = FailAt::new(device(&rt, 64, 0, &[]), 2, 3);
     let answers = passes(&rt, &mut device);
     equal(&rt, &answers, &[true, true, false, false, false]);
-    let left = image(rt.alloc(), 64, 0, b"first...sec")?;
-    same_bytes(&rt, device.into_inner().bytes(), left.as_slice());
-    Ok(())
+    is_image(&rt, device.into_inner().bytes(), 64, 0, b"first...sec");
 }
 
 /// Which of five calls pass.
@@ -335,21 +338,21 @@ impl<F: Flash> Flash for Counting<F> {
 }
 
 /// A buffer over a counting device of 9000 numbered bytes.
-fn counted(alloc: Global) -> Result<Paged<Counting<MemFlash>>, Fail> {
-    let device = MemFlash::new(numbered(alloc, 9000)?)?;
-    Ok(Paged::new(Counting { device, reads: 0 }))
+fn counted(rt: &(impl Abort + AllocGlobal)) -> Paged<Counting<MemFlash>> {
+    let bytes = numbered(rt.alloc(), 9000).expect(rt, "memory");
+    let device = MemFlash::new(bytes).expect(rt, "a device");
+    Paged::new(Counting { device, reads: 0 })
 }
 
 #[test]
-fn a_range_inside_the_window_makes_no_call(rt: HostRuntime) -> Result<(), Fail> {
-    let mut paged = counted(rt.alloc())?;
+fn a_range_inside_the_window_makes_no_call(rt: HostRuntime) {
+    let mut paged = counted(&rt);
     // a window from 100 on, all of it, its last byte, one byte more, and one byte before the next window
     equal(&rt, &reads(&rt, &mut paged, 100, 1), &1);
     equal(&rt, &reads(&rt, &mut paged, 100, 4096), &1);
     equal(&rt, &reads(&rt, &mut paged, 4195, 1), &1);
     equal(&rt, &reads(&rt, &mut paged, 4195, 2), &2);
     equal(&rt, &reads(&rt, &mut paged, 4194, 1), &3);
-    Ok(())
 }
 
 /// How many reads were made once so many bytes were read.
@@ -359,23 +362,21 @@ fn reads(rt: &impl Abort, paged: &mut Paged<Counting<MemFlash>>, at: u64, n: usi
 }
 
 #[test]
-fn what_is_read_after_a_write_is_what_the_device_holds(rt: HostRuntime) -> Result<(), Fail> {
-    let mut paged = counted(rt.alloc())?;
-    write_each(&rt, &mut paged)
+fn what_is_read_after_a_write_is_what_the_device_holds(rt: HostRuntime) {
+    write_each(&rt, &mut counted(&rt));
 }
 
 /// Writes in each way into the window that the check before has loaded.
-fn write_each(rt: &impl Abort, paged: &mut Paged<Counting<MemFlash>>) -> Result<(), Fail> {
+fn write_each(rt: &impl Abort, paged: &mut Paged<Counting<MemFlash>>) {
     agrees(rt, paged, &[110]);
-    pull_and_push(rt, paged, &mut source_of(rt, b"pushed"), 110)?;
+    pull_and_push(rt, paged, &mut source_of(rt, b"pushed"), 110);
     agrees(rt, paged, b"pushed");
-    commit(rt, paged, 110, &[2; HEADER_LENGTH])?;
+    commit(rt, paged, 110, &[2; HEADER_LENGTH]).expect(rt, "a commit");
     agrees(rt, paged, &[2; HEADER_LENGTH]);
-    fill(rt, paged, 110, 5, 7)?;
+    fill(rt, paged, 110, 5, 7).expect(rt, "a fill");
     agrees(rt, paged, &[7; 5]);
-    copy_in(rt, paged, 110, 6, &mut source_of(rt, b"copied"))?;
+    copy_in(rt, paged, 110, 6, &mut source_of(rt, b"copied")).expect(rt, "a copy");
     agrees(rt, paged, b"copied");
-    Ok(())
 }
 
 /// A read gives these bytes from 110 on, and after them what the device holds.
@@ -391,18 +392,18 @@ fn agrees(rt: &impl Abort, paged: &mut Paged<Counting<MemFlash>>, written: &[u8]
 }
 
 /// A file of 100 numbered bytes that moves at most 7 bytes a call and is interrupted at every fourth.
-fn flaky(rt: &(impl Abort + AllocGlobal), calls: u64) -> Result<FlakyFile, Fail> {
-    let bytes = numbered(rt.alloc(), 100)?;
+fn flaky(rt: &(impl Abort + AllocGlobal), calls: u64) -> FlakyFile {
+    let bytes = numbered(rt.alloc(), 100).expect(rt, "memory");
     assert!(rt; bytes.len() < 1 << 32);
-    Ok(FlakyFile::new(bytes, 7, 3, calls))
+    FlakyFile::new(bytes, 7, 3, calls)
 }
 
 #[test]
-fn a_device_in_a_file_moves_all(rt: HostRuntime) -> Result<(), Fail> {
-    let mut device = StoredFlash::new(Ahead::new(Erased::new(flaky(&rt, 1000)?)));
+fn a_device_in_a_file_moves_all(rt: HostRuntime) {
+    let mut device = StoredFlash::new(Ahead::new(Erased::new(flaky(&rt, 1000))));
     move_parts(&rt, &mut device);
     let file = device.into_inner().into_inner().into_inner();
-    holds_parts(&rt, file.bytes())
+    holds_parts(&rt, file.bytes());
 }
 
 /// Reads some of the numbered bytes, writes over some and over the first but one.
@@ -415,12 +416,11 @@ fn move_parts<F: Flash>(rt: &impl Abort, device: &mut F) {
 }
 
 /// The numbered bytes with these parts.
-fn holds_parts(rt: &(impl Abort + AllocGlobal), bytes: &[u8]) -> Result<(), Fail> {
-    let mut wanted = numbered(rt.alloc(), 100)?;
+fn holds_parts(rt: &(impl Abort + AllocGlobal), bytes: &[u8]) {
+    let mut wanted = numbered(rt.alloc(), 100).expect(rt, "memory");
     write_over(rt, wanted.as_mut_slice(), 20, &[200; 60]);
     write_over(rt, wanted.as_mut_slice(), 1, &[2; HEADER_LENGTH]);
     same_bytes(rt, bytes, wanted.as_slice());
-    Ok(())
 }
 
 /// Puts bytes in place of those from `at` on.
@@ -430,13 +430,11 @@ fn write_over(rt: &impl Abort, bytes: &mut [u8], at: usize, new: &[u8]) {
 }
 
 #[test]
-fn a_source_in_a_file_moves_all(rt: HostRuntime) -> Result<(), Fail> {
-    let mut source = StoredSource::new(flaky(&rt, 1000)?);
+fn a_source_in_a_file_moves_all(rt: HostRuntime) {
     let mut seen = [0; 100];
-    read_source(&rt, &mut source, &mut seen);
-    let wanted = numbered(rt.alloc(), 100)?;
+    read_source(&rt, &mut StoredSource::new(flaky(&rt, 1000)), &mut seen);
+    let wanted = numbered(rt.alloc(), 100).expect(&rt, "memory");
     same_bytes(&rt, &seen, wanted.as_slice());
-    Ok(())
 }
 
 /// Reads a source from its start on.
@@ -446,16 +444,12 @@ fn read_source<S: Source>(rt: &impl Abort, source: &mut S, out: &mut [u8]) {
 }
 
 #[test]
-fn a_file_is_erased(rt: HostRuntime) -> Result<(), Fail> {
-    let Ok(file) = Erased::erase(flaky(&rt, 1000)?) else {
-        return Err("refused")?;
-    };
+fn a_file_is_erased(rt: HostRuntime) {
+    let file = Erased::erase(flaky(&rt, 1000)).expect(&rt, "an erased file");
     let mut device = StoredFlash::new(file);
     erase_parts(&rt, &mut device);
-    let wanted = image(rt.alloc(), 100, 31, b"ew")?;
     let file = device.into_inner().into_inner();
-    same_bytes(&rt, file.bytes(), wanted.as_slice());
-    Ok(())
+    is_image(&rt, file.bytes(), 100, 31, b"ew");
 }
 
 /// Writes over 0xff, and 0xff over the first byte of that again.
@@ -466,48 +460,60 @@ fn erase_parts<F: Flash>(rt: &impl Abort, device: &mut F) {
 }
 
 #[test]
-fn a_file_that_refuses_is_not_erased(rt: HostRuntime) -> Result<(), Fail> {
-    let refused = Erased::erase(flaky(&rt, 10)?).is_err();
+fn a_file_that_refuses_is_not_erased(rt: HostRuntime) {
+    let refused = Erased::erase(flaky(&rt, 10)).is_err();
     assert!(rt; refused);
-    Ok(())
+}
+
+/// Makes a file of these bytes.
+fn write(rt: &(impl Abort + Files<File = File>), path: &str, bytes: &[u8]) {
+    fs::write(rt, path, bytes).expect(rt, "a file");
+}
+
+fn remove(rt: &(impl Abort + Files<File = File>), path: &str) {
+    fs::remove_file(rt, path).expect(rt, "a file");
+}
+
+/// A file holds such an image.
+fn file_is_image(
+    rt: &(impl Abort + AllocGlobal + Files<File = File>),
+    path: &str,
+    len: usize,
+    at: usize,
+    part: &[u8],
+) {
+    let bytes = fs::read(rt, path).expect(rt, "a file");
+    is_image(rt, bytes.as_slice(), len, at, part);
 }
 
 #[test]
-fn a_file_is_written_and_read(rt: HostRuntime) -> Result<(), Fail> {
-    fs::write(&rt, "input.bin", "0123456789")?;
-    write_image(&rt)?;
-    read_image(&rt)?;
-    fs::remove_file(&rt, "image.bin")?;
-    fs::remove_file(&rt, "input.bin")?;
-    Ok(())
+fn a_file_is_written_and_read(rt: HostRuntime) {
+    write(&rt, "input.bin", b"0123456789");
+    write_image(&rt);
+    read_image(&rt);
+    remove(&rt, "image.bin");
+    remove(&rt, "input.bin");
 }
 
-fn write_image(rt: &(impl AllocGlobal + Files<File = File>)) -> Result<(), Fail> {
-    let bytes = image(rt.alloc(), 5000, 0, &[])?;
-    fs::write(rt, "image.bin", bytes.as_slice())?;
-    Ok(())
+fn write_image(rt: &(impl Abort + AllocGlobal + Files<File = File>)) {
+    let bytes = image(rt.alloc(), 5000, 0, &[]).expect(rt, "memory");
+    write(rt, "image.bin", bytes.as_slice());
 }
 
 /// What the changed image tells, and what its file holds, are a header and the input after it.
-fn read_image(rt: &(impl Abort + AllocGlobal + Files<File = File>)) -> Result<(), Fail> {
+fn read_image(rt: &(impl Abort + AllocGlobal + Files<File = File>)) {
     let mut out = WriteSink::new(Vec::new(rt.alloc()));
-    change_file(rt, &mut out)?;
+    change_file(rt, &mut out);
     let mut written = [2; 38];
     written[HEADER_LENGTH..].copy_from_slice(b"0123456789");
-    let expected = image(rt.alloc(), 5000, 4062, &written)?;
-    same_bytes(rt, out.into_inner().as_slice(), expected.as_slice());
-    same_bytes(
-        rt,
-        fs::read(rt, "image.bin")?.as_slice(),
-        expected.as_slice(),
-    );
-    Ok(())
+    is_image(rt, out.into_inner().as_slice(), 5000, 4062, &written);
+    file_is_image(rt, "image.bin", 5000, 4062, &written);
 }
 
-fn change_file<W: Sink>(rt: &(impl Abort + Files<File = File>), out: &mut W) -> Result<(), Fail> {
-    let mut paged = Paged::new(FileFlash::open(rt, "image.bin")?);
-    let mut source = FileSource::open(rt, "input.bin")?;
-    change(rt, &mut paged, &mut source, out)
+fn change_file<W: Sink>(rt: &(impl Abort + Files<File = File>), out: &mut W) {
+    let device = FileFlash::open(rt, "image.bin").expect(rt, "an image");
+    let mut source = FileSource::open(rt, "input.bin").expect(rt, "a source");
+    change(rt, &mut Paged::new(device), &mut source, out);
 }
 
 /// Commits a header, copies the input after it, and tells the whole image.
@@ -516,45 +522,41 @@ fn change<F: Flash, S: Source, W: Sink>(
     paged: &mut Paged<F>,
     source: &mut S,
     out: &mut W,
-) -> Result<(), Fail> {
-    commit(rt, paged, 4062, &[2; HEADER_LENGTH])?;
-    copy_in(rt, paged, 4090, 10, source)?;
-    copy_out(rt, paged, 0, 5000, out)?;
-    Ok(())
+) {
+    commit(rt, paged, 4062, &[2; HEADER_LENGTH]).expect(rt, "a commit");
+    copy_in(rt, paged, 4090, 10, source).expect(rt, "a copy");
+    copy_out(rt, paged, 0, 5000, out).expect(rt, "a text");
 }
 
 #[test]
-fn a_file_that_was_cut_refuses_what_it_lost(rt: HostRuntime) -> Result<(), Fail> {
-    fs::write(&rt, "cut.bin", "0123456789")?;
-    equal(&rt, &read_cut(&rt)?, &[true, false]);
-    fs::remove_file(&rt, "cut.bin")?;
-    Ok(())
+fn a_file_that_was_cut_refuses_what_it_lost(rt: HostRuntime) {
+    write(&rt, "cut.bin", b"0123456789");
+    equal(&rt, &read_cut(&rt), &[true, false]);
+    remove(&rt, "cut.bin");
 }
 
-fn read_cut(rt: &(impl Abort + Files<File = File>)) -> Result<[bool; 2], Fail> {
-    let mut device = FileFlash::open(rt, "cut.bin")?;
-    fs::write(rt, "cut.bin", "01234")?;
-    Ok(first_and_last(rt, &mut device))
+fn read_cut(rt: &(impl Abort + Files<File = File>)) -> [bool; 2] {
+    let mut device = FileFlash::open(rt, "cut.bin").expect(rt, "an image");
+    write(rt, "cut.bin", b"01234");
+    first_and_last(rt, &mut device)
 }
 
 #[test]
-fn a_source_that_was_cut_refuses_what_it_lost(rt: HostRuntime) -> Result<(), Fail> {
-    let mut source = cut_source(&rt)?;
-    let mut paged = Paged::new(MemFlash::new(image(rt.alloc(), 5000, 0, &[])?)?);
+fn a_source_that_was_cut_refuses_what_it_lost(rt: HostRuntime) {
+    let mut source = cut_source(&rt);
+    let mut paged = Paged::new(device(&rt, 5000, 0, &[]));
     let copied = copy_in(&rt, &mut paged, 0, 5000, &mut source);
     equal(&rt, &copied, &Err(CopyFault::Source));
-    let left = image(rt.alloc(), 5000, 0, &[7; PIECE])?;
-    same_bytes(&rt, paged.flash().bytes(), left.as_slice());
-    Ok(())
+    is_image(&rt, paged.flash().bytes(), 5000, 0, &[7; PIECE]);
 }
 
 /// A source of 5000 bytes, of which the last 900 are gone.
-fn cut_source(rt: &(impl AllocGlobal + Files<File = File>)) -> Result<FileSource, Fail> {
-    fs::write(rt, "source.bin", [7; 5000].as_slice())?;
-    let source = FileSource::open(rt, "source.bin")?;
-    fs::write(rt, "source.bin", [7; 4100].as_slice())?;
-    fs::remove_file(rt, "source.bin")?;
-    Ok(source)
+fn cut_source(rt: &(impl Abort + Files<File = File>)) -> FileSource {
+    write(rt, "source.bin", &[7; 5000]);
+    let source = FileSource::open(rt, "source.bin").expect(rt, "a source");
+    write(rt, "source.bin", &[7; 4100]);
+    remove(rt, "source.bin");
+    source
 }
 
 /// Which of two reads pass.
@@ -576,51 +578,45 @@ fn opened(
 }
 
 #[test]
-fn files_are_opened_by_their_length(rt: HostRuntime) -> Result<(), Fail> {
+fn files_are_opened_by_their_length(rt: HostRuntime) {
     let _absent = fs::remove_file(&rt, "absent.bin");
-    open_sparse(&rt, 0xffff_ffff, Ok(0xffff_ffff))?;
-    open_sparse(&rt, 1 << 32, Err(OpenFault::TooLarge))?;
-    fs::remove_file(&rt, "sparse.bin")?;
+    open_sparse(&rt, 0xffff_ffff, Ok(0xffff_ffff));
+    open_sparse(&rt, 1 << 32, Err(OpenFault::TooLarge));
+    remove(&rt, "sparse.bin");
     let failed = Err(OpenFault::Failed);
     equal(&rt, &opened(&rt, "absent.bin"), &(failed, failed));
-    Ok(())
 }
 
-fn open_sparse(
-    rt: &(impl Abort + Files<File = File>),
-    len: u64,
-    answer: Result<u64, OpenFault>,
-) -> Result<(), Fail> {
+fn open_sparse(rt: &(impl Abort + Files<File = File>), len: u64, answer: Result<u64, OpenFault>) {
+    make_sparse(rt, len).expect(rt, "a file");
+    equal(rt, &opened(rt, "sparse.bin"), &(answer, answer));
+}
+
+fn make_sparse(rt: &impl Files<File = File>, len: u64) -> io::Result<()> {
     let file = OpenOptions::new()
         .write(true)
         .create(true)
         .open(rt, "sparse.bin")?;
-    file.set_len(len)?;
-    equal(rt, &opened(rt, "sparse.bin"), &(answer, answer));
-    Ok(())
+    file.set_len(len)
 }
 
 #[test]
-fn a_file_is_made_for_a_device(rt: HostRuntime) -> Result<(), Fail> {
-    make(&rt, 5000)?;
-    make(&rt, 4096)?;
-    make(&rt, 0)?;
+fn a_file_is_made_for_a_device(rt: HostRuntime) {
+    make(&rt, 5000);
+    make(&rt, 4096);
+    make(&rt, 0);
     // (around the pieces in which it is written)
-    make(&rt, 65536)?;
-    make(&rt, 65537)?;
-    make(&rt, 200_000)?;
-    fs::remove_file(&rt, "made.bin")?;
+    make(&rt, 65536);
+    make(&rt, 65537);
+    make(&rt, 200_000);
+    remove(&rt, "made.bin");
     let refused = FileFlash::create(&rt, "absent/made.bin", 1).map(|device| device.len());
     equal(&rt, &refused, &Err(OpenFault::Failed));
-    Ok(())
 }
 
 /// The device has its length, and its file so many bytes 0xff and no others.
-fn make(rt: &(impl Abort + AllocGlobal + Files<File = File>), size: u32) -> Result<(), Fail> {
-    let device = FileFlash::create(rt, "made.bin", size)?;
+fn make(rt: &(impl Abort + AllocGlobal + Files<File = File>), size: u32) {
+    let device = FileFlash::create(rt, "made.bin", size).expect(rt, "a device");
     equal(rt, &device.len(), &u64::from(size));
-    let expected = image(rt.alloc(), size as usize, 0, &[])?;
-    let written = fs::read(rt, "made.bin")?;
-    same_bytes(rt, written.as_slice(), expected.as_slice());
-    Ok(())
+    file_is_image(rt, "made.bin", size as usize, 0, &[]);
 }
