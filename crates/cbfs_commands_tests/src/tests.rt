@@ -11,13 +11,11 @@ use flash_format::DamageKind;
 use flash_store::{
     FailAt, FileFlash, FileSource, Flash, MemFlash, MemSource, Paged, Source, WriteSink,
 };
-use std::alloc::{AllocError, Global};
 use std::fmt::Debug;
 use std::fs::{self, File};
 use std::io::{self, ErrorKind, Write};
 use std::process::Abort;
 use std::rt::Files;
-use std::test::Fail;
 
 /// The flashmap of an image of 4096 bytes: FMAP and COREBOOT of 512 bytes each, and REST.
 const MAP: [u8; 182] = *b"__FMAP__\x01\x01\x00\x00\x00\xff\x00\x00\x00\x00\x00\x10\x00\x00\
@@ -63,17 +61,25 @@ fn put(bytes: &mut [u8], at: usize, part: &[u8]) {
     }
 }
 
-fn image_of(alloc: Global, parts: Parts) -> Result<Vec<u8>, AllocError> {
-    let mut image = Vec::from_elem(alloc, 0xff, 4096)?;
+/// So many bytes of this value.
+fn filled(rt: &(impl Abort + AllocGlobal), byte: u8, len: usize) -> Vec<u8> {
+    Vec::from_elem(rt.alloc(), byte, len).expect(rt, "memory")
+}
+
+fn image_of(rt: &(impl Abort + AllocGlobal), parts: Parts) -> Vec<u8> {
+    let mut image = filled(rt, 0xff, 4096);
     for (at, part) in parts {
         put(&mut image, *at, part);
     }
-    Ok(image)
+    image
 }
 
-fn device_of(alloc: Global, parts: Parts) -> Result<Paged<MemFlash>, Fail> {
-    let device = MemFlash::new(image_of(alloc, parts)?)?;
-    Ok(Paged::new(device))
+fn device_with(rt: &impl Abort, image: Vec<u8>) -> MemFlash {
+    MemFlash::new(image).expect(rt, "a device")
+}
+
+fn device_of(rt: &(impl Abort + AllocGlobal), parts: Parts) -> Paged<MemFlash> {
+    Paged::new(device_with(rt, image_of(rt, parts)))
 }
 
 /// Two values are equal. A call of this is proved sooner than an assertion in place.
@@ -86,10 +92,9 @@ fn same_bytes(rt: &impl Abort, left: &[u8], right: &[u8]) {
 }
 
 /// A refusal is told by this text.
-fn told(rt: &(impl Abort + AllocGlobal), refusal: Refusal, text: &str) -> Result<(), Fail> {
-    let told = format!(in rt.alloc(); "{refusal}")?;
+fn told(rt: &(impl Abort + AllocGlobal), refusal: Refusal, text: &str) {
+    let told = format!(in rt.alloc(); "{refusal}").expect(rt, "memory");
     assert_eq!(rt; told.as_str(), text);
-    Ok(())
 }
 
 fn damage(at: u64, kind: DamageKind) -> Refusal {
@@ -97,42 +102,42 @@ fn damage(at: u64, kind: DamageKind) -> Refusal {
 }
 
 #[test]
-fn refusals_are_told_by_their_texts(rt: HostRuntime) -> Result<(), Fail> {
-    told(&rt, Refusal::Device, "device fault")?;
-    told(&rt, Refusal::Output, "output fault")?;
-    told(&rt, Refusal::Source, "source fault")?;
-    told(&rt, Refusal::NoFmap, "no FMAP")?;
-    told(&rt, Refusal::NoRegion, "no such region")?;
-    told(&rt, Refusal::RegionOutside, "region outside the image")?;
-    told(&rt, Refusal::RegionShape, "bad region size")?;
-    told(&rt, Refusal::NotCbfs, "not a CBFS region")
+fn refusals_are_told_by_their_texts(rt: HostRuntime) {
+    told(&rt, Refusal::Device, "device fault");
+    told(&rt, Refusal::Output, "output fault");
+    told(&rt, Refusal::Source, "source fault");
+    told(&rt, Refusal::NoFmap, "no FMAP");
+    told(&rt, Refusal::NoRegion, "no such region");
+    told(&rt, Refusal::RegionOutside, "region outside the image");
+    told(&rt, Refusal::RegionShape, "bad region size");
+    told(&rt, Refusal::NotCbfs, "not a CBFS region");
 }
 
 #[test]
-fn damages_are_told_by_their_texts(rt: HostRuntime) -> Result<(), Fail> {
+fn damages_are_told_by_their_texts(rt: HostRuntime) {
     let offset = damage(0x40, DamageKind::Offset);
-    told(&rt, offset, "damaged entry at 0x40: offset")?;
+    told(&rt, offset, "damaged entry at 0x40: offset");
     let attributes = damage(0, DamageKind::AttrOffset);
-    told(&rt, attributes, "damaged entry at 0x0: attributes")?;
+    told(&rt, attributes, "damaged entry at 0x0: attributes");
     let extent = damage(0xabc0, DamageKind::Extent);
-    told(&rt, extent, "damaged entry at 0xabc0: extent")?;
+    told(&rt, extent, "damaged entry at 0xabc0: extent");
     let name = damage(0x40, DamageKind::Name);
-    told(&rt, name, "damaged entry at 0x40: name")?;
+    told(&rt, name, "damaged entry at 0x40: name");
     let length = damage(0x40, DamageKind::AttrLength);
-    told(&rt, length, "damaged entry at 0x40: attribute length")
+    told(&rt, length, "damaged entry at 0x40: attribute length");
 }
 
 #[test]
-fn more_refusals_are_told_by_their_texts(rt: HostRuntime) -> Result<(), Fail> {
-    told(&rt, Refusal::NotFound, "no such component")?;
-    told(&rt, Refusal::Compressed, "component is compressed")?;
+fn more_refusals_are_told_by_their_texts(rt: HostRuntime) {
+    told(&rt, Refusal::NotFound, "no such component");
+    told(&rt, Refusal::Compressed, "component is compressed");
     let size = "source size differs from the region";
-    told(&rt, Refusal::SourceSize, size)?;
-    told(&rt, Refusal::TableBad, "bad flashmap")?;
-    told(&rt, Refusal::FmapArea, "bad FMAP area")?;
-    told(&rt, Refusal::Usage, "bad command line")?;
-    told(&rt, Refusal::Memory, "out of memory")?;
-    told(&rt, Refusal::TooLarge, "image too large")
+    told(&rt, Refusal::SourceSize, size);
+    told(&rt, Refusal::TableBad, "bad flashmap");
+    told(&rt, Refusal::FmapArea, "bad FMAP area");
+    told(&rt, Refusal::Usage, "bad command line");
+    told(&rt, Refusal::Memory, "out of memory");
+    told(&rt, Refusal::TooLarge, "image too large");
 }
 
 /// A command is answered so, and writes this.
@@ -185,9 +190,14 @@ fn holds(rt: &impl Abort, paged: &Paged<MemFlash>, at: usize, wanted: &[u8]) {
     same_bytes(rt, rest.get(..wanted.len()).unwrap_or(&[]), wanted);
 }
 
+/// All bytes of the image are these.
+fn holds_image(rt: &(impl Abort + AllocGlobal), paged: &Paged<MemFlash>, parts: Parts) {
+    holds(rt, paged, 0, &image_of(rt, parts));
+}
+
 #[test]
-fn each_reading_command(rt: HostRuntime) -> Result<(), Fail> {
-    let mut paged = device_of(rt.alloc(), SMALL)?;
+fn each_reading_command(rt: HostRuntime) {
+    let mut paged = device_of(&rt, SMALL);
     writes(&rt, &mut paged, &PRINT, SHOWN);
     let map =
         b"fmap\t0x0\tFLASH\t4096\t3\nFMAP\t0x0\t512\t0x0\nCOREBOOT\t0x200\t512\t0x0\nREST\t0x400\t3072\t0x0\n";
@@ -197,22 +207,20 @@ fn each_reading_command(rt: HostRuntime) -> Result<(), Fail> {
         name: b"a",
     };
     writes(&rt, &mut paged, &extract, b"0123456789");
-    holds(&rt, &paged, 0, &image_of(rt.alloc(), SMALL)?);
-    Ok(())
+    holds_image(&rt, &paged, SMALL);
 }
 
 #[test]
-fn a_region_is_written_and_read(rt: HostRuntime) -> Result<(), Fail> {
-    let mut paged = device_of(rt.alloc(), SMALL)?;
+fn a_region_is_written_and_read(rt: HostRuntime) {
+    let mut paged = device_of(&rt, SMALL);
     answers(&rt, &mut paged, &WRITE, &[7; 512], Ok(()));
     writes(&rt, &mut paged, &READ, &[7; 512]);
-    holds(&rt, &paged, 0, &image_of(rt.alloc(), WRITTEN)?);
-    Ok(())
+    holds_image(&rt, &paged, WRITTEN);
 }
 
 #[test]
-fn a_component_is_removed(rt: HostRuntime) -> Result<(), Fail> {
-    let mut paged = device_of(rt.alloc(), SMALL)?;
+fn a_component_is_removed(rt: HostRuntime) {
+    let mut paged = device_of(&rt, SMALL);
     let remove = Command::Remove {
         region: COREBOOT,
         name: b"a",
@@ -221,12 +229,11 @@ fn a_component_is_removed(rt: HostRuntime) -> Result<(), Fail> {
     writes(&rt, &mut paged, &PRINT, b"(empty)\t0x0\tnull\t480\tnone\n");
     let fault = Err(Refusal::NotFound);
     answers(&rt, &mut paged, &remove, b"", fault);
-    Ok(())
 }
 
 #[test]
-fn a_device_that_fails_as_it_is_read(rt: HostRuntime) -> Result<(), Fail> {
-    let device = device_of(rt.alloc(), SMALL)?.into_flash();
+fn a_device_that_fails_as_it_is_read(rt: HostRuntime) {
+    let device = device_with(&rt, image_of(&rt, SMALL));
     let mut paged = Paged::new(FailAt::new(device, 0, 0));
     let fault = Err(Refusal::Device);
     runs(
@@ -237,7 +244,6 @@ fn a_device_that_fails_as_it_is_read(rt: HostRuntime) -> Result<(), Fail> {
         fault,
         b"",
     );
-    Ok(())
 }
 
 /// A writer over memory that takes `piece` bytes a call, and refuses once it has `room` bytes.
@@ -266,44 +272,54 @@ impl Write for Short {
     }
 }
 
+/// Lists an image, and writes a region of it.
+fn change<F: Flash, S: Source>(
+    rt: &(impl Abort + AllocGlobal),
+    paged: &mut Paged<F>,
+    source: &mut S,
+) {
+    runs(rt, paged, &PRINT, source, Ok(()), SHOWN);
+    runs(rt, paged, &WRITE, source, Ok(()), b"");
+}
+
+fn open_device(rt: &(impl Abort + Files<File = File>), image: &str) -> FileFlash {
+    FileFlash::open(rt, image).expect(rt, "an image")
+}
+
+fn open_source(rt: &(impl Abort + Files<File = File>), content: &str) -> FileSource {
+    FileSource::open(rt, content).expect(rt, "a source")
+}
+
 /// Lists an image in a file, and writes a region of it from another file.
-fn change(
-    rt: &(impl Abort + AllocGlobal + Files<File = File>),
-    image: &str,
-    content: &str,
-) -> Result<(), Fail> {
-    let mut paged = Paged::new(FileFlash::open(rt, image)?);
-    let mut source = FileSource::open(rt, content)?;
-    runs(rt, &mut paged, &PRINT, &mut source, Ok(()), SHOWN);
-    runs(rt, &mut paged, &WRITE, &mut source, Ok(()), b"");
-    Ok(())
+fn change_file(rt: &(impl Abort + AllocGlobal + Files<File = File>), image: &str, content: &str) {
+    let device = open_device(rt, image);
+    let mut source = open_source(rt, content);
+    change(rt, &mut Paged::new(device), &mut source);
+}
+
+/// Makes a file of these bytes.
+fn write_file(rt: &(impl Abort + Files<File = File>), name: &str, bytes: &[u8]) {
+    fs::write(rt, name, bytes).expect(rt, "a file");
 }
 
 /// The file has this image.
-fn file_holds(
-    rt: &(impl Abort + AllocGlobal + Files<File = File>),
-    image: &str,
-    parts: Parts,
-) -> Result<(), Fail> {
-    let wanted = image_of(rt.alloc(), parts)?;
-    same_bytes(rt, &fs::read(rt, image)?, &wanted);
-    Ok(())
+fn file_holds(rt: &(impl Abort + AllocGlobal + Files<File = File>), image: &str, parts: Parts) {
+    let bytes = fs::read(rt, image).expect(rt, "an image");
+    same_bytes(rt, &bytes, &image_of(rt, parts));
 }
 
 /// Removes the files that a test has made.
-fn remove(rt: &impl Files<File = File>, names: &[&str]) -> Result<(), Fail> {
+fn remove(rt: &(impl Abort + Files<File = File>), names: &[&str]) {
     for name in names {
-        fs::remove_file(rt, name)?;
+        fs::remove_file(rt, name).expect(rt, "a file");
     }
-    Ok(())
 }
 
 #[test]
-fn an_image_in_a_file(rt: HostRuntime) -> Result<(), Fail> {
-    let image = image_of(rt.alloc(), SMALL)?;
-    fs::write(&rt, "image.rom", image.as_slice())?;
-    fs::write(&rt, "source", [7; 512].as_slice())?;
-    change(&rt, "image.rom", "source")?;
-    file_holds(&rt, "image.rom", WRITTEN)?;
-    remove(&rt, &["image.rom", "source"])
+fn an_image_in_a_file(rt: HostRuntime) {
+    write_file(&rt, "image.rom", &image_of(&rt, SMALL));
+    write_file(&rt, "source", &[7; 512]);
+    change_file(&rt, "image.rom", "source");
+    file_holds(&rt, "image.rom", WRITTEN);
+    remove(&rt, &["image.rom", "source"]);
 }

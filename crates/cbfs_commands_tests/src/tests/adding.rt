@@ -1,10 +1,11 @@
 //! Components that are added to a region.
 
-use super::{A, COREBOOT, MAP, PRINT, Parts, answers, damage, device_of, holds, image_of, writes};
+use super::{
+    A, COREBOOT, MAP, PRINT, Parts, answers, damage, device_of, holds, holds_image, writes,
+};
 use cbfs_commands::{Command, Refusal};
 use cbfs_edit::{HashChoice, Spot};
 use flash_format::DamageKind;
-use std::test::Fail;
 
 /// The flashmap of an image of 4096 bytes that stands after the region: COREBOOT and FMAP of 512 bytes each, and REST.
 const LATER_MAP: [u8; 182] =
@@ -64,8 +65,8 @@ pub fn first(name: &[u8], hash: HashChoice) -> Command<'_> {
 }
 
 #[test]
-fn components_are_added(rt: HostRuntime) -> Result<(), Fail> {
-    let mut paged = device_of(rt.alloc(), EMPTY)?;
+fn components_are_added(rt: HostRuntime) {
+    let mut paged = device_of(&rt, EMPTY);
     let a = first(b"a", HashChoice::Plain);
     answers(&rt, &mut paged, &a, b"0123456789", Ok(()));
     let shown = b"a\t0x0\traw\t10\tnone\n(empty)\t0x40\tnull\t416\tnone\n";
@@ -79,44 +80,40 @@ fn components_are_added(rt: HostRuntime) -> Result<(), Fail> {
     answers(&rt, &mut paged, &b, b"LARCHIVE 9abcdefghij", Ok(()));
     let shown = b"a\t0x0\traw\t10\tnone\nb\t0x40\traw\t20\tnone\n(empty)\t0xc0\tnull\t288\tnone\n";
     writes(&rt, &mut paged, &PRINT, shown);
-    Ok(())
 }
 
 #[test]
-fn a_map_that_is_added_before_the_map_takes_its_place(rt: HostRuntime) -> Result<(), Fail> {
-    let mut paged = device_of(rt.alloc(), MAP_LATER)?;
+fn a_map_that_is_added_before_the_map_takes_its_place(rt: HostRuntime) {
+    let mut paged = device_of(&rt, MAP_LATER);
     let m = first(b"m", HashChoice::Plain);
     answers(&rt, &mut paged, &m, &OTHER_MAP, Ok(()));
     holds(&rt, &paged, 0x1c, &OTHER_MAP);
     let shown = b"fmap\t0x1c\tFLASH\t4096\t2\nFMAP\t0x0\t512\t0x0\nCOREBOOT\t0x200\t3584\t0x0\n";
     writes(&rt, &mut paged, &Command::Layout, shown);
-    Ok(())
 }
 
 #[test]
-fn a_damage_refuses_an_addition(rt: HostRuntime) -> Result<(), Fail> {
-    let mut paged = device_of(rt.alloc(), DAMAGED)?;
+fn a_damage_refuses_an_addition(rt: HostRuntime) {
+    let mut paged = device_of(&rt, DAMAGED);
     let b = first(b"b", HashChoice::Plain);
     let extent = damage(0x40, DamageKind::Extent);
     answers(&rt, &mut paged, &b, b"0123456789", Err(extent));
-    holds(&rt, &paged, 0, &image_of(rt.alloc(), DAMAGED)?);
-    Ok(())
+    holds_image(&rt, &paged, DAMAGED);
 }
 
 #[test]
-fn an_addition_keeps_a_packed_component(rt: HostRuntime) -> Result<(), Fail> {
-    let mut paged = device_of(rt.alloc(), WITH_PACKED)?;
+fn an_addition_keeps_a_packed_component(rt: HostRuntime) {
+    let mut paged = device_of(&rt, WITH_PACKED);
     let a = first(b"a", HashChoice::Plain);
     answers(&rt, &mut paged, &a, b"0123456789", Ok(()));
     holds(&rt, &paged, 0x200, &PACKED);
     let shown = b"c\t0x0\traw\t72\tLZMA\na\t0x80\traw\t10\tnone\n(empty)\t0xc0\tnull\t288\tnone\n";
     writes(&rt, &mut paged, &PRINT, shown);
-    Ok(())
 }
 
 #[test]
-fn a_digest_of_sha_256_is_stored(rt: HostRuntime) -> Result<(), Fail> {
-    let mut paged = device_of(rt.alloc(), EMPTY)?;
+fn a_digest_of_sha_256_is_stored(rt: HostRuntime) {
+    let mut paged = device_of(&rt, EMPTY);
     let empty = first(b"e", HashChoice::Sha256);
     answers(&rt, &mut paged, &empty, b"", Ok(()));
     holds(&rt, &paged, 0x210, b"\0\0\0\x1c\0\0\0\x48e\0\0\0");
@@ -128,17 +125,15 @@ fn a_digest_of_sha_256_is_stored(rt: HostRuntime) -> Result<(), Fail> {
     holds(&rt, &paged, 0x200 + 200, b"abc");
     let shown = b"e\t0x0\traw\t0\tnone\nf\t0x80\traw\t3\tnone\n(empty)\t0x100\tnull\t224\tnone\n";
     writes(&rt, &mut paged, &PRINT, shown);
-    Ok(())
 }
 
 #[test]
-fn a_digest_of_sha_512_takes_more_room(rt: HostRuntime) -> Result<(), Fail> {
-    let mut paged = device_of(rt.alloc(), EMPTY)?;
+fn a_digest_of_sha_512_takes_more_room(rt: HostRuntime) {
+    let mut paged = device_of(&rt, EMPTY);
     let empty = first(b"e", HashChoice::Sha512);
     answers(&rt, &mut paged, &empty, b"", Ok(()));
     holds(&rt, &paged, 0x214, b"\0\0\0\x68e\0\0\0");
     let abc = first(b"f", HashChoice::Sha512);
     answers(&rt, &mut paged, &abc, b"abc", Ok(()));
     holds(&rt, &paged, 0x200 + 232, b"abc");
-    Ok(())
 }

@@ -2,21 +2,18 @@
 
 use super::adding::{EMPTY, OTHER_MAP, first};
 use super::{
-    A, COREBOOT, MAP, PRINT, Parts, answers, device_of, equal, file_holds, holds, image_of, remove,
-    runs, writes,
+    A, COREBOOT, MAP, PRINT, Parts, answers, device_of, device_with, equal, file_holds, filled,
+    holds, holds_image, image_of, open_device, open_source, remove, runs, write_file, writes,
 };
 use arrayvec::ArrayVec;
 use cbfs_commands::{Command, MOST_REGIONS, Refusal, create_size};
 use cbfs_edit::HashChoice;
 use flash_format::{Area, FmapHead};
-use flash_store::{
-    FailAt, FailSource, FileFlash, FileSource, Flash, MemFlash, MemSource, Paged, Source,
-};
-use std::alloc::Global;
-use std::fs::{self, File};
+use flash_store::{FailAt, FailSource, FileFlash, Flash, MemSource, Paged, Source};
+use std::alloc::{AllocError, Global};
+use std::fs::File;
 use std::process::Abort;
 use std::rt::Files;
-use std::test::Fail;
 
 /// A flashmap of 4096 bytes: FMAP of 1024, B of 2048 after it, and C of 1024 after that.
 const TOUCHING: [u8; 182] =
@@ -50,30 +47,23 @@ fn print(region: &[u8]) -> Command<'_> {
 }
 
 /// A creation from this flashmap is refused, and leaves the image.
-fn refuses(
-    rt: &(impl Abort + AllocGlobal),
-    names: &[&[u8]],
-    map: &[u8],
-    refusal: Refusal,
-) -> Result<(), Fail> {
-    let mut paged = device_of(rt.alloc(), USED)?;
+fn refuses(rt: &(impl Abort + AllocGlobal), names: &[&[u8]], map: &[u8], refusal: Refusal) {
+    let mut paged = device_of(rt, USED);
     answers(rt, &mut paged, &creation(names), map, Err(refusal));
-    holds(rt, &paged, 0, &image_of(rt.alloc(), USED)?);
-    Ok(())
+    holds_image(rt, &paged, USED);
 }
 
 #[test]
-fn an_image_is_made_whatever_was_there(rt: HostRuntime) -> Result<(), Fail> {
-    let mut paged = device_of(rt.alloc(), USED)?;
+fn an_image_is_made_whatever_was_there(rt: HostRuntime) {
+    let mut paged = device_of(&rt, USED);
     answers(&rt, &mut paged, &creation(&[COREBOOT]), &MAP, Ok(()));
-    holds(&rt, &paged, 0, &image_of(rt.alloc(), EMPTY)?);
+    holds_image(&rt, &paged, EMPTY);
     writes(&rt, &mut paged, &PRINT, FRESH_TEXT);
-    Ok(())
 }
 
 #[test]
-fn regions_may_touch(rt: HostRuntime) -> Result<(), Fail> {
-    let mut paged = device_of(rt.alloc(), USED)?;
+fn regions_may_touch(rt: HostRuntime) {
+    let mut paged = device_of(&rt, USED);
     let both = creation(&[b"B", b"C"]);
     answers(&rt, &mut paged, &both, &TOUCHING, Ok(()));
     let b = b"(empty)\t0x0\tnull\t2016\tnone\n";
@@ -81,27 +71,23 @@ fn regions_may_touch(rt: HostRuntime) -> Result<(), Fail> {
     let c = b"(empty)\t0x0\tnull\t992\tnone\n";
     writes(&rt, &mut paged, &print(b"C"), c);
     holds(&rt, &paged, 0, &TOUCHING);
-    Ok(())
 }
 
 #[test]
-fn what_is_refused_leaves_the_image(rt: HostRuntime) -> Result<(), Fail> {
-    refuses(&rt, &[b"B", b"B"], &TOUCHING, Refusal::FmapArea)?;
-    refuses(&rt, &[b"FMAP"], &TOUCHING, Refusal::FmapArea)?;
-    refuses(&rt, &[COREBOOT], &TOUCHING, Refusal::NoRegion)?;
-    refuses(&rt, &[b"B"], &TOUCHING[..55], Refusal::TableBad)?;
-    refuses(&rt, &[b"B"], &TOUCHING[..181], Refusal::TableBad)
+fn what_is_refused_leaves_the_image(rt: HostRuntime) {
+    refuses(&rt, &[b"B", b"B"], &TOUCHING, Refusal::FmapArea);
+    refuses(&rt, &[b"FMAP"], &TOUCHING, Refusal::FmapArea);
+    refuses(&rt, &[COREBOOT], &TOUCHING, Refusal::NoRegion);
+    refuses(&rt, &[b"B"], &TOUCHING[..55], Refusal::TableBad);
+    refuses(&rt, &[b"B"], &TOUCHING[..181], Refusal::TableBad);
 }
 
 #[test]
-fn a_flashmap_of_another_size(rt: HostRuntime) -> Result<(), Fail> {
-    let bytes = Vec::from_elem(rt.alloc(), 7, 8192)?;
-    let device = MemFlash::new(bytes)?;
-    let mut paged = Paged::new(device);
+fn a_flashmap_of_another_size(rt: HostRuntime) {
+    let mut paged = Paged::new(device_with(&rt, filled(&rt, 7, 8192)));
     let refused = Err(Refusal::TableBad);
     answers(&rt, &mut paged, &creation(&[COREBOOT]), &MAP, refused);
-    holds(&rt, &paged, 0, &Vec::from_elem(rt.alloc(), 7, 8192)?);
-    Ok(())
+    holds(&rt, &paged, 0, &filled(&rt, 7, 8192));
 }
 
 #[test]
@@ -130,7 +116,7 @@ fn area(offset: u32, size: u32, letter: u8) -> Area {
 }
 
 /// A flashmap of FMAP and 16 regions of 64 bytes, A to P.
-fn map_of_sixteen(alloc: Global) -> Result<Vec<u8>, Fail> {
+fn map_of_sixteen(alloc: Global) -> Result<Vec<u8>, AllocError> {
     let head = FmapHead {
         major: 1,
         minor: 1,
@@ -150,101 +136,82 @@ fn map_of_sixteen(alloc: Global) -> Result<Vec<u8>, Fail> {
 }
 
 #[test]
-fn sixteen_regions_are_formatted(rt: HostRuntime) -> Result<(), Fail> {
-    let mut paged = device_of(rt.alloc(), USED)?;
-    let map = map_of_sixteen(rt.alloc())?;
+fn sixteen_regions_are_formatted(rt: HostRuntime) {
+    let mut paged = device_of(&rt, USED);
+    let map = map_of_sixteen(rt.alloc()).expect(&rt, "memory");
     answers(&rt, &mut paged, &creation(NAMES), &map, Ok(()));
     let shown = b"(empty)\t0x0\tnull\t32\tnone\n";
     writes(&rt, &mut paged, &print(b"A"), shown);
     writes(&rt, &mut paged, &print(b"P"), shown);
-    Ok(())
 }
 
-/// A creation on a device, from a source, of which one stops, ends so.
-fn stops<F: Flash, S: Source>(
+/// A creation on a device, from a source, ends so.
+fn creates<F: Flash, S: Source>(
     rt: &(impl Abort + AllocGlobal),
-    device: F,
+    paged: &mut Paged<F>,
     source: &mut S,
     answer: Result<(), Refusal>,
 ) {
-    let create = creation(&[COREBOOT]);
-    runs(rt, &mut Paged::new(device), &create, source, answer, b"");
+    runs(rt, paged, &creation(&[COREBOOT]), source, answer, b"");
 }
 
 /// The device refuses all calls after the first k.
-fn device_stops(
-    rt: &(impl Abort + AllocGlobal),
-    k: u64,
-    answer: Result<(), Refusal>,
-) -> Result<(), Fail> {
-    let device = device_of(rt.alloc(), EMPTY)?.into_flash();
-    let device = FailAt::new(device, k, 17);
-    stops(rt, device, &mut MemSource::new(&MAP), answer);
-    Ok(())
+fn device_stops(rt: &(impl Abort + AllocGlobal), k: u64, answer: Result<(), Refusal>) {
+    let device = device_with(rt, image_of(rt, EMPTY));
+    let mut paged = Paged::new(FailAt::new(device, k, 17));
+    creates(rt, &mut paged, &mut MemSource::new(&MAP), answer);
 }
 
 /// The source refuses all reads after the first k.
-fn source_stops(
-    rt: &(impl Abort + AllocGlobal),
-    k: u64,
-    answer: Result<(), Refusal>,
-) -> Result<(), Fail> {
-    let device = device_of(rt.alloc(), EMPTY)?.into_flash();
+fn source_stops(rt: &(impl Abort + AllocGlobal), k: u64, answer: Result<(), Refusal>) {
     let mut source = FailSource::new(MemSource::new(&MAP), k);
-    stops(rt, device, &mut source, answer);
-    Ok(())
+    creates(rt, &mut device_of(rt, EMPTY), &mut source, answer);
 }
 
 #[test]
-fn a_stop_of_either_side(rt: HostRuntime) -> Result<(), Fail> {
+fn a_stop_of_either_side(rt: HostRuntime) {
     // One call fills, one writes the table, and two make the region an empty entry.
     for k in 0..4 {
-        device_stops(&rt, k, Err(Refusal::Device))?;
+        device_stops(&rt, k, Err(Refusal::Device));
     }
-    device_stops(&rt, 4, Ok(()))?;
+    device_stops(&rt, 4, Ok(()));
     // One read for the head, one for each of three areas, and one for the table.
     for k in 0..5 {
-        source_stops(&rt, k, Err(Refusal::Source))?;
+        source_stops(&rt, k, Err(Refusal::Source));
     }
-    source_stops(&rt, 5, Ok(()))
+    source_stops(&rt, 5, Ok(()));
 }
 
 /// Makes an image's file from a table in another file.
-fn make(
-    rt: &(impl Abort + AllocGlobal + Files<File = File>),
-    image: &str,
-    table: &str,
-) -> Result<(), Fail> {
-    let mut source = FileSource::open(rt, table)?;
-    let size = create_size(&mut source)?;
-    let mut paged = Paged::new(FileFlash::create(rt, image, size)?);
-    let create = creation(&[COREBOOT]);
-    runs(rt, &mut paged, &create, &mut source, Ok(()), b"");
-    Ok(())
+fn make(rt: &(impl Abort + AllocGlobal + Files<File = File>), image: &str, table: &str) {
+    let mut source = open_source(rt, table);
+    let size = create_size(&mut source).expect(rt, "a size");
+    let device = FileFlash::create(rt, image, size).expect(rt, "an image");
+    creates(rt, &mut Paged::new(device), &mut source, Ok(()));
 }
 
-/// Adds a file to an image that has just been made.
-fn add(
-    rt: &(impl Abort + AllocGlobal + Files<File = File>),
-    image: &str,
-    content: &str,
-) -> Result<(), Fail> {
-    let mut paged = Paged::new(FileFlash::open(rt, image)?);
-    let mut source = FileSource::open(rt, content)?;
-    runs(rt, &mut paged, &PRINT, &mut source, Ok(()), FRESH_TEXT);
+/// Adds a source to an image that has just been made.
+fn add<F: Flash, S: Source>(rt: &(impl Abort + AllocGlobal), paged: &mut Paged<F>, source: &mut S) {
+    runs(rt, paged, &PRINT, source, Ok(()), FRESH_TEXT);
     let addition = first(b"a", HashChoice::Plain);
-    runs(rt, &mut paged, &addition, &mut source, Ok(()), b"");
+    runs(rt, paged, &addition, source, Ok(()), b"");
     let after = b"a\t0x0\traw\t10\tnone\n(empty)\t0x40\tnull\t416\tnone\n";
-    runs(rt, &mut paged, &PRINT, &mut source, Ok(()), after);
-    Ok(())
+    runs(rt, paged, &PRINT, source, Ok(()), after);
+}
+
+/// Adds a file to an image in a file that has just been made.
+fn add_file(rt: &(impl Abort + AllocGlobal + Files<File = File>), image: &str, content: &str) {
+    let device = open_device(rt, image);
+    let mut source = open_source(rt, content);
+    add(rt, &mut Paged::new(device), &mut source);
 }
 
 #[test]
-fn an_image_is_made_in_a_file(rt: HostRuntime) -> Result<(), Fail> {
-    fs::write(&rt, "flashmap", &MAP)?;
-    fs::write(&rt, "digits", b"0123456789")?;
-    make(&rt, "created.rom", "flashmap")?;
-    file_holds(&rt, "created.rom", EMPTY)?;
-    add(&rt, "created.rom", "digits")?;
-    remove(&rt, &["flashmap", "digits", "created.rom"])
+fn an_image_is_made_in_a_file(rt: HostRuntime) {
+    write_file(&rt, "flashmap", &MAP);
+    write_file(&rt, "digits", b"0123456789");
+    make(&rt, "created.rom", "flashmap");
+    file_holds(&rt, "created.rom", EMPTY);
+    add_file(&rt, "created.rom", "digits");
+    remove(&rt, &["flashmap", "digits", "created.rom"]);
 }

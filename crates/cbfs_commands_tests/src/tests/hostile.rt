@@ -1,22 +1,17 @@
 //! Images that are cut anywhere or have other numbers, and outputs, sources and devices that fail at each place in turn.
 
 use super::{
-    COREBOOT, MAP, PRINT, READ, SHOWN, SMALL, Short, WRITE, damage, device_of, equal, image_of,
-    put, runs, same_bytes,
+    COREBOOT, MAP, PRINT, READ, SHOWN, SMALL, Short, WRITE, damage, device_of, device_with, equal,
+    filled, image_of, put, runs, same_bytes,
 };
 use cbfs_commands::{Command, Refusal, run};
 use flash_format::DamageKind;
-use flash_store::{FailAt, FailSource, MemFlash, MemSource, Paged, WriteSink};
+use flash_store::{FailAt, FailSource, Flash, MemSource, Paged, Source, WriteSink};
 use std::alloc::{AllocError, Global};
 use std::process::Abort;
-use std::test::Fail;
 
 /// What is shown of the first component.
 const SHOWN_A: &[u8] = b"a\t0x0\traw\t10\tnone\n";
-
-fn device_with(image: Vec<u8>) -> Result<Paged<MemFlash>, Fail> {
-    Ok(Paged::new(MemFlash::new(image)?))
-}
 
 /// A command on the image writes this text.
 fn shows(
@@ -25,8 +20,8 @@ fn shows(
     command: &Command,
     text: &[u8],
     answer: Result<(), Refusal>,
-) -> Result<(), Fail> {
-    let mut paged = device_with(image)?;
+) {
+    let mut paged = Paged::new(device_with(rt, image));
     runs(
         rt,
         &mut paged,
@@ -35,7 +30,6 @@ fn shows(
         answer,
         text,
     );
-    Ok(())
 }
 
 /// Printing the small image, cut to each of these lengths, writes this text.
@@ -45,20 +39,19 @@ fn cut(
     to: usize,
     text: &[u8],
     answer: Result<(), Refusal>,
-) -> Result<(), Fail> {
+) {
     for len in from..to {
-        let mut image = image_of(rt.alloc(), SMALL)?;
+        let mut image = image_of(rt, SMALL);
         image.truncate(len);
-        shows(rt, image, &PRINT, text, answer)?;
+        shows(rt, image, &PRINT, text, answer);
     }
-    Ok(())
 }
 
 #[test]
-fn an_image_that_is_cut_anywhere(rt: HostRuntime) -> Result<(), Fail> {
-    cut(&rt, 0, 182, b"", Err(Refusal::NoFmap))?;
-    cut(&rt, 182, 1024, b"", Err(Refusal::RegionOutside))?;
-    cut(&rt, 1024, 4096, SHOWN, Ok(()))
+fn an_image_that_is_cut_anywhere(rt: HostRuntime) {
+    cut(&rt, 0, 182, b"", Err(Refusal::NoFmap));
+    cut(&rt, 182, 1024, b"", Err(Refusal::RegionOutside));
+    cut(&rt, 1024, 4096, SHOWN, Ok(()));
 }
 
 /// Signatures that overlap each other, and no map.
@@ -71,29 +64,24 @@ fn signatures(alloc: Global) -> Result<Vec<u8>, AllocError> {
 }
 
 /// The map of the small image is found at this place, after these bytes at the start.
-fn finds_map(
-    rt: &(impl Abort + AllocGlobal),
-    start: &[u8],
-    at: usize,
-    shown: &[u8],
-) -> Result<(), Fail> {
-    let mut image = image_of(rt.alloc(), SMALL)?;
+fn finds_map(rt: &(impl Abort + AllocGlobal), start: &[u8], at: usize, shown: &[u8]) {
+    let mut image = image_of(rt, SMALL);
     put(&mut image, 0, start);
     put(&mut image, at, &MAP);
-    shows(rt, image, &Command::Layout, shown, Ok(()))
+    shows(rt, image, &Command::Layout, shown, Ok(()));
 }
 
 #[test]
-fn signatures_before_a_map(rt: HostRuntime) -> Result<(), Fail> {
-    let none = signatures(rt.alloc())?;
-    shows(&rt, none, &Command::Layout, b"", Err(Refusal::NoFmap))?;
+fn signatures_before_a_map(rt: HostRuntime) {
+    let none = signatures(rt.alloc()).expect(&rt, "memory");
+    shows(&rt, none, &Command::Layout, b"", Err(Refusal::NoFmap));
     let shown = b"fmap\t0x6\tFLASH\t4096\t3\nFMAP\t0x0\t512\t0x0\nCOREBOOT\t0x200\t512\t0x0\n\
 REST\t0x400\t3072\t0x0\n";
-    finds_map(&rt, b"__FMAP", 6, shown)?;
+    finds_map(&rt, b"__FMAP", 6, shown);
     // a map of the version 2
     let shown = b"fmap\t0xc0\tFLASH\t4096\t3\nFMAP\t0x0\t512\t0x0\nCOREBOOT\t0x200\t512\t0x0\n\
 REST\t0x400\t3072\t0x0\n";
-    finds_map(&rt, b"__FMAP__\x02", 192, shown)
+    finds_map(&rt, b"__FMAP__\x02", 192, shown);
 }
 
 /// Printing the small image with another number at this place of the region writes this text.
@@ -103,49 +91,49 @@ fn changed(
     number: u32,
     text: &[u8],
     answer: Result<(), Refusal>,
-) -> Result<(), Fail> {
+) {
     assert!(rt; at < 512);
-    let mut image = image_of(rt.alloc(), SMALL)?;
+    let mut image = image_of(rt, SMALL);
     put(&mut image, 0x200 + at, &number.to_be_bytes());
-    shows(rt, image, &PRINT, text, answer)
+    shows(rt, image, &PRINT, text, answer);
 }
 
 /// The numbers of the second entry, which is free.
 #[test]
-fn free_space_with_other_numbers(rt: HostRuntime) -> Result<(), Fail> {
+fn free_space_with_other_numbers(rt: HostRuntime) {
     let extent = Err(damage(0x40, DamageKind::Extent));
     let offset = Err(damage(0x40, DamageKind::Offset));
     let none = b"a\t0x0\traw\t10\tnone\n(empty)\t0x40\tnull\t0\tnone\n";
     let all = b"a\t0x0\traw\t10\tnone\n(empty)\t0x40\tnull\t408\tnone\n";
-    changed(&rt, 64 + 8, 0, none, Ok(()))?;
-    changed(&rt, 64 + 8, 408, all, Ok(()))?;
-    changed(&rt, 64 + 8, 409, SHOWN_A, extent)?;
-    changed(&rt, 64 + 20, 23, SHOWN_A, offset)?;
-    changed(&rt, 64 + 20, 24, SHOWN, Ok(()))?;
-    changed(&rt, 64 + 20, 44, SHOWN, Ok(()))?;
-    changed(&rt, 64 + 20, 45, SHOWN_A, extent)?;
-    let mut image = image_of(rt.alloc(), SMALL)?;
+    changed(&rt, 64 + 8, 0, none, Ok(()));
+    changed(&rt, 64 + 8, 408, all, Ok(()));
+    changed(&rt, 64 + 8, 409, SHOWN_A, extent);
+    changed(&rt, 64 + 20, 23, SHOWN_A, offset);
+    changed(&rt, 64 + 20, 24, SHOWN, Ok(()));
+    changed(&rt, 64 + 20, 44, SHOWN, Ok(()));
+    changed(&rt, 64 + 20, 45, SHOWN_A, extent);
+    let mut image = image_of(&rt, SMALL);
     put(&mut image, 0x248, &[0xff; 4]);
     put(&mut image, 0x254, &[0xff; 4]);
-    shows(&rt, image, &PRINT, SHOWN_A, extent)
+    shows(&rt, image, &PRINT, SHOWN_A, extent);
 }
 
 /// The numbers of the first entry, which is a component.
 #[test]
-fn a_component_with_other_numbers(rt: HostRuntime) -> Result<(), Fail> {
+fn a_component_with_other_numbers(rt: HostRuntime) {
     let offset = Err(damage(0, DamageKind::Offset));
     let attributes = Err(damage(0, DamageKind::AttrOffset));
     let extent = Err(damage(0, DamageKind::Extent));
     let name = Err(damage(0, DamageKind::Name));
-    changed(&rt, 20, 24, b"", offset)?;
-    changed(&rt, 20, 25, b"", name)?;
-    changed(&rt, 20, 26, SHOWN, Ok(()))?;
-    changed(&rt, 20, 502, SHOWN_A, Ok(()))?;
-    changed(&rt, 20, 503, b"", extent)?;
-    changed(&rt, 16, 24, b"", attributes)?;
-    changed(&rt, 16, 25, b"", name)?;
-    changed(&rt, 16, 40, SHOWN, Ok(()))?;
-    changed(&rt, 16, 41, b"", attributes)
+    changed(&rt, 20, 24, b"", offset);
+    changed(&rt, 20, 25, b"", name);
+    changed(&rt, 20, 26, SHOWN, Ok(()));
+    changed(&rt, 20, 502, SHOWN_A, Ok(()));
+    changed(&rt, 20, 503, b"", extent);
+    changed(&rt, 16, 24, b"", attributes);
+    changed(&rt, 16, 25, b"", name);
+    changed(&rt, 16, 40, SHOWN, Ok(()));
+    changed(&rt, 16, 41, b"", attributes);
 }
 
 /// A command on the small image, into a writer that takes so many bytes a call and so many in all, writes this text.
@@ -156,43 +144,39 @@ fn tells(
     room: usize,
     text: &[u8],
     answer: Result<(), Refusal>,
-) -> Result<(), Fail> {
-    let mut paged = device_of(rt.alloc(), SMALL)?;
+) {
     let taken = Vec::new(rt.alloc());
     let mut out = WriteSink::new(Short { taken, piece, room });
+    let mut paged = device_of(rt, SMALL);
     let answered = run(&mut paged, command, &mut MemSource::new(&[]), &mut out);
     equal(rt, &answered, &answer);
     same_bytes(rt, &out.into_inner().taken, text);
-    Ok(())
 }
 
 /// A command writes this text, by three bytes a call too, and as much of it as there is room for.
-fn tells_what_has_room(
-    rt: &(impl Abort + AllocGlobal),
-    command: &Command,
-    text: &[u8],
-) -> Result<(), Fail> {
+fn tells_what_has_room(rt: &(impl Abort + AllocGlobal), command: &Command, text: &[u8]) {
     for room in 0..text.len() {
         let first = text.get(..room).unwrap_or(text);
-        tells(rt, command, 4096, room, first, Err(Refusal::Output))?;
+        tells(rt, command, 4096, room, first, Err(Refusal::Output));
     }
-    tells(rt, command, 0, 4096, b"", Err(Refusal::Output))?;
-    tells(rt, command, 3, 4096, text, Ok(()))
+    tells(rt, command, 0, 4096, b"", Err(Refusal::Output));
+    tells(rt, command, 3, 4096, text, Ok(()));
 }
 
 #[test]
-fn an_output_that_fails_anywhere(rt: HostRuntime) -> Result<(), Fail> {
-    tells_what_has_room(&rt, &PRINT, SHOWN)?;
+fn an_output_that_fails_anywhere(rt: HostRuntime) {
+    tells_what_has_room(&rt, &PRINT, SHOWN);
     let areas = b"fmap\t0x0\tFLASH\t4096\t3\nFMAP\t0x0\t512\t0x0\nCOREBOOT\t0x200\t512\t0x0\n\
 REST\t0x400\t3072\t0x0\n";
-    tells_what_has_room(&rt, &Command::Layout, areas)?;
+    tells_what_has_room(&rt, &Command::Layout, areas);
     let extract = Command::Extract {
         region: COREBOOT,
         name: b"a",
     };
-    tells_what_has_room(&rt, &extract, b"0123456789")?;
-    let image = image_of(rt.alloc(), SMALL)?;
-    tells_what_has_room(&rt, &READ, image.get(0x200..0x400).ok_or("region")?)
+    tells_what_has_room(&rt, &extract, b"0123456789");
+    let image = image_of(&rt, SMALL);
+    let region = image.get(0x200..0x400).expect(&rt, "a region");
+    tells_what_has_room(&rt, &READ, region);
 }
 
 /// The map of an image of 32,768 bytes: FMAP and COREBOOT, a half each.
@@ -204,10 +188,10 @@ F\0\0\0\0\0\0\0\0\0\0\0\0\0\0\0\0\0\0\0\0\0\0\0\0\0\0\0\0\0\0\0\x02\0\
 /// Where the region COREBOOT stands, and its length.
 const HALF: usize = 16384;
 
-fn halves(alloc: Global) -> Result<Vec<u8>, AllocError> {
-    let mut image = Vec::from_elem(alloc, 0xff, 32768)?;
+fn halves(rt: &(impl Abort + AllocGlobal)) -> Vec<u8> {
+    let mut image = filled(rt, 0xff, 32768);
     put(&mut image, 0, &HALVES);
-    Ok(image)
+    image
 }
 
 /// As many bytes as the region has, none of them 0xff.
@@ -236,46 +220,39 @@ fn copied(image: &[u8], source: &[u8]) -> usize {
 }
 
 /// The region begins with the source's first bytes, then come at most so many others, and all else is as it was.
-fn is_stopped(
-    rt: &(impl Abort + AllocGlobal),
-    image: &[u8],
-    source: &[u8],
-    most: usize,
-) -> Result<(), Fail> {
+fn is_stopped(rt: &(impl Abort + AllocGlobal), image: &[u8], source: &[u8], most: usize) {
     let end = copied(image, source).saturating_add(most);
-    let region = image.get(HALF..).ok_or("region")?;
-    let mut wanted = halves(rt.alloc())?;
+    let region = image.get(HALF..).expect(rt, "a region");
+    let mut wanted = halves(rt);
     put(&mut wanted, HALF, region.get(..end).unwrap_or(region));
     same_bytes(rt, image, &wanted);
-    Ok(())
+}
+
+/// Writes the region from a source.
+fn write_half<F: Flash, S: Source>(
+    rt: &(impl Abort + AllocGlobal),
+    paged: &mut Paged<F>,
+    source: &mut S,
+) -> Result<(), Refusal> {
+    let mut none = WriteSink::new(Vec::new(rt.alloc()));
+    run(paged, &WRITE, source, &mut none)
 }
 
 /// A source refuses all reads after the first k.
-fn source_stops(rt: &(impl Abort + AllocGlobal), bytes: &[u8], k: u64) -> Result<(), Fail> {
-    let mut paged = device_with(halves(rt.alloc())?)?;
+fn source_stops(rt: &(impl Abort + AllocGlobal), bytes: &[u8], k: u64) {
     let mut source = FailSource::new(source_of(rt, bytes), k);
+    let mut paged = Paged::new(device_with(rt, halves(rt)));
     let fault = Err(Refusal::Source);
     runs(rt, &mut paged, &WRITE, &mut source, fault, b"");
-    is_stopped(rt, paged.flash().bytes(), bytes, 0)
+    is_stopped(rt, paged.flash().bytes(), bytes, 0);
 }
 
 #[test]
-fn a_source_that_fails_at_any_read(rt: HostRuntime) -> Result<(), Fail> {
-    let bytes = numbered(rt.alloc())?;
+fn a_source_that_fails_at_any_read(rt: HostRuntime) {
+    let bytes = numbered(rt.alloc()).expect(&rt, "memory");
     for k in 0..4 {
-        source_stops(&rt, &bytes, k)?;
+        source_stops(&rt, &bytes, k);
     }
-    Ok(())
-}
-
-/// Writes the region from these bytes.
-fn write_half(
-    rt: &(impl Abort + AllocGlobal),
-    paged: &mut Paged<FailAt<MemFlash>>,
-    bytes: &[u8],
-) -> Result<(), Refusal> {
-    let mut none = WriteSink::new(Vec::new(rt.alloc()));
-    run(paged, &WRITE, &mut source_of(rt, bytes), &mut none)
 }
 
 /// What a write of the region has left: all of it where it is done, else what the device's fault may leave.
@@ -284,46 +261,41 @@ fn is_left(
     answer: Result<(), Refusal>,
     image: &[u8],
     source: &[u8],
-) -> Result<bool, Fail> {
+) -> bool {
     if answer.is_ok() {
         equal(rt, &copied(image, source), &HALF);
-        is_stopped(rt, image, source, 0)?;
-        return Ok(true);
+        is_stopped(rt, image, source, 0);
+        return true;
     }
     equal(rt, &answer, &Err(Refusal::Device));
-    is_stopped(rt, image, source, 4096)?;
-    Ok(false)
+    is_stopped(rt, image, source, 4096);
+    false
 }
 
 /// A device refuses all calls after the first k, and keeps the first bytes of the write that it refuses first. Answers
 /// whether all was written.
-fn device_stops(
-    rt: &(impl Abort + AllocGlobal),
-    source: &[u8],
-    k: u64,
-    part: usize,
-) -> Result<bool, Fail> {
-    let device = device_with(halves(rt.alloc())?)?.into_flash();
+fn device_stops(rt: &(impl Abort + AllocGlobal), source: &[u8], k: u64, part: usize) -> bool {
+    let device = device_with(rt, halves(rt));
     let mut paged = Paged::new(FailAt::new(device, k, part));
-    let answer = write_half(rt, &mut paged, source);
+    let answer = write_half(rt, &mut paged, &mut source_of(rt, source));
     is_left(rt, answer, paged.into_flash().into_inner().bytes(), source)
 }
 
 /// Stops at each call in turn, of which there are at least the four that write.
-fn stop_each(rt: &(impl Abort + AllocGlobal), source: &[u8], part: usize) -> Result<(), Fail> {
+fn stop_each(rt: &(impl Abort + AllocGlobal), source: &[u8], part: usize) {
     for k in 0..40 {
-        if device_stops(rt, source, k, part)? {
+        if device_stops(rt, source, k, part) {
             assert!(rt; k > 4);
-            return Ok(());
+            return;
         }
     }
-    Err("the region wasn't written")?
+    panic!(rt; "the region wasn't written");
 }
 
 #[test]
-fn a_device_that_fails_at_any_call(rt: HostRuntime) -> Result<(), Fail> {
-    let source = numbered(rt.alloc())?;
-    stop_each(&rt, &source, 0)?;
-    stop_each(&rt, &source, 17)?;
-    stop_each(&rt, &source, 4096)
+fn a_device_that_fails_at_any_call(rt: HostRuntime) {
+    let source = numbered(rt.alloc()).expect(&rt, "memory");
+    stop_each(&rt, &source, 0);
+    stop_each(&rt, &source, 17);
+    stop_each(&rt, &source, 4096);
 }

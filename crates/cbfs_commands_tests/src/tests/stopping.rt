@@ -1,11 +1,10 @@
 //! Commands on an image in a file that moves few bytes a call, is interrupted, and refuses from a call on.
 use super::adding::first;
-use super::{COREBOOT, PRINT, SMALL, equal, image_of};
+use super::{COREBOOT, PRINT, SMALL, device_with, equal, image_of};
 use cbfs_commands::{Command, Refusal, run};
 use cbfs_edit::HashChoice;
-use flash_store::{Ahead, Erased, FlakyFile, MemFlash, MemSource, Paged, StoredFlash, WriteSink};
+use flash_store::{Ahead, Erased, FlakyFile, Flash, MemSource, Paged, StoredFlash, WriteSink};
 use std::process::Abort;
-use std::test::Fail;
 
 /// A device in such a file, as one in a file of the system is.
 type Device = StoredFlash<Ahead<Erased<FlakyFile>>>;
@@ -18,43 +17,36 @@ const NO_ROW: &[u8] = b"(empty)";
 
 /// The small image in a file that moves at most `most` bytes a call, is interrupted after each `between` calls, and makes
 /// `made` of them.
-fn device(
-    rt: &(impl Abort + AllocGlobal),
-    most: usize,
-    between: u64,
-    made: u64,
-) -> Result<Paged<Device>, Fail> {
-    let image = image_of(rt.alloc(), SMALL)?;
+fn device(rt: &(impl Abort + AllocGlobal), most: usize, between: u64, made: u64) -> Paged<Device> {
+    let image = image_of(rt, SMALL);
     assert!(rt; image.len() < 1 << 32);
     let file = FlakyFile::new(image, most, between, made);
-    Ok(Paged::new(StoredFlash::new(Ahead::new(Erased::new(file)))))
+    Paged::new(StoredFlash::new(Ahead::new(Erased::new(file))))
 }
 
-/// How a command on it ends, whose source has 20 bytes.
-fn ends(
+/// How a command ends, whose source has 20 bytes.
+fn ends<F: Flash>(
     rt: &(impl Abort + AllocGlobal),
-    paged: &mut Paged<Device>,
+    paged: &mut Paged<F>,
     command: &Command,
 ) -> Result<(), Refusal> {
     let mut out = WriteSink::new(Vec::new(rt.alloc()));
     run(paged, command, &mut MemSource::new(&[7; 20]), &mut out)
 }
 
-/// What lists the image that is left begins with one of these.
-fn lists(
-    rt: &(impl Abort + AllocGlobal),
-    paged: Paged<Device>,
-    one: &[u8],
-    other: &[u8],
-) -> Result<(), Fail> {
-    let file = paged.into_flash().into_inner().into_inner().into_inner();
-    let mut left = Paged::new(MemFlash::new(file.bytes().to_vec(rt.alloc())?)?);
-    let mut out = WriteSink::new(Vec::new(rt.alloc()));
-    let answer = run(&mut left, &PRINT, &mut MemSource::new(&[]), &mut out);
-    equal(rt, &answer, &Ok(()));
-    let text = out.into_inner();
+/// What lists an image begins with one of these.
+fn lists(rt: &(impl Abort + AllocGlobal), bytes: &[u8], one: &[u8], other: &[u8]) {
+    let image = bytes.to_vec(rt.alloc()).expect(rt, "memory");
+    let text = listed(rt, &mut Paged::new(device_with(rt, image)));
     assert!(rt; text.as_slice().starts_with(one) || text.as_slice().starts_with(other));
-    Ok(())
+}
+
+/// What lists an image.
+fn listed<F: Flash>(rt: &(impl Abort + AllocGlobal), paged: &mut Paged<F>) -> Vec<u8> {
+    let mut out = WriteSink::new(Vec::new(rt.alloc()));
+    let answer = run(paged, &PRINT, &mut MemSource::new(&[]), &mut out);
+    equal(rt, &answer, &Ok(()));
+    out.into_inner()
 }
 
 /// Whether the command is done within so many calls; what it leaves lists as before or as after, and where it is done as
@@ -64,13 +56,14 @@ fn is_done(
     command: &Command,
     after: &[u8],
     calls: (usize, u64, u64),
-) -> Result<bool, Fail> {
-    let mut paged = device(rt, calls.0, calls.1, calls.2)?;
+) -> bool {
+    let mut paged = device(rt, calls.0, calls.1, calls.2);
     let answer = ends(rt, &mut paged, command);
     let done = answer == Ok(());
     assert!(rt; done || answer == Err(Refusal::Device));
-    lists(rt, paged, after, if done { after } else { A_ROW })?;
-    Ok(done)
+    let file = paged.into_flash().into_inner().into_inner().into_inner();
+    lists(rt, file.bytes(), after, if done { after } else { A_ROW });
+    done
 }
 
 /// Stops a command at each call of the file in turn, until one call more lets it be done. None is done without a call.
@@ -80,26 +73,25 @@ fn stop_each(
     after: &[u8],
     most: usize,
     between: u64,
-) -> Result<(), Fail> {
+) {
     for made in 0..2000 {
-        if is_done(rt, command, after, (most, between, made))? {
+        if is_done(rt, command, after, (most, between, made)) {
             assert!(rt; made > 0);
-            return Ok(());
+            return;
         }
     }
-    Err("a command is not done")?
+    panic!(rt; "a command is not done");
 }
 
 #[test]
-fn a_command_stops_at_any_call_of_a_file(rt: HostRuntime) -> Result<(), Fail> {
+fn a_command_stops_at_any_call_of_a_file(rt: HostRuntime) {
     let add = first(b"b", HashChoice::Plain);
     let remove = Command::Remove {
         region: COREBOOT,
         name: b"a",
     };
-    stop_each(&rt, &add, BOTH_ROWS, 4096, 5000)?;
-    stop_each(&rt, &remove, NO_ROW, 4096, 5000)?;
-    stop_each(&rt, &add, BOTH_ROWS, 11, 3)?;
-    stop_each(&rt, &remove, NO_ROW, 11, 3)?;
-    Ok(())
+    stop_each(&rt, &add, BOTH_ROWS, 4096, 5000);
+    stop_each(&rt, &remove, NO_ROW, 4096, 5000);
+    stop_each(&rt, &add, BOTH_ROWS, 11, 3);
+    stop_each(&rt, &remove, NO_ROW, 11, 3);
 }

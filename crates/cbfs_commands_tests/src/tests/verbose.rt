@@ -5,8 +5,7 @@ use super::{COREBOOT, MAP, Parts, answers, device_of, writes};
 use cbfs_commands::Command;
 use cbfs_edit::HashChoice;
 use flash_store::{MemFlash, Paged};
-use std::alloc::Global;
-use std::test::Fail;
+use std::process::Abort;
 
 const VERBOSE: Command<'static> = Command::Print {
     region: COREBOOT,
@@ -15,46 +14,44 @@ const VERBOSE: Command<'static> = Command::Print {
 
 /// A device with the same image but for a byte at a place.
 fn changed(
-    alloc: Global,
+    rt: &(impl Abort + AllocGlobal),
     paged: &Paged<MemFlash>,
     at: usize,
     byte: u8,
-) -> Result<Paged<MemFlash>, Fail> {
-    device_of(alloc, &[(0, paged.flash().bytes()), (at, &[byte])])
+) -> Paged<MemFlash> {
+    device_of(rt, &[(0, paged.flash().bytes()), (at, &[byte])])
 }
 
 #[test]
-fn an_empty_content_with_sha_256(rt: HostRuntime) -> Result<(), Fail> {
-    let mut paged = device_of(rt.alloc(), EMPTY)?;
+fn an_empty_content_with_sha_256(rt: HostRuntime) {
+    let mut paged = device_of(&rt, EMPTY);
     let e = first(b"e", HashChoice::Sha256);
     answers(&rt, &mut paged, &e, b"", Ok(()));
     let shown = b"e\t0x0\traw\t0\tnone\n\tattr\t0x68736148\t44\n\
 \thash\tsha256\te3b0c44298fc1c149afbf4c8996fb92427ae41e4649b934ca495991b7852b855\tvalid\n\
 (empty)\t0x80\tnull\t352\tnone\n";
     writes(&rt, &mut paged, &VERBOSE, shown);
-    Ok(())
 }
 
 #[test]
-fn a_changed_byte_with_sha_256(rt: HostRuntime) -> Result<(), Fail> {
-    let mut paged = device_of(rt.alloc(), EMPTY)?;
+fn a_changed_byte_with_sha_256(rt: HostRuntime) {
+    let mut paged = device_of(&rt, EMPTY);
     let f = first(b"f", HashChoice::Sha256);
     answers(&rt, &mut paged, &f, b"abc", Ok(()));
-    let mut wrong = changed(rt.alloc(), &paged, 0x200 + 74, b'd')?;
+    let mut wrong = changed(&rt, &paged, 0x200 + 74, b'd');
     let shown = b"f\t0x0\traw\t3\tnone\n\tattr\t0x68736148\t44\n\
 \thash\tsha256\tba7816bf8f01cfea414140de5dae2223b00361a396177a9cb410ff61f20015ad\tinvalid\n\
 (empty)\t0x80\tnull\t352\tnone\n";
     writes(&rt, &mut wrong, &VERBOSE, shown);
-    let mut other = changed(rt.alloc(), &paged, 0x200 + 39, 9)?;
+    let mut other = changed(&rt, &paged, 0x200 + 39, 9);
     let shown = b"f\t0x0\traw\t3\tnone\n\tattr\t0x68736148\t44\n\thash\tunsupported\n\
 (empty)\t0x80\tnull\t352\tnone\n";
     writes(&rt, &mut other, &VERBOSE, shown);
-    Ok(())
 }
 
 #[test]
-fn an_empty_content_with_sha_512(rt: HostRuntime) -> Result<(), Fail> {
-    let mut paged = device_of(rt.alloc(), EMPTY)?;
+fn an_empty_content_with_sha_512(rt: HostRuntime) {
+    let mut paged = device_of(&rt, EMPTY);
     let g = first(b"g", HashChoice::Sha512);
     answers(&rt, &mut paged, &g, b"", Ok(()));
     let shown = b"g\t0x0\traw\t0\tnone\n\tattr\t0x68736148\t76\n\
@@ -62,21 +59,19 @@ fn an_empty_content_with_sha_512(rt: HostRuntime) -> Result<(), Fail> {
 47d0d13c5d85f2b0ff8318d2877eec2f63b931bd47417a81a538327af927da3e\tvalid\n\
 (empty)\t0x80\tnull\t352\tnone\n";
     writes(&rt, &mut paged, &VERBOSE, shown);
-    Ok(())
 }
 
 #[test]
-fn a_changed_byte_with_sha_512(rt: HostRuntime) -> Result<(), Fail> {
-    let mut paged = device_of(rt.alloc(), EMPTY)?;
+fn a_changed_byte_with_sha_512(rt: HostRuntime) {
+    let mut paged = device_of(&rt, EMPTY);
     let h = first(b"h", HashChoice::Sha512);
     answers(&rt, &mut paged, &h, b"abc", Ok(()));
-    let mut wrong = changed(rt.alloc(), &paged, 0x200 + 106, b'd')?;
+    let mut wrong = changed(&rt, &paged, 0x200 + 106, b'd');
     let shown = b"h\t0x0\traw\t3\tnone\n\tattr\t0x68736148\t76\n\
 \thash\tsha512\tddaf35a193617abacc417349ae20413112e6fa4e89a97ea20a9eeee64b55d39a\
 2192992a274fc1a836ba3c23a3feebbd454d4423643ce80e2a9ac94fa54ca49f\tinvalid\n\
 (empty)\t0x80\tnull\t352\tnone\n";
     writes(&rt, &mut wrong, &VERBOSE, shown);
-    Ok(())
 }
 
 /// A component `i` without content, whose hash attribute lacks a byte of a digest of SHA-512.
@@ -87,9 +82,8 @@ const SHORT: [u8; 104] =
 const WITH_SHORT: Parts = &[(0, &MAP), (0x200, &SHORT)];
 
 #[test]
-fn a_cut_digest_is_unsupported(rt: HostRuntime) -> Result<(), Fail> {
-    let mut paged = device_of(rt.alloc(), WITH_SHORT)?;
+fn a_cut_digest_is_unsupported(rt: HostRuntime) {
+    let mut paged = device_of(&rt, WITH_SHORT);
     let shown = b"i\t0x0\traw\t0\tnone\n\tattr\t0x68736148\t75\n\thash\tunsupported\n";
     writes(&rt, &mut paged, &VERBOSE, shown);
-    Ok(())
 }
