@@ -14,6 +14,7 @@ use Rattle.flash_store.specs.Bytes.{overwritten}
 use Rattle.cbfs_edit.specs.Removals.{removed, last_four, kept_at}
 use Rattle.cbfs_edit.specs.Stops.{IsBlanked}
 use Rattle.cbfs_edit.specs.Formats.{formatted, IsOneFreeCell, IsFormatStop}
+use Rattle.cbfs_edit.specs.Laws.{FormattedIsOneFreeCell}
 use Rattle.cbfs_edit.specs.declared.group.Freed.{Freed}
 use Rattle.cbfs_edit.proofs.Groups.{padding-length}
 
@@ -36,6 +37,13 @@ one_free_cell y more size kept some whole small room is =
       });
       free = ap (λ (l : List ℕ). is_free (head_of l)) is ∙ made.1;
     }
+
+-- a region that was formatted
+pub formatted_free : FormattedIsOneFreeCell
+formatted_free x some whole small =
+    let four : length (last_four x) ≡ 4 = omega (arith, length-drop (length x - 4) x) in
+    one_free_cell (formatted x) (padding (length x - header_length) (Some (last_four x))) (length x) true some whole small
+    (omega (arith, padding-length (length x - header_length) true (last_four x) four, some)) refl
 
 abbrev pub whole_range : ℕ → Freed
 whole_range size = record { start = 0; end = size }

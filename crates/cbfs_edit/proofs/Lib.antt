@@ -22,3 +22,4 @@ pub mod Inserting
 pub mod Added
 pub mod Adding
 pub mod EditLists
+pub mod RunOrder

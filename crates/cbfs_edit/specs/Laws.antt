@@ -1,11 +1,13 @@
 -- The laws that the edits rest on.
-use Rattle.std.specs.Prelude.{◌≡◌, ℕ, ◌%◌, ◌^◌, ◌<◌, All, Contains, List, length, Ok, Option, Some, None}
+use Rattle.std.specs.Prelude.{◌≡◌, ℕ, ◌%◌, ◌^◌, ◌<◌, ◌≤◌, All, Contains, List, length, Ok, Option, Some, None}
+use Rattle.std.specs.List.{AllPairs}
 use Rattle.flash_format.specs.Cut.{cut}
 use Rattle.flash_format.specs.Made.{IsDigest}
 use Rattle.cbfs_edit.specs.Additions.{NewComponent, AddsOne, addition_in}
 use Rattle.cbfs_edit.specs.Groups.{group_of, IsNot, IsGroupOf}
 use Rattle.cbfs_edit.specs.Removals.{removed, removal_in}
 use Rattle.cbfs_edit.specs.Stops.{IsBlanked, SameCells}
+use Rattle.cbfs_edit.specs.Formats.{formatted, IsOneFreeCell}
 use Rattle.cbfs_edit.specs.Runs.{runs, IsRunOf}
 use Rattle.cbfs_edit.specs.Places.{IsWanted, IsPlace, place_of}
 use Rattle.cbfs_edit.specs.declared.group.Freed.{Freed}
@@ -37,6 +39,14 @@ RunsAreMaximal = (x : List ℕ) (run : Freed) → Contains (runs x) run → IsRu
 -- and each maximal row is a run
 abbrev pub MaximalRunsAreThere : Type 0
 MaximalRunsAreThere = (x : List ℕ) (run : Freed) → IsRunOf 0 (cut x).cells run → Contains (runs x) run
+
+-- in their order, with a cell between each and the next
+abbrev pub RunsAscend : Type 0
+RunsAscend = (x : List ℕ) → length x % 64 ≡ 0 → AllPairs (λ (a b : Freed). a.end < b.start) (runs x)
+
+-- a region that is formatted is one free cell
+abbrev pub FormattedIsOneFreeCell : Type 0
+FormattedIsOneFreeCell = (x : List ℕ) → 64 ≤ length x → length x % 64 ≡ 0 → length x < 2 ^ 32 → IsOneFreeCell (formatted x)
 
 -- the place of a new component is in the first run with an allowed place, at its least one
 abbrev pub PlacesAreExact : Type 0
