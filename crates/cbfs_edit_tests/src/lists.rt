@@ -8,7 +8,6 @@ use cbfs_edit::{Edit, EditFault, Freed, HashChoice, Placed, Reply, Spot, apply_a
 use flash_format::HEADER_LENGTH;
 use flash_store::{Counter, Flash, FlashFault, MemFlash, MemSource, Paged};
 use std::process::Abort;
-use std::test::Fail;
 
 /// What stands before the 20 bytes of a component `b`.
 const B_20: [u8; 28] = *b"LARCHIVE\0\0\0\x14\0\0\0\x50\0\0\0\0\0\0\0\x1cb\0\0\0";
@@ -71,8 +70,8 @@ fn answers<F: Flash>(
 }
 
 #[test]
-fn each_edit_of_a_list_has_its_reply(rt: HostRuntime) -> Result<(), Fail> {
-    let mut paged = Paged::new(device_with(rt.alloc(), 1536, IMAGE)?);
+fn each_edit_of_a_list_has_its_reply(rt: HostRuntime) {
+    let mut paged = Paged::new(device_with(&rt, 1536, IMAGE));
     let mut edits = [
         addition(&rt, b"a", b"0123456789"),
         addition(&rt, b"a", b"0123456789"),
@@ -83,7 +82,7 @@ fn each_edit_of_a_list_has_its_reply(rt: HostRuntime) -> Result<(), Fail> {
     let not_found = Reply::Refused(EditFault::NotFound);
     let want = [placed(0, 28), exists, not_found, freed(0, 512)];
     answers(&rt, &mut paged, &mut edits, &want);
-    holds(&rt, paged.flash(), 1536, IMAGE)
+    holds(&rt, paged.flash(), 1536, IMAGE);
 }
 
 // ---- a device that works again
@@ -175,35 +174,50 @@ fn wanted(stopped: Option<usize>) -> ([Reply; 3], [Parts<'static>; 2]) {
 
 /// Two components are added and the first is removed, on a device that refuses the call of a number. Answers which of
 /// them was stopped.
-fn stopped_at(rt: &(impl Abort + AllocGlobal), number: u64) -> Result<Option<usize>, Fail> {
-    let device = device_with(rt.alloc(), 512, FRESH)?;
+fn stopped_at(rt: &(impl Abort + AllocGlobal), number: u64) -> Option<usize> {
+    let device = device_with(rt, 512, FRESH);
     let mut paged = Paged::new(FailOnce::new(device, number));
+    let replies = replies_of(rt, &mut paged);
+    has_stopped(rt, &replies, paged.into_flash().device)
+}
+
+/// Which edit was stopped. The others have the replies that they then have, and the device the components.
+fn has_stopped(
+    rt: &(impl Abort + AllocGlobal),
+    replies: &[Reply; 3],
+    device: MemFlash,
+) -> Option<usize> {
+    let stopped = replies.iter().position(|reply| *reply == STOPPED);
+    let (want, left) = wanted(stopped);
+    equal(rt, replies, &want);
+    leaves(rt, device, 512, left);
+    stopped
+}
+
+/// The replies to the two additions and the removal.
+fn replies_of<F: Flash>(rt: &impl Abort, paged: &mut Paged<F>) -> [Reply; 3] {
     let mut edits = [
         addition(rt, b"a", b"0123456789"),
         addition(rt, b"b", &MAGIC_20),
         Edit::Remove { name: b"a" },
     ];
     let mut replies = [Reply::Refused(EditFault::Source); 3];
-    let region = part_of(rt, &paged, 0, 512);
-    apply_all(&mut paged, region, &mut edits, &mut replies);
-    let stopped = replies.iter().position(|reply| *reply == STOPPED);
-    let (want, left) = wanted(stopped);
-    equal(rt, &replies, &want);
-    leaves(rt, paged.into_flash().device, 512, left)?;
-    Ok(stopped)
+    let region = part_of(rt, paged, 0, 512);
+    apply_all(paged, region, &mut edits, &mut replies);
+    replies
 }
 
 #[test]
-fn a_stopped_edit_does_not_stop_the_later_ones(rt: HostRuntime) -> Result<(), Fail> {
+fn a_stopped_edit_does_not_stop_the_later_ones(rt: HostRuntime) {
     let mut seen = [false; 3];
     for number in 1..60 {
-        match stopped_at(&rt, number)? {
+        match stopped_at(&rt, number) {
             Some(at) => seen[at.min(2)] = true,
             None => {
                 equal(&rt, &seen, &[true; 3]);
-                return Ok(());
+                return;
             }
         }
     }
-    Err("no list has finished")?
+    panic!(rt; "no list has finished");
 }

@@ -6,10 +6,9 @@ use cbfs_edit::{EditFault, Freed, HashChoice, Placed, Spot, add, format, remove}
 use cbfs_walk::{Cell, Step, Walk};
 use flash_format::DamageKind;
 use flash_store::{FailAt, FailSource, Flash, MemFlash, MemSource, Paged, Region, Source};
-use std::alloc::{AllocError, Global};
+use std::alloc::AllocError;
 use std::fmt::Debug;
 use std::process::Abort;
-use std::test::Fail;
 
 /// Deleted space of 20 bytes.
 const DELETED: [u8; 28] = *b"LARCHIVE\0\0\0\x14\0\0\0\0\0\0\0\0\0\0\0\x1c\0\0\0\0";
@@ -128,16 +127,16 @@ fn put(bytes: &mut [u8], at: usize, part: &[u8]) {
     }
 }
 
-pub fn bytes_with(alloc: Global, size: usize, parts: Parts) -> Result<Vec<u8>, Fail> {
-    let mut bytes = Vec::from_elem(alloc, 0xffu8, size)?;
+pub fn bytes_with(rt: &(impl Abort + AllocGlobal), size: usize, parts: Parts) -> Vec<u8> {
+    let mut bytes = Vec::from_elem(rt.alloc(), 0xffu8, size).expect(rt, "memory");
     for (at, part) in parts {
         put(&mut bytes, *at, part);
     }
-    Ok(bytes)
+    bytes
 }
 
-pub fn device_with(alloc: Global, size: usize, parts: Parts) -> Result<MemFlash, Fail> {
-    Ok(MemFlash::new(bytes_with(alloc, size, parts)?)?)
+pub fn device_with(rt: &(impl Abort + AllocGlobal), size: usize, parts: Parts) -> MemFlash {
+    MemFlash::new(bytes_with(rt, size, parts)).expect(rt, "a device")
 }
 
 /// A part of a device.
@@ -166,15 +165,9 @@ pub fn same_bytes(rt: &impl Abort, left: &[u8], right: &[u8]) {
 // ---- whole edits
 
 /// A device holds these bytes.
-pub fn holds(
-    rt: &(impl Abort + AllocGlobal),
-    device: &MemFlash,
-    size: usize,
-    parts: Parts,
-) -> Result<(), Fail> {
-    let expected = bytes_with(rt.alloc(), size, parts)?;
+pub fn holds(rt: &(impl Abort + AllocGlobal), device: &MemFlash, size: usize, parts: Parts) {
+    let expected = bytes_with(rt, size, parts);
     same_bytes(rt, device.bytes(), expected.as_slice());
-    Ok(())
 }
 
 /// Removes a component from the whole of a device.
@@ -194,50 +187,47 @@ fn removes(
     before: (usize, Parts),
     want: Result<Freed, EditFault>,
     after: Parts,
-) -> Result<(), Fail> {
+) {
     let (size, parts) = before;
-    let mut paged = Paged::new(device_with(rt.alloc(), size, parts)?);
+    let mut paged = Paged::new(device_with(rt, size, parts));
     equal(rt, &remove_from(rt, &mut paged, name), &want);
-    holds(rt, paged.flash(), size, after)
+    holds(rt, paged.flash(), size, after);
 }
 
 #[test]
-fn a_component_and_the_space_beside_it_become_one_empty_entry(rt: HostRuntime) -> Result<(), Fail> {
+fn a_component_and_the_space_beside_it_become_one_empty_entry(rt: HostRuntime) {
     let all = Ok(Freed { start: 0, end: 512 });
-    removes(&rt, b"m", (512, BETWEEN), all, FRESH)?;
+    removes(&rt, b"m", (512, BETWEEN), all, FRESH);
     let last: Parts = &[(0, &DELETED), (64, &M), (128, &NULL_340), (508, b"last")];
     let kept: Parts = &[(0, &EMPTY_512), (508, b"last")];
-    removes(&rt, b"m", (512, last), all, kept)?;
+    removes(&rt, b"m", (512, last), all, kept);
     let tail: Parts = &[(0, &DELETED), (64, &M), (128, &NULL_280), (460, b"tail")];
     let kept: Parts = &[(0, &EMPTY_448), (460, b"tail")];
     let most = Ok(Freed { start: 0, end: 448 });
-    removes(&rt, b"m", (512, tail), most, kept)?;
-    Ok(())
+    removes(&rt, b"m", (512, tail), most, kept);
 }
 
 #[test]
-fn the_first_component_of_a_name_is_removed(rt: HostRuntime) -> Result<(), Fail> {
+fn the_first_component_of_a_name_is_removed(rt: HostRuntime) {
     let first = Ok(Freed { start: 0, end: 64 });
-    removes(&rt, b"x", (512, TWICE), first, ONCE)?;
+    removes(&rt, b"x", (512, TWICE), first, ONCE);
     let second = Ok(Freed { start: 0, end: 512 });
-    removes(&rt, b"x", (512, ONCE), second, FRESH)?;
-    removes(&rt, b"x", (512, FRESH), Err(EditFault::NotFound), FRESH)?;
-    Ok(())
+    removes(&rt, b"x", (512, ONCE), second, FRESH);
+    removes(&rt, b"x", (512, FRESH), Err(EditFault::NotFound), FRESH);
 }
 
 #[test]
-fn what_is_refused_changes_nothing(rt: HostRuntime) -> Result<(), Fail> {
+fn what_is_refused_changes_nothing(rt: HostRuntime) {
     let damage = Err(EditFault::Damaged {
         at: 64,
         kind: DamageKind::Extent,
     });
     let damaged: Parts = &[(0, &M), (64, &TOO_LONG)];
-    removes(&rt, b"m", (512, damaged), damage, damaged)?;
+    removes(&rt, b"m", (512, damaged), damage, damaged);
     let moved: Parts = &[(1, &M)];
-    removes(&rt, b"m", (512, moved), Err(EditFault::NotCbfs), moved)?;
+    removes(&rt, b"m", (512, moved), Err(EditFault::NotCbfs), moved);
     let short: Parts = &[(0, &M)];
-    removes(&rt, b"m", (500, short), Err(EditFault::RegionShape), short)?;
-    Ok(())
+    removes(&rt, b"m", (500, short), Err(EditFault::RegionShape), short);
 }
 
 /// Formats the whole of a device.
@@ -252,21 +242,20 @@ fn formats(
     before: (usize, Parts),
     want: Result<(), EditFault>,
     after: Parts,
-) -> Result<(), Fail> {
+) {
     let (size, parts) = before;
-    let mut paged = Paged::new(device_with(rt.alloc(), size, parts)?);
+    let mut paged = Paged::new(device_with(rt, size, parts));
     equal(rt, &format_all(rt, &mut paged), &want);
-    holds(rt, paged.flash(), size, after)
+    holds(rt, paged.flash(), size, after);
 }
 
 #[test]
-fn a_region_is_formatted(rt: HostRuntime) -> Result<(), Fail> {
-    formats(&rt, (512, TWICE), Ok(()), FRESH)?;
+fn a_region_is_formatted(rt: HostRuntime) {
+    formats(&rt, (512, TWICE), Ok(()), FRESH);
     let last: Parts = &[(100, b"no entry"), (508, b"last")];
     let kept: Parts = &[(0, &EMPTY_512), (508, b"last")];
-    formats(&rt, (512, last), Ok(()), kept)?;
-    formats(&rt, (500, TWICE), Err(EditFault::RegionShape), TWICE)?;
-    Ok(())
+    formats(&rt, (512, last), Ok(()), kept);
+    formats(&rt, (500, TWICE), Err(EditFault::RegionShape), TWICE);
 }
 
 // ---- additions
@@ -321,21 +310,16 @@ fn adds<'a>(
     before: Parts<'a>,
     want: Result<Placed, EditFault>,
     after: Parts<'a>,
-) -> Result<(), Fail> {
-    let mut paged = Paged::new(device_with(rt.alloc(), 512, before)?);
+) {
     let mut source = source_of(rt, new.content);
+    let mut paged = Paged::new(device_with(rt, 512, before));
     equal(rt, &add_to(rt, &mut paged, new, &mut source), &want);
-    holds(rt, paged.flash(), 512, after)
+    holds(rt, paged.flash(), 512, after);
 }
 
 /// An addition that is refused changes nothing.
-fn refuses(
-    rt: &(impl Abort + AllocGlobal),
-    new: New,
-    before: Parts,
-    fault: EditFault,
-) -> Result<(), Fail> {
-    adds(rt, new, before, Err(fault), before)
+fn refuses(rt: &(impl Abort + AllocGlobal), new: New, before: Parts, fault: EditFault) {
+    adds(rt, new, before, Err(fault), before);
 }
 
 fn placed(header: u64, content: u64) -> Result<Placed, EditFault> {
@@ -343,59 +327,55 @@ fn placed(header: u64, content: u64) -> Result<Placed, EditFault> {
 }
 
 #[test]
-fn a_component_is_added_to_free_space(rt: HostRuntime) -> Result<(), Fail> {
-    adds(&rt, NEW_A, FRESH, placed(0, 28), WITH_A)?;
+fn a_component_is_added_to_free_space(rt: HostRuntime) {
+    adds(&rt, NEW_A, FRESH, placed(0, 28), WITH_A);
     let wide: Parts = &[(0, &NULL_468)];
-    adds(&rt, NEW_A, wide, placed(0, 28), WITH_A)?;
-    Ok(())
+    adds(&rt, NEW_A, wide, placed(0, 28), WITH_A);
 }
 
 #[test]
-fn a_component_is_put_where_it_is_wanted(rt: HostRuntime) -> Result<(), Fail> {
+fn a_component_is_put_where_it_is_wanted(rt: HostRuntime) {
     let next: Parts = &[(0, &A), (64, &B_20), (128, &MAGIC_20), (192, &LAST_320)];
     let near = b(Spot::Aligned(64), &MAGIC_20);
-    adds(&rt, near, WITH_A, placed(64, 128), next)?;
+    adds(&rt, near, WITH_A, placed(64, 128), next);
     let later = b(Spot::Aligned(256), &MAGIC_20);
-    adds(&rt, later, WITH_A, placed(192, 256), WITH_B_LATER)?;
+    adds(&rt, later, WITH_A, placed(192, 256), WITH_B_LATER);
     let last: Parts = &[(0, &A), (64, &EMPTY_384), (448, &B_16), (496, &MAGIC_16)];
     let fixed = b(Spot::Fixed(0x1f0), &MAGIC_16);
-    adds(&rt, fixed, WITH_A, placed(448, 496), last)?;
-    Ok(())
+    adds(&rt, fixed, WITH_A, placed(448, 496), last);
 }
 
 #[test]
-fn what_is_after_the_entries_is_kept(rt: HostRuntime) -> Result<(), Fail> {
+fn what_is_after_the_entries_is_kept(rt: HostRuntime) {
     let before: Parts = &[(0, &A), (64, &NULL_344), (460, b"tail")];
     let after: Parts = &[(0, &A), (64, &B_356), (92, &MANY), (460, b"tail")];
-    adds(&rt, b(Spot::First, &MANY), before, placed(64, 92), after)?;
+    adds(&rt, b(Spot::First, &MANY), before, placed(64, 92), after);
     let longer = b(Spot::First, &ONE_TOO_MANY);
-    refuses(&rt, longer, before, EditFault::NoSpace)?;
-    Ok(())
+    refuses(&rt, longer, before, EditFault::NoSpace);
 }
 
 #[test]
-fn an_addition_that_is_refused_changes_nothing(rt: HostRuntime) -> Result<(), Fail> {
-    refuses(&rt, NEW_A, WITH_A, EditFault::Exists)?;
+fn an_addition_that_is_refused_changes_nothing(rt: HostRuntime) {
+    refuses(&rt, NEW_A, WITH_A, EditFault::Exists);
     let nameless = New {
         name: b"",
         kind: 0,
         ..NEW_A
     };
-    refuses(&rt, nameless, FRESH, EditFault::BadName)?;
+    refuses(&rt, nameless, FRESH, EditFault::BadName);
     let null = New {
         name: b"c",
         kind: 0xffff_ffff,
         ..NEW_A
     };
-    refuses(&rt, null, FRESH, EditFault::BadType)?;
-    refuses(&rt, b(Spot::Aligned(0), b""), FRESH, EditFault::BadAlign)?;
+    refuses(&rt, null, FRESH, EditFault::BadType);
+    refuses(&rt, b(Spot::Aligned(0), b""), FRESH, EditFault::BadAlign);
     let damage = EditFault::Damaged {
         at: 64,
         kind: DamageKind::Extent,
     };
     let damaged: Parts = &[(0, &A), (64, &TOO_LONG)];
-    refuses(&rt, b(Spot::First, b""), damaged, damage)?;
-    Ok(())
+    refuses(&rt, b(Spot::First, b""), damaged, damage);
 }
 
 /// An addition of `n` bytes to a fresh region of 512 bytes answers this, and leaves these last four bytes.
@@ -405,30 +385,32 @@ fn takes(
     n: usize,
     want: Result<Placed, EditFault>,
     last: &[u8; 4],
-) -> Result<(), Fail> {
+) {
     let content = LONG.get(..n).unwrap_or(&LONG);
-    let mut paged = Paged::new(device_with(rt.alloc(), 512, FRESH)?);
     let mut source = source_of(rt, content);
+    let mut paged = Paged::new(device_with(rt, 512, FRESH));
     let answer = add_to(rt, &mut paged, b(spot, content), &mut source);
     equal(rt, &answer, &want);
-    let bytes = paged.flash().bytes();
+    ends_with(rt, paged.flash().bytes(), last);
+}
+
+/// The bytes of a region of 512 end with these.
+fn ends_with(rt: &impl Abort, bytes: &[u8], last: &[u8; 4]) {
     same_bytes(rt, bytes.get(508..).unwrap_or(bytes), last);
-    Ok(())
 }
 
 #[test]
-fn content_is_put_where_it_has_room(rt: HostRuntime) -> Result<(), Fail> {
+fn content_is_put_where_it_has_room(rt: HostRuntime) {
     let none = Err(EditFault::NoSpace);
     let kept = &[0xff; 4];
     let covered = &[0x61; 4];
-    takes(&rt, Spot::First, 480, placed(0, 28), kept)?;
-    takes(&rt, Spot::First, 481, none, kept)?;
-    takes(&rt, Spot::Fixed(40), 472, placed(0, 40), covered)?;
-    takes(&rt, Spot::Fixed(40), 473, none, kept)?;
-    takes(&rt, Spot::Fixed(28), 484, placed(0, 28), covered)?;
-    takes(&rt, Spot::Fixed(28), 485, none, kept)?;
-    takes(&rt, Spot::Fixed(27), 0, none, kept)?;
-    Ok(())
+    takes(&rt, Spot::First, 480, placed(0, 28), kept);
+    takes(&rt, Spot::First, 481, none, kept);
+    takes(&rt, Spot::Fixed(40), 472, placed(0, 40), covered);
+    takes(&rt, Spot::Fixed(40), 473, none, kept);
+    takes(&rt, Spot::Fixed(28), 484, placed(0, 28), covered);
+    takes(&rt, Spot::Fixed(28), 485, none, kept);
+    takes(&rt, Spot::Fixed(27), 0, none, kept);
 }
 
 // ---- edits that stop
@@ -465,13 +447,35 @@ fn walk_on(
 }
 
 /// All components of a device, none of which is damaged.
-pub fn components(rt: &(impl Abort + AllocGlobal), device: MemFlash) -> Result<Vec<u8>, Fail> {
+pub fn components(rt: &(impl Abort + AllocGlobal), device: MemFlash) -> Vec<u8> {
     let mut paged = Paged::new(device);
     let region = whole(rt, &paged);
     let mut told = Vec::new(rt.alloc());
-    let ends = walk_on(&mut Walk::new(region), &mut paged, &mut told)?;
+    let ends = walk_on(&mut Walk::new(region), &mut paged, &mut told).expect(rt, "memory");
     assert!(rt; ends);
-    Ok(told)
+    told
+}
+
+/// All components of such a device.
+fn components_of(rt: &(impl Abort + AllocGlobal), size: usize, parts: Parts) -> Vec<u8> {
+    components(rt, device_with(rt, size, parts))
+}
+
+/// What is done to a region.
+#[derive(Clone, Copy)]
+pub enum Deed<'a> {
+    Remove(&'a [u8]),
+    Format,
+    Add(New<'a>),
+}
+
+/// Does this to the whole of a device, and answers the fault.
+pub fn fault_of<F: Flash>(rt: &impl Abort, paged: &mut Paged<F>, deed: Deed) -> Option<EditFault> {
+    match deed {
+        Deed::Remove(name) => remove_from(rt, paged, name).err(),
+        Deed::Format => format_all(rt, paged).err(),
+        Deed::Add(new) => add_to(rt, paged, new, &mut source_of(rt, new.content)).err(),
+    }
 }
 
 /// An edit of a region: its size, what it holds before, and what it holds after.
@@ -482,20 +486,26 @@ pub struct Edit<'a> {
     pub after: Parts<'a>,
 }
 
-/// A device has the components of one of two regions of this size.
-pub fn leaves(
-    rt: &(impl Abort + AllocGlobal),
-    device: MemFlash,
-    size: usize,
-    left: [Parts; 2],
-) -> Result<(), Fail> {
-    let found = components(rt, device)?;
-    let one = components(rt, device_with(rt.alloc(), size, left[0])?)?;
-    if found.as_slice() != one.as_slice() {
-        let other = components(rt, device_with(rt.alloc(), size, left[1])?)?;
-        same_bytes(rt, found.as_slice(), other.as_slice());
+/// An edit of 512 bytes.
+pub fn edit_of<'a>(before: Parts<'a>, after: Parts<'a>) -> Edit<'a> {
+    Edit {
+        size: 512,
+        before,
+        after,
     }
-    Ok(())
+}
+
+/// A device has the components of one of two regions of this size.
+pub fn leaves(rt: &(impl Abort + AllocGlobal), device: MemFlash, size: usize, left: [Parts; 2]) {
+    let found = components(rt, device);
+    let one = components_of(rt, size, left[0]);
+    if found.as_slice() != one.as_slice() {
+        same_bytes(
+            rt,
+            found.as_slice(),
+            components_of(rt, size, left[1]).as_slice(),
+        );
+    }
 }
 
 /// An edit has finished and left the bytes of after, or this side has stopped it: then it has left the components of
@@ -506,168 +516,82 @@ pub fn has_finished(
     fault: Option<EditFault>,
     side: EditFault,
     device: MemFlash,
-) -> Result<bool, Fail> {
+) -> bool {
     if fault.is_none() {
-        holds(rt, &device, edit.size, edit.after)?;
-        return Ok(true);
+        holds(rt, &device, edit.size, edit.after);
+        return true;
     }
     equal(rt, &fault, &Some(side));
     let last = match side {
         EditFault::Device => edit.after,
         _ => edit.before,
     };
-    leaves(rt, device, edit.size, [edit.before, last])?;
-    Ok(false)
+    leaves(rt, device, edit.size, [edit.before, last]);
+    false
 }
 
-/// A device with what an edit finds, which refuses all calls after the first k.
-fn failing(
-    alloc: Global,
-    edit: Edit,
-    k: u64,
-    part: usize,
-) -> Result<Paged<FailAt<MemFlash>>, Fail> {
-    let device = device_with(alloc, edit.size, edit.before)?;
-    Ok(Paged::new(FailAt::new(device, k, part)))
-}
-
-/// A removal on a device that refuses all calls after the first k.
-fn removal_stops(
-    rt: &(impl Abort + AllocGlobal),
-    name: &[u8],
-    edit: Edit,
-    k: u64,
-    part: usize,
-) -> Result<bool, Fail> {
-    let mut paged = failing(rt.alloc(), edit, k, part)?;
-    let fault = remove_from(rt, &mut paged, name).err();
+/// An edit on a device that refuses all calls after the first k. Answers whether it has finished.
+fn stops(rt: &(impl Abort + AllocGlobal), deed: Deed, edit: Edit, k: u64, part: usize) -> bool {
+    let device = device_with(rt, edit.size, edit.before);
+    let mut paged = Paged::new(FailAt::new(device, k, part));
+    let fault = fault_of(rt, &mut paged, deed);
     let device = paged.into_flash().into_inner();
     has_finished(rt, edit, fault, EditFault::Device, device)
 }
 
-/// A removal that joins free space on both sides.
-fn joining_removal_stops(
-    rt: &(impl Abort + AllocGlobal),
-    k: u64,
-    part: usize,
-) -> Result<bool, Fail> {
-    let edit = Edit {
-        size: 512,
-        before: BETWEEN,
-        after: FRESH,
-    };
-    removal_stops(rt, b"m", edit, k, part)
-}
-
-/// The removal of the first of two components of a name.
-fn first_removal_stops(rt: &(impl Abort + AllocGlobal), k: u64, part: usize) -> Result<bool, Fail> {
-    let edit = Edit {
-        size: 512,
-        before: TWICE,
-        after: ONCE,
-    };
-    removal_stops(rt, b"x", edit, k, part)
-}
-
-fn format_stops(rt: &(impl Abort + AllocGlobal), k: u64, part: usize) -> Result<bool, Fail> {
-    let edit = Edit {
-        size: 512,
-        before: WITH_A,
-        after: FRESH,
-    };
-    let mut paged = failing(rt.alloc(), edit, k, part)?;
-    let fault = format_all(rt, &mut paged).err();
-    let device = paged.into_flash().into_inner();
-    has_finished(rt, edit, fault, EditFault::Device, device)
-}
-
-/// An addition on a device that refuses all calls after the first k.
-fn addition_stops(
-    rt: &(impl Abort + AllocGlobal),
-    new: New,
-    edit: Edit,
-    k: u64,
-    part: usize,
-) -> Result<bool, Fail> {
-    let mut paged = failing(rt.alloc(), edit, k, part)?;
-    let mut source = source_of(rt, new.content);
-    let fault = add_to(rt, &mut paged, new, &mut source).err();
-    let device = paged.into_flash().into_inner();
-    has_finished(rt, edit, fault, EditFault::Device, device)
-}
-
-fn first_addition_stops(
-    rt: &(impl Abort + AllocGlobal),
-    k: u64,
-    part: usize,
-) -> Result<bool, Fail> {
-    let edit = Edit {
-        size: 512,
-        before: FRESH,
-        after: WITH_A,
-    };
-    addition_stops(rt, NEW_A, edit, k, part)
-}
-
-fn later_addition_stops(
-    rt: &(impl Abort + AllocGlobal),
-    k: u64,
-    part: usize,
-) -> Result<bool, Fail> {
-    let edit = Edit {
-        size: 512,
-        before: WITH_A,
-        after: WITH_B_LATER,
-    };
-    let new = b(Spot::Aligned(256), &MAGIC_20);
-    addition_stops(rt, new, edit, k, part)
+/// Which of all edits finish within the first k calls. The first removal joins free space on both sides, and the second
+/// takes the first of two components of a name.
+fn finish(rt: &(impl Abort + AllocGlobal), k: u64, part: usize) -> [bool; 5] {
+    let later = b(Spot::Aligned(256), &MAGIC_20);
+    [
+        stops(rt, Deed::Remove(b"m"), edit_of(BETWEEN, FRESH), k, part),
+        stops(rt, Deed::Remove(b"x"), edit_of(TWICE, ONCE), k, part),
+        stops(rt, Deed::Format, edit_of(WITH_A, FRESH), k, part),
+        stops(rt, Deed::Add(NEW_A), edit_of(FRESH, WITH_A), k, part),
+        stops(rt, Deed::Add(later), edit_of(WITH_A, WITH_B_LATER), k, part),
+    ]
 }
 
 /// Stops all edits at each call in turn, until one call more lets them finish. None finishes without a call.
-fn stop_each(rt: &(impl Abort + AllocGlobal), part: usize) -> Result<(), Fail> {
+fn stop_each(rt: &(impl Abort + AllocGlobal), part: usize) {
     for k in 0..20 {
-        let joined = joining_removal_stops(rt, k, part)?;
-        let removed = first_removal_stops(rt, k, part)?;
-        let formatted = format_stops(rt, k, part)?;
-        let first = first_addition_stops(rt, k, part)?;
-        let later = later_addition_stops(rt, k, part)?;
-        assert!(rt; k > 0 || !(joined | removed | formatted | first | later));
-        if joined & removed & formatted & first & later {
-            return Ok(());
+        let finished = finish(rt, k, part);
+        assert!(rt; k > 0 || finished == [false; 5]);
+        if finished == [true; 5] {
+            return;
         }
     }
-    Err("an edit has not finished")?
+    panic!(rt; "an edit has not finished");
 }
 
 #[test]
-fn an_edit_stops_at_any_call(rt: HostRuntime) -> Result<(), Fail> {
-    stop_each(&rt, 0)?;
-    stop_each(&rt, 1)?;
-    stop_each(&rt, 17)?;
-    stop_each(&rt, 4096)?;
-    Ok(())
+fn an_edit_stops_at_any_call(rt: HostRuntime) {
+    stop_each(&rt, 0);
+    stop_each(&rt, 1);
+    stop_each(&rt, 17);
+    stop_each(&rt, 4096);
 }
 
 /// An addition of 9000 bytes from a source that refuses all reads after the first k.
-fn source_stops(rt: &(impl Abort + AllocGlobal), k: u64) -> Result<bool, Fail> {
+fn source_stops(rt: &(impl Abort + AllocGlobal), k: u64) -> bool {
     let edit = Edit {
         size: 16384,
         before: &[(0, &LAST_16384)],
         after: &[(0, &B_9000), (28, &LONG), (9088, &LAST_7296)],
     };
-    let mut paged = Paged::new(device_with(rt.alloc(), edit.size, edit.before)?);
     let mut source = FailSource::new(source_of(rt, &LONG), k);
+    let mut paged = Paged::new(device_with(rt, edit.size, edit.before));
     let fault = add_to(rt, &mut paged, b(Spot::First, &LONG), &mut source).err();
     has_finished(rt, edit, fault, EditFault::Source, paged.into_flash())
 }
 
 #[test]
-fn a_source_stops_at_any_read(rt: HostRuntime) -> Result<(), Fail> {
+fn a_source_stops_at_any_read(rt: HostRuntime) {
     for k in 0..20 {
-        if source_stops(&rt, k)? {
+        if source_stops(&rt, k) {
             assert!(rt; k > 0);
-            return Ok(());
+            return;
         }
     }
-    Err("an addition has not finished")?
+    panic!(rt; "an addition has not finished");
 }
