@@ -239,8 +239,8 @@ fn types_have_numbers(rt: HostRuntime) {
 
 /// A number is read as the type of that number, and what is neither a number nor a name isn't read.
 fn numbered(rt: &impl Abort, text: &str, number: Option<u32>) {
-    assert_eq!(rt; type_number(text), number, "at {text}");
-    assert_eq!(rt; read_number(text), number, "at {text}");
+    let read = (text, type_number(text), read_number(text));
+    equal(rt, &read, &(text, number, number));
 }
 
 #[test]
@@ -269,6 +269,6 @@ fn types_have_names(rt: HostRuntime) {
 }
 
 fn named(rt: &impl Abort, kind: u32, name: &str) {
-    assert_eq!(rt; type_name(kind), Some(name), "at {kind:#x}");
-    assert_eq!(rt; type_number(name), Some(kind), "at {kind:#x}");
+    let read = (type_name(kind), type_number(name));
+    equal(rt, &read, &(Some(name), Some(kind)));
 }
