@@ -272,29 +272,32 @@ impl Write for Short {
     }
 }
 
-/// Lists an image, and writes a region of it.
-fn change<F: Flash, S: Source>(
+/// Commands on an image, with this source, are done in this order, and write these texts.
+fn obeys<F: Flash, S: Source>(
     rt: &(impl Abort + AllocGlobal),
     paged: &mut Paged<F>,
     source: &mut S,
+    rows: &[(Command, &[u8])],
 ) {
-    runs(rt, paged, &PRINT, source, Ok(()), SHOWN);
-    runs(rt, paged, &WRITE, source, Ok(()), b"");
-}
-
-fn open_device(rt: &(impl Abort + Files<File = File>), image: &str) -> FileFlash {
-    FileFlash::open(rt, image).expect(rt, "an image")
+    for (command, text) in rows {
+        runs(rt, paged, command, source, Ok(()), text);
+    }
 }
 
 fn open_source(rt: &(impl Abort + Files<File = File>), content: &str) -> FileSource {
     FileSource::open(rt, content).expect(rt, "a source")
 }
 
-/// Lists an image in a file, and writes a region of it from another file.
-fn change_file(rt: &(impl Abort + AllocGlobal + Files<File = File>), image: &str, content: &str) {
-    let device = open_device(rt, image);
+/// The same of an image in a file, with a source in another.
+fn obeys_on_files(
+    rt: &(impl Abort + AllocGlobal + Files<File = File>),
+    image: &str,
+    content: &str,
+    rows: &[(Command, &[u8])],
+) {
+    let device = FileFlash::open(rt, image).expect(rt, "an image");
     let mut source = open_source(rt, content);
-    change(rt, &mut Paged::new(device), &mut source);
+    obeys(rt, &mut Paged::new(device), &mut source, rows);
 }
 
 /// Makes a file of these bytes.
@@ -319,7 +322,8 @@ fn remove(rt: &(impl Abort + Files<File = File>), names: &[&str]) {
 fn an_image_in_a_file(rt: HostRuntime) {
     write_file(&rt, "image.rom", &image_of(&rt, SMALL));
     write_file(&rt, "source", &[7; 512]);
-    change_file(&rt, "image.rom", "source");
+    let rows: [(Command, &[u8]); 2] = [(PRINT, SHOWN), (WRITE, b"")];
+    obeys_on_files(&rt, "image.rom", "source", &rows);
     file_holds(&rt, "image.rom", WRITTEN);
     remove(&rt, &["image.rom", "source"]);
 }

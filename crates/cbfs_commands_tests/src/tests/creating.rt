@@ -3,7 +3,7 @@
 use super::adding::{EMPTY, OTHER_MAP, first};
 use super::{
     A, COREBOOT, MAP, PRINT, Parts, answers, device_of, device_with, equal, file_holds, filled,
-    holds, holds_image, image_of, open_device, open_source, remove, runs, write_file, writes,
+    holds, holds_image, image_of, obeys_on_files, open_source, remove, runs, write_file, writes,
 };
 use arrayvec::ArrayVec;
 use cbfs_commands::{Command, MOST_REGIONS, Refusal, create_size};
@@ -190,20 +190,15 @@ fn make(rt: &(impl Abort + AllocGlobal + Files<File = File>), image: &str, table
     creates(rt, &mut Paged::new(device), &mut source, Ok(()));
 }
 
-/// Adds a source to an image that has just been made.
-fn add<F: Flash, S: Source>(rt: &(impl Abort + AllocGlobal), paged: &mut Paged<F>, source: &mut S) {
-    runs(rt, paged, &PRINT, source, Ok(()), FRESH_TEXT);
-    let addition = first(b"a", HashChoice::Plain);
-    runs(rt, paged, &addition, source, Ok(()), b"");
-    let after = b"a\t0x0\traw\t10\tnone\n(empty)\t0x40\tnull\t416\tnone\n";
-    runs(rt, paged, &PRINT, source, Ok(()), after);
-}
-
 /// Adds a file to an image in a file that has just been made.
-fn add_file(rt: &(impl Abort + AllocGlobal + Files<File = File>), image: &str, content: &str) {
-    let device = open_device(rt, image);
-    let mut source = open_source(rt, content);
-    add(rt, &mut Paged::new(device), &mut source);
+fn add(rt: &(impl Abort + AllocGlobal + Files<File = File>), image: &str, content: &str) {
+    let after = b"a\t0x0\traw\t10\tnone\n(empty)\t0x40\tnull\t416\tnone\n";
+    let rows: [(Command, &[u8]); 3] = [
+        (PRINT, FRESH_TEXT),
+        (first(b"a", HashChoice::Plain), b""),
+        (PRINT, after),
+    ];
+    obeys_on_files(rt, image, content, &rows);
 }
 
 #[test]
@@ -212,6 +207,6 @@ fn an_image_is_made_in_a_file(rt: HostRuntime) {
     write_file(&rt, "digits", b"0123456789");
     make(&rt, "created.rom", "flashmap");
     file_holds(&rt, "created.rom", EMPTY);
-    add_file(&rt, "created.rom", "digits");
+    add(&rt, "created.rom", "digits");
     remove(&rt, &["flashmap", "digits", "created.rom"]);
 }

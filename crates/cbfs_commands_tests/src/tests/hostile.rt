@@ -240,11 +240,20 @@ fn write_half<F: Flash, S: Source>(
 
 /// A source refuses all reads after the first k.
 fn source_stops(rt: &(impl Abort + AllocGlobal), bytes: &[u8], k: u64) {
-    let mut source = FailSource::new(source_of(rt, bytes), k);
     let mut paged = Paged::new(device_with(rt, halves(rt)));
-    let fault = Err(Refusal::Source);
-    runs(rt, &mut paged, &WRITE, &mut source, fault, b"");
+    write_some(rt, &mut paged, bytes, k);
     is_stopped(rt, paged.flash().bytes(), bytes, 0);
+}
+
+/// Writes the region from a source of these bytes that refuses all reads after the first k.
+fn write_some<F: Flash>(
+    rt: &(impl Abort + AllocGlobal),
+    paged: &mut Paged<F>,
+    bytes: &[u8],
+    k: u64,
+) {
+    let mut source = FailSource::new(source_of(rt, bytes), k);
+    runs(rt, paged, &WRITE, &mut source, Err(Refusal::Source), b"");
 }
 
 #[test]

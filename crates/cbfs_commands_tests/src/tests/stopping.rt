@@ -6,22 +6,18 @@ use cbfs_edit::HashChoice;
 use flash_store::{Ahead, Erased, FlakyFile, Flash, MemSource, Paged, StoredFlash, WriteSink};
 use std::process::Abort;
 
-/// A device in such a file, as one in a file of the system is.
-type Device = StoredFlash<Ahead<Erased<FlakyFile>>>;
-
 const A_ROW: &[u8] = b"a\t0x0\traw\t10\tnone\n(empty)";
 
 const BOTH_ROWS: &[u8] = b"a\t0x0\traw\t10\tnone\nb\t0x40\traw\t20\tnone\n(empty)";
 
 const NO_ROW: &[u8] = b"(empty)";
 
-/// The small image in a file that moves at most `most` bytes a call, is interrupted after each `between` calls, and makes
+/// A file of the small image that moves at most `most` bytes a call, is interrupted after each `between` calls, and makes
 /// `made` of them.
-fn device(rt: &(impl Abort + AllocGlobal), most: usize, between: u64, made: u64) -> Paged<Device> {
+fn flaky(rt: &(impl Abort + AllocGlobal), most: usize, between: u64, made: u64) -> FlakyFile {
     let image = image_of(rt, SMALL);
     assert!(rt; image.len() < 1 << 32);
-    let file = FlakyFile::new(image, most, between, made);
-    Paged::new(StoredFlash::new(Ahead::new(Erased::new(file))))
+    FlakyFile::new(image, most, between, made)
 }
 
 /// How a command ends, whose source has 20 bytes.
@@ -57,7 +53,9 @@ fn is_done(
     after: &[u8],
     calls: (usize, u64, u64),
 ) -> bool {
-    let mut paged = device(rt, calls.0, calls.1, calls.2);
+    let file = flaky(rt, calls.0, calls.1, calls.2);
+    // as one in a file of the system is
+    let mut paged = Paged::new(StoredFlash::new(Ahead::new(Erased::new(file))));
     let answer = ends(rt, &mut paged, command);
     let done = answer == Ok(());
     assert!(rt; done || answer == Err(Refusal::Device));
