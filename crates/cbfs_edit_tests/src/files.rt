@@ -7,9 +7,6 @@ use cbfs_edit::{EditFault, Spot};
 use flash_store::{Ahead, Erased, FlakyFile, MemFlash, Paged, StoredFlash};
 use std::process::Abort;
 
-/// A device in such a file, as one in a file of the system is.
-type Device = StoredFlash<Ahead<Erased<FlakyFile>>>;
-
 /// The most bytes that a call moves, how many calls lie between two interruptions, and how many calls are made.
 #[derive(Clone, Copy)]
 struct Calls {
@@ -18,17 +15,18 @@ struct Calls {
     made: u64,
 }
 
-/// A device with what an edit finds.
-fn device(rt: &(impl Abort + AllocGlobal), edit: Edit, calls: Calls) -> Paged<Device> {
+/// A file with what an edit finds.
+fn flaky(rt: &(impl Abort + AllocGlobal), edit: Edit, calls: Calls) -> FlakyFile {
     let bytes = bytes_with(rt, edit.size, edit.before);
     assert!(rt; bytes.len() < 1 << 32);
-    let file = FlakyFile::new(bytes, calls.most, calls.between, calls.made);
-    Paged::new(StoredFlash::new(Ahead::new(Erased::new(file))))
+    FlakyFile::new(bytes, calls.most, calls.between, calls.made)
 }
 
 /// Whether an edit finishes within these calls of the file. It has left what it should.
 fn stops(rt: &(impl Abort + AllocGlobal), deed: Deed, edit: Edit, calls: Calls) -> bool {
-    let mut paged = device(rt, edit, calls);
+    let file = flaky(rt, edit, calls);
+    // as one in a file of the system is
+    let mut paged = Paged::new(StoredFlash::new(Ahead::new(Erased::new(file))));
     let fault = fault_of(rt, &mut paged, deed);
     let file = paged.into_flash().into_inner().into_inner().into_inner();
     has_left(rt, edit, fault, file.bytes())

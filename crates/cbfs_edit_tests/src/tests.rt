@@ -422,10 +422,8 @@ fn put_down(told: &mut Vec<u8>, cell: &Cell, bytes: &[u8]) -> Result<(), AllocEr
     }
     told.extend_from_slice(&cell.at.to_be_bytes())?;
     let n = (cell.head.offset as usize).saturating_add(cell.head.len as usize);
-    for byte in bytes.iter().skip(cell.at as usize).take(n) {
-        told.push(*byte)?;
-    }
-    Ok(())
+    let rest = bytes.get(cell.at as usize..).unwrap_or(&[]);
+    told.extend_from_slice(rest.get(..n).unwrap_or(rest))
 }
 
 /// Puts down the components up to the end of a walk, and answers whether no entry is damaged.
