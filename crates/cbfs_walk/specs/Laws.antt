@@ -24,7 +24,7 @@ GoesOn x at (Err faults.RegionShape) = IsTrue (has_bad_size (length x))
 GoesOn x at (Err faults.NotCbfs) = (at ≡ 0) × (entry x ≡ absent)
 GoesOn x at (Err faults.Device) = ⊥
 
--- the cells that a walk gives, then the cut of the rest, are the cut of the whole
+-- what a walk answers at a place is how the cut goes on there
 abbrev pub WalksFollowTheCut : Type 0
 WalksFollowTheCut = (x : List ℕ) (at : ℕ) → at ≤ length x → at % 64 ≡ 0 → GoesOn x at (answer_at x at)
 

@@ -1,7 +1,8 @@
 //! The laws by which callers go on from what a walk gives. Nothing runs here: a call gives its caller the law.
 ghost use Rattle.cbfs_walk.specs.Laws.{WalksFollowTheCut, ReadingsTakeSteps, CellsStandInTheirImage};
 
-/// The cells that a walk gives, one after the other, are those of the region's cut, and it ends as the cut ends.
+/// What a walk answers at a place is how the region's cut goes on there: its next cell, with the cut of what is behind it,
+/// or its end.
 pub fn walks_follow_the_cut()
     ensures { WalksFollowTheCut }
 {}

@@ -11,7 +11,7 @@ ghost use Rattle.fmd_lang.specs.LayoutFaults.{parent_fault};
 
 use crate::table::Table;
 
-/// A text has one tree.
+/// A text has at most one tree.
 pub fn one_tree(text: &[u8])
     ensures { (t u : Tree) → IsSection t (words text.now) → IsSection u (words text.now) → t ≡ u }
 {}
@@ -27,12 +27,13 @@ pub fn faultless_texts_have_a_tree(text: &[u8])
     ensures { (t : Tree) × IsSection t (words text.now) }
 {}
 
-/// Sections that are laid have no fault of their places.
+/// Sections that are laid have no fault among those of one parent: no second omitted size, none empty, none over another or
+/// outside.
 pub fn laid_sections_have_no_fault(table: &Table)
     ensures { (t : Tree) → IsTable t table.now → parent_fault 0 table.now.size t ≡ None }
 {}
 
-/// A tree has one table.
+/// A tree has at most one table.
 pub fn one_table(one: &Table, other: &Table)
     ensures { (t : Tree) → IsTable t one.now → IsTable t other.now
         → (one.now.base ≡ other.now.base) × (one.now.size ≡ other.now.size) × (one.now.name ≡ other.now.name)
