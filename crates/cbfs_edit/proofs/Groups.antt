@@ -96,10 +96,14 @@ module _ (x : List ℕ) (group : Freed) (g : CellsBetween x group.start group.en
   removed-bytes : removed x group ≡ overwritten x group.start (blank_header (group.end - group.start) (group.end == length x) ++ space)
   removed-bytes = ap (λ b. overwritten x group.start (blank_header (group.end - group.start) b ++ space)) (is_some-cond (group.end == length x) (last_four x))
 
+  -- the components of the finished removal
+  pub removed-components : components (removed x group) ≡ components_from 0 g.before ++ components_from group.end g.after
+  removed-components = blanked-components x group g range small (removed x group) space removed-room removed-bytes
+
   -- After the commit the cells are those of the finished removal.
   pub blanked-same : (y : List ℕ) → IsBlanked x group y → SameCells y (removed x group)
   blanked-same y is = record {
-    components = blanked-components x group g range small y is.more is.room is.bytes ∙ sym (blanked-components x group g range small (removed x group) space removed-room removed-bytes);
+    components = blanked-components x group g range small y is.more is.room is.bytes ∙ sym removed-components;
     end = blanked-end x group g range small y is.more is.room is.bytes ∙ sym (blanked-end x group g range small (removed x group) space removed-room removed-bytes);
   }
 

@@ -23,3 +23,4 @@ pub mod Added
 pub mod Adding
 pub mod EditLists
 pub mod RunOrder
+pub mod Taken

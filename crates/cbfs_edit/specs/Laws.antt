@@ -5,7 +5,7 @@ use Rattle.flash_format.specs.Cut.{cut}
 use Rattle.flash_format.specs.Made.{IsDigest}
 use Rattle.cbfs_edit.specs.Additions.{NewComponent, AddsOne, addition_in}
 use Rattle.cbfs_edit.specs.Groups.{group_of, IsNot, IsGroupOf}
-use Rattle.cbfs_edit.specs.Removals.{removed, removal_in}
+use Rattle.cbfs_edit.specs.Removals.{LosesOne, removed, removal_in}
 use Rattle.cbfs_edit.specs.Stops.{IsBlanked, SameCells}
 use Rattle.cbfs_edit.specs.Formats.{formatted, IsOneFreeCell}
 use Rattle.cbfs_edit.specs.Runs.{runs, IsRunOf}
@@ -19,6 +19,10 @@ use Rattle.cbfs_edit.specs.declared.place.Spot.{Spot}
 -- components are those of the finished removal
 abbrev pub BlankedGroupsLackTheComponent : Type 0
 BlankedGroupsLackTheComponent = (x name : List ℕ) (group : Freed) (y : List ℕ) → length x < 2 ^ 32 → removal_in x name ≡ Ok group → IsBlanked x group y → SameCells y (removed x group)
+
+-- a removal takes the first component of the name, and all others stay, with their places and bytes
+abbrev pub RemovalsTakeOneComponent : Type 0
+RemovalsTakeOneComponent = (x name : List ℕ) (group : Freed) → length x < 2 ^ 32 → removal_in x name ≡ Ok group → LosesOne name x (removed x group)
 
 -- the group that a removal takes is the first component of the name, with all free cells that touch it
 abbrev pub GroupsAreExact : Type 0

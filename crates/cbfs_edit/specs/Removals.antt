@@ -1,6 +1,8 @@
 -- What a removal leaves, and how it is refused.
-use Rattle.std.specs.Prelude.{ℕ, ◌-◌, List, length, drop, Option, Some, None, Result, Ok, Err, ◌==◌, if◌then◌else◌}
+use Rattle.std.specs.Str.{bytes_eq}
+use Rattle.std.specs.Prelude.{◌≡◌, ℕ, ◌-◌, true, false, All, List, ◌∷◌, ◌++◌, length, drop, Option, Some, None, Result, Ok, Err, ◌==◌, if◌then◌else◌}
 use Rattle.flash_format.specs.Blanks.{blank}
+use Rattle.flash_format.specs.Components.{Component, components}
 use Rattle.flash_format.specs.Cut.{End, complete, tail, damage, cut}
 use Rattle.flash_store.specs.Bytes.{overwritten}
 use Rattle.cbfs_walk.specs.Shapes.{shape, refused_or}
@@ -21,6 +23,16 @@ kept_at x end = if end == length x then Some (last_four x) else None
 -- a region with one blank in place of a group
 abbrev pub removed : List ℕ → Freed → List ℕ
 removed x group = overwritten x group.start (blank (group.end - group.start) (kept_at x group.end))
+
+-- one component is gone, the first of a name, and all others are as they were
+pub record LosesOne (name x y : List ℕ) : Type 0 where
+  pub before : List Component
+  pub component : Component
+  pub after : List Component
+  pub was : components x ≡ before ++ (component ∷ after)
+  pub is : components y ≡ before ++ after
+  pub named : bytes_eq component.name name ≡ true
+  pub first : All (λ (c : Component). bytes_eq c.name name ≡ false) before
 
 -- a damage that ends the cells comes first
 abbrev pub unless_damaged : {A : Type 0} → ℕ → End → Result A EditFault → Result A EditFault
