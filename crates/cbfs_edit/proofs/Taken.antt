@@ -1,17 +1,16 @@
 -- A removal takes one component, the first of its name, and leaves all others with their places and bytes.
-use Rattle.std.proofs.Common.{◌≡◌, ℕ, ◌+◌, ◌<◌, Bool, true, false, cond, List, [], ◌∷◌, ◌++◌, length, sym, ◌∙◌, ap, subst, refl, arith, All, append_assoc, length-append, Ok}
+use Rattle.std.proofs.Common.{◌≡◌, ℕ, ◌+◌, ◌<◌, Bool, true, false, cond, List, [], ◌∷◌, ◌++◌, length, sym, ◌∙◌, ap, subst, refl, arith, All, append_assoc, length-append}
 use Rattle.std.specs.Str.{bytes_eq}
 use Rattle.std.specs.List.{concat}
 use Rattle.std.proofs.lemmas.List.Elements.{All-nil, All-cons, All-head, All-tail}
 use Rattle.flash_format.specs.Head.{head_of, is_free}
 use Rattle.flash_format.specs.Cut.{cut, IsCut}
-use Rattle.flash_format.specs.Components.{Component, cell_name, component_at, components, components_from}
+use Rattle.flash_format.specs.Components.{Component, component_at, components_from}
 use Rattle.flash_format.specs.Splices.{AllFree, CellsBetween}
 use Rattle.flash_format.proofs.CellLists.{components-append}
 use Rattle.flash_format.proofs.Splices.{components-free, concat-append}
-use Rattle.cbfs_edit.specs.Groups.{IsComponent, IsGroupOf, IsNot, group_of}
+use Rattle.cbfs_edit.specs.Groups.{IsComponent, IsGroupOf, IsNot}
 use Rattle.cbfs_edit.specs.Laws.{RemovalsTakeOneComponent}
-use Rattle.cbfs_edit.specs.Removals.{removed, removal_in}
 use Rattle.cbfs_edit.specs.declared.group.Freed.{Freed}
 use Rattle.cbfs_edit.proofs.Exact.{group_exact}
 use Rattle.cbfs_edit.proofs.Groups.{group_range, removed-components}
