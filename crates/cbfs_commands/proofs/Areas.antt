@@ -43,7 +43,7 @@ one_less image at n i lt =
 
 -- the rows of the areas before this one are written, and the rest are those from it on
 pub record ListingAreas {F : Type 0} (facts : F → Device) (at n i : ℕ) (old now : Pages F) (before after : Option (List ℕ)) (faults_before faults_after : ℕ) : Type 0 where
-  pub reads : HasRead facts i old now
+  pub reads : HasRead facts i 0 old now
   pub sink : faults_before ≤ faults_after
   pub told : IsTrue (facts old.device).honest → Telling (shows (rows_of (facts old.device).content n at)) (rows_left (facts old.device).content at n i) before after
 
@@ -59,10 +59,10 @@ listing_start facts at n old out faults = record {
       subst (λ (t : Told). Telling all t out out) is (telling-none all out);
 }
 
-pub listing_more : {F : Type 0} (facts : F → Device) (at n i : ℕ) (old mid new : Pages F) (a b c : Option (List ℕ)) (k l m : ℕ) → i < n → ListingAreas facts at n i old mid a b k l → HasRead facts 1 mid new → l ≤ m
+pub listing_more : {F : Type 0} (facts : F → Device) (at n i : ℕ) (old mid new : Pages F) (a b c : Option (List ℕ)) (k l m : ℕ) → i < n → ListingAreas facts at n i old mid a b k l → HasRead facts 1 0 mid new → l ≤ m
     → (IsTrue (facts mid.device).honest → Appends b c (area_row (area_of (drop (at + 42 * i) (facts mid.device).content)))) → ListingAreas facts at n (i + 1) old new a c k m
 listing_more facts at n i old mid new a b c k l m lt p reads rose wrote = record {
-  reads = HasRead-then facts i 1 old mid new p.reads reads;
+  reads = HasRead-then facts i 1 0 old mid new p.reads reads;
   sink = omega (arith, p.sink, rose);
   told = λ h.
       let image = (facts old.device).content in

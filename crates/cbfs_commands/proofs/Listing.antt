@@ -34,7 +34,7 @@ pub record Listed (x : List ℕ) (cell : Cell) (w : AttrWalking) (before after :
 pub record Listing {F : Type 0} (facts : F → Device) (r : Range) (cell : Cell) (w : AttrWalking) (old now : Pages F) (before after : Option (List ℕ)) (faults_before faults_after : ℕ) : Type 0 where
   pub same_cell : w.cell ≡ cell
   pub inside : w.at ≤ cell.head.offset
-  pub reads : HasRead facts (w.at / 8) old now
+  pub reads : HasRead facts (w.at / 8) 0 old now
   pub sink : faults_before ≤ faults_after
   pub told : IsTrue (facts old.device).honest → StandsIn (bytes_in r (facts old.device).content) cell → Listed (bytes_in r (facts old.device).content) cell w before after
 
@@ -43,7 +43,7 @@ pub listing_start : {F : Type 0} (facts : F → Device) (r : Range) (cell : Cell
 listing_start facts r cell w old out n same inside all = record {
   same_cell = same;
   inside = inside;
-  reads = HasRead-within facts 0 (w.at / 8) old old (omega arith) (HasRead-none facts old);
+  reads = HasRead-within facts 0 (w.at / 8) 0 old old (omega arith) (HasRead-none facts old);
   sink = omega arith;
   told = λ h stands. record {
     left = cell_attributes (cell_in (bytes_in r (facts old.device).content) cell);
@@ -61,11 +61,11 @@ none-is : (left : List Attribute) → None ≡ first_head left → left ≡ []
 none-is [] is = refl
 none-is (a ∷ others) is = absurd cc
 
-module _ {F : Type 0} (facts : F → Device) (r : Range) (cell : Cell) (w : AttrWalking) (old now mid : Pages F) (before after : Option (List ℕ)) (n m : ℕ) (p : Listing facts r cell w old now before after n m) (read : HasRead facts (attr_reads w) now mid) where
-  all-reads : (k : ℕ) → w.at / 8 + attr_reads w ≤ k → HasRead facts k old mid
-  all-reads k enough = HasRead-within facts (w.at / 8 + attr_reads w) k old mid enough (HasRead-then facts (w.at / 8) (attr_reads w) old now mid p.reads read)
+module _ {F : Type 0} (facts : F → Device) (r : Range) (cell : Cell) (w : AttrWalking) (old now mid : Pages F) (before after : Option (List ℕ)) (n m : ℕ) {refused : ℕ} (p : Listing facts r cell w old now before after n m) (read : HasRead facts (attr_reads w) refused now mid) where
+  all-reads : (k : ℕ) → w.at / 8 + attr_reads w ≤ k → HasRead facts k refused old mid
+  all-reads k enough = HasRead-within facts (w.at / 8 + attr_reads w) k refused old mid enough (HasRead-then facts (w.at / 8) (attr_reads w) refused old now mid p.reads read)
 
-  pub listing_reads : HasRead facts (cell.head.offset / 8) old mid
+  pub listing_reads : HasRead facts (cell.head.offset / 8) refused old mid
   listing_reads = all-reads (cell.head.offset / 8) (let e : w.cell.head.offset ≡ cell.head.offset = ap (λ (c : Cell). c.head.offset) p.same_cell in omega (arith, e, p.inside))
 
   -- a device's fault
@@ -97,16 +97,16 @@ module _ {F : Type 0} (facts : F → Device) (r : Range) (cell : Cell) (w : Attr
           (first-is l.left head (sym some ∙ now-first h stands)) told
 
       -- its line is written
-      pub listing_more : (v : AttrWalking) (last : Option (List ℕ)) (k : ℕ) → IsAttrIn w.at w.cell.head.offset head → v ≡ record w { at = w.at + head.len }
+      pub listing_more : (v : AttrWalking) (last : Option (List ℕ)) (k : ℕ) → refused ≡ 0 → IsAttrIn w.at w.cell.head.offset head → v ≡ record w { at = w.at + head.len }
           → (IsTrue (facts now.device).honest → (all : List Attribute) → attributes_left (bytes_in r (facts now.device).content) w ≡ Some all → attributes_left (bytes_in r (facts now.device).content) v ≡ Some (after_first all))
           → (IsTrue (facts old.device).honest → Appends after last (attribute_text head.tag head.len)) → m ≤ k → Listing facts r cell v old mid before last n k
-      listing_more v last k given moved rest wrote rose =
+      listing_more v last k none given moved rest wrote rose =
           let e : w.cell.head.offset ≡ cell.head.offset = ap (λ (c : Cell). c.head.offset) p.same_cell in
           let at : v.at ≡ w.at + head.len = ap (λ (q : AttrWalking). q.at) moved in
           record {
             same_cell = ap (λ (q : AttrWalking). q.cell) moved ∙ p.same_cell;
             inside = omega (arith, given.inside, e, at);
-            reads = all-reads (v.at / 8) (omega (arith, given.head, at));
+            reads = subst (λ n. HasRead facts (v.at / 8) n old mid) none (all-reads (v.at / 8) (omega (arith, given.head, at)));
             sink = omega (arith, p.sink, rose);
             told = λ h stands.
                 let l = p.told h stands in

@@ -69,7 +69,7 @@ pub record Printing {F : Type 0} (facts : F → Device) (verbose : Bool) (r : Ra
   pub going : w.ended ≡ None
   pub inside : w.at ≤ r.size
   pub aligned : w.at % 64 ≡ 0
-  pub reads : HasRead facts (region_reads verbose w.at) old now
+  pub reads : HasRead facts (region_reads verbose w.at) 0 old now
   pub sink : faults_before ≤ faults_after
   pub told : IsTrue (facts old.device).honest → Telling (print_region (bytes_in r (facts old.device).content) verbose) (print_from verbose (bytes_in r (facts old.device).content) w.at) before after
 
@@ -79,7 +79,7 @@ printing_start facts verbose r old out n = record {
   going = refl;
   inside = omega arith;
   aligned = refl;
-  reads = HasRead-within facts 0 (region_reads verbose 0) old old (omega arith) (HasRead-none facts old);
+  reads = HasRead-within facts 0 (region_reads verbose 0) 0 old old (omega arith) (HasRead-none facts old);
   sink = omega arith;
   told = λ h.
       let x = bytes_in r (facts old.device).content in
@@ -110,7 +110,7 @@ module _ {F : Type 0} (facts : F → Device) (verbose : Bool) (r : Range) (w : W
   stands c at is = sym (is ∙ ap (λ (k : Range). answer_at (bytes_in k (facts now.device).content) w.at) p.region ∙ ap (λ q. answer_at (bytes_in r (facts now.device).content) q) (sym at))
 
   -- a cell's row wasn't written whole
-  pub printing_stops : (c : Cell) (mid : Pages F) (last : Option (List ℕ)) (refusal : Refusal) → c.at ≡ w.at → HasRead facts (1 + c.span / 3840) now mid
+  pub printing_stops : (c : Cell) (mid : Pages F) (last : Option (List ℕ)) (refusal : Refusal) → c.at ≡ w.at → HasRead facts (1 + c.span / 3840) 0 now mid
       → (IsTrue (facts now.device).honest → Ok (steps.Cell c) ≡ answer_at (bytes_in w.region (facts now.device).content) w.at)
       → (IsTrue (facts mid.device).honest → StandsIn (bytes_in r (facts mid.device).content) c → Tells after last (Err refusal) (shows (shown_cell verbose c.at (cell_in (bytes_in r (facts mid.device).content) c))))
       → Tells before last (Err refusal) (print_region x verbose)
@@ -131,20 +131,20 @@ module _ {F : Type 0} (facts : F → Device) (verbose : Bool) (r : Range) (w : W
 
 -- a cell's row is written
 pub printing_more : {F : Type 0} (facts : F → Device) (verbose : Bool) (r : Range) (w v : Walking) (c : Cell) (old now mid next : Pages F) (before after last : Option (List ℕ)) (n m k : ℕ) → LiesIn r (facts old.device).content → Printing facts verbose r w old now before after n m
-    → IsCellIn w.region.size c × (c.at ≡ w.at) → v ≡ record w { at = w.at + c.span; steps = w.steps + 1 } → HasRead facts (1 + c.span / 3840) now mid → HasRead facts (cell_reads verbose c.span) mid next
+    → IsCellIn w.region.size c × (c.at ≡ w.at) → v ≡ record w { at = w.at + c.span; steps = w.steps + 1 } → HasRead facts (1 + c.span / 3840) 0 now mid → HasRead facts (cell_reads verbose c.span) 0 mid next
     → (IsTrue (facts now.device).honest → Ok (steps.Cell c) ≡ answer_at (bytes_in w.region (facts now.device).content) w.at)
     → (IsTrue (facts mid.device).honest → StandsIn (bytes_in r (facts mid.device).content) c → Appends after last (shown_cell verbose c.at (cell_in (bytes_in r (facts mid.device).content) c))) → m ≤ k
     → Printing facts verbose r v old next before last n k
 printing_more facts verbose r w v c old now mid next before after last n m k lies p given moved first second is wrote rose =
     let x = bytes_in r (facts old.device).content in
-    let both = HasRead-then facts (1 + c.span / 3840) (cell_reads verbose c.span) now mid next first second in
-    let all = HasRead-then facts (region_reads verbose w.at) (1 + c.span / 3840 + cell_reads verbose c.span) old now next p.reads both in
+    let both = HasRead-then facts (1 + c.span / 3840) (cell_reads verbose c.span) 0 now mid next first second in
+    let all = HasRead-then facts (region_reads verbose w.at) (1 + c.span / 3840 + cell_reads verbose c.span) 0 old now next p.reads both in
     rw moved (record {
       region = p.region;
       going = p.going;
       inside = let s : w.region.size ≡ r.size = ap (λ (q : Range). q.size) p.region in omega (arith, given.0.inside, given.1, s);
       aligned = omega (arith, p.aligned, given.0.whole);
-      reads = HasRead-within facts (region_reads verbose w.at + (1 + c.span / 3840 + cell_reads verbose c.span)) (region_reads verbose (w.at + c.span)) old next (in_reads verbose w.at c.span p.aligned given.0.whole given.0.positive) all;
+      reads = HasRead-within facts (region_reads verbose w.at + (1 + c.span / 3840 + cell_reads verbose c.span)) (region_reads verbose (w.at + c.span)) 0 old next (in_reads verbose w.at c.span p.aligned given.0.whole given.0.positive) all;
       sink = omega (arith, p.sink, rose);
       told = λ h.
           let now_honest = honest_still p.reads.device.calls.same_honesty h in

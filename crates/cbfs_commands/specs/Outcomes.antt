@@ -1,10 +1,10 @@
 -- What each command writes, leaves behind and answers, as a function of the whole image, the command and the source.
-use Rattle.std.specs.Prelude.{◌≡◌, ℕ, ◌<◌, ◌⊎◌, Bool, List, [], length, Option, None, Some, Result, Ok, Err, IsErrOf, ◌==◌, if◌then◌else◌}
+use Rattle.std.specs.Prelude.{◌≡◌, ◌≢◌, ℕ, ◌<◌, ◌⊎◌, Bool, List, [], length, Option, None, Some, Result, Ok, Err, IsErrOf, ◌==◌, if◌then◌else◌}
 use Rattle.std.specs.Io.KnownBytes.{Appends}
 use Rattle.flash_format.specs.Components.{Component, is_packed}
 use Rattle.flash_format.specs.Cut.{Cut, End, complete, tail, damage, cut}
 use Rattle.flash_store.specs.Bytes.{overwritten, FirstWritten, PartWritten}
-use Rattle.flash_store.specs.Device.{Device, Calls}
+use Rattle.flash_store.specs.Device.{Device, Calls, faults_told}
 use Rattle.flash_store.specs.Output.{AppendsPart}
 use Rattle.flash_store.specs.Pages.{Pages}
 use Rattle.flash_store.specs.Regions.{Range, bytes_in, region_of}
@@ -23,7 +23,7 @@ use Rattle.cbfs_commands.specs.declared.plan.Plan.{Plan}
 use Rattle.cbfs_commands.specs.declared.refusal.Refusal.{Refusal}
 use Rattle.cbfs_commands.specs.declared.refusal.Refusal.TheVariants as refusals
 use Rattle.cbfs_commands.specs.Creations.{created, plan_for}
-use Rattle.cbfs_commands.specs.Refusals.{edit_refusal, store_refusal, walk_refusal}
+use Rattle.cbfs_commands.specs.Refusals.{by_device, by_source, edit_refusal, store_refusal, walk_refusal}
 use Rattle.cbfs_commands.specs.Details.{rows_from}
 use Rattle.cbfs_commands.specs.Told.{Answer, Told, shows, refuses, AppendsPrefix}
 
@@ -158,9 +158,10 @@ Meets old new image answer o =
     ⊎ ((answer ≡ Err refusals.Device) × AppendsPrefix old new o.written)
     ⊎ ((answer ≡ Err refusals.Source) × AppendsPrefix old new o.written)
 
--- what a region holds once a write into it was stopped: a prefix of the source, and the old bytes; between them after a
--- fault of the device one piece that may hold anything
+-- What a region holds once a write into it was stopped: a prefix of the source, and the old bytes; between them after a
+-- fault of the device one piece that may hold anything. A source of another size changes nothing.
 pub record StopsIn (image : List ℕ) (region : Range) (source now : List ℕ) (answer : Answer) : Type 0 where
+  pub of_other_size : length source ≢ region.size → now ≡ image
   pub by_source : answer ≡ Err refusals.Source → FirstWritten region.start source image now
   pub by_device : answer ≡ Err refusals.Device → PartWritten region.start source image now
 
@@ -178,15 +179,12 @@ LeavesOr image answer o =
 -- What a call leaves that writes to the device, by at most n calls, from a source, by at most m: each fault is told only
 -- where that side failed.
 pub record HasWritten {F S : Type 0} (facts : F → Device) (source_facts : S → Device) (n m : ℕ) (old new : Pages F) (source_old source_new : S) (answer : Answer) : Type 0 where
-  pub calls : Calls n (facts old.device) (facts new.device)
-  pub source_calls : Calls m (source_facts source_old) (source_facts source_new)
-  pub device : IsErrOf answer refusals.Device → (facts old.device).faults < (facts new.device).faults
-  pub source : IsErrOf answer refusals.Source → (source_facts source_old).faults < (source_facts source_new).faults
+  pub calls : Calls n (faults_told by_device answer) (facts old.device) (facts new.device)
+  pub source_calls : Calls m (faults_told by_source answer) (source_facts source_old) (source_facts source_new)
   pub no_output : IsErrOf answer refusals.Output → ⊥
 
 -- what a call leaves that changes the device by itself, by at most n calls
 pub record HasEdited {F : Type 0} (facts : F → Device) (n : ℕ) (old new : Pages F) (answer : Answer) : Type 0 where
-  pub calls : Calls n (facts old.device) (facts new.device)
-  pub device : IsErrOf answer refusals.Device → (facts old.device).faults < (facts new.device).faults
+  pub calls : Calls n (faults_told by_device answer) (facts old.device) (facts new.device)
   pub no_source : IsErrOf answer refusals.Source → ⊥
   pub no_output : IsErrOf answer refusals.Output → ⊥

@@ -1,5 +1,5 @@
 -- The refusals of the layers below, as a command answers them, and answers that blame no side.
-use Rattle.std.specs.Prelude.{Result, IsErrOf}
+use Rattle.std.specs.Prelude.{ℕ, Result, IsErrOf}
 use Rattle.flash_store.specs.declared.fmap.StoreFault.{StoreFault}
 use Rattle.flash_store.specs.declared.fmap.StoreFault.TheVariants as store
 use Rattle.flash_store.specs.declared.paged.CopyFault.{CopyFault}
@@ -40,6 +40,15 @@ edit_refusal edit.NoSpace = refusals.NoSpace
 edit_refusal edit.BadName = refusals.BadName
 edit_refusal edit.BadType = refusals.BadType
 edit_refusal edit.BadAlign = refusals.BadAlign
+
+-- how many refused calls of the device a refusal tells, and how many of the source
+abbrev pub by_device : Refusal → ℕ
+by_device refusals.Device = 1
+by_device _ = 0
+
+abbrev pub by_source : Refusal → ℕ
+by_source refusals.Source = 1
+by_source _ = 0
 
 -- the answer blames no side: not the device, the output or the source
 pub record HasNoFault {T : Type 0} (answer : Result T Refusal) : Type 0 where

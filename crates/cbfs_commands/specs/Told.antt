@@ -1,9 +1,10 @@
 -- What a command that changes nothing writes and answers, and what a call did of it.
 use Rattle.std.specs.Prelude.{◌≡◌, ℕ, ◌<◌, ◌≤◌, ◌⊎◌, IsErrOf, List, [], ◌++◌, Option, Result, Ok, Err, length, take}
 use Rattle.std.specs.Io.KnownBytes.{Appends}
-use Rattle.flash_store.specs.Device.{Device}
+use Rattle.flash_store.specs.Device.{Device, faults_told}
 use Rattle.flash_store.specs.Pages.{Pages, HasRead}
 use Rattle.flash_store.specs.Output.{AppendsPart}
+use Rattle.cbfs_commands.specs.Refusals.{by_device}
 use Rattle.cbfs_commands.specs.declared.refusal.Refusal.{Refusal}
 use Rattle.cbfs_commands.specs.declared.refusal.Refusal.TheVariants as refusals
 
@@ -41,8 +42,7 @@ Tells old new answer t =
 -- What a call leaves that only reads the device, by at most n calls, and writes to a sink: each fault is told only where
 -- that side failed.
 pub record HasTold {F W : Type 0} (facts : F → Device) (faults : W → ℕ) (n : ℕ) (old new : Pages F) (out_old out_new : W) (answer : Answer) : Type 0 where
-  pub read : HasRead facts n old new
-  pub device : IsErrOf answer refusals.Device → (facts old.device).faults < (facts new.device).faults
+  pub read : HasRead facts n (faults_told by_device answer) old new
   pub sink : faults out_old ≤ faults out_new
   pub output : IsErrOf answer refusals.Output → faults out_old < faults out_new
   pub no_source : IsErrOf answer refusals.Source → ⊥

@@ -25,7 +25,7 @@ fn add_region<F: Flash, S: Source>(
     requires { LiesIn region (F.facts paged.old.device).content }
 
     // On any device, from any source.
-    ensures after { HasWritten F.facts S.facts (region.size / 16 + region.size / 2048 + 8)
+    ensures after { HasWritten F.facts S.facts (region.size / 16 + region.size / 2048 + 7)
         (length (S.facts source.old).content / 4096 + 1) paged.old paged.new source.old source.new result }
 
     // On an honest device.

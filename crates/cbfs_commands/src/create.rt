@@ -2,7 +2,7 @@
 
 ghost use Rattle.std.specs.Prelude.{◌≡◌, ◌⊎◌, ◌+◌, ◌*◌, ◌/◌, ◌<◌, ◌≤◌, All, length, map, IsTrue, OnOk, OnErr, Err};
 ghost use Rattle.flash_format.specs.Flashmap.{area_len};
-ghost use Rattle.flash_store.specs.Device.{Calls};
+ghost use Rattle.flash_store.specs.Device.{Calls, refusals};
 ghost use Rattle.flash_store.specs.Pages.{OnHonest};
 ghost use Rattle.cbfs_commands.specs.declared.table.TheConstants.{MOST_REGIONS};
 ghost use Rattle.cbfs_commands.specs.Creations.{Fits, IsPlace, created, formatted_all, formatted_at};
@@ -18,9 +18,8 @@ use flash_store::{Flash, Paged, Region, Source};
 fn format_place<F: Flash>(paged: &mut Paged<F>, place: Region) -> Result<(), Refusal>
     requires { IsPlace (length (F.facts paged.old.device).content) place }
 
-    ensures calls { Calls (length (F.facts paged.old.device).content / 4096 + 2) (F.facts paged.old.device)
-        (F.facts paged.new.device) }
-    ensures cause { OnErr result ((F.facts paged.old.device).faults < (F.facts paged.new.device).faults) }
+    ensures calls { Calls (length (F.facts paged.old.device).content / 4096 + 2) (refusals result)
+        (F.facts paged.old.device) (F.facts paged.new.device) }
     ensures is { OnErr result (result ≡ Err Refusal.Device) }
     ensures formatted { OnHonest F.facts paged.old.device (λ image.
         OnOk result ((F.facts paged.new.device).content ≡ formatted_at image place)) }
@@ -36,8 +35,7 @@ fn format_all<F: Flash>(paged: &mut Paged<F>, mut places: &[Region]) -> Result<(
     requires { All (IsPlace (length (F.facts paged.old.device).content)) places.now }
 
     ensures calls { Calls (length places.entry.now * (length (F.facts paged.old.device).content / 4096 + 2))
-        (F.facts paged.old.device) (F.facts paged.new.device) }
-    ensures cause { OnErr result ((F.facts paged.old.device).faults < (F.facts paged.new.device).faults) }
+        (refusals result) (F.facts paged.old.device) (F.facts paged.new.device) }
     ensures is { OnErr result (result ≡ Err Refusal.Device) }
     ensures formatted { OnHonest F.facts paged.old.device (λ image.
         OnOk result ((F.facts paged.new.device).content ≡ formatted_all image places.entry.now)) }

@@ -1,10 +1,11 @@
 //! One command at a time.
 
 ghost use Rattle.std.specs.Prelude.{◌≡◌, ◌+◌, ◌*◌, ◌/◌, ◌<◌, ◌≤◌, ◌⊎◌, false, length, IsTrue, IsErrOf};
-ghost use Rattle.flash_store.specs.Device.{Calls};
+ghost use Rattle.flash_store.specs.Device.{Calls, faults_told};
 ghost use Rattle.cbfs_commands.specs.Deeds.{MayHaveWritten, Serves, SparesOutside, deed};
 ghost use Rattle.cbfs_commands.specs.Requests.{asked};
 ghost use Rattle.cbfs_commands.specs.Outcomes.{Meets};
+ghost use Rattle.cbfs_commands.specs.Refusals.{by_device, by_source};
 
 use crate::add::add;
 use crate::command::Command;
@@ -26,10 +27,10 @@ pub fn run<F: Flash, S: Source, W: Sink>(
     out: &mut W,
 ) -> Result<(), Refusal>
     // On any device, from any source, into any sink.
-    ensures calls { Calls (2 * length (F.facts paged.old.device).content + 64)
+    ensures calls { Calls (2 * length (F.facts paged.old.device).content + 64) (faults_told by_device result)
         (F.facts paged.old.device) (F.facts paged.new.device) }
     ensures source_calls { Calls ((deed (asked command.now)).source_calls (length (S.facts source.old).content))
-        (S.facts source.old) (S.facts source.new) }
+        (faults_told by_source result) (S.facts source.old) (S.facts source.new) }
     ensures faults { W.faults out.old ≤ W.faults out.new }
 
     ensures unread { (deed (asked command.now)).reads_source ≡ false → source.new ≡ source.old }

@@ -3,9 +3,9 @@
 ghost use Rattle.std.specs.Prelude.{◌≡◌, ◌⊎◌, ◌+◌, ◌/◌, ◌<◌, ◌≤◌, ℕ, All, length, map, nat_lt, IsTrue, IsErrOf, IfOk};
 ghost use Rattle.std.specs.List.{list_any};
 ghost use Rattle.flash_format.specs.Flashmap.{area_len, map_len};
-ghost use Rattle.flash_store.specs.Device.{Reads};
+ghost use Rattle.flash_store.specs.Device.{Reads, faults_told};
 ghost use Rattle.cbfs_commands.specs.Creations.{Fits, IsPlace, items_of, map_place, overlap, plan_for, plan_of, region_place, region_places, some_overlap};
-ghost use Rattle.cbfs_commands.specs.Refusals.{HasNoFault};
+ghost use Rattle.cbfs_commands.specs.Refusals.{HasNoFault, by_source};
 
 use crate::refusal::Refusal;
 use crate::table::{MOST_REGIONS, first_areas, head_for};
@@ -138,8 +138,8 @@ pub fn read_plan<S: Source>(
 ) -> Result<Plan, Refusal>
     requires { length names.now ≤ MOST_REGIONS }
 
-    ensures calls { Reads (length (S.facts source.old).content / area_len + 1) (S.facts source.old) (S.facts source.new) }
-    ensures cause { IsErrOf result Refusal.Source → (S.facts source.old).faults < (S.facts source.new).faults }
+    ensures calls { Reads (length (S.facts source.old).content / area_len + 1) (faults_told by_source result)
+        (S.facts source.old) (S.facts source.new) }
     ensures no_device { IsErrOf result Refusal.Device → ⊥ }
     ensures no_output { IsErrOf result Refusal.Output → ⊥ }
     ensures fits { IfOk result (λ plan. Fits image_len (length (S.facts source.old).content) plan) }

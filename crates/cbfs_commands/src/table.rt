@@ -3,8 +3,9 @@
 ghost use Rattle.std.specs.Prelude.{◌≡◌, ◌⊎◌, ◌<◌, ◌≤◌, ◌++◌, ◌∷◌, [], List, Option, length, map, take, drop, IsTrue, IsErrOf, IfOk, IfErr, OnErr};
 ghost use Rattle.flash_format.specs.declared.flashmap.Area.{Area};
 ghost use Rattle.flash_format.specs.Flashmap.{fmap_head_len, map_len, areas_from};
-ghost use Rattle.flash_store.specs.Device.{Reads};
+ghost use Rattle.flash_store.specs.Device.{Reads, faults_told, refusals};
 ghost use Rattle.cbfs_commands.specs.Creations.{head_for, first_area, first_areas, map_area_name, stated_size};
+ghost use Rattle.cbfs_commands.specs.Refusals.{by_source};
 
 use crate::refusal::Refusal;
 use flash_format::{Area, FmapHead};
@@ -19,8 +20,7 @@ const MAP_AREA: &[u8] = b"FMAP";
 /// The size of the image that a source is the flashmap of, as its head states it. Refused where the source doesn't begin with
 /// a valid flashmap whose areas lie within it (18), or can't be read (3).
 pub fn create_size<S: Source>(source: &mut S) -> Result<u32, Refusal>
-    ensures calls { Reads 1 (S.facts source.old) (S.facts source.new) }
-    ensures cause { IsErrOf result Refusal.Source → (S.facts source.old).faults < (S.facts source.new).faults }
+    ensures calls { Reads 1 (faults_told by_source result) (S.facts source.old) (S.facts source.new) }
     ensures refusals { IfErr result (λ refusal. (refusal ≡ Refusal.Source) ⊎ (refusal ≡ Refusal.TableBad)) }
     ensures size { IsTrue (S.facts source.old).honest →
         IsErrOf result Refusal.Source ⊎ (result ≡ stated_size (S.facts source.old).content) }
@@ -33,8 +33,7 @@ pub fn create_size<S: Source>(source: &mut S) -> Result<u32, Refusal>
 
 /// The head of a table that is one for an image of `image_len` bytes.
 pub fn head_for<S: Source>(source: &mut S, image_len: u64) -> Result<FmapHead, Refusal>
-    ensures calls { Reads 1 (S.facts source.old) (S.facts source.new) }
-    ensures cause { IsErrOf result Refusal.Source → (S.facts source.old).faults < (S.facts source.new).faults }
+    ensures calls { Reads 1 (faults_told by_source result) (S.facts source.old) (S.facts source.new) }
     ensures no_device { IsErrOf result Refusal.Device → ⊥ }
     ensures no_output { IsErrOf result Refusal.Output → ⊥ }
     ensures fits { IfOk result (λ head. map_len head ≤ length (S.facts source.old).content) }
@@ -88,8 +87,7 @@ pub fn first_areas<S: Source>(
     requires inside { map_len head.now ≤ length (S.facts source.old).content }
     requires few { length names.now ≤ MOST_REGIONS }
 
-    ensures calls { Reads head.now.nareas (S.facts source.old) (S.facts source.new) }
-    ensures cause { OnErr result ((S.facts source.old).faults < (S.facts source.new).faults) }
+    ensures calls { Reads head.now.nareas (refusals result) (S.facts source.old) (S.facts source.new) }
 
     // From an honest source.
     ensures map { IsTrue (S.facts source.old).honest → IfOk result (λ found. found.map ≡ first_area

@@ -102,7 +102,7 @@ pub record Surveying {F S A : Type 0} (facts : F → Device) (r : Range) (search
   pub going : w.ended ≡ None
   pub inside : w.at ≤ r.size
   pub aligned : w.at % 64 ≡ 0
-  pub read : HasRead facts (w.at / 16) old now
+  pub read : HasRead facts (w.at / 16) 0 old now
   pub before : IsBefore w.at s
   pub so_far : IsTrue (facts old.device).honest → want ≡ found_from search (bytes_in r (facts old.device).content) s w.at
 
@@ -114,7 +114,7 @@ surveying_start facts r search want IsBefore old before is = record {
   going = refl;
   inside = omega arith;
   aligned = refl;
-  read = HasRead-within facts 0 (0 / 16) old old (omega arith) (HasRead-none facts old);
+  read = HasRead-within facts 0 (0 / 16) 0 old old (omega arith) (HasRead-none facts old);
   before = before;
   so_far = λ h. is ∙ found_whole search (bytes_in r (facts old.device).content);
 }
@@ -138,7 +138,7 @@ module _ {F S A : Type 0} (facts : F → Device) (r : Range) (search : CellSearc
 
   -- the walk gave a cell, and the search went on after it
   pub surveying_more : (c : Cell) (v : Walking) (t : S) (mid new : Pages F) (n : ℕ) → IsCellIn w.region.size c × (c.at ≡ w.at)
-      → HasRead facts n now mid → n ≡ reads_over c.span → HasRead facts 1 mid new
+      → HasRead facts n 0 now mid → n ≡ reads_over c.span → HasRead facts 1 0 mid new
       → (IsTrue (facts now.device).honest → w.ended ≡ None → (let a : Answer = Ok (steps.Cell c) in IsErrOf a walk.Device ⊎ (a ≡ answer_at (bytes_in w.region (facts now.device).content) w.at)))
       → v ≡ record w { at = w.at + c.span; steps = w.steps + 1 }
       → IsBefore (c.at + c.span) t
@@ -150,7 +150,7 @@ module _ {F S A : Type 0} (facts : F → Device) (r : Range) (search : CellSearc
     going = i.going;
     inside = omega (arith, cell_of_region.inside, given.1);
     aligned = omega (arith, i.aligned, given.0.whole);
-    read = HasRead-within facts (w.at / 16 + (n + 1)) ((w.at + c.span) / 16) old new (omega (arith, few, given.0.positive)) (HasRead-then facts (w.at / 16) (n + 1) old now new i.read (HasRead-then facts n 1 now mid new reads more));
+    read = HasRead-within facts (w.at / 16 + (n + 1)) ((w.at + c.span) / 16) 0 old new (omega (arith, few, given.0.positive)) (HasRead-then facts (w.at / 16) (n + 1) 0 old now new i.read (HasRead-then facts n 1 0 now mid new reads more));
     before = subst (λ k. IsBefore (k + c.span) t) given.1 before;
     so_far = λ h.
         let k = honest_still i.read.device.calls.same_honesty h in

@@ -2,23 +2,38 @@
 use Rattle.std.proofs.Common.{◌≡◌, ℕ, ◌+◌, ◌<◌, All, List, [], ◌∷◌, ◌++◌, length, take, drop, set, get_or, IsTrue, refl, sym, subst, ap, ◌∙◌, arith}
 use Rattle.std.proofs.lemmas.List.{take_more, take_more_set, drop-set-lt, drop-drop, get_or-drop}
 use Rattle.std.proofs.Math.ListN.{length-set}
-use Rattle.flash_store.specs.Bytes.{SameOutside}
+use Rattle.std.proofs.lemmas.List.Sums.{sum_by_more, sum_by-append}
+use Rattle.std.specs.Prelude.{sum_by}
 use Rattle.flash_store.specs.Device.{Device}
+use Rattle.flash_store.specs.Pages.{Pages, HasChanged}
 use Rattle.flash_store.specs.Regions.{Range}
 use Rattle.flash_store.proofs.DeviceLemmas.{honest_still}
-use Rattle.cbfs_edit.specs.Steps.{Answered, HasHonestSource, IsLater, Run, State, Step, state_of}
+use Rattle.cbfs_edit.specs.Steps.{Answered, HasHonestSource, Run, State, Step, edit_calls, faults_of, state_of}
+use Rattle.cbfs_edit.specs.Refusals.{by_device}
 use Rattle.cbfs_edit.specs.declared.edit.Edit.{Edit}
 use Rattle.cbfs_edit.specs.declared.edit.Reply.{Reply}
 
-pub later_first : (d : Device) → IsLater d d
-later_first d = record { calls = omega arith; faults = omega arith; same_honesty = refl; same_length = refl }
+-- no call
+pub changed_none : {F : Type 0} (facts : F → Device) (region : Range) (p : Pages F) → HasChanged facts region 0 0 p p
+changed_none facts region p = record {
+  calls = record { no_fewer = omega arith; no_more = omega arith; faults = omega arith; same_honesty = refl; same_length = refl };
+  outside = λ h. record { before = refl; after = refl };
+}
 
-pub later_more : (a b c : Device) → IsLater a b → IsLater b c → IsLater a c
-later_more a b c first second = record {
-  calls = omega (arith, first.calls, second.calls);
-  faults = omega (arith, first.faults, second.faults);
-  same_honesty = second.same_honesty ∙ first.same_honesty;
-  same_length = second.same_length ∙ first.same_length;
+-- what two calls leave
+pub changed_more : {F : Type 0} (facts : F → Device) (region : Range) (n k r q : ℕ) (a b c : Pages F) → HasChanged facts region n r a b → HasChanged facts region k q b c → HasChanged facts region (n + k) (r + q) a c
+changed_more facts region n k r q a b c first second = record {
+  calls = record {
+    no_fewer = omega (arith, first.calls.no_fewer, second.calls.no_fewer);
+    no_more = omega (arith, first.calls.no_more, second.calls.no_more);
+    faults = omega (arith, first.calls.faults, second.calls.faults);
+    same_honesty = second.calls.same_honesty ∙ first.calls.same_honesty;
+    same_length = second.calls.same_length ∙ first.calls.same_length;
+  };
+  outside = λ h.
+      let one = first.outside h in
+      let two = second.outside (honest_still first.calls.same_honesty h) in
+      record { before = two.before ∙ one.before; after = two.after ∙ one.after };
 }
 
 module _ {S : Type 0} (step : Edit S → Edit S → State → Reply → State → Type 0) where
@@ -41,54 +56,53 @@ module _ {S : Type 0} (step : Edit S → Edit S → State → Reply → State �
       (subst (λ (rs : List Reply). Run step (take i olds ++ get_or olds i d ∷ []) (take i edits ++ f ∷ []) rs before after) (sym (take_more_set replies i reply in_replies))
       (run-push (take i olds) (take i edits) (take i replies) before mid after (get_or olds i d) f reply run one)))
 
-module _ {S : Type 0} (facts : S → Device) where
+module _ {F S : Type 0} (device : F → Device) (facts : S → Device) where
   -- the first edits have gone by, each with its reply, and the others are as they were
-  pub record Applied (region : Range) (olds edits : List (Edit S)) (replies : List Reply) (i : ℕ) (old now : Device) : Type 0 where
-    pub device : IsLater old now
+  pub record Applied (region : Range) (olds edits : List (Edit S)) (replies : List Reply) (i : ℕ) (old now : Pages F) : Type 0 where
+    pub after : HasChanged device region (sum_by (edit_calls region.size) (take i olds)) (sum_by (faults_of by_device) (take i replies)) old now
     pub as_many : length edits ≡ length olds
     pub replied : length replies ≡ length olds
     pub others : drop i edits ≡ drop i olds
-    pub answered : Run (Answered facts) (take i olds) (take i edits) (take i replies) (state_of region old) (state_of region now)
-    pub run : IsTrue old.honest → All (HasHonestSource facts) olds → Run (Step facts) (take i olds) (take i edits) (take i replies) (state_of region old) (state_of region now)
-    pub outside : IsTrue old.honest → SameOutside region.start region.size old.content now.content
+    pub answered : Run (Answered facts) (take i olds) (take i edits) (take i replies) (state_of region (device old.device)) (state_of region (device now.device))
+    pub run : IsTrue (device old.device).honest → All (HasHonestSource facts) olds → Run (Step facts) (take i olds) (take i edits) (take i replies) (state_of region (device old.device)) (state_of region (device now.device))
 
-  pub applied_none : (region : Range) (edits : List (Edit S)) (replies : List Reply) (old : Device) → length edits ≡ length replies → Applied region edits edits replies 0 old old
-  applied_none region edits replies old same = record { device = later_first old; as_many = refl; replied = sym same; others = refl; answered = refl; run = λ h all. refl; outside = λ h. record { before = refl; after = refl } }
+  pub applied_none : (region : Range) (edits : List (Edit S)) (replies : List Reply) (old : Pages F) → length edits ≡ length replies → Applied region edits edits replies 0 old old
+  applied_none region edits replies old same = record { after = changed_none device region old; as_many = refl; replied = sym same; others = refl; answered = refl; run = λ h all. refl }
 
   same_edit : (olds edits : List (Edit S)) (i : ℕ) (d : Edit S) → drop i edits ≡ drop i olds → get_or edits i d ≡ get_or olds i d
   same_edit olds edits i d same =
       let here : i + 0 ≡ i = omega arith in
       ap (λ n. get_or edits n d) (sym here) ∙ sym (get_or-drop i edits 0 d) ∙ ap (λ (l : List (Edit S)). get_or l 0 d) same ∙ get_or-drop i olds 0 d ∙ ap (λ n. get_or olds n d) here
 
-  pub applied_more : (region : Range) (olds edits : List (Edit S)) (replies : List Reply) (i : ℕ) (e f : Edit S) (old now new : Device) (reply : Reply)
+  pub applied_more : (region : Range) (olds edits : List (Edit S)) (replies : List Reply) (i : ℕ) (e f : Edit S) (old now new : Pages F) (reply : Reply)
       → Applied region olds edits replies i old now
       → i < length edits
       → e ≡ get_or edits i e
-      → IsLater now new
-      → Answered facts e f (state_of region now) reply (state_of region new)
-      → (IsTrue now.honest → HasHonestSource facts e → Step facts e f (state_of region now) reply (state_of region new))
-      → (IsTrue now.honest → SameOutside region.start region.size now.content new.content)
+      → HasChanged device region (edit_calls region.size e) (faults_of by_device reply) now new
+      → Answered facts e f (state_of region (device now.device)) reply (state_of region (device new.device))
+      → (IsTrue (device now.device).honest → HasHonestSource facts e → Step facts e f (state_of region (device now.device)) reply (state_of region (device new.device)))
       → Applied region olds (set edits i f) (set replies i reply) (i + 1) old new
-  applied_more region olds edits replies i e f old now new reply so_far in_edits is later answered step outside =
+  applied_more region olds edits replies i e f old now new reply so_far in_edits is after answered step =
       let was : e ≡ get_or olds i e = is ∙ same_edit olds edits i e so_far.others in
       let in_olds : i < length olds = omega (arith, in_edits, so_far.as_many) in
       let in_replies : i < length replies = omega (arith, in_olds, so_far.replied) in
       record {
-        device = later_more old now new so_far.device later;
+        after =
+            let calls : sum_by (edit_calls region.size) (take (i + 1) olds) ≡ sum_by (edit_calls region.size) (take i olds) + edit_calls region.size e =
+            sum_by_more (edit_calls region.size) olds i e in_olds ∙ ap (λ (k : Edit S). sum_by (edit_calls region.size) (take i olds) + edit_calls region.size k) (sym was) in
+            let faults : sum_by (faults_of by_device) (take (i + 1) (set replies i reply)) ≡ sum_by (faults_of by_device) (take i replies) + faults_of by_device reply =
+            ap (λ (rs : List Reply). sum_by (faults_of by_device) rs) (take_more_set replies i reply in_replies) ∙ sum_by-append (faults_of by_device) (take i replies) (reply ∷ []) ∙ omega arith in
+            rw (calls, faults) (changed_more device region _ _ _ _ old now new so_far.after after);
         as_many = length-set edits i f ∙ so_far.as_many;
         replied = length-set replies i reply ∙ so_far.replied;
         others =
             let next : i < i + 1 = omega arith in
             drop-set-lt (i + 1) edits i f next ∙ sym (drop-drop 1 i edits) ∙ ap (λ (l : List (Edit S)). drop 1 l) so_far.others ∙ drop-drop 1 i olds;
         answered =
-            run_more (Answered facts) olds edits replies i e f reply (state_of region old) (state_of region now) (state_of region new) in_olds in_edits in_replies so_far.answered
-            (subst (λ (k : Edit S). Answered facts k f (state_of region now) reply (state_of region new)) was answered);
+            run_more (Answered facts) olds edits replies i e f reply (state_of region (device old.device)) (state_of region (device now.device)) (state_of region (device new.device)) in_olds in_edits in_replies so_far.answered
+            (subst (λ (k : Edit S). Answered facts k f (state_of region (device now.device)) reply (state_of region (device new.device))) was answered);
         run = λ h all.
             let honest : HasHonestSource facts e = subst (λ (k : Edit S). HasHonestSource facts k) (sym was) (all i e in_olds) in
-            run_more (Step facts) olds edits replies i e f reply (state_of region old) (state_of region now) (state_of region new) in_olds in_edits in_replies (so_far.run h all)
-            (subst (λ (k : Edit S). Step facts k f (state_of region now) reply (state_of region new)) was (step (honest_still so_far.device.same_honesty h) honest));
-        outside = λ h.
-            let first = so_far.outside h in
-            let second = outside (honest_still so_far.device.same_honesty h) in
-            record { before = second.before ∙ first.before; after = second.after ∙ first.after };
+            run_more (Step facts) olds edits replies i e f reply (state_of region (device old.device)) (state_of region (device now.device)) (state_of region (device new.device)) in_olds in_edits in_replies (so_far.run h all)
+            (subst (λ (k : Edit S). Step facts k f (state_of region (device now.device)) reply (state_of region (device new.device))) was (step (honest_still so_far.after.calls.same_honesty h) honest));
       }

@@ -1,8 +1,8 @@
 -- Edits of a region on a device that may stop at any call: one, and a list of them.
-use Rattle.std.specs.Prelude.{◌≡◌, ℕ, ◌+◌, ◌/◌, ◌<◌, ◌≤◌, ⊤, IsTrue, List, [], ◌∷◌, length, Result, Ok, Err}
+use Rattle.std.specs.Prelude.{◌≡◌, ℕ, ◌+◌, ◌/◌, ⊤, IsTrue, List, [], ◌∷◌, length, Result, Ok, Err}
 use Rattle.flash_store.specs.Device.{Device, Reads}
 use Rattle.flash_store.specs.Regions.{Range, bytes_in}
-use Rattle.cbfs_edit.specs.Refusals.{ByFault}
+use Rattle.cbfs_edit.specs.Refusals.{ByFault, by_device, by_source}
 use Rattle.cbfs_edit.specs.Removals.{removed, removal_in}
 use Rattle.cbfs_edit.specs.Additions.{NewComponent, new_component, addition_in, added_to, placed_of}
 use Rattle.cbfs_edit.specs.Stops.{LeavesWhole, AddLeavesWhole, AddLeavesBefore}
@@ -23,54 +23,55 @@ pub record State : Type 0 where
 abbrev pub state_of : Range → Device → State
 state_of region device = record { bytes = bytes_in region device.content; faults = device.faults }
 
+-- ---- what the answers of an edit say of the region's bytes, on an honest device
+
 -- a removal that its region refuses changes nothing
-abbrev pub RefusedRemoval : List ℕ → State → EditFault → State → Type 0
-RefusedRemoval name before fault after = (removal_in before.bytes name ≡ Err fault) × (after.bytes ≡ before.bytes)
+abbrev pub RefusedRemoval : List ℕ → List ℕ → EditFault → List ℕ → Type 0
+RefusedRemoval name x fault y = (removal_in x name ≡ Err fault) × (y ≡ x)
 
--- a removal from one state to the next, by its answer; it has no source, so none refuses it
-abbrev pub RemovalStep : List ℕ → State → Result Freed EditFault → State → Type 0
-RemovalStep name before (Ok group) after = (removal_in before.bytes name ≡ Ok group) × (after.bytes ≡ removed before.bytes group)
-RemovalStep name before (Err fault) after =
-    ByFault fault
-    ((before.faults < after.faults) × LeavesWhole before.bytes name after.bytes)
-    ⊥
-    (RefusedRemoval name before fault after)
+-- a removal has no source, so none refuses it
+abbrev pub RemovalStep : List ℕ → List ℕ → Result Freed EditFault → List ℕ → Type 0
+RemovalStep name x (Ok group) y = (removal_in x name ≡ Ok group) × (y ≡ removed x group)
+RemovalStep name x (Err fault) y = ByFault fault (LeavesWhole x name y) ⊥ (RefusedRemoval name x fault y)
 
--- a component is added from one state to the next, by the answer; the faults of its source rise from the first number to
--- the second
-abbrev pub RefusedAddition : NewComponent → Spot → State → EditFault → State → Type 0
-RefusedAddition new spot before fault after = (addition_in before.bytes new spot ≡ Err fault) × (after.bytes ≡ before.bytes)
+abbrev pub RefusedAddition : NewComponent → Spot → List ℕ → EditFault → List ℕ → Type 0
+RefusedAddition new spot x fault y = (addition_in x new spot ≡ Err fault) × (y ≡ x)
 
-abbrev pub AdditionStep : NewComponent → Spot → State → ℕ → ℕ → Result Placed EditFault → State → Type 0
-AdditionStep new spot before source_before source_after (Ok placed) after =
-    (placed_of (addition_in before.bytes new spot) ≡ Ok placed) × (after.bytes ≡ added_to before.bytes new spot)
-AdditionStep new spot before source_before source_after (Err fault) after =
-    ByFault fault
-    ((before.faults < after.faults) × AddLeavesWhole before.bytes new spot after.bytes)
-    ((source_before < source_after) × AddLeavesBefore before.bytes new spot after.bytes)
-    (RefusedAddition new spot before fault after)
+abbrev pub AdditionStep : NewComponent → Spot → List ℕ → Result Placed EditFault → List ℕ → Type 0
+AdditionStep new spot x (Ok placed) y = (placed_of (addition_in x new spot) ≡ Ok placed) × (y ≡ added_to x new spot)
+AdditionStep new spot x (Err fault) y = ByFault fault (AddLeavesWhole x new spot y) (AddLeavesBefore x new spot y) (RefusedAddition new spot x fault y)
 
--- ---- lists of edits
+-- what a reply to an addition says, which is never a group
+abbrev pub AdditionReply : NewComponent → Spot → List ℕ → Reply → List ℕ → Type 0
+AdditionReply new spot x (replies.Placed placed) y = AdditionStep new spot x (Ok placed) y
+AdditionReply new spot x (replies.Freed group) y = ⊥
+AdditionReply new spot x (replies.Refused fault) y = AdditionStep new spot x (Err fault) y
 
--- a device after any number of calls, whatever it is
-pub record IsLater (old new : Device) : Type 0 where
-  pub calls : old.calls ≤ new.calls
-  pub faults : old.faults ≤ new.faults
-  pub same_honesty : new.honest ≡ old.honest
-  pub same_length : length new.content ≡ length old.content
+-- what one to a removal says, which is never a place
+abbrev pub RemovalReply : List ℕ → List ℕ → Reply → List ℕ → Type 0
+RemovalReply name x (replies.Placed placed) y = ⊥
+RemovalReply name x (replies.Freed group) y = RemovalStep name x (Ok group) y
+RemovalReply name x (replies.Refused fault) y = RemovalStep name x (Err fault) y
+
+abbrev pub IsReply : {S : Type 0} → (S → Device) → Edit S → List ℕ → Reply → List ℕ → Type 0
+IsReply facts (Add name kind hash spot source) x reply y = AdditionReply (new_component name.now kind hash (facts source).content) spot x reply y
+IsReply facts (Remove name) x reply y = RemovalReply name.now x reply y
+
+-- ---- what is known of an edit on any device and from any source
+
+-- how many refused calls of a side a reply tells: one call at most, with which the edit ends
+abbrev pub faults_of : (EditFault → ℕ) → Reply → ℕ
+faults_of told (replies.Placed placed) = 0
+faults_of told (replies.Freed group) = 0
+faults_of told (replies.Refused fault) = told fault
 
 -- An edit stays what it was. Its source counts its own calls and faults, so an edit is given as it was and as it is; the
--- content is that of before where the source is honest.
-abbrev pub Stays : {S : Type 0} → (S → Device) → Edit S → Edit S → Type 0
-Stays facts (Add name kind hash spot source) (Add name' kind' hash' spot' source') =
-    (name' ≡ name) × (kind' ≡ kind) × (hash' ≡ hash) × (spot' ≡ spot) × Reads (length (facts source).content / 4096 + 1) (facts source) (facts source')
-Stays facts (Remove name) (Remove name') = name' ≡ name
-Stays facts old new = ⊥
-
--- the faults of an edit's source; a removal has none
-abbrev pub source_faults : {S : Type 0} → (S → Device) → Edit S → ℕ
-source_faults facts (Add name kind hash spot source) = (facts source).faults
-source_faults facts (Remove name) = 0
+-- content is that of before where the source is honest. A removal has no source to blame.
+abbrev pub Stays : {S : Type 0} → (S → Device) → ℕ → Edit S → Edit S → Type 0
+Stays facts refused (Add name kind hash spot source) (Add name' kind' hash' spot' source') =
+    (name' ≡ name) × (kind' ≡ kind) × (hash' ≡ hash) × (spot' ≡ spot) × Reads (length (facts source).content / 4096 + 1) refused (facts source) (facts source')
+Stays facts refused (Remove name) (Remove name') = (name' ≡ name) × (refused ≡ 0)
+Stays facts refused old new = ⊥
 
 abbrev pub IsAddition : {S : Type 0} → Edit S → Type 0
 IsAddition (Add name kind hash spot source) = ⊤
@@ -80,47 +81,33 @@ abbrev pub IsRemoval : {S : Type 0} → Edit S → Type 0
 IsRemoval (Add name kind hash spot source) = ⊥
 IsRemoval (Remove name) = ⊤
 
--- An addition is answered by its place, a removal by its group, and each by why it is refused; the device is blamed only
--- where its faults rose, and the source only where the edit's own had one.
-abbrev pub Answers : {S : Type 0} → (S → Device) → Edit S → Edit S → State → Reply → State → Type 0
-Answers facts old new before (replies.Placed placed) after = IsAddition old
-Answers facts old new before (replies.Freed group) after = IsRemoval old
-Answers facts old new before (replies.Refused fault) after = ByFault fault (before.faults < after.faults) (source_faults facts old < source_faults facts new) ⊤
+-- an addition is answered by its place, a removal by its group, and each by why it is refused
+abbrev pub Answers : {S : Type 0} → Edit S → Reply → Type 0
+Answers edit (replies.Placed placed) = IsAddition edit
+Answers edit (replies.Freed group) = IsRemoval edit
+Answers edit (replies.Refused fault) = ⊤
 
--- What is known of an edit on any device and from any source. The device's faults never fall, so that one which explains a
--- reply is a fault of the whole run.
 pub record Answered {S : Type 0} (facts : S → Device) (old new : Edit S) (before : State) (reply : Reply) (after : State) : Type 0 where
-  pub stays : Stays facts old new
-  pub faults : before.faults ≤ after.faults
-  pub answers : Answers facts old new before reply after
-
--- what a reply to an addition says, which is never a group
-abbrev pub AdditionReply : NewComponent → Spot → State → ℕ → ℕ → Reply → State → Type 0
-AdditionReply new spot before source_before source_after (replies.Placed placed) after = AdditionStep new spot before source_before source_after (Ok placed) after
-AdditionReply new spot before source_before source_after (replies.Freed group) after = ⊥
-AdditionReply new spot before source_before source_after (replies.Refused fault) after = AdditionStep new spot before source_before source_after (Err fault) after
-
--- what one to a removal says, which is never a place
-abbrev pub RemovalReply : List ℕ → State → Reply → State → Type 0
-RemovalReply name before (replies.Placed placed) after = ⊥
-RemovalReply name before (replies.Freed group) after = RemovalStep name before (Ok group) after
-RemovalReply name before (replies.Refused fault) after = RemovalStep name before (Err fault) after
-
--- what a reply says of the edit, whose source has so many faults after it
-abbrev pub IsReply : {S : Type 0} → (S → Device) → Edit S → ℕ → State → Reply → State → Type 0
-IsReply facts (Add name kind hash spot source) source_after before reply after =
-    AdditionReply (new_component name.now kind hash (facts source).content) spot before (facts source).faults source_after reply after
-IsReply facts (Remove name) source_after before reply after = RemovalReply name.now before reply after
+  pub stays : Stays facts (faults_of by_source reply) old new
+  pub faults : after.faults ≡ before.faults + faults_of by_device reply
+  pub answers : Answers old reply
 
 -- an edit from one state to the next, by its reply, on an honest device and from an honest source
 pub record Step {S : Type 0} (facts : S → Device) (old new : Edit S) (before : State) (reply : Reply) (after : State) : Type 0 where
   pub answered : Answered facts old new before reply after
-  pub effect : IsReply facts old (source_faults facts new) before reply after
+  pub effect : IsReply facts old before.bytes reply after.bytes
 
 -- an edit's source is honest
 abbrev pub HasHonestSource : {S : Type 0} → (S → Device) → Edit S → Type 0
 HasHonestSource facts (Add name kind hash spot source) = IsTrue (facts source).honest
 HasHonestSource facts (Remove name) = ⊤
+
+-- ---- lists of edits
+
+-- the most calls of the device that an edit of a region of so many bytes makes
+abbrev pub edit_calls : {S : Type 0} → ℕ → Edit S → ℕ
+edit_calls size (Add name kind hash spot source) = size / 16 + size / 2048 + 7
+edit_calls size (Remove name) = size / 16 + size / 4096 + 3
 
 -- edits one after the other, each from the state that the one before it has left
 abbrev pub Run : {S : Type 0} → (Edit S → Edit S → State → Reply → State → Type 0) → List (Edit S) → List (Edit S) → List Reply → State → State → Type 0

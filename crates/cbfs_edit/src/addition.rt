@@ -1,16 +1,18 @@
 //! The addition of a component.
-ghost use Rattle.std.specs.Prelude.{◌≡◌, ◌≢◌, ◌⊎◌, ◌+◌, ◌/◌, ◌%◌, ◌<◌, ◌≤◌, length, drop, is_some, IsTrue, IfOk, IfErr, IsErrOf, OnOk, OnErr};
+ghost use Rattle.std.specs.Prelude.{◌≡◌, ◌≢◌, ◌⊎◌, ◌+◌, ◌/◌, ◌%◌, ◌<◌, ◌≤◌, length, drop, is_some, Err, IsTrue, IfOk, IfErr, IfSome, IsErrOf, OnOk, OnErr};
 ghost use Rattle.std.specs.List.{list_any};
 ghost use Rattle.flash_format.specs.Entry.{is_nul};
 ghost use Rattle.flash_format.specs.Made.{hash_len, meta_length, pointed};
 ghost use Rattle.flash_store.specs.Bytes.{overwritten, SameOutside};
-ghost use Rattle.flash_store.specs.Device.{Calls};
-ghost use Rattle.flash_store.specs.Pages.{OnHonestIn};
+ghost use Rattle.flash_store.specs.Copies as copies;
+ghost use Rattle.flash_store.specs.Device.{Calls, faults_told};
+ghost use Rattle.flash_store.specs.Pages.{HasChanged, OnHonestIn};
 ghost use Rattle.flash_store.specs.Regions.{LiesIn, bytes_in};
 ghost use Rattle.cbfs_edit.specs.Additions.{added, added_to, addition_in, attribute_len, digest_of, is_bad_name, kept_from, labelled, new_component, own_fault, placed_of};
 ghost use Rattle.cbfs_edit.specs.Insertions.{EndsAlike, IsOldOrBlanked};
 ghost use Rattle.cbfs_edit.specs.Placings.{Fits};
-ghost use Rattle.cbfs_edit.specs.Steps.{AdditionStep, state_of};
+ghost use Rattle.cbfs_edit.specs.Steps.{AdditionStep};
+ghost use Rattle.cbfs_edit.specs.Refusals.{by_device, by_source};
 ghost use Rattle.cbfs_edit.specs.Stops.{AddLeavesBefore, AddLeavesWhole};
 
 use crate::blank::write_blank;
@@ -62,21 +64,16 @@ fn copy_content<F: Flash, S: Source>(
     requires region { LiesIn region (F.facts paged.old.device).content }
     requires inside { at + length (S.facts source.old).content ≤ region.size }
 
-    ensures calls { Calls ((length (S.facts source.old).content + 4095) / 4096) (F.facts paged.old.device)
-        (F.facts paged.new.device) }
-    ensures source_calls { Calls ((length (S.facts source.old).content + 4095) / 4096) (S.facts source.old)
-        (S.facts source.new) }
-    ensures device { IsErrOf result CopyFault.Device →
-        (F.facts paged.old.device).faults < (F.facts paged.new.device).faults }
-    ensures source { IsErrOf result CopyFault.Source → (S.facts source.old).faults < (S.facts source.new).faults }
+    ensures after { HasChanged F.facts region ((length (S.facts source.old).content + 4095) / 4096) (faults_told copies.by_device result)
+        paged.old paged.new }
+    ensures source_calls { Calls ((length (S.facts source.old).content + 4095) / 4096) (faults_told copies.by_source result)
+        (S.facts source.old) (S.facts source.new) }
     ensures no_output { IsErrOf result CopyFault.Output → ⊥ }
     ensures digest_len { IfOk result (λ digest. hash_len digest ≡ attribute_len hash) }
     ensures same_source { IsTrue (S.facts source.old).honest →
         (S.facts source.new).content ≡ (S.facts source.old).content }
 
-    // On an honest device, the second and the third from an honest source.
-    ensures outside { IsTrue (F.facts paged.old.device).honest →
-        SameOutside region.start region.size (F.facts paged.old.device).content (F.facts paged.new.device).content }
+    // On an honest device, the first two from an honest source.
     ensures copied { IsTrue (F.facts paged.old.device).honest → IsTrue (S.facts source.old).honest → OnOk result
         (bytes_in region (F.facts paged.new.device).content
         ≡ overwritten (bytes_in region (F.facts paged.old.device).content) at (S.facts source.old).content) }
@@ -151,20 +148,15 @@ fn insert<F: Flash, S: Source>(
     requires header { wanted.header ≡ meta_length (length label.now.name.now) (attribute_len label.now.hash) }
     requires len { wanted.len ≡ length (S.facts source.old).content }
 
-    ensures calls { Calls (region.size / 4096 + region.size / 4096 + 6) (F.facts paged.old.device)
-        (F.facts paged.new.device) }
-    ensures source_calls { Calls ((length (S.facts source.old).content + 4095) / 4096) (S.facts source.old)
-        (S.facts source.new) }
-    ensures device { IsErrOf result CopyFault.Device →
-        (F.facts paged.old.device).faults < (F.facts paged.new.device).faults }
-    ensures source { IsErrOf result CopyFault.Source → (S.facts source.old).faults < (S.facts source.new).faults }
+    ensures after { HasChanged F.facts region (region.size / 4096 + region.size / 4096 + 6) (faults_told copies.by_device result)
+        paged.old paged.new }
+    ensures source_calls { Calls ((length (S.facts source.old).content + 4095) / 4096) (faults_told copies.by_source result)
+        (S.facts source.old) (S.facts source.new) }
     ensures no_output { IsErrOf result CopyFault.Output → ⊥ }
     ensures same_source { IsTrue (S.facts source.old).honest →
         (S.facts source.new).content ≡ (S.facts source.old).content }
 
     // On an honest device.
-    ensures outside { IsTrue (F.facts paged.old.device).honest →
-        SameOutside region.start region.size (F.facts paged.old.device).content (F.facts paged.new.device).content }
     ensures added { IsTrue (F.facts paged.old.device).honest → IsTrue (S.facts source.old).honest → OnOk result
         (bytes_in region (F.facts paged.new.device).content
         ≡ added (bytes_in region (F.facts paged.old.device).content)
@@ -257,13 +249,13 @@ pub fn add<F: Flash, S: Source>(
     requires { LiesIn region (F.facts paged.old.device).content }
 
     // On any device, from any source.
-    ensures calls { Calls (region.size / 16 + region.size / 2048 + 8) (F.facts paged.old.device)
-        (F.facts paged.new.device) }
-    ensures source_calls { Calls (length (S.facts source.old).content / 4096 + 1) (S.facts source.old)
-        (S.facts source.new) }
-    ensures device { IsErrOf result EditFault.Device →
-        (F.facts paged.old.device).faults < (F.facts paged.new.device).faults }
-    ensures source { IsErrOf result EditFault.Source → (S.facts source.old).faults < (S.facts source.new).faults }
+    ensures after { HasChanged F.facts region (region.size / 16 + region.size / 2048 + 7) (faults_told by_device result) paged.old paged.new }
+    ensures source_calls { Calls (length (S.facts source.old).content / 4096 + 1) (faults_told by_source result)
+        (S.facts source.old) (S.facts source.new) }
+
+    // What the words alone refuse is refused without a call.
+    ensures words { IfSome (own_fault name.now kind spot) (λ fault.
+        (result ≡ Err fault) × (paged.new ≡ paged.old) × (source.new ≡ source.old)) }
 
     // On any device, from an honest source.
     ensures same_source { IsTrue (S.facts source.old).honest →
@@ -278,8 +270,6 @@ pub fn add<F: Flash, S: Source>(
     ensures before { OnHonestIn F.facts paged.old.device region (λ x. IsErrOf result EditFault.Source →
         AddLeavesBefore x (new_component name.now kind hash (S.facts source.old).content) spot
         (bytes_in region (F.facts paged.new.device).content)) }
-    ensures outside { IsTrue (F.facts paged.old.device).honest →
-        SameOutside region.start region.size (F.facts paged.old.device).content (F.facts paged.new.device).content }
 
     // On an honest device, from an honest source.
     ensures added { OnHonestIn F.facts paged.old.device region (λ x. IsTrue (S.facts source.old).honest → OnOk result
@@ -294,8 +284,8 @@ pub fn add<F: Flash, S: Source>(
         (bytes_in region (F.facts paged.new.device).content)) }
     ensures step { IsTrue (F.facts paged.old.device).honest → IsTrue (S.facts source.old).honest →
         AdditionStep (new_component name.now kind hash (S.facts source.old).content) spot
-        (state_of region (F.facts paged.old.device)) (S.facts source.old).faults (S.facts source.new).faults result
-        (state_of region (F.facts paged.new.device)) }
+        (bytes_in region (F.facts paged.old.device).content) result
+        (bytes_in region (F.facts paged.new.device).content) }
 {
     paged.places_fit();
     if let Some(fault) = own_fault(name, kind, spot) {

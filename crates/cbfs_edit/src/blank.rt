@@ -1,7 +1,7 @@
 //! One blank in place of a group of cells.
 ghost use Rattle.std.specs.Prelude.{◌≡◌, ◌⊎◌, ◌+◌, ◌-◌, ◌/◌, ◌%◌, ◌<◌, ◌≤◌, IsTrue, OnOk, OnErr, if◌then◌else◌};
-ghost use Rattle.flash_store.specs.Bytes.{SameOutside};
-ghost use Rattle.flash_store.specs.Device.{Calls};
+ghost use Rattle.flash_store.specs.Device.{refusals};
+ghost use Rattle.flash_store.specs.Pages.{HasChanged};
 ghost use Rattle.flash_store.specs.Regions.{LiesIn, bytes_in};
 ghost use Rattle.cbfs_edit.specs.Groups.{IsCellRange};
 ghost use Rattle.cbfs_edit.specs.Removals.{last_four, removed};
@@ -22,12 +22,9 @@ pub fn write_blank<F: Flash>(
     requires group { IsCellRange group region.size }
 
     // On any device.
-    ensures calls { Calls (region.size / 4096 + 2) (F.facts paged.old.device) (F.facts paged.new.device) }
-    ensures cause { OnErr result ((F.facts paged.old.device).faults < (F.facts paged.new.device).faults) }
+    ensures after { HasChanged F.facts region (region.size / 4096 + 2) (refusals result) paged.old paged.new }
 
     // On an honest device.
-    ensures outside { IsTrue (F.facts paged.old.device).honest →
-        SameOutside region.start region.size (F.facts paged.old.device).content (F.facts paged.new.device).content }
     ensures removed { IsTrue (F.facts paged.old.device).honest → OnOk result
         (bytes_in region (F.facts paged.new.device).content
         ≡ removed (bytes_in region (F.facts paged.old.device).content) group) }

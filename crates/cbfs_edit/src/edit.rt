@@ -1,8 +1,9 @@
 //! Lists of edits.
-ghost use Rattle.std.specs.Prelude.{◌≡◌, length, IsTrue, All};
-ghost use Rattle.flash_store.specs.Bytes.{SameOutside};
+ghost use Rattle.std.specs.Prelude.{◌≡◌, length, sum_by, IsTrue, All};
+ghost use Rattle.flash_store.specs.Pages.{HasChanged};
 ghost use Rattle.flash_store.specs.Regions.{LiesIn};
-ghost use Rattle.cbfs_edit.specs.Steps.{Answered, HasHonestSource, IsLater, Run, Step, state_of};
+ghost use Rattle.cbfs_edit.specs.Refusals.{by_device};
+ghost use Rattle.cbfs_edit.specs.Steps.{Answered, HasHonestSource, Run, Step, edit_calls, faults_of, state_of};
 
 use crate::addition::{HashChoice, Placed, add};
 use crate::fault::EditFault;
@@ -50,8 +51,9 @@ pub fn apply_all<F: Flash, S: Source>(
     requires region { LiesIn region (F.facts paged.old.device).content }
     requires same_length { length edits.old ≡ length replies.old }
 
-    // On any device, from any sources.
-    ensures device { IsLater (F.facts paged.old.device) (F.facts paged.new.device) }
+    // On any device, from any sources: no more calls than the edits together, and at most one refused call for each.
+    ensures after { HasChanged F.facts region (sum_by (edit_calls region.size) edits.old)
+        (sum_by (faults_of by_device) replies.new) paged.old paged.new }
     ensures answered { Run (Answered S.facts) edits.old edits.new replies.new
         (state_of region (F.facts paged.old.device)) (state_of region (F.facts paged.new.device)) }
 
@@ -59,8 +61,6 @@ pub fn apply_all<F: Flash, S: Source>(
     ensures run { IsTrue (F.facts paged.old.device).honest → All (HasHonestSource S.facts) edits.old →
         Run (Step S.facts) edits.old edits.new replies.new
         (state_of region (F.facts paged.old.device)) (state_of region (F.facts paged.new.device)) }
-    ensures outside { IsTrue (F.facts paged.old.device).honest →
-        SameOutside region.start region.size (F.facts paged.old.device).content (F.facts paged.new.device).content }
 {
     for i in 0..edits.len() {
         replies[i] = apply(paged, region, &mut edits[i]);
@@ -72,7 +72,8 @@ fn apply<F: Flash, S: Source>(paged: &mut Paged<F>, region: Region, edit: &mut E
     requires { LiesIn region (F.facts paged.old.device).content }
 
     // On any device, from any source.
-    ensures device { IsLater (F.facts paged.old.device) (F.facts paged.new.device) }
+    ensures after { HasChanged F.facts region (edit_calls region.size edit.old) (faults_of by_device result)
+        paged.old paged.new }
     ensures answered { Answered S.facts edit.old edit.new (state_of region (F.facts paged.old.device)) result
         (state_of region (F.facts paged.new.device)) }
 
@@ -80,8 +81,6 @@ fn apply<F: Flash, S: Source>(paged: &mut Paged<F>, region: Region, edit: &mut E
     ensures step { IsTrue (F.facts paged.old.device).honest → HasHonestSource S.facts edit.old →
         Step S.facts edit.old edit.new (state_of region (F.facts paged.old.device)) result
         (state_of region (F.facts paged.new.device)) }
-    ensures outside { IsTrue (F.facts paged.old.device).honest →
-        SameOutside region.start region.size (F.facts paged.old.device).content (F.facts paged.new.device).content }
 {
     match edit {
         Edit::Add {

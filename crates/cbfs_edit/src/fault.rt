@@ -1,6 +1,7 @@
 //! Why an edit is refused.
 ghost use Rattle.std.specs.Prelude.{◌≡◌, ◌≢◌};
-ghost use Rattle.cbfs_edit.specs.Refusals.{refusal_of};
+ghost use Rattle.cbfs_walk.specs.Walks as walks;
+ghost use Rattle.cbfs_edit.specs.Refusals.{by_device, refusal_of};
 
 use cbfs_walk::WalkFault;
 use flash_format::DamageKind;
@@ -37,6 +38,7 @@ pub enum EditFault {
 /// The same refusal of an edit.
 pub fn refusal_of(fault: WalkFault) -> EditFault
     ensures is { result ≡ refusal_of fault }
+    ensures device { by_device result ≡ walks.by_device fault }
     ensures no_source { result ≢ EditFault.Source }
 {
     match fault {

@@ -1,10 +1,10 @@
 //! The formatting of a region.
 ghost use Rattle.std.specs.Prelude.{◌≡◌, ◌≢◌, ◌⊎◌, ◌+◌, ◌/◌, ◌<◌, IsTrue, IsErrOf, IfErr, OnOk};
-ghost use Rattle.flash_store.specs.Bytes.{SameOutside};
-ghost use Rattle.flash_store.specs.Device.{Calls};
-ghost use Rattle.flash_store.specs.Pages.{OnHonestIn};
+ghost use Rattle.flash_store.specs.Device.{faults_told};
+ghost use Rattle.flash_store.specs.Pages.{HasChanged, OnHonestIn};
 ghost use Rattle.flash_store.specs.Regions.{LiesIn, bytes_in};
 ghost use Rattle.cbfs_edit.specs.Formats.{format_of, formatted, IsFormatStop};
+ghost use Rattle.cbfs_edit.specs.Refusals.{by_device};
 
 use crate::blank::write_blank;
 use crate::fault::EditFault;
@@ -19,9 +19,7 @@ pub fn format<F: Flash>(paged: &mut Paged<F>, region: Region) -> Result<(), Edit
     requires { LiesIn region (F.facts paged.old.device).content }
 
     // On any device.
-    ensures calls { Calls (region.size / 4096 + 2) (F.facts paged.old.device) (F.facts paged.new.device) }
-    ensures cause { IsErrOf result EditFault.Device →
-        (F.facts paged.old.device).faults < (F.facts paged.new.device).faults }
+    ensures after { HasChanged F.facts region (region.size / 4096 + 2) (faults_told by_device result) paged.old paged.new }
     ensures answer { IsErrOf result EditFault.Device ⊎ (result ≡ format_of region.size) }
 
     // On an honest device.
@@ -31,8 +29,6 @@ pub fn format<F: Flash>(paged: &mut Paged<F>, region: Region) -> Result<(), Edit
         (F.facts paged.new.device).content ≡ (F.facts paged.old.device).content) }
     ensures stopped { OnHonestIn F.facts paged.old.device region (λ x. IsErrOf result EditFault.Device →
         IsFormatStop x (bytes_in region (F.facts paged.new.device).content)) }
-    ensures outside { IsTrue (F.facts paged.old.device).honest →
-        SameOutside region.start region.size (F.facts paged.old.device).content (F.facts paged.new.device).content }
 {
     paged.places_fit();
     let end = region.size();

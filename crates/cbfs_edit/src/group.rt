@@ -1,11 +1,13 @@
 //! The search for the group of cells that a removal takes.
 ghost use Rattle.std.specs.Prelude.{◌≡◌, ◌⊎◌, ◌+◌, ◌/◌, ◌<◌, ◌≤◌, IfOk, IsErrOf};
+ghost use Rattle.flash_store.specs.Device.{faults_told};
 ghost use Rattle.flash_store.specs.Pages.{HasRead, HasAnswered, OnHonestIn};
 ghost use Rattle.flash_store.specs.Regions.{LiesIn};
 ghost use Rattle.cbfs_walk.specs.Cells.{IsCellIn, cell_in};
 ghost use Rattle.cbfs_walk.specs.Walks.{StandsIn};
 ghost use Rattle.cbfs_edit.specs.Groups.{IsCellRange};
-ghost use Rattle.cbfs_edit.specs.Searches.{passed, group_in, IsBefore};
+ghost use Rattle.cbfs_edit.specs.Refusals.{by_device};
+ghost use Rattle.cbfs_edit.specs.Searches.{HasFound, passed, group_in, IsBefore};
 ghost use Rattle.cbfs_edit.specs.Removals.{removal_in};
 
 use crate::fault::{EditFault, refusal_of};
@@ -40,9 +42,7 @@ pub fn find_group<F: Flash>(
     requires { LiesIn region (F.facts paged.old.device).content }
 
     // On any device.
-    ensures after { HasRead F.facts (region.size / 16 + 1) paged.old paged.new }
-    ensures cause { IsErrOf result EditFault.Device →
-        (F.facts paged.old.device).faults < (F.facts paged.new.device).faults }
+    ensures after { HasRead F.facts (region.size / 16 + 1) (faults_told by_device result) paged.old paged.new }
     ensures no_source { IsErrOf result EditFault.Source → ⊥ }
     ensures group { IfOk result (λ group. IsCellRange group region.size) }
 
@@ -78,6 +78,7 @@ fn pass<F: Flash>(
     requires before { IsBefore cell.now.at search }
 
     ensures after { HasAnswered F.facts 1 paged.old paged.new result }
+    ensures no_call { HasFound search → paged.new ≡ paged.old }
     ensures before { IfOk result (IsBefore (cell.now.at + cell.now.span)) }
     ensures passed { OnHonestIn F.facts paged.old.device region (λ x. StandsIn x cell.now →
         IfOk result (λ next. next ≡ passed name.now search cell.now.at (cell_in x cell.now))) }

@@ -5,8 +5,8 @@
 ghost use Rattle.std.specs.Prelude.{◌≡◌, ◌⊎◌, ◌+◌, ◌-◌, ◌%◌, ◌^◌, ◌<◌, ◌≤◌, length, IsTrue, OnOk, OnErr};
 ghost use Rattle.flash_format.specs.Head.{header_length};
 ghost use Rattle.flash_format.specs.Made.{described, described_len};
-ghost use Rattle.flash_store.specs.Bytes.{SameOutside};
-ghost use Rattle.flash_store.specs.Device.{Calls};
+ghost use Rattle.flash_store.specs.Device.{refusals};
+ghost use Rattle.flash_store.specs.Pages.{HasChanged};
 ghost use Rattle.flash_store.specs.Regions.{LiesIn, bytes_in};
 ghost use Rattle.cbfs_edit.specs.Insertions.{ChangesFrom, HasRoom, IsUnfinished, bounded, finished, fronted, held_back, shown_by};
 
@@ -37,12 +37,9 @@ fn write_front<F: Flash>(
     requires region { LiesIn region (F.facts paged.old.device).content }
     requires room { HasRoom region.size place end (length front.now) }
 
-    ensures calls { Calls 1 (F.facts paged.old.device) (F.facts paged.new.device) }
-    ensures cause { OnErr result ((F.facts paged.old.device).faults < (F.facts paged.new.device).faults) }
+    ensures after { HasChanged F.facts region 1 (refusals result) paged.old paged.new }
 
     // On an honest device.
-    ensures outside { IsTrue (F.facts paged.old.device).honest →
-        SameOutside region.start region.size (F.facts paged.old.device).content (F.facts paged.new.device).content }
     ensures written { IsTrue (F.facts paged.old.device).honest → OnOk result
         (bytes_in region (F.facts paged.new.device).content
         ≡ fronted (bytes_in region (F.facts paged.old.device).content) place front.now) }
@@ -64,12 +61,9 @@ fn write_bound<F: Flash>(
     requires region { LiesIn region (F.facts paged.old.device).content }
     requires room { HasRoom region.size place end (place.content - place.header) }
 
-    ensures calls { Calls 1 (F.facts paged.old.device) (F.facts paged.new.device) }
-    ensures cause { OnErr result ((F.facts paged.old.device).faults < (F.facts paged.new.device).faults) }
+    ensures after { HasChanged F.facts region 1 (refusals result) paged.old paged.new }
 
     // On an honest device.
-    ensures outside { IsTrue (F.facts paged.old.device).honest →
-        SameOutside region.start region.size (F.facts paged.old.device).content (F.facts paged.new.device).content }
     ensures written { IsTrue (F.facts paged.old.device).honest → OnOk result
         (bytes_in region (F.facts paged.new.device).content
         ≡ bounded (bytes_in region (F.facts paged.old.device).content) end place.run.end) }
@@ -114,12 +108,9 @@ fn show<F: Flash>(
     requires region { LiesIn region (F.facts paged.old.device).content }
     requires room { HasRoom region.size place end (length front.now) }
 
-    ensures calls { Calls 3 (F.facts paged.old.device) (F.facts paged.new.device) }
-    ensures cause { OnErr result ((F.facts paged.old.device).faults < (F.facts paged.new.device).faults) }
+    ensures after { HasChanged F.facts region 3 (refusals result) paged.old paged.new }
 
     // On an honest device.
-    ensures outside { IsTrue (F.facts paged.old.device).honest →
-        SameOutside region.start region.size (F.facts paged.old.device).content (F.facts paged.new.device).content }
     ensures shown { IsTrue (F.facts paged.old.device).honest → OnOk result
         (bytes_in region (F.facts paged.new.device).content
         ≡ finished (bytes_in region (F.facts paged.old.device).content) place end front.now) }
@@ -151,13 +142,10 @@ pub fn describe<F: Flash>(
     requires name { length meta.now.name.now ≤ 127 }
     requires gap { meta.now.gap < 64 }
 
-    ensures calls { Calls 3 (F.facts paged.old.device) (F.facts paged.new.device) }
-    ensures cause { OnErr result ((F.facts paged.old.device).faults < (F.facts paged.new.device).faults) }
+    ensures after { HasChanged F.facts region 3 (refusals result) paged.old paged.new }
     ensures front { length (described meta.now) ≡ described_len meta.now }
 
     // On an honest device.
-    ensures outside { IsTrue (F.facts paged.old.device).honest →
-        SameOutside region.start region.size (F.facts paged.old.device).content (F.facts paged.new.device).content }
     ensures shown { IsTrue (F.facts paged.old.device).honest → OnOk result
         (bytes_in region (F.facts paged.new.device).content
         ≡ finished (bytes_in region (F.facts paged.old.device).content) place end (described meta.now)) }

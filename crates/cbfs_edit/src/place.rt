@@ -1,10 +1,12 @@
 //! The search for the place of a new component.
 ghost use Rattle.std.specs.Prelude.{◌≡◌, ◌≢◌, ◌⊎◌, ◌+◌, ◌/◌, ◌^◌, ◌<◌, ◌≤◌, MatchOption, IfOk, IfErr, IfSome, IsErrOf};
+ghost use Rattle.flash_store.specs.Device.{faults_told};
 ghost use Rattle.flash_store.specs.Pages.{HasRead, HasAnswered, OnHonestIn};
 ghost use Rattle.flash_store.specs.Regions.{LiesIn};
 ghost use Rattle.cbfs_walk.specs.Cells.{IsCellIn, cell_in};
 ghost use Rattle.cbfs_walk.specs.Walks.{StandsIn};
 ghost use Rattle.cbfs_edit.specs.Groups.{IsCellRange};
+ghost use Rattle.cbfs_edit.specs.Refusals.{by_device};
 ghost use Rattle.cbfs_edit.specs.Places.{IsWanted, IsLeast, HasNoRoom, limit_of, least_from, least_in, place_in, placing_in};
 ghost use Rattle.cbfs_edit.specs.Placings.{place_in_row, closed, surveyed, answer_of, Fits, IsSurvey};
 
@@ -63,9 +65,7 @@ pub fn find_place<F: Flash>(
     requires wanted { IsWanted wanted }
 
     // On any device.
-    ensures after { HasRead F.facts (region.size / 16 + 1) paged.old paged.new }
-    ensures cause { IsErrOf result EditFault.Device →
-        (F.facts paged.old.device).faults < (F.facts paged.new.device).faults }
+    ensures after { HasRead F.facts (region.size / 16 + 1) (faults_told by_device result) paged.old paged.new }
     ensures no_source { IsErrOf result EditFault.Source → ⊥ }
     ensures fits { IfOk result (Fits wanted region.size) }
 

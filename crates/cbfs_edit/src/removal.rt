@@ -1,12 +1,13 @@
 //! The removal of a component.
 ghost use Rattle.std.specs.Prelude.{◌≡◌, ◌≢◌, ◌⊎◌, ◌+◌, ◌/◌, ◌<◌, IsTrue, IfOk, IfErr, IsErrOf};
-ghost use Rattle.flash_store.specs.Bytes.{overwritten, SameOutside};
-ghost use Rattle.flash_store.specs.Device.{Calls};
-ghost use Rattle.flash_store.specs.Pages.{OnHonestIn};
+ghost use Rattle.flash_store.specs.Bytes.{overwritten};
+ghost use Rattle.flash_store.specs.Device.{faults_told};
+ghost use Rattle.flash_store.specs.Pages.{HasChanged, OnHonestIn};
 ghost use Rattle.flash_store.specs.Regions.{LiesIn, bytes_in};
+ghost use Rattle.cbfs_edit.specs.Refusals.{by_device};
 ghost use Rattle.cbfs_edit.specs.Removals.{removed, removal_in};
 ghost use Rattle.cbfs_edit.specs.Stops.{LeavesWhole};
-ghost use Rattle.cbfs_edit.specs.Steps.{state_of, RemovalStep};
+ghost use Rattle.cbfs_edit.specs.Steps.{RemovalStep};
 
 use crate::blank::write_blank;
 use crate::fault::EditFault;
@@ -29,10 +30,7 @@ pub fn remove<F: Flash>(
     requires { LiesIn region (F.facts paged.old.device).content }
 
     // On any device.
-    ensures calls { Calls (region.size / 16 + region.size / 4096 + 3) (F.facts paged.old.device)
-        (F.facts paged.new.device) }
-    ensures cause { IsErrOf result EditFault.Device →
-        (F.facts paged.old.device).faults < (F.facts paged.new.device).faults }
+    ensures after { HasChanged F.facts region (region.size / 16 + region.size / 4096 + 3) (faults_told by_device result) paged.old paged.new }
     ensures no_source { IsErrOf result EditFault.Source → ⊥ }
 
     // On an honest device.
@@ -47,10 +45,9 @@ pub fn remove<F: Flash>(
         (F.facts paged.new.device).content ≡ (F.facts paged.old.device).content) }
     ensures stopped { OnHonestIn F.facts paged.old.device region (λ x. IsErrOf result EditFault.Device →
         LeavesWhole x name.now (bytes_in region (F.facts paged.new.device).content)) }
-    ensures outside { IsTrue (F.facts paged.old.device).honest →
-        SameOutside region.start region.size (F.facts paged.old.device).content (F.facts paged.new.device).content }
     ensures step { IsTrue (F.facts paged.old.device).honest → RemovalStep name.now
-        (state_of region (F.facts paged.old.device)) result (state_of region (F.facts paged.new.device)) }
+        (bytes_in region (F.facts paged.old.device).content) result
+        (bytes_in region (F.facts paged.new.device).content) }
 {
     paged.places_fit();
     let group = find_group(paged, region, name)?;

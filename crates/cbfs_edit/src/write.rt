@@ -2,7 +2,9 @@
 ghost use Rattle.std.specs.Prelude.{◌≡◌, ◌⊎◌, ℕ, List, ◌++◌, ◌+◌, ◌/◌, ◌<◌, ◌≤◌, length, IsTrue, IsErrOf, OnOk, OnErr, replicate};
 ghost use Rattle.flash_format.specs.Head.{header_length};
 ghost use Rattle.flash_store.specs.Bytes.{overwritten, SameOutside};
-ghost use Rattle.flash_store.specs.Device.{Calls};
+ghost use Rattle.flash_store.specs.Copies.{by_device, by_source};
+ghost use Rattle.flash_store.specs.Device.{Calls, faults_told, refusals};
+ghost use Rattle.flash_store.specs.Pages.{HasChanged};
 ghost use Rattle.flash_store.specs.Regions.{LiesIn, bytes_in};
 
 use flash_format::HEADER_LENGTH;
@@ -18,12 +20,9 @@ pub fn commit_in<F: Flash>(
     requires region { LiesIn region (F.facts paged.old.device).content }
     requires inside { at + header_length ≤ region.size }
 
-    ensures calls { Calls 1 (F.facts paged.old.device) (F.facts paged.new.device) }
-    ensures cause { OnErr result ((F.facts paged.old.device).faults < (F.facts paged.new.device).faults) }
+    ensures after { HasChanged F.facts region 1 (refusals result) paged.old paged.new }
 
     // On an honest device.
-    ensures outside { IsTrue (F.facts paged.old.device).honest →
-        SameOutside region.start region.size (F.facts paged.old.device).content (F.facts paged.new.device).content }
     ensures written { IsTrue (F.facts paged.old.device).honest → OnOk result
         (bytes_in region (F.facts paged.new.device).content
         ≡ overwritten (bytes_in region (F.facts paged.old.device).content) at bytes.now) }
@@ -48,12 +47,9 @@ pub fn fill_in<F: Flash>(
     requires region { LiesIn region (F.facts paged.old.device).content }
     requires inside { at + n ≤ region.size }
 
-    ensures calls { Calls ((n + 4095) / 4096) (F.facts paged.old.device) (F.facts paged.new.device) }
-    ensures cause { OnErr result ((F.facts paged.old.device).faults < (F.facts paged.new.device).faults) }
+    ensures after { HasChanged F.facts region ((n + 4095) / 4096) (refusals result) paged.old paged.new }
 
     // On an honest device.
-    ensures outside { IsTrue (F.facts paged.old.device).honest →
-        SameOutside region.start region.size (F.facts paged.old.device).content (F.facts paged.new.device).content }
     ensures filled { IsTrue (F.facts paged.old.device).honest → OnOk result
         (bytes_in region (F.facts paged.new.device).content
         ≡ overwritten (bytes_in region (F.facts paged.old.device).content) at (replicate n byte)) }
@@ -76,18 +72,13 @@ pub fn copy_into<F: Flash, S: Source, W: Watch>(
     requires region { LiesIn region (F.facts paged.old.device).content }
     requires inside { at + length (S.facts source.old).content ≤ region.size }
 
-    ensures calls { Calls ((length (S.facts source.old).content + 4095) / 4096) (F.facts paged.old.device)
-        (F.facts paged.new.device) }
-    ensures source_calls { Calls ((length (S.facts source.old).content + 4095) / 4096) (S.facts source.old)
-        (S.facts source.new) }
-    ensures device { IsErrOf result CopyFault.Device →
-        (F.facts paged.old.device).faults < (F.facts paged.new.device).faults }
-    ensures source { IsErrOf result CopyFault.Source → (S.facts source.old).faults < (S.facts source.new).faults }
+    ensures after { HasChanged F.facts region ((length (S.facts source.old).content + 4095) / 4096) (faults_told by_device result)
+        paged.old paged.new }
+    ensures source_calls { Calls ((length (S.facts source.old).content + 4095) / 4096) (faults_told by_source result)
+        (S.facts source.old) (S.facts source.new) }
     ensures no_output { IsErrOf result CopyFault.Output → ⊥ }
 
-    // On an honest device, the second from an honest source.
-    ensures outside { IsTrue (F.facts paged.old.device).honest →
-        SameOutside region.start region.size (F.facts paged.old.device).content (F.facts paged.new.device).content }
+    // On an honest device, the first from an honest source.
     ensures copied { IsTrue (F.facts paged.old.device).honest → IsTrue (S.facts source.old).honest → OnOk result
         (bytes_in region (F.facts paged.new.device).content
         ≡ overwritten (bytes_in region (F.facts paged.old.device).content) at (S.facts source.old).content) }
@@ -117,12 +108,9 @@ pub fn write_in<F: Flash>(
     requires inside { at + length bytes.now ≤ region.size }
     requires short { length bytes.now ≤ 4096 }
 
-    ensures calls { Calls 1 (F.facts paged.old.device) (F.facts paged.new.device) }
-    ensures cause { OnErr result ((F.facts paged.old.device).faults < (F.facts paged.new.device).faults) }
+    ensures after { HasChanged F.facts region 1 (refusals result) paged.old paged.new }
 
     // On an honest device.
-    ensures outside { IsTrue (F.facts paged.old.device).honest →
-        SameOutside region.start region.size (F.facts paged.old.device).content (F.facts paged.new.device).content }
     ensures written { IsTrue (F.facts paged.old.device).honest → OnOk result
         (bytes_in region (F.facts paged.new.device).content
         ≡ overwritten (bytes_in region (F.facts paged.old.device).content) at bytes.now) }

@@ -1,14 +1,14 @@
 -- What a walk answers at a place, by what stands there.
 use Rattle.std.proofs.Common.{◌≡◌, ℕ, ◌%◌, ◌<◌, Some, Bool, true, false, ◌&&◌, List, length, drop, Ok, Err, refl, sym, ap, ◌∙◌, arith, eqb, length-drop, true≢false}
-use Rattle.std.specs.Prelude.{IsErrOf}
 use Rattle.std.proofs.lemmas.Bool.{eqb-true, ne_eqb}
 use Rattle.std.proofs.lemmas.Grind.{common_steps}
 use Rattle.flash_format.specs.declared.head.Head.{Head}
 use Rattle.flash_format.specs.declared.head.DamageKind.{DamageKind}
 use Rattle.flash_format.specs.Head.{head_of}
 use Rattle.flash_format.specs.Entry.{Entry, absent, damaged, cell, entry}
+use Rattle.flash_store.specs.Device.{faults_told}
 use Rattle.cbfs_walk.specs.Shapes.{has_bad_size, is_absent}
-use Rattle.cbfs_walk.specs.Walks.{Answer, Walking, EndsWalk, GivesCellAt, moved, answer_by, answer_at}
+use Rattle.cbfs_walk.specs.Walks.{Answer, Walking, EndsWalk, by_device, GivesCellAt, moved, answer_by, answer_at}
 use Rattle.cbfs_walk.specs.declared.walk.Step.TheVariants as steps
 use Rattle.cbfs_walk.specs.declared.walk.WalkFault.TheVariants as faults
 
@@ -69,14 +69,15 @@ answer_cell x at size span h len good inside is head =
 
 -- ---- a walk that has ended
 
-pub ends_cause : {T : Type 0} (a : Answer) → EndsWalk a → IsErrOf a faults.Device → T
-ends_cause (Ok (steps.Cell c)) e is = absurd e
-ends_cause (Ok steps.End) e is = absurd cc
-ends_cause (Ok (steps.Tail at)) e is = absurd cc
-ends_cause (Err faults.Device) e is = absurd e
-ends_cause (Err faults.RegionShape) e is = absurd cc
-ends_cause (Err faults.NotCbfs) e is = absurd cc
-ends_cause (Err (faults.Damaged at kind)) e is = absurd cc
+-- an answer with which a walk ends tells no fault of the device
+pub ends_faultless : (a : Answer) → EndsWalk a → faults_told by_device a ≡ 0
+ends_faultless (Ok (steps.Cell c)) e = absurd e
+ends_faultless (Ok steps.End) e = refl
+ends_faultless (Ok (steps.Tail at)) e = refl
+ends_faultless (Err faults.Device) e = absurd e
+ends_faultless (Err faults.RegionShape) e = refl
+ends_faultless (Err faults.NotCbfs) e = refl
+ends_faultless (Err (faults.Damaged at kind)) e = refl
 
 pub ends_cell : (size at : ℕ) (a : Answer) → EndsWalk a → GivesCellAt size at a
 ends_cell size at (Ok (steps.Cell c)) e = absurd e

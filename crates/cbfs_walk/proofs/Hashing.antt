@@ -1,6 +1,7 @@
 -- The digest of a component's content: the pieces of which it is made, and what the first hash attribute says of it.
-use Rattle.std.proofs.Common.{◌≡◌, ℕ, ◌+◌, ◌-◌, ◌≤◌, Bool, true, false, cond, IsTrue, List, ◌++◌, take, drop, length, Some, None, Result, Ok, refl, sym, ap, ◌∙◌, arith}
+use Rattle.std.proofs.Common.{◌≡◌, ℕ, ◌+◌, ◌-◌, ◌≤◌, Bool, true, false, cond, IsTrue, List, ◌++◌, take, drop, length, Some, None, Result, Ok, refl, sym, subst, ap, ◌∙◌, arith}
 use Rattle.std.specs.Prelude.{slice_range}
+use Rattle.std.specs.Str.{bytes_eq}
 use Rattle.std.proofs.lemmas.Bool.Decides.{nat_tests}
 use Rattle.byteorder.specs.Endian.{big_number}
 use Rattle.sha2.specs.Sha256.{sha256}
@@ -22,8 +23,11 @@ use Rattle.flash_store.proofs.WindowLemmas.{ScansTo-on, ScansTo-then}
 use Rattle.cbfs_walk.specs.Passing.{HasPassed, reads_over}
 use Rattle.cbfs_walk.specs.Cells.{PassesChecks, cell_in}
 use Rattle.cbfs_walk.specs.Walks.{StandsIn}
-use Rattle.cbfs_walk.specs.Hashes.{sha256_of, sha512_of, digest_like, has_sha256, has_sha512, stored_digest, state_of, data_of, hash_state, content_at, hash_state_in}
+use Rattle.cbfs_walk.specs.Hashes.{sha256_of, sha512_of, digest_like, has_sha256, has_sha512, stored_digest, compared, state_of, data_of, hash_state, content_at, hash_state_in, IsUncompared}
 use Rattle.cbfs_walk.specs.declared.cell.Cell.{Cell}
+use Rattle.cbfs_walk.specs.declared.hashes.HashState.{HashState}
+use Rattle.cbfs_walk.specs.declared.hashes.HashState.TheVariants.{Valid, Invalid}
+use Rattle.flash_format.specs.Made.{digest_bytes}
 use Rattle.cbfs_walk.proofs.Parts.{range-inner, range-take, range-after, length-range}
 use Rattle.cbfs_walk.proofs.Checks.{checks_give}
 use Rattle.cbfs_walk.proofs.CutLaws.{standing, cell_head, cell_part}
@@ -165,6 +169,19 @@ pub data_passes : {F T E : Type 0} (facts : F → Device) (start : ℕ) (c : Cel
 data_passes facts start c at len old mid new result room fits first p =
     HasPassed-on facts (start + (c.at + name_end c.head)) (start + (at + 8 + (len - 8))) (start + (c.at + c.head.offset)) old new result (omega (arith, room, fits))
     (HasPassed-then facts (start + (c.at + name_end c.head)) (start + at) (start + (at + 8)) (start + (at + 8 + (len - 8))) old mid new result (omega arith) first p)
+
+-- the same by what stands before the content alone
+pub front_answers : {F T E : Type 0} (facts : F → Device) (start : ℕ) (c : Cell) (old new : Pages F) (result : Result T E) → HasPassed facts (start + (c.at + name_end c.head)) (start + (c.at + c.head.offset)) old new result → HasAnswered facts (reads_over c.head.offset) old new result
+front_answers facts start c old new result p =
+    HasPassed-answers facts (start + (c.at + name_end c.head)) (start + (c.at + c.head.offset)) (reads_over c.head.offset) old new result (omega arith) p
+
+-- a digest that is compared is not told without the content
+pub compared_is_told : (stored computed : Digest) (state : HashState) → state ≡ compared stored computed → IsUncompared state → ⊥
+compared_is_told stored computed state is = go (bytes_eq (digest_bytes stored) (digest_bytes computed)) is
+  where
+    go : (b : Bool) → state ≡ cond b (Valid stored) (Invalid stored) → IsUncompared state → ⊥
+    go true e told = subst (λ (s : HashState). IsUncompared s) e told
+    go false e told = subst (λ (s : HashState). IsUncompared s) e told
 
 pub attributes_answers : {F T E : Type 0} (facts : F → Device) (start size : ℕ) (c : Cell) (old new : Pages F) (result : Result T E) → PassesChecks size c → HasPassed facts (start + (c.at + name_end c.head)) (start + (c.at + c.head.offset)) old new result → HasAnswered facts (reads_over c.span) old new result
 attributes_answers facts start size c old new result is p =

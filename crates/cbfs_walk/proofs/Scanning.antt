@@ -38,7 +38,7 @@ pub record Scanning {F : Type 0} (facts : F → Device) (r : Range) (from end at
   pub asked : IsTrue (facts old.device).honest → Asked
 
 -- what it left as it was
-pub left_by : {F : Type 0} (facts : F → Device) (r : Range) (from end at : ℕ) (old now : Pages F) (Asked : Type 0) → Scanning facts r from end at old now Asked → Reads (reads_over (r.start + at - (r.start + from))) (facts old.device) (facts now.device)
+pub left_by : {F : Type 0} (facts : F → Device) (r : Range) (from end at : ℕ) (old now : Pages F) (Asked : Type 0) → Scanning facts r from end at old now Asked → Reads (reads_over (r.start + at - (r.start + from))) 0 (facts old.device) (facts now.device)
 left_by facts r from end at old now Asked s = (ScansTo-reads facts (r.start + from) (r.start + at) old now s.scans).device
 
 pub scanning_start : {F : Type 0} (facts : F → Device) (r : Range) (from end : ℕ) (old : Pages F) (Asked : Type 0) → from ≤ end → (IsTrue (facts old.device).honest → Asked) → Scanning facts r from end from old old Asked

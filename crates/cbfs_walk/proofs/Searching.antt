@@ -79,7 +79,7 @@ pub record Searching {F : Type 0} (facts : F → Device) (r : Range) (name : Lis
   pub going : w.ended ≡ None
   pub inside : w.at ≤ r.size
   pub aligned : w.at % 64 ≡ 0
-  pub read : HasRead facts (w.at / 16) old now
+  pub read : HasRead facts (w.at / 16) 0 old now
   pub so_far : IsTrue (facts old.device).honest → component_in (bytes_in r (facts old.device).content) name ≡ found_from (bytes_in r (facts old.device).content) name w.at
 
 pub searching_start : {F : Type 0} (facts : F → Device) (r : Range) (name : List ℕ) (old : Pages F) → Searching facts r name (walk_of r) old old
@@ -88,7 +88,7 @@ searching_start facts r name old = record {
   going = refl;
   inside = omega arith;
   aligned = refl;
-  read = HasRead-within facts 0 (0 / 16) old old (omega arith) (HasRead-none facts old);
+  read = HasRead-within facts 0 (0 / 16) 0 old old (omega arith) (HasRead-none facts old);
   so_far = λ h. found_whole (bytes_in r (facts old.device).content) name;
 }
 
@@ -111,7 +111,7 @@ module _ {F : Type 0} (facts : F → Device) (r : Range) (name : List ℕ) (w : 
       (here, s.so_far h ∙ found_step x name w.at (omega (arith, len, s.inside)) s.aligned ∙ ap (found_by x name) (sym here))
 
   -- the walk gave a cell, and the test says whether it is the component
-  module _ (c : Cell) (mid : Pages F) (n : ℕ) (is_it : Bool) (given : IsCellIn w.region.size c × (c.at ≡ w.at)) (reads : HasRead facts n now mid)
+  module _ (c : Cell) (mid : Pages F) (n : ℕ) (is_it : Bool) (given : IsCellIn w.region.size c × (c.at ≡ w.at)) (reads : HasRead facts n 0 now mid)
       (answer : IsTrue (facts now.device).honest → w.ended ≡ None → (let a : Answer = Ok (steps.Cell c) in IsErrOf a faults.Device ⊎ (a ≡ answer_at (bytes_in w.region (facts now.device).content) w.at)))
       (test : IsTrue (facts mid.device).honest → StandsIn (bytes_in r (facts mid.device).content) c → is_it ≡ (not (is_free c.head) && bytes_eq (cell_name (cell_in (bytes_in r (facts mid.device).content) c)) name)) where
     cell_of_region : IsCellIn r.size c
@@ -142,13 +142,13 @@ module _ {F : Type 0} (facts : F → Device) (r : Range) (name : List ℕ) (w : 
         let span = cell_len x r.size c len cell_of_region in
         sym (ap found_cell (found_first e h) ∙ ap (λ (d : Cell). Ok (Some d)) (cell_is c.at c.span (head_of (cell_in x c)) c.head (length (cell_in x c)) head span))
 
-    pub searching_more : (v : Walking) (new : Pages F) → is_it ≡ false → v ≡ record w { at = w.at + c.span; steps = w.steps + 1 } → n ≡ reads_over c.span → HasRead facts 1 mid new → Searching facts r name v old new
+    pub searching_more : (v : Walking) (new : Pages F) → is_it ≡ false → v ≡ record w { at = w.at + c.span; steps = w.steps + 1 } → n ≡ reads_over c.span → HasRead facts 1 0 mid new → Searching facts r name v old new
     searching_more v new e moved few more = rw moved (record {
       region = s.region;
       going = s.going;
       inside = omega (arith, cell_of_region.inside, given.1);
       aligned = omega (arith, s.aligned, given.0.whole);
-      read = HasRead-within facts (w.at / 16 + (n + 1)) ((w.at + c.span) / 16) old new (omega (arith, few, given.0.positive)) (HasRead-then facts (w.at / 16) (n + 1) old now new s.read (HasRead-then facts n 1 now mid new reads more));
+      read = HasRead-within facts (w.at / 16 + (n + 1)) ((w.at + c.span) / 16) 0 old new (omega (arith, few, given.0.positive)) (HasRead-then facts (w.at / 16) (n + 1) 0 old now new s.read (HasRead-then facts n 1 0 now mid new reads more));
       so_far = λ h.
           let x = bytes_in r (facts old.device).content in
           tested h

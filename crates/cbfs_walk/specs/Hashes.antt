@@ -2,7 +2,7 @@
 -- The attribute is coreboot's `struct cbfs_file_attr_hash`: a number of an algorithm, big-endian, and the digest. The
 -- numbers are those of vboot's `enum vb2_hash_algorithm`, and the digests those of FIPS 180-4. Which algorithms are
 -- supported, and which lengths of the attribute are accepted, is this project's own.
-use Rattle.std.specs.Prelude.{ℕ, ◌+◌, Bool, List, [], ◌∷◌, length, slice_range, Option, Some, None, nat_le, ◌&&◌, ◌==◌, if◌then◌else◌}
+use Rattle.std.specs.Prelude.{ℕ, ◌+◌, Bool, List, [], ◌∷◌, length, slice_range, Option, Some, None, nat_le, ◌&&◌, ◌==◌, if◌then◌else◌, ⊤}
 use Rattle.std.specs.Option.{option_map}
 use Rattle.std.specs.Str.{bytes_eq}
 use Rattle.sha2.specs.Sha256.{sha256}
@@ -83,3 +83,10 @@ content_at x c = slice_range x (c.at + c.head.offset) (c.at + (c.head.offset + c
 -- what the first hash attribute of a component says of its content, in a region of these bytes
 abbrev pub hash_state_in : List ℕ → Cell → HashState
 hash_state_in x c = state_of (option_map (data_at x) (first_of x c HASH)) (content_at x c)
+
+-- a state that is told without a look at the content
+abbrev pub IsUncompared : HashState → Type 0
+IsUncompared Absent = ⊤
+IsUncompared (Valid digest) = ⊥
+IsUncompared (Invalid digest) = ⊥
+IsUncompared Unsupported = ⊤

@@ -43,6 +43,13 @@ answer_at x at =
 abbrev pub StandsIn : List ℕ → Cell → Type 0
 StandsIn x c = answer_at x c.at ≡ Ok (steps.Cell c)
 
+-- how many refused calls of the device a fault tells
+abbrev pub by_device : WalkFault → ℕ
+by_device faults.Device = 1
+by_device faults.RegionShape = 0
+by_device faults.NotCbfs = 0
+by_device (faults.Damaged at kind) = 0
+
 -- ---- what an answer makes of a walk
 
 -- a cell goes on, a device's fault changes nothing, and every other answer ends the walk

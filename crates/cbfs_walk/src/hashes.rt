@@ -3,12 +3,12 @@ ghost use Rattle.std.specs.Prelude.{◌≡◌, ℕ, ◌+◌, ◌≤◌, false, L
 ghost use Rattle.flash_format.specs.declared.digest.Digest.TheVariants as digests;
 ghost use Rattle.flash_format.specs.Head.{is_free};
 ghost use Rattle.flash_format.specs.Components.{cell_attributes, cell_content};
-ghost use Rattle.flash_store.specs.Pages.{HasSeen, HasAnswered, OnHonestIn};
+ghost use Rattle.flash_store.specs.Pages.{HasSeen, HasAnswered, HasRead, OnHonestIn};
 ghost use Rattle.flash_store.specs.Regions.{LiesIn};
 ghost use Rattle.cbfs_walk.specs.Passing.{HasPassed, reads_over};
 ghost use Rattle.cbfs_walk.specs.Cells.{PassesChecks, cell_in};
 ghost use Rattle.cbfs_walk.specs.Walks.{StandsIn};
-ghost use Rattle.cbfs_walk.specs.Hashes.{digest_like, has_sha256, has_sha512, stored_digest, compared, hash_state, content_at, hash_state_in};
+ghost use Rattle.cbfs_walk.specs.Hashes.{digest_like, has_sha256, has_sha512, stored_digest, compared, hash_state, content_at, hash_state_in, IsUncompared};
 
 use crate::attribute_walk::{first_attribute, value_at};
 use crate::cell::{Cell, content_fits};
@@ -47,6 +47,8 @@ pub fn check_hash<F: Flash>(
 
     // On any device.
     ensures after { HasAnswered F.facts (reads_over cell.now.span) paged.old paged.new result }
+    ensures unread { IfOk result (λ state. IsUncompared state →
+        HasRead F.facts (reads_over cell.now.head.offset) 0 paged.old paged.new) }
 
     // On an honest device: in any cell, and in one that stands in the region.
     ensures value { OnHonestIn F.facts paged.old.device region (λ x.

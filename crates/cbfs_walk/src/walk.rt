@@ -1,9 +1,10 @@
 //! A walk from cell to cell.
 ghost use Rattle.std.specs.Prelude.{◌≡◌, ◌⊎◌, ◌+◌, ◌*◌, ◌/◌, ◌%◌, ◌<◌, ◌≤◌, None, IsTrue, IsSome, IsErrOf};
+ghost use Rattle.flash_store.specs.Device.{faults_told};
 ghost use Rattle.flash_store.specs.Pages.{HasRead, OnHonestIn};
 ghost use Rattle.flash_store.specs.Regions.{LiesIn};
 ghost use Rattle.cbfs_walk.specs.Shapes.{has_bad_size};
-ghost use Rattle.cbfs_walk.specs.Walks.{walk_of, moved, answer_at, GivesCell, GivesCellAt, HasEnded, reads_of, reads_at};
+ghost use Rattle.cbfs_walk.specs.Walks.{by_device, walk_of, moved, answer_at, GivesCell, GivesCellAt, HasEnded, reads_of, reads_at};
 
 use crate::cell::Cell;
 use crate::entry::{Entry, entry_at};
@@ -87,9 +88,7 @@ impl Walk {
         requires { LiesIn self.old.region (F.facts paged.old.device).content }
 
         // On any device.
-        ensures after { HasRead F.facts (reads_of self.old result) paged.old paged.new }
-        ensures cause { IsErrOf result WalkFault.Device →
-            (F.facts paged.old.device).faults < (F.facts paged.new.device).faults }
+        ensures after { HasRead F.facts (reads_of self.old result) (faults_told by_device result) paged.old paged.new }
         ensures cell { GivesCell self.old result }
         ensures moved { self.new ≡ moved self.old result }
         ensures ended { HasEnded self.old result }
@@ -127,9 +126,7 @@ fn answer_at<F: Flash>(paged: &mut Paged<F>, region: Region, at: u64) -> Result<
     requires inside { at ≤ region.size }
     requires aligned { at % 64 ≡ 0 }
 
-    ensures after { HasRead F.facts (reads_at region.size at result) paged.old paged.new }
-    ensures cause { IsErrOf result WalkFault.Device →
-        (F.facts paged.old.device).faults < (F.facts paged.new.device).faults }
+    ensures after { HasRead F.facts (reads_at region.size at result) (faults_told by_device result) paged.old paged.new }
     ensures cell { GivesCellAt region.size at result }
     ensures answer { OnHonestIn F.facts paged.old.device region (λ x.
         IsErrOf result WalkFault.Device ⊎ (result ≡ answer_at x at)) }

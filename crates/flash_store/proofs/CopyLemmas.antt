@@ -10,17 +10,17 @@ use Rattle.flash_store.proofs.BytesLemmas.{slice_range_is, length-slice_range, o
 use Rattle.flash_store.specs.Device.{Device, Calls, OneCall}
 use Rattle.flash_store.specs.Output.{AppendsPart, AppendsPieces}
 
--- at most a call for each 4096 bytes that are done, and one more for the last few
+-- at most a call for each 4096 bytes that are done, and one more for the last few; none was refused
 pub record CallsSoFar (done n : ℕ) (old new : Device) : Type 0 where
   pub no_fewer : old.calls ≤ new.calls
   pub no_more : 4096 * new.calls ≤ 4096 * old.calls + done + 4095
   pub no_more_yet : done < n → 4096 * new.calls ≤ 4096 * old.calls + done
-  pub faults : old.faults ≤ new.faults
+  pub faults : new.faults ≡ old.faults
   pub same_honesty : new.honest ≡ old.honest
   pub same_length : length new.content ≡ length old.content
 
 -- one piece more
-pub CallsSoFar-more : (done n size : ℕ) (old mid new : Device) → done < n → size ≡ min (n - done) 4096 → CallsSoFar done n old mid → OneCall mid new → CallsSoFar (done + size) n old new
+pub CallsSoFar-more : (done n size : ℕ) (old mid new : Device) → done < n → size ≡ min (n - done) 4096 → CallsSoFar done n old mid → OneCall 0 mid new → CallsSoFar (done + size) n old new
 CallsSoFar-more done n size old mid new left is so_far call = record {
   no_fewer = omega (arith, so_far.no_fewer, call.calls);
   no_more = omega (arith, so_far.no_more_yet left, call.calls);
@@ -109,7 +109,7 @@ Filled-outside old mid new at done size n byte short within inside so_far torn =
     SameOutside-trans old mid new at n done size within first (subst (λ k. SameOutside (at + done) k mid new) (length-copies size byte short) torn)
 
 -- the same, where the piece may have made no call
-pub CallsSoFar-at_most : (done n size : ℕ) (old mid new : Device) → done < n → size ≡ min (n - done) 4096 → CallsSoFar done n old mid → Calls 1 mid new → CallsSoFar (done + size) n old new
+pub CallsSoFar-at_most : (done n size : ℕ) (old mid new : Device) → done < n → size ≡ min (n - done) 4096 → CallsSoFar done n old mid → Calls 1 0 mid new → CallsSoFar (done + size) n old new
 CallsSoFar-at_most done n size old mid new left is so_far call = record {
   no_fewer = omega (arith, so_far.no_fewer, call.no_fewer);
   no_more = omega (arith, so_far.no_more_yet left, call.no_more);

@@ -133,19 +133,19 @@ no_tables_behind image q before occurs no_table k above below table =
     (λ later. ⊎_elim (λ same. no_table (subst (IsTableAt image) same table)) (λ other. signature-apart image q k occurs (omega (arith, later, other)) below (IsTableAt-signature image k table)) (cases_eq k q))
     (cases_lt k q)
 
--- no map stands before this place, and at most two calls were made for each six bytes before it
+-- no map stands before this place, and at most two calls were made for each six bytes before it, none of them refused
 pub record SearchedTo (place : ℕ) (old new : Device) : Type 0 where
   pub no_fewer : old.calls ≤ new.calls
   pub within : place ≤ length old.content
   pub no_more : 3 * new.calls ≤ 3 * old.calls + place
-  pub faults : old.faults ≤ new.faults
+  pub faults : new.faults ≡ old.faults
   pub same_honesty : new.honest ≡ old.honest
   pub same_length : length new.content ≡ length old.content
   pub unchanged : IsTrue old.honest → new.content ≡ old.content
   pub none : IsTrue old.honest → Nowhere (IsTableAt old.content) 0 place
 
 -- the search goes on after a part with no signature
-pub SearchedTo-part : (old mid new : Device) (place size : ℕ) → place + size ≤ length old.content → 56 ≤ size → SearchedTo place old mid → Reads 1 mid new
+pub SearchedTo-part : (old mid new : Device) (place size : ℕ) → place + size ≤ length old.content → 56 ≤ size → SearchedTo place old mid → Reads 1 0 mid new
     → (IsTrue mid.honest → IsFirst (HasSignatureAt mid.content) place (place + size - 7) None)
     → SearchedTo (place + (size - 7)) old new
 SearchedTo-part old mid new place size within long so_far call none = record {
@@ -163,7 +163,7 @@ SearchedTo-part old mid new place size within long so_far call none = record {
 }
 
 -- and after a signature that begins no map
-pub SearchedTo-signature : (old mid new last : Device) (place q e : ℕ) → q + 8 ≤ length old.content → place ≤ q → SearchedTo place old mid → Reads 1 mid new → Reads 1 new last
+pub SearchedTo-signature : (old mid new last : Device) (place q e : ℕ) → q + 8 ≤ length old.content → place ≤ q → SearchedTo place old mid → Reads 1 0 mid new → Reads 1 0 new last
     → (IsTrue mid.honest → IsFirst (HasSignatureAt mid.content) place e (Some q)) → (IsTrue new.honest → ¬ IsTableAt new.content q)
     → SearchedTo (q + 6) old last
 SearchedTo-signature old mid new last place q e within above so_far call probe first no_table = record {
@@ -254,7 +254,7 @@ unfolding is_valid_head
 valid_fits h left e = leb-true _ _ (and_parts _ _ (and_parts _ _ e).1).1
 
 -- or ends at the map that a signature begins
-pub SearchedTo-table : (old mid new : Device) (place q e : ℕ) (h : FmapHead) → SearchedTo place old mid → Reads 1 mid new
+pub SearchedTo-table : (old mid new : Device) (place q e : ℕ) (h : FmapHead) → SearchedTo place old mid → Reads 1 0 mid new
     → (IsTrue mid.honest → IsFirst (HasSignatureAt mid.content) place e (Some q)) → (IsTrue new.honest → Some h ≡ map_head (drop q new.content))
     → IsTrue old.honest → Some (record { at = q; head = h }) ≡ found_in old.content
 SearchedTo-table old mid new place q e h so_far call first table honest =

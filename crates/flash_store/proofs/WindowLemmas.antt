@@ -6,13 +6,13 @@ use Rattle.std.specs.Prelude.{slice_range, Result, Ok, Err, IsOk}
 use Rattle.std.proofs.lemmas.Bool.{cases_lt}
 use Rattle.std.proofs.lemmas.List.{drop-drop, drop-take, take-take}
 use Rattle.std.proofs.Math.Seq.{take-length}
-use Rattle.flash_store.specs.Device.{Device}
+use Rattle.flash_store.specs.Device.{Device, refusals}
 use Rattle.flash_store.specs.Pages.{Held, Nothing, Window, Piece, Pages, IsTrueTo, Covers, HasNoPiece, without_piece, held_in, HasRead, HasSeen}
 use Rattle.flash_store.specs.Scans.{HasSpent, HasScanned, ScansTo, SpendsTo}
 use Rattle.flash_store.specs.declared.paged.Buffered.{Buffered}
 use Rattle.flash_store.specs.declared.paged.Buffered.TheVariants as code
 use Rattle.flash_store.proofs.BytesLemmas.{slice_range_is}
-use Rattle.flash_store.proofs.DeviceLemmas.{Reads-none, Reads-then, Reads-within}
+use Rattle.flash_store.proofs.DeviceLemmas.{refusals-ok, Reads-none, Reads-then, Reads-within}
 
 -- a part is decided by a prefix that holds it
 front_decides : (xs ys : List ℕ) (start n len : ℕ) → start + n ≤ len → take len xs ≡ take len ys → take n (drop start xs) ≡ take n (drop start ys)
@@ -60,17 +60,17 @@ without_piece-true device Nothing window = window
 without_piece-true device (Window from bytes) window = window
 without_piece-true device (Piece bytes) window = tt
 
-pub HasRead-none : {F : Type 0} (facts : F → Device) (p : Pages F) → HasRead facts 0 p p
+pub HasRead-none : {F : Type 0} (facts : F → Device) (p : Pages F) → HasRead facts 0 0 p p
 HasRead-none facts p = record { device = Reads-none (facts p.device); window = λ h. h }
 
-pub HasRead-then : {F : Type 0} (facts : F → Device) (n k : ℕ) (old mid new : Pages F) → HasRead facts n old mid → HasRead facts k mid new → HasRead facts (n + k) old new
-HasRead-then facts n k old mid new first second = record {
-  device = Reads-then n k _ _ _ first.device second.device;
+pub HasRead-then : {F : Type 0} (facts : F → Device) (n k refused : ℕ) (old mid new : Pages F) → HasRead facts n 0 old mid → HasRead facts k refused mid new → HasRead facts (n + k) refused old new
+HasRead-then facts n k refused old mid new first second = record {
+  device = Reads-then n k refused _ _ _ first.device second.device;
   window = λ h. second.window (first.window h);
 }
 
-pub HasRead-within : {F : Type 0} (facts : F → Device) (n k : ℕ) (old new : Pages F) → n ≤ k → HasRead facts n old new → HasRead facts k old new
-HasRead-within facts n k old new le read = record { device = Reads-within n k _ _ le read.device; window = read.window }
+pub HasRead-within : {F : Type 0} (facts : F → Device) (n k refused : ℕ) (old new : Pages F) → n ≤ k → HasRead facts n refused old new → HasRead facts k refused old new
+HasRead-within facts n k refused old new le read = record { device = Reads-within n k refused _ _ le read.device; window = read.window }
 
 -- no window begins elsewhere
 pub Starts-other : (held : Buffered) (from : ℕ) → ((at size : ℕ) → held ≡ code.Window at size → ⊥) → Starts held from
@@ -102,20 +102,20 @@ ahead_covers (Window from bytes) at q n size above short within covers none =
 
 -- one read more, whatever it answers
 pub HasSpent-more : {F T E : Type 0} (facts : F → Device) (start at q n : ℕ) (old mid new : Pages F) (result : Result T E) → at ≤ q → n ≤ 256 → q + n ≤ length (facts old.device).content
-    → HasScanned facts start at old mid → HasSeen facts q n mid new result → HasSpent facts start q old new
+    → HasScanned facts start at old mid → HasSeen facts q n mid new result → HasSpent facts start q (refusals result) old new
 HasSpent-more facts start at q n old mid new result above short within so_far seen =
     let from : start ≤ q = omega (arith, so_far.spent.above, above) in
-    covered mid.held q n (HasSpent facts start q old new)
-    (λ inside. subst (λ p. HasSpent facts start q old p) (sym (seen.free inside)) (record {
+    covered mid.held q n (HasSpent facts start q (refusals result) old new)
+    (λ inside. subst (λ p. HasSpent facts start q (refusals result) old p) (sym (seen.free inside)) (record {
       above = from;
       count = so_far.spent.count;
-      read = so_far.spent.read;
+      read = rw (refusals-ok result (seen.answered inside)) so_far.spent.read;
       calls = omega (arith, so_far.spent.calls, so_far.spent.above, above);
     }))
     (λ outside. record {
       above = from;
       count = so_far.spent.count + 1;
-      read = HasRead-then facts so_far.spent.count 1 old mid new so_far.spent.read seen.read;
+      read = HasRead-then facts so_far.spent.count 1 (refusals result) old mid new so_far.spent.read seen.read;
       calls = omega (arith, so_far.paid q n above short within outside, seen.read.device.calls.no_more);
     })
 
@@ -153,10 +153,10 @@ ScansTo-none facts at p = record { on = λ start first so_far. so_far }
 pub ScansTo-on : {F : Type 0} (facts : F → Device) (at end later : ℕ) (old new : Pages F) → end ≤ later → ScansTo facts at end old new → ScansTo facts at later old new
 ScansTo-on facts at end later old new above scans = record { on = λ start first so_far. HasScanned-on facts start end later first new above (scans.on start first so_far) }
 
-pub SpendsTo-on : {F : Type 0} (facts : F → Device) (at end later : ℕ) (old new : Pages F) → end ≤ later → SpendsTo facts at end old new → SpendsTo facts at later old new
-SpendsTo-on facts at end later old new above spends = record {
+pub SpendsTo-on : {F : Type 0} (facts : F → Device) (at end later refused : ℕ) (old new : Pages F) → end ≤ later → SpendsTo facts at end refused old new → SpendsTo facts at later refused old new
+SpendsTo-on facts at end later refused old new above spends = record {
   on = λ start first so_far.
-      let spent : HasSpent facts start end first new = spends.on start first so_far in record {
+      let spent : HasSpent facts start end refused first new = spends.on start first so_far in record {
         above = omega (arith, spent.above, above);
         count = spent.count;
         read = spent.read;
@@ -164,19 +164,19 @@ SpendsTo-on facts at end later old new above spends = record {
       };
 }
 
-pub ScansTo-spends : {F : Type 0} (facts : F → Device) (at end : ℕ) (old new : Pages F) → ScansTo facts at end old new → SpendsTo facts at end old new
+pub ScansTo-spends : {F : Type 0} (facts : F → Device) (at end : ℕ) (old new : Pages F) → ScansTo facts at end old new → SpendsTo facts at end 0 old new
 ScansTo-spends facts at end old new scans = record { on = λ start first so_far. (scans.on start first so_far).spent }
 
 -- what such reads leave as it was
-pub ScansTo-left : {F : Type 0} (facts : F → Device) (at end : ℕ) (old new : Pages F) → ScansTo facts at end old new → HasSpent facts at end old new
+pub ScansTo-left : {F : Type 0} (facts : F → Device) (at end : ℕ) (old new : Pages F) → ScansTo facts at end old new → HasSpent facts at end 0 old new
 ScansTo-left facts at end old new scans = (scans.on at old (HasScanned-none facts at old)).spent
 
-pub ScansTo-faults : {F : Type 0} (facts : F → Device) (at end : ℕ) (old new : Pages F) → ScansTo facts at end old new → (facts old.device).faults ≤ (facts new.device).faults
-ScansTo-faults facts at end old new scans = (ScansTo-left facts at end old new scans).read.device.calls.faults
+pub ScansTo-faults : {F : Type 0} (facts : F → Device) (at end : ℕ) (old new : Pages F) → ScansTo facts at end old new → (facts new.device).faults ≡ (facts old.device).faults
+ScansTo-faults facts at end old new scans = omega (arith, (ScansTo-left facts at end old new scans).read.device.calls.faults)
 
 -- one read more, whatever it answers
 pub SpendsTo-more : {F T E : Type 0} (facts : F → Device) (at end q n : ℕ) (old mid new : Pages F) (result : Result T E) → end ≤ q → n ≤ 256 → q + n ≤ length (facts mid.device).content
-    → ScansTo facts at end old mid → HasSeen facts q n mid new result → SpendsTo facts at q old new
+    → ScansTo facts at end old mid → HasSeen facts q n mid new result → SpendsTo facts at q (refusals result) old new
 SpendsTo-more facts at end q n old mid new result above short within scans seen = record {
   on = λ start first so_far.
       let before : HasScanned facts start end first mid = scans.on start first so_far in
@@ -197,13 +197,13 @@ ScansTo-more facts at end q n old mid new (Ok x) ok above short within scans see
 pub ScansTo-then : {F : Type 0} (facts : F → Device) (at place end : ℕ) (old mid new : Pages F) → ScansTo facts at place old mid → ScansTo facts place end mid new → ScansTo facts at end old new
 ScansTo-then facts at place end old mid new one two = record { on = λ start first so_far. two.on start first (one.on start first so_far) }
 
-pub SpendsTo-then : {F : Type 0} (facts : F → Device) (at place end : ℕ) (old mid new : Pages F) → ScansTo facts at place old mid → SpendsTo facts place end mid new → SpendsTo facts at end old new
-SpendsTo-then facts at place end old mid new one two = record { on = λ start first so_far. two.on start first (one.on start first so_far) }
+pub SpendsTo-then : {F : Type 0} (facts : F → Device) (at place end refused : ℕ) (old mid new : Pages F) → ScansTo facts at place old mid → SpendsTo facts place end refused mid new → SpendsTo facts at end refused old new
+SpendsTo-then facts at place end refused old mid new one two = record { on = λ start first so_far. two.on start first (one.on start first so_far) }
 
 -- the calls of reads in order, as a number of reads
-pub SpendsTo-reads : {F : Type 0} (facts : F → Device) (at end n : ℕ) (old new : Pages F) → end < at + 3840 * n → SpendsTo facts at end old new → HasRead facts n old new
-SpendsTo-reads facts at end n old new few spends =
-    let spent : HasSpent facts at end old new = spends.on at old (HasScanned-none facts at old) in record {
+pub SpendsTo-reads : {F : Type 0} (facts : F → Device) (at end n refused : ℕ) (old new : Pages F) → end < at + 3840 * n → SpendsTo facts at end refused old new → HasRead facts n refused old new
+SpendsTo-reads facts at end n refused old new few spends =
+    let spent : HasSpent facts at end refused old new = spends.on at old (HasScanned-none facts at old) in record {
       device = record {
         calls = record {
           no_fewer = spent.read.device.calls.no_fewer;

@@ -1,4 +1,5 @@
 pub mod Bytes
+pub mod Copies
 pub mod Device
 pub mod Failing
 pub mod Fmap

@@ -1,7 +1,8 @@
 -- A device with its buffer: what contracts see of it, and what its calls leave.
 use Rattle.std.specs.Prelude.{◌≡◌, ◌+◌, ◌-◌, ◌<◌, ◌≤◌, ℕ, List, length, take, min, Result, IsTrue, IsOk, OnOk, OnErr, IfOk, slice_range}
 use Rattle.std.specs.Borrow.{Bor}
-use Rattle.flash_store.specs.Device.{Device, Reads}
+use Rattle.flash_store.specs.Bytes.{SameOutside}
+use Rattle.flash_store.specs.Device.{Device, Calls, Reads, refusals}
 use Rattle.flash_store.specs.Regions.{Range, bytes_in}
 use Rattle.flash_store.specs.declared.paged.Buffered.{Buffered}
 use Rattle.flash_store.specs.declared.paged.Buffered.TheVariants as code
@@ -85,26 +86,30 @@ without_piece Nothing = Nothing
 without_piece (Window at bytes) = Window at bytes
 without_piece (Piece bytes) = Nothing
 
--- what is left after reading, with at most n calls, whatever they answered
-pub record HasRead {F : Type 0} (facts : F → Device) (n : ℕ) (old new : Pages F) : Type 0 where
-  pub device : Reads n (facts old.device) (facts new.device)
+-- what is left after reading, with at most n calls, of which so many were refused
+pub record HasRead {F : Type 0} (facts : F → Device) (n refused : ℕ) (old new : Pages F) : Type 0 where
+  pub device : Reads n refused (facts old.device) (facts new.device)
   pub window : IsTrueTo (facts old.device) old.held → IsTrueTo (facts new.device) new.held
 
--- the same of a call that answers an error only where the device refused a read
+-- the same of a call that answers an error exactly where the device refused a read
 pub record HasAnswered {F T E : Type 0} (facts : F → Device) (n : ℕ) (old new : Pages F) (result : Result T E) : Type 0 where
-  pub read : HasRead facts n old new
-  pub cause : OnErr result ((facts old.device).faults < (facts new.device).faults)
+  pub read : HasRead facts n (refusals result) old new
 
 -- what is left after reading the n bytes from a place on: no call where the window has them, and else a window of up to
 -- 4096 bytes from there on, or nothing
 pub record HasSeen {F T E : Type 0} (facts : F → Device) (at n : ℕ) (old new : Pages F) (result : Result T E) : Type 0 where
-  pub read : HasRead facts 1 old new
-  pub cause : OnErr result ((facts old.device).faults < (facts new.device).faults)
+  pub read : HasRead facts 1 (refusals result) old new
   pub dropped : OnErr result (new.held ≡ Nothing)
   pub free : Covers old.held at n → new ≡ old
   pub answered : Covers old.held at n → IsOk result
   pub held : OnOk result (Covers new.held at n)
   pub ahead : (Covers old.held at n → ⊥) → OnOk result (Covers new.held at (min (length (facts old.device).content - at) 4096))
+
+-- what is left after writing to a region, with at most n calls, of which so many were refused: nothing outside it has
+-- changed, where the device is honest
+pub record HasChanged {F : Type 0} (facts : F → Device) (region : Range) (n refused : ℕ) (old new : Pages F) : Type 0 where
+  pub calls : Calls n refused (facts old.device) (facts new.device)
+  pub outside : IsTrue (facts old.device).honest → SameOutside region.start region.size (facts old.device).content (facts new.device).content
 
 -- after a piece was pulled, or refused
 pub record HasPulled {F E : Type 0} (old new : Pages F) (result : Result (Bor (List ℕ)) E) : Type 0 where

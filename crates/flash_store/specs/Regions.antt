@@ -18,6 +18,13 @@ bytes_in region image = slice_range image region.start (region.start + region.si
 abbrev pub LiesIn : Range → List ℕ → Type 0
 LiesIn region image = region.start + region.size ≤ length image
 
+-- how many refused calls of the device a refusal tells
+abbrev pub by_device : StoreFault → ℕ
+by_device faults.Device = 1
+by_device faults.NoFmap = 0
+by_device faults.NoRegion = 0
+by_device faults.RegionOutside = 0
+
 -- the area as a region, where it lies inside an image of so many bytes
 abbrev pub inside : ℕ → Option Area → Result Range StoreFault
 inside image_len None = Err faults.NoRegion

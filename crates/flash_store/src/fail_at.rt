@@ -1,7 +1,7 @@
 //! A device for tests, which refuses every call after the first few.
 ghost use Rattle.std.specs.Prelude.{◌≡◌, ◌+◌, ◌-◌, ◌<◌, ◌≤◌, ◌⊎◌, length, take, true, false, IsTrue, IsErr, OnOk, OnErr, slice_range};
 ghost use Rattle.flash_store.specs.Bytes.{overwritten, SameOutside};
-ghost use Rattle.flash_store.specs.Device.{OneCall};
+ghost use Rattle.flash_store.specs.Device.{OneCall, refusals};
 ghost use Rattle.flash_store.specs.Failing.{facts_over, Passed, TornOnce, refused_once};
 
 use crate::counter::Counter;
@@ -12,8 +12,7 @@ use std::marker::Model;
 /// A device over another one, for tests: its first calls pass to the other, and all later ones are refused.
 ///
 /// A refused read or commit does nothing. Of the first refused write a part still reaches the other device, as when the
-/// power fails in the midst of it; the later ones do nothing. Both its own refusals and the other's faults count as its
-/// faults.
+/// power fails in the midst of it; the later ones do nothing. Each refused call is one fault, its own or the other's.
 #[derive(Drop)]
 pub struct FailAt<F: Flash> {
     device: F,
@@ -74,15 +73,23 @@ impl<F: Flash> FailAt<F> {
         ensures passed { IsTrue result → (0 < self.old.left)
             × (self.new ≡ record self.old { left = self.old.left - 1; calls = self.old.calls + 1 }) }
         ensures refused { result ≡ false → (self.old.left ≡ 0)
-            × (self.new ≡ record self.old { calls = self.old.calls + 1; faults = self.old.faults + 1 }) }
+            × (self.new ≡ record self.old { calls = self.old.calls + 1 }) }
     {
         self.calls.tick();
         if self.left == 0 {
-            self.faults.tick();
             return false;
         }
         self.left -= 1;
         true
+    }
+
+    /// Counts a fault of its own.
+    fn refuse(&mut self) -> Result<(), FlashFault>
+        ensures counted { self.new ≡ record self.old { faults = self.old.faults + 1 } }
+        ensures refused { IsErr result }
+    {
+        self.faults.tick();
+        Err(FlashFault)
     }
 }
 
@@ -98,9 +105,7 @@ impl<F: Flash> Flash for FailAt<F> {
         requires short { length out.old ≤ 4096 }
 
         // As of every device.
-        ensures call { OneCall (facts_over F.facts self.old) (facts_over F.facts self.new) }
-        ensures cause { OnErr result
-            ((facts_over F.facts self.old).faults < (facts_over F.facts self.new).faults) }
+        ensures call { OneCall (refusals result) (facts_over F.facts self.old) (facts_over F.facts self.new) }
         ensures read { IsTrue (F.facts self.old.device).honest →
             OnOk result (out.new ≡ slice_range (F.facts self.old.device).content at (at + length out.old)) }
         ensures unchanged { IsTrue (F.facts self.old.device).honest →
@@ -113,7 +118,7 @@ impl<F: Flash> Flash for FailAt<F> {
         if self.admits() {
             self.device.read_at(at, out)
         } else {
-            Err(FlashFault)
+            self.refuse()
         }
     }
 
@@ -122,9 +127,7 @@ impl<F: Flash> Flash for FailAt<F> {
         requires short { length bytes.now ≤ 4096 }
 
         // As of every device.
-        ensures call { OneCall (facts_over F.facts self.old) (facts_over F.facts self.new) }
-        ensures cause { OnErr result
-            ((facts_over F.facts self.old).faults < (facts_over F.facts self.new).faults) }
+        ensures call { OneCall (refusals result) (facts_over F.facts self.old) (facts_over F.facts self.new) }
         ensures written { IsTrue (F.facts self.old.device).honest →
             OnOk result ((F.facts self.new.device).content
             ≡ overwritten (F.facts self.old.device).content at bytes.now) }
@@ -144,18 +147,16 @@ impl<F: Flash> Flash for FailAt<F> {
         }
         if self.tears {
             self.tears = false;
-            write_part(&mut self.device, at, bytes, self.part);
+            write_part(&mut self.device, at, bytes, self.part)?;
         }
-        Err(FlashFault)
+        self.refuse()
     }
 
     fn commit_at(&mut self, at: u64, bytes: &[u8; HEADER_LENGTH]) -> Result<(), FlashFault>
         requires { at + length bytes.now ≤ length (F.facts self.old.device).content }
 
         // As of every device.
-        ensures call { OneCall (facts_over F.facts self.old) (facts_over F.facts self.new) }
-        ensures cause { OnErr result
-            ((facts_over F.facts self.old).faults < (facts_over F.facts self.new).faults) }
+        ensures call { OneCall (refusals result) (facts_over F.facts self.old) (facts_over F.facts self.new) }
         ensures written { IsTrue (F.facts self.old.device).honest →
             OnOk result ((F.facts self.new.device).content
             ≡ overwritten (F.facts self.old.device).content at bytes.now) }
@@ -171,23 +172,26 @@ impl<F: Flash> Flash for FailAt<F> {
         if self.admits() {
             self.device.commit_at(at, bytes)
         } else {
-            Err(FlashFault)
+            self.refuse()
         }
     }
 }
 
-/// Writes the first `part` bytes, whatever comes of it.
-fn write_part<F: Flash>(device: &mut F, at: u64, bytes: &[u8], part: usize)
+/// Writes the first `part` bytes.
+fn write_part<F: Flash>(
+    device: &mut F,
+    at: u64,
+    bytes: &[u8],
+    part: usize,
+) -> Result<(), FlashFault>
     requires inside { at + length bytes.now ≤ length (F.facts device.old).content }
     requires short { length bytes.now ≤ 4096 }
 
-    ensures call { OneCall (F.facts device.old) (F.facts device.new) }
+    ensures call { OneCall (refusals result) (F.facts device.old) (F.facts device.new) }
     ensures torn { IsTrue (F.facts device.old).honest →
         SameOutside at (length bytes.now) (F.facts device.old).content (F.facts device.new).content }
     ensures written { IsTrue (F.facts device.old).honest →
-        (F.facts device.new).faults ≡ (F.facts device.old).faults →
-        (F.facts device.new).content ≡ overwritten (F.facts device.old).content at (take part bytes.now) }
+        OnOk result ((F.facts device.new).content ≡ overwritten (F.facts device.old).content at (take part bytes.now)) }
 {
-    let first = &bytes[..part.min(bytes.len())];
-    let _ = device.write_at(at, first);
+    device.write_at(at, &bytes[..part.min(bytes.len())])
 }

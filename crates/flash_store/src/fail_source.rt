@@ -1,6 +1,6 @@
 //! A source for tests, which refuses every read after the first few.
 ghost use Rattle.std.specs.Prelude.{◌≡◌, ◌+◌, ◌-◌, ◌<◌, ◌≤◌, length, IsTrue, IsErr, OnOk, OnErr, slice_range};
-ghost use Rattle.flash_store.specs.Device.{OneCall};
+ghost use Rattle.flash_store.specs.Device.{OneCall, refusals};
 ghost use Rattle.flash_store.specs.Failing.{source_facts_over, SourcePassed, source_refused_once};
 
 use crate::counter::Counter;
@@ -51,9 +51,7 @@ impl<S: Source> Source for FailSource<S> {
         requires short { length out.old ≤ 4096 }
 
         // As of every source.
-        ensures call { OneCall (source_facts_over S.facts self.old) (source_facts_over S.facts self.new) }
-        ensures cause { OnErr result
-            ((source_facts_over S.facts self.old).faults < (source_facts_over S.facts self.new).faults) }
+        ensures call { OneCall (refusals result) (source_facts_over S.facts self.old) (source_facts_over S.facts self.new) }
         ensures read { IsTrue (S.facts self.old.source).honest →
             OnOk result (out.new ≡ slice_range (S.facts self.old.source).content at (at + length out.old)) }
         ensures unchanged { IsTrue (S.facts self.old.source).honest →

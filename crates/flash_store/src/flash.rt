@@ -1,7 +1,7 @@
 //! What every device promises.
 ghost use Rattle.std.specs.Prelude.{◌≡◌, ℕ, ◌+◌, ◌^◌, ◌<◌, ◌≤◌, ◌⊎◌, length, IsTrue, OnOk, OnErr, slice_range};
 ghost use Rattle.flash_store.specs.Bytes.{overwritten, SameOutside};
-ghost use Rattle.flash_store.specs.Device.{Device, OneCall};
+ghost use Rattle.flash_store.specs.Device.{Device, OneCall, refusals};
 
 use flash_format::HEADER_LENGTH;
 
@@ -27,8 +27,7 @@ pub trait Flash: Drop {
         requires inside { at + length out.old ≤ length (facts self.old).content }
         requires short { length out.old ≤ 4096 }
 
-        ensures call { OneCall (facts self.old) (facts self.new) }
-        ensures cause { OnErr result ((facts self.old).faults < (facts self.new).faults) }
+        ensures call { OneCall (refusals result) (facts self.old) (facts self.new) }
 
         // On an honest device.
         ensures read { IsTrue (facts self.old).honest →
@@ -41,8 +40,7 @@ pub trait Flash: Drop {
         requires inside { at + length bytes.now ≤ length (facts self.old).content }
         requires short { length bytes.now ≤ 4096 }
 
-        ensures call { OneCall (facts self.old) (facts self.new) }
-        ensures cause { OnErr result ((facts self.old).faults < (facts self.new).faults) }
+        ensures call { OneCall (refusals result) (facts self.old) (facts self.new) }
 
         // On an honest device, the second whatever it answers.
         ensures written { IsTrue (facts self.old).honest →
@@ -54,8 +52,7 @@ pub trait Flash: Drop {
     fn commit_at(&mut self, at: u64, bytes: &[u8; HEADER_LENGTH]) -> Result<(), FlashFault>
         requires { at + length bytes.now ≤ length (facts self.old).content }
 
-        ensures call { OneCall (facts self.old) (facts self.new) }
-        ensures cause { OnErr result ((facts self.old).faults < (facts self.new).faults) }
+        ensures call { OneCall (refusals result) (facts self.old) (facts self.new) }
 
         // On an honest device, the second whatever it answers.
         ensures written { IsTrue (facts self.old).honest →

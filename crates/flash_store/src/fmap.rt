@@ -2,10 +2,10 @@
 ghost use Rattle.std.specs.Prelude.{◌≡◌, ◌+◌, ◌-◌, ◌*◌, ◌/◌, ◌<◌, ◌≤◌, ◌↔◌, ◌⊎◌, length, drop, IsTrue, OnErr, IfOk, IfSome, IsErrOf};
 ghost use Rattle.std.specs.List.{find};
 ghost use Rattle.flash_format.specs.Flashmap.{fmap_head_len, area_len, map_len, area_of, areas_from, is_area};
-ghost use Rattle.flash_store.specs.Device.{Reads};
+ghost use Rattle.flash_store.specs.Device.{Reads, faults_told, refusals};
 ghost use Rattle.flash_store.specs.Pages.{HasRead, HasAnswered};
 ghost use Rattle.flash_store.specs.Fmap.{HasSignatureAt, map_head, map_head_in, found_in};
-ghost use Rattle.flash_store.specs.Regions.{LiesIn, inside, region_of};
+ghost use Rattle.flash_store.specs.Regions.{LiesIn, by_device, inside, region_of};
 ghost use Rattle.memchr.specs.Find.{IsFirst};
 
 use crate::flash::{Flash, FlashFault, PIECE};
@@ -36,14 +36,14 @@ pub struct FoundMap {
 /// Why there is no region of a name, with the number of the refusal.
 #[derive(Clone, Copy, Debug, PartialEq, Eq, Drop)]
 pub enum StoreFault {
-    /// 1: a read of the device was refused.
-    Device,
-    /// 4: the image has no valid flashmap.
-    NoFmap,
-    /// 5: the map has no area of the name.
-    NoRegion,
-    /// 6: the area ends after the image's end.
-    RegionOutside,
+    /// A read of the device was refused.
+    Device = 1,
+    /// The image has no valid flashmap.
+    NoFmap = 4,
+    /// The map has no area of the name.
+    NoRegion = 5,
+    /// The area ends after the image's end.
+    RegionOutside = 6,
 }
 
 impl From<FlashFault> for StoreFault {
@@ -197,9 +197,7 @@ pub fn region_of_area(area: Option<Area>, image_len: u64) -> Result<Region, Stor
 #[tactic(auto, unfolding(crate::specs::Regions::region_of))]
 pub fn region<F: Flash>(paged: &mut Paged<F>, name: &[u8]) -> Result<Region, StoreFault>
     ensures after { HasRead F.facts (length (F.facts paged.old.device).content / 2
-        + length (F.facts paged.old.device).content / area_len + 8) paged.old paged.new }
-    ensures cause { IsErrOf result StoreFault.Device →
-        (F.facts paged.old.device).faults < (F.facts paged.new.device).faults }
+        + length (F.facts paged.old.device).content / area_len + 8) (faults_told by_device result) paged.old paged.new }
     ensures inside { IfOk result (λ region. LiesIn region (F.facts paged.old.device).content) }
     ensures answer { IsTrue (F.facts paged.old.device).honest →
         IsErrOf result StoreFault.Device ⊎ (result ≡ region_of (F.facts paged.old.device).content name.now) }
@@ -213,8 +211,7 @@ pub fn region<F: Flash>(paged: &mut Paged<F>, name: &[u8]) -> Result<Region, Sto
 
 /// The head of the valid map that a source begins with.
 pub fn map_in_source<S: Source>(source: &mut S) -> Result<Option<FmapHead>, SourceFault>
-    ensures calls { Reads 1 (S.facts source.old) (S.facts source.new) }
-    ensures cause { OnErr result ((S.facts source.old).faults < (S.facts source.new).faults) }
+    ensures calls { Reads 1 (refusals result) (S.facts source.old) (S.facts source.new) }
     ensures fits { IfOk result (λ found. IfSome found (λ head. map_len head ≤ length (S.facts source.old).content)) }
     ensures head { IsTrue (S.facts source.old).honest →
         IfOk result (λ found. found ≡ map_head (S.facts source.old).content) }
@@ -237,8 +234,7 @@ pub fn area_in_source<S: Source>(
     requires inside { map_len head.now ≤ length (S.facts source.old).content }
     requires number { i < head.now.nareas }
 
-    ensures calls { Reads 1 (S.facts source.old) (S.facts source.new) }
-    ensures cause { OnErr result ((S.facts source.old).faults < (S.facts source.new).faults) }
+    ensures calls { Reads 1 (refusals result) (S.facts source.old) (S.facts source.new) }
     ensures area { IsTrue (S.facts source.old).honest →
         IfOk result (λ area. area ≡ area_of (drop (fmap_head_len + area_len * i) (S.facts source.old).content)) }
 {

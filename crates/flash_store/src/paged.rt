@@ -1,7 +1,8 @@
 //! A device and one buffer, through which everything passes in pieces.
 ghost use Rattle.std.specs.Prelude.{◌≡◌, ℕ, List, ◌++◌, ◌+◌, ◌/◌, ◌^◌, ◌<◌, ◌≤◌, ◌⊎◌, ◌↔◌, length, take, IsTrue, OnOk, OnErr, IfOk, IsErrOf, slice_range, replicate};
 ghost use Rattle.flash_store.specs.Bytes.{overwritten, SameOutside, FirstWritten, PartWritten};
-ghost use Rattle.flash_store.specs.Device.{Calls, OneCall};
+ghost use Rattle.flash_store.specs.Device.{Calls, OneCall, faults_told, refusals};
+ghost use Rattle.flash_store.specs.Copies.{by_device, by_source};
 ghost use Rattle.flash_store.specs.Output.{AppendsPart, AppendsPieces};
 ghost use Rattle.std.specs.Io.KnownBytes.{Appends, Keeps};
 
@@ -15,12 +16,12 @@ use std::marker::Model;
 /// Why a copy stopped, with the number of the refusal.
 #[derive(Clone, Copy, Debug, PartialEq, Eq, Drop)]
 pub enum CopyFault {
-    /// 1: a call of the device was refused.
-    Device,
-    /// 2: the sink took nothing more.
-    Output,
-    /// 3: a read of the source was refused.
-    Source,
+    /// A call of the device was refused.
+    Device = 1,
+    /// The sink took nothing more.
+    Output = 2,
+    /// A read of the source was refused.
+    Source = 3,
 }
 
 impl From<FlashFault> for CopyFault {
@@ -246,8 +247,7 @@ impl<F: Flash> Paged<F> {
         requires inside { from + n ≤ length (S.facts source.old).content }
         requires short { n ≤ 4096 }
 
-        ensures call { OneCall (S.facts source.old) (S.facts source.new) }
-        ensures cause { OnErr result ((S.facts source.old).faults < (S.facts source.new).faults) }
+        ensures call { OneCall (refusals result) (S.facts source.old) (S.facts source.new) }
         ensures* after { sem 𝓛 (Rests (the_row F.row F.Flash) self.entry (λ new.
             HasPulled self.old new result)) }
         ensures size { IfOk result (λ bytes. length bytes.now ≡ n) }
@@ -268,8 +268,7 @@ impl<F: Flash> Paged<F> {
     pub fn push(&mut self, at: u64) -> Result<(), FlashFault>
         requires { HasPiece self.old.held (λ bytes. at + length bytes ≤ length (F.facts self.old.device).content) }
 
-        ensures call { OneCall (F.facts self.old.device) (F.facts self.new.device) }
-        ensures cause { OnErr result ((F.facts self.old.device).faults < (F.facts self.new.device).faults) }
+        ensures call { OneCall (refusals result) (F.facts self.old.device) (F.facts self.new.device) }
         ensures same_piece { self.new.held ≡ self.old.held }
 
         // On an honest device, the second whatever it answers.
@@ -291,8 +290,7 @@ impl<F: Flash> Paged<F> {
     pub fn commit(&mut self, at: u64, bytes: &[u8; HEADER_LENGTH]) -> Result<(), FlashFault>
         requires { at + length bytes.now ≤ length (F.facts self.old.device).content }
 
-        ensures call { OneCall (F.facts self.old.device) (F.facts self.new.device) }
-        ensures cause { OnErr result ((F.facts self.old.device).faults < (F.facts self.new.device).faults) }
+        ensures call { OneCall (refusals result) (F.facts self.old.device) (F.facts self.new.device) }
         ensures dropped { self.new.held ≡ Nothing }
 
         // On an honest device, the second whatever it answers.
@@ -312,8 +310,8 @@ impl<F: Flash> Paged<F> {
     pub fn fill(&mut self, at: u64, n: u64, byte: u8) -> Result<(), FlashFault>
         requires { at + n ≤ length (F.facts self.old.device).content }
 
-        ensures calls { Calls ((n + 4095) / 4096) (F.facts self.old.device) (F.facts self.new.device) }
-        ensures cause { OnErr result ((F.facts self.old.device).faults < (F.facts self.new.device).faults) }
+        ensures calls { Calls ((n + 4095) / 4096) (refusals result) (F.facts self.old.device)
+            (F.facts self.new.device) }
         ensures dropped { self.new.held ≡ Nothing }
 
         // On an honest device, the last whatever it answers.
@@ -336,12 +334,10 @@ impl<F: Flash> Paged<F> {
         requires inside { at + n ≤ length (F.facts self.old.device).content }
         requires in_source { n ≤ length (S.facts source.old).content }
 
-        ensures calls { Calls ((n + 4095) / 4096) (F.facts self.old.device) (F.facts self.new.device) }
-        ensures source_calls { Calls ((n + 4095) / 4096) (S.facts source.old) (S.facts source.new) }
-        ensures device { IsErrOf result CopyFault.Device →
-            (F.facts self.old.device).faults < (F.facts self.new.device).faults }
-        ensures source { IsErrOf result CopyFault.Source →
-            (S.facts source.old).faults < (S.facts source.new).faults }
+        ensures calls { Calls ((n + 4095) / 4096) (faults_told by_device result) (F.facts self.old.device)
+            (F.facts self.new.device) }
+        ensures source_calls { Calls ((n + 4095) / 4096) (faults_told by_source result) (S.facts source.old)
+            (S.facts source.new) }
         ensures no_output { IsErrOf result CopyFault.Output → ⊥ }
         ensures dropped { self.new.held ≡ Nothing }
         ensures same_source { IsTrue (S.facts source.old).honest →
@@ -376,12 +372,10 @@ impl<F: Flash> Paged<F> {
         requires inside { at + n ≤ length (F.facts self.old.device).content }
         requires in_source { n ≤ length (S.facts source.old).content }
 
-        ensures calls { Calls ((n + 4095) / 4096) (F.facts self.old.device) (F.facts self.new.device) }
-        ensures source_calls { Calls ((n + 4095) / 4096) (S.facts source.old) (S.facts source.new) }
-        ensures device { IsErrOf result CopyFault.Device →
-            (F.facts self.old.device).faults < (F.facts self.new.device).faults }
-        ensures source { IsErrOf result CopyFault.Source →
-            (S.facts source.old).faults < (S.facts source.new).faults }
+        ensures calls { Calls ((n + 4095) / 4096) (faults_told by_device result) (F.facts self.old.device)
+            (F.facts self.new.device) }
+        ensures source_calls { Calls ((n + 4095) / 4096) (faults_told by_source result) (S.facts source.old)
+            (S.facts source.new) }
         ensures no_output { IsErrOf result CopyFault.Output → ⊥ }
         ensures dropped { self.new.held ≡ Nothing }
         ensures same_source { IsTrue (S.facts source.old).honest →
@@ -430,12 +424,10 @@ impl<F: Flash> Paged<F> {
         requires in_source { from + n ≤ length (S.facts source.old).content }
         requires short { n ≤ 4096 }
 
-        ensures call { Calls 1 (F.facts self.old.device) (F.facts self.new.device) }
-        ensures source_call { OneCall (S.facts source.old) (S.facts source.new) }
-        ensures device { IsErrOf result CopyFault.Device →
-            (F.facts self.old.device).faults < (F.facts self.new.device).faults }
-        ensures source { IsErrOf result CopyFault.Source →
-            (S.facts source.old).faults < (S.facts source.new).faults }
+        ensures call { Calls 1 (faults_told by_device result) (F.facts self.old.device)
+            (F.facts self.new.device) }
+        ensures source_call { OneCall (faults_told by_source result) (S.facts source.old)
+            (S.facts source.new) }
         ensures no_output { IsErrOf result CopyFault.Output → ⊥ }
         ensures dropped { self.new.held ≡ Nothing }
         ensures same_source { IsTrue (S.facts source.old).honest →
@@ -463,11 +455,9 @@ impl<F: Flash> Paged<F> {
     pub fn copy_out<W: Sink>(&mut self, at: u64, n: u64, out: &mut W) -> Result<(), CopyFault>
         requires { at + n ≤ length (F.facts self.old.device).content }
 
-        ensures after { HasRead F.facts ((n + 4095) / 4096) self.old self.new }
+        ensures after { HasRead F.facts ((n + 4095) / 4096) (faults_told by_device result) self.old self.new }
         ensures no_piece { HasNoPiece self.new.held }
         ensures dropped { IsErrOf result CopyFault.Device → self.new.held ≡ Nothing }
-        ensures device { IsErrOf result CopyFault.Device →
-            (F.facts self.old.device).faults < (F.facts self.new.device).faults }
 
         ensures faults { W.faults out.old ≤ W.faults out.new }
         ensures output { IsErrOf result CopyFault.Output → W.faults out.old < W.faults out.new }
@@ -499,11 +489,9 @@ impl<F: Flash> Paged<F> {
         requires short { n ≤ 4096 }
         requires some { 0 < n }
 
-        ensures after { HasRead F.facts 1 self.old self.new }
+        ensures after { HasRead F.facts 1 (faults_told by_device result) self.old self.new }
         ensures no_piece { HasNoPiece self.new.held }
         ensures dropped { IsErrOf result CopyFault.Device → self.new.held ≡ Nothing }
-        ensures device { IsErrOf result CopyFault.Device →
-            (F.facts self.old.device).faults < (F.facts self.new.device).faults }
 
         ensures faults { W.faults out.old ≤ W.faults out.new }
         ensures output { IsErrOf result CopyFault.Output → W.faults out.old < W.faults out.new }
@@ -528,8 +516,7 @@ fn load<F: Flash>(device: &mut F, buffer: &mut [u8], at: u64, n: usize) -> Resul
     requires short { n ≤ 4096 }
     requires room { n ≤ length buffer.old }
 
-    ensures call { OneCall (F.facts device.old) (F.facts device.new) }
-    ensures cause { OnErr result ((F.facts device.old).faults < (F.facts device.new).faults) }
+    ensures call { OneCall (refusals result) (F.facts device.old) (F.facts device.new) }
     ensures read { IsTrue (F.facts device.old).honest →
         OnOk result (take n buffer.new ≡ slice_range (F.facts device.old).content at (at + n)) }
     ensures unchanged { IsTrue (F.facts device.old).honest →
@@ -549,8 +536,7 @@ fn load_from<S: Source>(
     requires short { n ≤ 4096 }
     requires room { n ≤ length buffer.old }
 
-    ensures call { OneCall (S.facts source.old) (S.facts source.new) }
-    ensures cause { OnErr result ((S.facts source.old).faults < (S.facts source.new).faults) }
+    ensures call { OneCall (refusals result) (S.facts source.old) (S.facts source.new) }
     ensures read { IsTrue (S.facts source.old).honest →
         OnOk result (take n buffer.new ≡ slice_range (S.facts source.old).content at (at + n)) }
     ensures unchanged { IsTrue (S.facts source.old).honest →
@@ -570,8 +556,7 @@ fn write_copies<F: Flash>(
     requires inside { at + n ≤ length (F.facts device.old).content }
     requires all { copies.now ≡ replicate 4096 byte }
 
-    ensures calls { Calls ((n + 4095) / 4096) (F.facts device.old) (F.facts device.new) }
-    ensures cause { OnErr result ((F.facts device.old).faults < (F.facts device.new).faults) }
+    ensures calls { Calls ((n + 4095) / 4096) (refusals result) (F.facts device.old) (F.facts device.new) }
     ensures filled { IsTrue (F.facts device.old).honest →
         OnOk result ((F.facts device.new).content ≡ overwritten (F.facts device.old).content at (replicate n byte)) }
     ensures part { IsTrue (F.facts device.old).honest →

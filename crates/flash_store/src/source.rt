@@ -1,6 +1,6 @@
 //! Where input comes from.
 ghost use Rattle.std.specs.Prelude.{◌≡◌, ◌+◌, ◌^◌, ◌<◌, ◌≤◌, length, IsTrue, OnOk, OnErr, slice_range};
-ghost use Rattle.flash_store.specs.Device.{Device, OneCall};
+ghost use Rattle.flash_store.specs.Device.{Device, OneCall, refusals};
 
 /// A call to a source that was refused.
 #[derive(Clone, Copy, Debug, PartialEq, Eq, Drop)]
@@ -21,8 +21,7 @@ pub trait Source: Drop {
         requires inside { at + length out.old ≤ length (facts self.old).content }
         requires short { length out.old ≤ 4096 }
 
-        ensures call { OneCall (facts self.old) (facts self.new) }
-        ensures cause { OnErr result ((facts self.old).faults < (facts self.new).faults) }
+        ensures call { OneCall (refusals result) (facts self.old) (facts self.new) }
 
         // On an honest source.
         ensures read { IsTrue (facts self.old).honest →

@@ -7,7 +7,7 @@ abbrev pub invariant-loop-places : goal.invariant-loop-places
 invariant-loop-places g l = let facts = g.F.Flash.facts in
     All (IsPlace (length (facts l.initial.paged.device).content)) l.places
     × (length l.places ≤ length l.initial.places)
-    × Calls ((length l.initial.places - length l.places) * (length (facts l.initial.paged.device).content / 4096 + 2)) (facts l.initial.paged.device) (facts l.paged.device)
+    × Calls ((length l.initial.places - length l.places) * (length (facts l.initial.paged.device).content / 4096 + 2)) 0 (facts l.initial.paged.device) (facts l.paged.device)
     × (IsTrue (facts l.initial.paged.device).honest → formatted_all (facts l.initial.paged.device).content l.initial.places ≡ formatted_all (facts l.paged.device).content l.places)
 
 abbrev pub decreases-loop-places : goal.decreases-loop-places

@@ -1,3 +1,4 @@
+use Rattle.std.proofs.Common.{refl}
 use Rattle.std.proofs.lemmas.Result.{err_from_is_err_and}
 use Rattle.cbfs_commands.proofs.Listing.{listing_fails, listing_ends, listing_stops, listing_more}
 use Rattle.cbfs_commands.proofs.Telling.{handed, told-text}
@@ -7,7 +8,7 @@ pub loop-head-preserved : goal.loop-head-preserved
 loop-head-preserved g c =
     let told = c.in_ok-head.ensures in
     let is = c.in-Some.is in
-    listing_more g.F.Flash.facts c.args.region c.args.cell.now c.loop-head.walk _ _ _ _ _ _ _ c.loop-head.invariant told.after.read _ told.head c.in-Some.head is _ _ _
+    listing_more g.F.Flash.facts c.args.region c.args.cell.now c.loop-head.walk _ _ _ _ _ _ _ c.loop-head.invariant told.after.read _ told.head c.in-Some.head is _ _ _ refl
     (rw is at told.attribute) (rw is at told.moved) told.rest (λ h. rw c.set_attribute_row.ensures at (told-text _ _ _ c.in_ok-put_row-in-Some.ensures.told)) c.put_row.ensures.faults
 
 pub returns-in_err-put_row-in-Some-clause-told : goal.returns-in_err-put_row-in-Some-clause-told

@@ -6,7 +6,7 @@ use Rattle.cbfs_commands.proofs.layout.list_areas.Goals as goal
 pub loop-i-preserved : goal.loop-i-preserved
 loop-i-preserved g c =
     let map = c.args.map.now in
-    listing_more g.F.Flash.facts (map.at + 56) map.head.nareas c.loop-i.i _ _ _ _ _ _ _ _ _ c.loop-i-test.true c.loop-i.invariant c.list_area.ensures.after.read c.list_area.ensures.after.sink
+    listing_more g.F.Flash.facts (map.at + 56) map.head.nareas c.loop-i.i _ _ _ _ _ _ _ _ _ c.loop-i-test.true c.loop-i.invariant c.in_ok-list_area.ensures.after.read c.list_area.ensures.after.sink
     (λ h. told-text _ _ _ (c.in_ok-list_area.ensures.told h))
 
 pub returns-in_err-list_area-clause-told : goal.returns-in_err-list_area-clause-told

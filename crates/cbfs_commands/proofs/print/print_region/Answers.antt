@@ -19,7 +19,7 @@ loop-cell-preserved g c =
     let moved = rw is at told.moved in
     let reads = rw is at told.after in
     let answer = rw is at told.answer in
-    printing_more g.F.Flash.facts c.args.verbose c.args.region _ _ c.in-Cell.cell _ _ _ _ _ _ _ _ _ _ c.requires p here moved reads c.print_cell.ensures.after.read (λ h. step_told _ _ (answer h p.going))
+    printing_more g.F.Flash.facts c.args.verbose c.args.region _ _ c.in-Cell.cell _ _ _ _ _ _ _ _ _ _ c.requires p here moved reads c.in_ok-print_cell-in-Cell.ensures.after.read (λ h. step_told _ _ (answer h p.going))
     (λ h stands. told-text _ _ _ (c.in_ok-print_cell-in-Cell.ensures.told h stands)) c.print_cell.ensures.after.sink
 
 pub returns-in_err-print_cell-in-Cell-clause-told : goal.returns-in_err-print_cell-in-Cell-clause-told

@@ -15,7 +15,7 @@ pub loop-i-preserved : goal.loop-i-preserved
 loop-i-preserved g c =
     let reads = c.loop-i.invariant.0 in
     let read = c.in_ok-area.ensures in (
-      Reads-then c.loop-i.i 1 _ _ _ reads read.calls,
+      Reads-then c.loop-i.i 1 0 _ _ _ reads read.calls,
       λ h.
           let seen = areas_from c.loop-i.i (drop 56 (g.S.Source.facts c.args.source.now).content) in
           let rest : List (Option Area) = replicate (16 - length c.args.names.now) None in

@@ -7,12 +7,6 @@ use Rattle.cbfs_edit.proofs.Added.{by-fault, own-refused, own-by-fault}
 use Rattle.cbfs_edit.proofs.Adding.{told, told_as, refused_as, digest-sized, found_in, place_found, image_of, written, source_leaves, device_leaves}
 use Rattle.cbfs_edit.proofs.addition.add.Goals as goal
 
-pub returns-in-Ok-insert-clause-device : goal.returns-in-Ok-insert-clause-device
-returns-in-Ok-insert-clause-device g c = search rules
-
-pub returns-in-Ok-insert-clause-source : goal.returns-in-Ok-insert-clause-source
-returns-in-Ok-insert-clause-source g c = search rules
-
 pub returns-in-Ok-insert-clause-before : goal.returns-in-Ok-insert-clause-before
 returns-in-Ok-insert-clause-before g c = search rules
 
@@ -43,7 +37,7 @@ returns-in-Err-clause-step g c honest source_honest =
     let same : bytes_in c.args.region (g.F.Flash.facts c.find_place.new.paged.device).content ≡ bytes_in c.args.region old = ap (λ (l : List ℕ). bytes_in c.args.region l) (c.find_place.ensures.after.device.unchanged honest) in
     let found = found_in (bytes_in c.args.region (g.F.Flash.facts c.args.paged.now.device).content) c.args.name.now c.args.kind c.args.hash (g.S.Source.facts c.args.source.now).content c.args.spot _ _ _ _ c.in_default.not-Some c.own_fault.ensures c.attribute_len.ensures.is c.meta_len.ensures c.len.ensures.length (Err c.in-Err.fault) (c.in-Err.ensures.answer honest) in
     by-fault c.in-Err.fault _ _ _
-    (λ e. (c.in-Err.ensures.cause (told_as c.in-Err.fault faults.Device e), inl same))
+    (λ e. inl same)
     (λ e. absurd (c.in-Err.ensures.no_source (told_as c.in-Err.fault faults.Source e)))
     (λ not_device not_source. (refused_as (bytes_in c.args.region old) new c.args.spot c.in-Err.fault not_device found, same))
 
@@ -69,7 +63,7 @@ returns-in-Ok-insert-clause-image g c honest source_honest =
     let now : List ℕ = (g.F.Flash.facts c.insert.new.paged.device).content in
     let still = honest_still c.find_place.ensures.after.device.calls.same_honesty honest in
     let is = place_found (bytes_in c.args.region (g.F.Flash.facts c.args.paged.now.device).content) c.args.name.now c.args.kind c.args.hash (g.S.Source.facts c.args.source.now).content c.args.spot _ _ _ _ c.in_default.not-Some c.own_fault.ensures c.attribute_len.ensures.is c.meta_len.ensures c.len.ensures.length c.in-Ok.place (c.in-Ok.ensures.answer honest) in
-    image_of c.args.region (added_to (bytes_in c.args.region old) new c.args.spot) old mid now c.requires (c.find_place.ensures.after.device.unchanged honest) c.insert.ensures.calls.same_length (c.insert.ensures.outside still) (written c.args.region new c.args.spot c.in-Ok.place old mid now (c.find_place.ensures.after.device.unchanged honest) is (c.in-Ok-insert.ensures.added still source_honest))
+    image_of c.args.region (added_to (bytes_in c.args.region old) new c.args.spot) old mid now c.requires (c.find_place.ensures.after.device.unchanged honest) c.insert.ensures.after.calls.same_length (c.insert.ensures.after.outside still) (written c.args.region new c.args.spot c.in-Ok.place old mid now (c.find_place.ensures.after.device.unchanged honest) is (c.in-Ok-insert.ensures.added still source_honest))
 
 pub returns-in-Ok-insert-clause-step : goal.returns-in-Ok-insert-clause-step
 returns-in-Ok-insert-clause-step g c honest source_honest =
@@ -99,11 +93,9 @@ returns-in-Err-Device-clause-step g c honest source_honest =
     let mid : List ℕ = (g.F.Flash.facts c.find_place.new.paged.device).content in
     let now : List ℕ = (g.F.Flash.facts c.insert.new.paged.device).content in
     let still = honest_still c.find_place.ensures.after.device.calls.same_honesty honest in
-    let is = place_found (bytes_in c.args.region (g.F.Flash.facts c.args.paged.now.device).content) c.args.name.now c.args.kind c.args.hash (g.S.Source.facts c.args.source.now).content c.args.spot _ _ _ _ c.in_default.not-Some c.own_fault.ensures c.attribute_len.ensures.is c.meta_len.ensures c.len.ensures.length c.in-Ok.place (c.in-Ok.ensures.answer honest) in (
-      omega (arith, c.in-Err-Device.ensures.device (search rules), c.find_place.ensures.after.device.calls.faults),
-      device_leaves c.args.region new c.args.spot c.in-Ok.place old mid now (IsTrue (g.S.Source.facts c.args.source.now).honest) c.insert.result c.requires c.places_fit.ensures c.ranges.kind.fits (omega (arith, c.len.ensures))
-          (digest-sized c.args.hash (g.S.Source.facts c.args.source.now).content) (c.find_place.ensures.after.device.unchanged honest) is (c.insert.ensures.stopped still) (c.insert.ensures.last still) source_honest,
-    )
+    let is = place_found (bytes_in c.args.region (g.F.Flash.facts c.args.paged.now.device).content) c.args.name.now c.args.kind c.args.hash (g.S.Source.facts c.args.source.now).content c.args.spot _ _ _ _ c.in_default.not-Some c.own_fault.ensures c.attribute_len.ensures.is c.meta_len.ensures c.len.ensures.length c.in-Ok.place (c.in-Ok.ensures.answer honest) in
+    device_leaves c.args.region new c.args.spot c.in-Ok.place old mid now (IsTrue (g.S.Source.facts c.args.source.now).honest) c.insert.result c.requires c.places_fit.ensures c.ranges.kind.fits (omega (arith, c.len.ensures))
+    (digest-sized c.args.hash (g.S.Source.facts c.args.source.now).content) (c.find_place.ensures.after.device.unchanged honest) is (c.insert.ensures.stopped still) (c.insert.ensures.last still) source_honest
 
 pub returns-in-Err-Source-clause-before : goal.returns-in-Err-Source-clause-before
 returns-in-Err-Source-clause-before g c honest =
@@ -123,14 +115,12 @@ returns-in-Err-Source-clause-step g c honest source_honest =
     let mid : List ℕ = (g.F.Flash.facts c.find_place.new.paged.device).content in
     let now : List ℕ = (g.F.Flash.facts c.insert.new.paged.device).content in
     let still = honest_still c.find_place.ensures.after.device.calls.same_honesty honest in
-    let is = place_found (bytes_in c.args.region (g.F.Flash.facts c.args.paged.now.device).content) c.args.name.now c.args.kind c.args.hash (g.S.Source.facts c.args.source.now).content c.args.spot _ _ _ _ c.in_default.not-Some c.own_fault.ensures c.attribute_len.ensures.is c.meta_len.ensures c.len.ensures.length c.in-Ok.place (c.in-Ok.ensures.answer honest) in (
-      c.in-Err-Source.ensures.source (search rules),
-      source_leaves c.args.region new c.args.spot c.in-Ok.place old mid now (IsTrue (g.S.Source.facts c.args.source.now).honest) c.insert.result c.requires c.places_fit.ensures c.ranges.kind.fits (omega (arith, c.len.ensures))
-          (digest-sized c.args.hash (g.S.Source.facts c.args.source.now).content) (c.find_place.ensures.after.device.unchanged honest) is (c.insert.ensures.stopped still) (c.insert.ensures.last still) (search rules),
-    )
+    let is = place_found (bytes_in c.args.region (g.F.Flash.facts c.args.paged.now.device).content) c.args.name.now c.args.kind c.args.hash (g.S.Source.facts c.args.source.now).content c.args.spot _ _ _ _ c.in_default.not-Some c.own_fault.ensures c.attribute_len.ensures.is c.meta_len.ensures c.len.ensures.length c.in-Ok.place (c.in-Ok.ensures.answer honest) in
+    source_leaves c.args.region new c.args.spot c.in-Ok.place old mid now (IsTrue (g.S.Source.facts c.args.source.now).honest) c.insert.result c.requires c.places_fit.ensures c.ranges.kind.fits (omega (arith, c.len.ensures))
+    (digest-sized c.args.hash (g.S.Source.facts c.args.source.now).content) (c.find_place.ensures.after.device.unchanged honest) is (c.insert.ensures.stopped still) (c.insert.ensures.last still) (search rules)
 
-pub returns-in-Err-Source-clause-calls : goal.returns-in-Err-Source-clause-calls
-returns-in-Err-Source-clause-calls g c = search rules
+pub returns-in-Err-Source-clause-after : goal.returns-in-Err-Source-clause-after
+returns-in-Err-Source-clause-after g c = search rules
 
 pub returns-in-Ok-insert-clause-refused : goal.returns-in-Ok-insert-clause-refused
 returns-in-Ok-insert-clause-refused g c = search rules

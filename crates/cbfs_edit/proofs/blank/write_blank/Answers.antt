@@ -23,7 +23,7 @@ returns-clause-removed g c honest =
     (c.in_ok-commit_in.ensures.written honest)
     (bytes_in r (g.F.Flash.facts c.fill_in.new.paged.device).content) (c.space_end.result - (c.args.group.start + header_length))
     (ap (λ n. n - (c.args.group.start + header_length)) c.space_end.ensures))
-    (c.fill_in.ensures.filled (honest_still c.commit_in.ensures.calls.same_honesty honest))
+    (c.fill_in.ensures.filled (honest_still c.commit_in.ensures.after.calls.same_honesty honest))
 
 pub returns-clause-stopped : goal.returns-clause-stopped
 returns-clause-stopped g c honest whole =
@@ -36,8 +36,8 @@ returns-clause-stopped g c honest whole =
     (ap (λ n. n - (c.args.group.start + header_length)) c.space_end.ensures)
     whole
     (same_region_length r content (g.F.Flash.facts c.commit_in.new.paged.device).content (g.F.Flash.facts c.fill_in.new.paged.device).content
-    c.requires.region c.commit_in.ensures.calls.same_length c.fill_in.ensures.calls.same_length)
-    (c.fill_in.ensures.torn (honest_still c.commit_in.ensures.calls.same_honesty honest)))
+    c.requires.region c.commit_in.ensures.after.calls.same_length c.fill_in.ensures.after.calls.same_length)
+    (c.fill_in.ensures.torn (honest_still c.commit_in.ensures.after.calls.same_honesty honest)))
 
 pub returns-in_err-commit_in-clause-last_four : goal.returns-in_err-commit_in-clause-last_four
 returns-in_err-commit_in-clause-last_four g c honest whole =
@@ -57,5 +57,5 @@ returns-clause-last_four g c honest whole =
     (ap (λ n. n - (c.args.group.start + header_length)) c.space_end.ensures)
     whole
     (same_region_length r content (g.F.Flash.facts c.commit_in.new.paged.device).content (g.F.Flash.facts c.fill_in.new.paged.device).content
-    c.requires.region c.commit_in.ensures.calls.same_length c.fill_in.ensures.calls.same_length)
-    (c.fill_in.ensures.torn (honest_still c.commit_in.ensures.calls.same_honesty honest))
+    c.requires.region c.commit_in.ensures.after.calls.same_length c.fill_in.ensures.after.calls.same_length)
+    (c.fill_in.ensures.torn (honest_still c.commit_in.ensures.after.calls.same_honesty honest))

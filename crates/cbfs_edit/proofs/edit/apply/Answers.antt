@@ -7,9 +7,6 @@ returns-in-Ok-clause-answered g c = search rules
 pub returns-in-Ok-clause-step : goal.returns-in-Ok-clause-step
 returns-in-Ok-clause-step g c = search rules
 
-pub returns-in-Ok-remove-clause-outside : goal.returns-in-Ok-remove-clause-outside
-returns-in-Ok-remove-clause-outside g c = search rules
-
 pub returns-in-Ok-remove-clause-answered : goal.returns-in-Ok-remove-clause-answered
 returns-in-Ok-remove-clause-answered g c = search rules
 

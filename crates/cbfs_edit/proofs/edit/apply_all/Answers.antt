@@ -3,4 +3,4 @@ use Rattle.cbfs_edit.proofs.EditLists.{applied_more}
 use Rattle.cbfs_edit.proofs.edit.apply_all.Goals as goal
 
 pub loop-i-preserved : goal.loop-i-preserved
-loop-i-preserved g c = search (rules, applied_more g.S.Source.facts)
+loop-i-preserved g c = search (rules, applied_more g.F.Flash.facts g.S.Source.facts)

@@ -10,11 +10,8 @@ returns-then-end-eq0-clause-formatted g c = search rules
 pub returns-then-end-eq0-clause-refused : goal.returns-then-end-eq0-clause-refused
 returns-then-end-eq0-clause-refused g c = search rules
 
-pub returns-in-Ok-clause-cause : goal.returns-in-Ok-clause-cause
-returns-in-Ok-clause-cause g c = search rules
-
-pub returns-in-Ok-clause-calls : goal.returns-in-Ok-clause-calls
-returns-in-Ok-clause-calls g c = search rules
+pub returns-in-Ok-clause-after : goal.returns-in-Ok-clause-after
+returns-in-Ok-clause-after g c = search rules
 
 pub returns-in-Ok-clause-stopped : goal.returns-in-Ok-clause-stopped
 returns-in-Ok-clause-stopped g c = search rules

@@ -24,7 +24,7 @@ loop-cell-preserved g c =
     let moved = rw is at c.in-Ok-Cell.ensures.moved in
     let want = placing_in (bytes_in c.args.region (g.F.Flash.facts c.args.paged.now.device).content) c.args.name.now c.args.wanted in
     surveying_more g.F.Flash.facts c.args.region (place_search c.args.name.now c.args.wanted c.args.region.size) want (IsSurvey c.args.wanted c.args.region.size) c.loop-cell.walk c.loop-cell.survey _ _ c.requires.region c.loop-cell.invariant c.in-Ok-Cell.cell _ c.in-Ok.next _ _ _
-    given reads refl c.pass.ensures.after.read answer moved c.in-Ok.ensures.before c.in-Ok.ensures.passed
+    given reads refl c.in-Ok.ensures.after.read answer moved c.in-Ok.ensures.before c.in-Ok.ensures.passed
 
 pub returns-in-Ok-Tail-clause-answer : goal.returns-in-Ok-Tail-clause-answer
 returns-in-Ok-Tail-clause-answer g c = λ h.

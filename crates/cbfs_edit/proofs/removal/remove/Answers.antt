@@ -6,17 +6,14 @@ use Rattle.cbfs_edit.proofs.removal.remove.Goals as goal
 pub returns-in_err-group-clause-refused : goal.returns-in_err-group-clause-refused
 returns-in_err-group-clause-refused g c = search rules
 
-pub returns-in-Ok-clause-cause : goal.returns-in-Ok-clause-cause
-returns-in-Ok-clause-cause g c = search rules
+pub returns-in_err-group-clause-after : goal.returns-in_err-group-clause-after
+returns-in_err-group-clause-after g c = search rules
 
-pub returns-in_err-group-clause-calls : goal.returns-in_err-group-clause-calls
-returns-in_err-group-clause-calls g c = search rules
+pub returns-in-Ok-clause-after : goal.returns-in-Ok-clause-after
+returns-in-Ok-clause-after g c = search rules
 
-pub returns-in-Ok-clause-calls : goal.returns-in-Ok-clause-calls
-returns-in-Ok-clause-calls g c = search rules
-
-pub returns-in-Err-clause-calls : goal.returns-in-Err-clause-calls
-returns-in-Err-clause-calls g c = search rules
+pub returns-in-Err-clause-after : goal.returns-in-Err-clause-after
+returns-in-Err-clause-after g c = search rules
 
 pub returns-in-Ok-clause-answer : goal.returns-in-Ok-clause-answer
 returns-in-Ok-clause-answer g c = search rules
@@ -35,16 +32,14 @@ returns-in-Err-clause-stopped g c honest = λ is.
     (c.write_blank.ensures.stopped (honest_still c.find_group.ensures.after.device.calls.same_honesty honest)) (c.write_blank.ensures.last_four (honest_still c.find_group.ensures.after.device.calls.same_honesty honest))
 
 pub returns-in-Err-clause-step : goal.returns-in-Err-clause-step
-returns-in-Err-clause-step g c honest = (
-  omega (arith, c.in-Err.ensures.cause, c.find_group.ensures.after.device.calls.faults),
-  removal_leaves c.args.region c.args.name.now c.in_ok-group.group (g.F.Flash.facts c.args.paged.now.device).content (g.F.Flash.facts c.find_group.new.paged.device).content _
-      c.requires c.places_fit.ensures (c.find_group.ensures.after.device.unchanged honest)
-      (c.in_ok-group.ensures.answer honest)
-      (c.write_blank.ensures.stopped (honest_still c.find_group.ensures.after.device.calls.same_honesty honest)) (c.write_blank.ensures.last_four (honest_still c.find_group.ensures.after.device.calls.same_honesty honest)),
-)
+returns-in-Err-clause-step g c honest =
+    removal_leaves c.args.region c.args.name.now c.in_ok-group.group (g.F.Flash.facts c.args.paged.now.device).content (g.F.Flash.facts c.find_group.new.paged.device).content _
+    c.requires c.places_fit.ensures (c.find_group.ensures.after.device.unchanged honest)
+    (c.in_ok-group.ensures.answer honest)
+    (c.write_blank.ensures.stopped (honest_still c.find_group.ensures.after.device.calls.same_honesty honest)) (c.write_blank.ensures.last_four (honest_still c.find_group.ensures.after.device.calls.same_honesty honest))
 
 pub returns-in-Ok-clause-image : goal.returns-in-Ok-clause-image
 returns-in-Ok-clause-image g c honest =
     let still = honest_still c.find_group.ensures.after.device.calls.same_honesty honest in
     image_removed c.args.region c.in_ok-group.group (g.F.Flash.facts c.args.paged.now.device).content (g.F.Flash.facts c.find_group.new.paged.device).content _
-    c.requires (c.find_group.ensures.after.device.unchanged honest) c.write_blank.ensures.calls.same_length (c.write_blank.ensures.outside still) (c.in-Ok.ensures.removed still)
+    c.requires (c.find_group.ensures.after.device.unchanged honest) c.write_blank.ensures.after.calls.same_length (c.write_blank.ensures.after.outside still) (c.in-Ok.ensures.removed still)

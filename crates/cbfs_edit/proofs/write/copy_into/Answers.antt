@@ -5,10 +5,13 @@ use Rattle.flash_store.specs.Bytes.{overwritten}
 use Rattle.flash_store.proofs.RegionLemmas.{outside_of, changed_at, written_ok}
 use Rattle.cbfs_edit.proofs.write.copy_into.Goals as goal
 
-pub returns-clause-outside : goal.returns-clause-outside
-returns-clause-outside g c honest =
-    outside_of c.args.region (g.F.Flash.facts c.args.paged.now.device).content (g.F.Flash.facts c.copy_in_watched.new.self.device).content (c.start.result + c.args.at) c.args.at c.len-n.result
-    (omega arith) (omega (arith, c.requires.inside, c.len-n.ensures.length)) (c.copy_in_watched.ensures.outside honest)
+pub returns-clause-after : goal.returns-clause-after
+returns-clause-after g c = record {
+  calls = rw (← c.len-n.ensures.length) c.copy_in_watched.ensures.calls;
+  outside = λ honest.
+      outside_of c.args.region (g.F.Flash.facts c.args.paged.now.device).content (g.F.Flash.facts c.copy_in_watched.new.self.device).content (c.start.result + c.args.at) c.args.at c.len-n.result
+      (omega arith) (omega (arith, c.requires.inside, c.len-n.ensures.length)) (c.copy_in_watched.ensures.outside honest);
+}
 
 pub returns-clause-copied : goal.returns-clause-copied
 returns-clause-copied g c honest source_honest =

@@ -3,10 +3,13 @@ use Rattle.std.proofs.lemmas.List.{length-replicate}
 use Rattle.flash_store.proofs.RegionLemmas.{outside_of, changed_at, written_ok}
 use Rattle.cbfs_edit.proofs.write.fill_in.Goals as goal
 
-pub returns-clause-outside : goal.returns-clause-outside
-returns-clause-outside g c honest =
-    outside_of c.args.region (g.F.Flash.facts c.args.paged.now.device).content (g.F.Flash.facts c.fill.new.self.device).content (c.start.result + c.args.at) c.args.at c.args.n
-    (omega arith) c.requires.inside (c.fill.ensures.outside honest)
+pub returns-clause-after : goal.returns-clause-after
+returns-clause-after g c = record {
+  calls = c.fill.ensures.calls;
+  outside = λ honest.
+      outside_of c.args.region (g.F.Flash.facts c.args.paged.now.device).content (g.F.Flash.facts c.fill.new.self.device).content (c.start.result + c.args.at) c.args.at c.args.n
+      (omega arith) c.requires.inside (c.fill.ensures.outside honest);
+}
 
 pub returns-clause-filled : goal.returns-clause-filled
 returns-clause-filled g c honest =

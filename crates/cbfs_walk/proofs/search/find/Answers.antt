@@ -13,7 +13,7 @@ loop-cell-preserved g c =
     let answer = rw is at c.in-Ok-Cell.ensures.answer in
     let moved = rw is at c.in-Ok-Cell.ensures.moved in
     searching_more _ c.args.region c.args.name.now c.loop-cell.walk _ _ c.requires c.loop-cell.invariant c.in-Ok-Cell.cell _ _ c.in-Ok-false.field-0
-    given reads answer c.in-Ok-false.ensures.named _ _ c.in-Ok-false.field-0-test moved refl c.is_component.ensures.after.read
+    given reads answer c.in-Ok-false.ensures.named _ _ c.in-Ok-false.field-0-test moved refl c.in-Ok-false.ensures.after.read
 
 pub returns-in-Ok-true-clause-answer : goal.returns-in-Ok-true-clause-answer
 returns-in-Ok-true-clause-answer g c = λ h.

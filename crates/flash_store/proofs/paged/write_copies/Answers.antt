@@ -11,7 +11,7 @@ loop-done-preserved g c =
     let size = c.min-size.ensures in
     let left = c.loop-done-test.true in record {
       within = omega (arith, size, left);
-      calls = CallsSoFar-more _ _ _ _ _ _ left size had.calls c.write_at.ensures.call;
+      calls = CallsSoFar-more _ _ _ _ _ _ left size had.calls c.in_ok-write_at.ensures.call;
       filled = λ h.
           let now = c.in_ok-write_at.ensures.written (honest_still had.calls.same_honesty h) in
           Filled-more _ _ _ c.args.at c.loop-done.done c.min-size.result c.args.byte (omega (arith, size)) (omega (arith, size, left, c.requires.inside)) (had.filled h) (rw c.requires.all at now);
