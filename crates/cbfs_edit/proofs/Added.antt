@@ -4,7 +4,7 @@ use Rattle.std.specs.Prelude.{◌==◌, is_some}
 use Rattle.std.specs.List.{list_any}
 use Rattle.std.proofs.lemmas.Bool.{cases_eq, eq-eqb, ne_eqb}
 use Rattle.std.proofs.lemmas.Bool.Decides.{nat_tests}
-use Rattle.flash_format.specs.Head.{header_length}
+use Rattle.flash_format.specs.Head.{header_length, round64}
 use Rattle.flash_format.specs.Entry.{is_nul}
 use Rattle.flash_format.specs.Blanks.{blank_header, blank, padding}
 use Rattle.flash_format.specs.Cut.{cut}
@@ -37,6 +37,7 @@ use Rattle.cbfs_edit.specs.declared.place.Spot.TheVariants.{First, Aligned, Fixe
 use Rattle.cbfs_edit.specs.declared.place.Wanted.{Wanted}
 use Rattle.cbfs_edit.specs.declared.place.Place.{Place}
 use Rattle.cbfs_edit.proofs.AnsweredPlaces.{answered_place}
+use Rattle.cbfs_edit.proofs.ContentPlaces.{content_at}
 use Rattle.cbfs_edit.proofs.FreeRuns.{IsRun, run_of, blanked_runs}
 use Rattle.cbfs_edit.proofs.Groups.{as_splice, group_range, padding-length}
 use Rattle.cbfs_edit.proofs.Leasts.{place_among-right}
@@ -240,6 +241,12 @@ module _ (x : List ℕ) (new : NewComponent) (spot : Spot) (place : Place) (smal
       ∙ ap (λ n. meta_length (length new.name) n + (place.content - place.header - header_of new)) (hash_as_long new.digest digest)
       ∙ omega (arith, fits.room)
 
+  abbrev front : List ℕ
+  front = made_front new.name new.kind new.digest (place.content - place.header - header_of new) (length new.content)
+
+  abbrev pad : List ℕ
+  pad = padding (round64 (length (front ++ new.content)) - length (front ++ new.content)) (kept_at x end)
+
   is_made : IsMade new.name new.kind new.digest (place.content - place.header - header_of new) new.content
   is_made = record {
     name_short = good.short;
@@ -296,6 +303,7 @@ module _ (x : List ℕ) (new : NewComponent) (spot : Spot) (place : Place) (smal
         cells = the_run.cells;
         free = the_run.free;
         more = subst (λ (l : List ℕ). HasOneMore x place.run.start place.run.end the_run.cells (space_cells before ++ (made_at x new place ∷ []) ++ space_cells after) (made_component place.header new.name new.kind new.digest new.content (made_at x new place)) l) (sym as_spliced) more;
+        content = content_at x before front new.content pad after place.run.start place.content (omega (arith, range.some, range.inside)) (omega (arith, placing.space_before.long, front_long, fits.start_below, fits.room));
       }
 
   -- a stop before the last commit

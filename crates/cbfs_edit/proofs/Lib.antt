@@ -19,6 +19,7 @@ pub mod Changes
 pub mod Inserted
 pub mod Insertions
 pub mod Inserting
+pub mod ContentPlaces
 pub mod Added
 pub mod Adding
 pub mod EditLists

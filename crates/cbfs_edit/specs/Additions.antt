@@ -1,6 +1,6 @@
 -- What the addition of a component leaves, and how it is refused.
 use Rattle.std.specs.List.{list_any}
-use Rattle.std.specs.Prelude.{ℕ, ◌+◌, ◌-◌, ◌==◌, ◌||◌, max, Bool, false, List, [], ◌∷◌, ◌++◌, length, nat_lt, Option, Some, None, Result, Ok, Err, if◌then◌else◌}
+use Rattle.std.specs.Prelude.{◌≡◌, ℕ, ◌+◌, ◌-◌, ◌==◌, ◌||◌, max, Bool, false, List, [], ◌∷◌, ◌++◌, length, slice_range, nat_lt, Option, Some, None, Result, Ok, Err, if◌then◌else◌}
 use Rattle.flash_format.specs.Head.{round64}
 use Rattle.flash_format.specs.Entry.{is_nul}
 use Rattle.flash_format.specs.Blanks.{blank}
@@ -76,13 +76,14 @@ added x new place =
     overwritten x place.run.start
     (blank_between x place.run.start place.header ++ (made_at x new place ++ blank_between x (cell_end place (length new.content)) place.run.end))
 
--- the region has one component more: the new one, in place of free cells
+-- the region has one component more: the new one, in place of free cells, with its content where the caller is told
 pub record AddsOne (x : List ℕ) (new : NewComponent) (place : Place) : Type 0 where
   pub cells : CellsBetween x place.run.start place.run.end
   pub free : AllFree cells.group
   pub more : HasOneMore x place.run.start place.run.end cells
       (space_cells (blank_between x place.run.start place.header) ++ (made_at x new place ∷ []) ++ space_cells (blank_between x (cell_end place (length new.content)) place.run.end))
       (made_component place.header new.name new.kind new.digest new.content (made_at x new place)) (added x new place)
+  pub content : slice_range (added x new place) place.content (place.content + length new.content) ≡ new.content
 
 -- from here on the region's last bytes are kept: its last four, but for those that the content covers
 abbrev pub kept_from : List ℕ → NewComponent → Place → ℕ

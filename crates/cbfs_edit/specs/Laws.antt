@@ -60,6 +60,7 @@ PlacesAreExact = (x : List ℕ) (wanted : Wanted) → IsWanted wanted → IsPlac
 abbrev pub OnePlace : Type 0
 OnePlace = (x : List ℕ) (wanted : Wanted) (found : Option Place) → IsWanted wanted → IsPlace x wanted found → found ≡ place_of x wanted
 
--- an addition makes one component more, with its name, type, attributes and content, at its place; all others stay
+-- an addition makes one component more, with its name, type, attributes and content, at its place, and the content where
+-- the caller is told; all others stay
 abbrev pub AdditionsAddOneComponent : Type 0
 AdditionsAddOneComponent = (x : List ℕ) (new : NewComponent) (spot : Spot) (place : Place) → length x < 2 ^ 32 → new.kind < 2 ^ 32 → length new.content < 2 ^ 32 → IsDigest new.digest → addition_in x new spot ≡ Ok place → AddsOne x new place
