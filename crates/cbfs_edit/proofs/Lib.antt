@@ -25,3 +25,4 @@ pub mod Adding
 pub mod EditLists
 pub mod RunOrder
 pub mod Taken
+pub mod OneGroup

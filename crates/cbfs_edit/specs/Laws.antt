@@ -32,6 +32,10 @@ GroupsAreExact = (x name : List ℕ) (group : Freed) → group_of x name ≡ Som
 abbrev pub NoGroupNoComponent : Type 0
 NoGroupNoComponent = (x name : List ℕ) → group_of x name ≡ None → All (IsNot name) (cut x).cells
 
+-- and there is no other such group
+abbrev pub OneGroup : Type 0
+OneGroup = (x name : List ℕ) (group : Freed) → IsGroupOf name (cut x).cells group → group_of x name ≡ Some group
+
 -- between the commits of an edit that fills a run the components are those of before
 abbrev pub BlankedRunsKeepTheComponents : Type 0
 BlankedRunsKeepTheComponents = (x : List ℕ) (run : Freed) (y : List ℕ) → length x % 64 ≡ 0 → length x < 2 ^ 32 → Contains (runs x) run → IsBlanked x run y → SameCells y x
