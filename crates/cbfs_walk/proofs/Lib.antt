@@ -10,3 +10,4 @@ pub mod Listing
 pub mod Scanning
 pub mod Hashing
 pub mod Searching
+pub mod FirstNamed

@@ -1,5 +1,5 @@
 -- The search for the component of a name.
-use Rattle.std.specs.Prelude.{ℕ, ◌+◌, ◌/◌, List, length, Option, Some, None, Result, Ok, Err}
+use Rattle.std.specs.Prelude.{◌≡◌, ℕ, ◌+◌, ◌/◌, true, false, All, List, ◌∷◌, ◌++◌, length, Option, Some, None, Result, Ok, Err}
 use Rattle.std.specs.List.{find}
 use Rattle.std.specs.Str.{bytes_eq}
 use Rattle.flash_format.specs.Head.{head_of}
@@ -17,6 +17,14 @@ Found = Result (Option Component) WalkFault
 -- the first component of a name
 abbrev pub first_named : List ℕ → List Component → Option Component
 first_named name all = find (λ c. bytes_eq c.name name) all
+
+-- the first component of a name among these
+pub record IsFirstOf (name : List ℕ) (all : List Component) (c : Component) : Type 0 where
+  pub before : List Component
+  pub after : List Component
+  pub whole : all ≡ before ++ (c ∷ after)
+  pub named : bytes_eq c.name name ≡ true
+  pub none_before : All (λ (d : Component). bytes_eq d.name name ≡ false) before
 
 -- without a component of the name: a damage that ends the cells, at its place, or nothing
 abbrev pub not_found : ℕ → End → Found

@@ -1,12 +1,13 @@
 -- The laws by which callers go on from what a walk gives.
-use Rattle.std.specs.Prelude.{◌≡◌, ℕ, ◌+◌, ◌%◌, ◌≤◌, List, length, drop, slice_range, Ok, Err, IsTrue}
+use Rattle.std.specs.Prelude.{◌≡◌, ℕ, ◌+◌, ◌%◌, ◌≤◌, Contains, List, length, drop, slice_range, Some, None, Ok, Err, IsTrue}
 use Rattle.flash_format.specs.Head.{head_of}
 use Rattle.flash_format.specs.Entry.{entry, absent}
 use Rattle.flash_format.specs.Cut.{Cut, complete, tail, damage, ends, after, cut}
-use Rattle.flash_format.specs.Components.{cell_content}
+use Rattle.flash_format.specs.Components.{Component, components, cell_content}
 use Rattle.flash_store.specs.Regions.{Range, LiesIn, bytes_in}
 use Rattle.cbfs_walk.specs.Cells.{IsCellIn, cell_in}
-use Rattle.cbfs_walk.specs.Shapes.{has_bad_size}
+use Rattle.cbfs_walk.specs.Finding.{IsFirstOf, component_in}
+use Rattle.cbfs_walk.specs.Shapes.{has_bad_size, shape}
 use Rattle.cbfs_walk.specs.Walks.{Answer, answer_at, StandsIn}
 use Rattle.cbfs_walk.specs.Shaped.{shaped, ReadsCells, by_answer}
 use Rattle.cbfs_walk.specs.declared.cell.Cell.{Cell}
@@ -44,3 +45,15 @@ pub record CellBytes (region : Range) (image : List ℕ) (c : Cell) : Type 0 whe
 abbrev pub CellsStandInTheirImage : Type 0
 CellsStandInTheirImage = (region : Range) (image : List ℕ) (c : Cell) → LiesIn region image → IsCellIn region.size c → StandsIn (bytes_in region image) c
     → CellBytes region image c
+
+-- what is found is in the list, the first of its name
+abbrev pub FoundIsFirst : Type 0
+FoundIsFirst = (x name : List ℕ) (c : Component) → component_in x name ≡ Ok (Some c) → IsFirstOf name (components x) c
+
+-- in a region of a good shape the first of a name is what is found
+abbrev pub FirstIsFound : Type 0
+FirstIsFound = (x name : List ℕ) (c : Component) → shape x ≡ None → IsFirstOf name (components x) c → component_in x name ≡ Ok (Some c)
+
+-- and for each component of the list some component of its name is found
+abbrev pub ListedIsFound : Type 0
+ListedIsFound = (x : List ℕ) (c : Component) → shape x ≡ None → Contains (components x) c → (d : Component) × (component_in x c.name ≡ Ok (Some d))

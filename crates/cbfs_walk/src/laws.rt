@@ -1,5 +1,5 @@
 //! The laws by which callers go on from what a walk gives. Nothing runs here: a call gives its caller the law.
-ghost use Rattle.cbfs_walk.specs.Laws.{WalksFollowTheCut, ReadingsTakeSteps, CellsStandInTheirImage};
+ghost use Rattle.cbfs_walk.specs.Laws.{CellsStandInTheirImage, FirstIsFound, FoundIsFirst, ListedIsFound, ReadingsTakeSteps, WalksFollowTheCut};
 
 /// What a walk answers at a place is how the region's cut goes on there: its next cell, with the cut of what is behind it,
 /// or its end.
@@ -16,4 +16,12 @@ pub fn readings_take_steps<A>()
 /// Of a cell that stands in a region, its head, its length and its content are those that the image's bytes show.
 pub fn cells_stand_in_their_image()
     ensures { CellsStandInTheirImage }
+{}
+
+/// What a search finds is the first component of the name in the region's list; and where the region's size is good and an
+/// entry stands at its start, that first one is found, and each name in the list is.
+pub fn listed_components_are_found()
+    ensures first { FoundIsFirst }
+    ensures found { FirstIsFound }
+    ensures listed { ListedIsFound }
 {}

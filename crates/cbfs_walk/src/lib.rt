@@ -16,7 +16,10 @@ mod walk;
 pub use attribute_walk::{AttrWalk, attributes, packing};
 pub use cell::Cell;
 pub use hashes::{HashState, check_hash};
-pub use laws::{cells_stand_in_their_image, readings_take_steps, walks_follow_the_cut};
+pub use laws::{
+    cells_stand_in_their_image, listed_components_are_found, readings_take_steps,
+    walks_follow_the_cut,
+};
 pub use names::{name, name_is};
 pub use search::{find, is_component};
 pub use walk::{Step, Walk, WalkFault};
