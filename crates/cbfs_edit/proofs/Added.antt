@@ -19,6 +19,7 @@ use Rattle.flash_format.proofs.MadeLaws.{length-front, hash_as_long, made_as_lon
 use Rattle.flash_format.proofs.Placed.{components_placed}
 use Rattle.flash_store.specs.Bytes.{overwritten, SameOutside}
 use Rattle.flash_store.proofs.BytesLemmas.{SameOutside-overwritten, length-overwritten}
+use Rattle.cbfs_walk.specs.Finding.{first_named}
 use Rattle.cbfs_edit.specs.Groups.{IsCellRange}
 use Rattle.cbfs_edit.specs.Runs.{runs}
 use Rattle.cbfs_edit.specs.Removals.{last_four, kept_at}
@@ -294,6 +295,15 @@ module _ (x : List ℕ) (new : NewComponent) (spot : Spot) (place : Place) (smal
 
   as_spliced : added x new place ≡ spliced x place.run.start place.run.end (before ++ (made_at x new place ++ after))
   as_spliced = as_splice x place.run.start place.run.end (before ++ (made_at x new place ++ after)) (omega (arith, whole_long, range.some))
+
+  pub added_length : length (added x new place) ≡ length x
+  added_length = (over-run x place.run (before ++ (made_at x new place ++ after)) (added x new place) range whole_long refl).same_length
+
+  pub region_some : 64 ≤ length x
+  region_some = omega (arith, range.some, range.inside)
+
+  pub no_other_named : first_named new.name (components x) ≡ None
+  no_other_named = there.no_other
 
   adds_one : AddsOne x new place
   adds_one =

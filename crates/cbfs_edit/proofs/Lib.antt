@@ -26,3 +26,4 @@ pub mod EditLists
 pub mod RunOrder
 pub mod Taken
 pub mod OneGroup
+pub mod FoundAgain

@@ -2,8 +2,11 @@
 use Rattle.std.specs.Prelude.{◌≡◌, ℕ, ◌%◌, ◌^◌, ◌<◌, ◌≤◌, All, Contains, List, length, Ok, Option, Some, None}
 use Rattle.std.specs.List.{AllPairs}
 use Rattle.flash_format.specs.Cut.{cut}
+use Rattle.flash_format.specs.Components.{Component}
 use Rattle.flash_format.specs.Made.{IsDigest}
-use Rattle.cbfs_edit.specs.Additions.{NewComponent, AddsOne, addition_in}
+use Rattle.flash_format.specs.Placings.{made_component}
+use Rattle.cbfs_walk.specs.Finding.{component_in}
+use Rattle.cbfs_edit.specs.Additions.{NewComponent, AddsOne, added, addition_in, made_at}
 use Rattle.cbfs_edit.specs.Groups.{group_of, IsNot, IsGroupOf}
 use Rattle.cbfs_edit.specs.Removals.{LosesOne, removed, removal_in}
 use Rattle.cbfs_edit.specs.Stops.{IsBlanked, SameCells}
@@ -68,3 +71,19 @@ OnePlace = (x : List ℕ) (wanted : Wanted) (found : Option Place) → IsWanted 
 -- the caller is told; all others stay
 abbrev pub AdditionsAddOneComponent : Type 0
 AdditionsAddOneComponent = (x : List ℕ) (new : NewComponent) (spot : Spot) (place : Place) → length x < 2 ^ 32 → new.kind < 2 ^ 32 → length new.content < 2 ^ 32 → IsDigest new.digest → addition_in x new spot ≡ Ok place → AddsOne x new place
+
+-- an addition of numbers that 32 bits hold, and with a whole digest, that gets this place
+pub record IsAdded (x : List ℕ) (new : NewComponent) (spot : Spot) (place : Place) : Type 0 where
+  pub region : length x < 2 ^ 32
+  pub kind : new.kind < 2 ^ 32
+  pub content : length new.content < 2 ^ 32
+  pub digest : IsDigest new.digest
+  pub placed : addition_in x new spot ≡ Ok place
+
+-- the component that was added
+abbrev pub added_component : List ℕ → NewComponent → Place → Component
+added_component x new place = made_component place.header new.name new.kind new.digest new.content (made_at x new place)
+
+-- what was added is found by its name, with its content
+abbrev pub AdditionsAreFound : Type 0
+AdditionsAreFound = (x : List ℕ) (new : NewComponent) (spot : Spot) (place : Place) → IsAdded x new spot place → component_in (added x new place) new.name ≡ Ok (Some (added_component x new place))
