@@ -100,6 +100,9 @@ module _ (x : List ℕ) (group : Freed) (g : CellsBetween x group.start group.en
   pub removed-components : components (removed x group) ≡ components_from 0 g.before ++ components_from group.end g.after
   removed-components = blanked-components x group g range small (removed x group) space removed-room removed-bytes
 
+  pub removed-end : (cut (removed x group)).end ≡ (cut x).end
+  removed-end = blanked-end x group g range small (removed x group) space removed-room removed-bytes
+
   -- After the commit the cells are those of the finished removal.
   pub blanked-same : (y : List ℕ) → IsBlanked x group y → SameCells y (removed x group)
   blanked-same y is = record {

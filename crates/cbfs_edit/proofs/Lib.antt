@@ -27,3 +27,4 @@ pub mod RunOrder
 pub mod Taken
 pub mod OneGroup
 pub mod FoundAgain
+pub mod Undone

@@ -13,7 +13,7 @@ use Rattle.cbfs_edit.specs.Groups.{IsComponent, IsGroupOf, IsNot}
 use Rattle.cbfs_edit.specs.Laws.{RemovalsTakeOneComponent}
 use Rattle.cbfs_edit.specs.declared.group.Freed.{Freed}
 use Rattle.cbfs_edit.proofs.Exact.{group_exact}
-use Rattle.cbfs_edit.proofs.Groups.{group_range, removed-components}
+use Rattle.cbfs_edit.proofs.Groups.{group_range, removed-components, removed-end}
 use Rattle.cbfs_edit.proofs.Parts.{the_group, whole_cut}
 use Rattle.cbfs_edit.proofs.Removals.{accepted}
 
@@ -21,7 +21,7 @@ abbrev IsOther : List ℕ → Component → Type 0
 IsOther name c = bytes_eq c.name name ≡ false
 
 -- none of the components among these cells has the name
-others_have_not : (name : List ℕ) (at : ℕ) (cells : List (List ℕ)) → All (IsNot name) cells → All (IsOther name) (components_from at cells)
+pub others_have_not : (name : List ℕ) (at : ℕ) (cells : List (List ℕ)) → All (IsNot name) cells → All (IsOther name) (components_from at cells)
 unfolding components_from
 others_have_not name at [] none = All-nil (IsOther name)
 others_have_not name at (c ∷ cells) none =
@@ -83,4 +83,5 @@ removal_takes_one x name group small is =
       is = removed-components x group cells (group_range x group cells some) small;
       named = g.named;
       first = others_have_not name 0 g.before g.first;
+      same_end = removed-end x group cells (group_range x group cells some) small;
     }

@@ -87,3 +87,8 @@ added_component x new place = made_component place.header new.name new.kind new.
 -- what was added is found by its name, with its content
 abbrev pub AdditionsAreFound : Type 0
 AdditionsAreFound = (x : List ℕ) (new : NewComponent) (spot : Spot) (place : Place) → IsAdded x new spot place → component_in (added x new place) new.name ≡ Ok (Some (added_component x new place))
+
+-- it can be removed, and then the components are those of before
+abbrev pub AdditionsAreUndone : Type 0
+AdditionsAreUndone = (x : List ℕ) (new : NewComponent) (spot : Spot) (place : Place) → IsAdded x new spot place
+    → (group : Freed) × (removal_in (added x new place) new.name ≡ Ok group) × SameCells (removed (added x new place) group) x

@@ -24,7 +24,7 @@ kept_at x end = if end == length x then Some (last_four x) else None
 abbrev pub removed : List ℕ → Freed → List ℕ
 removed x group = overwritten x group.start (blank (group.end - group.start) (kept_at x group.end))
 
--- one component is gone, the first of a name, and all others are as they were
+-- one component is gone, the first of a name, and all others are as they were, and so is the end of the cells
 pub record LosesOne (name x y : List ℕ) : Type 0 where
   pub before : List Component
   pub component : Component
@@ -33,6 +33,7 @@ pub record LosesOne (name x y : List ℕ) : Type 0 where
   pub is : components y ≡ before ++ after
   pub named : bytes_eq component.name name ≡ true
   pub first : All (λ (c : Component). bytes_eq c.name name ≡ false) before
+  pub same_end : (cut y).end ≡ (cut x).end
 
 -- a damage that ends the cells comes first
 abbrev pub unless_damaged : {A : Type 0} → ℕ → End → Result A EditFault → Result A EditFault

@@ -24,9 +24,10 @@ pub use fault::EditFault;
 pub use formatting::format;
 pub use group::Freed;
 pub use laws::{
-    additions_add_one_component, additions_are_found, blanked_groups_lack_the_component,
-    blanked_runs_keep_the_components, formatted_regions_are_free, groups_are_exact,
-    places_are_exact, removals_take_one_component, runs_are_exact,
+    additions_add_one_component, additions_are_found, additions_are_undone,
+    blanked_groups_lack_the_component, blanked_runs_keep_the_components,
+    formatted_regions_are_free, groups_are_exact, places_are_exact, removals_take_one_component,
+    runs_are_exact,
 };
 pub use place::Spot;
 pub use removal::remove;

@@ -1,0 +1,125 @@
+-- What was added can be removed, and then the components are those of before.
+use Rattle.std.proofs.Common.{◌≡◌, ℕ, Bool, true, false, cond, List, [], ◌∷◌, ◌++◌, length, Option, Some, None, Result, Ok, Err, refl, sym, ◌∙◌, ap, arith, subst, All, Contains}
+use Rattle.std.specs.Prelude.{is_some}
+use Rattle.std.specs.Str.{bytes_eq}
+use Rattle.std.proofs.lemmas.List.Elements.{All-head, All-tail, All-contains, Contains-append_right}
+use Rattle.flash_format.specs.Entry.{entry}
+use Rattle.flash_format.specs.Cut.{End, complete, tail, damage, cut}
+use Rattle.flash_format.specs.Components.{Component, components}
+use Rattle.cbfs_walk.specs.Finding.{IsFirstOf, first_named}
+use Rattle.cbfs_walk.specs.Shapes.{has_bad_size, is_absent, refused_or, shape}
+use Rattle.cbfs_walk.specs.Shaped.{place_after}
+use Rattle.cbfs_walk.specs.declared.walk.WalkFault.{WalkFault}
+use Rattle.cbfs_walk.specs.declared.walk.WalkFault.TheVariants as walk
+use Rattle.cbfs_walk.proofs.FirstNamed.{same_name}
+use Rattle.cbfs_edit.specs.Groups.{group_of}
+use Rattle.cbfs_edit.specs.Refusals.{refusal_of}
+use Rattle.cbfs_edit.specs.Removals.{LosesOne, found, removed, removal_in, unless_damaged}
+use Rattle.cbfs_edit.specs.Places.{place_of, placed, placing_in}
+use Rattle.cbfs_edit.specs.Additions.{NewComponent, added, addition_in, own_fault, unless_faulty, wanted_for}
+use Rattle.cbfs_edit.specs.Laws.{AdditionsAreUndone, added_component}
+use Rattle.cbfs_edit.specs.declared.fault.EditFault.{EditFault}
+use Rattle.cbfs_edit.specs.declared.fault.EditFault.TheVariants as faults
+use Rattle.cbfs_edit.specs.declared.group.Freed.{Freed}
+use Rattle.cbfs_edit.specs.declared.place.Spot.{Spot}
+use Rattle.cbfs_edit.specs.declared.place.Place.{Place}
+use Rattle.cbfs_edit.specs.declared.place.Wanted.{Wanted}
+use Rattle.cbfs_edit.proofs.Added.{added_length}
+use Rattle.cbfs_edit.proofs.Exact.{group_none}
+use Rattle.cbfs_edit.proofs.FoundAgain.{added_first, after, before, none_before, one_more, shape_after}
+use Rattle.cbfs_edit.proofs.Taken.{others_have_not, removal_takes_one}
+
+-- ---- the first of a name
+
+-- among components it is at one place, and so are those before it and behind it
+record IsOnce (before after before' after' : List Component) : Type 0 where
+  first : before ≡ before'
+  last : after ≡ after'
+
+other_head : (name : List ℕ) (c d : Component) → c ≡ d → bytes_eq c.name name ≡ true → bytes_eq d.name name ≡ false → ⊥
+other_head name c d same here other = let k : true ≡ false = sym here ∙ ap (λ (h : Component). bytes_eq h.name name) same ∙ other in cc
+
+one_first : (name : List ℕ) (before after before' after' : List Component) (c c' : Component) → bytes_eq c.name name ≡ true → bytes_eq c'.name name ≡ true
+    → All (λ (d : Component). bytes_eq d.name name ≡ false) before → All (λ (d : Component). bytes_eq d.name name ≡ false) before'
+    → before ++ (c ∷ after) ≡ before' ++ (c' ∷ after') → IsOnce before after before' after'
+one_first name [] after [] after' c c' named named' none none' same = let e : after ≡ after' = cc in record { first = refl; last = e }
+one_first name [] after (d ∷ before') after' c c' named named' none none' same =
+    let e : c ≡ d = cc in
+    absurd (other_head name c d e named (All-head (λ (d : Component). bytes_eq d.name name ≡ false) d before' none'))
+one_first name (d ∷ before) after [] after' c c' named named' none none' same =
+    let e : c' ≡ d = cc in
+    absurd (other_head name c' d e named' (All-head (λ (d : Component). bytes_eq d.name name ≡ false) d before none))
+one_first name (d ∷ before) after (d' ∷ before') after' c c' named named' none none' same =
+    let e : d ≡ d' = cc in
+    let behind : before ++ (c ∷ after) ≡ before' ++ (c' ∷ after') = cc in
+    let once = one_first name before after before' after' c c' named named' (All-tail (λ (d : Component). bytes_eq d.name name ≡ false) d before none) (All-tail (λ (d : Component). bytes_eq d.name name ≡ false) d' before' none') behind in
+    let first : d ∷ before ≡ d' ∷ before' = cc in
+    record { first = first; last = once.last }
+
+-- ---- the removal isn't refused
+
+-- an end that refuses nothing
+Passes : End → Type 1
+Passes e = (A : Type 0) (at : ℕ) (r : Result A EditFault) → unless_damaged at e r ≡ r
+
+passes : (x name : List ℕ) (wanted : Wanted) (place : Place) → placing_in x name wanted ≡ Ok place → Passes (cut x).end
+unfolding placing_in Passes
+passes x name wanted place is = go (has_bad_size (length x)) (is_absent (entry x)) (cut x).end is
+  where
+    rest : Result Place EditFault
+    rest = cond (is_some (first_named name (components x))) (Err faults.Exists) (placed (place_of x wanted))
+
+    go : (b n : Bool) (e : End) → refused_or (λ fault. Err (refusal_of fault)) (cond b (Some walk.RegionShape) (cond n (Some walk.NotCbfs) None)) (unless_damaged (place_after 0 (cut x).cells) e rest) ≡ Ok place → Passes e
+    go true n e p = absurd cc
+    go false true e p = absurd cc
+    go false false complete p = λ A at r. refl
+    go false false tail p = λ A at r. refl
+    go false false (damage kind) p = absurd cc
+
+placed_by : (x : List ℕ) (new : NewComponent) (spot : Spot) (place : Place) → addition_in x new spot ≡ Ok place → placing_in x new.name (wanted_for new spot) ≡ Ok place
+unfolding addition_in
+placed_by x new spot place is = go (own_fault new.name new.kind spot) is
+  where
+    go : (o : Option EditFault) → unless_faulty o (placing_in x new.name (wanted_for new spot)) ≡ Ok place → placing_in x new.name (wanted_for new spot) ≡ Ok place
+    go None e = e
+    go (Some fault) e = absurd cc
+
+removal_is : (y name : List ℕ) → shape y ≡ None → Passes (cut y).end → removal_in y name ≡ found (group_of y name)
+unfolding removal_in Passes
+removal_is y name good through =
+    ap (λ (o : Option WalkFault). refused_or (λ fault. Err (refusal_of fault)) o (unless_damaged (place_after 0 (cut y).cells) (cut y).end (found (group_of y name)))) good
+    ∙ through Freed (place_after 0 (cut y).cells) (found (group_of y name))
+
+-- where a component has the name there is a group
+some_group : (y name : List ℕ) (c : Component) → IsFirstOf name (components y) c → (group : Freed) × (group_of y name ≡ Some group)
+some_group y name c is = go (group_of y name) refl
+  where
+    go : (o : Option Freed) → group_of y name ≡ o → (group : Freed) × (group_of y name ≡ Some group)
+    go (Some group) e = (group, e)
+    go None e =
+        let others = others_have_not name 0 (cut y).cells (group_none y name e) in
+        let here : Contains (components y) c = subst (λ (l : List Component). Contains l c) (sym is.whole) (Contains-append_right is.before (c ∷ is.after) c (0, omega arith, refl)) in
+        let other : bytes_eq c.name name ≡ false = All-contains (λ (d : Component). bytes_eq d.name name ≡ false) (components y) c others here in
+        absurd (let k : true ≡ false = sym is.named ∙ other in cc)
+
+pub additions_undone : AdditionsAreUndone
+unfolding Passes
+additions_undone x new spot place is =
+    let y : List ℕ = added x new place in
+    let more = one_more x new spot place is in
+    let some = some_group y new.name (added_component x new place) (added_first x new spot place is) in
+    let group : Freed = some.0 in
+    let through : Passes (cut x).end = passes x new.name (wanted_for new spot) place (placed_by x new spot place is.placed) in
+    let removes : removal_in y new.name ≡ Ok group =
+    removal_is y new.name (shape_after x new spot place is) (λ A at r. ap (λ (e : End). unless_damaged at e r) more.more.same_end ∙ through A at r) ∙ ap (λ (o : Option Freed). found o) some.1 in
+    let long : length y ≡ length x = added_length x new spot place is.region is.kind is.content is.digest is.placed in
+    let loses : LosesOne new.name y (removed y group) = removal_takes_one y new.name group (omega (arith, long, is.region)) removes in
+    let once = one_first new.name loses.before loses.after (before x new spot place is) (after x new spot place is) loses.component (added_component x new place) loses.named (same_name new.name) loses.first (none_before x new spot place is)
+    (sym loses.was ∙ more.more.new_components) in (
+      group,
+      removes,
+      record {
+        components = loses.is ∙ ap (λ (l : List Component). l ++ loses.after) once.first ∙ ap (λ (l : List Component). before x new spot place is ++ l) once.last ∙ sym more.more.old_components;
+        end = loses.same_end ∙ more.more.same_end;
+      },
+    )
