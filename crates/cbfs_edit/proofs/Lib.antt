@@ -28,3 +28,4 @@ pub mod Taken
 pub mod OneGroup
 pub mod FoundAgain
 pub mod Undone
+pub mod OthersKept

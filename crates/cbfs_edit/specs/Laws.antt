@@ -1,8 +1,9 @@
 -- The laws that the edits rest on.
-use Rattle.std.specs.Prelude.{◌≡◌, ℕ, ◌%◌, ◌^◌, ◌<◌, ◌≤◌, All, Contains, List, length, Ok, Option, Some, None}
+use Rattle.std.specs.Prelude.{◌≡◌, ℕ, ◌%◌, ◌^◌, ◌<◌, ◌≤◌, false, All, Contains, List, length, Ok, Option, Some, None}
 use Rattle.std.specs.List.{AllPairs}
+use Rattle.std.specs.Str.{bytes_eq}
 use Rattle.flash_format.specs.Cut.{cut}
-use Rattle.flash_format.specs.Components.{Component}
+use Rattle.flash_format.specs.Components.{Component, components}
 use Rattle.flash_format.specs.Made.{IsDigest}
 use Rattle.flash_format.specs.Placings.{made_component}
 use Rattle.cbfs_walk.specs.Finding.{component_in}
@@ -92,3 +93,12 @@ AdditionsAreFound = (x : List ℕ) (new : NewComponent) (spot : Spot) (place : P
 abbrev pub AdditionsAreUndone : Type 0
 AdditionsAreUndone = (x : List ℕ) (new : NewComponent) (spot : Spot) (place : Place) → IsAdded x new spot place
     → (group : Freed) × (removal_in (added x new place) new.name ≡ Ok group) × SameCells (removed (added x new place) group) x
+
+-- an addition keeps each component of before
+abbrev pub AdditionsKeepAll : Type 0
+AdditionsKeepAll = (x : List ℕ) (new : NewComponent) (spot : Spot) (place : Place) → IsAdded x new spot place → (c : Component) → Contains (components x) c → Contains (components (added x new place)) c
+
+-- a removal keeps each of another name
+abbrev pub RemovalsKeepOthers : Type 0
+RemovalsKeepOthers = (x name : List ℕ) (group : Freed) → length x < 2 ^ 32 → removal_in x name ≡ Ok group
+    → (c : Component) → Contains (components x) c → bytes_eq c.name name ≡ false → Contains (components (removed x group)) c

@@ -25,7 +25,7 @@ pub use formatting::format;
 pub use group::Freed;
 pub use laws::{
     additions_add_one_component, additions_are_found, additions_are_undone,
-    blanked_groups_lack_the_component, blanked_runs_keep_the_components,
+    blanked_groups_lack_the_component, blanked_runs_keep_the_components, edits_keep_the_others,
     formatted_regions_are_free, groups_are_exact, places_are_exact, removals_take_one_component,
     runs_are_exact,
 };
