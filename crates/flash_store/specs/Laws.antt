@@ -22,3 +22,16 @@ ChangesAreWrites = (r : Range) (x y : List ℕ) → LiesIn r x → length y ≡ 
 -- writes to separate ranges come to the same in either order
 abbrev pub SeparateWritesSwap : Type 0
 SeparateWritesSwap = (x : List ℕ) (a : ℕ) (u : List ℕ) (b : ℕ) (v : List ℕ) → a + length u ≤ b → b ≤ length x → overwritten (overwritten x a u) b v ≡ overwritten (overwritten x b v) a u
+
+-- the image with its region's bytes replaced by what is made of them
+abbrev pub edited : Range → (List ℕ → List ℕ) → List ℕ → List ℕ
+edited r make image = overwritten image r.start (make (bytes_in r image))
+
+-- no byte lies in both
+abbrev pub LieApart : Range → Range → Type 0
+LieApart r s = (r.start + r.size ≤ s.start) ⊎ (s.start + s.size ≤ r.start)
+
+-- edits of two regions that lie apart come to the same in either order
+abbrev pub SeparateEditsSwap : Type 0
+SeparateEditsSwap = (image : List ℕ) (r s : Range) (first last : List ℕ → List ℕ) → LiesIn r image → LiesIn s image → LieApart r s → length (first (bytes_in r image)) ≡ r.size → length (last (bytes_in s image)) ≡ s.size
+    → edited s last (edited r first image) ≡ edited r first (edited s last image)

@@ -1,6 +1,6 @@
 //! Laws of writes, which the crates above rest on. These functions do nothing: their contracts are the laws.
 
-ghost use Rattle.flash_store.specs.Laws.{WritesInRegions, WritesBesideRegions, ChangesInRegions, ChangesAreWrites, SeparateWritesSwap};
+ghost use Rattle.flash_store.specs.Laws.{WritesInRegions, WritesBesideRegions, ChangesInRegions, ChangesAreWrites, SeparateWritesSwap, SeparateEditsSwap};
 
 /// What a write to the image is to the bytes of a region.
 pub fn writes_are_seen_by_regions()
@@ -13,4 +13,10 @@ pub fn writes_are_seen_by_regions()
 /// Writes to separate ranges don't touch each other.
 pub fn separate_writes_swap()
     ensures { SeparateWritesSwap }
+{}
+
+/// Edits of two regions come to the same in either order, where both regions lie in the image and have no byte in common,
+/// and each edit leaves as many bytes as its region has.
+pub fn separate_edits_swap()
+    ensures { SeparateEditsSwap }
 {}
