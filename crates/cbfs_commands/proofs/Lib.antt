@@ -8,3 +8,5 @@ mod Planning
 mod Meeting
 mod Blameless
 mod Examples
+mod RegionPlaces
+mod WrittenBack

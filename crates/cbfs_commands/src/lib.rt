@@ -20,6 +20,6 @@ mod write;
 
 pub use command::Command;
 pub use engine::run;
-pub use laws::outcomes_have_no_fault;
+pub use laws::{outcomes_have_no_fault, writing_back_changes_nothing};
 pub use refusal::Refusal;
 pub use table::{MOST_REGIONS, create_size};

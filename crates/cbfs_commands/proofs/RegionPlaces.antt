@@ -1,0 +1,67 @@
+-- A region of a name lies in its image, and what is written over it depends on its own bytes alone.
+use Rattle.std.proofs.Common.{◌≡◌, ◌⊎◌, inl, inr, ℕ, ◌+◌, ◌≤◌, Bool, true, false, cond, List, ◌++◌, length, take, drop, Option, Some, None, Result, Ok, Err, refl, sym, ◌∙◌, ap, arith}
+use Rattle.std.specs.Prelude.{nat_lt}
+use Rattle.std.proofs.lemmas.Bool.Decides.{nat_tests}
+use Rattle.std.proofs.lemmas.List.{drop_at, take-append-le, length-take-le}
+use Rattle.flash_format.specs.declared.flashmap.Area.{Area}
+use Rattle.flash_format.specs.Flashmap.{map_of, area_in}
+use Rattle.flash_store.specs.Bytes.{overwritten}
+use Rattle.flash_store.specs.Regions.{Range, LiesIn, bytes_in, inside, region_of, region_under}
+use Rattle.flash_store.specs.declared.fmap.StoreFault.{StoreFault}
+use Rattle.flash_store.specs.declared.fmap.StoreFault.TheVariants as faults
+use Rattle.flash_store.proofs.BytesLemmas.{slice_range_is}
+use Rattle.flash_store.proofs.RegionLemmas.{image_is, written_in}
+
+range_size : (r : Range) (start size : ℕ) → (let p : Range = record { start = start; size = size } in p) ≡ r → r.start + r.size ≡ start + size
+range_size r start size is = ap (λ (p : Range). p.start + p.size) (sym is)
+
+pub inside_lies : (n : ℕ) (area : Option Area) (r : Range) → inside n area ≡ Ok r → r.start + r.size ≤ n
+inside_lies n None r is = absurd cc
+inside_lies n (Some a) r is = go (nat_lt n (a.offset + a.size)) refl is
+  where
+    go : (b : Bool) → nat_lt n (a.offset + a.size) ≡ b → (let o : Result Range StoreFault = cond b (Err faults.RegionOutside) (Ok (record { start = a.offset; size = a.size })) in o) ≡ Ok r → r.start + r.size ≤ n
+    go true e f = absurd cc
+    go false e f =
+        let same : (let p : Range = record { start = a.offset; size = a.size } in p) ≡ r = cc in
+        let most : a.offset + a.size ≤ n = grind (arith, nat_tests) in
+        omega (arith, range_size r a.offset a.size same, most)
+
+pub region_lies : (image name : List ℕ) (r : Range) → region_of image name ≡ Ok r → LiesIn r image
+unfolding region_of
+region_lies image name r is = go (map_of image) is
+  where
+    go : (q : Option ℕ) → region_under image name q ≡ Ok r → LiesIn r image
+    go None e = absurd cc
+    go (Some q) e = inside_lies (length image) (area_in image q name) r e
+
+-- ---- bytes over a region
+
+-- a region's own bytes over it
+pub same_over : (r : Range) (image : List ℕ) → LiesIn r image → overwritten image r.start (bytes_in r image) ≡ image
+same_over r image lies = sym (image_is r image image (bytes_in r image) lies refl (record { before = refl; after = refl }) refl)
+
+-- bytes that are longer than the region
+longer : (r : Range) (image u : List ℕ) → LiesIn r image → r.size ≤ length u → bytes_in r (overwritten image r.start u) ≡ take r.size u
+longer r image u lies long =
+    let rest : List ℕ = drop (r.start + length u) image in
+    slice_range_is (overwritten image r.start u) r.start r.size
+    ∙ ap (λ (l : List ℕ). take r.size l) (drop_at (take r.start image) (u ++ rest) r.start (length-take-le r.start image (omega (arith, lies))))
+    ∙ take-append-le r.size u rest long
+
+shorter : (r : Range) (image u : List ℕ) → LiesIn r image → length u ≤ r.size → bytes_in r (overwritten image r.start u) ≡ overwritten (bytes_in r image) 0 u
+shorter r image u lies short =
+    let place : r.start ≡ r.start + 0 = omega arith in
+    ap (λ n. bytes_in r (overwritten image n u)) place ∙ written_in r image 0 u lies (omega (arith, short))
+
+by_length : (a b : ℕ) → (a ≤ b) ⊎ (b ≤ a)
+by_length a b = go (nat_lt a b) refl
+  where
+    go : (c : Bool) → nat_lt a b ≡ c → (a ≤ b) ⊎ (b ≤ a)
+    go true e = inl (grind (arith, nat_tests))
+    go false e = inr (grind (arith, nat_tests))
+
+pub alike_over : (r : Range) (image other u : List ℕ) → LiesIn r image → LiesIn r other → bytes_in r other ≡ bytes_in r image → bytes_in r (overwritten other r.start u) ≡ bytes_in r (overwritten image r.start u)
+alike_over r image other u lies lies_other same = elim (by_length r.size (length u)) [
+  | inl long ↦ longer r other u lies_other long ∙ sym (longer r image u lies long)
+  | inr short ↦ shorter r other u lies_other short ∙ ap (λ (l : List ℕ). overwritten l 0 u) same ∙ sym (shorter r image u lies short)
+]
