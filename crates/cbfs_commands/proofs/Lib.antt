@@ -9,4 +9,5 @@ mod Meeting
 mod Blameless
 mod Examples
 mod RegionPlaces
+mod ByRegion
 mod WrittenBack

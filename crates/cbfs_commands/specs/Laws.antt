@@ -1,9 +1,11 @@
 -- What holds of the outcomes of the commands.
-use Rattle.std.specs.Prelude.{◌≡◌, ℕ, List, [], Ok}
+use Rattle.std.specs.Prelude.{◌≡◌, ℕ, List, [], Option, Some, None, Ok}
+use Rattle.flash_store.specs.Regions.{Range, bytes_in, region_of}
 use Rattle.cbfs_commands.specs.Deeds.{deed}
-use Rattle.cbfs_commands.specs.Outcomes.{read, write}
+use Rattle.cbfs_commands.specs.Outcomes.{Outcome, read, write}
 use Rattle.cbfs_commands.specs.Refusals.{HasNoFault}
 use Rattle.cbfs_commands.specs.Requests.{Request}
+use Rattle.cbfs_commands.specs.Requests as requests
 use Rattle.cbfs_commands.specs.Told.{shows}
 
 -- an outcome's own answer blames no side, since it is a function of the image, the command and the source alone
@@ -13,3 +15,26 @@ OutcomesHaveNoFault = (r : Request) (image source : List ℕ) → HasNoFault ((d
 -- what `read` tells of a region is what `write` may put back, and the image stays as it is
 abbrev pub WritingBackChangesNothing : Type 0
 WritingBackChangesNothing = (image name bytes : List ℕ) → read image name ≡ shows bytes → write image name bytes ≡ record { written = []; image = image; answer = Ok tt }
+
+-- the name of the region that a command reads or changes; `layout` and `create` have none
+abbrev pub region_asked : Request → Option (List ℕ)
+region_asked (requests.print region verbose) = Some region
+region_asked requests.layout = None
+region_asked (requests.extract region name) = Some region
+region_asked (requests.add a) = Some a.region
+region_asked (requests.remove region name) = Some region
+region_asked (requests.read region) = Some region
+region_asked (requests.write region) = Some region
+region_asked (requests.create names) = None
+
+-- two outcomes write and answer the same, and leave the same bytes in a region
+pub record EndAlike (region : Range) (a b : Outcome) : Type 0 where
+  pub written : b.written ≡ a.written
+  pub answer : b.answer ≡ a.answer
+  pub bytes : bytes_in region b.image ≡ bytes_in region a.image
+
+-- where two images have the same region of a name, with the same bytes, a command on it does the same
+abbrev pub OutcomesAreOfTheRegion : Type 0
+OutcomesAreOfTheRegion = (r : Request) (name : List ℕ) (region : Range) (image other source : List ℕ)
+    → region_asked r ≡ Some name → region_of image name ≡ Ok region → region_of other name ≡ Ok region → bytes_in region other ≡ bytes_in region image
+    → EndAlike region ((deed r).outcome image source) ((deed r).outcome other source)

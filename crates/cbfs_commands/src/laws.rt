@@ -1,5 +1,5 @@
 //! Laws of the definitions. These functions do nothing: their contracts are the laws.
-ghost use Rattle.cbfs_commands.specs.Laws.{OutcomesHaveNoFault, WritingBackChangesNothing};
+ghost use Rattle.cbfs_commands.specs.Laws.{OutcomesAreOfTheRegion, OutcomesHaveNoFault, WritingBackChangesNothing};
 
 /// An outcome's own answer is never a fault of the device, the output or the source: where `run` answers one, it
 /// isn't the outcome's.
@@ -11,4 +11,11 @@ pub fn outcomes_have_no_fault()
 /// is.
 pub fn writing_back_changes_nothing()
     ensures { WritingBackChangesNothing }
+{}
+
+/// Where two images have the same region of a name, with the same bytes in it, a command on that region writes and answers
+/// the same of both, and leaves the same bytes in it: of the rest of an image only the map bears on a command, since it
+/// says where the region lies.
+pub fn outcomes_are_of_the_region()
+    ensures { OutcomesAreOfTheRegion }
 {}
