@@ -11,3 +11,4 @@ mod Examples
 mod RegionPlaces
 mod ByRegion
 mod WrittenBack
+mod Planned

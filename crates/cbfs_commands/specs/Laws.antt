@@ -1,6 +1,10 @@
 -- What holds of the outcomes of the commands.
-use Rattle.std.specs.Prelude.{◌≡◌, ℕ, List, [], Option, Some, None, Ok}
+use Rattle.std.specs.Prelude.{◌≡◌, ℕ, List, [], ◌∷◌, length, Option, Some, None, Ok}
+use Rattle.std.specs.List.{AllPairs}
 use Rattle.flash_store.specs.Regions.{Range, bytes_in, region_of}
+use Rattle.flash_store.specs.Laws.{LieApart}
+use Rattle.cbfs_commands.specs.declared.plan.Plan.{Plan}
+use Rattle.cbfs_commands.specs.Creations.{Fits, plan_for}
 use Rattle.cbfs_commands.specs.Deeds.{deed}
 use Rattle.cbfs_commands.specs.Outcomes.{Outcome, read, write}
 use Rattle.cbfs_commands.specs.Refusals.{HasNoFault}
@@ -38,3 +42,12 @@ abbrev pub OutcomesAreOfTheRegion : Type 0
 OutcomesAreOfTheRegion = (r : Request) (name : List ℕ) (region : Range) (image other source : List ℕ)
     → region_asked r ≡ Some name → region_of image name ≡ Ok region → region_of other name ≡ Ok region → bytes_in region other ≡ bytes_in region image
     → EndAlike region ((deed r).outcome image source) ((deed r).outcome other source)
+
+-- what every plan meets, and its map's area and its regions have no byte in common
+pub record IsLaid (n m : ℕ) (plan : Plan) : Type 0 where
+  pub fits : Fits n m plan
+  pub apart : AllPairs LieApart (plan.map ∷ plan.regions.items)
+
+-- each area of a plan that isn't refused lies in the image, and no two of them have a byte in common
+abbrev pub PlansAreLaid : Type 0
+PlansAreLaid = (n : ℕ) (names : List (List ℕ)) (source : List ℕ) (plan : Plan) → plan_for n names source ≡ Ok plan → IsLaid n (length source) plan

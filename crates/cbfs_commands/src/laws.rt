@@ -1,5 +1,5 @@
 //! Laws of the definitions. These functions do nothing: their contracts are the laws.
-ghost use Rattle.cbfs_commands.specs.Laws.{OutcomesAreOfTheRegion, OutcomesHaveNoFault, WritingBackChangesNothing};
+ghost use Rattle.cbfs_commands.specs.Laws.{OutcomesAreOfTheRegion, OutcomesHaveNoFault, PlansAreLaid, WritingBackChangesNothing};
 
 /// An outcome's own answer is never a fault of the device, the output or the source: where `run` answers one, it
 /// isn't the outcome's.
@@ -18,4 +18,11 @@ pub fn writing_back_changes_nothing()
 /// says where the region lies.
 pub fn outcomes_are_of_the_region()
     ensures { OutcomesAreOfTheRegion }
+{}
+
+/// Where `create` isn't refused, the area of the map has room for the table and lies in the image, each region that was
+/// named lies in it and has the size of a CBFS, and no two of these have a byte in common; of areas that nobody named
+/// nothing is said.
+pub fn plans_are_laid()
+    ensures { PlansAreLaid }
 {}

@@ -21,7 +21,8 @@ mod write;
 pub use command::Command;
 pub use engine::run;
 pub use laws::{
-    outcomes_are_of_the_region, outcomes_have_no_fault, writing_back_changes_nothing,
+    outcomes_are_of_the_region, outcomes_have_no_fault, plans_are_laid,
+    writing_back_changes_nothing,
 };
 pub use refusal::Refusal;
 pub use table::{MOST_REGIONS, create_size};
