@@ -12,3 +12,4 @@ mod RegionPlaces
 mod ByRegion
 mod WrittenBack
 mod Planned
+mod Created

@@ -2,7 +2,7 @@
 use Rattle.std.proofs.Common.{◌≡◌, ◌⊎◌, inl, inr, ℕ, ◌+◌, ◌≤◌, Bool, true, false, cond, List, ◌++◌, length, take, drop, Option, Some, None, Result, Ok, Err, refl, sym, ◌∙◌, ap, arith}
 use Rattle.std.specs.Prelude.{nat_lt}
 use Rattle.std.proofs.lemmas.Bool.Decides.{nat_tests}
-use Rattle.std.proofs.lemmas.List.{drop_at, take-append-le, length-take-le}
+use Rattle.std.proofs.lemmas.List.{append-nil, drop_all, drop_at, take-append-le, length-take-le}
 use Rattle.flash_format.specs.declared.flashmap.Area.{Area}
 use Rattle.flash_format.specs.Flashmap.{map_of, area_in}
 use Rattle.flash_store.specs.Bytes.{overwritten}
@@ -10,6 +10,7 @@ use Rattle.flash_store.specs.Regions.{Range, LiesIn, bytes_in, inside, region_of
 use Rattle.flash_store.specs.declared.fmap.StoreFault.{StoreFault}
 use Rattle.flash_store.specs.declared.fmap.StoreFault.TheVariants as faults
 use Rattle.flash_store.proofs.BytesLemmas.{slice_range_is}
+use Rattle.flash_store.proofs.DeviceLemmas.{length-bytes_in}
 use Rattle.flash_store.proofs.RegionLemmas.{image_is, written_in}
 
 range_size : (r : Range) (start size : ℕ) → (let p : Range = record { start = start; size = size } in p) ≡ r → r.start + r.size ≡ start + size
@@ -65,3 +66,11 @@ alike_over r image other u lies lies_other same = elim (by_length r.size (length
   | inl long ↦ longer r other u lies_other long ∙ sym (longer r image u lies long)
   | inr short ↦ shorter r other u lies_other short ∙ ap (λ (l : List ℕ). overwritten l 0 u) same ∙ sym (shorter r image u lies short)
 ]
+
+-- bytes over a whole list
+overwritten-whole : (x u : List ℕ) → length u ≡ length x → overwritten x 0 u ≡ u
+overwritten-whole x u size = ap (λ (l : List ℕ). u ++ l) (drop_all (0 + length u) x (omega arith)) ∙ append-nil u
+
+-- and over a whole region
+pub whole_over : (r : Range) (image u : List ℕ) → LiesIn r image → length u ≡ r.size → bytes_in r (overwritten image r.start u) ≡ u
+whole_over r image u lies size = shorter r image u lies (omega (arith, size)) ∙ overwritten-whole (bytes_in r image) u (size ∙ sym (length-bytes_in r image lies))

@@ -1,10 +1,11 @@
 -- What holds of the outcomes of the commands.
-use Rattle.std.specs.Prelude.{◌≡◌, ℕ, List, [], ◌∷◌, length, Option, Some, None, Ok}
+use Rattle.std.specs.Prelude.{◌≡◌, ℕ, ◌^◌, ◌<◌, All, List, [], ◌∷◌, length, Option, Some, None, Ok}
 use Rattle.std.specs.List.{AllPairs}
 use Rattle.flash_store.specs.Regions.{Range, bytes_in, region_of}
 use Rattle.flash_store.specs.Laws.{LieApart}
+use Rattle.cbfs_edit.specs.Formats.{IsOneFreeCell}
 use Rattle.cbfs_commands.specs.declared.plan.Plan.{Plan}
-use Rattle.cbfs_commands.specs.Creations.{Fits, plan_for}
+use Rattle.cbfs_commands.specs.Creations.{Fits, created, plan_for}
 use Rattle.cbfs_commands.specs.Deeds.{deed}
 use Rattle.cbfs_commands.specs.Outcomes.{Outcome, read, write}
 use Rattle.cbfs_commands.specs.Refusals.{HasNoFault}
@@ -51,3 +52,8 @@ pub record IsLaid (n m : ℕ) (plan : Plan) : Type 0 where
 -- each area of a plan that isn't refused lies in the image, and no two of them have a byte in common
 abbrev pub PlansAreLaid : Type 0
 PlansAreLaid = (n : ℕ) (names : List (List ℕ)) (source : List ℕ) (plan : Plan) → plan_for n names source ≡ Ok plan → IsLaid n (length source) plan
+
+-- each region that `create` formats is one free cell
+abbrev pub CreatedRegionsAreFree : Type 0
+CreatedRegionsAreFree = (n : ℕ) (names : List (List ℕ)) (source : List ℕ) (plan : Plan) → n < 2 ^ 32 → plan_for n names source ≡ Ok plan
+    → All (λ (place : Range). IsOneFreeCell (bytes_in place (created n plan source))) plan.regions.items

@@ -1,5 +1,5 @@
 //! Laws of the definitions. These functions do nothing: their contracts are the laws.
-ghost use Rattle.cbfs_commands.specs.Laws.{OutcomesAreOfTheRegion, OutcomesHaveNoFault, PlansAreLaid, WritingBackChangesNothing};
+ghost use Rattle.cbfs_commands.specs.Laws.{CreatedRegionsAreFree, OutcomesAreOfTheRegion, OutcomesHaveNoFault, PlansAreLaid, WritingBackChangesNothing};
 
 /// An outcome's own answer is never a fault of the device, the output or the source: where `run` answers one, it
 /// isn't the outcome's.
@@ -25,4 +25,10 @@ pub fn outcomes_are_of_the_region()
 /// nothing is said.
 pub fn plans_are_laid()
     ensures { PlansAreLaid }
+{}
+
+/// Where `create` isn't refused, each region that was named is one empty entry in the image that it makes, which is below
+/// 2^32.
+pub fn created_regions_are_free()
+    ensures { CreatedRegionsAreFree }
 {}

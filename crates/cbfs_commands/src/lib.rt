@@ -21,7 +21,7 @@ mod write;
 pub use command::Command;
 pub use engine::run;
 pub use laws::{
-    outcomes_are_of_the_region, outcomes_have_no_fault, plans_are_laid,
+    created_regions_are_free, outcomes_are_of_the_region, outcomes_have_no_fault, plans_are_laid,
     writing_back_changes_nothing,
 };
 pub use refusal::Refusal;

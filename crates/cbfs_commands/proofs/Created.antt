@@ -1,0 +1,98 @@
+-- Each region that `create` formats is one free cell.
+use Rattle.std.proofs.Common.{◌≡◌, ◌⊎◌, inl, inr, ℕ, zero, suc, ◌+◌, ◌-◌, ◌%◌, ◌^◌, ◌<◌, ◌≤◌, false, All, List, [], ◌∷◌, length, take, replicate, Some, refl, sym, ◌∙◌, ap, subst, arith, length-take, length-drop}
+use Rattle.std.specs.List.{list_any}
+use Rattle.std.proofs.lemmas.List.{length-replicate}
+use Rattle.std.proofs.lemmas.List.Elements.{All-nil, All-cons, All-head, All-tail}
+use Rattle.flash_format.proofs.Placed.{blank_is_space}
+use Rattle.flash_store.specs.Bytes.{overwritten}
+use Rattle.flash_store.specs.Laws.{LieApart}
+use Rattle.flash_store.specs.Regions.{Range, LiesIn, bytes_in}
+use Rattle.flash_store.proofs.BytesLemmas.{length-overwritten}
+use Rattle.flash_store.proofs.DeviceLemmas.{length-bytes_in}
+use Rattle.flash_store.proofs.RegionLemmas.{written_beside}
+use Rattle.cbfs_walk.specs.Shapes.{has_bad_size}
+use Rattle.cbfs_walk.proofs.Answering.{good_size}
+use Rattle.cbfs_edit.specs.Formats.{IsOneFreeCell, formatted}
+use Rattle.cbfs_edit.specs.Removals.{last_four}
+use Rattle.cbfs_edit.proofs.FormatLemmas.{formatted_free}
+use Rattle.cbfs_commands.specs.Creations.{IsPlace, formatted_all, formatted_at, overlap, some_overlap}
+use Rattle.cbfs_commands.specs.Laws.{CreatedRegionsAreFree}
+use Rattle.cbfs_commands.proofs.RegionPlaces.{whole_over}
+use Rattle.cbfs_commands.proofs.Planned.{both_false, lie_apart, planned}
+
+record IsSized (n : ℕ) (place : Range) : Type 0 where
+  some : 64 ≤ place.size
+  whole : place.size % 64 ≡ 0
+
+sized : (n : ℕ) (place : Range) → IsPlace n place → IsSized n place
+sized n place is =
+    let whole : place.size % 64 ≡ 0 = good_size place.size (sym is.size) in
+    record { some = omega (arith, whole, positive place.size is.size); whole = whole }
+  where
+    positive : (size : ℕ) → has_bad_size size ≡ false → 0 < size
+    positive zero good = absurd cc
+    positive (suc size) good = omega arith
+
+module _ (n : ℕ) (image : List ℕ) (long : length image ≡ n) (place : Range) (is : IsPlace n place) where
+  lies : LiesIn place image
+  lies = omega (arith, is.inside, long)
+
+  region_long : length (bytes_in place image) ≡ place.size
+  region_long = length-bytes_in place image lies
+
+  formatted_long : length (formatted (bytes_in place image)) ≡ place.size
+  formatted_long =
+      let size = sized n place is in
+      let four : length (last_four (bytes_in place image)) ≡ 4 = omega (arith, length-drop (length (bytes_in place image) - 4) (bytes_in place image), region_long, size.some) in
+      (blank_is_space (length (bytes_in place image)) (Some (last_four (bytes_in place image))) (omega (arith, region_long, size.some)) four).long ∙ region_long
+
+  image_long : length (formatted_at image place) ≡ n
+  image_long = length-overwritten image place.start (formatted (bytes_in place image)) (omega (arith, formatted_long, is.inside, long)) ∙ long
+
+  -- the region itself
+  here : bytes_in place (formatted_at image place) ≡ formatted (bytes_in place image)
+  here = whole_over place image (formatted (bytes_in place image)) lies formatted_long
+
+  -- and any other
+  beside : (other : Range) → LieApart other place → bytes_in other (formatted_at image place) ≡ bytes_in other image
+  beside other apart = written_beside other image place.start (formatted (bytes_in place image)) (omega (arith, is.inside, long)) (where_it_is apart)
+    where
+      where_it_is : LieApart other place → (place.start + length (formatted (bytes_in place image)) ≤ other.start) ⊎ (other.start + other.size ≤ place.start)
+      where_it_is (inl before) = inr before
+      where_it_is (inr after) = inl (omega (arith, after, formatted_long))
+
+  free : n < 2 ^ 32 → IsOneFreeCell (bytes_in place (formatted_at image place))
+  free small =
+      let size = sized n place is in
+      subst (λ (l : List ℕ). IsOneFreeCell l) (sym here)
+      (formatted_free (bytes_in place image) (omega (arith, region_long, size.some)) (ap (λ k. k % 64) region_long ∙ size.whole) (omega (arith, region_long, is.inside, small)))
+
+-- what is formatted after it leaves a region as it is
+untouched : (n : ℕ) (image : List ℕ) (other : Range) (places : List Range) → length image ≡ n → All (IsPlace n) places → list_any (overlap other) places ≡ false → bytes_in other (formatted_all image places) ≡ bytes_in other image
+untouched n image other [] long each none = refl
+untouched n image other (place ∷ places) long each none =
+    let is : IsPlace n place = All-head (IsPlace n) place places each in
+    let parts = both_false (overlap other place) (list_any (overlap other) places) none in
+    untouched n (formatted_at image place) other places (image_long n image long place is) (All-tail (IsPlace n) place places each) parts.1 ∙ beside n image long place is other (lie_apart other place parts.0)
+
+all_free : (n : ℕ) (image : List ℕ) (places : List Range) → n < 2 ^ 32 → length image ≡ n → All (IsPlace n) places → some_overlap places ≡ false → All (λ (place : Range). IsOneFreeCell (bytes_in place (formatted_all image places))) places
+all_free n image [] small long each none = All-nil (λ (place : Range). IsOneFreeCell (bytes_in place image))
+all_free n image (place ∷ places) small long each none =
+    let is : IsPlace n place = All-head (IsPlace n) place places each in
+    let others : All (IsPlace n) places = All-tail (IsPlace n) place places each in
+    let parts = both_false (list_any (overlap place) places) (some_overlap places) none in
+    let next : List ℕ = formatted_at image place in
+    let long_next : length (formatted_at image place) ≡ n = image_long n image long place is in
+    All-cons (λ (p : Range). IsOneFreeCell (bytes_in p (formatted_all next places))) place places
+    (subst (λ (l : List ℕ). IsOneFreeCell l) (sym (untouched n next place places long_next others parts.0)) (free n image long place is small))
+    (all_free n next places small long_next others parts.1)
+
+pub created_free : CreatedRegionsAreFree
+created_free n names source plan small is =
+    let k = planned n names source plan is in
+    let blank : List ℕ = replicate n 0xff in
+    let table : List ℕ = take plan.map_len source in
+    let long_blank : length blank ≡ n = length-replicate {A = ℕ} n 0xff in
+    let long : length (overwritten blank plan.map.start table) ≡ n = length-overwritten blank plan.map.start table (omega (arith, length-take plan.map_len source, k.fits.room, k.fits.map, long_blank)) ∙ long_blank in
+    let parts = both_false (list_any (overlap plan.map) plan.regions.items) (some_overlap plan.regions.items) k.none in
+    all_free n (overwritten blank plan.map.start table) plan.regions.items small long k.fits.regions parts.1
