@@ -13,3 +13,4 @@ mod ByRegion
 mod WrittenBack
 mod Planned
 mod Created
+mod Extracted

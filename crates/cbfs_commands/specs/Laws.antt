@@ -3,11 +3,15 @@ use Rattle.std.specs.Prelude.{◌≡◌, ℕ, ◌^◌, ◌<◌, All, List, [], �
 use Rattle.std.specs.List.{AllPairs}
 use Rattle.flash_store.specs.Regions.{Range, bytes_in, region_of}
 use Rattle.flash_store.specs.Laws.{LieApart}
+use Rattle.cbfs_edit.specs.Additions.{NewComponent, added}
 use Rattle.cbfs_edit.specs.Formats.{IsOneFreeCell}
+use Rattle.cbfs_edit.specs.Laws.{IsAdded}
+use Rattle.cbfs_edit.specs.declared.place.Place.{Place}
+use Rattle.cbfs_edit.specs.declared.place.Spot.{Spot}
 use Rattle.cbfs_commands.specs.declared.plan.Plan.{Plan}
 use Rattle.cbfs_commands.specs.Creations.{Fits, created, plan_for}
 use Rattle.cbfs_commands.specs.Deeds.{deed}
-use Rattle.cbfs_commands.specs.Outcomes.{Outcome, read, write}
+use Rattle.cbfs_commands.specs.Outcomes.{Outcome, add, extract, extract_region, read, write}
 use Rattle.cbfs_commands.specs.Refusals.{HasNoFault}
 use Rattle.cbfs_commands.specs.Requests.{Request}
 use Rattle.cbfs_commands.specs.Requests as requests
@@ -57,3 +61,13 @@ PlansAreLaid = (n : ℕ) (names : List (List ℕ)) (source : List ℕ) (plan : P
 abbrev pub CreatedRegionsAreFree : Type 0
 CreatedRegionsAreFree = (n : ℕ) (names : List (List ℕ)) (source : List ℕ) (plan : Plan) → n < 2 ^ 32 → plan_for n names source ≡ Ok plan
     → All (λ (place : Range). IsOneFreeCell (bytes_in place (created n plan source))) plan.regions.items
+
+-- what was added to a region is what `extract` then tells of it
+abbrev pub AdditionsAreExtracted : Type 0
+AdditionsAreExtracted = (x : List ℕ) (new : NewComponent) (spot : Spot) (place : Place) → IsAdded x new spot place → extract_region (added x new place) new.name ≡ shows new.content
+
+-- and so it is of an image, where its map still gives the name the same region
+abbrev pub AddedFilesAreExtracted : Type 0
+AddedFilesAreExtracted = (image name : List ℕ) (new : NewComponent) (spot : Spot) (region : Range) (place : Place) → region_of image name ≡ Ok region → IsAdded (bytes_in region image) new spot place
+    → let now = (add image name new spot).image in
+    region_of now name ≡ Ok region → extract now name new.name ≡ shows new.content

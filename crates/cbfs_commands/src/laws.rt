@@ -1,5 +1,5 @@
 //! Laws of the definitions. These functions do nothing: their contracts are the laws.
-ghost use Rattle.cbfs_commands.specs.Laws.{CreatedRegionsAreFree, OutcomesAreOfTheRegion, OutcomesHaveNoFault, PlansAreLaid, WritingBackChangesNothing};
+ghost use Rattle.cbfs_commands.specs.Laws.{AddedFilesAreExtracted, AdditionsAreExtracted, CreatedRegionsAreFree, OutcomesAreOfTheRegion, OutcomesHaveNoFault, PlansAreLaid, WritingBackChangesNothing};
 
 /// An outcome's own answer is never a fault of the device, the output or the source: where `run` answers one, it
 /// isn't the outcome's.
@@ -31,4 +31,12 @@ pub fn plans_are_laid()
 /// 2^32.
 pub fn created_regions_are_free()
     ensures { CreatedRegionsAreFree }
+{}
+
+/// Where an addition isn't refused, `extract` of its name then shows its content, if the image's map still gives the name
+/// of the region the same range: a content that holds a valid map, or a region over the map, may change that. It is said
+/// where the region, the type and the content are below 2^32, and the digest has the length of its algorithm.
+pub fn additions_are_extracted()
+    ensures region { AdditionsAreExtracted }
+    ensures image { AddedFilesAreExtracted }
 {}

@@ -21,8 +21,8 @@ mod write;
 pub use command::Command;
 pub use engine::run;
 pub use laws::{
-    created_regions_are_free, outcomes_are_of_the_region, outcomes_have_no_fault, plans_are_laid,
-    writing_back_changes_nothing,
+    additions_are_extracted, created_regions_are_free, outcomes_are_of_the_region,
+    outcomes_have_no_fault, plans_are_laid, writing_back_changes_nothing,
 };
 pub use refusal::Refusal;
 pub use table::{MOST_REGIONS, create_size};

@@ -1,0 +1,41 @@
+-- What was added is extracted.
+use Rattle.std.proofs.Common.{◌≡◌, ℕ, false, cond, List, length, Option, Some, None, Result, refl, ◌∙◌, ap}
+use Rattle.flash_format.specs.Components.{is_packed}
+use Rattle.flash_format.specs.Made.{made_attributes}
+use Rattle.flash_format.specs.declared.digest.Digest.{Digest}
+use Rattle.flash_store.specs.Bytes.{overwritten}
+use Rattle.flash_store.specs.Regions.{Range, bytes_in, region_of}
+use Rattle.flash_store.specs.declared.fmap.StoreFault.{StoreFault}
+use Rattle.flash_store.proofs.DeviceLemmas.{length-bytes_in}
+use Rattle.cbfs_edit.specs.Additions.{added}
+use Rattle.cbfs_edit.specs.declared.fault.EditFault.{EditFault}
+use Rattle.cbfs_edit.specs.declared.place.Place.{Place}
+use Rattle.cbfs_edit.proofs.Added.{added_length}
+use Rattle.cbfs_edit.proofs.FoundAgain.{additions_found}
+use Rattle.cbfs_walk.specs.Finding.{Found}
+use Rattle.cbfs_commands.specs.declared.refusal.Refusal.TheVariants as refusals
+use Rattle.cbfs_commands.specs.Outcomes.{add, add_found, addition, extract, extract_found, extract_found_component, extract_region}
+use Rattle.cbfs_commands.specs.Told.{Told, refuses, shows}
+use Rattle.cbfs_commands.specs.Laws.{AddedFilesAreExtracted, AdditionsAreExtracted}
+use Rattle.cbfs_commands.proofs.RegionPlaces.{region_lies, whole_over}
+
+-- what is made has no attribute of compression
+plain : (digest : Option Digest) → is_packed (made_attributes digest) ≡ false
+plain None = refl
+plain (Some digest) = refl
+
+pub additions_extracted : AdditionsAreExtracted
+additions_extracted x new spot place is =
+    ap (λ (f : Found). extract_found_component f) (additions_found x new spot place is) ∙ ap (λ b. let t : Told = cond b (refuses refusals.Compressed) (shows new.content) in t) (plain new.digest)
+
+pub files_extracted : AddedFilesAreExtracted
+unfolding add extract
+files_extracted image name new spot region place asked is still =
+    let x : List ℕ = bytes_in region image in
+    let y : List ℕ = added x new place in
+    let now : List ℕ = (add_found image (region_of image name) new spot).image in
+    let lies = region_lies image name region asked in
+    let long : length y ≡ region.size = added_length x new spot place is.region is.kind is.content is.digest is.placed ∙ length-bytes_in region image lies in
+    let left : now ≡ overwritten image region.start y = ap (λ (r : Result Range StoreFault). (add_found image r new spot).image) asked ∙ ap (λ (r : Result Place EditFault). (addition image region new r).image) is.placed in
+    let holds : bytes_in region now ≡ y = ap (λ (l : List ℕ). bytes_in region l) left ∙ whole_over region image y lies long in
+    ap (λ (r : Result Range StoreFault). extract_found now r new.name) still ∙ ap (λ (l : List ℕ). extract_region l new.name) holds ∙ additions_extracted x new spot place is
