@@ -1,6 +1,6 @@
 -- The laws of the definitions that the crates above rest on.
 use Rattle.std.specs.Prelude.{◌≡◌, ◌≢◌, ℕ, ◌+◌, ◌-◌, ◌%◌, ◌^◌, ◌<◌, ◌≤◌, Bool, true, List, [], ◌∷◌, ◌++◌, length, take, drop, All, Some, None, Option}
-use Rattle.std.specs.List.{concat, sum_by}
+use Rattle.std.specs.List.{concat, flat_map, sum_by}
 use Rattle.flash_format.specs.declared.digest.Digest.{Digest}
 use Rattle.flash_format.specs.Head.{name_padding, header_length, head_of, is_free, round64}
 use Rattle.flash_format.specs.Blanks.{blank_header, blank}
@@ -10,7 +10,9 @@ use Rattle.flash_format.specs.Components.{components, components_from, moved}
 use Rattle.flash_format.specs.Splices.{AllFree, CellsBetween, spliced}
 use Rattle.flash_format.specs.Made.{IsDigest, IsMade, IsReadAs, KeepsFour, name_room, meta_length, hash_len, made_front, made}
 use Rattle.flash_format.specs.Placings.{IsSpace, IsPlacing, HasOneMore, space_cells, made_component}
-use Rattle.flash_format.specs.Flashmap.{is_map, map_of}
+use Rattle.flash_format.specs.Flashmap.{area_bytes, areas_from, fmap_head_bytes, fmap_head_len, fmap_head_of, is_map, is_named, map_of}
+use Rattle.flash_format.specs.declared.flashmap.Area.{Area}
+use Rattle.flash_format.specs.declared.flashmap.FmapHead.{FmapHead}
 use Rattle.flash_format.specs.TypeNames.{name_of_type, type_of_text}
 
 -- a cell has at least 64 bytes, and a multiple of 64
@@ -121,6 +123,42 @@ IsMapOf image None = NoMapBelow image (length image)
 
 abbrev pub MapsAreTheLowest : Type 0
 MapsAreTheLowest = (image : List ℕ) → IsMapOf image (map_of image)
+
+-- a valid map is the image's where none stands below it
+abbrev pub LowestMapsAreFound : Type 0
+LowestMapsAreFound = (image : List ℕ) (q : ℕ) → is_map (drop q image) ≡ true → NoMapBelow image q → map_of image ≡ Some q
+
+-- each field of an area fits into its bytes
+pub record IsAreaInBytes (a : Area) : Type 0 where
+  pub offset : a.offset < 2 ^ 32
+  pub size : a.size < 2 ^ 32
+  pub name : length a.name ≡ 32
+  pub flags : a.flags < 2 ^ 16
+
+-- each field of a head of the first version fits into its bytes, its name is a good one, and it counts these areas
+pub record IsMapInBytes (h : FmapHead) (areas : List Area) : Type 0 where
+  pub major : h.major ≡ 1
+  pub base : h.base < 2 ^ 64
+  pub size : h.size < 2 ^ 32
+  pub name : length h.name ≡ 32
+  pub named : is_named h.name ≡ true
+  pub counted : h.nareas ≡ length areas
+  pub few : length areas < 2 ^ 16
+  pub each : All IsAreaInBytes areas
+
+-- the bytes of a map: its head, and the areas after it
+abbrev pub map_bytes : FmapHead → List Area → List ℕ
+map_bytes h areas = fmap_head_bytes h ++ flat_map area_bytes areas
+
+-- these bytes begin with a valid map of this head and these areas
+pub record IsReadAsMap (h : FmapHead) (areas : List Area) (x : List ℕ) : Type 0 where
+  pub valid : is_map x ≡ true
+  pub head : fmap_head_of x ≡ h
+  pub all : areas_from h.nareas (drop fmap_head_len x) ≡ areas
+
+-- a map is read as it was written, whatever bytes follow
+abbrev pub MapsAreReadBack : Type 0
+MapsAreReadBack = (h : FmapHead) (areas : List Area) (more : List ℕ) → IsMapInBytes h areas → IsReadAsMap h areas (map_bytes h areas ++ more)
 
 -- the name of a type is read as that type
 abbrev pub NamesAreReadBack : Type 0

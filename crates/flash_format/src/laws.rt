@@ -1,6 +1,6 @@
 //! Laws of the definitions, which the crates above rest on. These functions do nothing: their contracts are the laws.
 
-ghost use Rattle.flash_format.specs.Laws.{CellsAreLarge, CellsFit, CellsAreReadAlike, FreeCellsAreReadByTheirHead, EveryRegionHasACut, CutsAreUnique, CutsGoOn, ComponentsGoOn, ComponentsJoin, PlacesAreSums, BlankHeadersAreFreeCells, CellsAreReplaced, ComponentsStay, BlanksHaveNoComponent, FrontsAreReadAsMade, MadeCellsAreReadAsMade, MadeCellsStandAlone, MadeCellsAreAsLong, RoomsAreLeast, BlanksAreSpace, ComponentsArePlaced, MapsAreTheLowest, NamesAreReadBack};
+ghost use Rattle.flash_format.specs.Laws.{CellsAreLarge, CellsFit, CellsAreReadAlike, FreeCellsAreReadByTheirHead, EveryRegionHasACut, CutsAreUnique, CutsGoOn, ComponentsGoOn, ComponentsJoin, PlacesAreSums, BlankHeadersAreFreeCells, CellsAreReplaced, ComponentsStay, BlanksHaveNoComponent, FrontsAreReadAsMade, MadeCellsAreReadAsMade, MadeCellsStandAlone, MadeCellsAreAsLong, RoomsAreLeast, BlanksAreSpace, ComponentsArePlaced, MapsAreTheLowest, LowestMapsAreFound, MapsAreReadBack, NamesAreReadBack};
 ghost use Rattle.std.specs.Prelude.{◌≡◌};
 ghost use Rattle.flash_format.specs.Head.{header_length};
 ghost use Rattle.flash_format.specs.Flashmap.{fmap_head_len, area_len};
@@ -70,9 +70,17 @@ pub fn components_are_placed()
     ensures blanks { BlanksAreSpace }
 {}
 
-/// An image's map is the lowest valid one.
+/// An image's map is the lowest valid one, and the lowest valid one is the image's map.
 pub fn maps_are_the_lowest()
-    ensures { MapsAreTheLowest }
+    ensures lowest { MapsAreTheLowest }
+    ensures found { LowestMapsAreFound }
+{}
+
+/// The bytes of a map are read as a valid map with its head and its areas, whatever bytes follow: where each field fits
+/// into its bytes, the major version is 1, the name has a NUL with only printing bytes before it, and the head counts the
+/// areas.
+pub fn maps_are_read_back()
+    ensures { MapsAreReadBack }
 {}
 
 /// The name of a type is read as that type.

@@ -1,0 +1,94 @@
+-- A map is read as it was written, and it is the image's where none stands below it.
+use Rattle.std.proofs.Common.{◌≡◌, ℕ, ◌*◌, ◌<◌, ◌≤◌, Bool, true, false, List, [], ◌∷◌, ◌++◌, All, length, take, drop, Option, Some, None, refl, sym, ◌∙◌, ap, arith, append_assoc, length-append, length-drop}
+use Rattle.std.specs.Prelude.{nat_lt}
+use Rattle.std.specs.List.{flat_map}
+use Rattle.std.proofs.lemmas.Bool.{eq-eqb, le-leb}
+use Rattle.std.proofs.lemmas.Bool.Decides.{nat_tests}
+use Rattle.std.proofs.lemmas.List.{take_at, drop_at}
+use Rattle.std.proofs.lemmas.List.Elements.{All-head, All-tail}
+use Rattle.byteorder.specs.Endian.{little_bytes}
+use Rattle.flash_format.specs.declared.flashmap.Area.{Area}
+use Rattle.flash_format.specs.declared.flashmap.FmapHead.{FmapHead}
+use Rattle.flash_format.specs.Flashmap.{area_bytes, area_of, areas_from, fmap_head_bytes, fmap_head_of, has_signature, is_map, is_named, is_valid_head, map_len, map_of}
+use Rattle.flash_format.specs.Laws.{IsAreaInBytes, IsMapOf, LowestMapsAreFound, MapsAreReadBack, map_bytes}
+use Rattle.flash_format.proofs.Fronts.{area_of-take, fmap_head_of-take, has_signature-take}
+use Rattle.flash_format.proofs.MapLaws.{map_lowest}
+use Rattle.flash_format.proofs.MapSteps.{map_where, not_map_short}
+use Rattle.flash_format.proofs.Writing.{area_is_read_back, fmap_head_is_read_back, signature_is_written}
+
+-- ---- the lowest map
+
+map_long : (x : List ℕ) → is_map x ≡ true → 56 ≤ length x
+map_long x is = go (nat_lt (length x) 56) refl
+  where
+    go : (b : Bool) → nat_lt (length x) 56 ≡ b → 56 ≤ length x
+    go true e = absurd (let k : true ≡ false = sym is ∙ not_map_short x (grind (arith, nat_tests)) in cc)
+    go false e = grind (arith, nat_tests)
+
+one_place : (p q : ℕ) → (p < q → ⊥) → (q < p → ⊥) → p ≡ q
+one_place p q above below = go (nat_lt p q) (nat_lt q p) refl refl
+  where
+    go : (a b : Bool) → nat_lt p q ≡ a → nat_lt q p ≡ b → p ≡ q
+    go true b e f = absurd (above (grind (arith, nat_tests)))
+    go false true e f = absurd (below (grind (arith, nat_tests)))
+    go false false e f = grind (arith, nat_tests)
+
+pub lowest_found : LowestMapsAreFound
+lowest_found image q here none = go (map_of image) refl (map_lowest image)
+  where
+    inside : q < length image
+    inside = omega (arith, map_long (drop q image) here, length-drop q image)
+
+    go : (o : Option ℕ) → map_of image ≡ o → IsMapOf image o → map_of image ≡ Some q
+    go None e nowhere = absurd (nowhere q inside here)
+    go (Some p) e known = e ∙ ap (λ n. Some n) (one_place p q (λ (lower : p < q). none p lower known.0) (λ (higher : q < p). known.1 q higher here))
+
+-- ---- the bytes of a map
+
+length-head : (h : FmapHead) → length h.name ≡ 32 → length (fmap_head_bytes h) ≡ 56
+unfolding fmap_head_bytes
+length-head h long = omega (arith, long, length-append h.name (little_bytes 2 h.nareas))
+
+length-area : (a : Area) → length a.name ≡ 32 → length (area_bytes a) ≡ 42
+unfolding area_bytes
+length-area a long = omega (arith, long, length-append a.name (little_bytes 2 a.flags))
+
+length-areas : (areas : List Area) → All IsAreaInBytes areas → length (flat_map area_bytes areas) ≡ 42 * length areas
+length-areas [] each = refl
+length-areas (a ∷ areas) each =
+    omega (arith, length-append (area_bytes a) (flat_map area_bytes areas), length-area a (All-head IsAreaInBytes a areas each).name, length-areas areas (All-tail IsAreaInBytes a areas each))
+
+areas_read : (areas : List Area) (more : List ℕ) → All IsAreaInBytes areas → areas_from (length areas) (flat_map area_bytes areas ++ more) ≡ areas
+unfolding areas_from
+areas_read [] more each = refl
+areas_read (a ∷ areas) more each =
+    let is : IsAreaInBytes a = All-head IsAreaInBytes a areas each in
+    let rest : List ℕ = flat_map area_bytes areas ++ more in
+    let x : List ℕ = flat_map area_bytes (a ∷ areas) ++ more in
+    let parts : x ≡ area_bytes a ++ rest = append_assoc (area_bytes a) (flat_map area_bytes areas) more in
+    let front : take 42 x ≡ area_bytes a = ap (λ (l : List ℕ). take 42 l) parts ∙ take_at (area_bytes a) rest 42 (length-area a is.name) in
+    let behind : drop 42 x ≡ rest = ap (λ (l : List ℕ). drop 42 l) parts ∙ drop_at (area_bytes a) rest 42 (length-area a is.name) in
+    let first : area_of x ≡ a = sym (area_of-take x 42 (omega arith)) ∙ ap area_of front ∙ area_is_read_back (area_bytes a) a refl (omega (arith, is.offset)) (omega (arith, is.size)) (omega (arith, is.flags)) is.name in
+    ap (λ (b : Area). b ∷ areas_from (length areas) (drop 42 x)) first ∙ ap (λ (l : List ℕ). a ∷ areas_from (length areas) l) behind ∙ ap (λ (l : List Area). a ∷ l) (areas_read areas more (All-tail IsAreaInBytes a areas each))
+
+valid : (h : FmapHead) (left : ℕ) → h.major ≡ 1 → is_named h.name ≡ true → map_len h ≤ left → is_valid_head h left ≡ true
+unfolding is_valid_head
+valid h left major named fits = rw (eq-eqb h.major 1 major, named, le-leb (map_len h) left fits) refl
+
+pub maps_read_back : MapsAreReadBack
+maps_read_back h areas more is =
+    let front : List ℕ = fmap_head_bytes h in
+    let rest : List ℕ = flat_map area_bytes areas ++ more in
+    let x : List ℕ = map_bytes h areas ++ more in
+    let long : length (fmap_head_bytes h) ≡ 56 = length-head h is.name in
+    let parts : x ≡ front ++ rest = append_assoc front (flat_map area_bytes areas) more in
+    let first : take 56 x ≡ front = ap (λ (l : List ℕ). take 56 l) parts ∙ take_at front rest 56 long in
+    let behind : drop 56 x ≡ rest = ap (λ (l : List ℕ). drop 56 l) parts ∙ drop_at front rest 56 long in
+    let head : fmap_head_of x ≡ h = sym (fmap_head_of-take x 56 (omega arith)) ∙ ap fmap_head_of first ∙ fmap_head_is_read_back front h refl (omega (arith, is.base)) (omega (arith, is.size)) (omega (arith, is.counted, is.few)) is.name in
+    let signed : has_signature x ≡ true = sym (has_signature-take x 56 (omega arith)) ∙ ap has_signature first ∙ signature_is_written front h refl in
+    let size : map_len h ≤ length x = omega (arith, ap length parts, length-append front rest, length-append (flat_map area_bytes areas) more, long, length-areas areas is.each, is.counted) in
+    record {
+      valid = map_where x true (omega (arith, size)) signed (ap (λ (k : FmapHead). is_valid_head k (length x)) head ∙ valid h (length x) is.major is.named size);
+      head = head;
+      all = ap (λ n. areas_from n (drop 56 x)) is.counted ∙ ap (λ (l : List ℕ). areas_from (length areas) l) behind ∙ areas_read areas more is.each;
+    }
