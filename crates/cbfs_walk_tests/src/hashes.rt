@@ -26,6 +26,25 @@ const SHORT_256: [u8; 12] = *b"hsaH\0\0\0\x2b\0\0\0\x02";
 
 const SHORT_512: [u8; 12] = *b"hsaH\0\0\0\x4b\0\0\0\x03";
 
+/// The same, a byte longer.
+const LONG_256: [u8; 12] = *b"hsaH\0\0\0\x2d\0\0\0\x02";
+
+const LONG_512: [u8; 12] = *b"hsaH\0\0\0\x4d\0\0\0\x03";
+
+/// Numbers of algorithms beside those that are supported, and lengths of the other.
+const ALGORITHM_1: [u8; 12] = *b"hsaH\0\0\0\x2c\0\0\0\x01";
+
+const ALGORITHM_4: [u8; 12] = *b"hsaH\0\0\0\x4c\0\0\0\x04";
+
+const SHA512_IN_44: [u8; 12] = *b"hsaH\0\0\0\x2c\0\0\0\x03";
+
+const SHA256_IN_76: [u8; 12] = *b"hsaH\0\0\0\x4c\0\0\0\x02";
+
+/// The digest of SHA-256 of `abc`, and a second hash attribute.
+const TWO_HASHES: [u8; 44] =
+    *b"\xba\x78\x16\xbf\x8f\x01\xcf\xea\x41\x41\x40\xde\x5d\xae\x22\x23\xb0\x03\x61\xa3\x96\x17\x7a\x9c\xb4\x10\xff\x61\xf2\x00\x15\xad\
+hsaH\0\0\0\x0c\0\0\0\x09";
+
 /// The same with an unknown tag.
 const OTHER_TAG: [u8; 12] = *b"\0\0\x12\x34\0\0\0\x2c\0\0\0\x02";
 
@@ -36,7 +55,7 @@ fn device_of(
     digest: &[u8],
     content: &[u8],
 ) -> MemFlash {
-    assert!(rt; digest.len() <= 64 && content.len() <= 4200);
+    assert!(rt; digest.len() <= 65 && content.len() <= 4200);
     let begin = 52 + digest.len();
     let len = content.len() as u32;
     let offset = begin as u32;
@@ -92,8 +111,26 @@ fn other_attributes_are_told(rt: HostRuntime) {
     row(&rt, &SHORT_256, &ABC_256[..31], b"abc", unsupported);
     row(&rt, &SHORT_512, &ABC_512[..63], b"abc", unsupported);
     row(&rt, &OTHER_TAG, &ABC_256, b"abc", HashState::Absent);
+    row(&rt, &ALGORITHM_1, &ABC_256, b"abc", unsupported);
+    row(&rt, &ALGORITHM_4, &ABC_512, b"abc", unsupported);
+    row(&rt, &SHA512_IN_44, &ABC_256, b"abc", unsupported);
     let device = device_with(&rt, 512, &[(0, &A)]);
     has_state(&rt, device, b"a", HashState::Absent);
+}
+
+/// A digest stands in the first bytes of an attribute that has more, and in the first of two.
+#[test]
+fn a_digest_may_have_bytes_after_it(rt: HostRuntime) {
+    let valid = HashState::Valid(Digest::Sha256(ABC_256));
+    row(&rt, &LONG_256, &TWO_HASHES[..33], b"abc", valid);
+    row(&rt, &SHA256, &TWO_HASHES, b"abc", valid);
+    let mut wide = [0; 64];
+    put(&mut wide, 0, &ABC_256);
+    row(&rt, &SHA256_IN_76, &wide, b"abc", valid);
+    let mut wide = [0; 65];
+    put(&mut wide, 0, &ABC_512);
+    let valid = HashState::Valid(Digest::Sha512(ABC_512));
+    row(&rt, &LONG_512, &wide, b"abc", valid);
 }
 
 /// So many bytes, which count from 0 to 250 again and again.

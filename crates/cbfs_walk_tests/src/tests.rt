@@ -93,6 +93,32 @@ const WIDE: [u8; 24] = *b"LARCHIVE\0\0\0\x0a\0\0\0\x50\0\0\0\0\0\0\0\x58";
 const LIE: [u8; 64] =
     *b"LARCHIVE\0\0\0\0\0\0\0\x50\0\0\0\0\0\0\0\x28l\0\0\0\0\0\0\0\0\0\0\0\0\0\0\0\0\0\0\0\0\0\0\0\0\0\0\0\0\0\0\0\0\0\0\0\0\0\0\0";
 
+/// The head of a component of no bytes, whose content begins at 280, and of one whose content begins at 281.
+const NAMED_255: [u8; 24] = *b"LARCHIVE\0\0\0\0\0\0\0\x50\0\0\0\0\0\0\x01\x18";
+
+const NAMED_256: [u8; 24] = *b"LARCHIVE\0\0\0\0\0\0\0\x50\0\0\0\0\0\0\x01\x19";
+
+const LETTERS: [u8; 256] = [b'n'; 256];
+
+/// A component whose attributes begin before its name's NUL, and one where they begin right after it.
+const NUL_IN_ATTRIBUTES: [u8; 40] =
+    *b"LARCHIVE\0\0\0\x0a\0\0\0\x50\0\0\0\x1a\0\0\0\x28nn\0\0\0\0\0\0\0\0\0\0\0\0\0\0";
+
+const NUL_BEFORE_ATTRIBUTES: [u8; 40] =
+    *b"LARCHIVE\0\0\0\x0a\0\0\0\x50\0\0\0\x1b\0\0\0\x28nn\0\0\0\0\0\0\0\0\0\0\0\0\0\0";
+
+/// The component `f` of 24 bytes, whose cell has 64.
+const FULL: [u8; 40] =
+    *b"LARCHIVE\0\0\0\x18\0\0\0\x50\0\0\0\0\0\0\0\x28f\0\0\0\0\0\0\0\0\0\0\0\0\0\0\0";
+
+/// The component `f` of 25 bytes, whose cell has 128.
+const FULLER: [u8; 40] =
+    *b"LARCHIVE\0\0\0\x19\0\0\0\x50\0\0\0\0\0\0\0\x28f\0\0\0\0\0\0\0\0\0\0\0\0\0\0\0";
+
+/// Free space that would end 2^32 + 8 bytes after its begin.
+const NULL_PAST_32_BITS: [u8; 40] =
+    *b"LARCHIVE\xff\xff\xff\xe0\xff\xff\xff\xff\0\0\0\0\0\0\0\x28\0\0\0\0\0\0\0\0\0\0\0\0\0\0\0\0";
+
 const RAW: u32 = 0x50;
 
 const NULL: u32 = 0xffff_ffff;
@@ -218,6 +244,36 @@ fn walks_refuse_what_fails_a_check(rt: HostRuntime) {
     refuses(&rt, &LONG_ATTRIBUTE, DamageKind::AttrLength);
     walks(&rt, 512, &[(0, &NO_MAGIC)], &[Err(WalkFault::NotCbfs)]);
     walks(&rt, 500, &[(0, &A)], &[Err(WalkFault::RegionShape)]);
+    refuses(&rt, &NUL_IN_ATTRIBUTES, DamageKind::Name);
+    refuses(&rt, &NULL_PAST_32_BITS, DamageKind::Extent);
+}
+
+/// A region of this size, which begins with the component `f`, is walked so.
+fn sized(rt: &(impl Abort + AllocGlobal), size: usize, want: &[Answer]) {
+    walks(rt, size, &[(0, &FULL)], want);
+}
+
+#[test]
+fn regions_have_multiples_of_64_bytes(rt: HostRuntime) {
+    let shape = Err(WalkFault::RegionShape);
+    let full = gives(0, 24, RAW, 64);
+    sized(&rt, 0, &[shape]);
+    sized(&rt, 63, &[shape]);
+    sized(&rt, 64, &[full, Ok(Step::End)]);
+    sized(&rt, 65, &[shape]);
+    sized(&rt, 127, &[shape]);
+    sized(&rt, 128, &[full, Ok(Step::Tail(64))]);
+}
+
+#[test]
+fn cells_have_multiples_of_64_bytes(rt: HostRuntime) {
+    let fuller = gives(0, 25, RAW, 128);
+    let end = Ok(Step::End);
+    let extent = Err(damaged(0, DamageKind::Extent));
+    walks(&rt, 128, &[(0, &FULLER)], &[fuller, end]);
+    walks(&rt, 64, &[(0, &FULLER)], &[extent]);
+    let tail = Ok(Step::Tail(128));
+    walks(&rt, 192, &[(0, &FULLER), (64, &A)], &[fuller, tail]);
 }
 
 // ---- searches, names and attributes
@@ -245,6 +301,33 @@ fn the_first_component_of_a_name_is_found(rt: HostRuntime) {
     finds(&rt, &[(0, &A), (64, &NULL_TOO_LONG)], b"a", a);
     finds(&rt, &[(0, &A), (64, &NULL_TOO_LONG)], b"z", extent);
     finds(&rt, &[(0, &NO_MAGIC)], b"a", Err(WalkFault::NotCbfs));
+}
+
+#[test]
+fn names_at_the_limits(rt: HostRuntime) {
+    let head = Head {
+        len: 0,
+        kind: RAW,
+        attributes_offset: 0,
+        offset: 280,
+    };
+    let span = 320;
+    let named = Ok(Some(Cell { at: 0, head, span }));
+    let parts: Parts = &[(0, &NAMED_255), (24, &LETTERS[..255]), (279, b"\0")];
+    finds(&rt, parts, &LETTERS[..255], named);
+    finds(&rt, parts, &LETTERS[..254], Ok(None));
+    let parts: Parts = &[(0, &NAMED_256), (24, &LETTERS), (280, b"\0")];
+    let damage = Err(damaged(0, DamageKind::Name));
+    finds(&rt, parts, &LETTERS[..255], damage);
+    let head = Head {
+        len: 10,
+        kind: RAW,
+        attributes_offset: 27,
+        offset: 40,
+    };
+    let span = 64;
+    let named = Ok(Some(Cell { at: 0, head, span }));
+    finds(&rt, &[(0, &NUL_BEFORE_ATTRIBUTES)], b"nn", named);
 }
 
 /// The whole of a device, and the component of this name there.
@@ -302,6 +385,59 @@ fn attributes_are_read(rt: HostRuntime) {
     has_attribute(&rt, &PACKED_OTHERWISE, 7, AttrHead::COMPRESSION);
     has_attribute(&rt, &UNPACKED, 0, AttrHead::COMPRESSION);
     has_attribute(&rt, &OTHER_ATTRIBUTE, 0, 0x1234);
+}
+
+/// The value of compression of the component `p`, or why there is none.
+fn packing_of<F: Flash>(rt: &impl Abort, paged: &mut Paged<F>) -> Result<u32, WalkFault> {
+    let region = whole(rt, paged);
+    let cell = match find(paged, region, b"p") {
+        Ok(cell) => cell.expect(rt, "a component"),
+        Err(fault) => return Err(fault),
+    };
+    Ok(packing(paged, region, &cell).expect(rt, "a value"))
+}
+
+/// The component `p` without content, with these attributes up to its end, has this value of compression.
+fn lists(rt: &(impl Abort + AllocGlobal), list: &[u8], want: Result<u32, WalkFault>) {
+    assert!(rt; list.len() <= 215);
+    let offset = [list.len() as u8 + 40];
+    let parts: Parts = &[(0, &PACKED), (8, &[0; 4]), (23, &offset), (40, list)];
+    let mut paged = Paged::new(device_with(rt, 512, parts));
+    equal(rt, &(list, packing_of(rt, &mut paged)), &(list, want));
+}
+
+#[test]
+fn attributes_at_the_limits(rt: HostRuntime) {
+    let wrong = Err(damaged(0, DamageKind::AttrLength));
+    lists(&rt, b"", Ok(0));
+    lists(&rt, b"\0\0\x12\x34\0\0\0\x08", Ok(0));
+    lists(&rt, b"\0\0\x12\x34\0\0\0\x07", wrong);
+    lists(&rt, b"\0\0\x12\x34\0\0\0\x09", wrong);
+    lists(&rt, b"\0\0\x12\x34\0\0\0\x09.", Ok(0));
+    lists(&rt, b"BCZL\0\0\0\x10\0\0\0\x02\0\0\0\0", Ok(2));
+    lists(&rt, b"BCZL\0\0\0\x0f\0\0\0\x02\0\0\0\0", wrong);
+    lists(&rt, b"BCZL\0\0\0\x11\0\0\0\x02\0\0\0\0", wrong);
+    lists(&rt, b"hsaH\0\0\0\x0c\0\0\0\x02", Ok(0));
+    lists(&rt, b"hsaH\0\0\0\x0b\0\0\0\x02", wrong);
+    lists(&rt, b"hsaH\xff\xff\xff\xff\0\0\0\x02", wrong);
+}
+
+/// Fewer than eight bytes, or a tag that is no attribute, end the list, whatever follows.
+#[test]
+fn lists_end_at_the_limits(rt: HostRuntime) {
+    let wrong = Err(damaged(0, DamageKind::AttrLength));
+    lists(&rt, b"BCZL\0\0\0", Ok(0));
+    lists(&rt, b"BCZL\0\0\0\x07", wrong);
+    lists(&rt, b"\0\0\0\0\0\0\0\x01", Ok(0));
+    lists(&rt, b"\0\0\0\x01\0\0\0\x01", wrong);
+    lists(&rt, b"\xff\xff\xff\xff\xff\xff\xff\xff", Ok(0));
+    lists(&rt, b"\xff\xff\xff\xfe\xff\xff\xff\xff", wrong);
+    let unused = b"\0\0\0\0\0\0\0\x08BCZL\0\0\0\x10\0\0\0\x01\0\0\0\0";
+    lists(&rt, unused, Ok(0));
+    let other = b"\0\0\0\x01\0\0\0\x08BCZL\0\0\0\x10\0\0\0\x01\0\0\0\0";
+    lists(&rt, other, Ok(1));
+    let first = b"BCZL\0\0\0\x10\0\0\0\0\0\0\0\0BCZL\0\0\0\x10\0\0\0\x01\0\0\0\0";
+    lists(&rt, first, Ok(0));
 }
 
 // ---- devices that lie or fail
