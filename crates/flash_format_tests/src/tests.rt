@@ -1,5 +1,4 @@
-//! Bytes from outside through each public function, and the names of all types. The limits of the checks stand as
-//! proved examples beside the definitions.
+//! Bytes from outside through each public function, on both sides of each limit, and the names of all types.
 use flash_format::{
     Area, AttrHead, DamageKind, Digest, Extent, FmapHead, Head, LONGEST_FRONT, Meta, attr_len,
     digest_text, digits_value, empty_header, meta_len, read_number, type_name, type_number,
@@ -23,6 +22,10 @@ FLASH\0\0\0\0\0\0\0\0\0\0\0\0\0\0\0\0\0\0\0\0\0\0\0\0\0\0\0\x03\x00";
 /// An area of that map: the last 3072 bytes, read-only.
 const REST: [u8; 42] = *b"\x00\x04\x00\x00\x00\x0c\x00\x00\
 REST\0\0\0\0\0\0\0\0\0\0\0\0\0\0\0\0\0\0\0\0\0\0\0\0\0\0\0\0\x04\x00";
+
+/// An area whose name has 32 bytes and no NUL.
+const FULL_NAME: [u8; 42] = *b"\x00\x04\x00\x00\x00\x0c\x00\x00\
+01234567890123456789012345678901\x08\x00";
 
 /// Two values are equal. A call is proved in a fraction of the time of an assertion.
 fn equal<T: PartialEq + Debug>(rt: &impl Abort, left: &T, right: &T) {
@@ -59,6 +62,9 @@ fn an_entry_has_a_head(rt: HostRuntime) {
     let mut other = FRESH;
     other[0] = 0;
     equal(&rt, &Head::read(&other), &None);
+    let mut other = FRESH;
+    other[7] = b'F';
+    equal(&rt, &Head::read(&other), &None);
 }
 
 #[test]
@@ -88,6 +94,59 @@ fn a_head_is_checked(rt: HostRuntime) {
     equal(&rt, &plain(RAW, 473).check(512), &Err(DamageKind::Extent));
 }
 
+/// The head with these four numbers after its magic: the length, the type, and where the attributes and the content begin.
+fn head_with(numbers: &[u32; 4]) -> [u8; 24] {
+    let mut bytes = FRESH;
+    for (place, number) in bytes[8..].chunks_exact_mut(4).zip(numbers) {
+        place.copy_from_slice(&number.to_be_bytes());
+    }
+    bytes
+}
+
+/// The entry with this head, and so many bytes up to the region's end, has such a cell, or this is wrong.
+fn checks(rt: &impl Abort, numbers: [u32; 4], left: u64, want: Result<u64, DamageKind>) {
+    let head = Head::read(&head_with(&numbers)).expect(rt, "a head");
+    let span = head.check(left).map(|extent| extent.span);
+    equal(rt, &(numbers, span), &(numbers, want));
+}
+
+#[test]
+fn heads_of_components_at_the_limits(rt: HostRuntime) {
+    let offset = Err(DamageKind::Offset);
+    checks(&rt, [0, RAW, 0, 24], 64, offset);
+    checks(&rt, [0, RAW, 0, 25], 64, Ok(64));
+    checks(&rt, [0, 1, 0, 24], 64, offset);
+    checks(&rt, [0, 0xffff_fffe, 0, 24], 64, offset);
+    let attributes = Err(DamageKind::AttrOffset);
+    checks(&rt, [0, RAW, 1, 40], 64, attributes);
+    checks(&rt, [0, RAW, 24, 40], 64, attributes);
+    checks(&rt, [0, RAW, 25, 40], 64, Ok(64));
+    checks(&rt, [0, RAW, 40, 40], 64, Ok(64));
+    checks(&rt, [0, RAW, 41, 40], 64, attributes);
+    let extent = Err(DamageKind::Extent);
+    checks(&rt, [24, RAW, 0, 40], 64, Ok(64));
+    checks(&rt, [25, RAW, 0, 40], 64, extent);
+    checks(&rt, [25, RAW, 0, 40], 128, Ok(128));
+    // Sums of 2^32, and of 31 more.
+    checks(&rt, [0xffff_ffd8, RAW, 0, 40], 64, extent);
+    checks(&rt, [0xffff_fff7, RAW, 0, 40], 64, extent);
+}
+
+#[test]
+fn heads_of_free_space_at_the_limits(rt: HostRuntime) {
+    let offset = Err(DamageKind::Offset);
+    checks(&rt, [0, NULL, 0, 23], 64, offset);
+    checks(&rt, [0, NULL, 0, 24], 64, Ok(64));
+    checks(&rt, [0, 0, 0, 23], 64, offset);
+    checks(&rt, [0, 0, 0, 24], 64, Ok(64));
+    checks(&rt, [0, NULL, 1, 24], 64, Ok(64));
+    checks(&rt, [0, NULL, 25, 24], 64, Ok(64));
+    let extent = Err(DamageKind::Extent);
+    checks(&rt, [40, NULL, 0, 24], 64, Ok(64));
+    checks(&rt, [41, NULL, 0, 24], 64, extent);
+    checks(&rt, [0xffff_ffe8, NULL, 0, 24], 64, extent);
+}
+
 #[test]
 fn an_attribute_has_a_head(rt: HostRuntime) {
     let head = AttrHead {
@@ -113,6 +172,28 @@ fn an_attribute_has_a_head(rt: HostRuntime) {
     );
 }
 
+/// The attribute that these bytes begin, with so many bytes up to the content, is none, or its length is wrong.
+fn is_attribute(rt: &impl Abort, bytes: &[u8; 8], left: u64, unused: bool, wrong: bool) {
+    let head = AttrHead::read(bytes);
+    let found = (bytes, head.is_unused(), head.has_bad_len(left));
+    equal(rt, &found, &(bytes, unused, wrong));
+}
+
+#[test]
+fn attributes_at_the_limits(rt: HostRuntime) {
+    is_attribute(&rt, b"\0\0\x12\x34\0\0\0\x08", 8, false, false);
+    is_attribute(&rt, b"\0\0\x12\x34\0\0\0\x07", 8, false, true);
+    is_attribute(&rt, b"\0\0\x12\x34\0\0\0\x09", 8, false, true);
+    is_attribute(&rt, b"BCZL\0\0\0\x10", 16, false, false);
+    is_attribute(&rt, b"BCZL\0\0\0\x0f", 16, false, true);
+    is_attribute(&rt, b"hsaH\0\0\0\x0c", 12, false, false);
+    is_attribute(&rt, b"hsaH\0\0\0\x0b", 12, false, true);
+    is_attribute(&rt, b"\0\0\0\0\0\0\0\x08", 8, true, false);
+    is_attribute(&rt, b"\0\0\0\x01\0\0\0\x08", 8, false, false);
+    is_attribute(&rt, b"\xff\xff\xff\xff\0\0\0\x08", 8, true, false);
+    is_attribute(&rt, b"\xff\xff\xff\xfe\0\0\0\x08", 8, false, false);
+}
+
 #[test]
 fn a_map_has_a_head(rt: HostRuntime) {
     let head = FmapHead {
@@ -133,6 +214,36 @@ fn a_map_has_a_head(rt: HostRuntime) {
     equal(&rt, &FmapHead::read(&other), &None);
 }
 
+/// The head of a map with these bytes of MAP changed is valid where so many bytes are left.
+fn maps(rt: &impl Abort, at: usize, bytes: &[u8], left: u64, valid: bool) {
+    let mut map = MAP;
+    for (place, byte) in map.iter_mut().skip(at).zip(bytes) {
+        *place = *byte;
+    }
+    let head = FmapHead::read(&map).expect(rt, "a signature");
+    equal(rt, &(at, bytes, head.is_valid(left)), &(at, bytes, valid));
+}
+
+/// The major version stands at 8, the name at 22 and the number of areas at 54.
+#[test]
+fn maps_at_the_limits(rt: HostRuntime) {
+    maps(&rt, 8, b"\0", 182, false);
+    maps(&rt, 8, b"\x02", 182, false);
+    maps(&rt, 8, b"\x01\xff", 182, true);
+    maps(&rt, 22, b"\x20", 182, false);
+    maps(&rt, 22, b"\x21", 182, true);
+    maps(&rt, 22, b"\x7e", 182, true);
+    maps(&rt, 22, b"\x7f", 182, false);
+    maps(&rt, 22, b"\0", 182, true);
+    maps(&rt, 22, b"FLASH\0 ", 182, true);
+    maps(&rt, 22, b"0123456789012345678901234567890", 182, true);
+    maps(&rt, 22, b"01234567890123456789012345678901", 182, false);
+    maps(&rt, 54, b"\0\0", 56, true);
+    maps(&rt, 54, b"\0\0", 55, false);
+    maps(&rt, 54, b"\xff\xff", 2_752_526, true);
+    maps(&rt, 54, b"\xff\xff", 2_752_525, false);
+}
+
 #[test]
 fn a_map_has_areas(rt: HostRuntime) {
     let area = Area {
@@ -146,6 +257,11 @@ fn a_map_has_areas(rt: HostRuntime) {
     same_bytes(&rt, area.text(), b"REST");
     equal(&rt, &area.name_is(b"REST"), &true);
     equal(&rt, &area.name_is(b"RES"), &false);
+    let full = Area::read(&FULL_NAME);
+    same_bytes(&rt, full.text(), b"01234567890123456789012345678901");
+    let whole = full.name_is(b"01234567890123456789012345678901");
+    let less = full.name_is(b"0123456789012345678901234567890");
+    equal(&rt, &(whole, less), &(true, false));
 }
 
 /// A component of the type raw.
@@ -183,6 +299,14 @@ fn a_component_has_a_front(rt: HostRuntime) {
     has_front(
         &rt,
         &Meta {
+            name: b"abc",
+            ..meta
+        },
+        b"LARCHIVE\0\0\0\x0a\0\0\0\x50\0\0\0\0\0\0\0\x1cabc\0",
+    );
+    has_front(
+        &rt,
+        &Meta {
             name: b"abcd",
             gap: 2,
             ..meta
@@ -201,6 +325,38 @@ fn a_front_has_a_hash(rt: HostRuntime) {
         &described(b"g", 0, Some(&digest)),
         b"LARCHIVE\0\0\0\0\0\0\0\x50\0\0\0\x1c\0\0\0\x68g\0\0\0hsaH\0\0\0\x4c\0\0\0\x03\
 0123456789abcdef0123456789abcdef0123456789abcdef0123456789abcdef",
+    );
+}
+
+/// A name of 127 bytes, and the front with it.
+const LONG_NAME: [u8; 127] = [b'n'; 127];
+
+const LONG_NAMED: [u8; 152] = *b"LARCHIVE\0\0\0\0\0\0\0\x50\0\0\0\0\0\0\0\x98\
+nnnnnnnnnnnnnnnnnnnnnnnnnnnnnnnnnnnnnnnnnnnnnnnnnnnnnnnnnnnnnnnn\
+nnnnnnnnnnnnnnnnnnnnnnnnnnnnnnnnnnnnnnnnnnnnnnnnnnnnnnnnnnnnnnn\0";
+
+#[test]
+fn the_longest_front_has_291_bytes(rt: HostRuntime) {
+    equal(&rt, &LONGEST_FRONT, &291);
+    has_front(&rt, &described(&LONG_NAME, 0, None), &LONG_NAMED);
+    let digest = Digest::Sha512([0x61; 64]);
+    let meta = described(&LONG_NAME, 0, Some(&digest));
+    has_length(&rt, &Meta { gap: 63, ..meta }, 291);
+}
+
+fn has_length(rt: &impl Abort, meta: &Meta<'_>, len: usize) {
+    assert!(rt; meta.name.len() <= 127 && meta.gap < 64);
+    equal(rt, &write_meta(meta, &mut [0; LONGEST_FRONT]), &len);
+}
+
+#[test]
+fn a_front_has_a_hash_of_sha_256(rt: HostRuntime) {
+    let digest = Digest::Sha256(*b"0123456789abcdef0123456789abcdef");
+    has_front(
+        &rt,
+        &described(b"f", 3, Some(&digest)),
+        b"LARCHIVE\0\0\0\x03\0\0\0\x50\0\0\0\x1c\0\0\0\x48f\0\0\0hsaH\0\0\0\x2c\0\0\0\x02\
+0123456789abcdef0123456789abcdef",
     );
 }
 
@@ -230,6 +386,20 @@ fn types_have_numbers(rt: HostRuntime) {
     numbered(&rt, "0x1Aa", Some(0x1aa));
     numbered(&rt, "4294967295", Some(0xffff_ffff));
     numbered(&rt, "4294967296", None);
+    numbered(&rt, "0xffffffff", Some(0xffff_ffff));
+    numbered(&rt, "0x100000000", None);
+    numbered(&rt, "000000000000000000009", Some(9));
+    numbered(&rt, "0x00000000000000AFaf", Some(0xafaf));
+    numbered(&rt, "0x0g", None);
+    numbered(&rt, "0x0G", None);
+    numbered(&rt, "0x0@", None);
+    numbered(&rt, "0x0`", None);
+    numbered(&rt, "0X50", None);
+    numbered(&rt, "5a", None);
+    numbered(&rt, "5:", None);
+    numbered(&rt, "5/", None);
+    numbered(&rt, "1K", None);
+    numbered(&rt, " 5", None);
     numbered(&rt, "", None);
     numbered(&rt, "0x", None);
     numbered(&rt, "+1", None);
