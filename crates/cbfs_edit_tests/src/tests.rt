@@ -69,6 +69,16 @@ const B_356: [u8; 28] = *b"LARCHIVE\0\0\x01\x64\0\0\0\x50\0\0\0\0\0\0\0\x1cb\0\0
 /// What stands before the 9000 bytes of a component `b`.
 const B_9000: [u8; 28] = *b"LARCHIVE\0\0\x23\x28\0\0\0\x50\0\0\0\0\0\0\0\x1cb\0\0\0";
 
+/// What stands before the two bytes of a component `b`, but for a gap of 34.
+const B_2: [u8; 28] = *b"LARCHIVE\0\0\0\x02\0\0\0\x50\0\0\0\0\0\0\0\x3eb\0\0\0";
+
+/// What stands before the ten bytes of a component whose name has 127 bytes.
+const NAMED_127: [u8; 152] = *b"LARCHIVE\0\0\0\x0a\0\0\0\x50\0\0\0\0\0\0\0\x98\
+nnnnnnnnnnnnnnnnnnnnnnnnnnnnnnnnnnnnnnnnnnnnnnnnnnnnnnnnnnnnnnnn\
+nnnnnnnnnnnnnnnnnnnnnnnnnnnnnnnnnnnnnnnnnnnnnnnnnnnnnnnnnnnnnnn\0";
+
+const LETTERS: [u8; 128] = [b'n'; 128];
+
 /// Headers of empty entries at a region's end, by their sizes.
 const LAST_192: [u8; 28] = *b"LARCHIVE\0\0\0\xa0\xff\xff\xff\xff\0\0\0\0\0\0\0\x1c\0\0\0\0";
 
@@ -109,6 +119,12 @@ pub const TWICE: Parts = &[(0, &X1), (64, &X2), (128, &NULL_340)];
 pub const ONCE: Parts = &[(0, &EMPTY_64), (64, &X2), (128, &NULL_340)];
 
 pub const FRESH: Parts = &[(0, &EMPTY_512)];
+
+/// A fresh region with other last four bytes.
+const LAST_FOUR: Parts = &[(0, &EMPTY_512), (508, b"last")];
+
+/// Free space of 384 bytes, from 64 on, and what is no entry after it.
+const BEFORE_TAIL: Parts = &[(0, &A), (64, &NULL_344), (460, b"tail")];
 
 pub const WITH_A: Parts = &[(0, &A), (64, &LAST_448)];
 
@@ -265,6 +281,7 @@ fn a_region_is_formatted(rt: HostRuntime) {
 pub struct New<'a> {
     name: &'a [u8],
     kind: u32,
+    hash: HashChoice,
     spot: Spot,
     pub content: &'a [u8],
 }
@@ -274,6 +291,7 @@ pub fn b(spot: Spot, content: &[u8]) -> New<'_> {
     New {
         name: b"b",
         kind: 0x50,
+        hash: HashChoice::Plain,
         spot,
         content,
     }
@@ -282,6 +300,7 @@ pub fn b(spot: Spot, content: &[u8]) -> New<'_> {
 pub const NEW_A: New = New {
     name: b"a",
     kind: 0x50,
+    hash: HashChoice::Plain,
     spot: Spot::First,
     content: b"0123456789",
 };
@@ -299,8 +318,9 @@ pub fn add_to<F: Flash, S: Source>(
     source: &mut S,
 ) -> Result<Placed, EditFault> {
     let region = whole(rt, paged);
-    let plain = HashChoice::Plain;
-    add(paged, region, new.name, new.kind, plain, new.spot, source)
+    add(
+        paged, region, new.name, new.kind, new.hash, new.spot, source,
+    )
 }
 
 /// An addition to a region of 512 bytes answers this, and leaves these bytes.
@@ -347,11 +367,29 @@ fn a_component_is_put_where_it_is_wanted(rt: HostRuntime) {
 
 #[test]
 fn what_is_after_the_entries_is_kept(rt: HostRuntime) {
-    let before: Parts = &[(0, &A), (64, &NULL_344), (460, b"tail")];
     let after: Parts = &[(0, &A), (64, &B_356), (92, &MANY), (460, b"tail")];
-    adds(&rt, b(Spot::First, &MANY), before, placed(64, 92), after);
-    let longer = b(Spot::First, &ONE_TOO_MANY);
-    refuses(&rt, longer, before, EditFault::NoSpace);
+    fills(&rt, Spot::First, after);
+    fills(&rt, Spot::Aligned(4), after);
+    fills(&rt, Spot::Fixed(92), after);
+}
+
+/// The content has room before the tail, and would not with one byte more.
+fn fills(rt: &(impl Abort + AllocGlobal), spot: Spot, after: Parts) {
+    let fits = b(spot, &MANY);
+    adds(rt, fits, BEFORE_TAIL, placed(64, 92), after);
+    let longer = b(spot, &ONE_TOO_MANY);
+    refuses(rt, longer, BEFORE_TAIL, EditFault::NoSpace);
+}
+
+/// The bytes before content that can't follow its metadata at once are 0xff, also among the last four.
+#[test]
+fn content_covers_some_of_the_last_four_bytes(rt: HostRuntime) {
+    let last: Parts = &[(0, &EMPTY_448), (448, &B_2), (510, b"QQ")];
+    let two = b(Spot::Fixed(510), b"QQ");
+    adds(&rt, two, FRESH, placed(448, 510), last);
+    adds(&rt, two, LAST_FOUR, placed(448, 510), last);
+    let longer = b(Spot::Fixed(510), b"QQQ");
+    refuses(&rt, longer, LAST_FOUR, EditFault::NoSpace);
 }
 
 #[test]
@@ -363,12 +401,6 @@ fn an_addition_that_is_refused_changes_nothing(rt: HostRuntime) {
         ..NEW_A
     };
     refuses(&rt, nameless, FRESH, EditFault::BadName);
-    let null = New {
-        name: b"c",
-        kind: 0xffff_ffff,
-        ..NEW_A
-    };
-    refuses(&rt, null, FRESH, EditFault::BadType);
     refuses(&rt, b(Spot::Aligned(0), b""), FRESH, EditFault::BadAlign);
     let damage = EditFault::Damaged {
         at: 64,
@@ -376,9 +408,49 @@ fn an_addition_that_is_refused_changes_nothing(rt: HostRuntime) {
     };
     let damaged: Parts = &[(0, &A), (64, &TOO_LONG)];
     refuses(&rt, b(Spot::First, b""), damaged, damage);
+    refuses(&rt, NEW_A, damaged, damage);
+    let crowded = b(Spot::First, &LONG);
+    refuses(&rt, crowded, WITH_A, EditFault::NoSpace);
+    let there = New {
+        name: b"a",
+        ..crowded
+    };
+    refuses(&rt, there, WITH_A, EditFault::Exists);
 }
 
-/// An addition of `n` bytes to a fresh region of 512 bytes answers this, and leaves these last four bytes.
+/// A component of this name and this type is added to a fresh region, or is refused so.
+fn named(
+    rt: &(impl Abort + AllocGlobal),
+    name: &[u8],
+    kind: u32,
+    want: Result<Placed, EditFault>,
+    after: Parts,
+) {
+    let new = New {
+        name,
+        kind,
+        ..NEW_A
+    };
+    adds(rt, new, FRESH, want, after);
+}
+
+#[test]
+fn names_and_types_at_the_limits(rt: HostRuntime) {
+    let long: Parts = &[(0, &NAMED_127), (152, NEW_A.content), (192, &LAST_320)];
+    named(&rt, &LETTERS[..127], 0x50, placed(0, 152), long);
+    let bad = Err(EditFault::BadName);
+    named(&rt, &LETTERS, 0x50, bad, FRESH);
+    named(&rt, b"a\0", 0x50, bad, FRESH);
+    let first: Parts = &[(0, &A), (15, b"\x01"), (64, &LAST_448)];
+    named(&rt, b"a", 1, placed(0, 28), first);
+    let last: Parts = &[(0, &A), (12, b"\xff\xff\xff\xfe"), (64, &LAST_448)];
+    named(&rt, b"a", 0xffff_fffe, placed(0, 28), last);
+    let bad = Err(EditFault::BadType);
+    named(&rt, b"a", 0, bad, FRESH);
+    named(&rt, b"a", 0xffff_ffff, bad, FRESH);
+}
+
+/// An addition of `n` bytes to a region of 512 bytes, all free, answers this, and leaves these last four bytes.
 fn takes(
     rt: &(impl Abort + AllocGlobal),
     spot: Spot,
@@ -387,11 +459,22 @@ fn takes(
     last: &[u8; 4],
 ) {
     let content = LONG.get(..n).unwrap_or(&LONG);
-    let mut source = source_of(rt, content);
-    let mut paged = Paged::new(device_with(rt, 512, FRESH));
-    let answer = add_to(rt, &mut paged, b(spot, content), &mut source);
+    let device = device_with(rt, 512, LAST_FOUR);
+    let device = after_addition(rt, device, b(spot, content), want);
+    ends_with(rt, device.bytes(), last);
+}
+
+/// The device after an addition that answers this.
+fn after_addition(
+    rt: &impl Abort,
+    device: MemFlash,
+    new: New,
+    want: Result<Placed, EditFault>,
+) -> MemFlash {
+    let mut paged = Paged::new(device);
+    let answer = add_to(rt, &mut paged, new, &mut source_of(rt, new.content));
     equal(rt, &answer, &want);
-    ends_with(rt, paged.flash().bytes(), last);
+    paged.into_flash()
 }
 
 /// The bytes of a region of 512 end with these.
@@ -402,15 +485,57 @@ fn ends_with(rt: &impl Abort, bytes: &[u8], last: &[u8; 4]) {
 #[test]
 fn content_is_put_where_it_has_room(rt: HostRuntime) {
     let none = Err(EditFault::NoSpace);
-    let kept = &[0xff; 4];
-    let covered = &[0x61; 4];
+    let kept = b"last";
+    let covered = b"aaaa";
+    let gap = &[0xff; 4];
     takes(&rt, Spot::First, 480, placed(0, 28), kept);
     takes(&rt, Spot::First, 481, none, kept);
+    takes(&rt, Spot::Aligned(1), 480, placed(0, 28), kept);
+    takes(&rt, Spot::Aligned(1), 481, none, kept);
+    takes(&rt, Spot::Aligned(4), 480, placed(0, 28), kept);
+    takes(&rt, Spot::Aligned(4), 481, none, kept);
+    takes(&rt, Spot::Aligned(29), 479, placed(0, 29), kept);
+    takes(&rt, Spot::Aligned(29), 480, none, kept);
+    takes(&rt, Spot::Aligned(64), 444, placed(0, 64), kept);
+    takes(&rt, Spot::Aligned(64), 445, none, kept);
+    takes(&rt, Spot::Aligned(480), 28, placed(448, 480), kept);
+    takes(&rt, Spot::Aligned(480), 29, none, kept);
+    takes(&rt, Spot::Aligned(508), 0, placed(448, 508), kept);
+    takes(&rt, Spot::Aligned(509), 0, none, kept);
+    takes(&rt, Spot::Fixed(508), 0, placed(448, 508), kept);
+    takes(&rt, Spot::Fixed(507), 2, placed(448, 507), b"aast");
+    takes(&rt, Spot::Fixed(512), 0, placed(448, 512), gap);
+    takes(&rt, Spot::Fixed(513), 0, none, kept);
     takes(&rt, Spot::Fixed(40), 472, placed(0, 40), covered);
     takes(&rt, Spot::Fixed(40), 473, none, kept);
     takes(&rt, Spot::Fixed(28), 484, placed(0, 28), covered);
     takes(&rt, Spot::Fixed(28), 485, none, kept);
     takes(&rt, Spot::Fixed(27), 0, none, kept);
+}
+
+/// An addition of `n` bytes with a digest to a fresh region of 512 bytes answers this.
+fn stores(
+    rt: &(impl Abort + AllocGlobal),
+    hash: HashChoice,
+    n: usize,
+    want: Result<Placed, EditFault>,
+) {
+    let content = LONG.get(..n).unwrap_or(&LONG);
+    let new = New {
+        hash,
+        ..b(Spot::First, content)
+    };
+    let device = device_with(rt, 512, LAST_FOUR);
+    ends_with(rt, after_addition(rt, device, new, want).bytes(), b"last");
+}
+
+#[test]
+fn a_digest_takes_room(rt: HostRuntime) {
+    let none = Err(EditFault::NoSpace);
+    stores(&rt, HashChoice::Sha256, 436, placed(0, 72));
+    stores(&rt, HashChoice::Sha256, 437, none);
+    stores(&rt, HashChoice::Sha512, 404, placed(0, 104));
+    stores(&rt, HashChoice::Sha512, 405, none);
 }
 
 // ---- edits that stop
