@@ -252,6 +252,32 @@ fn a_region_is_refused_in_order(rt: HostRuntime) {
     look_up(&rt, 768, b"COREBOOT", Err(StoreFault::RegionOutside));
     look_up(&rt, 768, b"NONE", Err(StoreFault::NoRegion));
     look_up(&rt, 100, b"COREBOOT", Err(StoreFault::NoFmap));
+    look_up(&rt, 4095, b"COREBOOT", Err(StoreFault::RegionOutside));
+    look_up(&rt, 140, b"COREBOOT", Err(StoreFault::RegionOutside));
+    look_up(&rt, 139, b"COREBOOT", Err(StoreFault::NoFmap));
+    look_up(&rt, 4096, b"COREBOO", Err(StoreFault::NoRegion));
+    look_up(&rt, 4096, b"COREBOOT\0", Err(StoreFault::NoRegion));
+}
+
+/// A map of three areas: COREBOOT of 1024 bytes, COREBOOT again, and one with a name of 32 bytes that begins 512 bytes
+/// before 2^32 and has 768.
+const ODD_MAP: [u8; 182] = *b"__FMAP__\x01\x01\0\0\0\xff\0\0\0\0\0\x10\0\0\
+FLASH\0\0\0\0\0\0\0\0\0\0\0\0\0\0\0\0\0\0\0\0\0\0\0\0\0\0\0\x03\0\
+\0\x04\0\0\0\x04\0\0COREBOOT\0\0\0\0\0\0\0\0\0\0\0\0\0\0\0\0\0\0\0\0\0\0\0\0\0\0\
+\0\x08\0\0\0\x08\0\0COREBOOT\0\0\0\0\0\0\0\0\0\0\0\0\0\0\0\0\0\0\0\0\0\0\0\0\0\0\
+\0\xfe\xff\xff\0\x03\0\001234567890123456789012345678901\0\0";
+
+#[test]
+fn areas_at_the_limits(rt: HostRuntime) {
+    let first = Ok((0x400, 0x400));
+    let full = b"01234567890123456789012345678901";
+    let outside = Err(StoreFault::RegionOutside);
+    let none = Err(StoreFault::NoRegion);
+    look_up_in(&rt, &ODD_MAP, 4096, b"COREBOOT", first);
+    look_up_in(&rt, &ODD_MAP, 2048, b"COREBOOT", first);
+    look_up_in(&rt, &ODD_MAP, 2047, b"COREBOOT", outside);
+    look_up_in(&rt, &ODD_MAP, 4096, full, outside);
+    look_up_in(&rt, &ODD_MAP, 4096, &full[..31], none);
 }
 
 /// The region of a name in so many bytes that begin with the map.
@@ -261,7 +287,17 @@ fn look_up(
     word: &[u8],
     expected: Result<(u64, u64), StoreFault>,
 ) {
-    let mut paged = Paged::new(device(rt, len, 0, &MAP));
+    look_up_in(rt, &MAP, len, word, expected);
+}
+
+fn look_up_in(
+    rt: &(impl Abort + AllocGlobal),
+    map: &[u8],
+    len: usize,
+    word: &[u8],
+    expected: Result<(u64, u64), StoreFault>,
+) {
+    let mut paged = Paged::new(device(rt, len, 0, map));
     let answer = region(&mut paged, word).map(|found| (found.start(), found.size()));
     equal(rt, &answer, &expected);
 }
