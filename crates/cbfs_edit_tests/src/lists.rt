@@ -1,5 +1,5 @@
 //! Lists of edits, on a device in memory and on one that refuses a single call.
-ghost use Rattle.std.specs.Prelude.{◌≡◌, ◌+◌, ◌<◌, ◌≤◌, true, IsTrue};
+ghost use Rattle.std.specs.Prelude.{◌≡◌, ◌+◌, true, false, IsTrue};
 
 use crate::tests::{
     A, EMPTY_512, FRESH, MAGIC_20, Parts, device_with, equal, holds, leaves, part_of, source_of,
@@ -112,8 +112,8 @@ impl FailOnce {
     fn is_due(&mut self) -> bool
         ensures device { self.new.device ≡ self.old.device }
         ensures counted { self.new.calls ≡ self.old.calls + 1 }
-        ensures faults { self.old.faults ≤ self.new.faults }
-        ensures due { IsTrue result → self.old.faults < self.new.faults }
+        ensures due { IsTrue result → self.new.faults ≡ self.old.faults + 1 }
+        ensures passed { result ≡ false → self.new.faults ≡ self.old.faults }
     {
         self.calls.tick();
         let due = self.left == 1;
