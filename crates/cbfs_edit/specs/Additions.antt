@@ -85,7 +85,7 @@ pub record AddsOne (x : List ℕ) (new : NewComponent) (place : Place) : Type 0 
       (made_component place.header new.name new.kind new.digest new.content (made_at x new place)) (added x new place)
   pub content : slice_range (added x new place) place.content (place.content + length new.content) ≡ new.content
 
--- from here on the region's last bytes are kept: its last four, but for those that the content covers
+-- from here on the region's bytes are kept: of its last four those after the content's end
 abbrev pub kept_from : List ℕ → NewComponent → Place → ℕ
 kept_from x new place = max (place.content + length new.content) (length x - 4)
 

@@ -230,8 +230,8 @@ fn attribute_len(hash: HashChoice) -> usize
 /// Adds a component whose content is the whole source, and answers where it stands.
 ///
 /// It is put into the first free space that has room for it, at the least place there that the spot allows; an empty
-/// entry each is left of the free space before it and after it. The last four bytes of the region are kept, but for those that content
-/// with a fixed place covers.
+/// entry each is left of the free space before it and after it. Of the region's last four bytes those after the content's
+/// end are kept; only content with a fixed place reaches them.
 ///
 /// The refusals come in this order: a bad name, a bad type, a bad alignment, the region's size, no entry at its start, the
 /// first damaged entry, a component that has the name already, no space. A fault of the device or the source comes
