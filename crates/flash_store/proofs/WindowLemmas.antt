@@ -60,6 +60,12 @@ without_piece-true device Nothing window = window
 without_piece-true device (Window from bytes) window = window
 without_piece-true device (Piece bytes) window = tt
 
+-- what covers a range covers its parts
+pub Covers-part : (held : Held) (at n done size : ℕ) → done + size ≤ n → Covers held at n → Covers held (at + done) size
+Covers-part Nothing at n done size within covers = covers
+Covers-part (Window from bytes) at n done size within covers = (omega (arith, covers.0), omega (arith, covers.1, within))
+Covers-part (Piece bytes) at n done size within covers = covers
+
 pub HasRead-none : {F : Type 0} (facts : F → Device) (p : Pages F) → HasRead facts 0 0 p p
 HasRead-none facts p = record { device = Reads-none (facts p.device); window = λ h. h }
 

@@ -456,6 +456,7 @@ impl<F: Flash> Paged<F> {
         requires { at + n ≤ length (F.facts self.old.device).content }
 
         ensures after { HasRead F.facts ((n + 4095) / 4096) (faults_told by_device result) self.old self.new }
+        ensures free { Covers self.old.held at n → self.new ≡ self.old }
         ensures no_piece { HasNoPiece self.new.held }
         ensures dropped { IsErrOf result CopyFault.Device → self.new.held ≡ Nothing }
 
@@ -490,6 +491,7 @@ impl<F: Flash> Paged<F> {
         requires some { 0 < n }
 
         ensures after { HasRead F.facts 1 (faults_told by_device result) self.old self.new }
+        ensures free { Covers self.old.held at n → self.new ≡ self.old }
         ensures no_piece { HasNoPiece self.new.held }
         ensures dropped { IsErrOf result CopyFault.Device → self.new.held ≡ Nothing }
 
