@@ -61,6 +61,29 @@ fn texts_that_are_refused(rt: HostRuntime) {
     refused(&rt, "F{A 1 2", expected(6, Expected::SectionOrClose));
 }
 
+#[test]
+fn words_at_the_limits(rt: HostRuntime) {
+    refused(&rt, "\x1f", BadByte { at: 0 });
+    refused(&rt, "F\x0b", BadByte { at: 1 });
+    refused(&rt, "F \u{80}", BadByte { at: 2 });
+    refused(&rt, "F 0x1g", BadNumber { at: 2 });
+    refused(&rt, "F 00", BadNumber { at: 2 });
+    refused(&rt, "F 1KK", BadNumber { at: 2 });
+    refused(&rt, "F 1k", BadNumber { at: 2 });
+    refused(&rt, "F 0X1", BadNumber { at: 2 });
+    refused(&rt, "F 0x100000000", NumberTooLarge { at: 2 });
+    refused(&rt, "F 4194304K", NumberTooLarge { at: 2 });
+    refused(&rt, "F 4096M", NumberTooLarge { at: 2 });
+    size_is(&rt, "F 0xffffffff", 4_294_967_295);
+    size_is(&rt, "F 4194303K", 4_294_966_272);
+    size_is(&rt, "F 4095M", 4_293_918_720);
+    size_is(&rt, "F 0K", 0);
+    size_is(&rt, "F 0x1K", 1024);
+    at_the_limit(&rt, "", "!", 1, None);
+    at_the_limit(&rt, "", "~", 1, None);
+    at_the_limit(&rt, "F{A", " }", 1, None);
+}
+
 /// A text, and after it a piece of text so many times.
 fn repeated(alloc: Global, text: &str, piece: &str, times: u32) -> Result<Vec<u8>, AllocError> {
     let mut bytes = Vec::new(alloc);
@@ -120,6 +143,28 @@ fn layouts_that_are_refused(rt: HostRuntime) {
     let later = Outside { section: 4 };
     not_laid(&rt, "F 4K { A 1K { B C } FMAP 4K }", later);
     not_laid(&rt, "F 4K { A 1K {B 512 {C} D 1K} FMAP }", later);
+}
+
+/// The text has a layout.
+fn is_laid(rt: &(impl Abort + AllocGlobal), text: &str) {
+    let found = laid(rt.alloc(), text).err();
+    assert_eq!(rt; found, None, "{text:?}");
+}
+
+#[test]
+fn layouts_at_the_limits(rt: HostRuntime) {
+    is_laid(&rt, "F 4K { FMAP 140 A }");
+    not_laid(&rt, "F 4K { FMAP 139 A }", FmapTooSmall);
+    is_laid(&rt, "F 4K { FMAP 1K A 3K }");
+    not_laid(&rt, "F 4K { FMAP 1K A 3073 }", Outside { section: 2 });
+    is_laid(&rt, "F 4K { FMAP 1K A@1024 1K }");
+    not_laid(&rt, "F 4K { FMAP 1K A@1023 1K }", Overlap { section: 2 });
+    is_laid(&rt, "F 4K { FMAP 4095 A }");
+    not_laid(&rt, "F 4K { FMAP 4095 A 0 }", EmptySection { section: 2 });
+    is_laid(&rt, "F 4K { A FMAP@1K }");
+    not_laid(&rt, "F 4K { A B FMAP@1K }", Ambiguous { section: 2 });
+    not_laid(&rt, "F 4K { F 1K FMAP }", Duplicate { section: 1 });
+    not_laid(&rt, "FMAP 4K { A }", NoFmap);
 }
 
 /// Pushes the sections of a tree in preorder.
