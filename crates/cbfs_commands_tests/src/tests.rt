@@ -216,6 +216,10 @@ fn a_region_is_written_and_read(rt: HostRuntime) {
     answers(&rt, &mut paged, &WRITE, &[7; 512], Ok(()));
     writes(&rt, &mut paged, &READ, &[7; 512]);
     holds_image(&rt, &paged, WRITTEN);
+    let size = Err(Refusal::SourceSize);
+    answers(&rt, &mut paged, &WRITE, &[8; 511], size);
+    answers(&rt, &mut paged, &WRITE, &[8; 513], size);
+    holds_image(&rt, &paged, WRITTEN);
 }
 
 #[test]

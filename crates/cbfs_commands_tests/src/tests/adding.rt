@@ -27,7 +27,7 @@ const FRESH: [u8; 28] = *b"LARCHIVE\0\0\x01\xe0\xff\xff\xff\xff\0\0\0\0\0\0\0\x1
 const FRESH_384: [u8; 28] = *b"LARCHIVE\0\0\x01\x60\xff\xff\xff\xff\0\0\0\0\0\0\0\x1c\0\0\0\0";
 
 /// A component `c` of 72 bytes with an attribute of compression.
-const PACKED: [u8; 128] =
+pub const PACKED: [u8; 128] =
     *b"LARCHIVE\0\0\0\x48\0\0\0\x50\0\0\0\x28\0\0\0\x38c\0\0\0\0\0\0\0\0\0\0\0\0\0\0\0BCZL\0\0\0\x10\0\0\0\x01\0\0\x02\0\
 0123456789abcdefghijklmnopqrstuvwxyz0123456789abcdefghijklmnopqrstuvwxyz";
 

@@ -3,7 +3,8 @@
 use super::adding::{EMPTY, OTHER_MAP, first};
 use super::{
     A, COREBOOT, MAP, PRINT, Parts, answers, device_of, device_with, equal, file_holds, filled,
-    holds, holds_image, image_of, obeys_on_files, open_source, remove, runs, write_file, writes,
+    holds, holds_image, image_of, obeys_on_files, open_source, put, remove, runs, write_file,
+    writes,
 };
 use arrayvec::ArrayVec;
 use cbfs_commands::{Command, MOST_REGIONS, Refusal, create_size};
@@ -80,6 +81,55 @@ fn what_is_refused_leaves_the_image(rt: HostRuntime) {
     refuses(&rt, &[COREBOOT], &TOUCHING, Refusal::NoRegion);
     refuses(&rt, &[b"B"], &TOUCHING[..55], Refusal::TableBad);
     refuses(&rt, &[b"B"], &TOUCHING[..181], Refusal::TableBad);
+}
+
+/// A creation from TOUCHING with other bytes at a place is answered so.
+fn makes(
+    rt: &(impl Abort + AllocGlobal),
+    names: &[&[u8]],
+    change: (usize, &[u8]),
+    answer: Result<(), Refusal>,
+) {
+    let mut map = TOUCHING;
+    put(&mut map, change.0, change.1);
+    let mut paged = device_of(rt, USED);
+    answers(rt, &mut paged, &creation(names), &map, answer);
+}
+
+/// FMAP begins at 56 of the map, B at 98 and C at 140, each with its offset and its size.
+#[test]
+fn flashmaps_at_the_limits(rt: HostRuntime) {
+    let b: &[&[u8]] = &[b"B"];
+    let area = Err(Refusal::FmapArea);
+    makes(&rt, b, (60, b"\xb6\0"), Ok(()));
+    makes(&rt, b, (60, b"\xb5\0"), area);
+    makes(&rt, b, (56, b"\0\x0c"), Ok(()));
+    makes(&rt, b, (56, b"\x01\x0c"), area);
+    makes(&rt, b, (56, b"\0\xfc\xff\xff"), area);
+    makes(&rt, b, (64, b"fMAP"), area);
+    makes(&rt, b, (18, b"\x01\x10"), Err(Refusal::TableBad));
+    makes(&rt, b, (8, b"\x02"), Err(Refusal::TableBad));
+}
+
+#[test]
+fn regions_at_the_limits(rt: HostRuntime) {
+    let b: &[&[u8]] = &[b"B"];
+    let both: &[&[u8]] = &[b"B", b"C"];
+    let shape = Err(Refusal::RegionShape);
+    makes(&rt, b, (102, b"\xc0\x07"), Ok(()));
+    makes(&rt, b, (102, b"\xff\x07"), shape);
+    makes(&rt, b, (102, b"\x01\x08"), shape);
+    makes(&rt, b, (102, b"\x40\0"), Ok(()));
+    makes(&rt, b, (102, b"\0\0"), shape);
+    let overlap = Err(Refusal::FmapArea);
+    makes(&rt, b, (98, b"\xff\x03"), overlap);
+    makes(&rt, both, (140, b"\xff\x0b"), overlap);
+    makes(&rt, b, (140, b"\xff\x0b"), Ok(()));
+    makes(&rt, both, (140, b"\x01\x0c"), Err(Refusal::RegionOutside));
+    let past_32_bits = (98, b"\0\xfc\xff\xff".as_slice());
+    makes(&rt, b, past_32_bits, Err(Refusal::RegionOutside));
+    let missing: &[&[u8]] = &[b"B", b"B", b"X"];
+    makes(&rt, missing, (56, b"\0"), Err(Refusal::NoRegion));
 }
 
 #[test]

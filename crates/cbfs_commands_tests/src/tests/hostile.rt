@@ -1,8 +1,9 @@
 //! Images that are cut anywhere or have other numbers, and outputs, sources and devices that fail at each place in turn.
 
+use super::adding::PACKED;
 use super::{
-    COREBOOT, MAP, PRINT, READ, SHOWN, SMALL, Short, WRITE, damage, device_of, device_with, equal,
-    filled, image_of, put, runs, same_bytes,
+    COREBOOT, MAP, PRINT, Parts, READ, SHOWN, SMALL, Short, WRITE, damage, device_of, device_with,
+    equal, filled, image_of, put, runs, same_bytes,
 };
 use cbfs_commands::{Command, Refusal, run};
 use flash_format::DamageKind;
@@ -112,6 +113,9 @@ fn free_space_with_other_numbers(rt: HostRuntime) {
     changed(&rt, 64 + 20, 24, SHOWN, Ok(()));
     changed(&rt, 64 + 20, 44, SHOWN, Ok(()));
     changed(&rt, 64 + 20, 45, SHOWN_A, extent);
+    changed(&rt, 64 + 16, 1, SHOWN, Ok(()));
+    let deleted = b"a\t0x0\traw\t10\tnone\n(empty)\t0x40\tdeleted\t404\tnone\n";
+    changed(&rt, 64 + 12, 0, deleted, Ok(()));
     let mut image = image_of(&rt, SMALL);
     put(&mut image, 0x248, &[0xff; 4]);
     put(&mut image, 0x254, &[0xff; 4]);
@@ -134,6 +138,46 @@ fn a_component_with_other_numbers(rt: HostRuntime) {
     changed(&rt, 16, 25, b"", name);
     changed(&rt, 16, 40, SHOWN, Ok(()));
     changed(&rt, 16, 41, b"", attributes);
+}
+
+/// A component whose name has bytes that are escaped, and bytes that are just not.
+const ODD_NAME: [u8; 40] =
+    *b"LARCHIVE\0\0\0\x0a\0\0\x12\x34\0\0\0\0\0\0\0\x28 !\\[]~\x7f\xff\x01\0\0\0\0\0\0\0";
+
+/// The component `c` has this value of compression, which is printed so.
+fn packed(rt: &(impl Abort + AllocGlobal), value: &[u8; 4], shown: &[u8]) {
+    let parts: Parts = &[(0, &MAP), (0x200, &PACKED), (0x230, value)];
+    shows(rt, image_of(rt, parts), &PRINT, shown, Ok(()));
+}
+
+#[test]
+fn names_types_and_values_are_printed(rt: HostRuntime) {
+    let odd: Parts = &[(0, &MAP), (0x200, &ODD_NAME)];
+    let shown = b"\\x20!\\x5c[]~\\x7f\\xff\\x01\t0x0\t0x1234\t10\tnone\n";
+    shows(&rt, image_of(&rt, odd), &PRINT, shown, Ok(()));
+    packed(&rt, b"\0\0\0\0", b"c\t0x0\traw\t72\tnone\n");
+    packed(&rt, b"\0\0\0\x01", b"c\t0x0\traw\t72\tLZMA\n");
+    packed(&rt, b"\0\0\0\x02", b"c\t0x0\traw\t72\tLZ4\n");
+    packed(&rt, b"\0\0\0\x03", b"c\t0x0\traw\t72\t0x3\n");
+    packed(&rt, b"\x80\0\0\0", b"c\t0x0\traw\t72\t0x80000000\n");
+}
+
+/// Extracting the component `c` with this value of compression writes this.
+fn extracted(rt: &(impl Abort + AllocGlobal), value: u8, text: &[u8], answer: Result<(), Refusal>) {
+    let parts: Parts = &[(0, &MAP), (0x200, &PACKED), (0x233, &[value])];
+    let extract = Command::Extract {
+        region: COREBOOT,
+        name: b"c",
+    };
+    shows(rt, image_of(rt, parts), &extract, text, answer);
+}
+
+#[test]
+fn what_is_packed_is_not_extracted(rt: HostRuntime) {
+    let packed = Err(Refusal::Compressed);
+    extracted(&rt, 0, &PACKED[56..], Ok(()));
+    extracted(&rt, 1, b"", packed);
+    extracted(&rt, 3, b"", packed);
 }
 
 /// A command on the small image, into a writer that takes so many bytes a call and so many in all, writes this text.
