@@ -59,6 +59,21 @@ fn words_ask_for_a_new_image(rt: HostRuntime) {
 }
 
 #[test]
+fn sixteen_regions_are_taken(rt: HostRuntime) {
+    let regions = "A,B,C,D,E,F,G,H,I,J,K,L,M,N,O,P";
+    let words = ["img", "create", "-M", "t", "-r", regions];
+    let line = read_line(rt.alloc(), &words).expect(&rt, "a line");
+    creates(
+        &rt,
+        &line,
+        &[
+            b"A", b"B", b"C", b"D", b"E", b"F", b"G", b"H", b"I", b"J", b"K", b"L", b"M", b"N",
+            b"O", b"P",
+        ],
+    );
+}
+
+#[test]
 fn seventeen_regions_are_too_many(rt: HostRuntime) {
     let words = [
         "img",
