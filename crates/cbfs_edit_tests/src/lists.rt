@@ -2,7 +2,8 @@
 ghost use Rattle.std.specs.Prelude.{◌≡◌, ◌+◌, true, false, IsTrue};
 
 use crate::tests::{
-    A, EMPTY_512, FRESH, MAGIC_20, Parts, device_with, equal, holds, leaves, part_of, source_of,
+    A, EMPTY_512, FRESH, LAST_384, MAGIC_20, Parts, device_with, equal, holds, leaves, part_of,
+    source_of,
 };
 use cbfs_edit::{Edit, EditFault, Freed, HashChoice, Placed, Reply, Spot, apply_all};
 use flash_format::HEADER_LENGTH;
@@ -11,9 +12,6 @@ use std::process::Abort;
 
 /// What stands before the 20 bytes of a component `b`.
 const B_20: [u8; 28] = *b"LARCHIVE\0\0\0\x14\0\0\0\x50\0\0\0\0\0\0\0\x1cb\0\0\0";
-
-/// The header of an empty entry of 384 bytes at a region's end.
-const LAST_384: [u8; 28] = *b"LARCHIVE\0\0\x01\x60\xff\xff\xff\xff\0\0\0\0\0\0\0\x1c\0\0\0\0";
 
 /// The header of an empty entry of 448 bytes at a region's end.
 const LAST_448: [u8; 28] = *b"LARCHIVE\0\0\x01\xa0\xff\xff\xff\xff\0\0\0\0\0\0\0\x1c\0\0\0\0";

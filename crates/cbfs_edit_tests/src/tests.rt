@@ -79,10 +79,27 @@ nnnnnnnnnnnnnnnnnnnnnnnnnnnnnnnnnnnnnnnnnnnnnnnnnnnnnnnnnnnnnnn\0";
 
 const LETTERS: [u8; 128] = [b'n'; 128];
 
+/// The components `f` and `g`, whose content is `abc`, as cbfstool 4.15 of coreboot has written them with digests of
+/// SHA-256 and SHA-512.
+const F_256: [u8; 75] =
+    *b"LARCHIVE\0\0\0\x03\0\0\0P\0\0\0\x1c\0\0\0Hf\0\0\0hsaH\0\0\0,\0\0\0\x02\xbax\x16\xbf\x8f\x01\xcf\xeaA\
+A@\xde]\xae\x22#\xb0\x03a\xa3\x96\x17z\x9c\xb4\x10\xffa\xf2\0\x15\xadabc";
+
+const G_512: [u8; 107] =
+    *b"LARCHIVE\0\0\0\x03\0\0\0P\0\0\0\x1c\0\0\0hg\0\0\0hsaH\0\0\0L\0\0\0\x03\xdd\xaf5\xa1\x93az\xba\xccAsI\
+\xae\x20A1\x12\xe6\xfaN\x89\xa9~\xa2\x0a\x9e\xee\xe6KU\xd3\x9a!\x92\x99*'O\xc1\xa86\xba<#\xa3\xfe\
+\xeb\xbdEMD#d<\xe8\x0e*\x9a\xc9O\xa5L\xa4\x9fabc";
+
 /// Headers of empty entries at a region's end, by their sizes.
+const LAST_64: [u8; 28] = *b"LARCHIVE\0\0\0\x20\xff\xff\xff\xff\0\0\0\0\0\0\0\x1c\0\0\0\0";
+
 const LAST_192: [u8; 28] = *b"LARCHIVE\0\0\0\xa0\xff\xff\xff\xff\0\0\0\0\0\0\0\x1c\0\0\0\0";
 
+const LAST_256: [u8; 28] = *b"LARCHIVE\0\0\0\xe0\xff\xff\xff\xff\0\0\0\0\0\0\0\x1c\0\0\0\0";
+
 const LAST_320: [u8; 28] = *b"LARCHIVE\0\0\x01\x20\xff\xff\xff\xff\0\0\0\0\0\0\0\x1c\0\0\0\0";
+
+pub const LAST_384: [u8; 28] = *b"LARCHIVE\0\0\x01\x60\xff\xff\xff\xff\0\0\0\0\0\0\0\x1c\0\0\0\0";
 
 const LAST_448: [u8; 28] = *b"LARCHIVE\0\0\x01\xa0\xff\xff\xff\xff\0\0\0\0\0\0\0\x1c\0\0\0\0";
 
@@ -271,7 +288,13 @@ fn a_region_is_formatted(rt: HostRuntime) {
     let last: Parts = &[(100, b"no entry"), (508, b"last")];
     let kept: Parts = &[(0, &EMPTY_512), (508, b"last")];
     formats(&rt, (512, last), Ok(()), kept);
-    formats(&rt, (500, TWICE), Err(EditFault::RegionShape), TWICE);
+    let small: Parts = &[(0, &LAST_64), (60, b"last")];
+    formats(&rt, (64, &[(60, b"last")]), Ok(()), small);
+    let shape = Err(EditFault::RegionShape);
+    formats(&rt, (500, TWICE), shape, TWICE);
+    formats(&rt, (65, small), shape, small);
+    formats(&rt, (63, small), shape, small);
+    formats(&rt, (0, &[]), shape, &[]);
 }
 
 // ---- additions
@@ -536,6 +559,25 @@ fn a_digest_takes_room(rt: HostRuntime) {
     stores(&rt, HashChoice::Sha256, 437, none);
     stores(&rt, HashChoice::Sha512, 404, placed(0, 104));
     stores(&rt, HashChoice::Sha512, 405, none);
+}
+
+/// The component of a name with a digest of `abc`.
+fn of_abc(name: &[u8], hash: HashChoice) -> New<'_> {
+    New {
+        name,
+        hash,
+        ..b(Spot::First, b"abc")
+    }
+}
+
+#[test]
+fn digests_are_stored_as_coreboot_stores_them(rt: HostRuntime) {
+    let one: Parts = &[(0, &F_256), (128, &LAST_384)];
+    let two: Parts = &[(0, &F_256), (128, &G_512), (256, &LAST_256)];
+    let f = of_abc(b"f", HashChoice::Sha256);
+    adds(&rt, f, FRESH, placed(0, 72), one);
+    let g = of_abc(b"g", HashChoice::Sha512);
+    adds(&rt, g, one, placed(128, 232), two);
 }
 
 // ---- edits that stop
