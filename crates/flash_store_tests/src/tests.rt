@@ -220,6 +220,12 @@ fn a_map_is_found_at_each_place_across_pieces(rt: HostRuntime) {
     }
 }
 
+#[test]
+fn a_map_may_end_with_the_image(rt: HostRuntime) {
+    equal(&rt, &found_at(&rt, 8192 - 56), &Some(8192 - 56));
+    equal(&rt, &found_at(&rt, 8192 - 55), &None);
+}
+
 /// The map of a flash of 4096 bytes at 0xff000000 with the areas FMAP of 512 bytes and COREBOOT of the rest.
 const MAP: [u8; 140] = *b"__FMAP__\x01\x01\x00\x00\x00\xff\x00\x00\x00\x00\x00\x10\x00\x00\
 FLASH\x00\x00\x00\x00\x00\x00\x00\x00\x00\x00\x00\x00\x00\x00\x00\x00\x00\x00\x00\x00\x00\x00\x00\x00\x00\x00\x00\x02\x00\
