@@ -536,6 +536,35 @@ fn content_is_put_where_it_has_room(rt: HostRuntime) {
     takes(&rt, Spot::Fixed(27), 0, none, kept);
 }
 
+/// Two free cells side by side, of 128 bytes, a component, and what is no entry.
+const SIDE_BY_SIDE: Parts = &[(0, &DELETED), (64, &EMPTY_64), (128, &X2)];
+
+/// An addition of `n` bytes to a region of these bytes answers this.
+fn goes(
+    rt: &(impl Abort + AllocGlobal),
+    before: Parts,
+    spot: Spot,
+    n: usize,
+    want: Result<Placed, EditFault>,
+) {
+    let content = LONG.get(..n).unwrap_or(&LONG);
+    let device = device_with(rt, 512, before);
+    let _after = after_addition(rt, device, b(spot, content), want);
+}
+
+#[test]
+fn the_lowest_run_with_room_is_taken(rt: HostRuntime) {
+    let none = Err(EditFault::NoSpace);
+    goes(&rt, ONCE, Spot::First, 36, placed(0, 28));
+    goes(&rt, ONCE, Spot::First, 37, placed(128, 156));
+    goes(&rt, ONCE, Spot::Aligned(32), 32, placed(0, 32));
+    goes(&rt, ONCE, Spot::Aligned(32), 33, placed(128, 160));
+    goes(&rt, ONCE, Spot::Fixed(36), 28, placed(0, 36));
+    goes(&rt, ONCE, Spot::Fixed(36), 29, none);
+    goes(&rt, SIDE_BY_SIDE, Spot::First, 100, placed(0, 28));
+    goes(&rt, SIDE_BY_SIDE, Spot::First, 101, none);
+}
+
 /// An addition of `n` bytes with a digest to a fresh region of 512 bytes answers this.
 fn stores(
     rt: &(impl Abort + AllocGlobal),
