@@ -97,9 +97,10 @@ fn a_head_is_checked(rt: HostRuntime) {
 /// The head with these four numbers after its magic: the length, the type, and where the attributes and the content begin.
 fn head_with(numbers: &[u32; 4]) -> [u8; 24] {
     let mut bytes = FRESH;
-    for (place, number) in bytes[8..].chunks_exact_mut(4).zip(numbers) {
-        place.copy_from_slice(&number.to_be_bytes());
-    }
+    bytes[8..12].copy_from_slice(&numbers[0].to_be_bytes());
+    bytes[12..16].copy_from_slice(&numbers[1].to_be_bytes());
+    bytes[16..20].copy_from_slice(&numbers[2].to_be_bytes());
+    bytes[20..].copy_from_slice(&numbers[3].to_be_bytes());
     bytes
 }
 
