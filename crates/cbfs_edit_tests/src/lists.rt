@@ -2,8 +2,8 @@
 ghost use Rattle.std.specs.Prelude.{◌≡◌, ◌+◌, true, false, IsTrue};
 
 use crate::tests::{
-    A, EMPTY_512, FRESH, LAST_384, MAGIC_20, Parts, device_with, equal, holds, leaves, part_of,
-    source_of,
+    A, Deed, EMPTY_512, FRESH, LAST_384, MAGIC_20, Parts, b, device_with, equal, fault_of, holds,
+    leaves, part_of, source_of,
 };
 use cbfs_edit::{Edit, EditFault, Freed, HashChoice, Placed, Reply, Spot, apply_all};
 use flash_format::HEADER_LENGTH;
@@ -91,6 +91,8 @@ struct FailOnce {
     device: MemFlash,
     /// How many calls there are up to the one that is refused; 0 once it was.
     left: u64,
+    /// How many calls there were after that one.
+    after: u64,
     calls: Counter,
     faults: Counter,
 }
@@ -101,6 +103,7 @@ impl FailOnce {
         FailOnce {
             device,
             left: number,
+            after: 0,
             calls: Counter::new(),
             faults: Counter::new(),
         }
@@ -114,6 +117,9 @@ impl FailOnce {
         ensures passed { result ≡ false → self.new.faults ≡ self.old.faults }
     {
         self.calls.tick();
+        if self.left == 0 {
+            self.after = self.after.saturating_add(1);
+        }
         let due = self.left == 1;
         self.left = self.left.saturating_sub(1);
         if due {
@@ -218,4 +224,36 @@ fn a_stopped_edit_does_not_stop_the_later_ones(rt: HostRuntime) {
         }
     }
     panic!(rt; "no list has finished");
+}
+
+/// An edit of 512 bytes on a device that refuses the call of a number, and no other: where one is refused, it is the
+/// last. Answers whether the edit has finished.
+fn ends_with(rt: &(impl Abort + AllocGlobal), deed: Deed, before: Parts, number: u64) -> bool {
+    let device = device_with(rt, 512, before);
+    let mut paged = Paged::new(FailOnce::new(device, number));
+    let fault = fault_of(rt, &mut paged, deed);
+    equal(rt, &paged.into_flash().after, &0);
+    fault.is_none()
+}
+
+/// Which of three edits finish although the call of this number is refused.
+fn finish(rt: &(impl Abort + AllocGlobal), number: u64) -> [bool; 3] {
+    let later = b(Spot::Aligned(256), &MAGIC_20);
+    [
+        ends_with(rt, Deed::Remove(b"a"), BOTH, number),
+        ends_with(rt, Deed::Format, BOTH, number),
+        ends_with(rt, Deed::Add(later), FRESH, number),
+    ]
+}
+
+#[test]
+fn an_edit_makes_no_call_after_a_refused_one(rt: HostRuntime) {
+    for number in 1..20 {
+        let finished = finish(&rt, number);
+        assert!(rt; number > 1 || finished == [false; 3]);
+        if finished == [true; 3] {
+            return;
+        }
+    }
+    panic!(rt; "an edit has not finished");
 }

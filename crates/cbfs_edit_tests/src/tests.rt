@@ -766,6 +766,28 @@ fn an_edit_stops_at_any_call(rt: HostRuntime) {
     stop_each(&rt, 4096);
 }
 
+/// An addition to a device that refuses every call is refused so.
+fn refused_at_once(rt: &(impl Abort + AllocGlobal), new: New, want: EditFault) {
+    let device = device_with(rt, 512, FRESH);
+    let mut paged = Paged::new(FailAt::new(device, 0, 0));
+    let fault = fault_of(rt, &mut paged, Deed::Add(new));
+    equal(rt, &fault, &Some(want));
+}
+
+#[test]
+fn what_the_words_refuse_makes_no_call(rt: HostRuntime) {
+    let nameless = New { name: b"", ..NEW_A };
+    refused_at_once(&rt, nameless, EditFault::BadName);
+    let free = New { kind: 0, ..NEW_A };
+    refused_at_once(&rt, free, EditFault::BadType);
+    let nowhere = New {
+        spot: Spot::Aligned(0),
+        ..NEW_A
+    };
+    refused_at_once(&rt, nowhere, EditFault::BadAlign);
+    refused_at_once(&rt, NEW_A, EditFault::Device);
+}
+
 /// An addition of 9000 bytes from a source that refuses all reads after the first k.
 fn source_stops(rt: &(impl Abort + AllocGlobal), k: u64) -> bool {
     let edit = Edit {
