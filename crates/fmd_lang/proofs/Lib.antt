@@ -10,4 +10,6 @@ pub mod UniqueLemmas
 pub mod AgreeLemmas
 pub mod PlaceLemmas
 pub mod FaultlessLemmas
+pub mod NameFields
+pub mod TableBytes
 mod Examples

@@ -1,0 +1,98 @@
+-- The field of a name that a descriptor gives is a good name of a map.
+use Rattle.std.proofs.Common.{◌≡◌, ℕ, suc, ◌+◌, ◌-◌, ◌<◌, ◌&&◌, ◌||◌, not, Bool, true, false, cond, All, List, [], ◌∷◌, ◌++◌, length, take, replicate, Some, None, refl, sym, ◌∙◌, ap, subst, arith, length-append}
+use Rattle.std.specs.List.{list_all, list_any, position_or_len, take_while}
+use Rattle.std.proofs.lemmas.List.{take_all, take_at, length-replicate}
+use Rattle.std.proofs.lemmas.List.Sums.{take_while-cons}
+use Rattle.std.proofs.lemmas.List.Elements.{All-nil, All-cons, All-head}
+use Rattle.flash_format.specs.Entry.{is_nul}
+use Rattle.flash_format.specs.Flashmap.{is_named, is_printing, text_of}
+use Rattle.fmd_lang.specs.Words.{Word, first_byte, is_blank, is_name, is_plain, put, words, words_from, without_comments}
+use Rattle.fmd_lang.specs.Names.{field_of}
+
+-- ---- the bytes of a word
+
+-- a word that begins with a plain byte has no other
+abbrev pub IsWhole : Word → Type 0
+IsWhole w = is_plain (first_byte w) ≡ true → list_all is_plain w.bytes ≡ true
+
+all_taken : (s : List ℕ) → list_all is_plain (take_while is_plain s) ≡ true
+all_taken [] = refl
+all_taken (b ∷ s) = ap (λ (l : List ℕ). list_all is_plain l) (take_while-cons is_plain b s) ∙ go (is_plain b) refl (all_taken s)
+  where
+    go : (p : Bool) → is_plain b ≡ p → list_all is_plain (take_while is_plain s) ≡ true → list_all is_plain (cond p (b ∷ take_while is_plain s) []) ≡ true
+    go true e rest = ap (λ c. c && list_all is_plain (take_while is_plain s)) e ∙ rest
+    go false e rest = refl
+
+words_whole : (place before : ℕ) (s : List ℕ) → All IsWhole (words_from place before s)
+words_whole place before [] = All-nil IsWhole
+words_whole place before (b ∷ s) = go (is_blank b) (is_plain b) refl (is_plain before) (words_whole (suc place) b s)
+  where
+    others : List Word
+    others = words_from (suc place) b s
+
+    one_byte : (k : ℕ) → is_plain k ≡ false → IsWhole (record { place = place; bytes = k ∷ [] })
+    one_byte k e h = absurd (let f : true ≡ false = sym h ∙ e in cc)
+
+    go : (blank plain : Bool) → is_plain b ≡ plain → (inside : Bool) → All IsWhole others
+        → All IsWhole (put place (cond blank None (cond (not plain) (Some (b ∷ [])) (cond inside None (Some (take_while is_plain (b ∷ s)))))) others)
+    go true plain e inside rest = rest
+    go false false e inside rest = All-cons IsWhole (record { place = place; bytes = b ∷ [] }) others (one_byte b e) rest
+    go false true e true rest = rest
+    go false true e false rest = All-cons IsWhole (record { place = place; bytes = take_while is_plain (b ∷ s) }) others (λ h. all_taken (b ∷ s)) rest
+
+is_both : (a b : Bool) → (a && b) ≡ true → (a ≡ true) × (b ≡ true)
+is_both true b e = (refl, e)
+is_both false b e = absurd cc
+
+-- the first word of a text, where it is a name
+pub first_name : (text : List ℕ) (first : Word) (rest : List Word) → words text ≡ first ∷ rest → is_name first ≡ true → list_all is_plain first.bytes ≡ true
+unfolding words
+first_name text first rest is named =
+    let whole : All IsWhole (first ∷ rest) = subst (λ (ws : List Word). All IsWhole ws) is (words_whole 0 32 (without_comments false text)) in
+    All-head IsWhole first rest whole (is_both _ _ named).0
+
+-- ---- the field of a name
+
+plain_printing : (b : ℕ) → is_plain b ≡ true → is_printing b ≡ true
+plain_printing b plain = (is_both _ _ plain).0
+
+plain_no_nul : (b : ℕ) → is_plain b ≡ true → is_nul b ≡ false
+plain_no_nul b plain = grind arith
+
+or_later : (a b : Bool) → b ≡ true → (a || b) ≡ true
+or_later true b e = refl
+or_later false b e = e
+
+-- a name, and so many NULs
+some_nul : (name : List ℕ) (k : ℕ) → list_any is_nul (name ++ replicate (suc k) 0) ≡ true
+some_nul [] k = refl
+some_nul (b ∷ name) k = or_later (is_nul b) _ (some_nul name k)
+
+one_more : (n : ℕ) → 1 + n ≡ suc n
+one_more n = omega arith
+
+before_nul : (name : List ℕ) (k : ℕ) → list_all is_plain name ≡ true → position_or_len is_nul (name ++ replicate (suc k) 0) ≡ length name
+before_nul [] k plain = refl
+before_nul (b ∷ name) k plain =
+    let parts = is_both (is_plain b) (list_all is_plain name) plain in
+    ap (λ c. cond (not c) (1 + position_or_len is_nul (name ++ replicate (suc k) 0)) 0) (plain_no_nul b parts.0) ∙ ap (λ n. 1 + n) (before_nul name k parts.1) ∙ one_more (length name)
+
+all_printing : (name : List ℕ) → list_all is_plain name ≡ true → list_all is_printing name ≡ true
+all_printing [] plain = refl
+all_printing (b ∷ name) plain =
+    let parts = is_both (is_plain b) (list_all is_plain name) plain in
+    ap (λ c. c && list_all is_printing name) (plain_printing b parts.0) ∙ all_printing name parts.1
+
+pub field_named : (name : List ℕ) → length name < 32 → list_all is_plain name ≡ true → is_named (field_of name) ≡ true
+field_named name short plain =
+    let k : ℕ = 31 - length name in
+    let left : 32 - length name ≡ suc k = omega arith in
+    let shape : field_of name ≡ name ++ replicate (suc k) 0 = ap (λ (l : List ℕ). l ++ replicate (32 - length name) 0) (take_all 32 name (omega arith)) ∙ ap (λ n. name ++ replicate n 0) left in
+    let text : text_of (name ++ replicate (suc k) 0) ≡ name = ap (λ n. take n (name ++ replicate (suc k) 0)) (before_nul name k plain) ∙ take_at name (replicate (suc k) 0) (length name) refl in
+    ap is_named shape
+    ∙ ap (λ c. c && list_all is_printing (text_of (name ++ replicate (suc k) 0))) (some_nul name k)
+    ∙ ap (λ (l : List ℕ). list_all is_printing l) text
+    ∙ all_printing name plain
+
+pub field_long : (name : List ℕ) → length name < 32 → length (field_of name) ≡ 32
+field_long name short = omega (arith, length-append (take 32 name) (replicate (32 - length name) 0), ap length (take_all 32 name (omega arith)), length-replicate {A = ℕ} (32 - length name) 0)
