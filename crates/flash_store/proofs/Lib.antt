@@ -7,3 +7,4 @@ pub mod FmapLemmas
 pub mod AreaLemmas
 pub mod StoringLemmas
 pub mod EditLemmas
+pub mod WrittenMaps

@@ -1,6 +1,11 @@
--- The laws of writes that the crates above rest on.
-use Rattle.std.specs.Prelude.{◌≡◌, ◌⊎◌, ℕ, ◌+◌, ◌≤◌, List, length}
+-- The laws of writes, and of maps that are written, that the crates above rest on.
+use Rattle.std.specs.Prelude.{◌≡◌, ◌⊎◌, ℕ, ◌+◌, ◌≤◌, List, ◌++◌, length, Some}
+use Rattle.flash_format.specs.Flashmap.{areas_at}
+use Rattle.flash_format.specs.Laws.{IsReadAsMap, NoMapBelow}
+use Rattle.flash_format.specs.declared.flashmap.Area.{Area}
+use Rattle.flash_format.specs.declared.flashmap.FmapHead.{FmapHead}
 use Rattle.flash_store.specs.Bytes.{overwritten, SameOutside}
+use Rattle.flash_store.specs.Fmap.{found_in}
 use Rattle.flash_store.specs.Regions.{Range, LiesIn, bytes_in}
 
 -- bytes that are written over an image inside a region are written over the region's bytes
@@ -35,3 +40,9 @@ LieApart r s = (r.start + r.size ≤ s.start) ⊎ (s.start + s.size ≤ r.start)
 abbrev pub SeparateEditsSwap : Type 0
 SeparateEditsSwap = (image : List ℕ) (r s : Range) (first last : List ℕ → List ℕ) → LiesIn r image → LiesIn s image → LieApart r s → length (first (bytes_in r image)) ≡ r.size → length (last (bytes_in s image)) ≡ s.size
     → edited s last (edited r first image) ≡ edited r first (edited s last image)
+
+-- a map that is written into an image at a place is found there with its areas, where no valid map stands below it then
+abbrev pub WrittenMapsAreFound : Type 0
+WrittenMapsAreFound = (h : FmapHead) (areas : List Area) (bytes image : List ℕ) (q : ℕ) → ((more : List ℕ) → IsReadAsMap h areas (bytes ++ more)) → q ≤ length image
+    → let now = overwritten image q bytes in
+    NoMapBelow now q → (found_in now ≡ Some (record { at = q; head = h })) × (areas_at now q ≡ areas)

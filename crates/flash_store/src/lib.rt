@@ -39,7 +39,9 @@ pub use flash::{Flash, FlashFault, PIECE};
 pub use fmap::{
     FoundMap, StoreFault, area, area_in_source, find_fmap, map_in_source, region, region_of_area,
 };
-pub use laws::{separate_edits_swap, separate_writes_swap, writes_are_seen_by_regions};
+pub use laws::{
+    separate_edits_swap, separate_writes_swap, writes_are_seen_by_regions, written_maps_are_found,
+};
 pub use mem_flash::MemFlash;
 pub use mem_source::MemSource;
 pub use open_fault::OpenFault;
