@@ -11,5 +11,6 @@ pub mod AgreeLemmas
 pub mod PlaceLemmas
 pub mod FaultlessLemmas
 pub mod NameFields
+pub mod FaultlessTables
 pub mod TableBytes
 mod Examples

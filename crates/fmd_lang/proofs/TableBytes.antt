@@ -1,5 +1,6 @@
 -- The bytes of a table are read as a valid map.
-use Rattle.std.proofs.Common.{◌≡◌, inl, inr, ℕ, ◌+◌, ◌^◌, ◌<◌, Bool, true, false, cond, All, List, [], ◌∷◌, ◌++◌, length, refl, sym, ◌∙◌, ap, subst, arith}
+use Rattle.std.proofs.Common.{◌≡◌, inl, inr, ℕ, ◌+◌, ◌^◌, ◌<◌, Bool, true, false, cond, All, List, [], ◌∷◌, ◌++◌, length, refl, sym, ◌∙◌, ap, subst, arith, append_assoc}
+use Rattle.std.specs.Prelude.{None, unwrap_or}
 use Rattle.std.specs.List.{list_any}
 use Rattle.std.proofs.lemmas.List.Elements.{All-nil, All-cons, All-append}
 use Rattle.flash_format.specs.declared.flashmap.Area.{Area}
@@ -7,6 +8,8 @@ use Rattle.flash_format.specs.Flashmap.{is_named}
 use Rattle.flash_format.specs.Laws.{IsAreaInBytes, IsReadAsMap}
 use Rattle.flash_format.proofs.MapBytes.{maps_read_back}
 use Rattle.fmd_lang.specs.Words.{Word, is_name, words}
+use Rattle.fmd_lang.specs.Faults.{first_fault}
+use Rattle.fmd_lang.specs.LayoutFaults.{layout_fault}
 use Rattle.fmd_lang.specs.Tree.{Tree, section, Forest, none, some}
 use Rattle.fmd_lang.specs.Grammar.{AreAnnotations, AreSections, IsSection, is_none, is_preserve, preserve_flag}
 use Rattle.fmd_lang.specs.Layout.{ArePlaced, IsPlaced, end_of, sibling, siblings}
@@ -15,6 +18,7 @@ use Rattle.fmd_lang.specs.Table.{AreasBelow, AreasOf, IsTable, section_area}
 use Rattle.fmd_lang.specs.Bytes.{table_bytes, table_head}
 use Rattle.fmd_lang.specs.declared.row.Place.{Place}
 use Rattle.fmd_lang.specs.declared.table.Table.{Table}
+use Rattle.fmd_lang.proofs.FaultlessTables.{Fits, few_areas, numbers_fit, offset_fits, size_fits}
 use Rattle.fmd_lang.proofs.NameFields.{field_long, field_named, first_name}
 use Rattle.fmd_lang.proofs.UniqueLemmas.{true_is}
 
@@ -60,19 +64,22 @@ mutual
 
 -- ---- the table
 
-pub table_read : (t : Tree) (text more : List ℕ) (table : Table) → IsSection t (words text) → IsTable t table → table.base < 2 ^ 64 → table.size < 2 ^ 32 → length table.areas.items < 2 ^ 16
-    → IsReadAsMap (table_head table) table.areas.items (table_bytes table ++ more)
-table_read (section name flags offset given parts) text more table is table_is base size few =
+pub table_read : (t : Tree) (text more : List ℕ) (table : Table) → first_fault text ≡ None → IsSection t (words text) → layout_fault t ≡ None → IsTable t table → IsReadAsMap (table_head table) table.areas.items (table_bytes table ++ more)
+table_read (section name flags offset given parts) text more table fine is laid table_is =
+    let t : Tree = section name flags offset given parts in
     let (first, annotations, place, number, body, shape, is_first, named, short, annotated, placed, sized, inside) = is in
     let plain = first_name text first (annotations ++ (place ++ (number ++ body))) shape (true_is (is_name first) is_first) in
     let good : is_named (field_of name) ≡ true = field_named name short (rw named at plain) in
+    let each : All Fits (first ∷ (annotations ++ (place ++ (number ++ body)))) = subst (λ (ws : List Word). All Fits ws) shape (numbers_fit t text is fine) in
+    let size : table.size < 2 ^ 32 = size_fits given table.size (first ∷ (annotations ++ place)) number body table_is.1 sized (subst (λ (ws : List Word). All Fits (first ∷ ws)) (sym (append_assoc annotations place (number ++ body))) each) in
+    let base : unwrap_or offset 0 < 2 ^ 32 = offset_fits offset (first ∷ annotations) place (number ++ body) placed each in
     maps_read_back (table_head table) table.areas.items more (record {
       major = refl;
-      base = base;
+      base = omega (arith, base, table_is.0);
       size = size;
       name = ap length table_is.2 ∙ field_long name short;
       named = ap is_named table_is.2 ∙ good;
       counted = refl;
-      few = few;
-      each = areas_fit (section name flags offset given parts) (words text) 0 table.size table.areas.items is (omega (arith, size)) table_is.3;
+      few = few_areas t table.size table.areas.items laid table_is.3;
+      each = areas_fit t (words text) 0 table.size table.areas.items is (omega (arith, size)) table_is.3;
     })

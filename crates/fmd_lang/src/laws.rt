@@ -1,6 +1,6 @@
 //! What ties the definitions together. The functions do nothing: their contracts are the laws.
 
-ghost use Rattle.std.specs.Prelude.{◌≡◌, ℕ, ◌^◌, ◌<◌, ◌≤◌, List, ◌++◌, length, None};
+ghost use Rattle.std.specs.Prelude.{◌≡◌, ℕ, List, ◌++◌, None};
 ghost use Rattle.flash_format.specs.Laws.{IsReadAsMap};
 ghost use Rattle.fmd_lang.specs.Bytes.{table_bytes, table_head};
 ghost use Rattle.fmd_lang.specs.Tree.{Tree};
@@ -8,8 +8,8 @@ ghost use Rattle.fmd_lang.specs.Words.{words};
 ghost use Rattle.fmd_lang.specs.Grammar.{IsSection};
 ghost use Rattle.fmd_lang.specs.Faults.{first_fault};
 ghost use Rattle.fmd_lang.specs.WordFaults.{first_word_fault};
-ghost use Rattle.fmd_lang.specs.Table.{IsTable, area_limit};
-ghost use Rattle.fmd_lang.specs.LayoutFaults.{parent_fault};
+ghost use Rattle.fmd_lang.specs.Table.{IsTable};
+ghost use Rattle.fmd_lang.specs.LayoutFaults.{layout_fault, parent_fault};
 
 use crate::table::Table;
 
@@ -42,10 +42,10 @@ pub fn one_table(one: &Table, other: &Table)
         × (one.now.areas.items ≡ other.now.areas.items) }
 {}
 
-/// The bytes of the table of a text are read as a valid map with the table's head and areas, whatever bytes follow them in
-/// an image; that is said of at most 65535 areas, and where base and size have 64 and 32 bits, as those of each table do.
+/// The bytes of the table of a text, which has no fault and whose tree has none of its layout, are read as a valid map with
+/// the table's head and areas, whatever bytes follow them in an image.
 pub fn tables_are_maps(text: &[u8], table: &Table)
-    requires { length table.now.areas.items ≤ area_limit }
-    ensures { (t : Tree) (more : List ℕ) → IsSection t (words text.now) → IsTable t table.now → table.now.base < 2 ^ 64 → table.now.size < 2 ^ 32
+    requires { first_fault text.now ≡ None }
+    ensures { (t : Tree) (more : List ℕ) → IsSection t (words text.now) → layout_fault t ≡ None → IsTable t table.now
         → IsReadAsMap (table_head table.now) table.now.areas.items (table_bytes table.now ++ more) }
 {}
