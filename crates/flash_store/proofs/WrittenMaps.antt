@@ -17,8 +17,10 @@ maps_found h areas bytes image q read inside none =
     let there : drop q now ≡ bytes ++ rest = drop_at (take q image) (bytes ++ rest) q (length-take-le q image inside) in
     let is : IsReadAsMap h areas (bytes ++ rest) = read rest in
     let head : fmap_head_of (drop q now) ≡ h = ap fmap_head_of there ∙ is.head in
-    let behind : drop (q + fmap_head_len) now ≡ drop fmap_head_len (bytes ++ rest) = sym (drop-drop fmap_head_len q now) ∙ ap (λ (l : List ℕ). drop fmap_head_len l) there in (
-      ap (λ (o : Option ℕ). option_map (λ p. let f : FoundMap = record { at = p; head = fmap_head_of (drop p now) } in f) o) (lowest_found now q (ap is_map there ∙ is.valid) none)
-      ∙ ap (λ (k : FmapHead). Some (let f : FoundMap = record { at = q; head = k } in f)) head,
-      ap (λ (k : FmapHead). areas_from k.nareas (drop (q + fmap_head_len) now)) head ∙ ap (λ (l : List ℕ). areas_from h.nareas l) behind ∙ is.all,
-    )
+    let behind : drop (q + fmap_head_len) now ≡ drop fmap_head_len (bytes ++ rest) = sym (drop-drop fmap_head_len q now) ∙ ap (λ (l : List ℕ). drop fmap_head_len l) there in
+    record {
+      found =
+          ap (λ (o : Option ℕ). option_map (λ p. let f : FoundMap = record { at = p; head = fmap_head_of (drop p now) } in f) o) (lowest_found now q (ap is_map there ∙ is.valid) none)
+          ∙ ap (λ (k : FmapHead). Some (let f : FoundMap = record { at = q; head = k } in f)) head;
+      all = ap (λ (k : FmapHead). areas_from k.nareas (drop (q + fmap_head_len) now)) head ∙ ap (λ (l : List ℕ). areas_from h.nareas l) behind ∙ is.all;
+    }

@@ -41,8 +41,17 @@ abbrev pub SeparateEditsSwap : Type 0
 SeparateEditsSwap = (image : List ℕ) (r s : Range) (first last : List ℕ → List ℕ) → LiesIn r image → LiesIn s image → LieApart r s → length (first (bytes_in r image)) ≡ r.size → length (last (bytes_in s image)) ≡ s.size
     → edited s last (edited r first image) ≡ edited r first (edited s last image)
 
+-- a search finds a map at a place, with this head and these areas
+pub record FindsMap (h : FmapHead) (areas : List Area) (image : List ℕ) (q : ℕ) : Type 0 where
+  pub found : found_in image ≡ Some (record { at = q; head = h })
+  pub all : areas_at image q ≡ areas
+
+-- no valid map stands below a place
+abbrev pub NothingBelow : List ℕ → ℕ → Type 0
+NothingBelow image q = NoMapBelow image q
+
 -- a map that is written into an image at a place is found there with its areas, where no valid map stands below it then
 abbrev pub WrittenMapsAreFound : Type 0
 WrittenMapsAreFound = (h : FmapHead) (areas : List Area) (bytes image : List ℕ) (q : ℕ) → ((more : List ℕ) → IsReadAsMap h areas (bytes ++ more)) → q ≤ length image
     → let now = overwritten image q bytes in
-    NoMapBelow now q → (found_in now ≡ Some (record { at = q; head = h })) × (areas_at now q ≡ areas)
+    NothingBelow now q → FindsMap h areas now q

@@ -2,9 +2,11 @@
 #![tactic(auto)]
 
 mod compiler;
+mod laws;
 mod reader;
 mod refusal;
 
 pub use compiler::run;
+pub use laws::compiled_maps_are_found;
 pub use reader::{ReadFault, ReadText, TextReader};
 pub use refusal::Refusal;

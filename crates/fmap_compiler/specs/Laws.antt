@@ -1,0 +1,25 @@
+-- What the table of a text is in an image.
+use Rattle.std.specs.Prelude.{ℕ, ◌≤◌, List, length}
+use Rattle.flash_store.specs.Bytes.{overwritten}
+use Rattle.flash_store.specs.Laws.{FindsMap, NothingBelow}
+use Rattle.fmd_lang.specs.Words.{words}
+use Rattle.fmd_lang.specs.Tree.{Tree}
+use Rattle.fmd_lang.specs.Grammar.{IsSection}
+use Rattle.fmd_lang.specs.Table.{IsTable}
+use Rattle.fmd_lang.specs.Bytes.{table_head}
+use Rattle.fmd_lang.specs.declared.table.Table.{Table}
+use Rattle.fmap_compiler.specs.Outcome.{Compiles}
+
+-- the map that a search finds at a place is the table of a text
+pub record IsMapOfText (text image : List ℕ) (q : ℕ) : Type 0 where
+  pub tree : Tree
+  pub table : Table
+  pub is_tree : IsSection tree (words text)
+  pub is_table : IsTable tree table
+  pub found : FindsMap (table_head table) table.areas.items image q
+
+-- the bytes for a text are found where they are written into an image, where no valid map stands below them then
+abbrev pub CompiledMapsAreFound : Type 0
+CompiledMapsAreFound = (text bytes image : List ℕ) (q : ℕ) → Compiles text bytes → q ≤ length image
+    → let now = overwritten image q bytes in
+    NothingBelow now q → IsMapOfText text now q
