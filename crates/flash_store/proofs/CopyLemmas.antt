@@ -5,7 +5,7 @@ use Rattle.std.specs.Io.KnownBytes.{Appends, Keeps}
 use Rattle.std.proofs.KnownBytes.{Appends-trans}
 use Rattle.std.proofs.Math.Seq.{take-add}
 use Rattle.std.proofs.lemmas.List.{drop-drop, take-take, length-take-le, take-replicate, length-replicate, replicate-append-replicate}
-use Rattle.flash_store.specs.Bytes.{overwritten, SameOutside, PartWritten}
+use Rattle.flash_store.specs.Bytes.{overwritten, SameOutside, FirstWritten, PartWritten}
 use Rattle.flash_store.proofs.BytesLemmas.{slice_range_is, length-slice_range, overwritten-more_at, SameOutside-overwritten, SameOutside-trans}
 use Rattle.flash_store.specs.Device.{Device, Calls, OneCall}
 use Rattle.flash_store.specs.Output.{AppendsPart, AppendsPieces}
@@ -127,6 +127,26 @@ Copied-more old mid new input at done size has within so_far now =
     now ∙ ap (λ xs. overwritten xs (at + done) (slice_range input done (done + size))) so_far
     ∙ ap (λ ys. overwritten (overwritten old at (take done input)) (at + done) ys) piece
     ∙ behind ∙ ap (overwritten old at) (sym (take-add done size input))
+
+-- the first of the input, as a prefix of more of it
+pub Copied-front : (old mid input : List ℕ) (at done n : ℕ) → done ≤ n → mid ≡ overwritten old at (take done input) → mid ≡ overwritten old at (take done (take n input))
+Copied-front old mid input at done n below so_far = so_far ∙ ap (overwritten old at) (sym (take-take done n input below))
+
+-- or the input stops it
+pub Copied-stopped : (old mid new input : List ℕ) (at done n : ℕ) → done < n → n ≤ length input → mid ≡ overwritten old at (take done input) → new ≡ mid → FirstWritten at (take n input) old new
+Copied-stopped old mid new input at done n left has so_far same =
+    (done, rw (length-take-le n input has) left, same ∙ Copied-front old mid input at done n (omega (arith, left)) so_far)
+
+-- or it is cut short
+pub Copied-part : (old mid new input : List ℕ) (at done size n : ℕ) → size ≤ 4096 → done + size ≤ n → n ≤ length input → mid ≡ overwritten old at (take done input)
+    → SameOutside (at + done) size mid new → PartWritten at (take n input) old new
+Copied-part old mid new input at done size n short within has so_far torn = record {
+  done = done;
+  torn = size;
+  short = short;
+  within = rw (length-take-le n input has) within;
+  same = rw (← Copied-front old mid input at done n (omega (arith, within)) so_far) torn;
+}
 
 -- what a watcher was shown: the first bytes of a source, and the next piece
 pub shown-more : (Saw : List ℕ → Type 0) (seen content now : List ℕ) (done size : ℕ) → now ≡ content → Saw ((seen ++ take done content) ++ slice_range now done (done + size)) → Saw (seen ++ take (done + size) content)

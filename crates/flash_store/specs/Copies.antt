@@ -1,14 +1,53 @@
--- Which side the fault of a copy blames: how many refused calls it tells of each.
-use Rattle.std.specs.Prelude.{ℕ}
+-- Copies and fills through the buffer: which side a fault blames, and what they leave.
+use Rattle.std.specs.Prelude.{◌≡◌, ℕ, ◌+◌, ◌/◌, ◌<◌, ◌≤◌, List, Option, take, replicate, slice_range, Result, IsTrue, OnOk, OnErr, IsErrOf}
+use Rattle.std.specs.Io.KnownBytes.{Appends}
+use Rattle.flash_store.specs.Bytes.{overwritten, SameOutside, FirstWritten, PartWritten}
+use Rattle.flash_store.specs.Device.{Device, Calls, refusals, faults_told}
+use Rattle.flash_store.specs.Output.{AppendsPart}
+use Rattle.flash_store.specs.Pages.{Pages, Nothing, Covers, HasNoPiece, HasRead}
 use Rattle.flash_store.specs.declared.paged.CopyFault.{CopyFault}
-use Rattle.flash_store.specs.declared.paged.CopyFault.TheVariants.{Device, Output, Source}
+use Rattle.flash_store.specs.declared.paged.CopyFault.TheVariants as causes
 
+-- how many refused calls of the device the fault of a copy tells
 abbrev pub by_device : CopyFault → ℕ
-by_device Device = 1
-by_device Output = 0
-by_device Source = 0
+by_device causes.Device = 1
+by_device causes.Output = 0
+by_device causes.Source = 0
 
+-- and how many of the source
 abbrev pub by_source : CopyFault → ℕ
-by_source Device = 0
-by_source Output = 0
-by_source Source = 1
+by_source causes.Device = 0
+by_source causes.Output = 0
+by_source causes.Source = 1
+
+-- what is left after n bytes from `at` on were to be made the same byte; all but the calls on an honest device
+pub record HasFilled {T E : Type 0} (at n byte : ℕ) (old new : Device) (result : Result T E) : Type 0 where
+  pub calls : Calls ((n + 4095) / 4096) (refusals result) old new
+  pub filled : IsTrue old.honest → OnOk result (new.content ≡ overwritten old.content at (replicate n byte))
+  pub part : IsTrue old.honest → OnErr result (PartWritten at (replicate n byte) old.content new.content)
+  pub outside : IsTrue old.honest → SameOutside at n old.content new.content
+
+-- What is left after the first n bytes of a source were to be written from `at` on. What was copied, and where it stopped,
+-- is told of an honest device and an honest source, what is outside of an honest device whatever the source.
+pub record HasCopiedIn {T : Type 0} (at n : ℕ) (old new input input_now : Device) (result : Result T CopyFault) : Type 0 where
+  pub calls : Calls ((n + 4095) / 4096) (faults_told by_device result) old new
+  pub source_calls : Calls ((n + 4095) / 4096) (faults_told by_source result) input input_now
+  pub no_output : IsErrOf result causes.Output → ⊥
+  pub same_source : IsTrue input.honest → input_now.content ≡ input.content
+  pub copied : IsTrue old.honest → IsTrue input.honest → OnOk result (new.content ≡ overwritten old.content at (take n input.content))
+  pub stopped : IsTrue old.honest → IsTrue input.honest → IsErrOf result causes.Source → FirstWritten at (take n input.content) old.content new.content
+  pub part : IsTrue old.honest → IsTrue input.honest → IsErrOf result causes.Device → PartWritten at (take n input.content) old.content new.content
+  pub outside : IsTrue old.honest → SameOutside at n old.content new.content
+
+-- What is left after the n bytes from `at` on were to be put into a sink, with at most so many calls of the device. What
+-- was put is told of an honest device.
+pub record HasCopiedOut {F W T : Type 0} (facts : F → Device) (contents : W → Option (List ℕ)) (failures : W → ℕ) (most at n : ℕ) (old new : Pages F) (out out_now : W) (result : Result T CopyFault) : Type 0 where
+  pub read : HasRead facts most (faults_told by_device result) old new
+  pub free : Covers old.held at n → new ≡ old
+  pub no_piece : HasNoPiece new.held
+  pub dropped : IsErrOf result causes.Device → new.held ≡ Nothing
+  pub faults : failures out ≤ failures out_now
+  pub output : IsErrOf result causes.Output → failures out < failures out_now
+  pub no_source : IsErrOf result causes.Source → ⊥
+  pub copied : IsTrue (facts old.device).honest → OnOk result (Appends (contents out) (contents out_now) (slice_range (facts old.device).content at (at + n)))
+  pub part : IsTrue (facts old.device).honest → OnErr result (AppendsPart (contents out) (contents out_now) (slice_range (facts old.device).content at (at + n)))

@@ -1,5 +1,5 @@
 -- A device and a source that refuse the calls after the first few.
-use Rattle.std.specs.Prelude.{◌≡◌, ℕ, ◌+◌, ◌-◌, ◌<◌, Bool, false, List, take, Result, OnErr, IsTrue}
+use Rattle.std.specs.Prelude.{◌≡◌, ℕ, ◌+◌, ◌-◌, Bool, false, List, take, Result, IsTrue}
 use Rattle.flash_store.specs.Bytes.{overwritten}
 use Rattle.flash_store.specs.Device.{Device, refusals}
 

@@ -1,5 +1,5 @@
 -- A device with its buffer: what contracts see of it, and what its calls leave.
-use Rattle.std.specs.Prelude.{◌≡◌, ◌+◌, ◌-◌, ◌<◌, ◌≤◌, ℕ, List, length, take, min, Result, IsTrue, IsOk, OnOk, OnErr, IfOk, slice_range}
+use Rattle.std.specs.Prelude.{◌≡◌, ◌+◌, ◌-◌, ◌≤◌, ℕ, List, length, take, min, Result, IsTrue, IsOk, OnOk, OnErr, IfOk, slice_range}
 use Rattle.std.specs.Borrow.{Bor}
 use Rattle.flash_store.specs.Bytes.{SameOutside}
 use Rattle.flash_store.specs.Device.{Device, Calls, Reads, refusals}

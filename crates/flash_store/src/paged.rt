@@ -2,7 +2,7 @@
 ghost use Rattle.std.specs.Prelude.{◌≡◌, ℕ, List, ◌++◌, ◌+◌, ◌/◌, ◌^◌, ◌<◌, ◌≤◌, ◌⊎◌, ◌↔◌, length, take, IsTrue, OnOk, OnErr, IfOk, IsErrOf, slice_range, replicate};
 ghost use Rattle.flash_store.specs.Bytes.{overwritten, SameOutside, FirstWritten, PartWritten};
 ghost use Rattle.flash_store.specs.Device.{Calls, OneCall, faults_told, refusals};
-ghost use Rattle.flash_store.specs.Copies.{by_device, by_source};
+ghost use Rattle.flash_store.specs.Copies.{by_device, by_source, HasFilled, HasCopiedIn, HasCopiedOut};
 ghost use Rattle.flash_store.specs.Output.{AppendsPart, AppendsPieces};
 ghost use Rattle.std.specs.Io.KnownBytes.{Appends, Keeps};
 
@@ -310,19 +310,8 @@ impl<F: Flash> Paged<F> {
     pub fn fill(&mut self, at: u64, n: u64, byte: u8) -> Result<(), FlashFault>
         requires { at + n ≤ length (F.facts self.old.device).content }
 
-        ensures calls { Calls ((n + 4095) / 4096) (refusals result) (F.facts self.old.device)
-            (F.facts self.new.device) }
+        ensures after { HasFilled at n byte (F.facts self.old.device) (F.facts self.new.device) result }
         ensures dropped { self.new.held ≡ Nothing }
-
-        // On an honest device, the last whatever it answers.
-        ensures filled { IsTrue (F.facts self.old.device).honest →
-            OnOk result ((F.facts self.new.device).content
-            ≡ overwritten (F.facts self.old.device).content at (replicate n byte)) }
-        ensures part { IsTrue (F.facts self.old.device).honest →
-            OnErr result (PartWritten at (replicate n byte) (F.facts self.old.device).content
-            (F.facts self.new.device).content) }
-        ensures outside { IsTrue (F.facts self.old.device).honest →
-            SameOutside at n (F.facts self.old.device).content (F.facts self.new.device).content }
     {
         self.held = Buffered::Nothing;
         self.buffer = [byte; PIECE];
@@ -334,29 +323,9 @@ impl<F: Flash> Paged<F> {
         requires inside { at + n ≤ length (F.facts self.old.device).content }
         requires in_source { n ≤ length (S.facts source.old).content }
 
-        ensures calls { Calls ((n + 4095) / 4096) (faults_told by_device result) (F.facts self.old.device)
-            (F.facts self.new.device) }
-        ensures source_calls { Calls ((n + 4095) / 4096) (faults_told by_source result) (S.facts source.old)
-            (S.facts source.new) }
-        ensures no_output { IsErrOf result CopyFault.Output → ⊥ }
+        ensures after { HasCopiedIn at n (F.facts self.old.device) (F.facts self.new.device)
+            (S.facts source.old) (S.facts source.new) result }
         ensures dropped { self.new.held ≡ Nothing }
-        ensures same_source { IsTrue (S.facts source.old).honest →
-            (S.facts source.new).content ≡ (S.facts source.old).content }
-
-        // On an honest device, from an honest source.
-        ensures copied { IsTrue (F.facts self.old.device).honest → IsTrue (S.facts source.old).honest →
-            OnOk result ((F.facts self.new.device).content
-            ≡ overwritten (F.facts self.old.device).content at (take n (S.facts source.old).content)) }
-        ensures stopped { IsTrue (F.facts self.old.device).honest → IsTrue (S.facts source.old).honest →
-            IsErrOf result CopyFault.Source → FirstWritten at (take n (S.facts source.old).content)
-            (F.facts self.old.device).content (F.facts self.new.device).content }
-        ensures part { IsTrue (F.facts self.old.device).honest → IsTrue (S.facts source.old).honest →
-            IsErrOf result CopyFault.Device → PartWritten at (take n (S.facts source.old).content)
-            (F.facts self.old.device).content (F.facts self.new.device).content }
-
-        // On an honest device, whatever the source.
-        ensures outside { IsTrue (F.facts self.old.device).honest →
-            SameOutside at n (F.facts self.old.device).content (F.facts self.new.device).content }
     {
         self.copy_in_watched(at, n, source, &mut Nobody)
     }
@@ -372,30 +341,9 @@ impl<F: Flash> Paged<F> {
         requires inside { at + n ≤ length (F.facts self.old.device).content }
         requires in_source { n ≤ length (S.facts source.old).content }
 
-        ensures calls { Calls ((n + 4095) / 4096) (faults_told by_device result) (F.facts self.old.device)
-            (F.facts self.new.device) }
-        ensures source_calls { Calls ((n + 4095) / 4096) (faults_told by_source result) (S.facts source.old)
-            (S.facts source.new) }
-        ensures no_output { IsErrOf result CopyFault.Output → ⊥ }
+        ensures after { HasCopiedIn at n (F.facts self.old.device) (F.facts self.new.device)
+            (S.facts source.old) (S.facts source.new) result }
         ensures dropped { self.new.held ≡ Nothing }
-        ensures same_source { IsTrue (S.facts source.old).honest →
-            (S.facts source.new).content ≡ (S.facts source.old).content }
-
-        // On an honest device, from an honest source.
-        ensures copied { IsTrue (F.facts self.old.device).honest → IsTrue (S.facts source.old).honest →
-            OnOk result ((F.facts self.new.device).content
-            ≡ overwritten (F.facts self.old.device).content at (take n (S.facts source.old).content)) }
-        ensures stopped { IsTrue (F.facts self.old.device).honest → IsTrue (S.facts source.old).honest →
-            IsErrOf result CopyFault.Source → FirstWritten at (take n (S.facts source.old).content)
-            (F.facts self.old.device).content (F.facts self.new.device).content }
-        ensures part { IsTrue (F.facts self.old.device).honest → IsTrue (S.facts source.old).honest →
-            IsErrOf result CopyFault.Device → PartWritten at (take n (S.facts source.old).content)
-            (F.facts self.old.device).content (F.facts self.new.device).content }
-
-        // On an honest device, whatever the source.
-        ensures outside { IsTrue (F.facts self.old.device).honest →
-            SameOutside at n (F.facts self.old.device).content (F.facts self.new.device).content }
-
         // From an honest source, whatever the device.
         ensures shown { IsTrue (S.facts source.old).honest → (seen : List ℕ) → W.saw watch.old seen →
             OnOk result (W.saw watch.new (seen ++ take n (S.facts source.old).content)) }
@@ -455,20 +403,8 @@ impl<F: Flash> Paged<F> {
     pub fn copy_out<W: Sink>(&mut self, at: u64, n: u64, out: &mut W) -> Result<(), CopyFault>
         requires { at + n ≤ length (F.facts self.old.device).content }
 
-        ensures after { HasRead F.facts ((n + 4095) / 4096) (faults_told by_device result) self.old self.new }
-        ensures free { Covers self.old.held at n → self.new ≡ self.old }
-        ensures no_piece { HasNoPiece self.new.held }
-        ensures dropped { IsErrOf result CopyFault.Device → self.new.held ≡ Nothing }
-
-        ensures faults { W.faults out.old ≤ W.faults out.new }
-        ensures output { IsErrOf result CopyFault.Output → W.faults out.old < W.faults out.new }
-        ensures no_source { IsErrOf result CopyFault.Source → ⊥ }
-        ensures copied { IsTrue (F.facts self.old.device).honest →
-            OnOk result (Appends (W.contents out.old) (W.contents out.new)
-            (slice_range (F.facts self.old.device).content at (at + n))) }
-        ensures part { IsTrue (F.facts self.old.device).honest →
-            OnErr result (AppendsPart (W.contents out.old) (W.contents out.new)
-            (slice_range (F.facts self.old.device).content at (at + n))) }
+        ensures after { HasCopiedOut F.facts W.contents W.faults ((n + 4095) / 4096) at n
+            self.old self.new out.old out.new result }
         ensures pieces { IsTrue (F.facts self.old.device).honest → IsErrOf result CopyFault.Device →
             AppendsPieces (W.contents out.old) (W.contents out.new)
             (slice_range (F.facts self.old.device).content at (at + n)) }
@@ -490,20 +426,8 @@ impl<F: Flash> Paged<F> {
         requires short { n ≤ 4096 }
         requires some { 0 < n }
 
-        ensures after { HasRead F.facts 1 (faults_told by_device result) self.old self.new }
-        ensures free { Covers self.old.held at n → self.new ≡ self.old }
-        ensures no_piece { HasNoPiece self.new.held }
-        ensures dropped { IsErrOf result CopyFault.Device → self.new.held ≡ Nothing }
-
-        ensures faults { W.faults out.old ≤ W.faults out.new }
-        ensures output { IsErrOf result CopyFault.Output → W.faults out.old < W.faults out.new }
-        ensures no_source { IsErrOf result CopyFault.Source → ⊥ }
-        ensures copied { IsTrue (F.facts self.old.device).honest →
-            OnOk result (Appends (W.contents out.old) (W.contents out.new)
-            (slice_range (F.facts self.old.device).content at (at + n))) }
-        ensures part { IsTrue (F.facts self.old.device).honest →
-            OnErr result (AppendsPart (W.contents out.old) (W.contents out.new)
-            (slice_range (F.facts self.old.device).content at (at + n))) }
+        ensures after { HasCopiedOut F.facts W.contents W.faults 1 at n
+            self.old self.new out.old out.new result }
         ensures none { IsErrOf result CopyFault.Device → Keeps (W.contents out.old) (W.contents out.new) }
     {
         let bytes = self.piece(at, n)?;
@@ -558,13 +482,7 @@ fn write_copies<F: Flash>(
     requires inside { at + n ≤ length (F.facts device.old).content }
     requires all { copies.now ≡ replicate 4096 byte }
 
-    ensures calls { Calls ((n + 4095) / 4096) (refusals result) (F.facts device.old) (F.facts device.new) }
-    ensures filled { IsTrue (F.facts device.old).honest →
-        OnOk result ((F.facts device.new).content ≡ overwritten (F.facts device.old).content at (replicate n byte)) }
-    ensures part { IsTrue (F.facts device.old).honest →
-        OnErr result (PartWritten at (replicate n byte) (F.facts device.old).content (F.facts device.new).content) }
-    ensures outside { IsTrue (F.facts device.old).honest →
-        SameOutside at n (F.facts device.old).content (F.facts device.new).content }
+    ensures { HasFilled at n byte (F.facts device.old) (F.facts device.new) result }
 {
     let _len = device.len();
     let mut done = 0;

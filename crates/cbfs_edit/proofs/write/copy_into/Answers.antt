@@ -7,10 +7,10 @@ use Rattle.cbfs_edit.proofs.write.copy_into.Goals as goal
 
 pub returns-clause-after : goal.returns-clause-after
 returns-clause-after g c = record {
-  calls = rw (← c.len-n.ensures.length) c.copy_in_watched.ensures.calls;
+  calls = rw (← c.len-n.ensures.length) c.copy_in_watched.ensures.after.calls;
   outside = λ honest.
       outside_of c.args.region (g.F.Flash.facts c.args.paged.now.device).content (g.F.Flash.facts c.copy_in_watched.new.self.device).content (c.start.result + c.args.at) c.args.at c.len-n.result
-      (omega arith) (omega (arith, c.requires.inside, c.len-n.ensures.length)) (c.copy_in_watched.ensures.outside honest);
+      (omega arith) (omega (arith, c.requires.inside, c.len-n.ensures.length)) (c.copy_in_watched.ensures.after.outside honest);
 }
 
 pub returns-clause-copied : goal.returns-clause-copied
@@ -19,9 +19,9 @@ returns-clause-copied g c honest source_honest =
     let all : take c.len-n.result content ≡ content = take_all c.len-n.result content (omega (arith, c.len-n.ensures.length)) in
     written_ok c.copy_in_watched.result c.args.region (g.F.Flash.facts c.args.paged.now.device).content _ (c.start.result + c.args.at) c.args.at (length content) content
     c.requires.region (omega arith) refl c.requires.inside
-    (on_ok_weaker c.copy_in_watched.result (λ e. e ∙ ap (λ (l : List ℕ). overwritten (g.F.Flash.facts c.args.paged.now.device).content (c.start.result + c.args.at) l) all) (c.copy_in_watched.ensures.copied honest source_honest))
+    (on_ok_weaker c.copy_in_watched.result (λ e. e ∙ ap (λ (l : List ℕ). overwritten (g.F.Flash.facts c.args.paged.now.device).content (c.start.result + c.args.at) l) all) (c.copy_in_watched.ensures.after.copied honest source_honest))
 
 pub returns-clause-torn : goal.returns-clause-torn
 returns-clause-torn g c honest =
     changed_at c.args.region (g.F.Flash.facts c.args.paged.now.device).content (g.F.Flash.facts c.copy_in_watched.new.self.device).content (c.start.result + c.args.at) c.args.at (length (g.S.Source.facts c.args.source.now).content)
-    (omega arith) c.requires.inside (rw c.len-n.ensures.length at (c.copy_in_watched.ensures.outside honest))
+    (omega arith) c.requires.inside (rw c.len-n.ensures.length at (c.copy_in_watched.ensures.after.outside honest))

@@ -1,6 +1,6 @@
-use Rattle.std.proofs.Common.{◌∙◌, ◌++◌, take, arith}
+use Rattle.std.proofs.Common.{◌∙◌, ◌++◌, take, arith, rules}
 use Rattle.flash_store.proofs.BytesLemmas.{SameOutside-trans}
-use Rattle.flash_store.proofs.CopyLemmas.{CallsSoFar-more, CallsSoFar-at_most, Copied-more, shown-more}
+use Rattle.flash_store.proofs.CopyLemmas.{CallsSoFar-more, CallsSoFar-at_most, Copied-more, Copied-stopped, Copied-part, shown-more}
 use Rattle.flash_store.proofs.DeviceLemmas.{honest_still}
 use Rattle.flash_store.proofs.paged.Paged.copy_in_watched.Goals as goal
 
@@ -25,7 +25,18 @@ loop-done-preserved g c =
           shown-more (g.W.Watch.saw c.copy_piece_in.new.watch) seen _ _ c.loop-done.done c.min-size.result (had.same_source s) more;
     }
 
-pub returns-in_err-copy_piece_in-clause-outside : goal.returns-in_err-copy_piece_in-clause-outside
-returns-in_err-copy_piece_in-clause-outside g c = λ h.
+pub returns-in_err-copy_piece_in-clause-after : goal.returns-in_err-copy_piece_in-clause-after
+returns-in_err-copy_piece_in-clause-after g c =
     let had = c.loop-done.invariant in
-    SameOutside-trans _ _ _ c.args.at c.args.n c.loop-done.done c.min-size.result (omega (arith, c.min-size.ensures, c.loop-done-test.true)) (had.outside h) (c.copy_piece_in.ensures.outside (honest_still had.calls.same_honesty h))
+    let size = c.min-size.ensures in
+    let left = c.loop-done-test.true in
+    let piece = c.copy_piece_in.ensures in record {
+      calls = search rules;
+      source_calls = search rules;
+      no_output = search rules;
+      same_source = search rules;
+      copied = search rules;
+      stopped = λ h s source. Copied-stopped _ _ _ _ c.args.at c.loop-done.done c.args.n left c.requires.in_source (had.copied h s) (piece.stopped (honest_still had.calls.same_honesty h) (search rules));
+      part = λ h s device. Copied-part _ _ _ _ c.args.at c.loop-done.done c.min-size.result c.args.n (omega (arith, size)) (omega (arith, size, left)) c.requires.in_source (had.copied h s) (piece.outside (honest_still had.calls.same_honesty h));
+      outside = λ h. SameOutside-trans _ _ _ c.args.at c.args.n c.loop-done.done c.min-size.result (omega (arith, size, left)) (had.outside h) (piece.outside (honest_still had.calls.same_honesty h));
+    }
