@@ -25,17 +25,16 @@ use Rattle.cbfs_edit.specs.declared.group.Freed.{Freed}
 use Rattle.cbfs_edit.specs.declared.place.Place.{Place}
 use Rattle.cbfs_edit.specs.declared.place.Spot.{Spot}
 use Rattle.cbfs_edit.specs.declared.place.Wanted.{Wanted}
-use Rattle.cbfs_commands.specs.declared.plan.Plan.{Plan}
 use Rattle.cbfs_commands.specs.declared.refusal.Refusal.{Refusal}
 use Rattle.cbfs_commands.specs.declared.refusal.Refusal.TheVariants as refusals
 use Rattle.cbfs_commands.specs.Creations.{head_by, map_place, place_and, plan_at, plan_by, plan_for, plan_of, plan_when, region_places, some_overlap, with_room, with_shape}
 use Rattle.cbfs_commands.specs.Deeds.{deed}
 use Rattle.cbfs_commands.specs.Layouts.{layout, layout_under}
-use Rattle.cbfs_commands.specs.Outcomes.{Outcome, add, add_found, addition, create, creation, ended, extract, extract_found, extract_found_component, print, print_found, print_region, read, read_found, remove, remove_found, removal, told_component, write, write_found}
-use Rattle.cbfs_commands.specs.Refusals.{HasNoFault, edit_refusal, store_refusal, walk_refusal}
+use Rattle.cbfs_commands.specs.Outcomes.{add, changing, create, ended, extract, print, print_region, read, remove, told_component, told_found, write}
+use Rattle.cbfs_commands.specs.Refusals.{HasNoFault, and_then, edit_refusal, itself, store_refusal, walk_refusal}
 use Rattle.cbfs_commands.specs.Requests.{Adding, Request}
 use Rattle.cbfs_commands.specs.Requests as requests
-use Rattle.cbfs_commands.specs.Told.{Answer, Told}
+use Rattle.cbfs_commands.specs.Told.{Answer, Told, told_of}
 
 -- a refusal that blames no side
 abbrev BlamesNone : Refusal → Type 0
@@ -49,13 +48,23 @@ abbrev Blameless : {T E : Type 0} → (E → Refusal) → Result T E → Type 0
 Blameless tell (Ok value) = ⊤
 Blameless tell (Err fault) = BlamesNone (tell fault)
 
-abbrev itself : Refusal → Refusal
-itself refusal = refusal
-
 -- one of two answers
 when : {T E : Type 0} (tell : E → Refusal) (b : Bool) (x y : Result T E) → Blameless tell x → Blameless tell y → Blameless tell (cond b x y)
 when tell true x y left right = left
 when tell false x y left right = right
+
+-- what comes of a value
+next-blameless : {T U E : Type 0} (tell : E → Refusal) (r : Result T E) (next : T → Result U Refusal) → Blameless tell r → ((value : T) → Blameless itself (next value)) → Blameless itself (and_then tell r next)
+next-blameless tell (Err fault) next own each = own
+next-blameless tell (Ok value) next own each = each value
+
+told-blameless : {T E : Type 0} (tell : E → Refusal) (r : Result T E) (next : T → Told) → Blameless tell r → ((value : T) → Blameless itself (next value).answer) → Blameless itself (told_of tell r next).answer
+told-blameless tell (Err fault) next own each = own
+told-blameless tell (Ok value) next own each = each value
+
+made-blameless : (image : List ℕ) (made : Result (List ℕ) Refusal) → Blameless itself made → Blameless itself (changing image made).answer
+made-blameless image (Err refusal) own = own
+made-blameless image (Ok now) own = own
 
 -- ---- regions, their shape and their cells
 
@@ -181,11 +190,7 @@ ended-blameless at (damage kind) = tt
 
 print-blameless : (image name : List ℕ) (verbose : Bool) → Blameless itself (print image name verbose).answer
 unfolding print print_region
-print-blameless image name verbose = go (region_of image name) (region_of-blameless image name)
-  where
-    go : (found : Result Range StoreFault) → Blameless store_refusal found → Blameless itself (print_found image found verbose).answer
-    go (Err fault) own = own
-    go (Ok region) own = unless-misshapen (λ (t : Told). Blameless itself t.answer) _ (bytes_in region image) _ tt tt (ended-blameless _ _)
+print-blameless image name verbose = told-blameless store_refusal _ _ (region_of-blameless image name) (λ region. unless-misshapen (λ (t : Told). Blameless itself t.answer) _ (bytes_in region image) _ tt tt (ended-blameless _ _))
 
 layout-blameless : (image : List ℕ) → Blameless itself (layout image).answer
 unfolding layout
@@ -202,70 +207,33 @@ told_component-blameless c = go (is_packed c.attributes) _ _ tt tt
     go true t u left right = left
     go false t u left right = right
 
-extract_found_component-blameless : (c : Found) → Blameless walk_refusal c → Blameless itself (extract_found_component c).answer
-extract_found_component-blameless (Err fault) own = own
-extract_found_component-blameless (Ok None) own = tt
-extract_found_component-blameless (Ok (Some c)) own = told_component-blameless c
+told_found-blameless : (c : Option Component) → Blameless itself (told_found c).answer
+told_found-blameless None = tt
+told_found-blameless (Some c) = told_component-blameless c
 
 extract-blameless : (image region name : List ℕ) → Blameless itself (extract image region name).answer
 unfolding extract
-extract-blameless image region name = go (region_of image region) (region_of-blameless image region)
-  where
-    go : (found : Result Range StoreFault) → Blameless store_refusal found → Blameless itself (extract_found image found name).answer
-    go (Err fault) own = own
-    go (Ok region) own = extract_found_component-blameless _ (component_in-blameless (bytes_in region image) name)
+extract-blameless image region name = told-blameless store_refusal _ _ (region_of-blameless image region) (λ found. told-blameless walk_refusal _ _ (component_in-blameless (bytes_in found image) name) told_found-blameless)
 
-removal-blameless : (image : List ℕ) (region : Range) (group : Result Freed EditFault) → Blameless edit_refusal group → Blameless itself (removal image region group).answer
-removal-blameless image region (Err fault) own = own
-removal-blameless image region (Ok group) own = tt
-
-remove-blameless : (image region name : List ℕ) → Blameless itself (remove image region name).answer
+remove-blameless : (image region name : List ℕ) → Blameless itself (remove image region name)
 unfolding remove
-remove-blameless image region name = go (region_of image region) (region_of-blameless image region)
-  where
-    go : (found : Result Range StoreFault) → Blameless store_refusal found → Blameless itself (remove_found image found name).answer
-    go (Err fault) own = own
-    go (Ok region) own = removal-blameless image region _ (removal_in-blameless (bytes_in region image) name)
+remove-blameless image region name = next-blameless store_refusal _ _ (region_of-blameless image region) (λ found. next-blameless edit_refusal _ _ (removal_in-blameless (bytes_in found image) name) (λ group. tt))
 
-addition-blameless : (image : List ℕ) (region : Range) (new : NewComponent) (place : Result Place EditFault) → Blameless edit_refusal place → Blameless itself (addition image region new place).answer
-addition-blameless image region new (Err fault) own = own
-addition-blameless image region new (Ok place) own = tt
-
-add-blameless : (image region : List ℕ) (new : NewComponent) (spot : Spot) → Blameless itself (add image region new spot).answer
+add-blameless : (image region : List ℕ) (new : NewComponent) (spot : Spot) → Blameless itself (add image region new spot)
 unfolding add
-add-blameless image region new spot = go (region_of image region) (region_of-blameless image region)
-  where
-    go : (found : Result Range StoreFault) → Blameless store_refusal found → Blameless itself (add_found image found new spot).answer
-    go (Err fault) own = own
-    go (Ok region) own = addition-blameless image region new _ (addition_in-blameless (bytes_in region image) new spot)
+add-blameless image region new spot = next-blameless store_refusal _ _ (region_of-blameless image region) (λ found. next-blameless edit_refusal _ _ (addition_in-blameless (bytes_in found image) new spot) (λ place. tt))
 
 read-blameless : (image name : List ℕ) → Blameless itself (read image name).answer
 unfolding read
-read-blameless image name = go (region_of image name) (region_of-blameless image name)
-  where
-    go : (found : Result Range StoreFault) → Blameless store_refusal found → Blameless itself (read_found image found).answer
-    go (Err fault) own = own
-    go (Ok region) own = tt
+read-blameless image name = told-blameless store_refusal _ _ (region_of-blameless image name) (λ region. tt)
 
-write-blameless : (image name source : List ℕ) → Blameless itself (write image name source).answer
+write-blameless : (image name source : List ℕ) → Blameless itself (write image name source)
 unfolding write
-write-blameless image name source = go (region_of image name) (region_of-blameless image name)
-  where
-    sized : (b : Bool) (o p : Outcome) → Blameless itself o.answer → Blameless itself p.answer → Blameless itself (cond b o p).answer
-    sized true o p left right = left
-    sized false o p left right = right
+write-blameless image name source = next-blameless store_refusal _ _ (region_of-blameless image name) (λ region. when itself (length source == region.size) _ _ tt tt)
 
-    go : (found : Result Range StoreFault) → Blameless store_refusal found → Blameless itself (write_found image found source).answer
-    go (Err fault) own = own
-    go (Ok region) own = sized (length source == region.size) _ _ tt tt
-
-create-blameless : (image : List ℕ) (names : List (List ℕ)) (source : List ℕ) → Blameless itself (create image names source).answer
+create-blameless : (image : List ℕ) (names : List (List ℕ)) (source : List ℕ) → Blameless itself (create image names source)
 unfolding create
-create-blameless image names source = go (plan_for (length image) names source) (plan_for-blameless (length image) names source)
-  where
-    go : (plan : Result Plan Refusal) → Blameless itself plan → Blameless itself (creation image source plan).answer
-    go (Err refusal) own = own
-    go (Ok plan) own = tt
+create-blameless image names source = next-blameless itself _ _ (plan_for-blameless (length image) names source) (λ plan. tt)
 
 -- ---- the law
 
@@ -280,8 +248,8 @@ pub outcome-blameless : (r : Request) (image source : List ℕ) → HasNoFault (
 outcome-blameless (requests.print region verbose) image source = no_fault _ (print-blameless image region verbose)
 outcome-blameless requests.layout image source = no_fault _ (layout-blameless image)
 outcome-blameless (requests.extract region name) image source = no_fault _ (extract-blameless image region name)
-outcome-blameless (requests.add a) image source = no_fault _ (add-blameless image a.region _ a.spot)
-outcome-blameless (requests.remove region name) image source = no_fault _ (remove-blameless image region name)
+outcome-blameless (requests.add a) image source = no_fault _ (made-blameless image _ (add-blameless image a.region _ a.spot))
+outcome-blameless (requests.remove region name) image source = no_fault _ (made-blameless image _ (remove-blameless image region name))
 outcome-blameless (requests.read region) image source = no_fault _ (read-blameless image region)
-outcome-blameless (requests.write region) image source = no_fault _ (write-blameless image region source)
-outcome-blameless (requests.create names) image source = no_fault _ (create-blameless image names source)
+outcome-blameless (requests.write region) image source = no_fault _ (made-blameless image _ (write-blameless image region source))
+outcome-blameless (requests.create names) image source = no_fault _ (made-blameless image _ (create-blameless image names source))

@@ -134,10 +134,10 @@ bytes_of_a_region : read (image_of (free 468 512)) coreboot ≡ shows (free 468 
 unfolding read region_of has_signature fmap_head_of area_of is_valid_head is_map map_from areas_from
 bytes_of_a_region = refl
 
-region_written : write (image_of (free 468 512)) coreboot (replicate 512 7) ≡ record { written = []; image = image_of (replicate 512 7); answer = Ok tt }
+region_written : write (image_of (free 468 512)) coreboot (replicate 512 7) ≡ Ok (image_of (replicate 512 7))
 unfolding write region_of has_signature fmap_head_of area_of is_valid_head is_map map_from areas_from
 region_written = refl
 
-source_of_another_size : write (image_of (free 468 512)) coreboot (replicate 511 7) ≡ record { written = []; image = image_of (free 468 512); answer = Err SourceSize }
+source_of_another_size : write (image_of (free 468 512)) coreboot (replicate 511 7) ≡ Err SourceSize
 unfolding write region_of has_signature fmap_head_of area_of is_valid_head is_map map_from areas_from
 source_of_another_size = refl

@@ -1,10 +1,10 @@
 -- What was added is extracted.
-use Rattle.std.proofs.Common.{◌≡◌, ℕ, false, cond, List, length, Option, Some, None, Result, refl, ◌∙◌, ap}
+use Rattle.std.proofs.Common.{◌≡◌, ℕ, false, cond, List, length, Option, Some, None, Result, Ok, refl, ◌∙◌, ap}
 use Rattle.flash_format.specs.Components.{is_packed}
 use Rattle.flash_format.specs.Made.{made_attributes}
 use Rattle.flash_format.specs.declared.digest.Digest.{Digest}
 use Rattle.flash_store.specs.Bytes.{overwritten}
-use Rattle.flash_store.specs.Regions.{Range, bytes_in, region_of}
+use Rattle.flash_store.specs.Regions.{Range, bytes_in}
 use Rattle.flash_store.specs.declared.fmap.StoreFault.{StoreFault}
 use Rattle.flash_store.proofs.DeviceLemmas.{length-bytes_in}
 use Rattle.cbfs_edit.specs.Additions.{added}
@@ -13,9 +13,11 @@ use Rattle.cbfs_edit.specs.declared.place.Place.{Place}
 use Rattle.cbfs_edit.proofs.Added.{added_length}
 use Rattle.cbfs_edit.proofs.FoundAgain.{additions_found}
 use Rattle.cbfs_walk.specs.Finding.{Found}
+use Rattle.cbfs_commands.specs.declared.refusal.Refusal.{Refusal}
 use Rattle.cbfs_commands.specs.declared.refusal.Refusal.TheVariants as refusals
-use Rattle.cbfs_commands.specs.Outcomes.{add, add_found, addition, extract, extract_found, extract_found_component, extract_region}
-use Rattle.cbfs_commands.specs.Told.{Told, refuses, shows}
+use Rattle.cbfs_commands.specs.Refusals.{and_then, edit_refusal, store_refusal, walk_refusal}
+use Rattle.cbfs_commands.specs.Outcomes.{add, add_region, changing, extract, extract_region, told_found}
+use Rattle.cbfs_commands.specs.Told.{Told, refuses, shows, told_of}
 use Rattle.cbfs_commands.specs.Laws.{AddedFilesAreExtracted, AdditionsAreExtracted}
 use Rattle.cbfs_commands.proofs.RegionPlaces.{region_lies, whole_over}
 
@@ -26,16 +28,19 @@ plain (Some digest) = refl
 
 pub additions_extracted : AdditionsAreExtracted
 additions_extracted x new spot place is =
-    ap (λ (f : Found). extract_found_component f) (additions_found x new spot place is) ∙ ap (λ b. let t : Told = cond b (refuses refusals.Compressed) (shows new.content) in t) (plain new.digest)
+    ap (λ (f : Found). told_of walk_refusal f told_found) (additions_found x new spot place is) ∙ ap (λ b. let t : Told = cond b (refuses refusals.Compressed) (shows new.content) in t) (plain new.digest)
 
 pub files_extracted : AddedFilesAreExtracted
 unfolding add extract
 files_extracted image name new spot region place asked is still =
     let x : List ℕ = bytes_in region image in
     let y : List ℕ = added x new place in
-    let now : List ℕ = (add_found image (region_of image name) new spot).image in
+    let now : List ℕ = (changing image (add image name new spot)).image in
     let lies = region_lies image name region asked in
     let long : length y ≡ region.size = added_length x new spot place is.region is.kind is.content is.digest is.placed ∙ length-bytes_in region image lies in
-    let left : now ≡ overwritten image region.start y = ap (λ (r : Result Range StoreFault). (add_found image r new spot).image) asked ∙ ap (λ (r : Result Place EditFault). (addition image region new r).image) is.placed in
+    let made : add image name new spot ≡ Ok (overwritten image region.start y) =
+    ap (λ (r : Result Range StoreFault). and_then store_refusal r (λ found. add_region image found new spot)) asked
+    ∙ ap (λ (r : Result Place EditFault). and_then edit_refusal r (λ place. let o : Result (List ℕ) Refusal = Ok (overwritten image region.start (added x new place)) in o)) is.placed in
+    let left : now ≡ overwritten image region.start y = ap (λ (r : Result (List ℕ) Refusal). (changing image r).image) made in
     let holds : bytes_in region now ≡ y = ap (λ (l : List ℕ). bytes_in region l) left ∙ whole_over region image y lies long in
-    ap (λ (r : Result Range StoreFault). extract_found now r new.name) still ∙ ap (λ (l : List ℕ). extract_region l new.name) holds ∙ additions_extracted x new spot place is
+    ap (λ (r : Result Range StoreFault). told_of store_refusal r (λ found. extract_region (bytes_in found now) new.name)) still ∙ ap (λ (l : List ℕ). extract_region l new.name) holds ∙ additions_extracted x new spot place is

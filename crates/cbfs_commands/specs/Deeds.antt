@@ -11,7 +11,7 @@ use Rattle.cbfs_commands.specs.declared.refusal.Refusal.TheVariants as refusals
 use Rattle.cbfs_commands.specs.Layouts.{layout}
 use Rattle.cbfs_commands.specs.Requests.{Adding, Request}
 use Rattle.cbfs_commands.specs.Requests as requests
-use Rattle.cbfs_commands.specs.Outcomes.{Outcome, StopsIn, AddStopsIn, reading, print, extract, add, remove, read, write, create}
+use Rattle.cbfs_commands.specs.Outcomes.{Outcome, StopsIn, AddStopsIn, changing, reading, print, extract, add, remove, read, write, create}
 use Rattle.cbfs_commands.specs.Told.{Answer, Told}
 
 -- By the image, the source, the answer and the image that is left; the calls of the source are at most so many by its length.
@@ -45,7 +45,7 @@ tells told = record {
 -- the command that puts the source in place of a region
 abbrev pub replaces : List ℕ → Deed
 replaces name = record {
-  outcome = λ image source. write image name source;
+  outcome = λ image source. changing image (write image name source);
   target = λ image. found (region_of image name);
   reads_source = true;
   writes_output = false;
@@ -56,7 +56,7 @@ replaces name = record {
 -- the command that adds the source to a region as a component
 abbrev pub adds : Adding → Deed
 adds a = record {
-  outcome = λ image source. add image a.region (new_component a.name a.kind a.hash source) a.spot;
+  outcome = λ image source. changing image (add image a.region (new_component a.name a.kind a.hash source) a.spot);
   target = λ image. found (region_of image a.region);
   reads_source = true;
   writes_output = false;
@@ -67,7 +67,7 @@ adds a = record {
 -- the command that removes a component from a region
 abbrev pub removes : List ℕ → List ℕ → Deed
 removes name component = record {
-  outcome = λ image source. remove image name component;
+  outcome = λ image source. changing image (remove image name component);
   target = λ image. found (region_of image name);
   reads_source = false;
   writes_output = false;
@@ -78,7 +78,7 @@ removes name component = record {
 -- the command that makes the whole image from the source: of a stop only the size is promised
 abbrev pub creates : List (List ℕ) → Deed
 creates names = record {
-  outcome = λ image source. create image names source;
+  outcome = λ image source. changing image (create image names source);
   target = λ image. Some (record { start = 0; size = length image });
   reads_source = true;
   writes_output = false;

@@ -1,5 +1,5 @@
 -- What holds of the outcomes of the commands.
-use Rattle.std.specs.Prelude.{◌≡◌, ℕ, ◌^◌, ◌<◌, All, List, [], ◌∷◌, length, Option, Some, None, Ok}
+use Rattle.std.specs.Prelude.{◌≡◌, ℕ, ◌^◌, ◌<◌, All, List, ◌∷◌, length, Option, Some, None, Ok}
 use Rattle.std.specs.List.{AllPairs}
 use Rattle.flash_store.specs.Regions.{Range, bytes_in, region_of}
 use Rattle.flash_store.specs.Laws.{LieApart}
@@ -11,7 +11,7 @@ use Rattle.cbfs_edit.specs.declared.place.Spot.{Spot}
 use Rattle.cbfs_commands.specs.declared.plan.Plan.{Plan}
 use Rattle.cbfs_commands.specs.Creations.{Fits, created, plan_for}
 use Rattle.cbfs_commands.specs.Deeds.{deed}
-use Rattle.cbfs_commands.specs.Outcomes.{Outcome, add, extract, extract_region, read, write}
+use Rattle.cbfs_commands.specs.Outcomes.{Outcome, add, changing, extract, extract_region, read, write}
 use Rattle.cbfs_commands.specs.Refusals.{HasNoFault}
 use Rattle.cbfs_commands.specs.Requests.{Request}
 use Rattle.cbfs_commands.specs.Requests as requests
@@ -23,7 +23,7 @@ OutcomesHaveNoFault = (r : Request) (image source : List ℕ) → HasNoFault ((d
 
 -- what `read` tells of a region is what `write` may put back, and the image stays as it is
 abbrev pub WritingBackChangesNothing : Type 0
-WritingBackChangesNothing = (image name bytes : List ℕ) → read image name ≡ shows bytes → write image name bytes ≡ record { written = []; image = image; answer = Ok tt }
+WritingBackChangesNothing = (image name bytes : List ℕ) → read image name ≡ shows bytes → write image name bytes ≡ Ok image
 
 -- the name of the region that a command reads or changes; `layout` and `create` have none
 abbrev pub region_asked : Request → Option (List ℕ)
@@ -69,5 +69,5 @@ AdditionsAreExtracted = (x : List ℕ) (new : NewComponent) (spot : Spot) (place
 -- and so it is of an image, where its map still gives the name the same region
 abbrev pub AddedFilesAreExtracted : Type 0
 AddedFilesAreExtracted = (image name : List ℕ) (new : NewComponent) (spot : Spot) (region : Range) (place : Place) → region_of image name ≡ Ok region → IsAdded (bytes_in region image) new spot place
-    → let now = (add image name new spot).image in
+    → let now = (changing image (add image name new spot)).image in
     region_of now name ≡ Ok region → extract now name new.name ≡ shows new.content

@@ -1,5 +1,5 @@
 -- What each command writes, leaves behind and answers, as a function of the whole image, the command and the source.
-use Rattle.std.specs.Prelude.{◌≡◌, ◌≢◌, ℕ, ◌<◌, ◌⊎◌, Bool, List, [], length, Option, None, Some, Result, Ok, Err, IsErrOf, ◌==◌, if◌then◌else◌}
+use Rattle.std.specs.Prelude.{◌≡◌, ◌≢◌, ℕ, ◌⊎◌, Bool, List, [], length, Option, None, Some, Result, Ok, Err, IsErrOf, ◌==◌, if◌then◌else◌}
 use Rattle.std.specs.Io.KnownBytes.{Appends}
 use Rattle.flash_format.specs.Components.{Component, is_packed}
 use Rattle.flash_format.specs.Cut.{Cut, End, complete, tail, damage, cut}
@@ -8,24 +8,19 @@ use Rattle.flash_store.specs.Device.{Device, Calls, faults_told}
 use Rattle.flash_store.specs.Output.{AppendsPart}
 use Rattle.flash_store.specs.Pages.{Pages}
 use Rattle.flash_store.specs.Regions.{Range, bytes_in, region_of}
-use Rattle.flash_store.specs.declared.fmap.StoreFault.{StoreFault}
 use Rattle.cbfs_edit.specs.Stops.{AddLeavesBefore, AddLeavesWhole}
 use Rattle.cbfs_edit.specs.Removals.{removal_in, removed}
-use Rattle.cbfs_edit.specs.declared.fault.EditFault.{EditFault}
 use Rattle.cbfs_edit.specs.Additions.{NewComponent, added, addition_in}
-use Rattle.cbfs_edit.specs.declared.group.Freed.{Freed}
-use Rattle.cbfs_edit.specs.declared.place.Place.{Place}
 use Rattle.cbfs_edit.specs.declared.place.Spot.{Spot}
-use Rattle.cbfs_walk.specs.Finding.{Found, component_in}
+use Rattle.cbfs_walk.specs.Finding.{component_in}
 use Rattle.cbfs_walk.specs.Shaped.{place_after}
 use Rattle.cbfs_walk.specs.Shapes.{shape, refused_or}
-use Rattle.cbfs_commands.specs.declared.plan.Plan.{Plan}
 use Rattle.cbfs_commands.specs.declared.refusal.Refusal.{Refusal}
 use Rattle.cbfs_commands.specs.declared.refusal.Refusal.TheVariants as refusals
 use Rattle.cbfs_commands.specs.Creations.{created, plan_for}
-use Rattle.cbfs_commands.specs.Refusals.{by_device, by_source, edit_refusal, store_refusal, walk_refusal}
+use Rattle.cbfs_commands.specs.Refusals.{and_then, by_device, by_source, edit_refusal, itself, store_refusal, walk_refusal}
 use Rattle.cbfs_commands.specs.Details.{rows_from}
-use Rattle.cbfs_commands.specs.Told.{Answer, Told, shows, refuses, AppendsPrefix}
+use Rattle.cbfs_commands.specs.Told.{Answer, Told, shows, refuses, told_of, AppendsPrefix}
 
 pub record Outcome : Type 0 where
   pub written : List ℕ
@@ -35,6 +30,21 @@ pub record Outcome : Type 0 where
 -- a command that changes nothing
 abbrev pub reading : List ℕ → Told → Outcome
 reading image t = record { written = t.written; image = image; answer = t.answer }
+
+-- a command that only changes the image, by what it leaves of it or why it is refused
+abbrev pub changing : List ℕ → Result (List ℕ) Refusal → Outcome
+changing image (Err refusal) = reading image (refuses refusal)
+changing image (Ok now) = record { written = []; image = now; answer = Ok tt }
+
+-- ---- on the region of a name
+
+-- what a command tells of it
+abbrev pub told_in : List ℕ → List ℕ → (Range → Told) → Told
+told_in image name tell = told_of store_refusal (region_of image name) tell
+
+-- what a command makes of it
+abbrev pub made_in : List ℕ → List ℕ → (Range → Result (List ℕ) Refusal) → Result (List ℕ) Refusal
+made_in image name make = and_then store_refusal (region_of image name) make
 
 -- ---- print
 
@@ -50,13 +60,9 @@ print_cut verbose at c = record { written = rows_from verbose at c.cells; answer
 unfoldable pub print_region : List ℕ → Bool → Told
 print_region x verbose = refused_or (λ fault. refuses (walk_refusal fault)) (shape x) (print_cut verbose 0 (cut x))
 
-abbrev pub print_found : List ℕ → Result Range StoreFault → Bool → Told
-print_found image (Err fault) verbose = refuses (store_refusal fault)
-print_found image (Ok region) verbose = print_region (bytes_in region image) verbose
-
 -- the rows of the region's cells, with the lines of its components where verbose
 unfoldable pub print : List ℕ → List ℕ → Bool → Told
-print image name verbose = print_found image (region_of image name) verbose
+print image name verbose = told_in image name (λ region. print_region (bytes_in region image) verbose)
 
 -- ---- extract
 
@@ -64,88 +70,55 @@ print image name verbose = print_found image (region_of image name) verbose
 abbrev pub told_component : Component → Told
 told_component c = if is_packed c.attributes then refuses refusals.Compressed else shows c.content
 
-abbrev pub extract_found_component : Found → Told
-extract_found_component (Err fault) = refuses (walk_refusal fault)
-extract_found_component (Ok None) = refuses refusals.NotFound
-extract_found_component (Ok (Some c)) = told_component c
+abbrev pub told_found : Option Component → Told
+told_found None = refuses refusals.NotFound
+told_found (Some c) = told_component c
 
 abbrev pub extract_region : List ℕ → List ℕ → Told
-extract_region x name = extract_found_component (component_in x name)
-
-abbrev pub extract_found : List ℕ → Result Range StoreFault → List ℕ → Told
-extract_found image (Err fault) name = refuses (store_refusal fault)
-extract_found image (Ok region) name = extract_region (bytes_in region image) name
+extract_region x name = told_of walk_refusal (component_in x name) told_found
 
 -- the content of the first component of the name in the region
 unfoldable pub extract : List ℕ → List ℕ → List ℕ → Told
-extract image region name = extract_found image (region_of image region) name
+extract image region name = told_in image region (λ found. extract_region (bytes_in found image) name)
 
 -- ---- remove
 
-abbrev pub removal : List ℕ → Range → Result Freed EditFault → Outcome
-removal image region (Err fault) = reading image (refuses (edit_refusal fault))
-removal image region (Ok group) = record { written = []; image = overwritten image region.start (removed (bytes_in region image) group); answer = Ok tt }
-
-abbrev pub remove_region : List ℕ → Range → List ℕ → Outcome
-remove_region image region name = removal image region (removal_in (bytes_in region image) name)
-
-abbrev pub remove_found : List ℕ → Result Range StoreFault → List ℕ → Outcome
-remove_found image (Err fault) name = reading image (refuses (store_refusal fault))
-remove_found image (Ok region) name = remove_region image region name
+abbrev pub remove_region : List ℕ → Range → List ℕ → Result (List ℕ) Refusal
+remove_region image region name =
+    and_then edit_refusal (removal_in (bytes_in region image) name) (λ group. Ok (overwritten image region.start (removed (bytes_in region image) group)))
 
 -- one empty entry in place of the first component of the name, with the free space that touches it
-unfoldable pub remove : List ℕ → List ℕ → List ℕ → Outcome
-remove image region name = remove_found image (region_of image region) name
+unfoldable pub remove : List ℕ → List ℕ → List ℕ → Result (List ℕ) Refusal
+remove image region name = made_in image region (λ found. remove_region image found name)
 
 -- ---- add
 
-abbrev pub addition : List ℕ → Range → NewComponent → Result Place EditFault → Outcome
-addition image region new (Err fault) = reading image (refuses (edit_refusal fault))
-addition image region new (Ok place) = record { written = []; image = overwritten image region.start (added (bytes_in region image) new place); answer = Ok tt }
-
-abbrev pub add_region : List ℕ → Range → NewComponent → Spot → Outcome
-add_region image region new spot = addition image region new (addition_in (bytes_in region image) new spot)
-
-abbrev pub add_found : List ℕ → Result Range StoreFault → NewComponent → Spot → Outcome
-add_found image (Err fault) new spot = reading image (refuses (store_refusal fault))
-add_found image (Ok region) new spot = add_region image region new spot
+abbrev pub add_region : List ℕ → Range → NewComponent → Spot → Result (List ℕ) Refusal
+add_region image region new spot =
+    and_then edit_refusal (addition_in (bytes_in region image) new spot) (λ place. Ok (overwritten image region.start (added (bytes_in region image) new place)))
 
 -- the component in the first free space that has room for it, at the least place that the spot allows
-unfoldable pub add : List ℕ → List ℕ → NewComponent → Spot → Outcome
-add image region new spot = add_found image (region_of image region) new spot
+unfoldable pub add : List ℕ → List ℕ → NewComponent → Spot → Result (List ℕ) Refusal
+add image region new spot = made_in image region (λ found. add_region image found new spot)
 
 -- ---- read and write
 
-abbrev pub read_found : List ℕ → Result Range StoreFault → Told
-read_found image (Err fault) = refuses (store_refusal fault)
-read_found image (Ok region) = shows (bytes_in region image)
-
 -- the region's bytes
 unfoldable pub read : List ℕ → List ℕ → Told
-read image name = read_found image (region_of image name)
+read image name = told_in image name (λ region. shows (bytes_in region image))
 
-abbrev pub write_region : List ℕ → Range → List ℕ → Outcome
-write_region image region source =
-    if length source == region.size then record { written = []; image = overwritten image region.start source; answer = Ok tt }
-    else reading image (refuses refusals.SourceSize)
-
-abbrev pub write_found : List ℕ → Result Range StoreFault → List ℕ → Outcome
-write_found image (Err fault) source = reading image (refuses (store_refusal fault))
-write_found image (Ok region) source = write_region image region source
+abbrev pub write_region : List ℕ → Range → List ℕ → Result (List ℕ) Refusal
+write_region image region source = if length source == region.size then Ok (overwritten image region.start source) else Err refusals.SourceSize
 
 -- the source in place of the region's bytes
-unfoldable pub write : List ℕ → List ℕ → List ℕ → Outcome
-write image name source = write_found image (region_of image name) source
+unfoldable pub write : List ℕ → List ℕ → List ℕ → Result (List ℕ) Refusal
+write image name source = made_in image name (λ region. write_region image region source)
 
 -- ---- create
 
-abbrev pub creation : List ℕ → List ℕ → Result Plan Refusal → Outcome
-creation image source (Err refusal) = reading image (refuses refusal)
-creation image source (Ok plan) = record { written = []; image = created (length image) plan source; answer = Ok tt }
-
 -- the whole image by the flashmap that the source begins with
-unfoldable pub create : List ℕ → List (List ℕ) → List ℕ → Outcome
-create image names source = creation image source (plan_for (length image) names source)
+unfoldable pub create : List ℕ → List (List ℕ) → List ℕ → Result (List ℕ) Refusal
+create image names source = and_then itself (plan_for (length image) names source) (λ plan. Ok (created (length image) plan source))
 
 -- ---- what a call does
 
@@ -171,10 +144,12 @@ pub record AddStopsIn (x : List ℕ) (new : NewComponent) (spot : Spot) (answer 
   pub by_device : answer ≡ Err refusals.Device → AddLeavesWhole x new spot now
   pub by_source : answer ≡ Err refusals.Source → AddLeavesBefore x new spot now
 
--- the call has answered and left what the outcome says, or the device or the source failed
-abbrev pub LeavesOr : List ℕ → Answer → Outcome → Type 0
-LeavesOr image answer o =
-    ((answer ≡ o.answer) × (image ≡ o.image)) ⊎ (answer ≡ Err refusals.Device) ⊎ (answer ≡ Err refusals.Source)
+-- the call has left what a change makes of the image and is done, or is refused as it is and has left the image, or the
+-- device or the source failed
+abbrev pub LeavesOr : List ℕ → List ℕ → Answer → Result (List ℕ) Refusal → Type 0
+LeavesOr image now answer made =
+    let o = changing image made in
+    ((answer ≡ o.answer) × (now ≡ o.image)) ⊎ (answer ≡ Err refusals.Device) ⊎ (answer ≡ Err refusals.Source)
 
 -- What a call leaves that writes to the device, by at most n calls, from a source, by at most m: each fault is told only
 -- where that side failed.

@@ -1,5 +1,5 @@
 -- The refusals of the layers below, as a command answers them, and answers that blame no side.
-use Rattle.std.specs.Prelude.{ℕ, Result, IsErrOf}
+use Rattle.std.specs.Prelude.{ℕ, Result, Ok, Err, IsErrOf}
 use Rattle.flash_store.specs.declared.fmap.StoreFault.{StoreFault}
 use Rattle.flash_store.specs.declared.fmap.StoreFault.TheVariants as store
 use Rattle.flash_store.specs.declared.paged.CopyFault.{CopyFault}
@@ -40,6 +40,15 @@ edit_refusal edit.NoSpace = refusals.NoSpace
 edit_refusal edit.BadName = refusals.BadName
 edit_refusal edit.BadType = refusals.BadType
 edit_refusal edit.BadAlign = refusals.BadAlign
+
+-- a refusal of a command, as it is
+abbrev pub itself : Refusal → Refusal
+itself refusal = refusal
+
+-- what comes of a value, or the refusal that its fault is told as
+abbrev pub and_then : {T U E : Type 0} → (E → Refusal) → Result T E → (T → Result U Refusal) → Result U Refusal
+and_then tell (Err fault) next = Err (tell fault)
+and_then tell (Ok value) next = next value
 
 -- how many refused calls of the device a refusal tells, and how many of the source
 abbrev pub by_device : Refusal → ℕ

@@ -23,6 +23,11 @@ shows text = record { written = text; answer = Ok tt }
 abbrev pub refuses : Refusal → Told
 refuses refusal = record { written = []; answer = Err refusal }
 
+-- what is told of a value, or the refusal that its fault is told as
+abbrev pub told_of : {T E : Type 0} → (E → Refusal) → Result T E → (T → Told) → Told
+told_of tell (Err fault) next = refuses (tell fault)
+told_of tell (Ok value) next = next value
+
 -- a text, and then what is told
 abbrev pub text_then : List ℕ → Told → Told
 text_then text t = record { written = text ++ t.written; answer = t.answer }

@@ -34,7 +34,7 @@ fn add_region<F: Flash, S: Source>(
     ensures refused { OnHonest F.facts paged.old.device (λ image.
         MayHaveWritten result ⊎ ((F.facts paged.new.device).content ≡ image)) }
     ensures left { OnHonest F.facts paged.old.device (λ image. IsTrue (S.facts source.old).honest →
-        LeavesOr (F.facts paged.new.device).content result
+        LeavesOr image (F.facts paged.new.device).content result
         (add_region image region (new_component name.now kind hash (S.facts source.old).content) spot)) }
     ensures stopped { OnHonest F.facts paged.old.device (λ image. IsTrue (S.facts source.old).honest →
         AddStopsIn (bytes_in region image) (new_component name.now kind hash (S.facts source.old).content) spot result
@@ -65,7 +65,7 @@ pub fn add<F: Flash, S: Source>(
     ensures refused { OnHonest F.facts paged.old.device (λ image.
         MayHaveWritten result ⊎ ((F.facts paged.new.device).content ≡ image)) }
     ensures left { OnHonest F.facts paged.old.device (λ image. IsTrue (S.facts source.old).honest →
-        LeavesOr (F.facts paged.new.device).content result
+        LeavesOr image (F.facts paged.new.device).content result
         (add image region.now (new_component name.now kind hash (S.facts source.old).content) spot)) }
     ensures stopped { OnHonest F.facts paged.old.device (λ image. IsTrue (S.facts source.old).honest →
         (found : Range) → region_of image region.now ≡ Ok found →

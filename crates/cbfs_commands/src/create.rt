@@ -87,7 +87,7 @@ pub fn create<F: Flash, S: Source>(
     ensures refused { OnHonest F.facts paged.old.device (λ image.
         MayHaveWritten result ⊎ ((F.facts paged.new.device).content ≡ image)) }
     ensures left { OnHonest F.facts paged.old.device (λ image. IsTrue (S.facts source.old).honest →
-        LeavesOr (F.facts paged.new.device).content result
+        LeavesOr image (F.facts paged.new.device).content result
         (create image (map (λ n. n.now) names.now) (S.facts source.old).content)) }
 {
     let image_len = paged.len();

@@ -24,7 +24,7 @@ fn remove_region<F: Flash>(paged: &mut Paged<F>, region: Region, name: &[u8]) ->
     ensures refused { OnHonest F.facts paged.old.device (λ image.
         MayHaveWritten result ⊎ ((F.facts paged.new.device).content ≡ image)) }
     ensures left { OnHonest F.facts paged.old.device (λ image.
-        LeavesOr (F.facts paged.new.device).content result (remove_region image region name.now)) }
+        LeavesOr image (F.facts paged.new.device).content result (remove_region image region name.now)) }
     ensures stopped { OnHonest F.facts paged.old.device (λ image. IsErrOf result Refusal.Device →
         LeavesWhole (bytes_in region image) name.now (bytes_in region (F.facts paged.new.device).content)) }
 {
@@ -44,7 +44,7 @@ pub fn remove<F: Flash>(paged: &mut Paged<F>, region: &[u8], name: &[u8]) -> Res
     ensures refused { OnHonest F.facts paged.old.device (λ image.
         MayHaveWritten result ⊎ ((F.facts paged.new.device).content ≡ image)) }
     ensures left { OnHonest F.facts paged.old.device (λ image.
-        LeavesOr (F.facts paged.new.device).content result (remove image region.now name.now)) }
+        LeavesOr image (F.facts paged.new.device).content result (remove image region.now name.now)) }
     ensures stopped { OnHonest F.facts paged.old.device (λ image. (found : Range) → region_of image region.now ≡ Ok found →
         IsErrOf result Refusal.Device →
         LeavesWhole (bytes_in found image) name.now (bytes_in found (F.facts paged.new.device).content)) }

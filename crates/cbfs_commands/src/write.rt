@@ -28,7 +28,7 @@ fn write_region<F: Flash, S: Source>(
     ensures refused { IsTrue (F.facts paged.old.device).honest →
         MayHaveWritten result ⊎ ((F.facts paged.new.device).content ≡ (F.facts paged.old.device).content) }
     ensures left { IsTrue (F.facts paged.old.device).honest → IsTrue (S.facts source.old).honest →
-        LeavesOr (F.facts paged.new.device).content result
+        LeavesOr (F.facts paged.old.device).content (F.facts paged.new.device).content result
         (write_region (F.facts paged.old.device).content region (S.facts source.old).content) }
     ensures stopped { IsTrue (F.facts paged.old.device).honest → IsTrue (S.facts source.old).honest →
         StopsIn (F.facts paged.old.device).content region (S.facts source.old).content
@@ -59,7 +59,7 @@ pub fn write<F: Flash, S: Source>(
     ensures refused { IsTrue (F.facts paged.old.device).honest →
         MayHaveWritten result ⊎ ((F.facts paged.new.device).content ≡ (F.facts paged.old.device).content) }
     ensures left { IsTrue (F.facts paged.old.device).honest → IsTrue (S.facts source.old).honest →
-        LeavesOr (F.facts paged.new.device).content result
+        LeavesOr (F.facts paged.old.device).content (F.facts paged.new.device).content result
         (write (F.facts paged.old.device).content name.now (S.facts source.old).content) }
     ensures stopped { IsTrue (F.facts paged.old.device).honest → IsTrue (S.facts source.old).honest →
         (region : Range) → region_of (F.facts paged.old.device).content name.now ≡ Ok region →

@@ -1,4 +1,4 @@
-use Rattle.std.proofs.Common.{◌≡◌, ◌∙◌, List, ℕ, Result, Ok, inl, inr, subst, IsTrue}
+use Rattle.std.proofs.Common.{◌≡◌, ◌∙◌, List, ℕ, Result, Ok, inl, inr, subst}
 use Rattle.flash_store.specs.Regions.{Range, bytes_in}
 use Rattle.flash_store.specs.declared.fmap.StoreFault.{StoreFault}
 use Rattle.flash_store.proofs.DeviceLemmas.{honest_still}
