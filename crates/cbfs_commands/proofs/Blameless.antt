@@ -1,5 +1,6 @@
 -- No outcome's own answer blames a side: each of its refusals is one of the image, the command or the source as they are.
 use Rattle.std.proofs.Common.{ℕ, Bool, true, false, cond, List, [], ◌∷◌, length, nat_lt, ◌+◌, ◌==◌, ◌&&◌, is_some, Option, Some, None, Result, Ok, Err, subst}
+use Rattle.std.specs.Option.{ok_or}
 use Rattle.std.specs.Prelude.{⊤}
 use Rattle.flash_format.specs.declared.flashmap.Area.{Area}
 use Rattle.flash_format.specs.declared.flashmap.FmapHead.{FmapHead}
@@ -27,7 +28,7 @@ use Rattle.cbfs_edit.specs.declared.place.Spot.{Spot}
 use Rattle.cbfs_edit.specs.declared.place.Wanted.{Wanted}
 use Rattle.cbfs_commands.specs.declared.refusal.Refusal.{Refusal}
 use Rattle.cbfs_commands.specs.declared.refusal.Refusal.TheVariants as refusals
-use Rattle.cbfs_commands.specs.Creations.{head_by, map_place, place_and, plan_at, plan_by, plan_for, plan_of, plan_when, region_places, some_overlap, with_room, with_shape}
+use Rattle.cbfs_commands.specs.Creations.{head_for, map_place, plan_for, plan_of, region_place, region_places, some_overlap, table_head}
 use Rattle.cbfs_commands.specs.Deeds.{deed}
 use Rattle.cbfs_commands.specs.Layouts.{layout, layout_under}
 use Rattle.cbfs_commands.specs.Outcomes.{add, changing, create, ended, extract, print, print_region, read, remove, told_component, told_found, write}
@@ -141,45 +142,37 @@ addition_in-blameless x new spot = go (is_bad_name new.name) (is_bad_type new.ki
 
 -- ---- plans
 
-head_by-blameless : (n : ℕ) (head : Option FmapHead) → Blameless itself (head_by n head)
-head_by-blameless n None = tt
-head_by-blameless n (Some head) = when itself (head.size == n) _ _ tt tt
+table_head-blameless : (source : List ℕ) → Blameless itself (table_head source)
+table_head-blameless source = go (map_head source)
+  where
+    go : (head : Option FmapHead) → Blameless itself (ok_or head refusals.TableBad)
+    go None = tt
+    go (Some head) = tt
 
-with_room-blameless : (len : ℕ) (place : Result Range StoreFault) → Blameless itself (with_room len place)
-with_room-blameless len (Err fault) = tt
-with_room-blameless len (Ok place) = when itself (nat_lt place.size len) _ _ tt tt
+head_for-blameless : (n : ℕ) (source : List ℕ) → Blameless itself (head_for n source)
+head_for-blameless n source = next-blameless itself _ _ (table_head-blameless source) (λ head. when itself (head.size == n) _ _ tt tt)
 
-with_shape-blameless : (place : Result Range StoreFault) → Blameless store_refusal place → Blameless itself (with_shape place)
-with_shape-blameless (Err fault) own = own
-with_shape-blameless (Ok place) own = when itself (has_bad_size place.size) _ _ tt tt
+map_place-blameless : (n len : ℕ) (area : Option Area) → Blameless itself (map_place n len area)
+map_place-blameless n len area = next-blameless (λ fault. refusals.FmapArea) _ _ (other (inside n area)) (λ place. when itself (nat_lt place.size len) _ _ tt tt)
+  where
+    other : (place : Result Range StoreFault) → Blameless (λ fault. refusals.FmapArea) place
+    other (Err fault) = tt
+    other (Ok place) = tt
 
-place_and-blameless : (place : Result Range Refusal) (rest : Result (List Range) Refusal) → Blameless itself place → Blameless itself rest → Blameless itself (place_and place rest)
-place_and-blameless (Err refusal) rest own others = own
-place_and-blameless (Ok place) (Err refusal) own others = others
-place_and-blameless (Ok place) (Ok places) own others = tt
+region_place-blameless : (n : ℕ) (area : Option Area) → Blameless itself (region_place n area)
+region_place-blameless n area = next-blameless store_refusal _ _ (inside-blameless n area) (λ place. when itself (has_bad_size place.size) _ _ tt tt)
 
 region_places-blameless : (n : ℕ) (areas : List (Option Area)) → Blameless itself (region_places n areas)
 region_places-blameless n [] = tt
-region_places-blameless n (area ∷ areas) = place_and-blameless _ _ (with_shape-blameless (inside n area) (inside-blameless n area)) (region_places-blameless n areas)
-
-plan_when-blameless : (len : ℕ) (place : Range) (places : Result (List Range) Refusal) → Blameless itself places → Blameless itself (plan_when len place places)
-plan_when-blameless len place (Err refusal) own = own
-plan_when-blameless len place (Ok places) own = when itself (some_overlap (place ∷ places)) _ _ tt tt
-
-plan_at-blameless : (n len : ℕ) (place : Result Range Refusal) (areas : List (Option Area)) → Blameless itself place → Blameless itself (plan_at n len place areas)
-plan_at-blameless n len (Err refusal) areas own = own
-plan_at-blameless n len (Ok place) areas own = plan_when-blameless len place _ (region_places-blameless n areas)
+region_places-blameless n (area ∷ areas) = next-blameless itself _ _ (region_place-blameless n area) (λ place. next-blameless itself _ _ (region_places-blameless n areas) (λ places. tt))
 
 plan_of-blameless : (n len : ℕ) (area : Option Area) (areas : List (Option Area)) → Blameless itself (plan_of n len area areas)
-plan_of-blameless n len area areas = plan_at-blameless n len (map_place n len area) areas (with_room-blameless len (inside n area))
-
-plan_by-blameless : (n : ℕ) (names : List (List ℕ)) (source : List ℕ) (head : Result FmapHead Refusal) → Blameless itself head → Blameless itself (plan_by n names source head)
-plan_by-blameless n names source (Err refusal) own = own
-plan_by-blameless n names source (Ok head) own = plan_of-blameless n (map_len head) _ _
+plan_of-blameless n len area areas =
+    next-blameless itself _ _ (map_place-blameless n len area) (λ map. next-blameless itself _ _ (region_places-blameless n areas) (λ regions. when itself (some_overlap (map ∷ regions)) _ _ tt tt))
 
 plan_for-blameless : (n : ℕ) (names : List (List ℕ)) (source : List ℕ) → Blameless itself (plan_for n names source)
 unfolding plan_for
-plan_for-blameless n names source = plan_by-blameless n names source _ (head_by-blameless n (map_head source))
+plan_for-blameless n names source = next-blameless itself _ _ (head_for-blameless n source) (λ head. plan_of-blameless n (map_len head) _ _)
 
 -- ---- commands
 

@@ -1,54 +1,54 @@
 -- A plan that isn't refused fits its image, and its areas lie apart.
-use Rattle.std.proofs.Common.{◌≡◌, inl, inr, ℕ, ◌+◌, ◌≤◌, ◌==◌, ◌&&◌, ◌||◌, Bool, true, false, cond, All, List, [], ◌∷◌, length, drop, Option, Some, None, Result, Ok, Err, refl, sym, ap, subst, arith}
+use Rattle.std.proofs.Common.{◌≡◌, inl, inr, ℕ, ◌+◌, ◌≤◌, ◌==◌, ◌&&◌, ◌||◌, Bool, true, false, cond, All, List, [], ◌∷◌, length, Option, Some, None, Result, Ok, Err, refl, sym, ap, subst, arith}
 use Rattle.std.specs.Prelude.{nat_le, nat_lt}
 use Rattle.std.specs.List.{AllPairs, list_any}
+use Rattle.std.specs.Option.{ok_or}
 use Rattle.std.proofs.lemmas.Bool.Decides.{nat_tests}
 use Rattle.std.proofs.lemmas.List.Elements.{All-nil, All-cons}
 use Rattle.std.proofs.lemmas.List.Kept.{AllPairs-cons}
 use Rattle.flash_format.specs.declared.flashmap.FmapHead.{FmapHead}
 use Rattle.flash_format.specs.declared.flashmap.Area.{Area}
-use Rattle.flash_format.specs.Flashmap.{areas_from, fmap_head_len, fmap_head_of, has_signature, is_map, is_valid_head, map_len}
+use Rattle.flash_format.specs.Flashmap.{fmap_head_len, fmap_head_of, has_signature, is_map, is_valid_head, map_len}
 use Rattle.flash_store.specs.Fmap.{map_head}
 use Rattle.flash_store.specs.Laws.{LieApart}
 use Rattle.flash_store.specs.Regions.{Range, inside}
-use Rattle.flash_store.specs.declared.fmap.StoreFault.{StoreFault}
 use Rattle.flash_store.proofs.FmapLemmas.{head_some, valid_fits}
 use Rattle.cbfs_walk.specs.Shapes.{has_bad_size}
 use Rattle.cbfs_commands.specs.declared.plan.Plan.{Plan}
 use Rattle.cbfs_commands.specs.declared.refusal.Refusal.{Refusal}
 use Rattle.cbfs_commands.specs.declared.refusal.Refusal.TheVariants as refusals
-use Rattle.cbfs_commands.specs.Creations.{Fits, IsPlace, first_area, first_areas, head_by, map_area_name, map_place, overlap, place_and, plan_at, plan_by, plan_for, plan_when, region_place, region_places, some_overlap, with_room, with_shape}
+use Rattle.cbfs_commands.specs.Creations.{Fits, IsPlace, head_for, map_place, overlap, plan_for, plan_of, region_place, region_places, some_overlap}
 use Rattle.cbfs_commands.specs.Laws.{PlansAreLaid}
+use Rattle.cbfs_commands.specs.Refusals.{and_then, itself, store_refusal}
 use Rattle.cbfs_commands.proofs.RegionPlaces.{inside_lies}
+
+-- what was done, step by step
+done : {T U E : Type 0} (tell : E → Refusal) (r : Result T E) (next : T → Result U Refusal) (x : U) → and_then tell r next ≡ Ok x → (value : T) × (r ≡ Ok value) × (next value ≡ Ok x)
+done tell (Err fault) next x is = absurd cc
+done tell (Ok value) next x is = (value, refl, is)
+
+passed : {T : Type 0} (bad : Bool) (refusal : Refusal) (value x : T) → (let r : Result T Refusal = cond bad (Err refusal) (Ok value) in r) ≡ Ok x → (bad ≡ false) × (value ≡ x)
+passed true refusal value x is = absurd cc
+passed false refusal value x is = (refl, cc)
 
 -- ---- the regions
 
 is_place : (n : ℕ) (area : Option Area) (place : Range) → region_place n area ≡ Ok place → IsPlace n place
-is_place n area place is = go (inside n area) refl is
-  where
-    shaped : (found : Range) → inside n area ≡ Ok found → (bad : Bool) → has_bad_size found.size ≡ bad → (let r : Result Range Refusal = cond bad (Err refusals.RegionShape) (Ok found) in r) ≡ Ok place → IsPlace n place
-    shaped found e true b p = absurd cc
-    shaped found e false b p =
-        let same : found ≡ place = cc in
-        subst (λ (r : Range). IsPlace n r) same (record { inside = inside_lies n area found e; size = b })
-
-    go : (r : Result Range StoreFault) → inside n area ≡ r → with_shape r ≡ Ok place → IsPlace n place
-    go (Err fault) e p = absurd cc
-    go (Ok found) e p = shaped found e (has_bad_size found.size) refl p
+is_place n area place is =
+    let found = done store_refusal (inside n area) _ place is in
+    let shaped = passed (has_bad_size found.0.size) _ found.0 place found.2 in
+    subst (λ (r : Range). IsPlace n r) shaped.1 (record { inside = inside_lies n area found.0 found.1; size = shaped.0 })
 
 are_places : (n : ℕ) (areas : List (Option Area)) (places : List Range) → region_places n areas ≡ Ok places → All (IsPlace n) places
 are_places n [] places is =
     let same : [] ≡ places = cc in
     subst (λ (l : List Range). All (IsPlace n) l) same (All-nil (IsPlace n))
-are_places n (area ∷ areas) places is = go (region_place n area) (region_places n areas) (λ (place : Range) (e : region_place n area ≡ Ok place). is_place n area place e) (λ (others : List Range) (e : region_places n areas ≡ Ok others). are_places n areas others e) refl refl is
-  where
-    go : (r : Result Range Refusal) (s : Result (List Range) Refusal) → ((place : Range) → region_place n area ≡ Ok place → IsPlace n place) → ((others : List Range) → region_places n areas ≡ Ok others → All (IsPlace n) others)
-        → region_place n area ≡ r → region_places n areas ≡ s → place_and r s ≡ Ok places → All (IsPlace n) places
-    go (Err refusal) s one more e f p = absurd cc
-    go (Ok place) (Err refusal) one more e f p = absurd cc
-    go (Ok place) (Ok others) one more e f p =
-        let same : place ∷ others ≡ places = cc in
-        subst (λ (l : List Range). All (IsPlace n) l) same (All-cons (IsPlace n) place others (one place e) (more others f))
+are_places n (area ∷ areas) places is =
+    let first = done itself (region_place n area) _ places is in
+    let others = done itself (region_places n areas) _ places first.2 in
+    let last = others.2 in
+    let same : first.0 ∷ others.0 ≡ places = cc in
+    subst (λ (l : List Range). All (IsPlace n) l) same (All-cons (IsPlace n) first.0 others.0 (is_place n area first.0 first.1) (are_places n areas others.0 others.1))
 
 -- ---- no two overlap
 
@@ -95,44 +95,41 @@ pub record IsPlanned (n m : ℕ) (plan : Plan) : Type 0 where
   pub fits : Fits n m plan
   pub none : some_overlap (plan.map ∷ plan.regions.items) ≡ false
 
-by_places : (n m len : ℕ) (place : Range) (areas : List (Option Area)) (plan : Plan) → len ≤ m → len ≤ place.size → place.start + place.size ≤ n → plan_when len place (region_places n areas) ≡ Ok plan → IsPlanned n m plan
-by_places n m len place areas plan in_source room lies is = go (region_places n areas) refl is
+planned_of : (n m len : ℕ) (area : Option Area) (areas : List (Option Area)) (plan : Plan) → len ≤ m → plan_of n len area areas ≡ Ok plan → IsPlanned n m plan
+planned_of n m len area areas plan in_source is =
+    let map = done itself (map_place n len area) _ plan is in
+    let found = done (λ fault. refusals.FmapArea) (inside n area) _ map.0 map.1 in
+    let roomy = passed (nat_lt found.0.size len) _ found.0 map.0 found.2 in
+    let regions = done itself (region_places n areas) _ plan map.2 in
+    let apart = passed (some_overlap (map.0 ∷ regions.0)) _ _ plan regions.2 in
+    let lies = inside_lies n area found.0 found.1 in
+    let size : found.0.size ≡ map.0.size = ap (λ (r : Range). r.size) roomy.1 in
+    let end : found.0.start + found.0.size ≡ map.0.start + map.0.size = ap (λ (r : Range). r.start + r.size) roomy.1 in
+    let room : len ≤ found.0.size = enough found.0.size len roomy.0 in
+    subst (λ (q : Plan). IsPlanned n m q) apart.1 (record {
+      fits = record { in_source = in_source; room = omega (arith, room, size); map = omega (arith, lies, end); regions = are_places n areas regions.0 regions.1 };
+      none = apart.0;
+    })
   where
-    by_overlap : (places : List Range) → region_places n areas ≡ Ok places → (b : Bool) → some_overlap (place ∷ places) ≡ b
-        → (let r : Result Plan Refusal = cond b (Err refusals.FmapArea) (Ok (record { map = place; map_len = len; regions = record { items = places } })) in r) ≡ Ok plan → IsPlanned n m plan
-    by_overlap places e true b p = absurd cc
-    by_overlap places e false b p =
-        let same : (let q : Plan = record { map = place; map_len = len; regions = record { items = places } } in q) ≡ plan = cc in
-        subst (λ (q : Plan). IsPlanned n m q) same (record { fits = record { in_source = in_source; room = room; map = lies; regions = are_places n areas places e }; none = b })
-
-    go : (r : Result (List Range) Refusal) → region_places n areas ≡ r → plan_when len place r ≡ Ok plan → IsPlanned n m plan
-    go (Err refusal) e p = absurd cc
-    go (Ok places) e p = by_overlap places e (some_overlap (place ∷ places)) refl p
-
-by_area : (n m len : ℕ) (area : Option Area) (areas : List (Option Area)) (plan : Plan) → len ≤ m → plan_at n len (map_place n len area) areas ≡ Ok plan → IsPlanned n m plan
-by_area n m len area areas plan in_source is = go (inside n area) refl is
-  where
-    by_room : (place : Range) → inside n area ≡ Ok place → (b : Bool) → nat_lt place.size len ≡ b → plan_at n len (cond b (Err refusals.FmapArea) (Ok place)) areas ≡ Ok plan → IsPlanned n m plan
-    by_room place e true b p = absurd cc
-    by_room place e false b p = by_places n m len place areas plan in_source (grind (arith, nat_tests)) (inside_lies n area place e) p
-
-    go : (r : Result Range StoreFault) → inside n area ≡ r → plan_at n len (with_room len r) areas ≡ Ok plan → IsPlanned n m plan
-    go (Err fault) e p = absurd cc
-    go (Ok place) e p = by_room place e (nat_lt place.size len) refl p
+    enough : (size len : ℕ) → nat_lt size len ≡ false → len ≤ size
+    enough size len none = grind (arith, nat_tests)
 
 pub planned : (n : ℕ) (names : List (List ℕ)) (source : List ℕ) (plan : Plan) → plan_for n names source ≡ Ok plan → IsPlanned n (length source) plan
 unfolding plan_for
-planned n names source plan is = go (map_head source) refl is
+planned n names source plan is =
+    let head = done itself (head_for n source) _ plan is in
+    planned_of n (length source) (map_len head.0) _ _ plan (fits head.0 head.1) head.2
   where
-    by_size : (head : FmapHead) → map_head source ≡ Some head → (b : Bool) → plan_by n names source (cond b (Ok head) (Err refusals.TableBad)) ≡ Ok plan → IsPlanned n (length source) plan
-    by_size head e true p =
-        let areas : List Area = areas_from head.nareas (drop fmap_head_len source) in
-        by_area n (length source) (map_len head) (first_area areas map_area_name) (first_areas areas names) plan (table_fits source head e) p
-    by_size head e false p = absurd cc
+    known : (head : FmapHead) (o : Option FmapHead) → map_head source ≡ o → and_then itself (ok_or o refusals.TableBad) (λ head. cond (head.size == n) (Ok head) (Err refusals.TableBad)) ≡ Ok head → map_len head ≤ length source
+    known head None e p = absurd cc
+    known head (Some own) e p = by_size (own.size == n) p
+      where
+        by_size : (b : Bool) → (let r : Result FmapHead Refusal = cond b (Ok own) (Err refusals.TableBad) in r) ≡ Ok head → map_len head ≤ length source
+        by_size true q = let same : own ≡ head = cc in subst (λ (h : FmapHead). map_len h ≤ length source) same (table_fits source own e)
+        by_size false q = absurd cc
 
-    go : (o : Option FmapHead) → map_head source ≡ o → plan_by n names source (head_by n o) ≡ Ok plan → IsPlanned n (length source) plan
-    go None e p = absurd cc
-    go (Some head) e p = by_size head e (head.size == n) p
+    fits : (head : FmapHead) → head_for n source ≡ Ok head → map_len head ≤ length source
+    fits head p = known head (map_head source) refl p
 
 pub plans_laid : PlansAreLaid
 plans_laid n names source plan is =

@@ -2,13 +2,13 @@
 use Rattle.std.proofs.Common.{◌≡◌, ℕ, zero, suc, ◌+◌, ◌*◌, ◌<◌, ◌≤◌, Bool, cond, List, [], ◌∷◌, ◌++◌, length, map, drop, set, get_or, replicate, Option, Some, None, Result, Ok, Err, refl, sym, ap, ◌∙◌, arith}
 use Rattle.std.specs.List.{find}
 use Rattle.std.specs.Option.{option_or}
-use Rattle.std.proofs.lemmas.List.{append_assoc, drop-drop}
+use Rattle.std.proofs.lemmas.List.{drop-drop}
 use Rattle.std.proofs.lemmas.List.Folds.{find-append}
 use Rattle.flash_format.specs.declared.flashmap.Area.{Area}
 use Rattle.flash_format.specs.Flashmap.{area_of, areas_from, is_area}
 use Rattle.flash_store.specs.Regions.{Range}
 use Rattle.cbfs_commands.specs.declared.refusal.Refusal.{Refusal}
-use Rattle.cbfs_commands.specs.Creations.{first_area, first_areas, place_and}
+use Rattle.cbfs_commands.specs.Creations.{first_area, first_areas}
 
 -- ---- what is kept for each name
 
@@ -81,11 +81,3 @@ areas-and n y z area same is =
 abbrev pub joined : List Range → Result (List Range) Refusal → Result (List Range) Refusal
 joined places (Err refusal) = Err refusal
 joined places (Ok more) = Ok (places ++ more)
-
-pub joined-none : (r : Result (List Range) Refusal) → joined [] r ≡ r
-joined-none (Err refusal) = refl
-joined-none (Ok more) = refl
-
-pub joined-more : (places : List Range) (place : Range) (r : Result (List Range) Refusal) → joined places (place_and (Ok place) r) ≡ joined (places ++ place ∷ []) r
-joined-more places place (Err refusal) = refl
-joined-more places place (Ok more) = ap (λ (l : List Range). (let r : Result (List Range) Refusal = Ok l in r)) (sym (append_assoc places (place ∷ []) more))

@@ -1,7 +1,8 @@
 -- What `create` makes of a flashmap: the table that it begins with, the places of the map and of the regions by the
 -- table's areas, and the image. What is asked of them, and the order of the checks, are this project's own.
-use Rattle.std.specs.Prelude.{◌≡◌, ℕ, ◌+◌, ◌≤◌, Bool, false, ◌&&◌, ◌||◌, All, List, [], ◌∷◌, take, map, drop, replicate, nat_lt, Option, Some, None, Result, Ok, Err, ◌==◌, if◌then◌else◌}
+use Rattle.std.specs.Prelude.{◌≡◌, ℕ, ◌+◌, ◌≤◌, Bool, false, ◌&&◌, ◌||◌, All, List, [], ◌∷◌, take, map, drop, replicate, nat_lt, Option, Result, Ok, Err, ◌==◌, if◌then◌else◌}
 use Rattle.std.specs.List.{find, list_any}
+use Rattle.std.specs.Option.{ok_or}
 use lib.Chars.{codes}
 use Rattle.arrayvec.specs.ArrayVec.{ArrayVec}
 use Rattle.flash_format.specs.declared.flashmap.FmapHead.{FmapHead}
@@ -10,32 +11,26 @@ use Rattle.flash_format.specs.Flashmap.{fmap_head_len, map_len, areas_from, is_a
 use Rattle.flash_store.specs.Bytes.{overwritten}
 use Rattle.flash_store.specs.Fmap.{map_head}
 use Rattle.flash_store.specs.Regions.{Range, bytes_in, inside}
-use Rattle.flash_store.specs.declared.fmap.StoreFault.{StoreFault}
 use Rattle.cbfs_walk.specs.Shapes.{has_bad_size}
 use Rattle.cbfs_edit.specs.Formats.{formatted}
 use Rattle.cbfs_commands.specs.declared.plan.Plan.{Plan}
 use Rattle.cbfs_commands.specs.declared.refusal.Refusal.{Refusal}
 use Rattle.cbfs_commands.specs.declared.refusal.Refusal.TheVariants as refusals
-use Rattle.cbfs_commands.specs.Refusals.{store_refusal}
+use Rattle.cbfs_commands.specs.Refusals.{and_then, itself, store_refusal}
 
 -- ---- the table
 
--- the size that the head of a table states
-abbrev pub size_by : Option FmapHead → Result ℕ Refusal
-size_by None = Err refusals.TableBad
-size_by (Some head) = Ok head.size
+-- the head of the table that a source begins with
+abbrev pub table_head : List ℕ → Result FmapHead Refusal
+table_head source = ok_or (map_head source) refusals.TableBad
 
--- the size that a source states, where it begins with a valid table
+-- the size that it states
 abbrev pub stated_size : List ℕ → Result ℕ Refusal
-stated_size source = size_by (map_head source)
+stated_size source = and_then itself (table_head source) (λ head. Ok head.size)
 
--- the head of a table that is one for an image of n bytes
-abbrev pub head_by : ℕ → Option FmapHead → Result FmapHead Refusal
-head_by n None = Err refusals.TableBad
-head_by n (Some head) = if head.size == n then Ok head else Err refusals.TableBad
-
+-- the head, where it states n bytes
 abbrev pub head_for : ℕ → List ℕ → Result FmapHead Refusal
-head_for n source = head_by n (map_head source)
+head_for n source = and_then itself (table_head source) (λ head. if head.size == n then Ok head else Err refusals.TableBad)
 
 -- the first of these areas with the name
 abbrev pub first_area : List Area → List ℕ → Option Area
@@ -50,31 +45,18 @@ map_area_name = codes "FMAP"
 
 -- ---- the places
 
-abbrev pub with_room : ℕ → Result Range StoreFault → Result Range Refusal
-with_room len (Err fault) = Err refusals.FmapArea
-with_room len (Ok place) = if nat_lt place.size len then Err refusals.FmapArea else Ok place
-
 -- where the map's area lies in an image of n bytes; it has room for a table of this length
 abbrev pub map_place : ℕ → ℕ → Option Area → Result Range Refusal
-map_place n len area = with_room len (inside n area)
-
-abbrev pub with_shape : Result Range StoreFault → Result Range Refusal
-with_shape (Err fault) = Err (store_refusal fault)
-with_shape (Ok place) = if has_bad_size place.size then Err refusals.RegionShape else Ok place
+map_place n len area = and_then (λ fault. refusals.FmapArea) (inside n area) (λ place. if nat_lt place.size len then Err refusals.FmapArea else Ok place)
 
 -- where a region's area lies in an image of n bytes; it has the size of a CBFS
 abbrev pub region_place : ℕ → Option Area → Result Range Refusal
-region_place n area = with_shape (inside n area)
-
-abbrev pub place_and : Result Range Refusal → Result (List Range) Refusal → Result (List Range) Refusal
-place_and (Err refusal) rest = Err refusal
-place_and (Ok place) (Err refusal) = Err refusal
-place_and (Ok place) (Ok places) = Ok (place ∷ places)
+region_place n area = and_then store_refusal (inside n area) (λ place. if has_bad_size place.size then Err refusals.RegionShape else Ok place)
 
 -- where they all lie, or the first refusal
 abbrev pub region_places : ℕ → List (Option Area) → Result (List Range) Refusal
 region_places n [] = Ok []
-region_places n (area ∷ areas) = place_and (region_place n area) (region_places n areas)
+region_places n (area ∷ areas) = and_then itself (region_place n area) (λ place. and_then itself (region_places n areas) (λ places. Ok (place ∷ places)))
 
 -- a vector of them by what it holds
 abbrev pub items_of : Result (ArrayVec Range) Refusal → Result (List Range) Refusal
@@ -92,27 +74,19 @@ some_overlap (place ∷ places) = list_any (overlap place) places || some_overla
 
 -- ---- the plan: first the map's area, then each region, then whether any two of them overlap
 
-abbrev pub plan_when : ℕ → Range → Result (List Range) Refusal → Result Plan Refusal
-plan_when len place (Err refusal) = Err refusal
-plan_when len place (Ok places) = if some_overlap (place ∷ places) then Err refusals.FmapArea else Ok (record { map = place; map_len = len; regions = record { items = places } })
-
-abbrev pub plan_at : ℕ → ℕ → Result Range Refusal → List (Option Area) → Result Plan Refusal
-plan_at n len (Err refusal) areas = Err refusal
-plan_at n len (Ok place) areas = plan_when len place (region_places n areas)
-
 -- the plan of an image of n bytes, by the length of its table, the map's area and those of the regions
 abbrev pub plan_of : ℕ → ℕ → Option Area → List (Option Area) → Result Plan Refusal
-plan_of n len area areas = plan_at n len (map_place n len area) areas
-
-abbrev pub plan_by : ℕ → List (List ℕ) → List ℕ → Result FmapHead Refusal → Result Plan Refusal
-plan_by n names source (Err refusal) = Err refusal
-plan_by n names source (Ok head) =
-    let areas = areas_from head.nareas (drop fmap_head_len source) in
-    plan_of n (map_len head) (first_area areas map_area_name) (first_areas areas names)
+plan_of n len area areas =
+    and_then itself (map_place n len area) (λ map.
+    and_then itself (region_places n areas) (λ regions.
+    if some_overlap (map ∷ regions) then Err refusals.FmapArea else Ok (record { map = map; map_len = len; regions = record { items = regions } })))
 
 -- the plan of an image of n bytes with these regions, by the table that the source begins with
 unfoldable pub plan_for : ℕ → List (List ℕ) → List ℕ → Result Plan Refusal
-plan_for n names source = plan_by n names source (head_for n source)
+plan_for n names source =
+    and_then itself (head_for n source) (λ head.
+    let areas = areas_from head.nareas (drop fmap_head_len source) in
+    plan_of n (map_len head) (first_area areas map_area_name) (first_areas areas names))
 
 -- a region of an image of n bytes, with the size of a CBFS
 pub record IsPlace (n : ℕ) (place : Range) : Type 0 where
