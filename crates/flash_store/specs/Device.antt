@@ -1,5 +1,6 @@
 -- Devices and sources: what contracts see of them, and what calls leave.
-use Rattle.std.specs.Prelude.{◌≡◌, ℕ, ◌+◌, ◌≤◌, Bool, List, length, IsTrue, Result, Ok, Err}
+use Rattle.std.specs.Prelude.{◌≡◌, ◌⊎◌, ℕ, ◌+◌, ◌≤◌, Bool, List, length, slice_range, IsTrue, OnOk, Result, Ok, Err}
+use Rattle.flash_store.specs.Bytes.{overwritten, SameOutside}
 
 -- what contracts see of a device or a source: all its bytes, how many calls but `len` were made, how often it
 -- has failed, and whether it does what it was told and tells what it holds
@@ -33,6 +34,25 @@ pub record OneCall (refused : ℕ) (old new : Device) : Type 0 where
   pub faults : new.faults ≡ old.faults + refused
   pub same_honesty : new.honest ≡ old.honest
   pub same_length : length new.content ≡ length old.content
+
+-- what holds after one read of the n bytes from `at` on, into `out`: the second and the third on an honest device
+pub record OneRead {T E : Type 0} (at n : ℕ) (old new : Device) (result : Result T E) (out : List ℕ) : Type 0 where
+  pub call : OneCall (refusals result) old new
+  pub read : IsTrue old.honest → OnOk result (out ≡ slice_range old.content at (at + n))
+  pub unchanged : IsTrue old.honest → new.content ≡ old.content
+
+-- what holds after one write of these bytes from `at` on: the second on an honest device, the third there whatever it
+-- answered
+pub record OneWrite {T E : Type 0} (at : ℕ) (bytes : List ℕ) (old new : Device) (result : Result T E) : Type 0 where
+  pub call : OneCall (refusals result) old new
+  pub written : IsTrue old.honest → OnOk result (new.content ≡ overwritten old.content at bytes)
+  pub torn : IsTrue old.honest → SameOutside at (length bytes) old.content new.content
+
+-- the same of a write that is whole or absent
+pub record OneCommit {T E : Type 0} (at : ℕ) (bytes : List ℕ) (old new : Device) (result : Result T E) : Type 0 where
+  pub call : OneCall (refusals result) old new
+  pub written : IsTrue old.honest → OnOk result (new.content ≡ overwritten old.content at bytes)
+  pub whole : IsTrue old.honest → (new.content ≡ old.content) ⊎ (new.content ≡ overwritten old.content at bytes)
 
 -- what holds after at most n reads, whatever they answered
 pub record Reads (n refused : ℕ) (old new : Device) : Type 0 where

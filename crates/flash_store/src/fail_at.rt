@@ -1,7 +1,7 @@
 //! A device for tests, which refuses every call after the first few.
 ghost use Rattle.std.specs.Prelude.{◌≡◌, ◌+◌, ◌-◌, ◌<◌, ◌≤◌, ◌⊎◌, length, take, true, false, IsTrue, IsErr, OnOk, OnErr, slice_range};
 ghost use Rattle.flash_store.specs.Bytes.{overwritten, SameOutside};
-ghost use Rattle.flash_store.specs.Device.{OneCall, refusals};
+ghost use Rattle.flash_store.specs.Device.{OneCall, OneRead, OneWrite, OneCommit, refusals};
 ghost use Rattle.flash_store.specs.Failing.{facts_over, Passed, TornOnce, refused_once};
 
 use crate::counter::Counter;
@@ -104,12 +104,8 @@ impl<F: Flash> Flash for FailAt<F> {
         requires inside { at + length out.old ≤ length (F.facts self.old.device).content }
         requires short { length out.old ≤ 4096 }
 
-        // As of every device.
-        ensures call { OneCall (refusals result) (facts_over F.facts self.old) (facts_over F.facts self.new) }
-        ensures read { IsTrue (F.facts self.old.device).honest →
-            OnOk result (out.new ≡ slice_range (F.facts self.old.device).content at (at + length out.old)) }
-        ensures unchanged { IsTrue (F.facts self.old.device).honest →
-            (F.facts self.new.device).content ≡ (F.facts self.old.device).content }
+        ensures after { OneRead at (length out.old) (facts_over F.facts self.old)
+            (facts_over F.facts self.new) result out.new }
 
         ensures passed { 0 < self.old.left → Passed F.facts self.old self.new result }
         ensures refused { self.old.left ≡ 0 → IsErr result }
@@ -126,14 +122,8 @@ impl<F: Flash> Flash for FailAt<F> {
         requires inside { at + length bytes.now ≤ length (F.facts self.old.device).content }
         requires short { length bytes.now ≤ 4096 }
 
-        // As of every device.
-        ensures call { OneCall (refusals result) (facts_over F.facts self.old) (facts_over F.facts self.new) }
-        ensures written { IsTrue (F.facts self.old.device).honest →
-            OnOk result ((F.facts self.new.device).content
-            ≡ overwritten (F.facts self.old.device).content at bytes.now) }
-        ensures torn { IsTrue (F.facts self.old.device).honest →
-            SameOutside at (length bytes.now) (F.facts self.old.device).content
-            (F.facts self.new.device).content }
+        ensures after { OneWrite at bytes.now (facts_over F.facts self.old)
+            (facts_over F.facts self.new) result }
 
         ensures passed { 0 < self.old.left → Passed F.facts self.old self.new result }
         ensures refused { self.old.left ≡ 0 → IsErr result }
@@ -155,15 +145,8 @@ impl<F: Flash> Flash for FailAt<F> {
     fn commit_at(&mut self, at: u64, bytes: &[u8; HEADER_LENGTH]) -> Result<(), FlashFault>
         requires { at + length bytes.now ≤ length (F.facts self.old.device).content }
 
-        // As of every device.
-        ensures call { OneCall (refusals result) (facts_over F.facts self.old) (facts_over F.facts self.new) }
-        ensures written { IsTrue (F.facts self.old.device).honest →
-            OnOk result ((F.facts self.new.device).content
-            ≡ overwritten (F.facts self.old.device).content at bytes.now) }
-        ensures whole { IsTrue (F.facts self.old.device).honest →
-            ((F.facts self.new.device).content ≡ (F.facts self.old.device).content)
-            ⊎ ((F.facts self.new.device).content
-            ≡ overwritten (F.facts self.old.device).content at bytes.now) }
+        ensures after { OneCommit at bytes.now (facts_over F.facts self.old)
+            (facts_over F.facts self.new) result }
 
         ensures passed { 0 < self.old.left → Passed F.facts self.old self.new result }
         ensures refused { self.old.left ≡ 0 → IsErr result }

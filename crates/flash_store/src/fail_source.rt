@@ -1,6 +1,6 @@
 //! A source for tests, which refuses every read after the first few.
 ghost use Rattle.std.specs.Prelude.{◌≡◌, ◌+◌, ◌-◌, ◌<◌, ◌≤◌, length, IsTrue, IsErr, OnOk, OnErr, slice_range};
-ghost use Rattle.flash_store.specs.Device.{OneCall, refusals};
+ghost use Rattle.flash_store.specs.Device.{OneCall, OneRead, OneWrite, OneCommit, refusals};
 ghost use Rattle.flash_store.specs.Failing.{source_facts_over, SourcePassed, source_refused_once};
 
 use crate::counter::Counter;
@@ -50,12 +50,8 @@ impl<S: Source> Source for FailSource<S> {
         requires inside { at + length out.old ≤ length (S.facts self.old.source).content }
         requires short { length out.old ≤ 4096 }
 
-        // As of every source.
-        ensures call { OneCall (refusals result) (source_facts_over S.facts self.old) (source_facts_over S.facts self.new) }
-        ensures read { IsTrue (S.facts self.old.source).honest →
-            OnOk result (out.new ≡ slice_range (S.facts self.old.source).content at (at + length out.old)) }
-        ensures unchanged { IsTrue (S.facts self.old.source).honest →
-            (S.facts self.new.source).content ≡ (S.facts self.old.source).content }
+        ensures after { OneRead at (length out.old) (source_facts_over S.facts self.old)
+            (source_facts_over S.facts self.new) result out.new }
 
         ensures passed { 0 < self.old.left → SourcePassed S.facts self.old self.new result }
         ensures refused { self.old.left ≡ 0 → IsErr result }

@@ -1,7 +1,7 @@
 //! What every device promises.
 ghost use Rattle.std.specs.Prelude.{◌≡◌, ℕ, ◌+◌, ◌^◌, ◌<◌, ◌≤◌, ◌⊎◌, length, IsTrue, OnOk, OnErr, slice_range};
 ghost use Rattle.flash_store.specs.Bytes.{overwritten, SameOutside};
-ghost use Rattle.flash_store.specs.Device.{Device, OneCall, refusals};
+ghost use Rattle.flash_store.specs.Device.{Device, OneCall, OneRead, OneWrite, OneCommit, refusals};
 
 use flash_format::HEADER_LENGTH;
 
@@ -27,37 +27,18 @@ pub trait Flash: Drop {
         requires inside { at + length out.old ≤ length (facts self.old).content }
         requires short { length out.old ≤ 4096 }
 
-        ensures call { OneCall (refusals result) (facts self.old) (facts self.new) }
-
-        // On an honest device.
-        ensures read { IsTrue (facts self.old).honest →
-            OnOk result (out.new ≡ slice_range (facts self.old).content at (at + length out.old)) }
-        ensures unchanged { IsTrue (facts self.old).honest →
-            (facts self.new).content ≡ (facts self.old).content };
+        ensures after { OneRead at (length out.old) (facts self.old) (facts self.new) result out.new };
 
     /// Replaces the bytes from `at` on. A failed write may leave anything in its range.
     fn write_at(&mut self, at: u64, bytes: &[u8]) -> Result<(), FlashFault>
         requires inside { at + length bytes.now ≤ length (facts self.old).content }
         requires short { length bytes.now ≤ 4096 }
 
-        ensures call { OneCall (refusals result) (facts self.old) (facts self.new) }
-
-        // On an honest device, the second whatever it answers.
-        ensures written { IsTrue (facts self.old).honest →
-            OnOk result ((facts self.new).content ≡ overwritten (facts self.old).content at bytes.now) }
-        ensures torn { IsTrue (facts self.old).honest →
-            SameOutside at (length bytes.now) (facts self.old).content (facts self.new).content };
+        ensures after { OneWrite at bytes.now (facts self.old) (facts self.new) result };
 
     /// Replaces the first bytes of a cell, whole or not at all.
     fn commit_at(&mut self, at: u64, bytes: &[u8; HEADER_LENGTH]) -> Result<(), FlashFault>
         requires { at + length bytes.now ≤ length (facts self.old).content }
 
-        ensures call { OneCall (refusals result) (facts self.old) (facts self.new) }
-
-        // On an honest device, the second whatever it answers.
-        ensures written { IsTrue (facts self.old).honest →
-            OnOk result ((facts self.new).content ≡ overwritten (facts self.old).content at bytes.now) }
-        ensures whole { IsTrue (facts self.old).honest →
-            ((facts self.new).content ≡ (facts self.old).content)
-            ⊎ ((facts self.new).content ≡ overwritten (facts self.old).content at bytes.now) };
+        ensures after { OneCommit at bytes.now (facts self.old) (facts self.new) result };
 }

@@ -1,7 +1,7 @@
 //! A device and one buffer, through which everything passes in pieces.
 ghost use Rattle.std.specs.Prelude.{◌≡◌, ℕ, List, ◌++◌, ◌+◌, ◌/◌, ◌^◌, ◌<◌, ◌≤◌, ◌⊎◌, ◌↔◌, length, take, IsTrue, OnOk, OnErr, IfOk, IsErrOf, slice_range, replicate};
 ghost use Rattle.flash_store.specs.Bytes.{overwritten, SameOutside, FirstWritten, PartWritten};
-ghost use Rattle.flash_store.specs.Device.{Calls, OneCall, faults_told, refusals};
+ghost use Rattle.flash_store.specs.Device.{Calls, OneCall, OneRead, OneWrite, OneCommit, faults_told, refusals};
 ghost use Rattle.flash_store.specs.Copies.{by_device, by_source, HasFilled, HasCopiedIn, HasCopiedOut};
 ghost use Rattle.flash_store.specs.Output.{AppendsPart, AppendsPieces};
 ghost use Rattle.std.specs.Io.KnownBytes.{Appends, Keeps};
@@ -268,16 +268,9 @@ impl<F: Flash> Paged<F> {
     pub fn push(&mut self, at: u64) -> Result<(), FlashFault>
         requires { HasPiece self.old.held (λ bytes. at + length bytes ≤ length (F.facts self.old.device).content) }
 
-        ensures call { OneCall (refusals result) (F.facts self.old.device) (F.facts self.new.device) }
+        ensures after { OnPiece self.old.held (λ bytes.
+            OneWrite at bytes (F.facts self.old.device) (F.facts self.new.device) result) }
         ensures same_piece { self.new.held ≡ self.old.held }
-
-        // On an honest device, the second whatever it answers.
-        ensures written { IsTrue (F.facts self.old.device).honest → OnPiece self.old.held (λ bytes.
-            OnOk result ((F.facts self.new.device).content
-            ≡ overwritten (F.facts self.old.device).content at bytes)) }
-        ensures torn { IsTrue (F.facts self.old.device).honest → OnPiece self.old.held (λ bytes.
-            SameOutside at (length bytes) (F.facts self.old.device).content
-            (F.facts self.new.device).content) }
     {
         let size = match self.held {
             Buffered::Piece { size } => size,
@@ -290,17 +283,8 @@ impl<F: Flash> Paged<F> {
     pub fn commit(&mut self, at: u64, bytes: &[u8; HEADER_LENGTH]) -> Result<(), FlashFault>
         requires { at + length bytes.now ≤ length (F.facts self.old.device).content }
 
-        ensures call { OneCall (refusals result) (F.facts self.old.device) (F.facts self.new.device) }
+        ensures after { OneCommit at bytes.now (F.facts self.old.device) (F.facts self.new.device) result }
         ensures dropped { self.new.held ≡ Nothing }
-
-        // On an honest device, the second whatever it answers.
-        ensures written { IsTrue (F.facts self.old.device).honest →
-            OnOk result ((F.facts self.new.device).content
-            ≡ overwritten (F.facts self.old.device).content at bytes.now) }
-        ensures whole { IsTrue (F.facts self.old.device).honest →
-            ((F.facts self.new.device).content ≡ (F.facts self.old.device).content)
-            ⊎ ((F.facts self.new.device).content
-            ≡ overwritten (F.facts self.old.device).content at bytes.now) }
     {
         self.held = Buffered::Nothing;
         self.device.commit_at(at, bytes)
@@ -442,11 +426,7 @@ fn load<F: Flash>(device: &mut F, buffer: &mut [u8], at: u64, n: usize) -> Resul
     requires short { n ≤ 4096 }
     requires room { n ≤ length buffer.old }
 
-    ensures call { OneCall (refusals result) (F.facts device.old) (F.facts device.new) }
-    ensures read { IsTrue (F.facts device.old).honest →
-        OnOk result (take n buffer.new ≡ slice_range (F.facts device.old).content at (at + n)) }
-    ensures unchanged { IsTrue (F.facts device.old).honest →
-        (F.facts device.new).content ≡ (F.facts device.old).content }
+    ensures { OneRead at n (F.facts device.old) (F.facts device.new) result (take n buffer.new) }
 {
     device.read_at(at, &mut buffer[..n])
 }
@@ -462,11 +442,7 @@ fn load_from<S: Source>(
     requires short { n ≤ 4096 }
     requires room { n ≤ length buffer.old }
 
-    ensures call { OneCall (refusals result) (S.facts source.old) (S.facts source.new) }
-    ensures read { IsTrue (S.facts source.old).honest →
-        OnOk result (take n buffer.new ≡ slice_range (S.facts source.old).content at (at + n)) }
-    ensures unchanged { IsTrue (S.facts source.old).honest →
-        (S.facts source.new).content ≡ (S.facts source.old).content }
+    ensures { OneRead at n (S.facts source.old) (S.facts source.new) result (take n buffer.new) }
 {
     source.read_at(at, &mut buffer[..n])
 }

@@ -1,6 +1,6 @@
 //! Where input comes from.
 ghost use Rattle.std.specs.Prelude.{◌≡◌, ◌+◌, ◌^◌, ◌<◌, ◌≤◌, length, IsTrue, OnOk, OnErr, slice_range};
-ghost use Rattle.flash_store.specs.Device.{Device, OneCall, refusals};
+ghost use Rattle.flash_store.specs.Device.{Device, OneCall, OneRead, OneWrite, OneCommit, refusals};
 
 /// A call to a source that was refused.
 #[derive(Clone, Copy, Debug, PartialEq, Eq, Drop)]
@@ -21,11 +21,5 @@ pub trait Source: Drop {
         requires inside { at + length out.old ≤ length (facts self.old).content }
         requires short { length out.old ≤ 4096 }
 
-        ensures call { OneCall (refusals result) (facts self.old) (facts self.new) }
-
-        // On an honest source.
-        ensures read { IsTrue (facts self.old).honest →
-            OnOk result (out.new ≡ slice_range (facts self.old).content at (at + length out.old)) }
-        ensures unchanged { IsTrue (facts self.old).honest →
-            (facts self.new).content ≡ (facts self.old).content };
+        ensures after { OneRead at (length out.old) (facts self.old) (facts self.new) result out.new };
 }

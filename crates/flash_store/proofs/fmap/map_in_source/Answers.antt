@@ -8,4 +8,4 @@ returns-then-len-lt-HEAD_LENGTH-clause-head g c = λ h. map_head-short _ (omega 
 pub returns-clause-head : goal.returns-clause-head
 returns-clause-head g c = λ h.
     let inside : 56 ≤ c.len-len.result = omega (arith, c.if-len-lt-HEAD_LENGTH.false) in
-    head_read_first _ _ _ _ c.head_in.ensures.head (c.in_ok-read_at.ensures.read h) c.len-len.ensures.length inside
+    head_read_first _ _ _ _ c.head_in.ensures.head (c.in_ok-read_at.ensures.after.read h) c.len-len.ensures.length inside

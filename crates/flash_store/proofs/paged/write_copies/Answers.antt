@@ -11,9 +11,9 @@ loop-done-preserved g c =
     let size = c.min-size.ensures in
     let left = c.loop-done-test.true in record {
       within = omega (arith, size, left);
-      calls = CallsSoFar-more _ _ _ _ _ _ left size had.calls c.in_ok-write_at.ensures.call;
+      calls = CallsSoFar-more _ _ _ _ _ _ left size had.calls c.in_ok-write_at.ensures.after.call;
       filled = λ h.
-          let now = c.in_ok-write_at.ensures.written (honest_still had.calls.same_honesty h) in
+          let now = c.in_ok-write_at.ensures.after.written (honest_still had.calls.same_honesty h) in
           Filled-more _ _ _ c.args.at c.loop-done.done c.min-size.result c.args.byte (omega (arith, size)) (omega (arith, size, left, c.requires.inside)) (had.filled h) (rw c.requires.all at now);
     }
 
@@ -22,7 +22,7 @@ returns-in_err-write_at g c =
     let had = c.loop-done.invariant in
     let size = c.min-size.ensures in
     let within : c.loop-done.done + c.min-size.result ≤ c.args.n = omega (arith, size, c.loop-done-test.true) in
-    let torn = λ (h : IsTrue (g.F.Flash.facts c.args.device.now).honest). rw c.requires.all at (c.write_at.ensures.torn (honest_still had.calls.same_honesty h)) in record {
+    let torn = λ (h : IsTrue (g.F.Flash.facts c.args.device.now).honest). rw c.requires.all at (c.write_at.ensures.after.torn (honest_still had.calls.same_honesty h)) in record {
       calls = search rules;
       filled = search rules;
       part = λ h. OnErr-from c.from_residual.result (Filled-part _ _ _ c.args.at c.loop-done.done c.min-size.result c.args.n c.args.byte (omega (arith, size)) within (had.filled h) (torn h));

@@ -1,5 +1,5 @@
 use Rattle.std.proofs.Common.{rules}
 use Rattle.flash_store.proofs.mem_flash.MemFlashFlash.read_at.Goals as goal
 
-pub returns-clause-read : goal.returns-clause-read
-returns-clause-read c = search rules
+pub returns : goal.returns
+returns c = search rules

@@ -4,5 +4,5 @@ use Rattle.flash_store.proofs.paged.Paged.commit.Goals as goal
 pub returns-clause-dropped : goal.returns-clause-dropped
 returns-clause-dropped g c = search rules
 
-pub returns-clause-whole : goal.returns-clause-whole
-returns-clause-whole g c = search rules
+pub returns-clause-after : goal.returns-clause-after
+returns-clause-after g c = search rules
