@@ -1,8 +1,9 @@
 -- What `print` writes: a row for each cell of a region. The forms of the texts are this project's own.
-use Rattle.std.specs.Prelude.{ℕ, ◌/◌, ◌%◌, false, not, ◌&&◌, List, [], ◌∷◌, ◌++◌, ◌==◌, if◌then◌else◌, unwrap_or}
+use Rattle.std.specs.Prelude.{◌≡◌, ℕ, ◌+◌, ◌≤◌, ◌/◌, ◌%◌, false, not, ◌&&◌, List, [], ◌∷◌, ◌++◌, ◌==◌, if◌then◌else◌, unwrap_or}
 use Rattle.std.specs.List.{flat_map}
 use Rattle.std.specs.Fmt.{digits, decimal, digit_glyph}
 use lib.Chars.{codes}
+use Rattle.arrayvec.specs.ArrayVec.{ArrayVec, array_vec_len}
 use Rattle.flash_format.specs.Head.{head_of, is_free}
 use Rattle.flash_format.specs.Components.{cell_name, cell_attributes, packing}
 use Rattle.flash_format.specs.Flashmap.{is_printing}
@@ -52,3 +53,8 @@ row_text at h name n = label h name ++ tab ++ hexadecimal at ++ tab ++ printed_t
 -- the row of a cell of these bytes
 abbrev pub row : ℕ → List ℕ → List ℕ
 row at x = row_text at (head_of x) (cell_name x) (packing (cell_attributes x))
+
+-- a row has a text after what it had, of at most so many bytes
+pub record Pushes (old : ArrayVec ℕ) (text : List ℕ) (most : ℕ) (new : ArrayVec ℕ) : Type 0 where
+  pub items : new.items ≡ old.items ++ text
+  pub len : array_vec_len new ≤ array_vec_len old + most

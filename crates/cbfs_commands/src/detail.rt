@@ -14,6 +14,7 @@ ghost use Rattle.cbfs_walk.specs.Cells.{IsCellIn, cell_in};
 ghost use Rattle.cbfs_walk.specs.Hashes.{hash_state};
 ghost use Rattle.cbfs_walk.specs.Walks.{StandsIn};
 ghost use Rattle.cbfs_commands.specs.Details.{algorithm_name, attribute_line, attribute_text, details, digest_line, hash_line};
+ghost use Rattle.cbfs_commands.specs.Rows.{Pushes};
 ghost use Rattle.cbfs_commands.specs.Told.{HasTold, Tells, shows};
 
 use crate::refusal::Refusal;
@@ -26,8 +27,7 @@ use flash_store::{Flash, Paged, Region, Sink};
 /// Eight digits of a tag.
 fn push_tag(row: &mut Row, tag: u32)
     requires { array_vec_len row.old + 8 ≤ ROW_LEN }
-    ensures items { row.new.items ≡ row.old.items ++ encode_lower (big_bytes 4 tag) }
-    ensures len { array_vec_len row.new ≡ array_vec_len row.old + 8 }
+    ensures { Pushes row.old (encode_lower (big_bytes 4 tag)) 8 row.new }
 {
     let mut bytes = [0; 4];
     BigEndian::write_u32(&mut bytes, tag);
@@ -52,8 +52,7 @@ fn set_attribute_row(row: &mut Row, head: &AttrHead)
 /// The name of a digest's algorithm.
 fn push_algorithm(row: &mut Row, digest: &Digest)
     requires { array_vec_len row.old + 6 ≤ ROW_LEN }
-    ensures items { row.new.items ≡ row.old.items ++ algorithm_name digest.now }
-    ensures len { array_vec_len row.new ≡ array_vec_len row.old + 6 }
+    ensures { Pushes row.old (algorithm_name digest.now) 6 row.new }
 {
     match digest {
         Digest::Sha256(_) => push_text(row, b"sha256"),
@@ -64,8 +63,7 @@ fn push_algorithm(row: &mut Row, digest: &Digest)
 /// The digits of a digest.
 fn push_digest(row: &mut Row, digest: &Digest)
     requires { array_vec_len row.old + 128 ≤ ROW_LEN }
-    ensures items { row.new.items ≡ row.old.items ++ encode_lower (digest_bytes digest.now) }
-    ensures len { array_vec_len row.new ≤ array_vec_len row.old + 128 }
+    ensures { Pushes row.old (encode_lower (digest_bytes digest.now)) 128 row.new }
 {
     let mut digits = [0; 128];
     let n = digest_text(digest, &mut digits);

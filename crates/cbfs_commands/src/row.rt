@@ -3,7 +3,7 @@
 ghost use Rattle.std.specs.Prelude.{◌≡◌, ◌+◌, ◌*◌, ◌<◌, ◌≤◌, ◌++◌, ◌∷◌, [], false, true, length, drop, Some, None, Err, OnErr};
 ghost use Rattle.std.specs.Fmt.{digit_glyph, digits, decimal};
 ghost use Rattle.arrayvec.specs.ArrayVec.{array_vec_len};
-ghost use Rattle.cbfs_commands.specs.Rows.{printed_byte, printed_name, hexadecimal, printed_type, printed_packing, label, compression, row_text};
+ghost use Rattle.cbfs_commands.specs.Rows.{Pushes, printed_byte, printed_name, hexadecimal, printed_type, printed_packing, label, compression, row_text};
 ghost use Rattle.cbfs_commands.specs.Told.{HasTold, Tells, shows};
 
 use crate::refusal::Refusal;
@@ -20,8 +20,7 @@ pub type Row = ArrayVec<u8, ROW_LEN>;
 
 pub fn push_text(row: &mut Row, text: &[u8])
     requires { array_vec_len row.old + length text.now ≤ ROW_LEN }
-    ensures items { row.new.items ≡ row.old.items ++ text.now }
-    ensures len { array_vec_len row.new ≡ array_vec_len row.old + length text.now }
+    ensures { Pushes row.old text.now (length text.now) row.new }
 {
     let _fits = row.try_extend_from_slice(text);
 }
@@ -41,8 +40,7 @@ fn digit(value: u8) -> u8
 #[tactic(auto, unfolding(crate::specs::Rows::printed_byte))]
 fn push_byte(row: &mut Row, byte: u8)
     requires { array_vec_len row.old + 4 ≤ ROW_LEN }
-    ensures items { row.new.items ≡ row.old.items ++ printed_byte byte }
-    ensures len { array_vec_len row.new ≤ array_vec_len row.old + 4 }
+    ensures { Pushes row.old (printed_byte byte) 4 row.new }
 {
     if matches!(byte, 0x21..=0x7e) && byte != b'\\' {
         push_text(row, &[byte]);
@@ -53,8 +51,7 @@ fn push_byte(row: &mut Row, byte: u8)
 
 pub fn push_name(row: &mut Row, name: &[u8])
     requires { array_vec_len row.old + 4 * length name.now ≤ ROW_LEN }
-    ensures items { row.new.items ≡ row.old.items ++ printed_name name.now }
-    ensures len { array_vec_len row.new ≤ array_vec_len row.old + 4 * length name.now }
+    ensures { Pushes row.old (printed_name name.now) (4 * length name.now) row.new }
 {
     for byte in name {
         push_byte(row, *byte);
@@ -80,8 +77,7 @@ fn write_digits(n: u64, text: &mut [u8; 16]) -> usize
 #[tactic(auto, unfolding(crate::specs::Rows::hexadecimal))]
 pub fn push_hexadecimal(row: &mut Row, n: u64)
     requires { array_vec_len row.old + 18 ≤ ROW_LEN }
-    ensures items { row.new.items ≡ row.old.items ++ hexadecimal n }
-    ensures len { array_vec_len row.new ≤ array_vec_len row.old + 18 }
+    ensures { Pushes row.old (hexadecimal n) 18 row.new }
 {
     let mut text = [b'0'; 16];
     let start = write_digits(n, &mut text);
@@ -91,8 +87,7 @@ pub fn push_hexadecimal(row: &mut Row, n: u64)
 
 pub fn push_decimal(row: &mut Row, n: u32)
     requires { array_vec_len row.old + 40 ≤ ROW_LEN }
-    ensures items { row.new.items ≡ row.old.items ++ decimal n }
-    ensures len { array_vec_len row.new ≤ array_vec_len row.old + 40 }
+    ensures { Pushes row.old (decimal n) 40 row.new }
 {
     let mut buffer = Buffer::new();
     push_text(row, buffer.format(n).as_bytes());
@@ -101,8 +96,7 @@ pub fn push_decimal(row: &mut Row, n: u32)
 #[tactic(auto, unfolding(crate::specs::Rows::printed_type))]
 fn push_type(row: &mut Row, kind: u32)
     requires { array_vec_len row.old + 18 ≤ ROW_LEN }
-    ensures items { row.new.items ≡ row.old.items ++ printed_type kind }
-    ensures len { array_vec_len row.new ≤ array_vec_len row.old + 18 }
+    ensures { Pushes row.old (printed_type kind) 18 row.new }
 {
     match type_name(kind) {
         Some(name) => push_text(row, name.as_bytes()),
@@ -113,8 +107,7 @@ fn push_type(row: &mut Row, kind: u32)
 #[tactic(auto, unfolding(crate::specs::Rows::printed_packing))]
 fn push_packing(row: &mut Row, packing: u32)
     requires { array_vec_len row.old + 18 ≤ ROW_LEN }
-    ensures items { row.new.items ≡ row.old.items ++ printed_packing packing }
-    ensures len { array_vec_len row.new ≤ array_vec_len row.old + 18 }
+    ensures { Pushes row.old (printed_packing packing) 18 row.new }
 {
     match packing {
         0 => push_text(row, b"none"),
@@ -128,8 +121,7 @@ fn push_packing(row: &mut Row, packing: u32)
 fn push_label(row: &mut Row, head: &Head, name: &[u8])
     requires room { array_vec_len row.old + 1020 ≤ ROW_LEN }
     requires short { length name.now ≤ 255 }
-    ensures items { row.new.items ≡ row.old.items ++ label head.now name.now }
-    ensures len { array_vec_len row.new ≤ array_vec_len row.old + 1020 }
+    ensures { Pushes row.old (label head.now name.now) 1020 row.new }
 {
     if head.is_free() {
         push_text(row, b"(empty)");
@@ -141,8 +133,7 @@ fn push_label(row: &mut Row, head: &Head, name: &[u8])
 #[tactic(auto, unfolding(crate::specs::Rows::compression))]
 fn push_compression(row: &mut Row, head: &Head, packing: u32)
     requires { array_vec_len row.old + 18 ≤ ROW_LEN }
-    ensures items { row.new.items ≡ row.old.items ++ compression head.now packing }
-    ensures len { array_vec_len row.new ≤ array_vec_len row.old + 18 }
+    ensures { Pushes row.old (compression head.now packing) 18 row.new }
 {
     if head.is_free() {
         push_text(row, b"none");
