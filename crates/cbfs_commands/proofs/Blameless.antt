@@ -31,7 +31,7 @@ use Rattle.cbfs_commands.specs.declared.refusal.Refusal.TheVariants as refusals
 use Rattle.cbfs_commands.specs.Creations.{head_for, map_place, plan_for, plan_of, region_place, region_places, some_overlap, table_head}
 use Rattle.cbfs_commands.specs.Deeds.{deed}
 use Rattle.cbfs_commands.specs.Layouts.{layout, layout_under}
-use Rattle.cbfs_commands.specs.Outcomes.{add, changing, create, ended, extract, print, print_region, read, remove, told_component, told_found, write}
+use Rattle.cbfs_commands.specs.Outcomes.{add, changing, create, end_answer, extract, print, print_region, read, remove, told_component, told_found, write}
 use Rattle.cbfs_commands.specs.Refusals.{HasNoFault, and_then, edit_refusal, itself, store_refusal, walk_refusal}
 use Rattle.cbfs_commands.specs.Requests.{Adding, Request}
 use Rattle.cbfs_commands.specs.Requests as requests
@@ -176,14 +176,14 @@ plan_for-blameless n names source = next-blameless itself _ _ (head_for-blameles
 
 -- ---- commands
 
-ended-blameless : (at : ℕ) (end : End) → Blameless itself (ended at end)
-ended-blameless at complete = tt
-ended-blameless at tail = tt
-ended-blameless at (damage kind) = tt
+end_answer-blameless : (at : ℕ) (end : End) → Blameless itself (end_answer at end)
+end_answer-blameless at complete = tt
+end_answer-blameless at tail = tt
+end_answer-blameless at (damage kind) = tt
 
 print-blameless : (image name : List ℕ) (verbose : Bool) → Blameless itself (print image name verbose).answer
 unfolding print print_region
-print-blameless image name verbose = told-blameless store_refusal _ _ (region_of-blameless image name) (λ region. unless-misshapen (λ (t : Told). Blameless itself t.answer) _ (bytes_in region image) _ tt tt (ended-blameless _ _))
+print-blameless image name verbose = told-blameless store_refusal _ _ (region_of-blameless image name) (λ region. unless-misshapen (λ (t : Told). Blameless itself t.answer) _ (bytes_in region image) _ tt tt (end_answer-blameless _ _))
 
 layout-blameless : (image : List ℕ) → Blameless itself (layout image).answer
 unfolding layout

@@ -14,7 +14,7 @@ use Rattle.cbfs_commands.specs.Requests as requests
 use Rattle.cbfs_commands.specs.Outcomes.{add, add_region, changing, extract, extract_region, made_in, print, print_region, read, reading, remove, remove_region, told_in, write, write_region}
 use Rattle.cbfs_commands.specs.Refusals.{and_then, edit_refusal, store_refusal}
 use Rattle.cbfs_commands.specs.Told.{Told, shows, told_of}
-use Rattle.cbfs_commands.specs.Laws.{EndAlike, OutcomesAreOfTheRegion, region_asked}
+use Rattle.cbfs_commands.specs.Laws.{EndAlike, OutcomesAreOfTheRegion, region_name}
 use Rattle.cbfs_commands.proofs.RegionPlaces.{alike_over, region_lies}
 
 -- two images with the same bytes in a region
@@ -58,7 +58,7 @@ module _ (name : List ℕ) (region : Range) (image other : List ℕ) (here : reg
       go true = record { written = refl; answer = refl; bytes = over source }
       go false = record { written = refl; answer = refl; bytes = same }
 
-  each : (r : Request) (source : List ℕ) → region_asked r ≡ Some name → EndAlike region ((deed r).outcome image source) ((deed r).outcome other source)
+  each : (r : Request) (source : List ℕ) → region_name r ≡ Some name → EndAlike region ((deed r).outcome image source) ((deed r).outcome other source)
   unfolding print extract read remove add write
   each (requests.print asked verbose) source is =
       let e : asked ≡ name = cc in

@@ -1,10 +1,11 @@
 -- What a command is to an image: its outcome, what it may change, which sides it uses, and what a stop leaves.
-use Rattle.std.specs.Prelude.{◌≡◌, ℕ, ◌+◌, ◌/◌, ◌⊎◌, Bool, true, false, List, length, Option, Some, None, Result, Ok, Err, IsErrOf, IsTrue}
+use Rattle.std.specs.Prelude.{◌≡◌, ℕ, ◌+◌, ◌/◌, ◌⊎◌, Bool, true, false, List, length, Option, Some, None, Ok, Err, IsErrOf, IsTrue}
+use Rattle.std.specs.Result.{result_ok}
 use Rattle.flash_format.specs.Flashmap.{area_len}
 use Rattle.flash_store.specs.Bytes.{SameOutside}
 use Rattle.flash_store.specs.Device.{Device}
+use Rattle.flash_store.specs.Pages.{Pages}
 use Rattle.flash_store.specs.Regions.{Range, bytes_in, region_of}
-use Rattle.flash_store.specs.declared.fmap.StoreFault.{StoreFault}
 use Rattle.cbfs_edit.specs.Additions.{new_component}
 use Rattle.cbfs_edit.specs.Stops.{LeavesWhole}
 use Rattle.cbfs_commands.specs.declared.refusal.Refusal.TheVariants as refusals
@@ -27,10 +28,6 @@ pub record Deed : Type 1 where
 abbrev pub copying_calls : ℕ → ℕ
 copying_calls n = n / 4096 + 1
 
-abbrev pub found : Result Range StoreFault → Option Range
-found (Err fault) = None
-found (Ok region) = Some region
-
 -- a command that tells something of an image, and changes nothing
 abbrev pub tells : (List ℕ → Told) → Deed
 tells told = record {
@@ -46,7 +43,7 @@ tells told = record {
 abbrev pub replaces : List ℕ → Deed
 replaces name = record {
   outcome = λ image source. changing image (write image name source);
-  target = λ image. found (region_of image name);
+  target = λ image. result_ok (region_of image name);
   reads_source = true;
   writes_output = false;
   source_calls = copying_calls;
@@ -57,7 +54,7 @@ replaces name = record {
 abbrev pub adds : Adding → Deed
 adds a = record {
   outcome = λ image source. changing image (add image a.region (new_component a.name a.kind a.hash source) a.spot);
-  target = λ image. found (region_of image a.region);
+  target = λ image. result_ok (region_of image a.region);
   reads_source = true;
   writes_output = false;
   source_calls = copying_calls;
@@ -68,7 +65,7 @@ adds a = record {
 abbrev pub removes : List ℕ → List ℕ → Deed
 removes name component = record {
   outcome = λ image source. changing image (remove image name component);
-  target = λ image. found (region_of image name);
+  target = λ image. result_ok (region_of image name);
   reads_source = false;
   writes_output = false;
   source_calls = λ n. 0;
@@ -109,3 +106,9 @@ SparesOutside (Some region) image now = SameOutside region.start region.size ima
 -- the command is done, or the device or the source failed: after any other answer nothing has changed
 abbrev pub MayHaveWritten : Answer → Type 0
 MayHaveWritten answer = (answer ≡ Ok tt) ⊎ (answer ≡ Err refusals.Device) ⊎ (answer ≡ Err refusals.Source)
+
+-- What is kept of an honest device however a call ends: what lies outside the region that it may change, and everything
+-- after any other answer.
+pub record HasKept {F : Type 0} (facts : F → Device) (target : List ℕ → Option Range) (old new : Pages F) (answer : Answer) : Type 0 where
+  pub spares : IsTrue (facts old.device).honest → SparesOutside (target (facts old.device).content) (facts old.device).content (facts new.device).content
+  pub refused : IsTrue (facts old.device).honest → MayHaveWritten answer ⊎ ((facts new.device).content ≡ (facts old.device).content)

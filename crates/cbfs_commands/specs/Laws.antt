@@ -26,15 +26,15 @@ abbrev pub WritingBackChangesNothing : Type 0
 WritingBackChangesNothing = (image name bytes : List ℕ) → read image name ≡ shows bytes → write image name bytes ≡ Ok image
 
 -- the name of the region that a command reads or changes; `layout` and `create` have none
-abbrev pub region_asked : Request → Option (List ℕ)
-region_asked (requests.print region verbose) = Some region
-region_asked requests.layout = None
-region_asked (requests.extract region name) = Some region
-region_asked (requests.add a) = Some a.region
-region_asked (requests.remove region name) = Some region
-region_asked (requests.read region) = Some region
-region_asked (requests.write region) = Some region
-region_asked (requests.create names) = None
+abbrev pub region_name : Request → Option (List ℕ)
+region_name (requests.print region verbose) = Some region
+region_name requests.layout = None
+region_name (requests.extract region name) = Some region
+region_name (requests.add a) = Some a.region
+region_name (requests.remove region name) = Some region
+region_name (requests.read region) = Some region
+region_name (requests.write region) = Some region
+region_name (requests.create names) = None
 
 -- two outcomes write and answer the same, and leave the same bytes in a region
 pub record EndAlike (region : Range) (a b : Outcome) : Type 0 where
@@ -45,7 +45,7 @@ pub record EndAlike (region : Range) (a b : Outcome) : Type 0 where
 -- where two images have the same region of a name, with the same bytes, a command on it does the same
 abbrev pub OutcomesAreOfTheRegion : Type 0
 OutcomesAreOfTheRegion = (r : Request) (name : List ℕ) (region : Range) (image other source : List ℕ)
-    → region_asked r ≡ Some name → region_of image name ≡ Ok region → region_of other name ≡ Ok region → bytes_in region other ≡ bytes_in region image
+    → region_name r ≡ Some name → region_of image name ≡ Ok region → region_of other name ≡ Ok region → bytes_in region other ≡ bytes_in region image
     → EndAlike region ((deed r).outcome image source) ((deed r).outcome other source)
 
 -- what every plan meets, and its map's area and its regions have no byte in common

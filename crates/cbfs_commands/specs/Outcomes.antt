@@ -48,14 +48,14 @@ made_in image name make = and_then store_refusal (region_of image name) make
 
 -- ---- print
 
-abbrev pub ended : ℕ → End → Answer
-ended at complete = Ok tt
-ended at tail = Ok tt
-ended at (damage kind) = Err (refusals.Damaged at kind)
+abbrev pub end_answer : ℕ → End → Answer
+end_answer at complete = Ok tt
+end_answer at tail = Ok tt
+end_answer at (damage kind) = Err (refusals.Damaged at kind)
 
 -- a row for each cell, then the damage that ends them, at the place after them
 abbrev pub print_cut : Bool → ℕ → Cut → Told
-print_cut verbose at c = record { written = rows_from verbose at c.cells; answer = ended (place_after at c.cells) c.end }
+print_cut verbose at c = record { written = rows_from verbose at c.cells; answer = end_answer (place_after at c.cells) c.end }
 
 unfoldable pub print_region : List ℕ → Bool → Told
 print_region x verbose = refused_or (λ fault. refuses (walk_refusal fault)) (shape x) (print_cut verbose 0 (cut x))

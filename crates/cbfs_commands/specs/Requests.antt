@@ -24,12 +24,12 @@ pub data Request : Type 0 where
   write : List ℕ → Request
   create : List (List ℕ) → Request
 
-abbrev pub asked : Command → Request
-asked (commands.Print region verbose) = print region.now verbose
-asked commands.Layout = layout
-asked (commands.Extract region name) = extract region.now name.now
-asked (commands.Add region name kind hash spot) = add (record { region = region.now; name = name.now; kind = kind; hash = hash; spot = spot })
-asked (commands.Remove region name) = remove region.now name.now
-asked (commands.Read region) = read region.now
-asked (commands.Write region) = write region.now
-asked (commands.Create regions) = create (map (λ name. name.now) regions.items)
+abbrev pub request_of : Command → Request
+request_of (commands.Print region verbose) = print region.now verbose
+request_of commands.Layout = layout
+request_of (commands.Extract region name) = extract region.now name.now
+request_of (commands.Add region name kind hash spot) = add (record { region = region.now; name = name.now; kind = kind; hash = hash; spot = spot })
+request_of (commands.Remove region name) = remove region.now name.now
+request_of (commands.Read region) = read region.now
+request_of (commands.Write region) = write region.now
+request_of (commands.Create regions) = create (map (λ name. name.now) regions.items)

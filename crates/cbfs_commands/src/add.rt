@@ -1,11 +1,11 @@
 //! The command `add`.
 
-ghost use Rattle.std.specs.Prelude.{◌≡◌, ◌+◌, ◌*◌, ◌/◌, ◌⊎◌, length, IsTrue, Ok};
-ghost use Rattle.flash_store.specs.Bytes.{SameOutside};
+ghost use Rattle.std.specs.Prelude.{◌≡◌, ◌+◌, ◌*◌, ◌/◌, ◌⊎◌, length, IsTrue, Some, Ok};
+ghost use Rattle.std.specs.Result.{result_ok};
 ghost use Rattle.flash_store.specs.Pages.{OnHonest};
 ghost use Rattle.flash_store.specs.Regions.{Range, LiesIn, bytes_in, region_of};
 ghost use Rattle.cbfs_edit.specs.Additions.{new_component};
-ghost use Rattle.cbfs_commands.specs.Deeds.{MayHaveWritten, SparesOutside, found};
+ghost use Rattle.cbfs_commands.specs.Deeds.{HasKept};
 ghost use Rattle.cbfs_commands.specs.Outcomes.{AddStopsIn, HasWritten, LeavesOr, add, add_region};
 
 use crate::refusal::Refusal;
@@ -29,10 +29,7 @@ fn add_region<F: Flash, S: Source>(
         (length (S.facts source.old).content / 4096 + 1) paged.old paged.new source.old source.new result }
 
     // On an honest device.
-    ensures outside { OnHonest F.facts paged.old.device (λ image.
-        SameOutside region.start region.size image (F.facts paged.new.device).content) }
-    ensures refused { OnHonest F.facts paged.old.device (λ image.
-        MayHaveWritten result ⊎ ((F.facts paged.new.device).content ≡ image)) }
+    ensures kept { HasKept F.facts (λ image. Some region) paged.old paged.new result }
     ensures left { OnHonest F.facts paged.old.device (λ image. IsTrue (S.facts source.old).honest →
         LeavesOr image (F.facts paged.new.device).content result
         (add_region image region (new_component name.now kind hash (S.facts source.old).content) spot)) }
@@ -60,10 +57,7 @@ pub fn add<F: Flash, S: Source>(
         (length (S.facts source.old).content / 4096 + 1) paged.old paged.new source.old source.new result }
 
     // On an honest device.
-    ensures spares { OnHonest F.facts paged.old.device (λ image.
-        SparesOutside (found (region_of image region.now)) image (F.facts paged.new.device).content) }
-    ensures refused { OnHonest F.facts paged.old.device (λ image.
-        MayHaveWritten result ⊎ ((F.facts paged.new.device).content ≡ image)) }
+    ensures kept { HasKept F.facts (λ image. result_ok (region_of image region.now)) paged.old paged.new result }
     ensures left { OnHonest F.facts paged.old.device (λ image. IsTrue (S.facts source.old).honest →
         LeavesOr image (F.facts paged.new.device).content result
         (add image region.now (new_component name.now kind hash (S.facts source.old).content) spot)) }

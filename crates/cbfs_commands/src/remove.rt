@@ -1,11 +1,11 @@
 //! The command `remove`.
 
-ghost use Rattle.std.specs.Prelude.{◌≡◌, ◌+◌, ◌*◌, ◌/◌, ◌⊎◌, length, IsTrue, IsErrOf, Ok};
-ghost use Rattle.flash_store.specs.Bytes.{SameOutside};
+ghost use Rattle.std.specs.Prelude.{◌≡◌, ◌+◌, ◌*◌, ◌/◌, ◌⊎◌, length, IsTrue, IsErrOf, Some, Ok};
+ghost use Rattle.std.specs.Result.{result_ok};
 ghost use Rattle.flash_store.specs.Pages.{OnHonest};
 ghost use Rattle.flash_store.specs.Regions.{Range, LiesIn, bytes_in, region_of};
 ghost use Rattle.cbfs_edit.specs.Stops.{LeavesWhole};
-ghost use Rattle.cbfs_commands.specs.Deeds.{MayHaveWritten, SparesOutside, found};
+ghost use Rattle.cbfs_commands.specs.Deeds.{HasKept};
 ghost use Rattle.cbfs_commands.specs.Outcomes.{HasEdited, LeavesOr, remove, remove_region};
 
 use crate::refusal::Refusal;
@@ -19,10 +19,7 @@ fn remove_region<F: Flash>(paged: &mut Paged<F>, region: Region, name: &[u8]) ->
     ensures after { HasEdited F.facts (region.size / 4 + region.size / 4096 + 4) paged.old paged.new result }
 
     // On an honest device.
-    ensures outside { OnHonest F.facts paged.old.device (λ image.
-        SameOutside region.start region.size image (F.facts paged.new.device).content) }
-    ensures refused { OnHonest F.facts paged.old.device (λ image.
-        MayHaveWritten result ⊎ ((F.facts paged.new.device).content ≡ image)) }
+    ensures kept { HasKept F.facts (λ image. Some region) paged.old paged.new result }
     ensures left { OnHonest F.facts paged.old.device (λ image.
         LeavesOr image (F.facts paged.new.device).content result (remove_region image region name.now)) }
     ensures stopped { OnHonest F.facts paged.old.device (λ image. IsErrOf result Refusal.Device →
@@ -39,10 +36,7 @@ pub fn remove<F: Flash>(paged: &mut Paged<F>, region: &[u8], name: &[u8]) -> Res
     ensures after { HasEdited F.facts (2 * length (F.facts paged.old.device).content + 64) paged.old paged.new result }
 
     // On an honest device.
-    ensures spares { OnHonest F.facts paged.old.device (λ image.
-        SparesOutside (found (region_of image region.now)) image (F.facts paged.new.device).content) }
-    ensures refused { OnHonest F.facts paged.old.device (λ image.
-        MayHaveWritten result ⊎ ((F.facts paged.new.device).content ≡ image)) }
+    ensures kept { HasKept F.facts (λ image. result_ok (region_of image region.now)) paged.old paged.new result }
     ensures left { OnHonest F.facts paged.old.device (λ image.
         LeavesOr image (F.facts paged.new.device).content result (remove image region.now name.now)) }
     ensures stopped { OnHonest F.facts paged.old.device (λ image. (found : Range) → region_of image region.now ≡ Ok found →

@@ -1,10 +1,9 @@
 //! The command `write`.
 
-ghost use Rattle.std.specs.Prelude.{◌≡◌, ◌+◌, ◌*◌, ◌/◌, ◌<◌, ◌≤◌, ◌⊎◌, length, IsTrue, IsErrOf, Ok};
-ghost use Rattle.flash_store.specs.Bytes.{SameOutside};
-ghost use Rattle.flash_store.specs.Device.{Calls};
+ghost use Rattle.std.specs.Prelude.{◌≡◌, ◌+◌, ◌*◌, ◌/◌, ◌<◌, ◌≤◌, ◌⊎◌, length, IsTrue, IsErrOf, Some, Ok};
+ghost use Rattle.std.specs.Result.{result_ok};
 ghost use Rattle.flash_store.specs.Regions.{Range, LiesIn, region_of};
-ghost use Rattle.cbfs_commands.specs.Deeds.{MayHaveWritten, SparesOutside, found};
+ghost use Rattle.cbfs_commands.specs.Deeds.{HasKept};
 ghost use Rattle.cbfs_commands.specs.Outcomes.{HasWritten, LeavesOr, StopsIn, write, write_region};
 
 use crate::refusal::Refusal;
@@ -23,10 +22,7 @@ fn write_region<F: Flash, S: Source>(
         (length (S.facts source.old).content / 4096 + 1) paged.old paged.new source.old source.new result }
 
     // On an honest device.
-    ensures outside { IsTrue (F.facts paged.old.device).honest → SameOutside region.start region.size
-        (F.facts paged.old.device).content (F.facts paged.new.device).content }
-    ensures refused { IsTrue (F.facts paged.old.device).honest →
-        MayHaveWritten result ⊎ ((F.facts paged.new.device).content ≡ (F.facts paged.old.device).content) }
+    ensures kept { HasKept F.facts (λ image. Some region) paged.old paged.new result }
     ensures left { IsTrue (F.facts paged.old.device).honest → IsTrue (S.facts source.old).honest →
         LeavesOr (F.facts paged.old.device).content (F.facts paged.new.device).content result
         (write_region (F.facts paged.old.device).content region (S.facts source.old).content) }
@@ -53,11 +49,7 @@ pub fn write<F: Flash, S: Source>(
         (length (S.facts source.old).content / 4096 + 1) paged.old paged.new source.old source.new result }
 
     // On an honest device.
-    ensures spares { IsTrue (F.facts paged.old.device).honest → SparesOutside
-        (found (region_of (F.facts paged.old.device).content name.now))
-        (F.facts paged.old.device).content (F.facts paged.new.device).content }
-    ensures refused { IsTrue (F.facts paged.old.device).honest →
-        MayHaveWritten result ⊎ ((F.facts paged.new.device).content ≡ (F.facts paged.old.device).content) }
+    ensures kept { HasKept F.facts (λ image. result_ok (region_of image name.now)) paged.old paged.new result }
     ensures left { IsTrue (F.facts paged.old.device).honest → IsTrue (S.facts source.old).honest →
         LeavesOr (F.facts paged.old.device).content (F.facts paged.new.device).content result
         (write (F.facts paged.old.device).content name.now (S.facts source.old).content) }

@@ -16,7 +16,7 @@ use Rattle.cbfs_edit.specs.declared.addition.HashChoice.{HashChoice}
 use Rattle.cbfs_edit.specs.declared.addition.HashChoice.TheVariants.{Plain, Sha256, Sha512}
 use Rattle.cbfs_edit.specs.declared.place.Spot.{Spot}
 use Rattle.cbfs_edit.specs.declared.place.Spot.TheVariants.{First, Aligned, Fixed}
-use Rattle.cbfs_commands.specs.Requests.{Request, asked}
+use Rattle.cbfs_commands.specs.Requests.{Request, request_of}
 use Rattle.cbfs_commands.specs.Requests as requests
 use Rattle.cbfs_commands.specs.declared.command.Command.{Command}
 use Rattle.cbfs_commands.specs.declared.refusal.Refusal.{Refusal}
@@ -188,5 +188,5 @@ command_of t =
     else Err refusals.Usage)))))))
 
 abbrev pub seen : Result Command Refusal → Result Request Refusal
-seen (Ok command) = Ok (asked command)
+seen (Ok command) = Ok (request_of command)
 seen (Err refusal) = Err refusal
