@@ -29,7 +29,7 @@ use Rattle.cbfs_edit.specs.declared.place.Wanted.{Wanted}
 use Rattle.cbfs_commands.specs.declared.refusal.Refusal.{Refusal}
 use Rattle.cbfs_commands.specs.declared.refusal.Refusal.TheVariants as refusals
 use Rattle.cbfs_commands.specs.Creations.{head_for, map_place, plan_for, plan_of, region_place, region_places, some_overlap, table_head}
-use Rattle.cbfs_commands.specs.Deeds.{deed}
+use Rattle.cbfs_commands.specs.Deeds.{deed, outcome}
 use Rattle.cbfs_commands.specs.Layouts.{layout, layout_under}
 use Rattle.cbfs_commands.specs.Outcomes.{add, changing, create, end_answer, extract, print, print_region, read, remove, told_component, told_found, write}
 use Rattle.cbfs_commands.specs.Refusals.{HasNoFault, and_then, edit_refusal, itself, store_refusal, walk_refusal}
@@ -237,7 +237,7 @@ no_fault answer own = record {
   source = λ blamed. subst (λ (a : Answer). Blameless itself a) blamed own;
 }
 
-pub outcome-blameless : (r : Request) (image source : List ℕ) → HasNoFault ((deed r).outcome image source).answer
+pub outcome-blameless : (r : Request) (image source : List ℕ) → HasNoFault (outcome (deed r) image source).answer
 outcome-blameless (requests.print region verbose) image source = no_fault _ (print-blameless image region verbose)
 outcome-blameless requests.layout image source = no_fault _ (layout-blameless image)
 outcome-blameless (requests.extract region name) image source = no_fault _ (extract-blameless image region name)

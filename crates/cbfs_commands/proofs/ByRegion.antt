@@ -8,7 +8,7 @@ use Rattle.cbfs_edit.specs.Removals.{removed, removal_in}
 use Rattle.cbfs_edit.specs.declared.fault.EditFault.{EditFault}
 use Rattle.cbfs_commands.specs.declared.refusal.Refusal.{Refusal}
 use Rattle.cbfs_commands.specs.declared.refusal.Refusal.TheVariants as refusals
-use Rattle.cbfs_commands.specs.Deeds.{deed}
+use Rattle.cbfs_commands.specs.Deeds.{deed, outcome}
 use Rattle.cbfs_commands.specs.Requests.{Request}
 use Rattle.cbfs_commands.specs.Requests as requests
 use Rattle.cbfs_commands.specs.Outcomes.{add, add_region, changing, extract, extract_region, made_in, print, print_region, read, reading, remove, remove_region, told_in, write, write_region}
@@ -58,7 +58,7 @@ module _ (name : List ℕ) (region : Range) (image other : List ℕ) (here : reg
       go true = record { written = refl; answer = refl; bytes = over source }
       go false = record { written = refl; answer = refl; bytes = same }
 
-  each : (r : Request) (source : List ℕ) → region_name r ≡ Some name → EndAlike region ((deed r).outcome image source) ((deed r).outcome other source)
+  each : (r : Request) (source : List ℕ) → region_name r ≡ Some name → EndAlike region (outcome (deed r) image source) (outcome (deed r) other source)
   unfolding print extract read remove add write
   each (requests.print asked verbose) source is =
       let e : asked ≡ name = cc in

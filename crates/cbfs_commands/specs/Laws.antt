@@ -10,7 +10,7 @@ use Rattle.cbfs_edit.specs.declared.place.Place.{Place}
 use Rattle.cbfs_edit.specs.declared.place.Spot.{Spot}
 use Rattle.cbfs_commands.specs.declared.plan.Plan.{Plan}
 use Rattle.cbfs_commands.specs.Creations.{Fits, created, plan_for}
-use Rattle.cbfs_commands.specs.Deeds.{deed}
+use Rattle.cbfs_commands.specs.Deeds.{deed, outcome}
 use Rattle.cbfs_commands.specs.Outcomes.{Outcome, add, changing, extract, extract_region, read, write}
 use Rattle.cbfs_commands.specs.Refusals.{HasNoFault}
 use Rattle.cbfs_commands.specs.Requests.{Request}
@@ -19,7 +19,7 @@ use Rattle.cbfs_commands.specs.Told.{shows}
 
 -- an outcome's own answer blames no side, since it is a function of the image, the command and the source alone
 abbrev pub OutcomesHaveNoFault : Type 0
-OutcomesHaveNoFault = (r : Request) (image source : List ℕ) → HasNoFault ((deed r).outcome image source).answer
+OutcomesHaveNoFault = (r : Request) (image source : List ℕ) → HasNoFault (outcome (deed r) image source).answer
 
 -- what `read` tells of a region is what `write` may put back, and the image stays as it is
 abbrev pub WritingBackChangesNothing : Type 0
@@ -46,7 +46,7 @@ pub record EndAlike (region : Range) (a b : Outcome) : Type 0 where
 abbrev pub OutcomesAreOfTheRegion : Type 0
 OutcomesAreOfTheRegion = (r : Request) (name : List ℕ) (region : Range) (image other source : List ℕ)
     → region_name r ≡ Some name → region_of image name ≡ Ok region → region_of other name ≡ Ok region → bytes_in region other ≡ bytes_in region image
-    → EndAlike region ((deed r).outcome image source) ((deed r).outcome other source)
+    → EndAlike region (outcome (deed r) image source) (outcome (deed r) other source)
 
 -- what every plan meets, and its map's area and its regions have no byte in common
 pub record IsLaid (n m : ℕ) (plan : Plan) : Type 0 where

@@ -2,7 +2,7 @@
 
 ghost use Rattle.std.specs.Prelude.{◌≡◌, ◌+◌, ◌*◌, ◌/◌, ◌<◌, ◌≤◌, ◌⊎◌, false, length, IsTrue, IsErrOf};
 ghost use Rattle.flash_store.specs.Device.{Calls, faults_told};
-ghost use Rattle.cbfs_commands.specs.Deeds.{MayHaveWritten, Serves, SparesOutside, deed};
+ghost use Rattle.cbfs_commands.specs.Deeds.{MayHaveWritten, Serves, SparesOutside, Stopped, deed, outcome, reads_source, source_calls, target, writes_output};
 ghost use Rattle.cbfs_commands.specs.Requests.{request_of};
 ghost use Rattle.cbfs_commands.specs.Outcomes.{Meets};
 ghost use Rattle.cbfs_commands.specs.Refusals.{by_device, by_source};
@@ -29,24 +29,24 @@ pub fn run<F: Flash, S: Source, W: Sink>(
     // On any device, from any source, into any sink.
     ensures calls { Calls (2 * length (F.facts paged.old.device).content + 64) (faults_told by_device result)
         (F.facts paged.old.device) (F.facts paged.new.device) }
-    ensures source_calls { Calls ((deed (request_of command.now)).source_calls (length (S.facts source.old).content))
+    ensures source_calls { Calls (source_calls (deed (request_of command.now)) (length (S.facts source.old).content))
         (faults_told by_source result) (S.facts source.old) (S.facts source.new) }
     ensures faults { W.faults out.old ≤ W.faults out.new }
 
-    ensures unread { (deed (request_of command.now)).reads_source ≡ false → source.new ≡ source.old }
-    ensures unwritten { (deed (request_of command.now)).writes_output ≡ false → out.new ≡ out.old }
+    ensures unread { reads_source (deed (request_of command.now)) ≡ false → source.new ≡ source.old }
+    ensures unwritten { writes_output (deed (request_of command.now)) ≡ false → out.new ≡ out.old }
 
     // Each fault is told only where that side failed, and only of a command that uses it.
     ensures device { IsErrOf result Refusal.Device →
         (F.facts paged.old.device).faults < (F.facts paged.new.device).faults }
-    ensures source { IsErrOf result Refusal.Source → IsTrue (deed (request_of command.now)).reads_source
+    ensures source { IsErrOf result Refusal.Source → IsTrue (reads_source (deed (request_of command.now)))
         × ((S.facts source.old).faults < (S.facts source.new).faults) }
-    ensures output { IsErrOf result Refusal.Output → IsTrue (deed (request_of command.now)).writes_output
+    ensures output { IsErrOf result Refusal.Output → IsTrue (writes_output (deed (request_of command.now)))
         × (W.faults out.old < W.faults out.new) }
 
     // On an honest device, however the command ends, and from any source.
     ensures spares { IsTrue (F.facts paged.old.device).honest →
-        SparesOutside ((deed (request_of command.now)).target (F.facts paged.old.device).content)
+        SparesOutside (target (deed (request_of command.now)) (F.facts paged.old.device).content)
         (F.facts paged.old.device).content (F.facts paged.new.device).content }
     ensures refused { IsTrue (F.facts paged.old.device).honest →
         MayHaveWritten result ⊎ ((F.facts paged.new.device).content ≡ (F.facts paged.old.device).content) }
@@ -54,9 +54,9 @@ pub fn run<F: Flash, S: Source, W: Sink>(
     // On an honest device; where the command reads the source, from an honest one.
     ensures outcome { IsTrue (F.facts paged.old.device).honest → Serves (deed (request_of command.now)) (S.facts source.old) →
         Meets (W.contents out.old) (W.contents out.new) (F.facts paged.new.device).content result
-        ((deed (request_of command.now)).outcome (F.facts paged.old.device).content (S.facts source.old).content) }
+        (outcome (deed (request_of command.now)) (F.facts paged.old.device).content (S.facts source.old).content) }
     ensures stopped { IsTrue (F.facts paged.old.device).honest → Serves (deed (request_of command.now)) (S.facts source.old) →
-        (deed (request_of command.now)).Stopped (F.facts paged.old.device).content (S.facts source.old).content result
+        Stopped (deed (request_of command.now)) (F.facts paged.old.device).content (S.facts source.old).content result
         (F.facts paged.new.device).content }
 {
     match command {
