@@ -107,6 +107,10 @@ deed (requests.read region) = tells (λ image. read image region)
 deed (requests.write region) = changes (replaces region)
 deed (requests.create names) = changes (creates names)
 
+-- P of the bytes of a device and of a source, where both are honest
+abbrev pub OnBoth : {F S : Type 0} → (F → Device) → F → (S → Device) → S → (List ℕ → List ℕ → Type 0) → Type 0
+OnBoth facts device source_facts source P = IsTrue (facts device).honest → IsTrue (source_facts source).honest → P (facts device).content (source_facts source).content
+
 -- the source is honest, where the command reads it
 abbrev pub Serves : Deed → Device → Type 0
 Serves d source = IsTrue (reads_source d) → IsTrue source.honest

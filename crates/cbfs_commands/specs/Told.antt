@@ -2,8 +2,12 @@
 use Rattle.std.specs.Prelude.{◌≡◌, ℕ, ◌<◌, ◌≤◌, ◌⊎◌, IsErrOf, List, [], ◌++◌, Option, Result, Ok, Err, length, take}
 use Rattle.std.specs.Io.KnownBytes.{Appends}
 use Rattle.flash_store.specs.Device.{Device, faults_told}
-use Rattle.flash_store.specs.Pages.{Pages, HasRead}
+use Rattle.flash_store.specs.Pages.{Pages, HasRead, OnHonest, OnHonestIn}
 use Rattle.flash_store.specs.Output.{AppendsPart}
+use Rattle.flash_store.specs.Regions.{Range}
+use Rattle.cbfs_walk.specs.Cells.{cell_in}
+use Rattle.cbfs_walk.specs.Walks.{StandsIn}
+use Rattle.cbfs_walk.specs.declared.cell.Cell.{Cell}
 use Rattle.cbfs_commands.specs.Refusals.{by_device}
 use Rattle.cbfs_commands.specs.declared.refusal.Refusal.{Refusal}
 use Rattle.cbfs_commands.specs.declared.refusal.Refusal.TheVariants as refusals
@@ -43,6 +47,14 @@ Tells old new answer t =
     ((answer ≡ t.answer) × Appends old new t.written)
     ⊎ ((answer ≡ Err refusals.Output) × AppendsPart old new t.written)
     ⊎ ((answer ≡ Err refusals.Device) × AppendsPrefix old new t.written)
+
+-- that is told of the device's bytes, where it is honest
+abbrev pub TellsOn : {F W : Type 0} → (F → Device) → (W → Option (List ℕ)) → F → W → W → Answer → (List ℕ → Told) → Type 0
+TellsOn facts contents device old new answer t = OnHonest facts device (λ image. Tells (contents old) (contents new) answer (t image))
+
+-- that is told of the bytes of a cell of a region, where the cell stands there
+abbrev pub TellsOfCell : {F W : Type 0} → (F → Device) → (W → Option (List ℕ)) → F → Range → Cell → W → W → Answer → (List ℕ → Told) → Type 0
+TellsOfCell facts contents device region cell old new answer t = OnHonestIn facts device region (λ x. StandsIn x cell → Tells (contents old) (contents new) answer (t (cell_in x cell)))
 
 -- What a call leaves that only reads the device, by at most n calls, and writes to a sink: each fault is told only where
 -- that side failed.

@@ -5,7 +5,7 @@ ghost use Rattle.std.specs.Result.{result_ok};
 ghost use Rattle.flash_store.specs.Pages.{OnHonest};
 ghost use Rattle.flash_store.specs.Regions.{Range, LiesIn, bytes_in, region_of};
 ghost use Rattle.cbfs_edit.specs.Additions.{new_component};
-ghost use Rattle.cbfs_commands.specs.Deeds.{HasKept};
+ghost use Rattle.cbfs_commands.specs.Deeds.{HasKept, OnBoth};
 ghost use Rattle.cbfs_commands.specs.Outcomes.{AddStopsIn, HasWritten, LeavesOr, add, add_region};
 
 use crate::refusal::Refusal;
@@ -30,11 +30,10 @@ fn add_region<F: Flash, S: Source>(
 
     // On an honest device.
     ensures kept { HasKept F.facts (λ image. Some region) paged.old paged.new result }
-    ensures left { OnHonest F.facts paged.old.device (λ image. IsTrue (S.facts source.old).honest →
-        LeavesOr image (F.facts paged.new.device).content result
-        (add_region image region (new_component name.now kind hash (S.facts source.old).content) spot)) }
-    ensures stopped { OnHonest F.facts paged.old.device (λ image. IsTrue (S.facts source.old).honest →
-        AddStopsIn (bytes_in region image) (new_component name.now kind hash (S.facts source.old).content) spot result
+    ensures left { OnBoth F.facts paged.old.device S.facts source.old (λ image bytes.
+        LeavesOr image (F.facts paged.new.device).content result (add_region image region (new_component name.now kind hash bytes) spot)) }
+    ensures stopped { OnBoth F.facts paged.old.device S.facts source.old (λ image bytes.
+        AddStopsIn (bytes_in region image) (new_component name.now kind hash bytes) spot result
         (bytes_in region (F.facts paged.new.device).content)) }
 {
     cbfs_edit::add(paged, region, name, kind, hash, spot, source)?;
@@ -58,13 +57,11 @@ pub fn add<F: Flash, S: Source>(
 
     // On an honest device.
     ensures kept { HasKept F.facts (λ image. result_ok (region_of image region.now)) paged.old paged.new result }
-    ensures left { OnHonest F.facts paged.old.device (λ image. IsTrue (S.facts source.old).honest →
-        LeavesOr image (F.facts paged.new.device).content result
-        (add image region.now (new_component name.now kind hash (S.facts source.old).content) spot)) }
-    ensures stopped { OnHonest F.facts paged.old.device (λ image. IsTrue (S.facts source.old).honest →
+    ensures left { OnBoth F.facts paged.old.device S.facts source.old (λ image bytes.
+        LeavesOr image (F.facts paged.new.device).content result (add image region.now (new_component name.now kind hash bytes) spot)) }
+    ensures stopped { OnBoth F.facts paged.old.device S.facts source.old (λ image bytes.
         (found : Range) → region_of image region.now ≡ Ok found →
-        AddStopsIn (bytes_in found image) (new_component name.now kind hash (S.facts source.old).content) spot result
-        (bytes_in found (F.facts paged.new.device).content)) }
+        AddStopsIn (bytes_in found image) (new_component name.now kind hash bytes) spot result (bytes_in found (F.facts paged.new.device).content)) }
 {
     let region = flash_store::region(paged, region)?;
     add_region(paged, region, name, kind, hash, spot, source)

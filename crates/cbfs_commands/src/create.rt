@@ -6,7 +6,7 @@ ghost use Rattle.flash_store.specs.Device.{Calls, refusals};
 ghost use Rattle.flash_store.specs.Pages.{OnHonest};
 ghost use Rattle.cbfs_commands.specs.declared.table.TheConstants.{MOST_REGIONS};
 ghost use Rattle.cbfs_commands.specs.Creations.{Fits, IsPlace, created, formatted_all, formatted_at};
-ghost use Rattle.cbfs_commands.specs.Deeds.{MayHaveWritten};
+ghost use Rattle.cbfs_commands.specs.Deeds.{MayHaveWritten, OnBoth};
 ghost use Rattle.cbfs_commands.specs.Outcomes.{HasWritten, LeavesOr, create};
 
 use crate::plan::{Plan, read_plan};
@@ -58,9 +58,8 @@ fn write_plan<F: Flash, S: Source>(
     ensures after { HasWritten F.facts S.facts (length (F.facts paged.old.device).content / 128 + 34)
         (length (S.facts source.old).content / 4096 + 1) paged.old paged.new source.old source.new result }
     ensures is { MayHaveWritten result }
-    ensures created { IsTrue (F.facts paged.old.device).honest → IsTrue (S.facts source.old).honest → OnOk result
-        ((F.facts paged.new.device).content
-        ≡ created (length (F.facts paged.old.device).content) plan.now (S.facts source.old).content) }
+    ensures created { OnBoth F.facts paged.old.device S.facts source.old (λ image bytes.
+        OnOk result ((F.facts paged.new.device).content ≡ created (length image) plan.now bytes)) }
 {
     let image_len = paged.len();
     paged.fill(0, image_len, 0xff)?;
@@ -86,9 +85,8 @@ pub fn create<F: Flash, S: Source>(
     // On an honest device.
     ensures refused { OnHonest F.facts paged.old.device (λ image.
         MayHaveWritten result ⊎ ((F.facts paged.new.device).content ≡ image)) }
-    ensures left { OnHonest F.facts paged.old.device (λ image. IsTrue (S.facts source.old).honest →
-        LeavesOr image (F.facts paged.new.device).content result
-        (create image (map (λ n. n.now) names.now) (S.facts source.old).content)) }
+    ensures left { OnBoth F.facts paged.old.device S.facts source.old (λ image bytes.
+        LeavesOr image (F.facts paged.new.device).content result (create image (map (λ n. n.now) names.now) bytes)) }
 {
     let image_len = paged.len();
     let plan = read_plan(names, source, image_len)?;

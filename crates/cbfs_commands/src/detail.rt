@@ -15,7 +15,7 @@ ghost use Rattle.cbfs_walk.specs.Hashes.{hash_state};
 ghost use Rattle.cbfs_walk.specs.Walks.{StandsIn};
 ghost use Rattle.cbfs_commands.specs.Details.{algorithm_name, attribute_line, attribute_text, details, digest_line, hash_line};
 ghost use Rattle.cbfs_commands.specs.Rows.{Pushes};
-ghost use Rattle.cbfs_commands.specs.Told.{HasTold, Tells, shows};
+ghost use Rattle.cbfs_commands.specs.Told.{HasTold, TellsOfCell, TellsOn, shows};
 
 use crate::refusal::Refusal;
 use crate::row::{ROW_LEN, Row, push_decimal, push_text, put_row};
@@ -114,8 +114,8 @@ fn print_attributes<F: Flash, W: Sink>(
     requires component { is_free cell.now.head ≡ false }
 
     ensures after { HasTold F.facts W.faults (cell.now.head.offset / 8) paged.old paged.new out.old out.new result }
-    ensures told { OnHonestIn F.facts paged.old.device region (λ x. StandsIn x cell.now → Tells (W.contents out.old)
-        (W.contents out.new) result (shows (flat_map attribute_line (cell_attributes (cell_in x cell.now))))) }
+    ensures told { TellsOfCell F.facts W.contents paged.old.device region cell.now out.old out.new result
+        (λ x. shows (flat_map attribute_line (cell_attributes x))) }
 {
     let mut walk = attributes(cell);
     loop {
@@ -142,9 +142,8 @@ fn print_hash<F: Flash, W: Sink>(
     requires component { is_free cell.now.head ≡ false }
 
     ensures after { HasTold F.facts W.faults (1 + cell.now.span / 3840) paged.old paged.new out.old out.new result }
-    ensures told { OnHonestIn F.facts paged.old.device region (λ x. StandsIn x cell.now → Tells (W.contents out.old)
-        (W.contents out.new) result (shows (hash_line (hash_state (cell_attributes (cell_in x cell.now))
-        (cell_content (cell_in x cell.now)))))) }
+    ensures told { TellsOfCell F.facts W.contents paged.old.device region cell.now out.old out.new result
+        (λ x. shows (hash_line (hash_state (cell_attributes x) (cell_content x)))) }
 {
     let state = check_hash(paged, region, cell)?;
     set_hash_row(row, &state);
@@ -165,8 +164,8 @@ pub fn print_details<F: Flash, W: Sink>(
 
     ensures after { HasTold F.facts W.faults (cell.now.head.offset / 8 + (1 + cell.now.span / 3840)) paged.old paged.new
         out.old out.new result }
-    ensures told { OnHonestIn F.facts paged.old.device region (λ x. StandsIn x cell.now → Tells (W.contents out.old)
-        (W.contents out.new) result (shows (details (cell_in x cell.now)))) }
+    ensures told { TellsOfCell F.facts W.contents paged.old.device region cell.now out.old out.new result
+        (λ x. shows (details x)) }
 {
     print_attributes(paged, region, cell, row, out)?;
     print_hash(paged, region, cell, row, out)

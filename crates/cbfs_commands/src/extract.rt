@@ -8,7 +8,7 @@ ghost use Rattle.flash_store.specs.Regions.{LiesIn, bytes_in};
 ghost use Rattle.cbfs_walk.specs.Cells.{IsCellIn, cell_in};
 ghost use Rattle.cbfs_walk.specs.Walks.{StandsIn};
 ghost use Rattle.cbfs_commands.specs.Outcomes.{extract, extract_region, told_component};
-ghost use Rattle.cbfs_commands.specs.Told.{HasTold, Tells};
+ghost use Rattle.cbfs_commands.specs.Told.{HasTold, TellsOfCell, TellsOn};
 
 use crate::read::copy_out;
 use crate::refusal::Refusal;
@@ -27,8 +27,8 @@ fn extract_component<F: Flash, W: Sink>(
     requires component { is_free cell.now.head ≡ false }
 
     ensures after { HasTold F.facts W.faults (cell.now.span / 3840 + 2) paged.old paged.new out.old out.new result }
-    ensures told { OnHonestIn F.facts paged.old.device region (λ x. StandsIn x cell.now → Tells (W.contents
-        out.old) (W.contents out.new) result (told_component (component_at cell.now.at (cell_in x cell.now)))) }
+    ensures told { TellsOfCell F.facts W.contents paged.old.device region cell.now out.old out.new result
+        (λ x. told_component (component_at cell.now.at x)) }
 {
     cells_stand_in_their_image();
     paged.places_fit();
@@ -49,8 +49,8 @@ fn extract_region<F: Flash, W: Sink>(
     requires { LiesIn region (F.facts paged.old.device).content }
 
     ensures after { HasTold F.facts W.faults (region.size / 16 + region.size / 3840 + 2) paged.old paged.new out.old out.new result }
-    ensures told { OnHonestIn F.facts paged.old.device region (λ x. Tells (W.contents out.old) (W.contents
-        out.new) result (extract_region x name.now)) }
+    ensures told { TellsOn F.facts W.contents paged.old.device out.old out.new result
+        (λ image. extract_region (bytes_in region image) name.now) }
 {
     match find(paged, region, name)? {
         Some(cell) => extract_component(paged, region, &cell, out),
@@ -67,8 +67,8 @@ pub fn extract<F: Flash, W: Sink>(
     out: &mut W,
 ) -> Result<(), Refusal>
     ensures after { HasTold F.facts W.faults (2 * length (F.facts paged.old.device).content + 64) paged.old paged.new out.old out.new result }
-    ensures told { OnHonest F.facts paged.old.device (λ image. Tells (W.contents out.old) (W.contents out.new)
-        result (extract image region.now name.now)) }
+    ensures told { TellsOn F.facts W.contents paged.old.device out.old out.new result
+        (λ image. extract image region.now name.now) }
 {
     let region = flash_store::region(paged, region)?;
     extract_region(paged, region, name, out)

@@ -5,7 +5,7 @@ ghost use Rattle.std.specs.List.{flat_map};
 ghost use Rattle.flash_format.specs.Flashmap.{fmap_head_len, area_len, map_len, area_of, areas_from};
 ghost use Rattle.flash_store.specs.Pages.{OnHonest, OnHonestIn};
 ghost use Rattle.cbfs_commands.specs.Layouts.{layout, map_row, area_row};
-ghost use Rattle.cbfs_commands.specs.Told.{HasTold, Tells, shows};
+ghost use Rattle.cbfs_commands.specs.Told.{HasTold, TellsOfCell, TellsOn, shows};
 
 use crate::refusal::Refusal;
 use crate::row::{Row, push_decimal, push_hexadecimal, push_name, push_text, put_row};
@@ -57,8 +57,8 @@ fn list_area<F: Flash, W: Sink>(
     requires number { i < map.now.head.nareas }
 
     ensures after { HasTold F.facts W.faults 1 paged.old paged.new out.old out.new result }
-    ensures told { OnHonest F.facts paged.old.device (λ image. Tells (W.contents out.old) (W.contents out.new)
-        result (shows (area_row (area_of (drop (map.now.at + fmap_head_len + area_len * i) image))))) }
+    ensures told { TellsOn F.facts W.contents paged.old.device out.old out.new result
+        (λ image. shows (area_row (area_of (drop (map.now.at + fmap_head_len + area_len * i) image)))) }
 {
     let listed = area(paged, map, i)?;
     set_area_row(row, &listed);
@@ -75,8 +75,8 @@ fn list_areas<F: Flash, W: Sink>(
     requires { map.now.at + map_len map.now.head ≤ length (F.facts paged.old.device).content }
 
     ensures after { HasTold F.facts W.faults map.now.head.nareas paged.old paged.new out.old out.new result }
-    ensures told { OnHonest F.facts paged.old.device (λ image. Tells (W.contents out.old) (W.contents out.new)
-        result (shows (flat_map area_row (areas_from map.now.head.nareas (drop (map.now.at + fmap_head_len) image))))) }
+    ensures told { TellsOn F.facts W.contents paged.old.device out.old out.new result
+        (λ image. shows (flat_map area_row (areas_from map.now.head.nareas (drop (map.now.at + fmap_head_len) image)))) }
 {
     for i in 0..map.head.nareas {
         list_area(paged, map, i, row, out)?;
@@ -89,8 +89,7 @@ fn list_areas<F: Flash, W: Sink>(
 pub fn layout<F: Flash, W: Sink>(paged: &mut Paged<F>, out: &mut W) -> Result<(), Refusal>
     ensures after { HasTold F.facts W.faults (length (F.facts paged.old.device).content / 2
         + length (F.facts paged.old.device).content / area_len + 8) paged.old paged.new out.old out.new result }
-    ensures told { OnHonest F.facts paged.old.device (λ image. Tells (W.contents out.old) (W.contents out.new)
-        result (layout image)) }
+    ensures told { TellsOn F.facts W.contents paged.old.device out.old out.new result (λ image. layout image) }
 {
     let Some(map) = find_fmap(paged)? else {
         return Err(Refusal::NoFmap);

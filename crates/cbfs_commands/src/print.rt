@@ -8,7 +8,7 @@ ghost use Rattle.cbfs_walk.specs.Walks.{StandsIn};
 ghost use Rattle.cbfs_commands.specs.Outcomes.{print, print_region};
 ghost use Rattle.cbfs_commands.specs.Details.{cell_reads, region_reads, shown_cell};
 ghost use Rattle.cbfs_commands.specs.Rows.{row};
-ghost use Rattle.cbfs_commands.specs.Told.{HasTold, Tells, shows};
+ghost use Rattle.cbfs_commands.specs.Told.{HasTold, TellsOfCell, TellsOn, shows};
 
 use crate::detail::print_details;
 use crate::refusal::Refusal;
@@ -55,8 +55,8 @@ fn print_row<F: Flash, W: Sink>(
     requires cell { IsCellIn region.size cell.now }
 
     ensures after { HasTold F.facts W.faults (2 + cell.now.span / 3840) paged.old paged.new out.old out.new result }
-    ensures told { OnHonestIn F.facts paged.old.device region (λ x. StandsIn x cell.now → Tells (W.contents
-        out.old) (W.contents out.new) result (shows (row cell.now.at (cell_in x cell.now)))) }
+    ensures told { TellsOfCell F.facts W.contents paged.old.device region cell.now out.old out.new result
+        (λ x. shows (row cell.now.at x)) }
 {
     set_cell_row(paged, region, cell, buffer)?;
     put_row(out, buffer)
@@ -75,8 +75,8 @@ fn print_cell<F: Flash, W: Sink>(
     requires cell { IsCellIn region.size cell.now }
 
     ensures after { HasTold F.facts W.faults (cell_reads verbose cell.now.span) paged.old paged.new out.old out.new result }
-    ensures told { OnHonestIn F.facts paged.old.device region (λ x. StandsIn x cell.now → Tells (W.contents
-        out.old) (W.contents out.new) result (shows (shown_cell verbose cell.now.at (cell_in x cell.now)))) }
+    ensures told { TellsOfCell F.facts W.contents paged.old.device region cell.now out.old out.new result
+        (λ x. shows (shown_cell verbose cell.now.at x)) }
 {
     cells_stand_in_their_image();
     print_row(paged, region, cell, buffer, out)?;
@@ -96,8 +96,8 @@ fn print_region<F: Flash, W: Sink>(
     requires { LiesIn region (F.facts paged.old.device).content }
 
     ensures after { HasTold F.facts W.faults (region_reads verbose region.size + 2) paged.old paged.new out.old out.new result }
-    ensures told { OnHonestIn F.facts paged.old.device region (λ x. Tells (W.contents out.old) (W.contents
-        out.new) result (print_region x verbose)) }
+    ensures told { TellsOn F.facts W.contents paged.old.device out.old out.new result
+        (λ image. print_region (bytes_in region image) verbose) }
 {
     let mut buffer = ArrayVec::new();
     let mut walk = Walk::new(region);
@@ -119,8 +119,8 @@ pub fn print<F: Flash, W: Sink>(
     out: &mut W,
 ) -> Result<(), Refusal>
     ensures after { HasTold F.facts W.faults (2 * length (F.facts paged.old.device).content + 64) paged.old paged.new out.old out.new result }
-    ensures told { OnHonest F.facts paged.old.device (λ image. Tells (W.contents out.old) (W.contents out.new)
-        result (print image name.now verbose)) }
+    ensures told { TellsOn F.facts W.contents paged.old.device out.old out.new result
+        (λ image. print image name.now verbose) }
 {
     let region = flash_store::region(paged, name)?;
     print_region(paged, region, verbose, out)

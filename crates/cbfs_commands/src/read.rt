@@ -3,7 +3,7 @@
 ghost use Rattle.std.specs.Prelude.{◌≡◌, ◌+◌, ◌*◌, ◌/◌, ◌<◌, ◌≤◌, length, slice_range, IsTrue, IsErrOf};
 ghost use Rattle.flash_store.specs.Pages.{OnHonest, OnHonestIn};
 ghost use Rattle.cbfs_commands.specs.Outcomes.{read};
-ghost use Rattle.cbfs_commands.specs.Told.{HasTold, Tells, shows};
+ghost use Rattle.cbfs_commands.specs.Told.{HasTold, TellsOfCell, TellsOn, shows};
 
 use crate::refusal::Refusal;
 use flash_store::{Flash, Paged, Sink};
@@ -18,8 +18,8 @@ pub fn copy_out<F: Flash, W: Sink>(
     requires { start + size ≤ length (F.facts paged.old.device).content }
 
     ensures after { HasTold F.facts W.faults ((size + 4095) / 4096) paged.old paged.new out.old out.new result }
-    ensures told { OnHonest F.facts paged.old.device (λ image. Tells (W.contents out.old) (W.contents out.new)
-        result (shows (slice_range image start (start + size)))) }
+    ensures told { TellsOn F.facts W.contents paged.old.device out.old out.new result
+        (λ image. shows (slice_range image start (start + size))) }
 {
     paged.copy_out(start, size, out)?;
     Ok(())
@@ -33,8 +33,7 @@ pub fn read<F: Flash, W: Sink>(
     out: &mut W,
 ) -> Result<(), Refusal>
     ensures after { HasTold F.facts W.faults (2 * length (F.facts paged.old.device).content + 64) paged.old paged.new out.old out.new result }
-    ensures told { OnHonest F.facts paged.old.device (λ image. Tells (W.contents out.old) (W.contents out.new)
-        result (read image name.now)) }
+    ensures told { TellsOn F.facts W.contents paged.old.device out.old out.new result (λ image. read image name.now) }
 {
     let region = flash_store::region(paged, name)?;
     copy_out(paged, region.start(), region.size(), out)

@@ -1,11 +1,11 @@
 //! The command `remove`.
 
-ghost use Rattle.std.specs.Prelude.{◌≡◌, ◌+◌, ◌*◌, ◌/◌, ◌⊎◌, length, IsTrue, IsErrOf, Some, Ok};
+ghost use Rattle.std.specs.Prelude.{◌≡◌, ◌+◌, ◌*◌, ◌/◌, ◌⊎◌, [], length, IsTrue, IsErrOf, Some, Ok};
 ghost use Rattle.std.specs.Result.{result_ok};
 ghost use Rattle.flash_store.specs.Pages.{OnHonest};
 ghost use Rattle.flash_store.specs.Regions.{Range, LiesIn, bytes_in, region_of};
 ghost use Rattle.cbfs_edit.specs.Stops.{LeavesWhole};
-ghost use Rattle.cbfs_commands.specs.Deeds.{HasKept};
+ghost use Rattle.cbfs_commands.specs.Deeds.{HasKept, removes};
 ghost use Rattle.cbfs_commands.specs.Outcomes.{HasEdited, LeavesOr, remove, remove_region};
 
 use crate::refusal::Refusal;
@@ -39,9 +39,8 @@ pub fn remove<F: Flash>(paged: &mut Paged<F>, region: &[u8], name: &[u8]) -> Res
     ensures kept { HasKept F.facts (λ image. result_ok (region_of image region.now)) paged.old paged.new result }
     ensures left { OnHonest F.facts paged.old.device (λ image.
         LeavesOr image (F.facts paged.new.device).content result (remove image region.now name.now)) }
-    ensures stopped { OnHonest F.facts paged.old.device (λ image. (found : Range) → region_of image region.now ≡ Ok found →
-        IsErrOf result Refusal.Device →
-        LeavesWhole (bytes_in found image) name.now (bytes_in found (F.facts paged.new.device).content)) }
+    ensures stopped { OnHonest F.facts paged.old.device (λ image.
+        (removes region.now name.now).Stopped image [] result (F.facts paged.new.device).content) }
 {
     let region = flash_store::region(paged, region)?;
     remove_region(paged, region, name)

@@ -3,7 +3,7 @@
 ghost use Rattle.std.specs.Prelude.{◌≡◌, ◌+◌, ◌*◌, ◌/◌, ◌<◌, ◌≤◌, ◌⊎◌, length, IsTrue, IsErrOf, Some, Ok};
 ghost use Rattle.std.specs.Result.{result_ok};
 ghost use Rattle.flash_store.specs.Regions.{Range, LiesIn, region_of};
-ghost use Rattle.cbfs_commands.specs.Deeds.{HasKept};
+ghost use Rattle.cbfs_commands.specs.Deeds.{HasKept, OnBoth, replaces};
 ghost use Rattle.cbfs_commands.specs.Outcomes.{HasWritten, LeavesOr, StopsIn, write, write_region};
 
 use crate::refusal::Refusal;
@@ -23,12 +23,10 @@ fn write_region<F: Flash, S: Source>(
 
     // On an honest device.
     ensures kept { HasKept F.facts (λ image. Some region) paged.old paged.new result }
-    ensures left { IsTrue (F.facts paged.old.device).honest → IsTrue (S.facts source.old).honest →
-        LeavesOr (F.facts paged.old.device).content (F.facts paged.new.device).content result
-        (write_region (F.facts paged.old.device).content region (S.facts source.old).content) }
-    ensures stopped { IsTrue (F.facts paged.old.device).honest → IsTrue (S.facts source.old).honest →
-        StopsIn (F.facts paged.old.device).content region (S.facts source.old).content
-        (F.facts paged.new.device).content result }
+    ensures left { OnBoth F.facts paged.old.device S.facts source.old (λ image bytes.
+        LeavesOr image (F.facts paged.new.device).content result (write_region image region bytes)) }
+    ensures stopped { OnBoth F.facts paged.old.device S.facts source.old (λ image bytes.
+        StopsIn image region bytes (F.facts paged.new.device).content result) }
 {
     if source.len() != region.size() {
         return Err(Refusal::SourceSize);
@@ -50,13 +48,10 @@ pub fn write<F: Flash, S: Source>(
 
     // On an honest device.
     ensures kept { HasKept F.facts (λ image. result_ok (region_of image name.now)) paged.old paged.new result }
-    ensures left { IsTrue (F.facts paged.old.device).honest → IsTrue (S.facts source.old).honest →
-        LeavesOr (F.facts paged.old.device).content (F.facts paged.new.device).content result
-        (write (F.facts paged.old.device).content name.now (S.facts source.old).content) }
-    ensures stopped { IsTrue (F.facts paged.old.device).honest → IsTrue (S.facts source.old).honest →
-        (region : Range) → region_of (F.facts paged.old.device).content name.now ≡ Ok region →
-        StopsIn (F.facts paged.old.device).content region (S.facts source.old).content
-        (F.facts paged.new.device).content result }
+    ensures left { OnBoth F.facts paged.old.device S.facts source.old (λ image bytes.
+        LeavesOr image (F.facts paged.new.device).content result (write image name.now bytes)) }
+    ensures stopped { OnBoth F.facts paged.old.device S.facts source.old (λ image bytes.
+        (replaces name.now).Stopped image bytes result (F.facts paged.new.device).content) }
 {
     let region = flash_store::region(paged, name)?;
     write_region(paged, region, source)
