@@ -1,6 +1,6 @@
 //! A file that is read ahead.
-ghost use Rattle.std.specs.Prelude.{◌≡◌, ◌+◌, ◌-◌, ◌≤◌, IfOk, IsTrue, length, take, drop};
-ghost use Rattle.flash_store.specs.Storing.{SameBytes};
+ghost use Rattle.std.specs.Prelude.{◌≡◌, ◌+◌, ◌-◌, ◌≤◌, IsTrue, length, take, drop};
+ghost use Rattle.flash_store.specs.Storing.{SameBytes, HasReadSome};
 
 use crate::storage::{Storage, StorageFault};
 use std::marker::Model;
@@ -98,10 +98,7 @@ fn read_front<S: Storage>(
     requires inside { at + n ≤ length (S.facts storage.old).content }
     requires room { n ≤ length out.old }
 
-    ensures after { SameBytes (S.facts storage.old) (S.facts storage.new) }
-    ensures short { IfOk result (λ k. k ≤ n) }
-    ensures read { IsTrue (S.facts storage.old).faithful → IfOk result (λ k.
-        take k out.new ≡ take k (drop at (S.facts storage.old).content)) }
+    ensures { HasReadSome at n (S.facts storage.old) (S.facts storage.new) result out.new }
 {
     storage.read_some(at, &mut out[..n])
 }

@@ -1,5 +1,5 @@
 //! A device for tests, which refuses every call after the first few.
-ghost use Rattle.std.specs.Prelude.{◌≡◌, ◌+◌, ◌-◌, ◌<◌, ◌≤◌, ◌⊎◌, length, take, true, false, IsTrue, IsErr, OnOk, OnErr, slice_range};
+ghost use Rattle.std.specs.Prelude.{◌≡◌, ◌+◌, ◌-◌, ◌<◌, ◌≤◌, length, take, true, false, IsTrue, IsErr, OnOk};
 ghost use Rattle.flash_store.specs.Bytes.{overwritten, SameOutside};
 ghost use Rattle.flash_store.specs.Device.{OneCall, OneRead, OneWrite, OneCommit, refusals};
 ghost use Rattle.flash_store.specs.Failing.{facts_over, Passed, TornOnce, refused_once};

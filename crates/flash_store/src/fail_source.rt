@@ -1,6 +1,6 @@
 //! A source for tests, which refuses every read after the first few.
-ghost use Rattle.std.specs.Prelude.{◌≡◌, ◌+◌, ◌-◌, ◌<◌, ◌≤◌, length, IsTrue, IsErr, OnOk, OnErr, slice_range};
-ghost use Rattle.flash_store.specs.Device.{OneCall, OneRead, OneWrite, OneCommit, refusals};
+ghost use Rattle.std.specs.Prelude.{◌≡◌, ◌+◌, ◌-◌, ◌<◌, ◌≤◌, length, IsErr};
+ghost use Rattle.flash_store.specs.Device.{OneRead};
 ghost use Rattle.flash_store.specs.Failing.{source_facts_over, SourcePassed, source_refused_once};
 
 use crate::counter::Counter;

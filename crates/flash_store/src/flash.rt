@@ -1,7 +1,6 @@
 //! What every device promises.
-ghost use Rattle.std.specs.Prelude.{◌≡◌, ℕ, ◌+◌, ◌^◌, ◌<◌, ◌≤◌, ◌⊎◌, length, IsTrue, OnOk, OnErr, slice_range};
-ghost use Rattle.flash_store.specs.Bytes.{overwritten, SameOutside};
-ghost use Rattle.flash_store.specs.Device.{Device, OneCall, OneRead, OneWrite, OneCommit, refusals};
+ghost use Rattle.std.specs.Prelude.{◌≡◌, ◌+◌, ◌^◌, ◌<◌, ◌≤◌, length};
+ghost use Rattle.flash_store.specs.Device.{Device, OneRead, OneWrite, OneCommit};
 
 use flash_format::HEADER_LENGTH;
 

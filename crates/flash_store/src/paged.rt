@@ -1,10 +1,10 @@
 //! A device and one buffer, through which everything passes in pieces.
-ghost use Rattle.std.specs.Prelude.{◌≡◌, ℕ, List, ◌++◌, ◌+◌, ◌/◌, ◌^◌, ◌<◌, ◌≤◌, ◌⊎◌, ◌↔◌, length, take, IsTrue, OnOk, OnErr, IfOk, IsErrOf, slice_range, replicate};
-ghost use Rattle.flash_store.specs.Bytes.{overwritten, SameOutside, FirstWritten, PartWritten};
+ghost use Rattle.std.specs.Prelude.{◌≡◌, ℕ, List, ◌++◌, ◌+◌, ◌/◌, ◌^◌, ◌<◌, ◌≤◌, ◌↔◌, length, take, IsTrue, OnOk, IfOk, IsErrOf, slice_range, replicate};
+ghost use Rattle.flash_store.specs.Bytes.{overwritten, SameOutside};
 ghost use Rattle.flash_store.specs.Device.{Calls, OneCall, OneRead, OneWrite, OneCommit, faults_told, refusals};
 ghost use Rattle.flash_store.specs.Copies.{by_device, by_source, HasFilled, HasCopiedIn, HasCopiedOut};
-ghost use Rattle.flash_store.specs.Output.{AppendsPart, AppendsPieces};
-ghost use Rattle.std.specs.Io.KnownBytes.{Appends, Keeps};
+ghost use Rattle.flash_store.specs.Output.{AppendsPieces};
+ghost use Rattle.std.specs.Io.KnownBytes.{Keeps};
 
 use crate::flash::{Flash, FlashFault, PIECE};
 use crate::sink::{Sink, SinkFault, put_all};
@@ -113,7 +113,7 @@ impl<F: Flash> Model for Paged<F> {
 impl<F: Flash> Paged<F> {
     ghost use Rattle.std.specs.Borrow.{sem};
     ghost use Rattle.std.specs.Io.BufRead.{Rests};
-    ghost use Rattle.flash_store.specs.Pages.{Nothing, HasRead, HasSeen, HasPulled, HasPiece, HasNoPiece, OnPiece, Covers, without_piece};
+    ghost use Rattle.flash_store.specs.Pages.{Nothing, HasSeen, HasPulled, HasPiece, OnPiece, Covers, without_piece};
     ghost use Rattle.flash_store.specs.contracts.paged.Paged.{the_row};
 
     /// Nothing is held, and no call is made.

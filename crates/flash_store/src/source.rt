@@ -1,6 +1,6 @@
 //! Where input comes from.
-ghost use Rattle.std.specs.Prelude.{◌≡◌, ◌+◌, ◌^◌, ◌<◌, ◌≤◌, length, IsTrue, OnOk, OnErr, slice_range};
-ghost use Rattle.flash_store.specs.Device.{Device, OneCall, OneRead, OneWrite, OneCommit, refusals};
+ghost use Rattle.std.specs.Prelude.{◌≡◌, ◌+◌, ◌^◌, ◌<◌, ◌≤◌, length};
+ghost use Rattle.flash_store.specs.Device.{Device, OneRead};
 
 /// A call to a source that was refused.
 #[derive(Clone, Copy, Debug, PartialEq, Eq, Drop)]

@@ -1,7 +1,6 @@
 //! One call of a file.
-ghost use Rattle.std.specs.Prelude.{◌≡◌, ◌⊎◌, ◌+◌, ◌^◌, ◌<◌, ◌≤◌, length, take, drop, IsTrue, IfOk, IsErrOf};
-ghost use Rattle.flash_store.specs.Bytes.{overwritten, SameOutside};
-ghost use Rattle.flash_store.specs.Storing.{Stored, SameFile, SameBytes};
+ghost use Rattle.std.specs.Prelude.{◌≡◌, ◌+◌, ◌^◌, ◌<◌, ◌≤◌, length, IsTrue, IsErrOf};
+ghost use Rattle.flash_store.specs.Storing.{Stored, HasReadSome, HasWrittenSome};
 
 use flash_format::HEADER_LENGTH;
 
@@ -30,27 +29,13 @@ pub trait Storage: Drop {
     fn read_some(&mut self, at: u64, out: &mut [u8]) -> Result<usize, StorageFault>
         requires inside { at + length out.old ≤ length (facts self.old).content }
 
-        ensures after { SameBytes (facts self.old) (facts self.new) }
-        ensures short { IfOk result (λ n. n ≤ length out.old) }
-        ensures read { IsTrue (facts self.old).faithful → IfOk result (λ n.
-            take n out.new ≡ take n (drop at (facts self.old).content)) };
+        ensures { HasReadSome at (length out.old) (facts self.old) (facts self.new) result out.new };
 
     /// Writes some of the first bytes from `at` on, and says how many.
     fn write_some(&mut self, at: u64, bytes: &[u8]) -> Result<usize, StorageFault>
         requires inside { at + length bytes.now ≤ length (facts self.old).content }
 
-        ensures after { SameFile (facts self.old) (facts self.new) }
-        ensures short { IfOk result (λ n. n ≤ length bytes.now) }
-
-        // Of a faithful file, all but the first whatever it answers.
-        ensures written { IsTrue (facts self.old).faithful → IfOk result (λ n.
-            (facts self.new).content ≡ overwritten (facts self.old).content at (take n bytes.now)) }
-        ensures torn { IsTrue (facts self.old).faithful →
-            SameOutside at (length bytes.now) (facts self.old).content (facts self.new).content }
+        ensures after { HasWrittenSome at bytes.now (facts self.old) (facts self.new) result }
         ensures interrupted { IsTrue (facts self.old).faithful → IsErrOf result StorageFault.Interrupted →
-            (facts self.new).content ≡ (facts self.old).content }
-        // A write of no more than a header is whole or absent.
-        ensures whole { IsTrue (facts self.old).faithful → length bytes.now ≤ HEADER_LENGTH →
-            ((facts self.new).content ≡ (facts self.old).content)
-            ⊎ ((facts self.new).content ≡ overwritten (facts self.old).content at bytes.now) };
+            (facts self.new).content ≡ (facts self.old).content };
 }

@@ -1,5 +1,6 @@
 //! A device in a file.
 ghost use Rattle.std.specs.Prelude.{◌≡◌, ◌+◌, IsOk, IsErr, OnOk, OnErr};
+ghost use Rattle.flash_store.specs.Storing.{stored_device};
 
 use crate::counter::Counter;
 use crate::flash::{Flash, FlashFault};
@@ -18,26 +19,17 @@ pub struct StoredFlash<S: Storage> {
 
 impl<S: Storage> Model for StoredFlash<S> {
     ghost use Rattle.flash_store.specs.Device.{Device};
+    ghost use Rattle.flash_store.specs.Storing.{stored_device};
 
     ghost Value = { Device };
 
-    ghost view = { λ f. record {
-      content = (S.facts f.storage).content;
-      calls = f.calls;
-      faults = f.faults;
-      honest = (S.facts f.storage).faithful;
-    } };
+    ghost view = { λ f. stored_device (S.facts f.storage) f.calls f.faults };
 }
 
 impl<S: Storage> StoredFlash<S> {
     /// The device in a file, before any call.
     pub fn new(storage: S) -> StoredFlash<S>
-        ensures { result ≡ record {
-          content = (S.facts storage).content;
-          calls = 0;
-          faults = 0;
-          honest = (S.facts storage).faithful;
-        } }
+        ensures { result ≡ stored_device (S.facts storage) 0 0 }
     {
         StoredFlash {
             storage,

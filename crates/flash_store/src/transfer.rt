@@ -1,7 +1,7 @@
 //! Calls of a file made until all of the bytes are moved.
-ghost use Rattle.std.specs.Prelude.{◌≡◌, ◌⊎◌, ◌+◌, ◌^◌, ◌<◌, ◌≤◌, length, take, drop, IsTrue, IfOk, OnOk, slice_range};
+ghost use Rattle.std.specs.Prelude.{◌≡◌, ◌⊎◌, ◌+◌, ◌<◌, ◌≤◌, length, IsTrue, IfOk, OnOk, slice_range};
 ghost use Rattle.flash_store.specs.Bytes.{overwritten, SameOutside};
-ghost use Rattle.flash_store.specs.Storing.{SameFile, SameBytes};
+ghost use Rattle.flash_store.specs.Storing.{SameFile, SameBytes, HasReadSome, HasWrittenSome};
 
 use crate::storage::{Storage, StorageFault};
 use flash_format::HEADER_LENGTH;
@@ -13,10 +13,8 @@ const TRIES: u32 = 1000;
 fn read_again<S: Storage>(storage: &mut S, at: u64, out: &mut [u8]) -> Result<usize, StorageFault>
     requires inside { at + length out.old ≤ length (S.facts storage.old).content }
 
-    ensures after { SameBytes (S.facts storage.old) (S.facts storage.new) }
-    ensures moved { IfOk result (λ n. (0 < n) × (n ≤ length out.old)) }
-    ensures read { IsTrue (S.facts storage.old).faithful → IfOk result (λ n.
-        take n out.new ≡ take n (drop at (S.facts storage.old).content)) }
+    ensures after { HasReadSome at (length out.old) (S.facts storage.old) (S.facts storage.new) result out.new }
+    ensures moved { IfOk result (λ n. 0 < n) }
 {
     for _ in 0..TRIES {
         match storage.read_some(at, out) {
@@ -33,15 +31,8 @@ fn read_again<S: Storage>(storage: &mut S, at: u64, out: &mut [u8]) -> Result<us
 fn write_again<S: Storage>(storage: &mut S, at: u64, bytes: &[u8]) -> Result<usize, StorageFault>
     requires inside { at + length bytes.now ≤ length (S.facts storage.old).content }
 
-    ensures after { SameFile (S.facts storage.old) (S.facts storage.new) }
-    ensures moved { IfOk result (λ n. (0 < n) × (n ≤ length bytes.now)) }
-    ensures written { IsTrue (S.facts storage.old).faithful → IfOk result (λ n.
-        (S.facts storage.new).content ≡ overwritten (S.facts storage.old).content at (take n bytes.now)) }
-    ensures torn { IsTrue (S.facts storage.old).faithful →
-        SameOutside at (length bytes.now) (S.facts storage.old).content (S.facts storage.new).content }
-    ensures whole { IsTrue (S.facts storage.old).faithful → length bytes.now ≤ HEADER_LENGTH →
-        ((S.facts storage.new).content ≡ (S.facts storage.old).content)
-        ⊎ ((S.facts storage.new).content ≡ overwritten (S.facts storage.old).content at bytes.now) }
+    ensures after { HasWrittenSome at bytes.now (S.facts storage.old) (S.facts storage.new) result }
+    ensures moved { IfOk result (λ n. 0 < n) }
 {
     for _ in 0..TRIES {
         match storage.write_some(at, bytes) {

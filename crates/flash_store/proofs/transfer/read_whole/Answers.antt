@@ -9,8 +9,8 @@ loop-done-preserved g c =
     let done = c.loop-done.done in
     let size : length c.read_again.new.out ≡ length out - done = c.read_again.auto.out ∙ length-rest out done in
     record {
-      within = omega (arith, rw (length-rest out done) at c.in_ok-done.ensures.moved.1, had.within, length-ended out c.read_again.new.out done had.within size);
-      after = SameBytes-trans had.after c.read_again.ensures.after;
+      within = omega (arith, rw (length-rest out done) at c.in_ok-done.ensures.after.short, had.within, length-ended out c.read_again.new.out done had.within size);
+      after = SameBytes-trans had.after c.read_again.ensures.after.after;
       read = λ h. Read-more out c.read_again.new.out _ c.args.at done c.in_ok-done.field-0 had.within size (had.read h)
-          (rw (had.after.unchanged h) at (c.in_ok-done.ensures.read (faithful_still had.after.same.same_faith h)));
+          (rw (had.after.unchanged h) at (c.in_ok-done.ensures.after.read (faithful_still had.after.same.same_faith h)));
     }
