@@ -4,8 +4,8 @@ use Rattle.std.specs.Io.KnownBytes.{Appends}
 use Rattle.flash_store.specs.Device.{Device, faults_told}
 use Rattle.flash_store.specs.Pages.{Pages, HasRead, OnHonest, OnHonestIn}
 use Rattle.flash_store.specs.Output.{AppendsPart}
-use Rattle.flash_store.specs.Regions.{Range}
-use Rattle.cbfs_walk.specs.Cells.{cell_in}
+use Rattle.flash_store.specs.Regions.{Range, LiesIn}
+use Rattle.cbfs_walk.specs.Cells.{IsCellIn, cell_in}
 use Rattle.cbfs_walk.specs.Walks.{StandsIn}
 use Rattle.cbfs_walk.specs.declared.cell.Cell.{Cell}
 use Rattle.cbfs_commands.specs.Refusals.{by_device}
@@ -55,6 +55,11 @@ TellsOn facts contents device old new answer t = OnHonest facts device (λ image
 -- that is told of the bytes of a cell of a region, where the cell stands there
 abbrev pub TellsOfCell : {F W : Type 0} → (F → Device) → (W → Option (List ℕ)) → F → Range → Cell → W → W → Answer → (List ℕ → Told) → Type 0
 TellsOfCell facts contents device region cell old new answer t = OnHonestIn facts device region (λ x. StandsIn x cell → Tells (contents old) (contents new) answer (t (cell_in x cell)))
+
+-- a cell of a region of an image: both lie where they have to
+pub record IsCellOf (r : Range) (c : Cell) (image : List ℕ) : Type 0 where
+  pub region : LiesIn r image
+  pub cell : IsCellIn r.size c
 
 -- What a call leaves that only reads the device, by at most n calls, and writes to a sink: each fault is told only where
 -- that side failed.

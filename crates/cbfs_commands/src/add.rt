@@ -1,8 +1,7 @@
 //! The command `add`.
 
-ghost use Rattle.std.specs.Prelude.{◌≡◌, ◌+◌, ◌*◌, ◌/◌, ◌⊎◌, length, IsTrue, Some, Ok};
+ghost use Rattle.std.specs.Prelude.{◌≡◌, ◌+◌, ◌*◌, ◌/◌, ◌⊎◌, length, Some, Ok};
 ghost use Rattle.std.specs.Result.{result_ok};
-ghost use Rattle.flash_store.specs.Pages.{OnHonest};
 ghost use Rattle.flash_store.specs.Regions.{Range, LiesIn, bytes_in, region_of};
 ghost use Rattle.cbfs_edit.specs.Additions.{new_component};
 ghost use Rattle.cbfs_commands.specs.Deeds.{HasKept, OnBoth};

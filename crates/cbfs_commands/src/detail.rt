@@ -1,6 +1,6 @@
 //! The lines that a verbose listing has of a component, after its row.
 
-ghost use Rattle.std.specs.Prelude.{◌≡◌, ◌+◌, ◌/◌, ◌≤◌, ◌++◌, false, length, IsTrue};
+ghost use Rattle.std.specs.Prelude.{◌≡◌, ◌+◌, ◌/◌, ◌≤◌, ◌++◌, false, length};
 ghost use Rattle.std.specs.List.{flat_map};
 ghost use Rattle.byteorder.specs.Endian.{big_bytes};
 ghost use Rattle.hex.specs.Hex.{encode_lower};
@@ -8,14 +8,10 @@ ghost use Rattle.arrayvec.specs.ArrayVec.{array_vec_len};
 ghost use Rattle.flash_format.specs.Head.{is_free};
 ghost use Rattle.flash_format.specs.Made.{digest_bytes};
 ghost use Rattle.flash_format.specs.Components.{cell_attributes, cell_content};
-ghost use Rattle.flash_store.specs.Pages.{OnHonestIn};
-ghost use Rattle.flash_store.specs.Regions.{LiesIn};
-ghost use Rattle.cbfs_walk.specs.Cells.{IsCellIn, cell_in};
 ghost use Rattle.cbfs_walk.specs.Hashes.{hash_state};
-ghost use Rattle.cbfs_walk.specs.Walks.{StandsIn};
 ghost use Rattle.cbfs_commands.specs.Details.{algorithm_name, attribute_line, attribute_text, details, digest_line, hash_line};
 ghost use Rattle.cbfs_commands.specs.Rows.{Pushes};
-ghost use Rattle.cbfs_commands.specs.Told.{HasTold, TellsOfCell, TellsOn, shows};
+ghost use Rattle.cbfs_commands.specs.Told.{HasTold, IsCellOf, TellsOfCell, shows};
 
 use crate::refusal::Refusal;
 use crate::row::{ROW_LEN, Row, push_decimal, push_text, put_row};
@@ -109,8 +105,7 @@ fn print_attributes<F: Flash, W: Sink>(
     row: &mut Row,
     out: &mut W,
 ) -> Result<(), Refusal>
-    requires region { LiesIn region (F.facts paged.old.device).content }
-    requires cell { IsCellIn region.size cell.now }
+    requires cell { IsCellOf region cell.now (F.facts paged.old.device).content }
     requires component { is_free cell.now.head ≡ false }
 
     ensures after { HasTold F.facts W.faults (cell.now.head.offset / 8) paged.old paged.new out.old out.new result }
@@ -137,8 +132,7 @@ fn print_hash<F: Flash, W: Sink>(
     row: &mut Row,
     out: &mut W,
 ) -> Result<(), Refusal>
-    requires region { LiesIn region (F.facts paged.old.device).content }
-    requires cell { IsCellIn region.size cell.now }
+    requires cell { IsCellOf region cell.now (F.facts paged.old.device).content }
     requires component { is_free cell.now.head ≡ false }
 
     ensures after { HasTold F.facts W.faults (1 + cell.now.span / 3840) paged.old paged.new out.old out.new result }
@@ -158,8 +152,7 @@ pub fn print_details<F: Flash, W: Sink>(
     row: &mut Row,
     out: &mut W,
 ) -> Result<(), Refusal>
-    requires region { LiesIn region (F.facts paged.old.device).content }
-    requires cell { IsCellIn region.size cell.now }
+    requires cell { IsCellOf region cell.now (F.facts paged.old.device).content }
     requires component { is_free cell.now.head ≡ false }
 
     ensures after { HasTold F.facts W.faults (cell.now.head.offset / 8 + (1 + cell.now.span / 3840)) paged.old paged.new

@@ -1,14 +1,11 @@
 //! The command `extract`.
 
-ghost use Rattle.std.specs.Prelude.{◌≡◌, ◌+◌, ◌*◌, ◌/◌, ◌<◌, ◌≤◌, false, length, IsTrue, IsErrOf};
+ghost use Rattle.std.specs.Prelude.{◌≡◌, ◌+◌, ◌*◌, ◌/◌, ◌<◌, ◌≤◌, false, length};
 ghost use Rattle.flash_format.specs.Components.{component_at};
 ghost use Rattle.flash_format.specs.Head.{is_free};
-ghost use Rattle.flash_store.specs.Pages.{OnHonest, OnHonestIn};
 ghost use Rattle.flash_store.specs.Regions.{LiesIn, bytes_in};
-ghost use Rattle.cbfs_walk.specs.Cells.{IsCellIn, cell_in};
-ghost use Rattle.cbfs_walk.specs.Walks.{StandsIn};
 ghost use Rattle.cbfs_commands.specs.Outcomes.{extract, extract_region, told_component};
-ghost use Rattle.cbfs_commands.specs.Told.{HasTold, TellsOfCell, TellsOn};
+ghost use Rattle.cbfs_commands.specs.Told.{HasTold, IsCellOf, TellsOfCell, TellsOn};
 
 use crate::read::copy_out;
 use crate::refusal::Refusal;
@@ -22,8 +19,7 @@ fn extract_component<F: Flash, W: Sink>(
     cell: &Cell,
     out: &mut W,
 ) -> Result<(), Refusal>
-    requires region { LiesIn region (F.facts paged.old.device).content }
-    requires cell { IsCellIn region.size cell.now }
+    requires cell { IsCellOf region cell.now (F.facts paged.old.device).content }
     requires component { is_free cell.now.head ≡ false }
 
     ensures after { HasTold F.facts W.faults (cell.now.span / 3840 + 2) paged.old paged.new out.old out.new result }

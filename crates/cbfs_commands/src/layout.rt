@@ -1,11 +1,10 @@
 //! The command `layout`.
 
-ghost use Rattle.std.specs.Prelude.{◌≡◌, ◌+◌, ◌*◌, ◌/◌, ◌<◌, ◌≤◌, length, drop, IsTrue, IsErrOf, Ok, Err};
+ghost use Rattle.std.specs.Prelude.{◌≡◌, ◌+◌, ◌*◌, ◌/◌, ◌<◌, ◌≤◌, length, drop, Ok, Err};
 ghost use Rattle.std.specs.List.{flat_map};
 ghost use Rattle.flash_format.specs.Flashmap.{fmap_head_len, area_len, map_len, area_of, areas_from};
-ghost use Rattle.flash_store.specs.Pages.{OnHonest, OnHonestIn};
 ghost use Rattle.cbfs_commands.specs.Layouts.{layout, map_row, area_row};
-ghost use Rattle.cbfs_commands.specs.Told.{HasTold, TellsOfCell, TellsOn, shows};
+ghost use Rattle.cbfs_commands.specs.Told.{HasTold, TellsOn, shows};
 
 use crate::refusal::Refusal;
 use crate::row::{Row, push_decimal, push_hexadecimal, push_name, push_text, put_row};

@@ -1,14 +1,14 @@
 //! The command `print`.
 
-ghost use Rattle.std.specs.Prelude.{◌≡◌, ◌+◌, ◌*◌, ◌/◌, ◌<◌, ◌≤◌, length, IsTrue, IsErrOf, OnErr, OnOk};
-ghost use Rattle.flash_store.specs.Pages.{HasAnswered, OnHonest, OnHonestIn};
+ghost use Rattle.std.specs.Prelude.{◌≡◌, ◌+◌, ◌*◌, ◌/◌, ◌<◌, ◌≤◌, length, OnOk};
+ghost use Rattle.flash_store.specs.Pages.{HasAnswered, OnHonestIn};
 ghost use Rattle.flash_store.specs.Regions.{LiesIn, bytes_in};
-ghost use Rattle.cbfs_walk.specs.Cells.{IsCellIn, cell_in};
+ghost use Rattle.cbfs_walk.specs.Cells.{cell_in};
 ghost use Rattle.cbfs_walk.specs.Walks.{StandsIn};
 ghost use Rattle.cbfs_commands.specs.Outcomes.{print, print_region};
 ghost use Rattle.cbfs_commands.specs.Details.{cell_reads, region_reads, shown_cell};
 ghost use Rattle.cbfs_commands.specs.Rows.{row};
-ghost use Rattle.cbfs_commands.specs.Told.{HasTold, TellsOfCell, TellsOn, shows};
+ghost use Rattle.cbfs_commands.specs.Told.{HasTold, IsCellOf, TellsOfCell, TellsOn, shows};
 
 use crate::detail::print_details;
 use crate::refusal::Refusal;
@@ -24,8 +24,7 @@ fn set_cell_row<F: Flash>(
     cell: &Cell,
     buffer: &mut Row,
 ) -> Result<(), FlashFault>
-    requires region { LiesIn region (F.facts paged.old.device).content }
-    requires cell { IsCellIn region.size cell.now }
+    requires { IsCellOf region cell.now (F.facts paged.old.device).content }
 
     ensures after { HasAnswered F.facts (2 + cell.now.span / 3840) paged.old paged.new result }
     ensures row { OnHonestIn F.facts paged.old.device region (λ x. StandsIn x cell.now → OnOk result (buffer.new.items
@@ -51,8 +50,7 @@ fn print_row<F: Flash, W: Sink>(
     buffer: &mut Row,
     out: &mut W,
 ) -> Result<(), Refusal>
-    requires region { LiesIn region (F.facts paged.old.device).content }
-    requires cell { IsCellIn region.size cell.now }
+    requires { IsCellOf region cell.now (F.facts paged.old.device).content }
 
     ensures after { HasTold F.facts W.faults (2 + cell.now.span / 3840) paged.old paged.new out.old out.new result }
     ensures told { TellsOfCell F.facts W.contents paged.old.device region cell.now out.old out.new result
@@ -71,8 +69,7 @@ fn print_cell<F: Flash, W: Sink>(
     buffer: &mut Row,
     out: &mut W,
 ) -> Result<(), Refusal>
-    requires region { LiesIn region (F.facts paged.old.device).content }
-    requires cell { IsCellIn region.size cell.now }
+    requires { IsCellOf region cell.now (F.facts paged.old.device).content }
 
     ensures after { HasTold F.facts W.faults (cell_reads verbose cell.now.span) paged.old paged.new out.old out.new result }
     ensures told { TellsOfCell F.facts W.contents paged.old.device region cell.now out.old out.new result

@@ -1,9 +1,8 @@
 //! The command `read`.
 
-ghost use Rattle.std.specs.Prelude.{◌≡◌, ◌+◌, ◌*◌, ◌/◌, ◌<◌, ◌≤◌, length, slice_range, IsTrue, IsErrOf};
-ghost use Rattle.flash_store.specs.Pages.{OnHonest, OnHonestIn};
+ghost use Rattle.std.specs.Prelude.{◌≡◌, ◌+◌, ◌*◌, ◌/◌, ◌<◌, ◌≤◌, length, slice_range};
 ghost use Rattle.cbfs_commands.specs.Outcomes.{read};
-ghost use Rattle.cbfs_commands.specs.Told.{HasTold, TellsOfCell, TellsOn, shows};
+ghost use Rattle.cbfs_commands.specs.Told.{HasTold, TellsOn, shows};
 
 use crate::refusal::Refusal;
 use flash_store::{Flash, Paged, Sink};

@@ -1,9 +1,9 @@
 //! The command `remove`.
 
-ghost use Rattle.std.specs.Prelude.{◌≡◌, ◌+◌, ◌*◌, ◌/◌, ◌⊎◌, [], length, IsTrue, IsErrOf, Some, Ok};
+ghost use Rattle.std.specs.Prelude.{◌≡◌, ◌+◌, ◌*◌, ◌/◌, ◌⊎◌, [], length, IsErrOf, Some, Ok};
 ghost use Rattle.std.specs.Result.{result_ok};
 ghost use Rattle.flash_store.specs.Pages.{OnHonest};
-ghost use Rattle.flash_store.specs.Regions.{Range, LiesIn, bytes_in, region_of};
+ghost use Rattle.flash_store.specs.Regions.{LiesIn, bytes_in, region_of};
 ghost use Rattle.cbfs_edit.specs.Stops.{LeavesWhole};
 ghost use Rattle.cbfs_commands.specs.Deeds.{HasKept, removes};
 ghost use Rattle.cbfs_commands.specs.Outcomes.{HasEdited, LeavesOr, remove, remove_region};

@@ -1,10 +1,10 @@
 //! The printed row of a cell.
 
-ghost use Rattle.std.specs.Prelude.{◌≡◌, ◌+◌, ◌*◌, ◌<◌, ◌≤◌, ◌++◌, ◌∷◌, [], false, true, length, drop, Some, None, Err, OnErr};
+ghost use Rattle.std.specs.Prelude.{◌≡◌, ◌+◌, ◌*◌, ◌<◌, ◌≤◌, ◌++◌, ◌∷◌, [], false, length, drop, Some, None, Err, OnErr};
 ghost use Rattle.std.specs.Fmt.{digit_glyph, digits, decimal};
 ghost use Rattle.arrayvec.specs.ArrayVec.{array_vec_len};
 ghost use Rattle.cbfs_commands.specs.Rows.{Pushes, printed_byte, printed_name, hexadecimal, printed_type, printed_packing, label, compression, row_text};
-ghost use Rattle.cbfs_commands.specs.Told.{HasTold, Tells, shows};
+ghost use Rattle.cbfs_commands.specs.Told.{Tells, shows};
 
 use crate::refusal::Refusal;
 use arrayvec::ArrayVec;

@@ -1,6 +1,6 @@
 //! The flashmap that an image is made from: a table at the start of a source.
 
-ghost use Rattle.std.specs.Prelude.{◌≡◌, ◌⊎◌, ◌<◌, ◌≤◌, ◌++◌, ◌∷◌, [], List, Option, length, map, take, drop, IsTrue, IsErrOf, IfOk, IfErr, OnErr};
+ghost use Rattle.std.specs.Prelude.{◌≡◌, ◌⊎◌, ◌<◌, ◌≤◌, ◌++◌, ◌∷◌, [], List, Option, length, map, take, drop, IsTrue, IsErrOf, IfOk, IfErr};
 ghost use Rattle.flash_format.specs.declared.flashmap.Area.{Area};
 ghost use Rattle.flash_format.specs.Flashmap.{fmap_head_len, map_len, areas_from};
 ghost use Rattle.flash_store.specs.Device.{Reads, faults_told, refusals};

@@ -1,8 +1,8 @@
 //! The command `write`.
 
-ghost use Rattle.std.specs.Prelude.{◌≡◌, ◌+◌, ◌*◌, ◌/◌, ◌<◌, ◌≤◌, ◌⊎◌, length, IsTrue, IsErrOf, Some, Ok};
+ghost use Rattle.std.specs.Prelude.{◌≡◌, ◌+◌, ◌*◌, ◌/◌, ◌<◌, ◌≤◌, ◌⊎◌, length, Some, Ok};
 ghost use Rattle.std.specs.Result.{result_ok};
-ghost use Rattle.flash_store.specs.Regions.{Range, LiesIn, region_of};
+ghost use Rattle.flash_store.specs.Regions.{LiesIn, region_of};
 ghost use Rattle.cbfs_commands.specs.Deeds.{HasKept, OnBoth, replaces};
 ghost use Rattle.cbfs_commands.specs.Outcomes.{HasWritten, LeavesOr, StopsIn, write, write_region};
 
