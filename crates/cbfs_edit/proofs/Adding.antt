@@ -47,7 +47,7 @@ searched x name kind hash content spot header len r is_header is_len fine (inr f
     ∙ ap (λ n. placing_in x name (record { header = meta_length (length name) (hash_len (digest_of hash content)); len = n; spot = spot })) is_len
     ∙ own-fine x (new_component name kind hash content) spot fine)
 
-same_fault : {A : Type 0} (fault other : EditFault) → (let a : Result A EditFault = Err fault in IsErrOf a other) → fault ≡ other
+pub same_fault : {A : Type 0} (fault other : EditFault) → (let a : Result A EditFault = Err fault in IsErrOf a other) → fault ≡ other
 same_fault fault other is = cc
 
 -- a fault is told alike, whatever the call answers besides

@@ -22,6 +22,7 @@ pub mod Inserting
 pub mod ContentPlaces
 pub mod Added
 pub mod Adding
+pub mod StepLemmas
 pub mod EditLists
 pub mod RunOrder
 pub mod Taken

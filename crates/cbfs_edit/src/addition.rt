@@ -1,5 +1,5 @@
 //! The addition of a component.
-ghost use Rattle.std.specs.Prelude.{◌≡◌, ◌≢◌, ◌⊎◌, ◌+◌, ◌/◌, ◌%◌, ◌<◌, ◌≤◌, length, drop, is_some, Err, IsTrue, IfOk, IfErr, IfSome, IsErrOf, OnOk, OnErr};
+ghost use Rattle.std.specs.Prelude.{◌≡◌, ◌≢◌, ◌⊎◌, ◌+◌, ◌/◌, ◌%◌, ◌<◌, ◌≤◌, length, Err, IsTrue, IfOk, IfErr, IfSome, IsErrOf, OnOk};
 ghost use Rattle.std.specs.List.{list_any};
 ghost use Rattle.flash_format.specs.Entry.{is_nul};
 ghost use Rattle.flash_format.specs.Made.{hash_len, meta_length, pointed};
@@ -11,7 +11,6 @@ ghost use Rattle.flash_store.specs.Regions.{LiesIn, bytes_in};
 ghost use Rattle.cbfs_edit.specs.Additions.{added, added_to, addition_in, attribute_len, digest_of, is_bad_name, kept_from, labelled, new_component, own_fault, placed_of};
 ghost use Rattle.cbfs_edit.specs.Insertions.{EndsAlike, IsOldOrBlanked};
 ghost use Rattle.cbfs_edit.specs.Placings.{Fits};
-ghost use Rattle.cbfs_edit.specs.Steps.{AdditionStep};
 ghost use Rattle.cbfs_edit.specs.Refusals.{by_device, by_source};
 ghost use Rattle.cbfs_edit.specs.Stops.{AddLeavesBefore, AddLeavesWhole};
 
@@ -157,22 +156,17 @@ fn insert<F: Flash, S: Source>(
         (S.facts source.new).content ≡ (S.facts source.old).content }
 
     // On an honest device.
-    ensures added { IsTrue (F.facts paged.old.device).honest → IsTrue (S.facts source.old).honest → OnOk result
+    ensures added { OnHonestIn F.facts paged.old.device region (λ x. IsTrue (S.facts source.old).honest → OnOk result
         (bytes_in region (F.facts paged.new.device).content
-        ≡ added (bytes_in region (F.facts paged.old.device).content)
-        (labelled label.now (S.facts source.old).content) place) }
-    ensures stopped { IsTrue (F.facts paged.old.device).honest → region.size % 64 ≡ 0 →
-        IsOldOrBlanked (bytes_in region (F.facts paged.old.device).content) place.run
-        (bytes_in region (F.facts paged.new.device).content)
+        ≡ added x (labelled label.now (S.facts source.old).content) place)) }
+    ensures stopped { OnHonestIn F.facts paged.old.device region (λ x. region.size % 64 ≡ 0 →
+        IsOldOrBlanked x place.run (bytes_in region (F.facts paged.new.device).content)
         ⊎ ((IsErrOf result CopyFault.Source → ⊥) × (IsTrue (S.facts source.old).honest →
         bytes_in region (F.facts paged.new.device).content
-        ≡ added (bytes_in region (F.facts paged.old.device).content)
-        (labelled label.now (S.facts source.old).content) place)) }
-    ensures last { IsTrue (F.facts paged.old.device).honest → region.size % 64 ≡ 0 →
-        EndsAlike (kept_from (bytes_in region (F.facts paged.old.device).content)
-        (labelled label.now (S.facts source.old).content) place)
-        (bytes_in region (F.facts paged.old.device).content)
-        (bytes_in region (F.facts paged.new.device).content) }
+        ≡ added x (labelled label.now (S.facts source.old).content) place))) }
+    ensures last { OnHonestIn F.facts paged.old.device region (λ x. region.size % 64 ≡ 0 →
+        EndsAlike (kept_from x (labelled label.now (S.facts source.old).content) place)
+        x (bytes_in region (F.facts paged.new.device).content)) }
 {
     paged.places_fit();
     let end = (place.content + wanted.len + 63) / 64 * 64;
@@ -282,10 +276,6 @@ pub fn add<F: Flash, S: Source>(
         IsErrOf result EditFault.Device →
         AddLeavesWhole x (new_component name.now kind hash (S.facts source.old).content) spot
         (bytes_in region (F.facts paged.new.device).content)) }
-    ensures step { IsTrue (F.facts paged.old.device).honest → IsTrue (S.facts source.old).honest →
-        AdditionStep (new_component name.now kind hash (S.facts source.old).content) spot
-        (bytes_in region (F.facts paged.old.device).content) result
-        (bytes_in region (F.facts paged.new.device).content) }
 {
     paged.places_fit();
     if let Some(fault) = own_fault(name, kind, spot) {

@@ -7,7 +7,6 @@ ghost use Rattle.flash_store.specs.Regions.{LiesIn, bytes_in};
 ghost use Rattle.cbfs_edit.specs.Refusals.{by_device};
 ghost use Rattle.cbfs_edit.specs.Removals.{removed, removal_in};
 ghost use Rattle.cbfs_edit.specs.Stops.{LeavesWhole};
-ghost use Rattle.cbfs_edit.specs.Steps.{RemovalStep};
 
 use crate::blank::write_blank;
 use crate::fault::EditFault;
@@ -45,9 +44,6 @@ pub fn remove<F: Flash>(
         (F.facts paged.new.device).content ≡ (F.facts paged.old.device).content) }
     ensures stopped { OnHonestIn F.facts paged.old.device region (λ x. IsErrOf result EditFault.Device →
         LeavesWhole x name.now (bytes_in region (F.facts paged.new.device).content)) }
-    ensures step { IsTrue (F.facts paged.old.device).honest → RemovalStep name.now
-        (bytes_in region (F.facts paged.old.device).content) result
-        (bytes_in region (F.facts paged.new.device).content) }
 {
     paged.places_fit();
     let group = find_group(paged, region, name)?;

@@ -18,28 +18,12 @@ returns-in-Some-clause-answer g c honest =
     let new = new_component c.args.name.now c.args.kind c.args.hash (g.S.Source.facts c.args.source.now).content in
     inr (inr (ap placed_of (own-refused (bytes_in c.args.region (g.F.Flash.facts c.args.paged.now.device).content) new c.args.spot c.in-Some.fault (sym c.in-Some.is ∙ c.own_fault.ensures))))
 
-pub returns-in-Some-clause-step : goal.returns-in-Some-clause-step
-returns-in-Some-clause-step g c honest source_honest =
-    let new = new_component c.args.name.now c.args.kind c.args.hash (g.S.Source.facts c.args.source.now).content in
-    own-by-fault c.args.name.now c.args.kind c.args.spot c.in-Some.fault _ _ _ (sym c.in-Some.is ∙ c.own_fault.ensures) (sym (own-refused (bytes_in c.args.region (g.F.Flash.facts c.args.paged.now.device).content) new c.args.spot c.in-Some.fault (sym c.in-Some.is ∙ c.own_fault.ensures)), refl)
-
 pub returns-in-Err-clause-answer : goal.returns-in-Err-clause-answer
 returns-in-Err-clause-answer g c honest =
     elim (found_in (bytes_in c.args.region (g.F.Flash.facts c.args.paged.now.device).content) c.args.name.now c.args.kind c.args.hash (g.S.Source.facts c.args.source.now).content c.args.spot _ _ _ _ c.in_default.not-Some c.own_fault.ensures c.attribute_len.ensures.is c.meta_len.ensures c.len.ensures.length (Err c.in-Err.fault) (c.in-Err.ensures.answer honest)) [
       | inl failed ↦ inl (told c.in-Err.fault faults.Device failed)
       | inr is ↦ inr (inr (ap placed_of is))
     ]
-
-pub returns-in-Err-clause-step : goal.returns-in-Err-clause-step
-returns-in-Err-clause-step g c honest source_honest =
-    let new = new_component c.args.name.now c.args.kind c.args.hash (g.S.Source.facts c.args.source.now).content in
-    let old : List ℕ = (g.F.Flash.facts c.args.paged.now.device).content in
-    let same : bytes_in c.args.region (g.F.Flash.facts c.find_place.new.paged.device).content ≡ bytes_in c.args.region old = ap (λ (l : List ℕ). bytes_in c.args.region l) (c.find_place.ensures.after.device.unchanged honest) in
-    let found = found_in (bytes_in c.args.region (g.F.Flash.facts c.args.paged.now.device).content) c.args.name.now c.args.kind c.args.hash (g.S.Source.facts c.args.source.now).content c.args.spot _ _ _ _ c.in_default.not-Some c.own_fault.ensures c.attribute_len.ensures.is c.meta_len.ensures c.len.ensures.length (Err c.in-Err.fault) (c.in-Err.ensures.answer honest) in
-    by-fault c.in-Err.fault _ _ _
-    (λ e. inl same)
-    (λ e. absurd (c.in-Err.ensures.no_source (told_as c.in-Err.fault faults.Source e)))
-    (λ not_device not_source. (refused_as (bytes_in c.args.region old) new c.args.spot c.in-Err.fault not_device found, same))
 
 pub returns-in-Ok-insert-clause-answer : goal.returns-in-Ok-insert-clause-answer
 returns-in-Ok-insert-clause-answer g c honest =
@@ -65,16 +49,6 @@ returns-in-Ok-insert-clause-image g c honest source_honest =
     let is = place_found (bytes_in c.args.region (g.F.Flash.facts c.args.paged.now.device).content) c.args.name.now c.args.kind c.args.hash (g.S.Source.facts c.args.source.now).content c.args.spot _ _ _ _ c.in_default.not-Some c.own_fault.ensures c.attribute_len.ensures.is c.meta_len.ensures c.len.ensures.length c.in-Ok.place (c.in-Ok.ensures.answer honest) in
     image_of c.args.region (added_to (bytes_in c.args.region old) new c.args.spot) old mid now c.requires (c.find_place.ensures.after.device.unchanged honest) c.insert.ensures.after.calls.same_length (c.insert.ensures.after.outside still) (written c.args.region new c.args.spot c.in-Ok.place old mid now (c.find_place.ensures.after.device.unchanged honest) is (c.in-Ok-insert.ensures.added still source_honest))
 
-pub returns-in-Ok-insert-clause-step : goal.returns-in-Ok-insert-clause-step
-returns-in-Ok-insert-clause-step g c honest source_honest =
-    let new = new_component c.args.name.now c.args.kind c.args.hash (g.S.Source.facts c.args.source.now).content in
-    let old : List ℕ = (g.F.Flash.facts c.args.paged.now.device).content in
-    let mid : List ℕ = (g.F.Flash.facts c.find_place.new.paged.device).content in
-    let now : List ℕ = (g.F.Flash.facts c.insert.new.paged.device).content in
-    let still = honest_still c.find_place.ensures.after.device.calls.same_honesty honest in
-    let is = place_found (bytes_in c.args.region (g.F.Flash.facts c.args.paged.now.device).content) c.args.name.now c.args.kind c.args.hash (g.S.Source.facts c.args.source.now).content c.args.spot _ _ _ _ c.in_default.not-Some c.own_fault.ensures c.attribute_len.ensures.is c.meta_len.ensures c.len.ensures.length c.in-Ok.place (c.in-Ok.ensures.answer honest) in
-    (ap placed_of is, written c.args.region new c.args.spot c.in-Ok.place old mid now (c.find_place.ensures.after.device.unchanged honest) is (c.in-Ok-insert.ensures.added still source_honest))
-
 pub returns-in-Err-Device-clause-stopped : goal.returns-in-Err-Device-clause-stopped
 returns-in-Err-Device-clause-stopped g c honest source_honest =
     let new = new_component c.args.name.now c.args.kind c.args.hash (g.S.Source.facts c.args.source.now).content in
@@ -86,17 +60,6 @@ returns-in-Err-Device-clause-stopped g c honest source_honest =
     λ failed. device_leaves c.args.region new c.args.spot c.in-Ok.place old mid now (IsTrue (g.S.Source.facts c.args.source.now).honest) c.insert.result c.requires c.places_fit.ensures c.ranges.kind.fits (omega (arith, c.len.ensures))
     (digest-sized c.args.hash (g.S.Source.facts c.args.source.now).content) (c.find_place.ensures.after.device.unchanged honest) is (c.insert.ensures.stopped still) (c.insert.ensures.last still) source_honest
 
-pub returns-in-Err-Device-clause-step : goal.returns-in-Err-Device-clause-step
-returns-in-Err-Device-clause-step g c honest source_honest =
-    let new = new_component c.args.name.now c.args.kind c.args.hash (g.S.Source.facts c.args.source.now).content in
-    let old : List ℕ = (g.F.Flash.facts c.args.paged.now.device).content in
-    let mid : List ℕ = (g.F.Flash.facts c.find_place.new.paged.device).content in
-    let now : List ℕ = (g.F.Flash.facts c.insert.new.paged.device).content in
-    let still = honest_still c.find_place.ensures.after.device.calls.same_honesty honest in
-    let is = place_found (bytes_in c.args.region (g.F.Flash.facts c.args.paged.now.device).content) c.args.name.now c.args.kind c.args.hash (g.S.Source.facts c.args.source.now).content c.args.spot _ _ _ _ c.in_default.not-Some c.own_fault.ensures c.attribute_len.ensures.is c.meta_len.ensures c.len.ensures.length c.in-Ok.place (c.in-Ok.ensures.answer honest) in
-    device_leaves c.args.region new c.args.spot c.in-Ok.place old mid now (IsTrue (g.S.Source.facts c.args.source.now).honest) c.insert.result c.requires c.places_fit.ensures c.ranges.kind.fits (omega (arith, c.len.ensures))
-    (digest-sized c.args.hash (g.S.Source.facts c.args.source.now).content) (c.find_place.ensures.after.device.unchanged honest) is (c.insert.ensures.stopped still) (c.insert.ensures.last still) source_honest
-
 pub returns-in-Err-Source-clause-before : goal.returns-in-Err-Source-clause-before
 returns-in-Err-Source-clause-before g c honest =
     let new = new_component c.args.name.now c.args.kind c.args.hash (g.S.Source.facts c.args.source.now).content in
@@ -106,17 +69,6 @@ returns-in-Err-Source-clause-before g c honest =
     let still = honest_still c.find_place.ensures.after.device.calls.same_honesty honest in
     let is = place_found (bytes_in c.args.region (g.F.Flash.facts c.args.paged.now.device).content) c.args.name.now c.args.kind c.args.hash (g.S.Source.facts c.args.source.now).content c.args.spot _ _ _ _ c.in_default.not-Some c.own_fault.ensures c.attribute_len.ensures.is c.meta_len.ensures c.len.ensures.length c.in-Ok.place (c.in-Ok.ensures.answer honest) in
     λ failed. source_leaves c.args.region new c.args.spot c.in-Ok.place old mid now (IsTrue (g.S.Source.facts c.args.source.now).honest) c.insert.result c.requires c.places_fit.ensures c.ranges.kind.fits (omega (arith, c.len.ensures))
-    (digest-sized c.args.hash (g.S.Source.facts c.args.source.now).content) (c.find_place.ensures.after.device.unchanged honest) is (c.insert.ensures.stopped still) (c.insert.ensures.last still) (search rules)
-
-pub returns-in-Err-Source-clause-step : goal.returns-in-Err-Source-clause-step
-returns-in-Err-Source-clause-step g c honest source_honest =
-    let new = new_component c.args.name.now c.args.kind c.args.hash (g.S.Source.facts c.args.source.now).content in
-    let old : List ℕ = (g.F.Flash.facts c.args.paged.now.device).content in
-    let mid : List ℕ = (g.F.Flash.facts c.find_place.new.paged.device).content in
-    let now : List ℕ = (g.F.Flash.facts c.insert.new.paged.device).content in
-    let still = honest_still c.find_place.ensures.after.device.calls.same_honesty honest in
-    let is = place_found (bytes_in c.args.region (g.F.Flash.facts c.args.paged.now.device).content) c.args.name.now c.args.kind c.args.hash (g.S.Source.facts c.args.source.now).content c.args.spot _ _ _ _ c.in_default.not-Some c.own_fault.ensures c.attribute_len.ensures.is c.meta_len.ensures c.len.ensures.length c.in-Ok.place (c.in-Ok.ensures.answer honest) in
-    source_leaves c.args.region new c.args.spot c.in-Ok.place old mid now (IsTrue (g.S.Source.facts c.args.source.now).honest) c.insert.result c.requires c.places_fit.ensures c.ranges.kind.fits (omega (arith, c.len.ensures))
     (digest-sized c.args.hash (g.S.Source.facts c.args.source.now).content) (c.find_place.ensures.after.device.unchanged honest) is (c.insert.ensures.stopped still) (c.insert.ensures.last still) (search rules)
 
 pub returns-in-Err-Source-clause-after : goal.returns-in-Err-Source-clause-after

@@ -1,0 +1,62 @@
+-- An edit's step, from what its clauses say one by one.
+use Rattle.std.proofs.Common.{◌≡◌, ◌≢◌, ◌⊎◌, inl, inr, List, ℕ, Result, Ok, Err, ap, sym}
+use Rattle.std.specs.Prelude.{IsErrOf, IfErr, IfOk, OnOk}
+use Rattle.flash_store.specs.Regions.{Range, bytes_in}
+use Rattle.cbfs_edit.specs.Additions.{NewComponent, addition_in, added_to, placed_of}
+use Rattle.cbfs_edit.specs.Removals.{removed, removal_in}
+use Rattle.cbfs_edit.specs.Steps.{AdditionStep, RemovalStep}
+use Rattle.cbfs_edit.specs.Stops.{LeavesWhole, AddLeavesWhole, AddLeavesBefore}
+use Rattle.cbfs_edit.specs.declared.addition.Placed.{Placed}
+use Rattle.cbfs_edit.specs.declared.fault.EditFault.{EditFault}
+use Rattle.cbfs_edit.specs.declared.fault.EditFault.TheVariants as faults
+use Rattle.cbfs_edit.specs.declared.group.Freed.{Freed}
+use Rattle.cbfs_edit.specs.declared.place.Place.{Place}
+use Rattle.cbfs_edit.specs.declared.place.Spot.{Spot}
+use Rattle.cbfs_edit.proofs.Added.{by-fault}
+use Rattle.cbfs_edit.proofs.Adding.{same_fault, told_as}
+
+pub removal_step : (name : List ℕ) (r : Range) (old now : List ℕ) (result : Result Freed EditFault)
+    → (IsErrOf result faults.Source → ⊥)
+    → IsErrOf result faults.Device ⊎ (result ≡ removal_in (bytes_in r old) name)
+    → IfOk result (λ group. bytes_in r now ≡ removed (bytes_in r old) group)
+    → IfErr result (λ fault. fault ≢ faults.Device → now ≡ old)
+    → (IsErrOf result faults.Device → LeavesWhole (bytes_in r old) name (bytes_in r now))
+    → RemovalStep name (bytes_in r old) result (bytes_in r now)
+removal_step name r old now (Ok group) no_source (inl failed) changed refused stopped = absurd cc
+removal_step name r old now (Ok group) no_source (inr is) changed refused stopped = (sym is, changed)
+removal_step name r old now (Err fault) no_source answer changed refused stopped =
+    by-fault fault _ _ _
+    (λ e. stopped (told_as fault faults.Device e))
+    (λ e. no_source (told_as fault faults.Source e))
+    (λ other _. (told_removal other answer, ap (λ (l : List ℕ). bytes_in r l) (refused other)))
+  where
+    told_removal : fault ≢ faults.Device → (let a : Result Freed EditFault = Err fault in IsErrOf a faults.Device ⊎ (a ≡ removal_in (bytes_in r old) name)) → removal_in (bytes_in r old) name ≡ Err fault
+    told_removal other (inl failed) = absurd (other (same_fault fault faults.Device failed))
+    told_removal other (inr is) = sym is
+
+-- an addition is refused as its place is
+placed-refused : (place : Result Place EditFault) (fault : EditFault) → Err fault ≡ placed_of place → place ≡ Err fault
+placed-refused (Ok place) fault is = absurd cc
+placed-refused (Err other) fault is = ap (λ (e : EditFault). Err e) (sym (same_fault fault other is))
+
+pub addition_step : (new : NewComponent) (spot : Spot) (r : Range) (old now : List ℕ) (result : Result Placed EditFault)
+    → IsErrOf result faults.Device ⊎ (IsErrOf result faults.Source ⊎ (result ≡ placed_of (addition_in (bytes_in r old) new spot)))
+    → OnOk result (bytes_in r now ≡ added_to (bytes_in r old) new spot)
+    → IfErr result (λ fault. fault ≢ faults.Device → fault ≢ faults.Source → now ≡ old)
+    → (IsErrOf result faults.Device → AddLeavesWhole (bytes_in r old) new spot (bytes_in r now))
+    → (IsErrOf result faults.Source → AddLeavesBefore (bytes_in r old) new spot (bytes_in r now))
+    → AdditionStep new spot (bytes_in r old) result (bytes_in r now)
+addition_step new spot r old now (Ok placed) (inl failed) changed refused stopped before = absurd cc
+addition_step new spot r old now (Ok placed) (inr (inl failed)) changed refused stopped before = absurd cc
+addition_step new spot r old now (Ok placed) (inr (inr is)) changed refused stopped before = (sym is, changed)
+addition_step new spot r old now (Err fault) answer changed refused stopped before =
+    by-fault fault _ _ _
+    (λ e. stopped (told_as fault faults.Device e))
+    (λ e. before (told_as fault faults.Source e))
+    (λ other not_source. (told_addition other not_source answer, ap (λ (l : List ℕ). bytes_in r l) (refused other not_source)))
+  where
+    told_addition : fault ≢ faults.Device → fault ≢ faults.Source
+        → (let a : Result Placed EditFault = Err fault in IsErrOf a faults.Device ⊎ (IsErrOf a faults.Source ⊎ (a ≡ placed_of (addition_in (bytes_in r old) new spot)))) → addition_in (bytes_in r old) new spot ≡ Err fault
+    told_addition other not_source (inl failed) = absurd (other (same_fault fault faults.Device failed))
+    told_addition other not_source (inr (inl failed)) = absurd (not_source (same_fault fault faults.Source failed))
+    told_addition other not_source (inr (inr is)) = placed-refused _ fault is
