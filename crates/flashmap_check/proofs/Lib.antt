@@ -1,0 +1,2 @@
+pub mod MapAreas
+pub mod Telling

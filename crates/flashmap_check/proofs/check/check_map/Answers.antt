@@ -1,0 +1,18 @@
+use Rattle.std.proofs.Common.{◌≡◌, sym, ◌∙◌, length, arith}
+use Rattle.flash_store.proofs.DeviceLemmas.{honest_still}
+use Rattle.flashmap_check.proofs.Telling.{none-told, map-told}
+use Rattle.flashmap_check.proofs.check.check_map.Goals as goal
+
+pub returns-in_default-clause-answer : goal.returns-in_default-clause-answer
+returns-in_default-clause-answer g c = λ h.
+    none-told _ _ _ (sym c.in_default.is) (c.in_ok-map.ensures.found h) c.in_ok-no_map.ensures
+
+pub returns-clause-answer : goal.returns-clause-answer
+returns-clause-answer g c = λ h.
+    let image = (g.F.Flash.facts c.args.paged.now.device).content in
+    let search = c.find_fmap.ensures.after.read.device in
+    let areas = c.map_areas.ensures.after.device in
+    let long : c.len.result ≡ length image = omega (arith, c.len.ensures.length, areas.calls.same_length, search.calls.same_length) in
+    map-told image _ c.in-Some.map c.len.result c.deref.result.now (rw c.in-Some.is at (c.in_ok-map.ensures.found h)) long
+    (c.deref.ensures.value ∙ rw (search.unchanged h) at (c.in_ok-areas.ensures.areas (honest_still search.calls.same_honesty h)))
+    c.in_ok-findings.ensures

@@ -1,0 +1,68 @@
+-- What is told of an image's flashmap. What is told, and in which order, is this project's own.
+use Rattle.std.specs.Prelude.{ℕ, ◌+◌, Bool, not, ◌&&◌, List, [], ◌∷◌, ◌++◌, length, drop, nat_lt, nat_le, Option, Some, None, ◌==◌, if◌then◌else◌}
+use Rattle.std.specs.List.{find, flat_map}
+use lib.Chars.{codes}
+use Rattle.flash_format.specs.declared.flashmap.Area.{Area}
+use Rattle.flash_format.specs.Flashmap.{fmap_head_len, map_len, areas_from, is_area}
+use Rattle.flash_store.specs.declared.fmap.FoundMap.{FoundMap}
+use Rattle.flash_store.specs.Fmap.{found_in}
+use Rattle.flashmap_check.specs.declared.finding.NumberedArea.{NumberedArea}
+use Rattle.flashmap_check.specs.declared.finding.MapCheckFault.{MapCheckFault}
+use Rattle.flashmap_check.specs.declared.finding.MapCheckFault.TheVariants as faults
+use Rattle.flashmap_check.specs.declared.finding.MapFinding.{MapFinding}
+use Rattle.flashmap_check.specs.declared.finding.MapFinding.TheVariants as findings
+
+-- how many refused calls of the device a fault tells
+abbrev pub by_device : MapCheckFault → ℕ
+by_device faults.Device = 1
+by_device faults.Memory = 0
+
+-- these areas with their numbers, from this one on
+abbrev pub numbered : ℕ → List Area → List NumberedArea
+numbered number [] = []
+numbered number (area ∷ areas) = record { number = number; area = area } ∷ numbered (number + 1) areas
+
+-- the areas of a map of an image, with their numbers
+abbrev pub map_areas : List ℕ → FoundMap → List NumberedArea
+map_areas image map = numbered 0 (areas_from map.head.nareas (drop (map.at + fmap_head_len) image))
+
+-- where the area ends
+abbrev pub area_end : Area → ℕ
+area_end area = area.offset + area.size
+
+-- this finding, or none
+abbrev pub told_if : Bool → MapFinding → List MapFinding
+told_if told finding = if told then finding ∷ [] else []
+
+-- of one area, in an image of n bytes
+abbrev pub area_findings : ℕ → NumberedArea → List MapFinding
+area_findings n a = told_if (nat_lt n (area_end a.area)) (findings.AreaOutside a) ++ told_if (a.area.size == 0) (findings.AreaEmpty a)
+
+-- the area has the map's own name
+abbrev pub is_map_area : NumberedArea → Bool
+is_map_area a = is_area (codes "FMAP") a.area
+
+-- the area holds all of the map
+abbrev pub holds_map : FoundMap → Area → Bool
+holds_map map area = nat_le area.offset map.at && nat_le (map.at + map_len map.head) (area_end area)
+
+-- of the first area with the map's own name
+abbrev pub map_area_findings : FoundMap → Option NumberedArea → List MapFinding
+map_area_findings map None = findings.NoMapArea ∷ []
+map_area_findings map (Some a) = told_if (not (holds_map map a.area)) (findings.MapAreaMisses a)
+
+-- of a map with these areas, in an image of n bytes
+abbrev pub findings_of : ℕ → FoundMap → List NumberedArea → List MapFinding
+findings_of n map areas =
+    findings.Map map
+    ∷ (told_if (not (map.head.size == n)) findings.OtherSize
+    ++ (flat_map (area_findings n) areas
+    ++ map_area_findings map (find is_map_area areas)))
+
+abbrev pub findings_under : List ℕ → Option FoundMap → List MapFinding
+findings_under image None = findings.NoMap ∷ []
+findings_under image (Some map) = findings_of (length image) map (map_areas image map)
+
+-- what is told of the image's flashmap
+unfoldable pub map_findings : List ℕ → List MapFinding
+map_findings image = findings_under image (found_in image)

@@ -1,0 +1,37 @@
+//! The areas of a flashmap, read once.
+
+ghost use Rattle.std.specs.Prelude.{◌≡◌, ◌+◌, ◌≤◌, [], ◌∷◌, ◌++◌, length, IfOk, OnOk};
+ghost use Rattle.flash_format.specs.Flashmap.{map_len};
+ghost use Rattle.flash_store.specs.Device.{faults_told};
+ghost use Rattle.flash_store.specs.Pages.{HasRead, OnHonest};
+ghost use Rattle.flashmap_check.specs.MapFindings.{by_device, map_areas};
+
+use crate::finding::{MapCheckFault, NumberedArea};
+use flash_store::{Flash, FoundMap, Paged, area};
+use std::alloc::{AllocError, Global};
+
+/// All areas of the map, in its order.
+pub fn map_areas<F: Flash>(
+    alloc: Global,
+    paged: &mut Paged<F>,
+    map: &FoundMap,
+) -> Result<Vec<NumberedArea>, MapCheckFault>
+    requires { map.now.at + map_len map.now.head ≤ length (F.facts paged.old.device).content }
+
+    ensures after { HasRead F.facts map.now.head.nareas (faults_told by_device result) paged.old paged.new }
+    ensures areas { OnHonest F.facts paged.old.device (λ image. IfOk result (λ areas. areas.items ≡ map_areas image map.now)) }
+{
+    let mut areas = Vec::new(alloc);
+    for number in 0..map.head.nareas {
+        let area = area(paged, map, number)?;
+        push_area(&mut areas, NumberedArea { number, area })?;
+    }
+    Ok(areas)
+}
+
+fn push_area(areas: &mut Vec<NumberedArea>, area: NumberedArea) -> Result<(), AllocError>
+    ensures { OnOk result (areas.new.items ≡ areas.old.items ++ area ∷ []) }
+{
+    areas.push(area)?;
+    Ok(())
+}

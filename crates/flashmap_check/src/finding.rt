@@ -1,0 +1,62 @@
+//! What is told of a flashmap.
+
+ghost use Rattle.std.specs.Prelude.{◌≡◌};
+
+use flash_format::Area;
+use flash_store::{FlashFault, FoundMap};
+use std::alloc::AllocError;
+
+/// An area with its number in the map, counted from 0.
+#[derive(Clone, Copy, Debug, PartialEq, Eq, Drop)]
+pub struct NumberedArea {
+    pub number: u16,
+    pub area: Area,
+}
+
+/// One thing that is told of an image's flashmap.
+#[derive(Clone, Copy, Debug, PartialEq, Eq, Drop)]
+pub enum MapFinding {
+    /// The image has no valid flashmap. Nothing else is then told.
+    NoMap,
+    /// The image's flashmap.
+    Map(FoundMap),
+    /// The map states another size than the image has.
+    OtherSize,
+    /// The area ends after the image's end.
+    AreaOutside(NumberedArea),
+    /// The area has no bytes.
+    AreaEmpty(NumberedArea),
+    /// No area has the map's own name.
+    NoMapArea,
+    /// The first area with the map's own name doesn't hold all of the map.
+    MapAreaMisses(NumberedArea),
+}
+
+/// Why nothing is told.
+#[derive(Clone, Copy, Debug, PartialEq, Eq, Drop)]
+pub enum MapCheckFault {
+    /// A read of the device was refused.
+    Device,
+    /// Memory was refused.
+    Memory,
+}
+
+impl From<FlashFault> for MapCheckFault {
+    ghost use Rattle.flashmap_check.specs.declared.finding.MapCheckFault.TheVariants.{Device};
+
+    ghost from_gives = { λ _ fault. fault ≡ Device };
+
+    fn from(_: FlashFault) -> MapCheckFault {
+        MapCheckFault::Device
+    }
+}
+
+impl From<AllocError> for MapCheckFault {
+    ghost use Rattle.flashmap_check.specs.declared.finding.MapCheckFault.TheVariants.{Memory};
+
+    ghost from_gives = { λ _ fault. fault ≡ Memory };
+
+    fn from(_: AllocError) -> MapCheckFault {
+        MapCheckFault::Memory
+    }
+}

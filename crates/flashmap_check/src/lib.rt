@@ -1,0 +1,10 @@
+//! Tells what is to be said of an image's flashmap before the image is flashed.
+#![tactic(auto)]
+
+mod areas;
+mod check;
+mod finding;
+mod findings;
+
+pub use check::check_map;
+pub use finding::{MapCheckFault, MapFinding, NumberedArea};
