@@ -1,2 +1,3 @@
 pub mod MapAreas
 pub mod Telling
+pub mod NameLemmas

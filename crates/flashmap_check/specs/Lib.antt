@@ -1,1 +1,2 @@
 pub mod MapFindings
+pub mod Names

@@ -1,9 +1,10 @@
 -- What is told of an image's flashmap. What is told, and in which order, is this project's own.
 use Rattle.std.specs.Prelude.{ℕ, ◌+◌, Bool, not, ◌&&◌, List, [], ◌∷◌, ◌++◌, length, drop, nat_lt, nat_le, Option, Some, None, ◌==◌, if◌then◌else◌}
 use Rattle.std.specs.List.{find, flat_map}
+use Rattle.std.specs.Option.{option_map}
 use lib.Chars.{codes}
 use Rattle.flash_format.specs.declared.flashmap.Area.{Area}
-use Rattle.flash_format.specs.Flashmap.{fmap_head_len, map_len, areas_from, is_area}
+use Rattle.flash_format.specs.Flashmap.{fmap_head_len, map_len, areas_from, is_area, text_of}
 use Rattle.flash_store.specs.declared.fmap.FoundMap.{FoundMap}
 use Rattle.flash_store.specs.Fmap.{found_in}
 use Rattle.flashmap_check.specs.declared.finding.NumberedArea.{NumberedArea}
@@ -38,9 +39,23 @@ told_if told finding = if told then finding ∷ [] else []
 abbrev pub area_findings : ℕ → NumberedArea → List MapFinding
 area_findings n a = told_if (nat_lt n (area_end a.area)) (findings.AreaOutside a) ++ told_if (a.area.size == 0) (findings.AreaEmpty a)
 
--- the area has the map's own name
-abbrev pub is_map_area : NumberedArea → Bool
-is_map_area a = is_area (codes "FMAP") a.area
+-- the area has this name
+abbrev pub has_name : List ℕ → NumberedArea → Bool
+has_name name a = is_area name a.area
+
+-- the number of the first of these areas with the name
+abbrev pub first_with : List ℕ → List NumberedArea → Option ℕ
+first_with name areas = option_map (λ (a : NumberedArea). a.number) (find (has_name name) areas)
+
+-- of an area, where the first one before it that has its name has this number
+abbrev pub name_finding : NumberedArea → Option ℕ → List MapFinding
+name_finding a None = []
+name_finding a (Some first) = findings.SameName a first ∷ []
+
+-- of each area whose name an earlier one has, with the areas before these
+abbrev pub name_findings : List NumberedArea → List NumberedArea → List MapFinding
+name_findings before [] = []
+name_findings before (a ∷ areas) = name_finding a (first_with (text_of a.area.name) before) ++ name_findings (before ++ a ∷ []) areas
 
 -- the area holds all of the map
 abbrev pub holds_map : FoundMap → Area → Bool
@@ -57,7 +72,8 @@ findings_of n map areas =
     findings.Map map
     ∷ (told_if (not (map.head.size == n)) findings.OtherSize
     ++ (flat_map (area_findings n) areas
-    ++ map_area_findings map (find is_map_area areas)))
+    ++ (name_findings [] areas
+    ++ map_area_findings map (find (has_name (codes "FMAP")) areas))))
 
 abbrev pub findings_under : List ℕ → Option FoundMap → List MapFinding
 findings_under image None = findings.NoMap ∷ []

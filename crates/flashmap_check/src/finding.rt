@@ -26,6 +26,8 @@ pub enum MapFinding {
     AreaOutside(NumberedArea),
     /// The area has no bytes.
     AreaEmpty(NumberedArea),
+    /// An earlier area has the area's name, so that no name reaches it. `first` is the number of the first such.
+    SameName { area: NumberedArea, first: u16 },
     /// No area has the map's own name.
     NoMapArea,
     /// The first area with the map's own name doesn't hold all of the map.

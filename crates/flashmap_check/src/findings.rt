@@ -2,10 +2,12 @@
 
 ghost use Rattle.std.specs.Prelude.{◌≡◌, ◌+◌, ◌^◌, ◌<◌, ◌≤◌, ◌++◌, length, IfOk, OnOk, drop};
 ghost use Rattle.std.specs.List.{find, flat_map};
+ghost use lib.Chars.{codes};
 ghost use Rattle.flash_format.specs.Flashmap.{map_len};
-ghost use Rattle.flashmap_check.specs.MapFindings.{told_if, area_findings, is_map_area, holds_map, map_area_findings, findings_of};
+ghost use Rattle.flashmap_check.specs.MapFindings.{told_if, area_findings, has_name, holds_map, map_area_findings, findings_of};
 
 use crate::finding::{MapFinding, NumberedArea};
+use crate::names::push_name_findings;
 use flash_format::{Area, FmapHead};
 use flash_store::FoundMap;
 use std::alloc::{AllocError, Global};
@@ -28,6 +30,7 @@ pub fn findings_of(
         MapFinding::OtherSize,
     )?;
     push_area_findings(&mut findings, len, areas)?;
+    push_name_findings(alloc, &mut findings, areas)?;
     push_map_area_findings(&mut findings, map, areas)?;
     Ok(findings)
 }
@@ -69,7 +72,7 @@ fn push_map_area_findings(
     areas: &[NumberedArea],
 ) -> Result<(), AllocError>
     requires { map.now.at + map_len map.now.head < 2 ^ 64 }
-    ensures { OnOk result (findings.new.items ≡ findings.old.items ++ map_area_findings map.now (find is_map_area areas.now)) }
+    ensures { OnOk result (findings.new.items ≡ findings.old.items ++ map_area_findings map.now (find (has_name (codes "FMAP")) areas.now)) }
 {
     match map_area(areas) {
         Some(a) => push_if(
@@ -83,7 +86,7 @@ fn push_map_area_findings(
 
 /// The first area with the map's own name.
 fn map_area(areas: &[NumberedArea]) -> Option<NumberedArea>
-    ensures { result ≡ find is_map_area areas.now }
+    ensures { result ≡ find (has_name (codes "FMAP")) areas.now }
 {
     for a in areas {
         if a.area.name_is(b"FMAP") {

@@ -5,6 +5,7 @@ mod areas;
 mod check;
 mod finding;
 mod findings;
+mod names;
 
 pub use check::check_map;
 pub use finding::{MapCheckFault, MapFinding, NumberedArea};

@@ -1,7 +1,8 @@
 use Rattle.std.proofs.Common.{◌≡◌, drop}
 use Rattle.std.specs.List.{find}
-use Rattle.flashmap_check.specs.MapFindings.{is_map_area}
+use lib.Chars.{codes}
+use Rattle.flashmap_check.specs.MapFindings.{has_name}
 use Rattle.flashmap_check.proofs.findings.map_area.Given as goal
 
 abbrev pub invariant-loop-a : goal.invariant-loop-a
-invariant-loop-a l = find is_map_area (drop l.a-index l.areas) ≡ find is_map_area l.areas
+invariant-loop-a l = find (has_name (codes "FMAP")) (drop l.a-index l.areas) ≡ find (has_name (codes "FMAP")) l.areas
