@@ -1,6 +1,6 @@
 -- The search for a map, piece by piece.
 use Rattle.std.specs.Option.{option_map}
-use Rattle.std.proofs.Common.{⊎_elim, le_refl, zero-le, zero, suc, ◌≡◌, ◌∙◌, ℕ, ◌+◌, ◌-◌, ◌*◌, ◌<◌, ◌≤◌, IsTrue, List, Option, Some, None, length, take, drop, sym, ap, subst, arith}
+use Rattle.std.proofs.Common.{⊎_elim, le_refl, zero, suc, ◌≡◌, ◌∙◌, ℕ, ◌+◌, ◌-◌, ◌*◌, ◌<◌, ◌≤◌, IsTrue, List, Option, Some, None, length, take, drop, sym, ap, subst, arith}
 use Rattle.std.specs.Prelude.{slice_range, slice_index}
 use Rattle.std.proofs.lemmas.Bool.{and_parts, cases_lt, cases_eq}
 use Rattle.std.proofs.lemmas.Slice.Eq.{bytes_eq-Decides}
@@ -9,10 +9,10 @@ use Rattle.std.proofs.lemmas.List.Prefix.{at_from_reads}
 use lib.Chars.{codes}
 use Rattle.memchr.specs.Find.{Nowhere, IsFirst, OccursAt, FindsNeedle}
 use Rattle.flash_store.specs.Device.{Device, Reads}
-use Rattle.flash_store.specs.Fmap.{HasSignatureAt, map_head, map_head_in, found_in}
+use Rattle.flash_store.specs.Fmap.{HasSignatureAt, map_head, map_head_in, found_from}
 use Rattle.flash_format.specs.declared.flashmap.FmapHead.{FmapHead}
 use Rattle.flash_format.specs.declared.flashmap.Area.{Area}
-use Rattle.flash_format.specs.Flashmap.{is_map, map_of, map_from, fmap_head_of, has_signature, is_valid_head, area_of, map_len}
+use Rattle.flash_format.specs.Flashmap.{is_map, map_from, fmap_head_of, has_signature, is_valid_head, area_of, map_len}
 use Rattle.flash_format.proofs.Fronts.{has_signature-take, fmap_head_of-take, area_of-take}
 use Rattle.flash_format.proofs.MapSteps.{map_step, map_end, not_map_short}
 use Rattle.std.proofs.Common.{Bool, true, false, cond, refl, length-drop}
@@ -122,34 +122,36 @@ finds_in_whole image at n (Some p) within found =
     )
 
 -- where no signature stands, no map does
-pub no_tables : (image : List ℕ) (place end : ℕ) → Nowhere (IsTableAt image) 0 place → Nowhere (HasSignatureAt image) place end → Nowhere (IsTableAt image) 0 end
-no_tables image place end before none k above below table =
+pub no_tables : (image : List ℕ) (from place end : ℕ) → Nowhere (IsTableAt image) from place → Nowhere (HasSignatureAt image) place end → Nowhere (IsTableAt image) from end
+no_tables image from place end before none k above below table =
     ⊎_elim (λ earlier. before k above earlier table) (λ later. none k later below (IsTableAt-signature image k table)) (cases_lt k place)
 
 -- nor just after the begin of a signature that begins no map
-pub no_tables_behind : (image : List ℕ) (q : ℕ) → Nowhere (IsTableAt image) 0 q → HasSignatureAt image q → ¬ IsTableAt image q → Nowhere (IsTableAt image) 0 (q + 6)
-no_tables_behind image q before occurs no_table k above below table =
+pub no_tables_behind : (image : List ℕ) (from q : ℕ) → Nowhere (IsTableAt image) from q → HasSignatureAt image q → ¬ IsTableAt image q → Nowhere (IsTableAt image) from (q + 6)
+no_tables_behind image from q before occurs no_table k above below table =
     ⊎_elim (λ earlier. before k above earlier table)
     (λ later. ⊎_elim (λ same. no_table (subst (IsTableAt image) same table)) (λ other. signature-apart image q k occurs (omega (arith, later, other)) below (IsTableAt-signature image k table)) (cases_eq k q))
     (cases_lt k q)
 
--- no map stands before this place, and at most two calls were made for each six bytes before it, none of them refused
-pub record SearchedTo (place : ℕ) (old new : Device) : Type 0 where
+-- no map stands from one place up to another, and at most two calls were made for each six bytes before the second, none of them refused
+pub record SearchedTo (from place : ℕ) (old new : Device) : Type 0 where
   pub no_fewer : old.calls ≤ new.calls
+  pub above : from ≤ place
   pub within : place ≤ length old.content
   pub no_more : 3 * new.calls ≤ 3 * old.calls + place
   pub faults : new.faults ≡ old.faults
   pub same_honesty : new.honest ≡ old.honest
   pub same_length : length new.content ≡ length old.content
   pub unchanged : IsTrue old.honest → new.content ≡ old.content
-  pub none : IsTrue old.honest → Nowhere (IsTableAt old.content) 0 place
+  pub none : IsTrue old.honest → Nowhere (IsTableAt old.content) from place
 
 -- the search goes on after a part with no signature
-pub SearchedTo-part : (old mid new : Device) (place size : ℕ) → place + size ≤ length old.content → 56 ≤ size → SearchedTo place old mid → Reads 1 0 mid new
+pub SearchedTo-part : (old mid new : Device) (from place size : ℕ) → place + size ≤ length old.content → 56 ≤ size → SearchedTo from place old mid → Reads 1 0 mid new
     → (IsTrue mid.honest → IsFirst (HasSignatureAt mid.content) place (place + size - 7) None)
-    → SearchedTo (place + (size - 7)) old new
-SearchedTo-part old mid new place size within long so_far call none = record {
+    → SearchedTo from (place + (size - 7)) old new
+SearchedTo-part old mid new from place size within long so_far call none = record {
   no_fewer = omega (arith, so_far.no_fewer, call.calls.no_fewer);
+  above = omega (arith, so_far.above);
   within = omega (arith, within, long);
   no_more = omega (arith, so_far.no_more, call.calls.no_more, long);
   faults = omega (arith, so_far.faults, call.calls.faults);
@@ -159,15 +161,16 @@ SearchedTo-part old mid new place size within long so_far call none = record {
   none = λ h.
       let here : Nowhere (HasSignatureAt old.content) place (place + size - 7) = rw (so_far.unchanged h) at (none (honest_still so_far.same_honesty h)) in
       let end : place + (size - 7) ≡ place + size - 7 = omega (arith, long) in
-      rw end (no_tables old.content place (place + size - 7) (so_far.none h) here);
+      rw end (no_tables old.content from place (place + size - 7) (so_far.none h) here);
 }
 
 -- and after a signature that begins no map
-pub SearchedTo-signature : (old mid new last : Device) (place q e : ℕ) → q + 8 ≤ length old.content → place ≤ q → SearchedTo place old mid → Reads 1 0 mid new → Reads 1 0 new last
+pub SearchedTo-signature : (old mid new last : Device) (from place q e : ℕ) → q + 8 ≤ length old.content → place ≤ q → SearchedTo from place old mid → Reads 1 0 mid new → Reads 1 0 new last
     → (IsTrue mid.honest → IsFirst (HasSignatureAt mid.content) place e (Some q)) → (IsTrue new.honest → ¬ IsTableAt new.content q)
-    → SearchedTo (q + 6) old last
-SearchedTo-signature old mid new last place q e within above so_far call probe first no_table = record {
+    → SearchedTo from (q + 6) old last
+SearchedTo-signature old mid new last from place q e within above so_far call probe first no_table = record {
   no_fewer = omega (arith, so_far.no_fewer, call.calls.no_fewer, probe.calls.no_fewer);
+  above = omega (arith, so_far.above, above);
   within = omega (arith, within);
   no_more = omega (arith, so_far.no_more, call.calls.no_more, probe.calls.no_more, above);
   faults = omega (arith, so_far.faults, call.calls.faults, probe.calls.faults);
@@ -181,31 +184,38 @@ SearchedTo-signature old mid new last place q e within above so_far call probe f
       let found = rw (so_far.unchanged h) at (first h') in
       let same : new.content ≡ old.content = call.unchanged h' ∙ so_far.unchanged h in
       let none_here : ¬ IsTableAt old.content q = rw same at (no_table (honest_still call.calls.same_honesty h')) in
-      no_tables_behind old.content q (no_tables old.content place q (so_far.none h) found.0.before) found.1 none_here;
+      no_tables_behind old.content from q (no_tables old.content from place q (so_far.none h) found.0.before) found.1 none_here;
 }
 
--- no map before a place: the lowest is sought from there on
-pub map_from-skip : (image : List ℕ) (k : ℕ) → k ≤ length image → Nowhere (IsTableAt image) 0 k → map_of image ≡ map_from k (drop k image)
-map_from-skip image zero le none = refl
-map_from-skip image (suc k) le none =
-    let before = map_from-skip image k (omega arith) (λ j above below. none j above (omega arith)) in
-    let next : k + 1 ≡ suc k = omega arith in
-    let here : is_map (drop k image) ≡ false = no_table (is_map (drop k image)) (none k zero-le (omega arith)) in
-    before ∙ map_step image k false (omega arith) here ∙ ap (λ j. map_from j (drop j image)) next
+-- no map from one place up to another: the lowest is sought from there on
+pub map_from-skip : (image : List ℕ) (from d : ℕ) → from + d ≤ length image → Nowhere (IsTableAt image) from (from + d) → map_from from (drop from image) ≡ map_from (from + d) (drop (from + d) image)
+map_from-skip image from zero le none = let same : from ≡ from + 0 = omega arith in ap (λ k. map_from k (drop k image)) same
+map_from-skip image from (suc d) le none =
+    let before = map_from-skip image from d (omega arith) (λ j above below. none j above (omega arith)) in
+    let next : from + d + 1 ≡ from + suc d = omega arith in
+    let here : is_map (drop (from + d) image) ≡ false = no_table (is_map (drop (from + d) image)) (none (from + d) (omega arith) (omega arith)) in
+    before ∙ map_step image (from + d) false (omega arith) here ∙ ap (λ j. map_from j (drop j image)) next
   where
     no_table : (b : Bool) → ¬ (b ≡ true) → b ≡ false
     no_table true none = absurd (none refl)
     no_table false none = refl
 
-pub found_none : (image : List ℕ) (k : ℕ) → k ≤ length image → length image < k + 56 → Nowhere (IsTableAt image) 0 k → None ≡ found_in image
-found_none image k le short none =
-    let all : Nowhere (IsTableAt image) 0 (length image) = λ j above below table. ⊎_elim (λ earlier. none j above earlier table) (λ later. absurd (omega (arith, short, later, (IsTableAt-parts image j table).0))) (cases_lt j k) in
-    rw (map_from-skip image (length image) (omega arith) all, map_end (length image) image (omega arith)) refl
+-- the same by the second place
+skipped : (image : List ℕ) (from k : ℕ) → from ≤ k → k ≤ length image → Nowhere (IsTableAt image) from k → map_from from (drop from image) ≡ map_from k (drop k image)
+skipped image from k above le none =
+    let same : from + (k - from) ≡ k = omega (arith, above) in
+    let nowhere : Nowhere (IsTableAt image) from (from + (k - from)) = λ j low high. none j low (omega (arith, high, same)) in
+    map_from-skip image from (k - from) (omega (arith, same, le)) nowhere ∙ ap (λ j. map_from j (drop j image)) same
 
-pub found_some : (image : List ℕ) (q : ℕ) (h : FmapHead) → Nowhere (IsTableAt image) 0 q → IsTableAt image q → h ≡ fmap_head_of (drop q image) → Some (record { at = q; head = h }) ≡ found_in image
-found_some image q h none table e =
+pub found_none : (image : List ℕ) (from k : ℕ) → from ≤ k → k ≤ length image → length image < k + 56 → Nowhere (IsTableAt image) from k → None ≡ found_from from image
+found_none image from k above le short none =
+    let all : Nowhere (IsTableAt image) from (length image) = λ j low below table. ⊎_elim (λ earlier. none j low earlier table) (λ later. absurd (omega (arith, short, later, (IsTableAt-parts image j table).0))) (cases_lt j k) in
+    rw (skipped image from (length image) (omega arith) (omega arith) all, map_end (length image) image (omega arith)) refl
+
+pub found_some : (image : List ℕ) (from q : ℕ) (h : FmapHead) → from ≤ q → Nowhere (IsTableAt image) from q → IsTableAt image q → h ≡ fmap_head_of (drop q image) → Some (record { at = q; head = h }) ≡ found_from from image
+found_some image from q h above none table e =
     let inside : q < length image = omega (arith, (IsTableAt-parts image q table).0) in
-    let m : map_of image ≡ Some q = map_from-skip image q (omega arith) none ∙ map_step image q true inside table in
+    let m : map_from from (drop from image) ≡ Some q = skipped image from q above (omega arith) none ∙ map_step image q true inside table in
     rw (m, e) refl
 
 pub head_none : (x : List ℕ) → None ≡ map_head x → ¬ (is_map x ≡ true)
@@ -254,12 +264,12 @@ unfolding is_valid_head
 valid_fits h left e = leb-true _ _ (and_parts _ _ (and_parts _ _ e).1).1
 
 -- or ends at the map that a signature begins
-pub SearchedTo-table : (old mid new : Device) (place q e : ℕ) (h : FmapHead) → SearchedTo place old mid → Reads 1 0 mid new
+pub SearchedTo-table : (old mid new : Device) (from place q e : ℕ) (h : FmapHead) → SearchedTo from place old mid → Reads 1 0 mid new
     → (IsTrue mid.honest → IsFirst (HasSignatureAt mid.content) place e (Some q)) → (IsTrue new.honest → Some h ≡ map_head (drop q new.content))
-    → IsTrue old.honest → Some (record { at = q; head = h }) ≡ found_in old.content
-SearchedTo-table old mid new place q e h so_far call first table honest =
+    → IsTrue old.honest → Some (record { at = q; head = h }) ≡ found_from from old.content
+SearchedTo-table old mid new from place q e h so_far call first table honest =
     let h' = honest_still so_far.same_honesty honest in
     let found = rw (so_far.unchanged honest) at (first h') in
     let same : new.content ≡ old.content = call.unchanged h' ∙ so_far.unchanged honest in
     let here = head_some (drop q old.content) h (rw same at (table (honest_still call.calls.same_honesty h'))) in
-    found_some old.content q h (no_tables old.content place q (so_far.none honest) found.0.before) here.0 here.1
+    found_some old.content from q h (omega (arith, so_far.above, found.0.low)) (no_tables old.content from place q (so_far.none honest) found.0.before) here.0 here.1

@@ -4,7 +4,7 @@ ghost use Rattle.std.specs.List.{find};
 ghost use Rattle.flash_format.specs.Flashmap.{fmap_head_len, area_len, map_len, area_of, areas_from, is_area};
 ghost use Rattle.flash_store.specs.Device.{Reads, faults_told, refusals};
 ghost use Rattle.flash_store.specs.Pages.{HasRead, HasAnswered};
-ghost use Rattle.flash_store.specs.Fmap.{HasSignatureAt, map_head, map_head_in, found_in};
+ghost use Rattle.flash_store.specs.Fmap.{HasSignatureAt, map_head, map_head_in, found_from, found_in};
 ghost use Rattle.flash_store.specs.Regions.{LiesIn, by_device, inside, region_of};
 ghost use Rattle.memchr.specs.Find.{IsFirst};
 
@@ -64,8 +64,24 @@ pub fn find_fmap<F: Flash>(paged: &mut Paged<F>) -> Result<Option<FoundMap>, Fla
     ensures found { IsTrue (F.facts paged.old.device).honest →
         IfOk result (λ found. found ≡ found_in (F.facts paged.old.device).content) }
 {
+    find_fmap_from(paged, 0)
+}
+
+/// The lowest valid flashmap at this place or above it, or `None`.
+pub fn find_fmap_from<F: Flash>(
+    paged: &mut Paged<F>,
+    from: u64,
+) -> Result<Option<FoundMap>, FlashFault>
+    requires { from ≤ length (F.facts paged.old.device).content }
+
+    ensures after { HasAnswered F.facts (length (F.facts paged.old.device).content / 2 + 8) paged.old paged.new result }
+    ensures fits { IfOk result (λ found. IfSome found (λ map.
+        map.at + map_len map.head ≤ length (F.facts paged.old.device).content)) }
+    ensures found { IsTrue (F.facts paged.old.device).honest →
+        IfOk result (λ found. found ≡ found_from from (F.facts paged.old.device).content) }
+{
     let len = paged.len();
-    let mut place = 0;
+    let mut place = from;
     while place + HEAD_LENGTH <= len {
         let size = (len - place).min(PIECE as u64);
         match signature_in(paged, place, size as usize)? {

@@ -37,7 +37,8 @@ pub use file_source::FileSource;
 pub use flaky_file::FlakyFile;
 pub use flash::{Flash, FlashFault, PIECE};
 pub use fmap::{
-    FoundMap, StoreFault, area, area_in_source, find_fmap, map_in_source, region, region_of_area,
+    FoundMap, StoreFault, area, area_in_source, find_fmap, find_fmap_from, map_in_source, region,
+    region_of_area,
 };
 pub use laws::{
     separate_edits_swap, separate_writes_swap, writes_are_seen_by_regions, written_maps_are_found,

@@ -1,6 +1,6 @@
 use Rattle.std.proofs.Common.{◌+◌, ◌≤◌, length, arith}
 use Rattle.flash_store.proofs.FmapLemmas.{SearchedTo-part, SearchedTo-signature, SearchedTo-table, found_none, head_none}
-use Rattle.flash_store.proofs.fmap.find_fmap.Goals as goal
+use Rattle.flash_store.proofs.fmap.find_fmap_from.Goals as goal
 
 pub loop-place-preserved : goal.loop-place-preserved
 loop-place-preserved g c =
@@ -8,7 +8,7 @@ loop-place-preserved g c =
     let len = c.len-len.ensures.length in
     let inside : c.loop-place.place + c.min-size.result ≤ length (g.F.Flash.facts c.args.paged.now.device).content = omega (arith, size, len, c.loop-place-test.true) in
     record {
-      searched = SearchedTo-part _ _ _ c.loop-place.place c.min-size.result inside (omega (arith, size, c.loop-place-test.true)) c.loop-place.invariant.searched c.in_ok-at.ensures.after.read.device (rw c.in-None.is at c.in_ok-at.ensures.first);
+      searched = SearchedTo-part _ _ _ c.args.from c.loop-place.place c.min-size.result inside (omega (arith, size, c.loop-place-test.true)) c.loop-place.invariant.searched c.in_ok-at.ensures.after.read.device (rw c.in-None.is at c.in_ok-at.ensures.first);
       window = λ h. c.signature_in.ensures.after.read.window (c.loop-place.invariant.window h);
     }
 
@@ -20,14 +20,14 @@ loop-place-preserved-in-Some g c =
     let len = c.len-len.ensures.length in
     let inside : at + 8 ≤ length (g.F.Flash.facts c.args.paged.now.device).content = omega (arith, size, len, bounds.1, c.loop-place-test.true) in
     record {
-      searched = SearchedTo-signature _ _ _ _ c.loop-place.place at _ inside bounds.0 c.loop-place.invariant.searched c.in_ok-at.ensures.after.read.device c.in_ok-head-in-Some.ensures.after.read.device (rw c.in-Some.is at c.in_ok-at.ensures.first) (λ h. head_none _ (rw c.in_default.is at (c.in_ok-head-in-Some.ensures.head h)));
+      searched = SearchedTo-signature _ _ _ _ c.args.from c.loop-place.place at _ inside bounds.0 c.loop-place.invariant.searched c.in_ok-at.ensures.after.read.device c.in_ok-head-in-Some.ensures.after.read.device (rw c.in-Some.is at c.in_ok-at.ensures.first) (λ h. head_none _ (rw c.in_default.is at (c.in_ok-head-in-Some.ensures.head h)));
       window = λ h. c.head_at.ensures.after.read.window (c.signature_in.ensures.after.read.window (c.loop-place.invariant.window h));
     }
 
 pub returns-in-Some-2-clause-found : goal.returns-in-Some-2-clause-found
 returns-in-Some-2-clause-found g c = λ h.
-    SearchedTo-table _ _ _ c.loop-place.place c.in-Some.at _ _ c.loop-place.invariant.searched c.in_ok-at.ensures.after.read.device (rw c.in-Some.is at c.in_ok-at.ensures.first) (λ k. rw c.in-Some-2.is at (c.in_ok-head-in-Some.ensures.head k)) h
+    SearchedTo-table _ _ _ c.args.from c.loop-place.place c.in-Some.at _ _ c.loop-place.invariant.searched c.in_ok-at.ensures.after.read.device (rw c.in-Some.is at c.in_ok-at.ensures.first) (λ k. rw c.in-Some-2.is at (c.in_ok-head-in-Some.ensures.head k)) h
 
 pub returns-clause-found : goal.returns-clause-found
 returns-clause-found g c = λ h.
-    found_none _ c.loop-place.place c.loop-place.invariant.searched.within (omega (arith, c.loop-place-test.false, c.len-len.ensures.length)) (c.loop-place.invariant.searched.none h)
+    found_none _ c.args.from c.loop-place.place c.loop-place.invariant.searched.above c.loop-place.invariant.searched.within (omega (arith, c.loop-place-test.false, c.len-len.ensures.length)) (c.loop-place.invariant.searched.none h)
