@@ -1,7 +1,7 @@
 -- What is told of an image with a map, and of one without.
-use Rattle.std.proofs.Common.{◌≡◌, ℕ, List, [], ◌∷◌, length, Option, Some, None, ap, ◌∙◌}
+use Rattle.std.proofs.Common.{◌≡◌, ℕ, ◌+◌, List, [], ◌∷◌, length, Option, Some, None, ap, ◌∙◌}
 use Rattle.flash_store.specs.declared.fmap.FoundMap.{FoundMap}
-use Rattle.flash_store.specs.Fmap.{found_in}
+use Rattle.flash_store.specs.Fmap.{found_from, found_in}
 use Rattle.flashmap_check.specs.declared.finding.NumberedArea.{NumberedArea}
 use Rattle.flashmap_check.specs.declared.finding.MapFinding.{MapFinding}
 use Rattle.flashmap_check.specs.declared.finding.MapFinding.TheVariants as findings
@@ -11,7 +11,8 @@ pub none-told : (image : List ℕ) (told : List MapFinding) (found : Option Foun
 unfolding map_findings
 none-told image told found none is same = same ∙ ap (findings_under image) (none ∙ is)
 
-pub map-told : (image : List ℕ) (told : List MapFinding) (map : FoundMap) (n : ℕ) (areas : List NumberedArea) → Some map ≡ found_in image → n ≡ length image → areas ≡ map_areas image map → told ≡ findings_of n map areas → told ≡ map_findings image
+pub map-told : (image : List ℕ) (told : List MapFinding) (map : FoundMap) (next : Option FoundMap) (n : ℕ) (areas : List NumberedArea) → Some map ≡ found_in image → next ≡ found_from (map.at + 1) image → n ≡ length image → areas ≡ map_areas image map
+    → told ≡ findings_of n map next areas → told ≡ map_findings image
 unfolding map_findings
-map-told image told map n areas found long read same =
-    same ∙ ap (λ k. findings_of k map areas) long ∙ ap (findings_of (length image) map) read ∙ ap (findings_under image) found
+map-told image told map next n areas found above long read same =
+    same ∙ ap (λ k. findings_of k map next areas) long ∙ ap (λ (o : Option FoundMap). findings_of (length image) map o areas) above ∙ ap (findings_of (length image) map (found_from (map.at + 1) image)) read ∙ ap (findings_under image) found

@@ -6,7 +6,7 @@ use lib.Chars.{codes}
 use Rattle.flash_format.specs.declared.flashmap.Area.{Area}
 use Rattle.flash_format.specs.Flashmap.{fmap_head_len, map_len, areas_from, is_area, text_of}
 use Rattle.flash_store.specs.declared.fmap.FoundMap.{FoundMap}
-use Rattle.flash_store.specs.Fmap.{found_in}
+use Rattle.flash_store.specs.Fmap.{found_from, found_in}
 use Rattle.flashmap_check.specs.declared.finding.NumberedArea.{NumberedArea}
 use Rattle.flashmap_check.specs.declared.finding.MapCheckFault.{MapCheckFault}
 use Rattle.flashmap_check.specs.declared.finding.MapCheckFault.TheVariants as faults
@@ -34,6 +34,11 @@ area_end area = area.offset + area.size
 -- this finding, or none
 abbrev pub told_if : Bool → MapFinding → List MapFinding
 told_if told finding = if told then finding ∷ [] else []
+
+-- of the next valid map above the image's own
+abbrev pub next_findings : Option FoundMap → List MapFinding
+next_findings None = []
+next_findings (Some next) = findings.OtherMap next ∷ []
 
 -- of one area, in an image of n bytes
 abbrev pub area_findings : ℕ → NumberedArea → List MapFinding
@@ -66,18 +71,19 @@ abbrev pub map_area_findings : FoundMap → Option NumberedArea → List MapFind
 map_area_findings map None = findings.NoMapArea ∷ []
 map_area_findings map (Some a) = told_if (not (holds_map map a.area)) (findings.MapAreaMisses a)
 
--- of a map with these areas, in an image of n bytes
-abbrev pub findings_of : ℕ → FoundMap → List NumberedArea → List MapFinding
-findings_of n map areas =
+-- of a map with this next one and these areas, in an image of n bytes
+abbrev pub findings_of : ℕ → FoundMap → Option FoundMap → List NumberedArea → List MapFinding
+findings_of n map next areas =
     findings.Map map
-    ∷ (told_if (not (map.head.size == n)) findings.OtherSize
+    ∷ (next_findings next
+    ++ (told_if (not (map.head.size == n)) findings.OtherSize
     ++ (flat_map (area_findings n) areas
     ++ (name_findings [] areas
-    ++ map_area_findings map (find (has_name (codes "FMAP")) areas))))
+    ++ map_area_findings map (find (has_name (codes "FMAP")) areas)))))
 
 abbrev pub findings_under : List ℕ → Option FoundMap → List MapFinding
 findings_under image None = findings.NoMap ∷ []
-findings_under image (Some map) = findings_of (length image) map (map_areas image map)
+findings_under image (Some map) = findings_of (length image) map (found_from (map.at + 1) image) (map_areas image map)
 
 -- what is told of the image's flashmap
 unfoldable pub map_findings : List ℕ → List MapFinding

@@ -20,6 +20,8 @@ pub enum MapFinding {
     NoMap,
     /// The image's flashmap.
     Map(FoundMap),
+    /// The next valid map above it, which a reader that searches in another order may take.
+    OtherMap(FoundMap),
     /// The map states another size than the image has.
     OtherSize,
     /// The area ends after the image's end.

@@ -4,7 +4,7 @@ ghost use Rattle.std.specs.Prelude.{◌≡◌, ◌+◌, ◌^◌, ◌<◌, ◌≤
 ghost use Rattle.std.specs.List.{find, flat_map};
 ghost use lib.Chars.{codes};
 ghost use Rattle.flash_format.specs.Flashmap.{map_len};
-ghost use Rattle.flashmap_check.specs.MapFindings.{told_if, area_findings, has_name, holds_map, map_area_findings, findings_of};
+ghost use Rattle.flashmap_check.specs.MapFindings.{told_if, area_findings, has_name, holds_map, map_area_findings, next_findings, findings_of};
 
 use crate::finding::{MapFinding, NumberedArea};
 use crate::names::push_name_findings;
@@ -12,18 +12,20 @@ use flash_format::{Area, FmapHead};
 use flash_store::FoundMap;
 use std::alloc::{AllocError, Global};
 
-/// What is told of a map with these areas, in an image of `len` bytes.
+/// What is told of a map with this next one and these areas, in an image of `len` bytes.
 pub fn findings_of(
     alloc: Global,
     len: u64,
     map: &FoundMap,
+    next: Option<FoundMap>,
     areas: &[NumberedArea],
 ) -> Result<Vec<MapFinding>, AllocError>
     requires { map.now.at + map_len map.now.head ≤ len }
-    ensures { IfOk result (λ findings. findings.items ≡ findings_of len map.now areas.now) }
+    ensures { IfOk result (λ findings. findings.items ≡ findings_of len map.now next areas.now) }
 {
     let mut findings = Vec::new(alloc);
     push_if(&mut findings, true, MapFinding::Map(*map))?;
+    push_next_findings(&mut findings, next)?;
     push_if(
         &mut findings,
         u64::from(map.head.size) != len,
@@ -45,6 +47,19 @@ pub fn push_if(
 {
     if told {
         findings.push(finding)?;
+    }
+    Ok(())
+}
+
+/// Pushes the next map.
+fn push_next_findings(
+    findings: &mut Vec<MapFinding>,
+    next: Option<FoundMap>,
+) -> Result<(), AllocError>
+    ensures { OnOk result (findings.new.items ≡ findings.old.items ++ next_findings next) }
+{
+    if let Some(next) = next {
+        findings.push(MapFinding::OtherMap(next))?;
     }
     Ok(())
 }

@@ -11,8 +11,9 @@ pub returns-clause-answer : goal.returns-clause-answer
 returns-clause-answer g c = λ h.
     let image = (g.F.Flash.facts c.args.paged.now.device).content in
     let search = c.find_fmap.ensures.after.read.device in
-    let areas = c.map_areas.ensures.after.device in
-    let long : c.len.result ≡ length image = omega (arith, c.len.ensures.length, areas.calls.same_length, search.calls.same_length) in
-    map-told image _ c.in-Some.map c.len.result c.deref.result.now (rw c.in-Some.is at (c.in_ok-map.ensures.found h)) long
-    (c.deref.ensures.value ∙ rw (search.unchanged h) at (c.in_ok-areas.ensures.areas (honest_still search.calls.same_honesty h)))
+    let above = c.find_fmap_from.ensures.after.read.device in
+    let searched = honest_still search.calls.same_honesty h in
+    map-told image _ c.in-Some.map c.in_ok-next.next c.len-len.result c.deref.result.now (rw c.in-Some.is at (c.in_ok-map.ensures.found h))
+    (rw (search.unchanged h) at (c.in_ok-next.ensures.found searched)) c.len-len.ensures.length
+    (c.deref.ensures.value ∙ rw (above.unchanged searched ∙ search.unchanged h) at (c.in_ok-areas.ensures.areas (honest_still above.calls.same_honesty searched)))
     c.in_ok-findings.ensures
