@@ -1,5 +1,5 @@
 -- What is told of an image's flashmap. What is told, and in which order, is this project's own.
-use Rattle.std.specs.Prelude.{ℕ, ◌+◌, Bool, not, ◌&&◌, List, [], ◌∷◌, ◌++◌, length, drop, nat_lt, nat_le, Option, Some, None, ◌==◌, if◌then◌else◌}
+use Rattle.std.specs.Prelude.{ℕ, ◌+◌, Bool, not, ◌&&◌, ◌||◌, List, [], ◌∷◌, ◌++◌, length, drop, nat_lt, nat_le, Option, Some, None, ◌==◌, if◌then◌else◌}
 use Rattle.std.specs.List.{find, flat_map}
 use Rattle.std.specs.Option.{option_map}
 use lib.Chars.{codes}
@@ -62,6 +62,31 @@ abbrev pub name_findings : List NumberedArea → List NumberedArea → List MapF
 name_findings before [] = []
 name_findings before (a ∷ areas) = name_finding a (first_with (text_of a.area.name) before) ++ name_findings (before ++ a ∷ []) areas
 
+-- the first area begins before the second one and ends inside it
+abbrev pub ends_inside : Area → Area → Bool
+ends_inside a b = nat_lt a.offset b.offset && (nat_lt b.offset (area_end a) && nat_lt (area_end a) (area_end b))
+
+-- two areas have bytes in common, and neither holds the other
+abbrev pub overlap : NumberedArea → NumberedArea → Bool
+overlap a b = ends_inside a.area b.area || ends_inside b.area a.area
+
+-- of an area, where this is the first one that it overlaps
+abbrev pub overlap_finding : NumberedArea → Option NumberedArea → List MapFinding
+overlap_finding a None = []
+overlap_finding a (Some other) = findings.Overlap a other.number ∷ []
+
+-- of each of these areas that overlaps one of them all
+abbrev pub overlaps_among : List NumberedArea → List NumberedArea → List MapFinding
+overlaps_among all areas = flat_map (λ (a : NumberedArea). overlap_finding a (find (overlap a) all)) areas
+
+-- how many areas are compared with each other
+abbrev pub most_compared : ℕ
+most_compared = 4096
+
+-- of each area that overlaps another one
+abbrev pub overlap_findings : List NumberedArea → List MapFinding
+overlap_findings areas = if nat_lt most_compared (length areas) then findings.TooManyAreas ∷ [] else overlaps_among areas areas
+
 -- the area holds all of the map
 abbrev pub holds_map : FoundMap → Area → Bool
 holds_map map area = nat_le area.offset map.at && nat_le (map.at + map_len map.head) (area_end area)
@@ -79,7 +104,8 @@ findings_of n map next areas =
     ++ (told_if (not (map.head.size == n)) findings.OtherSize
     ++ (flat_map (area_findings n) areas
     ++ (name_findings [] areas
-    ++ map_area_findings map (find (has_name (codes "FMAP")) areas)))))
+    ++ (overlap_findings areas
+    ++ map_area_findings map (find (has_name (codes "FMAP")) areas))))))
 
 abbrev pub findings_under : List ℕ → Option FoundMap → List MapFinding
 findings_under image None = findings.NoMap ∷ []

@@ -30,6 +30,10 @@ pub enum MapFinding {
     AreaEmpty(NumberedArea),
     /// An earlier area has the area's name, so that no name reaches it. `first` is the number of the first such.
     SameName { area: NumberedArea, first: u16 },
+    /// The area has bytes in common with another one, and neither holds the other. `other` is the number of the first such.
+    Overlap { area: NumberedArea, other: u16 },
+    /// The map has more than 4096 areas. Whether they overlap isn't looked for.
+    TooManyAreas,
     /// No area has the map's own name.
     NoMapArea,
     /// The first area with the map's own name doesn't hold all of the map.

@@ -8,6 +8,7 @@ ghost use Rattle.flashmap_check.specs.MapFindings.{told_if, area_findings, has_n
 
 use crate::finding::{MapFinding, NumberedArea};
 use crate::names::push_name_findings;
+use crate::overlaps::push_overlap_findings;
 use flash_format::{Area, FmapHead};
 use flash_store::FoundMap;
 use std::alloc::{AllocError, Global};
@@ -33,6 +34,7 @@ pub fn findings_of(
     )?;
     push_area_findings(&mut findings, len, areas)?;
     push_name_findings(alloc, &mut findings, areas)?;
+    push_overlap_findings(&mut findings, areas)?;
     push_map_area_findings(&mut findings, map, areas)?;
     Ok(findings)
 }

@@ -6,6 +6,7 @@ mod check;
 mod finding;
 mod findings;
 mod names;
+mod overlaps;
 
 pub use check::check_map;
 pub use finding::{MapCheckFault, MapFinding, NumberedArea};
