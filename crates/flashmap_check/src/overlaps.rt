@@ -27,10 +27,7 @@ pub fn push_overlap_findings(
 }
 
 /// Compares each area with each.
-fn push_overlaps(
-    findings: &mut Vec<MapFinding>,
-    areas: &[NumberedArea],
-) -> Result<(), AllocError>
+fn push_overlaps(findings: &mut Vec<MapFinding>, areas: &[NumberedArea]) -> Result<(), AllocError>
     ensures { OnOk result (findings.new.items ≡ findings.old.items ++ overlaps_among areas.now areas.now) }
 {
     for a in areas {

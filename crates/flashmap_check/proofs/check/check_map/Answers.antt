@@ -1,4 +1,4 @@
-use Rattle.std.proofs.Common.{◌≡◌, sym, ◌∙◌, length, arith}
+use Rattle.std.proofs.Common.{sym, ◌∙◌}
 use Rattle.flash_store.proofs.DeviceLemmas.{honest_still}
 use Rattle.flashmap_check.proofs.Telling.{none-told, map-told}
 use Rattle.flashmap_check.proofs.check.check_map.Goals as goal
