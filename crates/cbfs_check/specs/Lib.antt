@@ -1,0 +1,4 @@
+pub mod Faults
+pub mod Counts
+pub mod RegionFindings
+pub mod Reports

@@ -1,0 +1,51 @@
+-- What is told of a region.
+use Rattle.std.specs.Prelude.{ℕ, ◌+◌, List, [], ◌∷◌, ◌++◌, length, ◌==◌, if◌then◌else◌}
+use Rattle.flash_format.specs.declared.head.Head.{Head}
+use Rattle.flash_format.specs.Head.{head_of, is_free}
+use Rattle.flash_format.specs.Cut.{Cut, End, complete, tail, damage, cut}
+use Rattle.flash_format.specs.Components.{cell_name, cell_attributes, cell_content}
+use Rattle.cbfs_walk.specs.Hashes.{hash_state}
+use Rattle.cbfs_walk.specs.Shapes.{shape, refused_or}
+use Rattle.cbfs_walk.specs.Shaped.{place_after}
+use Rattle.cbfs_walk.specs.declared.walk.WalkFault.{WalkFault}
+use Rattle.cbfs_walk.specs.declared.walk.WalkFault.TheVariants as walk
+use Rattle.cbfs_check.specs.Counts.{counts}
+use Rattle.cbfs_check.specs.declared.finding.ComponentFinding.TheVariants.{Hash}
+use Rattle.cbfs_check.specs.declared.finding.RegionFinding.{RegionFinding}
+use Rattle.cbfs_check.specs.declared.finding.RegionFinding.TheVariants.{BadSize, NotCbfs, Component, Deleted, Complete, Tail, Damaged, Counts}
+
+-- of a free cell at a place: that a component was deleted here
+abbrev pub free_findings : ℕ → Head → List RegionFinding
+free_findings at h = if h.kind == 0 then Deleted at ∷ [] else []
+
+-- of a component at a place: what its digest says
+abbrev pub component_findings : ℕ → List ℕ → List RegionFinding
+component_findings at x = Component at (cell_name x) (Hash (hash_state (cell_attributes x) (cell_content x))) ∷ []
+
+-- of a cell at a place
+abbrev pub cell_findings : ℕ → List ℕ → List RegionFinding
+cell_findings at x = if is_free (head_of x) then free_findings at (head_of x) else component_findings at x
+
+-- of cells of which the first stands at a place
+unfoldable pub cells_findings : ℕ → List (List ℕ) → List RegionFinding
+cells_findings at [] = []
+cells_findings at (x ∷ cells) = cell_findings at x ++ cells_findings (at + length x) cells
+
+-- how the cells end, at the place after them
+abbrev pub end_finding : ℕ → End → RegionFinding
+end_finding at complete = Complete
+end_finding at tail = Tail at
+end_finding at (damage kind) = Damaged at kind
+
+-- why a walk gives no cell; a device's fault is no finding
+abbrev pub fault_findings : WalkFault → List RegionFinding
+fault_findings walk.RegionShape = BadSize ∷ []
+fault_findings walk.NotCbfs = NotCbfs ∷ []
+fault_findings (walk.Damaged at kind) = Damaged at kind ∷ []
+fault_findings walk.Device = []
+
+-- what is told of a region of these bytes: its shape alone where that is bad, or else each cell, the end and the counts
+unfoldable pub region_findings : List ℕ → List RegionFinding
+region_findings x =
+    refused_or fault_findings (shape x)
+    (cells_findings 0 (cut x).cells ++ end_finding (place_after 0 (cut x).cells) (cut x).end ∷ Counts (counts x) ∷ [])

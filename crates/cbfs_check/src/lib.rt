@@ -1,0 +1,15 @@
+//! Tells whether a CBFS region of a device is fit to be flashed: what is found in it, cell by cell.
+//!
+//! A check takes memory for what it tells, and writes nothing.
+#![tactic(auto)]
+
+mod check;
+mod count;
+mod fault;
+mod finding;
+mod report;
+
+pub use check::check_region;
+pub use count::RegionCounts;
+pub use fault::RegionCheckFault;
+pub use finding::{ComponentFinding, Name, RegionFinding};
