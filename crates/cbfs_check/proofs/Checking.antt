@@ -20,7 +20,7 @@ use Rattle.cbfs_walk.specs.declared.walk.WalkFault.{WalkFault}
 use Rattle.cbfs_walk.specs.declared.walk.WalkFault.TheVariants as walk
 use Rattle.cbfs_walk.proofs.Shapes.{shaped_step}
 use Rattle.cbfs_check.specs.Counts.{IsCountBefore, nothing, counts}
-use Rattle.cbfs_check.specs.RegionFindings.{cell_findings, cells_findings, end_finding, fault_findings, region_findings}
+use Rattle.cbfs_check.specs.RegionFindings.{names_after, cell_findings, cells_findings, end_finding, fault_findings, region_findings}
 use Rattle.cbfs_check.specs.Reports.{Told, told_nothing, told_cell, HasTold, refused_findings}
 use Rattle.cbfs_check.specs.declared.fault.RegionCheckFault.{RegionCheckFault}
 use Rattle.cbfs_check.specs.declared.fault.RegionCheckFault.TheVariants as check
@@ -35,7 +35,7 @@ use Rattle.cbfs_check.proofs.CountLemmas.{count_all, count_more, count_none, cou
 
 -- all that is told, once so much is told and the cut goes on so at a place
 tell_cut : ℕ → Cut → Told → List RegionFinding
-tell_cut at k t = t.findings ++ (cells_findings at k.cells ++ (end_finding (place_after at k.cells) k.end ∷ findings.Counts (count_all t.count at k.cells) ∷ []))
+tell_cut at k t = t.findings ++ (cells_findings t.names at k.cells ++ (end_finding (place_after at k.cells) k.end ∷ findings.Counts (count_all t.count at k.cells) ∷ []))
 
 tell_cell : List ℕ → Cell → (Told → List RegionFinding) → Told → List RegionFinding
 tell_cell x given later t = later (told_cell t given.at x)
@@ -53,8 +53,8 @@ joined told here later end = ap (λ (l : List RegionFinding). told ++ l) (append
 cell_more : (at : ℕ) (x : List ℕ) (k : Cut) (t : Told) → tell_cut at (after x k) t ≡ tell_cut (at + length x) k (told_cell t at x)
 unfolding tell_cut cells_findings last
 cell_more at x k t =
-    ap (λ (n : RegionCounts). t.findings ++ ((cell_findings at x ++ cells_findings (at + length x) k.cells) ++ last k.end (place_after (at + length x) k.cells) n)) (count_more t.count at x k.cells)
-    ∙ joined t.findings (cell_findings at x) (cells_findings (at + length x) k.cells) (last k.end (place_after (at + length x) k.cells) (count_all (told_cell t at x).count (at + length x) k.cells))
+    ap (λ (n : RegionCounts). t.findings ++ ((cell_findings t.names at x ++ cells_findings (names_after t.names x) (at + length x) k.cells) ++ last k.end (place_after (at + length x) k.cells) n)) (count_more t.count at x k.cells)
+    ∙ joined t.findings (cell_findings t.names at x) (cells_findings (names_after t.names x) (at + length x) k.cells) (last k.end (place_after (at + length x) k.cells) (count_all (told_cell t at x).count (at + length x) k.cells))
 
 law : ReadsCells tell_cut tell_cell
 unfolding tell_cell
@@ -64,15 +64,15 @@ law at x k = fun_ext (λ (t : Told). cell_more at x k t)
 pub told_from : List ℕ → Told → ℕ → List RegionFinding
 told_from x t at = shaped tell_fault tell_cut x at t
 
-whole_counts : (x : List ℕ) → (cells_findings 0 (cut x).cells ++ last (cut x).end (place_after 0 (cut x).cells) (counts x)) ≡ tell_cut 0 (cut x) told_nothing
+whole_counts : (x : List ℕ) → (cells_findings [] 0 (cut x).cells ++ last (cut x).end (place_after 0 (cut x).cells) (counts x)) ≡ tell_cut 0 (cut x) told_nothing
 unfolding tell_cut last
-whole_counts x = ap (λ (n : RegionCounts). cells_findings 0 (cut x).cells ++ last (cut x).end (place_after 0 (cut x).cells) n) (sym (count_whole 0 (cut x).cells))
+whole_counts x = ap (λ (n : RegionCounts). cells_findings [] 0 (cut x).cells ++ last (cut x).end (place_after 0 (cut x).cells) n) (sym (count_whole 0 (cut x).cells))
 
 told_whole : (x : List ℕ) → region_findings x ≡ told_from x told_nothing 0
 unfolding told_from tell_fault region_findings shaped last
 told_whole x = go (shape x)
   where
-    go : (o : Option WalkFault) → refused_or fault_findings o (cells_findings 0 (cut x).cells ++ last (cut x).end (place_after 0 (cut x).cells) (counts x)) ≡ refused_or tell_fault o (tell_cut 0 (cut x)) told_nothing
+    go : (o : Option WalkFault) → refused_or fault_findings o (cells_findings [] 0 (cut x).cells ++ last (cut x).end (place_after 0 (cut x).cells) (counts x)) ≡ refused_or tell_fault o (tell_cut 0 (cut x)) told_nothing
     go None = whole_counts x
     go (Some fault) = refl
 
@@ -101,7 +101,7 @@ told_fault x t (walk.Damaged at kind) other = ap (λ n. t.findings ++ findings.D
 
 -- the same of the report that has told it
 reported : (report : Report) (t : Told) (f : List RegionFinding → RegionCounts → List RegionFinding) → HasTold report t → f report.findings.items report.count.counts ≡ f t.findings t.count.counts
-reported report t f told = ap (λ (l : List RegionFinding). f l report.count.counts) told.0 ∙ ap (λ (n : Count). f t.findings n.counts) told.1
+reported report t f told = ap (λ (l : List RegionFinding). f l report.count.counts) told.0 ∙ ap (λ (n : Count). f t.findings n.counts) told.2
 
 -- ---- the loop
 
@@ -115,16 +115,16 @@ pub record Checking {F : Type 0} (facts : F → Device) (r : Range) (w : Walking
   pub before : IsCountBefore w.at report.count
   pub so_far : IsTrue (facts old.device).honest → (t : Told) × HasTold report t × (region_findings (bytes_in r (facts old.device).content) ≡ told_from (bytes_in r (facts old.device).content) t w.at)
 
-pub checking_start : {F : Type 0} (facts : F → Device) (r : Range) (report : Report) (old : Pages F) → report.findings.items ≡ [] → report.count ≡ nothing
+pub checking_start : {F : Type 0} (facts : F → Device) (r : Range) (report : Report) (old : Pages F) → report.findings.items ≡ [] → report.names.keys ≡ [] → report.count ≡ nothing
     → Checking facts r (walk_of r) report old old
-checking_start facts r report old none zero = record {
+checking_start facts r report old none unnamed zero = record {
   region = refl;
   going = refl;
   inside = omega arith;
   aligned = refl;
   read = HasRead-within facts 0 (0 / 16) 0 old old (omega arith) (HasRead-none facts old);
   before = rw zero (record { components = omega arith; free = omega arith; row = omega arith });
-  so_far = λ h. (told_nothing, (none, zero), told_whole (bytes_in r (facts old.device).content));
+  so_far = λ h. (told_nothing, (none, (rw unnamed (λ q. refl)), zero), told_whole (bytes_in r (facts old.device).content));
 }
 
 -- a step is no fault of the device

@@ -1,2 +1,4 @@
+pub mod NameLemmas
 pub mod CountLemmas
+pub mod Telling
 pub mod Checking

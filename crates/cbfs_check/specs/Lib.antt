@@ -1,4 +1,5 @@
 pub mod Faults
 pub mod Counts
+pub mod Names
 pub mod RegionFindings
 pub mod Reports

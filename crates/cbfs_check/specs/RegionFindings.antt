@@ -1,16 +1,19 @@
 -- What is told of a region.
-use Rattle.std.specs.Prelude.{ℕ, ◌+◌, List, [], ◌∷◌, ◌++◌, length, ◌==◌, if◌then◌else◌}
+use Rattle.std.specs.Prelude.{ℕ, ◌+◌, List, [], ◌∷◌, ◌++◌, length, is_some, ◌==◌, if◌then◌else◌}
 use Rattle.flash_format.specs.declared.head.Head.{Head}
 use Rattle.flash_format.specs.Head.{head_of, is_free}
 use Rattle.flash_format.specs.Cut.{Cut, End, complete, tail, damage, cut}
 use Rattle.flash_format.specs.Components.{cell_name, cell_attributes, cell_content}
+use Rattle.flash_format.specs.TypeNames.{name_of_type}
 use Rattle.cbfs_walk.specs.Hashes.{hash_state}
+use Rattle.cbfs_walk.specs.declared.hashes.HashState.{HashState}
 use Rattle.cbfs_walk.specs.Shapes.{shape, refused_or}
 use Rattle.cbfs_walk.specs.Shaped.{place_after}
 use Rattle.cbfs_walk.specs.declared.walk.WalkFault.{WalkFault}
 use Rattle.cbfs_walk.specs.declared.walk.WalkFault.TheVariants as walk
 use Rattle.cbfs_check.specs.Counts.{counts}
-use Rattle.cbfs_check.specs.declared.finding.ComponentFinding.TheVariants.{Hash}
+use Rattle.cbfs_check.specs.Names.{is_among}
+use Rattle.cbfs_check.specs.declared.finding.ComponentFinding.TheVariants.{Shadowed, UnknownType, Hash}
 use Rattle.cbfs_check.specs.declared.finding.RegionFinding.{RegionFinding}
 use Rattle.cbfs_check.specs.declared.finding.RegionFinding.TheVariants.{BadSize, NotCbfs, Component, Deleted, Complete, Tail, Damaged, Counts}
 
@@ -18,18 +21,34 @@ use Rattle.cbfs_check.specs.declared.finding.RegionFinding.TheVariants.{BadSize,
 abbrev pub free_findings : ℕ → Head → List RegionFinding
 free_findings at h = if h.kind == 0 then Deleted at ∷ [] else []
 
--- of a component at a place: what its digest says
-abbrev pub component_findings : ℕ → List ℕ → List RegionFinding
-component_findings at x = Component at (cell_name x) (Hash (hash_state (cell_attributes x) (cell_content x))) ∷ []
+-- of a component of a name, after components of these names: that no search finds it
+abbrev pub name_findings : List (List ℕ) → ℕ → List ℕ → List RegionFinding
+name_findings names at name = if is_among name names then Component at name Shadowed ∷ [] else []
 
--- of a cell at a place
-abbrev pub cell_findings : ℕ → List ℕ → List RegionFinding
-cell_findings at x = if is_free (head_of x) then free_findings at (head_of x) else component_findings at x
+-- of a component of a type: that it has no name
+abbrev pub type_findings : ℕ → List ℕ → ℕ → List RegionFinding
+type_findings at name kind = if is_some (name_of_type kind) then [] else Component at name (UnknownType kind) ∷ []
+
+-- of a component of a name and a type, with this digest
+abbrev pub named_findings : List (List ℕ) → ℕ → List ℕ → ℕ → HashState → List RegionFinding
+named_findings names at name kind state = name_findings names at name ++ (type_findings at name kind ++ Component at name (Hash state) ∷ [])
+
+-- of a component: its name, its type and its digest
+abbrev pub component_findings : List (List ℕ) → ℕ → List ℕ → List RegionFinding
+component_findings names at x = named_findings names at (cell_name x) (head_of x).kind (hash_state (cell_attributes x) (cell_content x))
+
+-- of a cell at a place, after components of these names
+abbrev pub cell_findings : List (List ℕ) → ℕ → List ℕ → List RegionFinding
+cell_findings names at x = if is_free (head_of x) then free_findings at (head_of x) else component_findings names at x
+
+-- the names after one cell more
+abbrev pub names_after : List (List ℕ) → List ℕ → List (List ℕ)
+names_after names x = if is_free (head_of x) then names else cell_name x ∷ names
 
 -- of cells of which the first stands at a place
-unfoldable pub cells_findings : ℕ → List (List ℕ) → List RegionFinding
-cells_findings at [] = []
-cells_findings at (x ∷ cells) = cell_findings at x ++ cells_findings (at + length x) cells
+unfoldable pub cells_findings : List (List ℕ) → ℕ → List (List ℕ) → List RegionFinding
+cells_findings names at [] = []
+cells_findings names at (x ∷ cells) = cell_findings names at x ++ cells_findings (names_after names x) (at + length x) cells
 
 -- how the cells end, at the place after them
 abbrev pub end_finding : ℕ → End → RegionFinding
@@ -48,4 +67,4 @@ fault_findings walk.Device = []
 unfoldable pub region_findings : List ℕ → List RegionFinding
 region_findings x =
     refused_or fault_findings (shape x)
-    (cells_findings 0 (cut x).cells ++ end_finding (place_after 0 (cut x).cells) (cut x).end ∷ Counts (counts x) ∷ [])
+    (cells_findings [] 0 (cut x).cells ++ end_finding (place_after 0 (cut x).cells) (cut x).end ∷ Counts (counts x) ∷ [])

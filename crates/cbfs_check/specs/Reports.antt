@@ -1,9 +1,11 @@
 -- What is told so far.
-use Rattle.std.specs.Prelude.{◌≡◌, ℕ, List, [], ◌∷◌, ◌++◌, length}
+use Rattle.std.specs.Prelude.{◌≡◌, ℕ, List, [], ◌∷◌, ◌++◌, length, Result, OnOk}
 use Rattle.flash_format.specs.Head.{head_of, is_free}
 use Rattle.cbfs_check.specs.Counts.{nothing, counted}
-use Rattle.cbfs_check.specs.RegionFindings.{cell_findings}
+use Rattle.cbfs_check.specs.Names.{HasNames}
+use Rattle.cbfs_check.specs.RegionFindings.{cell_findings, names_after}
 use Rattle.cbfs_check.specs.declared.count.Count.{Count}
+use Rattle.cbfs_check.specs.declared.fault.RegionCheckFault.{RegionCheckFault}
 use Rattle.cbfs_check.specs.declared.finding.RegionFinding.{RegionFinding}
 use Rattle.cbfs_check.specs.declared.report.Report.{Report}
 use Rattle.cbfs_check.specs.declared.count.RegionCounts.{RegionCounts}
@@ -11,21 +13,34 @@ use Rattle.cbfs_walk.specs.declared.walk.WalkFault.{WalkFault}
 use Rattle.cbfs_walk.specs.declared.walk.WalkFault.TheVariants as walk
 use Rattle.cbfs_check.specs.declared.finding.RegionFinding.TheVariants as findings
 
--- the findings, and the counts of the cells before the walk's place
+-- the findings, and the names and the counts of the cells before the walk's place
 pub record Told : Type 0 where
   pub findings : List RegionFinding
+  pub names : List (List ℕ)
   pub count : Count
 
 abbrev pub told_nothing : Told
-told_nothing = record { findings = []; count = nothing }
+told_nothing = record { findings = []; names = []; count = nothing }
 
--- one cell more, at a place
+-- one cell more, at a place, before it is counted
+abbrev pub told_of_cell : Told → ℕ → List ℕ → Told
+told_of_cell t at x = record t { findings = t.findings ++ cell_findings t.names at x; names = names_after t.names x }
+
+-- and counted
 abbrev pub told_cell : Told → ℕ → List ℕ → Told
-told_cell t at x = record { findings = t.findings ++ cell_findings at x; count = counted t.count (is_free (head_of x)) (length x) }
+told_cell t at x = record (told_of_cell t at x) { count = counted t.count (is_free (head_of x)) (length x) }
+
+-- a component more of a name, with these findings of it
+abbrev pub told_component : Told → List ℕ → List RegionFinding → Told
+told_component t name findings = record t { findings = t.findings ++ findings; names = name ∷ t.names }
 
 -- the report has told this
 abbrev pub HasTold : Report → Told → Type 0
-HasTold report t = (report.findings.items ≡ t.findings) × (report.count ≡ t.count)
+HasTold report t = (report.findings.items ≡ t.findings) × HasNames report.names.keys t.names × (report.count ≡ t.count)
+
+-- what one report told, this one has told with this made of it, where the call was done
+abbrev pub TellsMore : Result (Unit {0}) RegionCheckFault → Report → Report → (Told → Told) → Type 0
+TellsMore result old new more = OnOk result ((t : Told) → HasTold old t → HasTold new (more t))
 
 -- all that is told where a walk ends by a fault
 abbrev pub refused_findings : List RegionFinding → RegionCounts → WalkFault → List RegionFinding

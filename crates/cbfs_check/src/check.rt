@@ -1,6 +1,7 @@
 //! The check of a region.
-ghost use Rattle.std.specs.Prelude.{◌≡◌, ◌↔◌, ◌+◌, ◌/◌, ◌++◌, false, IfOk, IfErr, OnOk, IsErrOf};
+ghost use Rattle.std.specs.Prelude.{◌≡◌, ℕ, List, ◌∷◌, ◌↔◌, ◌+◌, ◌/◌, ◌++◌, false, IfOk, IfErr, OnOk, IsErrOf};
 ghost use Rattle.flash_format.specs.Head.{is_free};
+ghost use Rattle.flash_format.specs.Components.{cell_name};
 ghost use Rattle.flash_store.specs.Device.{faults_told};
 ghost use Rattle.flash_store.specs.Pages.{HasRead, OnHonestIn};
 ghost use Rattle.flash_store.specs.Regions.{LiesIn};
@@ -9,17 +10,17 @@ ghost use Rattle.cbfs_walk.specs.Walks.{StandsIn};
 ghost use Rattle.cbfs_check.specs.Faults.{by_device};
 ghost use Rattle.cbfs_check.specs.Counts.{IsCountBefore};
 ghost use Rattle.cbfs_check.specs.RegionFindings.{component_findings, free_findings, region_findings};
-ghost use Rattle.cbfs_check.specs.Reports.{Told, HasTold, told_cell, refused_findings};
+ghost use Rattle.cbfs_check.specs.Reports.{TellsMore, told_cell, told_component, told_of_cell, refused_findings};
 
 use crate::fault::RegionCheckFault;
-use crate::finding::{ComponentFinding, RegionFinding};
+use crate::finding::RegionFinding;
 use crate::report::Report;
 use cbfs_walk::{Cell, Step, Walk, WalkFault, cells_stand_in_their_image, check_hash, name};
 use flash_store::{Flash, Paged, Region};
 use std::alloc::Global;
 
 /// Tells what there is to tell of a component.
-fn check_component<F: Flash>(
+fn tell_component<F: Flash>(
     paged: &mut Paged<F>,
     region: Region,
     cell: &Cell,
@@ -31,18 +32,20 @@ fn check_component<F: Flash>(
 
     ensures after { HasRead F.facts (2 + cell.now.span / 3840) (faults_told by_device result) paged.old paged.new }
     ensures count { report.new.count ≡ report.old.count }
-    ensures told { OnHonestIn F.facts paged.old.device region (λ x. StandsIn x cell.now → OnOk result
-        (report.new.findings.items ≡ report.old.findings.items ++ component_findings cell.now.at (cell_in x cell.now))) }
+    ensures told { OnHonestIn F.facts paged.old.device region (λ x. StandsIn x cell.now →
+        TellsMore result report.old report.new (λ t. told_component t (cell_name (cell_in x cell.now))
+        (component_findings t.names cell.now.at (cell_in x cell.now)))) }
 {
     cells_stand_in_their_image();
     let mut field = [0; 256];
     let len = name(paged, region, cell, &mut field)?;
     let state = check_hash(paged, region, cell)?;
-    report.tell_component(cell.at, &field[..len], ComponentFinding::Hash(state))
+    report.tell_named(cell.at, &field[..len], cell.head.kind, state)
 }
 
 /// Tells what there is to tell of a free cell.
-fn check_free(cell: &Cell, report: &mut Report) -> Result<(), RegionCheckFault>
+fn tell_free(cell: &Cell, report: &mut Report) -> Result<(), RegionCheckFault>
+    ensures names { report.new.names ≡ report.old.names }
     ensures count { report.new.count ≡ report.old.count }
     ensures told { OnOk result (report.new.findings.items ≡ report.old.findings.items ++ free_findings cell.now.at cell.now.head) }
     ensures memory { IfErr result (λ fault. fault ≡ RegionCheckFault.Memory) }
@@ -51,6 +54,28 @@ fn check_free(cell: &Cell, report: &mut Report) -> Result<(), RegionCheckFault>
         return report.tell(RegionFinding::Deleted { at: cell.at });
     }
     Ok(())
+}
+
+/// Tells what there is to tell of a cell.
+fn tell_cell<F: Flash>(
+    paged: &mut Paged<F>,
+    region: Region,
+    cell: &Cell,
+    report: &mut Report,
+) -> Result<(), RegionCheckFault>
+    requires region { LiesIn region (F.facts paged.old.device).content }
+    requires cell { IsCellIn region.size cell.now }
+
+    ensures after { HasRead F.facts (2 + cell.now.span / 3840) (faults_told by_device result) paged.old paged.new }
+    ensures count { report.new.count ≡ report.old.count }
+    ensures told { OnHonestIn F.facts paged.old.device region (λ x. StandsIn x cell.now →
+        TellsMore result report.old report.new (λ t. told_of_cell t cell.now.at (cell_in x cell.now))) }
+{
+    cells_stand_in_their_image();
+    if cell.head.is_free() {
+        return tell_free(cell, report);
+    }
+    tell_component(paged, region, cell, report)
 }
 
 /// Tells what there is to tell of a cell, and counts it.
@@ -66,16 +91,12 @@ fn check_cell<F: Flash>(
 
     ensures after { HasRead F.facts (2 + cell.now.span / 3840) (faults_told by_device result) paged.old paged.new }
     ensures before { OnOk result (IsCountBefore (cell.now.at + cell.now.span) report.new.count) }
-    ensures told { OnHonestIn F.facts paged.old.device region (λ x. StandsIn x cell.now → OnOk result
-        ((t : Told) → HasTold report.old t → HasTold report.new (told_cell t cell.now.at (cell_in x cell.now)))) }
+    ensures told { OnHonestIn F.facts paged.old.device region (λ x. StandsIn x cell.now →
+        TellsMore result report.old report.new (λ t. told_cell t cell.now.at (cell_in x cell.now))) }
 {
     paged.places_fit();
     cells_stand_in_their_image();
-    if cell.head.is_free() {
-        check_free(cell, report)?;
-    } else {
-        check_component(paged, region, cell, report)?;
-    }
+    tell_cell(paged, region, cell, report)?;
     report.count = report.count.with(cell);
     Ok(())
 }

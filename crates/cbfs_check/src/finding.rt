@@ -41,6 +41,10 @@ impl Name {
 /// What is told of a component.
 #[derive(Clone, Copy, Debug, PartialEq, Eq)]
 pub enum ComponentFinding {
+    /// A component in front of it has its name, so that no search finds it.
+    Shadowed,
+    /// Its type, a number that has no name.
+    UnknownType(u32),
     /// What its first hash attribute says of its content.
     Hash(HashState),
 }

@@ -7,6 +7,7 @@ mod check;
 mod count;
 mod fault;
 mod finding;
+mod names;
 mod report;
 
 pub use check::check_region;

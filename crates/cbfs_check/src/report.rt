@@ -1,31 +1,40 @@
 //! What is told so far.
-ghost use Rattle.std.specs.Prelude.{◌≡◌, ◌+◌, ◌^◌, ◌<◌, [], ◌∷◌, ◌++◌, OnOk, OnErr, IfOk, IfErr};
-ghost use Rattle.flash_format.specs.Head.{is_free};
+ghost use Rattle.std.specs.Prelude.{◌≡◌, ℕ, List, [], ◌∷◌, ◌++◌, OnOk, IfOk, IfErr};
 ghost use Rattle.cbfs_check.specs.declared.fault.RegionCheckFault.TheVariants as faults;
-ghost use Rattle.cbfs_check.specs.Counts.{IsCountBefore, nothing, counted};
+ghost use Rattle.cbfs_check.specs.Counts.{nothing};
 
 use crate::count::Count;
 use crate::fault::RegionCheckFault;
 use crate::finding::{ComponentFinding, Name, RegionFinding};
+use crate::names::add_name;
+use cbfs_walk::HashState;
+use flash_format::type_name;
 use std::alloc::Global;
+use std::collections::BTreeSet;
 
 /// What is told so far, and the counts of the cells so far.
 #[derive(Drop)]
 pub struct Report {
     pub alloc: Global,
     pub findings: Vec<RegionFinding>,
+    pub names: BTreeSet<Vec<u8>>,
     pub count: Count,
 }
 
 impl Report {
+    ghost use Rattle.cbfs_check.specs.RegionFindings.{name_findings, named_findings, type_findings};
+    ghost use Rattle.cbfs_check.specs.Reports.{TellsMore, told_component};
+
     /// Nothing is told yet.
     pub fn new(alloc: Global) -> Report
         ensures findings { result.findings.items ≡ [] }
+        ensures names { result.names.keys ≡ [] }
         ensures count { result.count ≡ nothing }
     {
         Report {
             alloc,
             findings: Vec::new(alloc),
+            names: BTreeSet::new(alloc),
             count: Count::new(),
         }
     }
@@ -33,6 +42,7 @@ impl Report {
     /// Tells one thing more.
     pub fn tell(&mut self, finding: RegionFinding) -> Result<(), RegionCheckFault>
         ensures told { OnOk result (self.new.findings.items ≡ self.old.findings.items ++ finding ∷ []) }
+        ensures names { self.new.names ≡ self.old.names }
         ensures count { self.new.count ≡ self.old.count }
         ensures memory { IfErr result (λ fault. fault ≡ faults.Memory) }
     {
@@ -43,18 +53,65 @@ impl Report {
     }
 
     /// Tells one thing more of a component.
-    pub fn tell_component(
+    fn tell_component(
         &mut self,
         at: u64,
         name: &[u8],
         what: ComponentFinding,
     ) -> Result<(), RegionCheckFault>
         ensures told { OnOk result (self.new.findings.items ≡ self.old.findings.items ++ RegionFinding.Component at name.now what ∷ []) }
+        ensures names { self.new.names ≡ self.old.names }
         ensures count { self.new.count ≡ self.old.count }
         ensures memory { IfErr result (λ fault. fault ≡ faults.Memory) }
     {
         let name = Name::copied(self.alloc, name)?;
         self.tell(RegionFinding::Component { at, name, what })
+    }
+
+    /// Tells where a component has a name that one in front of it has, and adds its name.
+    fn tell_name(&mut self, at: u64, name: &[u8]) -> Result<(), RegionCheckFault>
+        ensures told { TellsMore result self.old self.new
+            (λ t. told_component t name.now (name_findings t.names at name.now)) }
+        ensures count { self.new.count ≡ self.old.count }
+        ensures memory { IfErr result (λ fault. fault ≡ faults.Memory) }
+    {
+        if add_name(self.alloc, &mut self.names, name)? {
+            return Ok(());
+        }
+        self.tell_component(at, name, ComponentFinding::Shadowed)?;
+        Ok(())
+    }
+
+    /// Tells where the type of a component has no name.
+    fn tell_type(&mut self, at: u64, name: &[u8], kind: u32) -> Result<(), RegionCheckFault>
+        ensures told { OnOk result (self.new.findings.items ≡ self.old.findings.items ++ type_findings at name.now kind) }
+        ensures names { self.new.names ≡ self.old.names }
+        ensures count { self.new.count ≡ self.old.count }
+        ensures memory { IfErr result (λ fault. fault ≡ faults.Memory) }
+    {
+        if type_name(kind).is_some() {
+            return Ok(());
+        }
+        self.tell_component(at, name, ComponentFinding::UnknownType(kind))
+    }
+
+    /// Tells what there is to tell of a component of a name and a type, with this digest, and adds its name.
+    pub fn tell_named(
+        &mut self,
+        at: u64,
+        name: &[u8],
+        kind: u32,
+        state: HashState,
+    ) -> Result<(), RegionCheckFault>
+        ensures told { TellsMore result self.old self.new
+            (λ t. told_component t name.now (named_findings t.names at name.now kind state)) }
+        ensures count { self.new.count ≡ self.old.count }
+        ensures memory { IfErr result (λ fault. fault ≡ faults.Memory) }
+    {
+        self.tell_name(at, name)?;
+        self.tell_type(at, name, kind)?;
+        self.tell_component(at, name, ComponentFinding::Hash(state))?;
+        Ok(())
     }
 
     /// Tells one thing and no more.

@@ -5,7 +5,7 @@ use Rattle.cbfs_check.proofs.Checking.{checking_start, checking_more, checking_e
 use Rattle.cbfs_check.proofs.check.check_region.Goals as goal
 
 pub loop-cell-init : goal.loop-cell-init
-loop-cell-init g c = rw c.new-walk.ensures (checking_start g.F.Flash.facts c.args.region c.new-report.result c.args.paged.now c.new-report.ensures.findings c.new-report.ensures.count)
+loop-cell-init g c = rw c.new-walk.ensures (checking_start g.F.Flash.facts c.args.region c.new-report.result c.args.paged.now c.new-report.ensures.findings c.new-report.ensures.names c.new-report.ensures.count)
 
 pub loop-cell-preserved : goal.loop-cell-preserved
 loop-cell-preserved g c =

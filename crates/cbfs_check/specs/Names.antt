@@ -1,0 +1,19 @@
+-- The names of the components so far, as a set.
+use Rattle.std.specs.Prelude.{◌≡◌, ℕ, Bool, List, Vec}
+use Rattle.std.specs.declared.alloc.Global.{Global}
+use Rattle.std.specs.List.{list_any}
+use Rattle.std.specs.Str.{bytes_eq}
+use Rattle.std.specs.Ordering.{is_eq, nat_cmp}
+use Rattle.std.specs.Cmp.Lexicographic.{slice_cmp}
+
+-- whether a name is among these
+abbrev pub is_among : List ℕ → List (List ℕ) → Bool
+is_among name names = list_any (bytes_eq name) names
+
+-- whether the keys of a set have a name
+abbrev pub has : List ℕ → List (Vec ℕ Global) → Bool
+has name keys = list_any (λ k. is_eq (slice_cmp nat_cmp name k.items)) keys
+
+-- the keys of a set are these names
+abbrev pub HasNames : List (Vec ℕ Global) → List (List ℕ) → Type 0
+HasNames keys names = (q : List ℕ) → has q keys ≡ is_among q names
