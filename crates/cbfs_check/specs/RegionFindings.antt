@@ -1,7 +1,8 @@
 -- What is told of a region.
-use Rattle.std.specs.Prelude.{ℕ, ◌+◌, List, [], ◌∷◌, ◌++◌, length, is_some, ◌==◌, if◌then◌else◌}
+use Rattle.std.specs.Prelude.{ℕ, ◌+◌, Bool, List, [], ◌∷◌, ◌++◌, length, is_some, ◌==◌, if◌then◌else◌}
 use Rattle.flash_format.specs.declared.head.Head.{Head}
 use Rattle.flash_format.specs.Head.{head_of, is_free}
+use Rattle.flash_format.specs.Entry.{front}
 use Rattle.flash_format.specs.Cut.{Cut, End, complete, tail, damage, cut}
 use Rattle.flash_format.specs.Components.{cell_name, cell_attributes, cell_content}
 use Rattle.flash_format.specs.TypeNames.{name_of_type}
@@ -68,3 +69,7 @@ unfoldable pub region_findings : List ℕ → List RegionFinding
 region_findings x =
     refused_or fault_findings (shape x)
     (cells_findings [] 0 (cut x).cells ++ end_finding (place_after 0 (cut x).cells) (cut x).end ∷ Counts (counts x) ∷ [])
+
+-- the bytes begin with the head of an entry
+abbrev pub begins_with_entry : List ℕ → Bool
+begins_with_entry x = is_some (front x)

@@ -9,8 +9,10 @@ mod fault;
 mod finding;
 mod names;
 mod report;
+mod start;
 
 pub use check::check_region;
 pub use count::RegionCounts;
 pub use fault::RegionCheckFault;
 pub use finding::{ComponentFinding, Name, RegionFinding};
+pub use start::starts_with_entry;
