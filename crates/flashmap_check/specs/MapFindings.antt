@@ -111,6 +111,14 @@ abbrev pub findings_under : List ℕ → Option FoundMap → List MapFinding
 findings_under image None = findings.NoMap ∷ []
 findings_under image (Some map) = findings_of (length image) map (found_from (map.at + 1) image) (map_areas image map)
 
+-- the areas of the image's flashmap; none where it has none
+abbrev pub areas_under : List ℕ → Option FoundMap → List NumberedArea
+areas_under image None = []
+areas_under image (Some map) = map_areas image map
+
+unfoldable pub image_areas : List ℕ → List NumberedArea
+image_areas image = areas_under image (found_in image)
+
 -- what is told of the image's flashmap
 unfoldable pub map_findings : List ℕ → List MapFinding
 map_findings image = findings_under image (found_in image)

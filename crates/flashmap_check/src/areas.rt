@@ -19,6 +19,7 @@ pub fn map_areas<F: Flash>(
     requires { map.now.at + map_len map.now.head ≤ length (F.facts paged.old.device).content }
 
     ensures after { HasRead F.facts map.now.head.nareas (faults_told by_device result) paged.old paged.new }
+    ensures count { IfOk result (λ areas. length areas.items ≡ map.now.head.nareas) }
     ensures areas { OnHonest F.facts paged.old.device (λ image. IfOk result (λ areas. areas.items ≡ map_areas image map.now)) }
 {
     let mut areas = Vec::new(alloc);

@@ -1,13 +1,13 @@
 //! The whole check of a flashmap.
 
-ghost use Rattle.std.specs.Prelude.{◌≡◌, ◌+◌, ◌/◌, [], ◌∷◌, length, IfOk};
+ghost use Rattle.std.specs.Prelude.{◌≡◌, ◌+◌, ◌*◌, ◌/◌, ◌≤◌, [], ◌∷◌, length, IfOk};
 ghost use Rattle.flash_format.specs.Flashmap.{area_len};
 ghost use Rattle.flash_store.specs.Device.{faults_told};
 ghost use Rattle.flash_store.specs.Pages.{HasRead, OnHonest};
-ghost use Rattle.flashmap_check.specs.MapFindings.{by_device, map_findings};
+ghost use Rattle.flashmap_check.specs.MapFindings.{by_device, image_areas, map_findings};
 
 use crate::areas::map_areas;
-use crate::finding::{MapCheckFault, MapFinding};
+use crate::finding::{MapCheckFault, MapFinding, NumberedArea};
 use crate::findings::{findings_of, push_if};
 use flash_store::{Flash, Paged, find_fmap, find_fmap_from};
 use std::alloc::{AllocError, Global};
@@ -22,14 +22,39 @@ pub fn check_map<F: Flash>(
         + length (F.facts paged.old.device).content / area_len + 16) (faults_told by_device result) paged.old paged.new }
     ensures answer { OnHonest F.facts paged.old.device (λ image. IfOk result (λ findings. findings.items ≡ map_findings image)) }
 {
+    let map = checked_map(alloc, paged)?;
+    Ok(map.findings)
+}
+
+/// What is told of an image's flashmap, and the areas of which it is told.
+#[derive(Debug, Drop)]
+pub struct CheckedMap {
+    pub findings: Vec<MapFinding>,
+    /// All areas of the map, in its order; none where the image has no map.
+    pub areas: Vec<NumberedArea>,
+}
+
+/// What `check_map` tells, and the areas with it, for which the map is read once.
+pub fn checked_map<F: Flash>(
+    alloc: Global,
+    paged: &mut Paged<F>,
+) -> Result<CheckedMap, MapCheckFault>
+    ensures after { HasRead F.facts (length (F.facts paged.old.device).content
+        + length (F.facts paged.old.device).content / area_len + 16) (faults_told by_device result) paged.old paged.new }
+    ensures fits { IfOk result (λ map. area_len * length map.areas.items ≤ length (F.facts paged.old.device).content) }
+    ensures answer { OnHonest F.facts paged.old.device (λ image. IfOk result (λ map. map.findings.items ≡ map_findings image)) }
+    ensures areas { OnHonest F.facts paged.old.device (λ image. IfOk result (λ map. map.areas.items ≡ image_areas image)) }
+{
     let len = paged.len();
     let Some(map) = find_fmap(paged)? else {
-        return Ok(no_map(alloc)?);
+        let findings = no_map(alloc)?;
+        let areas = Vec::new(alloc);
+        return Ok(CheckedMap { findings, areas });
     };
     let next = find_fmap_from(paged, map.at + 1)?;
     let areas = map_areas(alloc, paged, &map)?;
     let findings = findings_of(alloc, len, &map, next, &areas)?;
-    Ok(findings)
+    Ok(CheckedMap { findings, areas })
 }
 
 /// What is told where there is no map.

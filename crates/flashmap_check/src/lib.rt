@@ -8,5 +8,5 @@ mod findings;
 mod names;
 mod overlaps;
 
-pub use check::check_map;
+pub use check::{CheckedMap, check_map, checked_map};
 pub use finding::{MapCheckFault, MapFinding, NumberedArea};
