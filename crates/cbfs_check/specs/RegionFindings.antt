@@ -3,7 +3,7 @@ use Rattle.std.specs.Prelude.{ℕ, ◌+◌, Bool, List, [], ◌∷◌, ◌++◌,
 use Rattle.flash_format.specs.declared.head.Head.{Head}
 use Rattle.flash_format.specs.Head.{head_of, is_free}
 use Rattle.flash_format.specs.Entry.{front}
-use Rattle.flash_format.specs.Cut.{Cut, End, complete, tail, damage, cut}
+use Rattle.flash_format.specs.Cut.{End, complete, tail, damage, cut}
 use Rattle.flash_format.specs.Components.{cell_name, cell_attributes, cell_content}
 use Rattle.flash_format.specs.TypeNames.{name_of_type}
 use Rattle.cbfs_walk.specs.Hashes.{hash_state}

@@ -9,10 +9,7 @@ use flash_store::{Flash, FlashFault, Paged, Region};
 
 /// Whether an entry begins at the region's start, sound or not, so that there is a CBFS to check. The region's size
 /// isn't looked at.
-pub fn starts_with_entry<F: Flash>(
-    paged: &mut Paged<F>,
-    region: Region,
-) -> Result<bool, FlashFault>
+pub fn starts_with_entry<F: Flash>(paged: &mut Paged<F>, region: Region) -> Result<bool, FlashFault>
     requires { LiesIn region (F.facts paged.old.device).content }
 
     // On any device.

@@ -1,4 +1,4 @@
-use Rattle.std.proofs.Common.{List, ℕ, refl}
+use Rattle.std.proofs.Common.{refl}
 use Rattle.flash_store.specs.Regions.{bytes_in}
 use Rattle.cbfs_walk.specs.Cells.{cell_in}
 use Rattle.cbfs_check.proofs.Telling.{counted_told}

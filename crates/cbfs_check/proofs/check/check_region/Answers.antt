@@ -1,4 +1,4 @@
-use Rattle.std.proofs.Common.{◌≡◌, List, refl, subst, rules}
+use Rattle.std.proofs.Common.{◌≡◌, List, refl, subst}
 use Rattle.std.specs.Prelude.{IfOk}
 use Rattle.cbfs_check.specs.declared.finding.RegionFinding.{RegionFinding}
 use Rattle.cbfs_check.proofs.Checking.{checking_start, checking_more, checking_end, checking_tail, checking_refused}

@@ -1,4 +1,4 @@
-use Rattle.std.proofs.Common.{◌≡◌, ◌≤◌, ℕ, ◌+◌, List, Ok, Option, ap, ◌∙◌, arith}
+use Rattle.std.proofs.Common.{◌≤◌, Ok, Option, ap, ◌∙◌, arith}
 use Rattle.std.specs.Prelude.{is_some}
 use Rattle.flash_format.specs.declared.head.Head.{Head}
 use Rattle.flash_store.specs.Regions.{bytes_in}
