@@ -1,3 +1,4 @@
 pub mod MapAreas
 pub mod Telling
 pub mod NameLemmas
+pub mod Sound

@@ -1,2 +1,3 @@
 pub mod MapFindings
 pub mod Names
+pub mod Laws

@@ -5,8 +5,10 @@ mod areas;
 mod check;
 mod finding;
 mod findings;
+mod laws;
 mod names;
 mod overlaps;
 
 pub use check::{CheckedMap, check_map, checked_map};
 pub use finding::{MapCheckFault, MapFinding, NumberedArea};
+pub use laws::untold_maps_are_sound;
