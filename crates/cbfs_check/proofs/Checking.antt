@@ -20,7 +20,7 @@ use Rattle.cbfs_walk.specs.declared.walk.WalkFault.{WalkFault}
 use Rattle.cbfs_walk.specs.declared.walk.WalkFault.TheVariants as walk
 use Rattle.cbfs_walk.proofs.Shapes.{shaped_step}
 use Rattle.cbfs_check.specs.Counts.{IsCountBefore, nothing, counts}
-use Rattle.cbfs_check.specs.RegionFindings.{names_after, cell_findings, cells_findings, end_finding, fault_findings, region_findings}
+use Rattle.cbfs_check.specs.RegionFindings.{names_after, cell_findings, cells_findings, end_finding, shape_findings, region_findings}
 use Rattle.cbfs_check.specs.Reports.{Told, told_nothing, told_cell, HasTold, refused_findings}
 use Rattle.cbfs_check.specs.declared.fault.RegionCheckFault.{RegionCheckFault}
 use Rattle.cbfs_check.specs.declared.fault.RegionCheckFault.TheVariants as check
@@ -41,7 +41,7 @@ tell_cell : List ℕ → Cell → (Told → List RegionFinding) → Told → Lis
 tell_cell x given later t = later (told_cell t given.at x)
 
 tell_fault : WalkFault → Told → List RegionFinding
-tell_fault fault t = t.findings ++ fault_findings fault
+tell_fault fault t = t.findings ++ shape_findings fault
 
 -- how the cells end, and the counts
 last : End → ℕ → RegionCounts → List RegionFinding
@@ -72,7 +72,7 @@ told_whole : (x : List ℕ) → region_findings x ≡ told_from x told_nothing 0
 unfolding told_from tell_fault region_findings shaped last
 told_whole x = go (shape x)
   where
-    go : (o : Option WalkFault) → refused_or fault_findings o (cells_findings [] 0 (cut x).cells ++ last (cut x).end (place_after 0 (cut x).cells) (counts x)) ≡ refused_or tell_fault o (tell_cut 0 (cut x)) told_nothing
+    go : (o : Option WalkFault) → refused_or shape_findings o (cells_findings [] 0 (cut x).cells ++ last (cut x).end (place_after 0 (cut x).cells) (counts x)) ≡ refused_or tell_fault o (tell_cut 0 (cut x)) told_nothing
     go None = whole_counts x
     go (Some fault) = refl
 

@@ -13,7 +13,7 @@ use Rattle.cbfs_walk.specs.Shaped.{place_after}
 use Rattle.cbfs_walk.specs.declared.walk.WalkFault.{WalkFault}
 use Rattle.cbfs_check.specs.Counts.{counts}
 use Rattle.cbfs_check.specs.Names.{is_among}
-use Rattle.cbfs_check.specs.RegionFindings.{free_findings, name_findings, component_findings, cells_findings, end_finding, fault_findings, region_findings}
+use Rattle.cbfs_check.specs.RegionFindings.{free_findings, name_findings, component_findings, cells_findings, end_finding, shape_findings, region_findings}
 use Rattle.cbfs_check.specs.declared.finding.ComponentFinding.TheVariants.{Shadowed}
 use Rattle.cbfs_check.specs.declared.finding.RegionFinding.{RegionFinding}
 use Rattle.cbfs_check.specs.declared.finding.RegionFinding.TheVariants as findings
@@ -134,7 +134,7 @@ pub unshadowed_first : (x : List ℕ) (c : Component) → shape x ≡ None → C
 unfolding region_findings IsNewIn
 unshadowed_first x c good listed none =
     (unshadowed [] 0 (cut x).cells c listed
-    (λ told. none (subst (λ (o : Option WalkFault). Contains (refused_or fault_findings o (cells_findings [] 0 (cut x).cells ++ last)) (shadowed c)) (sym good)
+    (λ told. none (subst (λ (o : Option WalkFault). Contains (refused_or shape_findings o (cells_findings [] 0 (cut x).cells ++ last)) (shadowed c)) (sym good)
     (Contains-append_left (cells_findings [] 0 (cut x).cells) last _ told)))).1
   where
     last : List RegionFinding

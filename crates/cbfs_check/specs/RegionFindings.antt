@@ -57,17 +57,16 @@ end_finding at complete = Complete
 end_finding at tail = Tail at
 end_finding at (damage kind) = Damaged at kind
 
--- why a walk gives no cell; a device's fault is no finding
-abbrev pub fault_findings : WalkFault → List RegionFinding
-fault_findings walk.RegionShape = BadSize ∷ []
-fault_findings walk.NotCbfs = NotCbfs ∷ []
-fault_findings (walk.Damaged at kind) = Damaged at kind ∷ []
-fault_findings walk.Device = []
+-- of a bad shape; no other fault of a walk is one
+abbrev pub shape_findings : WalkFault → List RegionFinding
+shape_findings walk.RegionShape = BadSize ∷ []
+shape_findings walk.NotCbfs = NotCbfs ∷ []
+shape_findings _ = []
 
 -- what is told of a region of these bytes: its shape alone where that is bad, or else each cell, the end and the counts
 unfoldable pub region_findings : List ℕ → List RegionFinding
 region_findings x =
-    refused_or fault_findings (shape x)
+    refused_or shape_findings (shape x)
     (cells_findings [] 0 (cut x).cells ++ end_finding (place_after 0 (cut x).cells) (cut x).end ∷ Counts (counts x) ∷ [])
 
 -- the bytes begin with the head of an entry

@@ -3,7 +3,7 @@ use Rattle.std.specs.Prelude.{◌≡◌, ℕ, List, [], ◌∷◌, ◌++◌, len
 use Rattle.flash_format.specs.Head.{head_of, is_free}
 use Rattle.cbfs_check.specs.Counts.{nothing, counted}
 use Rattle.cbfs_check.specs.Names.{HasNames}
-use Rattle.cbfs_check.specs.RegionFindings.{cell_findings, names_after}
+use Rattle.cbfs_check.specs.RegionFindings.{cell_findings, names_after, shape_findings}
 use Rattle.cbfs_check.specs.declared.count.Count.{Count}
 use Rattle.cbfs_check.specs.declared.fault.RegionCheckFault.{RegionCheckFault}
 use Rattle.cbfs_check.specs.declared.finding.RegionFinding.{RegionFinding}
@@ -45,6 +45,4 @@ TellsMore result old new more = OnOk result ((t : Told) → HasTold old t → Ha
 -- all that is told where a walk ends by a fault
 abbrev pub refused_findings : List RegionFinding → RegionCounts → WalkFault → List RegionFinding
 refused_findings told counts (walk.Damaged at kind) = told ++ findings.Damaged at kind ∷ findings.Counts counts ∷ []
-refused_findings told counts walk.RegionShape = told ++ findings.BadSize ∷ []
-refused_findings told counts walk.NotCbfs = told ++ findings.NotCbfs ∷ []
-refused_findings told counts walk.Device = told
+refused_findings told counts fault = told ++ shape_findings fault
