@@ -174,6 +174,25 @@ fn areas_that_should_hold_the_map(rt: HostRuntime) {
     tells(&rt, image(&rt, 512, &[A, FMAP_SHORT]), "map 0, misses 1, ");
 }
 
+/// A map of so many areas without names or bytes, up to its image's end, has this many findings.
+fn has_so_many(rt: &(impl Abort + AllocGlobal), areas: u16, expected: usize) {
+    let len = usize::from(areas) * 42 + 56;
+    let mut bytes = Vec::from_elem(rt.alloc(), 0, len).expect(rt, "memory");
+    put(&mut bytes, 0, &HEAD);
+    put(&mut bytes, 54, &areas.to_le_bytes());
+    let mut paged = Paged::new(MemFlash::new(bytes).expect(rt, "a device"));
+    let findings = check_map(rt.alloc(), &mut paged).expect(rt, "findings");
+    assert_eq!(rt; findings.len(), expected);
+}
+
+// Besides each area, and each but the first by its name: where the map is, its size, no FMAP, and from 4097 areas on that
+// they aren't compared.
+#[test]
+fn as_many_areas_as_are_compared(rt: HostRuntime) {
+    has_so_many(&rt, 4096, 4096 + 4095 + 3);
+    has_so_many(&rt, 4097, 4097 + 4096 + 4);
+}
+
 /// A refused call of the device is told as a fault, and nothing else.
 fn refused_at(rt: &(impl Abort + AllocGlobal), k: u64) {
     let device = MemFlash::new(image(rt, 8192, &[FMAP, A])).expect(rt, "a device");
