@@ -1,0 +1,135 @@
+-- What is told by the choices of a plan, one taken after the other.
+use Rattle.std.proofs.Common.{◌≡◌, ◌∙◌, ℕ, ◌+◌, ◌-◌, ◌*◌, ◌/◌, ◌<◌, ◌≤◌, IsTrue, List, [], ◌∷◌, ◌++◌, length, refl, sym, ap, subst, arith, append_assoc, append-nil, length-append}
+use Rattle.std.specs.Prelude.{map, Result, Ok, Err, IsErrAnd}
+use Rattle.flash_store.specs.Device.{Device, faults_told}
+use Rattle.flash_store.specs.Pages.{Pages, HasRead, OnHonest}
+use Rattle.flash_store.specs.Regions.{Range}
+use Rattle.flash_store.proofs.DeviceLemmas.{honest_still}
+use Rattle.flash_store.proofs.WindowLemmas.{HasRead-none, HasRead-then, HasRead-within}
+use Rattle.flashmap_check.specs.declared.finding.MapFinding.{MapFinding}
+use Rattle.flashmap_check.specs.declared.finding.NumberedArea.{NumberedArea}
+use Rattle.flashmap_check.specs.MapFindings.{map_findings, image_areas}
+use Rattle.image_check.specs.declared.fault.ImageCheckFault.{ImageCheckFault}
+use Rattle.image_check.specs.declared.finding.ImageFinding.{ImageFinding}
+use Rattle.image_check.specs.declared.finding.ImageFinding.TheVariants.{Map}
+use Rattle.image_check.specs.declared.plan.Choice.{Choice}
+use Rattle.image_check.specs.declared.plan.Choice.TheVariants.{Look, Skip}
+use Rattle.image_check.specs.Faults.{by_device}
+use Rattle.image_check.specs.ImageFindings.{looked, image_findings}
+use Rattle.image_check.specs.Plans.{told_of, told_before, Descend, LiesBelow, calls_of}
+use Rattle.image_check.proofs.Planning.{told_before-more}
+
+-- where what is left may begin, once this is looked at
+abbrev pub place_after : ℕ → Choice → ℕ
+place_after at (Look a region) = region.start + region.size
+place_after at (Skip a) = at
+
+LiesBelow-within : (low end : ℕ) (c : Choice) → low ≤ end → LiesBelow low c → LiesBelow end c
+LiesBelow-within low end (Look a r) le lies = let fits : r.start + r.size ≤ end = omega arith in fits
+LiesBelow-within low end (Skip a) le lies = tt
+
+pub Descend-rest : (end : ℕ) (choices : List Choice) (c : Choice) (at : ℕ) → Descend end (choices ++ c ∷ []) at → Descend end choices (place_after at c)
+Descend-rest end [] (Look a r) at d = d.0
+Descend-rest end [] (Skip a) at d = d
+Descend-rest end (Look b s ∷ choices) c at d = (d.0, Descend-rest s.start choices c at d.1)
+Descend-rest end (Skip b ∷ choices) c at d = Descend-rest end choices c at d
+
+pub Descend-lies : (end : ℕ) (choices : List Choice) (c : Choice) (at : ℕ) → Descend end (choices ++ c ∷ []) at → LiesBelow end c
+Descend-lies end [] (Look a r) at d = d.0
+Descend-lies end [] (Skip a) at d = tt
+Descend-lies end (Look b s ∷ choices) c at d = LiesBelow-within s.start end c (omega (arith, d.0)) (Descend-lies s.start choices c at d.1)
+Descend-lies end (Skip b ∷ choices) c at d = Descend-lies end choices c at d
+
+pub Descend-calls : (end : ℕ) (choices : List Choice) (c : Choice) (at : ℕ) → Descend end (choices ++ c ∷ []) at → at / 16 + calls_of c ≤ place_after at c / 16 + 2
+Descend-calls end [] (Look a r) at d = omega (arith, d.1)
+Descend-calls end [] (Skip a) at d = omega arith
+Descend-calls end (Look b s ∷ choices) c at d = Descend-calls s.start choices c at d.1
+Descend-calls end (Skip b ∷ choices) c at d = Descend-calls end choices c at d
+
+pub Descend-ends : (end : ℕ) (choices : List Choice) (at : ℕ) → Descend end choices at → at ≤ end
+Descend-ends end [] at d = d
+Descend-ends end (Look b s ∷ choices) at d = let inner : at ≤ s.start = Descend-ends s.start choices at d.1 in omega (arith, d.0)
+Descend-ends end (Skip b ∷ choices) at d = Descend-ends end choices at d
+
+-- an answer that hands a fault on tells of it
+pub handed : {T : Type 0} (answer : Result T ImageCheckFault) (fault : ImageCheckFault) → IsErrAnd answer (λ f. f ≡ fault) → faults_told by_device answer ≡ by_device fault
+handed (Ok done) fault is = absurd is
+handed (Err other) fault is = ap by_device is
+
+-- ---- the loop
+
+-- these choices are left of all
+pub record Checking {F : Type 0} (facts : F → Device) (all choices : List Choice) (before findings : List ImageFinding) (old now : Pages F) : Type 0 where
+  pub at : ℕ
+  pub descend : Descend (length (facts old.device).content) choices at
+  pub fewer : length choices ≤ length all
+  pub read : HasRead facts (at / 16 + 2 * (length all - length choices)) 0 old now
+  pub told : OnHonest facts old.device (λ image. findings ++ told_before image choices [] ≡ before ++ told_before image all [])
+
+pub checking_start : {F : Type 0} (facts : F → Device) (all : List Choice) (before : List ImageFinding) (old : Pages F) → Descend (length (facts old.device).content) all 0 → Checking facts all all before before old old
+checking_start facts all before old descend = record {
+  at = 0;
+  descend = descend;
+  fewer = omega arith;
+  read = HasRead-within facts 0 (0 / 16 + 2 * (length all - length all)) 0 old old (omega arith) (HasRead-none facts old);
+  told = λ h. refl;
+}
+
+module _ {F : Type 0} (facts : F → Device) (all choices rest : List Choice) (c : Choice) (before findings : List ImageFinding) (old now : Pages F) (i : Checking facts all choices before findings old now) (popped : choices ≡ rest ++ c ∷ []) where
+  descend : Descend (length (facts old.device).content) (rest ++ c ∷ []) i.at
+  descend = rw popped at i.descend
+
+  one : length choices ≡ length rest + 1
+  one = ap length popped ∙ length-append rest (c ∷ [])
+
+  pub checking_lies : LiesBelow (length (facts now.device).content) c
+  checking_lies = subst (λ n. LiesBelow n c) (sym i.read.device.calls.same_length) (Descend-lies _ rest c i.at descend)
+
+  -- what was read, with the reads of one choice more
+  pub checking_reads : (refused : ℕ) (new : Pages F) → HasRead facts (calls_of c) refused now new → HasRead facts (length (facts old.device).content / 16 + 2 * length all) refused old new
+  checking_reads refused new reads =
+      let few = Descend-calls _ rest c i.at descend in
+      let ends = Descend-ends _ rest _ (Descend-rest _ rest c i.at descend) in
+      HasRead-within facts (i.at / 16 + 2 * (length all - length choices) + calls_of c) _ refused old new (omega (arith, few, ends, one, i.fewer)) (HasRead-then facts _ _ refused old now new i.read reads)
+
+  pub checking_more : (finding : ImageFinding) (next : List ImageFinding) (new : Pages F) → HasRead facts (calls_of c) 0 now new
+      → OnHonest facts now.device (λ image. finding ≡ told_of image c) → next ≡ findings ++ finding ∷ []
+      → Checking facts all rest before next old new
+  checking_more finding next new reads tells pushed = record {
+    at = place_after i.at c;
+    descend = Descend-rest _ rest c i.at descend;
+    fewer = omega (arith, one, i.fewer);
+    read = HasRead-within facts (i.at / 16 + 2 * (length all - length choices) + calls_of c) _ 0 old new (omega (arith, Descend-calls _ rest c i.at descend, one, i.fewer)) (HasRead-then facts _ _ 0 old now new i.read reads);
+    told = λ h.
+        let image = (facts old.device).content in
+        let same = i.read.device.unchanged h in
+        let is : finding ≡ told_of image c = rw same at (tells (honest_still i.read.device.calls.same_honesty h)) in
+        let later = told_before image rest [] in
+        ap (λ (l : List ImageFinding). l ++ later) pushed
+        ∙ append_assoc findings (finding ∷ []) later
+        ∙ ap (λ (f : ImageFinding). findings ++ f ∷ later) is
+        ∙ ap (λ (l : List ImageFinding). findings ++ l) (sym (told_before-more image rest c []) ∙ ap (λ (l : List Choice). told_before image l []) (sym popped))
+        ∙ i.told h;
+  }
+
+-- or none is left
+module _ {F : Type 0} (facts : F → Device) (all choices : List Choice) (before findings : List ImageFinding) (old now : Pages F) (i : Checking facts all choices before findings old now) (none : length choices ≡ 0) where
+  pub checked_reads : HasRead facts (length (facts old.device).content / 16 + 2 * length all) 0 old now
+  checked_reads = HasRead-within facts (i.at / 16 + 2 * (length all - length choices)) _ 0 old now (omega (arith, Descend-ends _ choices i.at i.descend)) i.read
+
+  pub checked_all : OnHonest facts old.device (λ image. findings ≡ before ++ told_before image all [])
+  checked_all = λ h. sym (append-nil findings) ∙ ap (λ (l : List ImageFinding). findings ++ l) (sym (empty choices none _)) ∙ i.told h
+    where
+      empty : (l : List Choice) → length l ≡ 0 → (image : List ℕ) → told_before image l [] ≡ []
+      empty [] e image = refl
+      empty (c ∷ l) e image = absurd (omega arith)
+
+-- ---- the whole
+
+pub told-image : (image : List ℕ) (of_map : List MapFinding) (areas : List NumberedArea) (choices : List Choice) (first all : List ImageFinding)
+    → first ≡ map Map of_map → of_map ≡ map_findings image → told_before image choices [] ≡ (looked image areas).findings → areas ≡ image_areas image → all ≡ first ++ told_before image choices [] → all ≡ image_findings image
+unfolding image_findings
+told-image image of_map areas choices first all is from_map told listed same =
+    same
+    ∙ ap (λ (l : List ImageFinding). l ++ told_before image choices []) (is ∙ ap (map Map) from_map)
+    ∙ ap (λ (l : List ImageFinding). map Map (map_findings image) ++ l) (told ∙ ap (λ (l : List NumberedArea). (looked image l).findings) listed)

@@ -1,0 +1,41 @@
+-- What a plan says of the last areas of a map.
+use Rattle.std.specs.Prelude.{◌≡◌, ℕ, ◌+◌, ◌/◌, ◌≤◌, List, [], ◌∷◌}
+use Rattle.flash_store.specs.Regions.{Range, bytes_in}
+use Rattle.cbfs_check.specs.RegionFindings.{region_findings}
+use Rattle.image_check.specs.declared.finding.ImageFinding.{ImageFinding}
+use Rattle.image_check.specs.declared.finding.ImageFinding.TheVariants.{Skipped, Region}
+use Rattle.image_check.specs.declared.plan.Choice.{Choice}
+use Rattle.image_check.specs.declared.plan.Choice.TheVariants.{Look, Skip}
+use Rattle.image_check.specs.declared.plan.Plan.{Plan}
+use Rattle.image_check.specs.ImageFindings.{Looked}
+
+-- what an area tells of which so much is decided
+abbrev pub told_of : List ℕ → Choice → ImageFinding
+told_of image (Look a region) = Region a (region_findings (bytes_in region image))
+told_of image (Skip a) = Skipped a
+
+-- what these tell from the last one on, before what is told already
+abbrev pub told_before : List ℕ → List Choice → List ImageFinding → List ImageFinding
+told_before image [] later = later
+told_before image (c ∷ choices) later = told_before image choices (told_of image c ∷ later)
+
+-- the plan tells what these areas tell
+pub record IsPlanOf (image : List ℕ) (plan : Plan) (later : Looked) : Type 0 where
+  pub told : told_before image plan.choices.items [] ≡ later.findings
+  pub lowest : plan.lowest ≡ later.lowest
+
+-- what is looked at lies one before the other, below an end and not below a place
+abbrev pub Descend : ℕ → List Choice → ℕ → Type 0
+Descend end [] at = at ≤ end
+Descend end (Look a region ∷ choices) at = (region.start + region.size ≤ end) × Descend region.start choices at
+Descend end (Skip a ∷ choices) at = Descend end choices at
+
+-- it lies inside an image of so many bytes
+abbrev pub LiesBelow : ℕ → Choice → Type 0
+LiesBelow end (Look a region) = region.start + region.size ≤ end
+LiesBelow end (Skip a) = Unit {0}
+
+-- how many calls it takes
+abbrev pub calls_of : Choice → ℕ
+calls_of (Look a region) = region.size / 16 + 2
+calls_of (Skip a) = 0

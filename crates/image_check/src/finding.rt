@@ -1,0 +1,51 @@
+//! What is told of an image.
+ghost use Rattle.std.specs.Prelude.{◌≡◌};
+
+use cbfs_check::RegionFinding;
+use flashmap_check::{MapFinding, NumberedArea};
+use std::marker::Model;
+
+/// What is told of one region.
+#[derive(Debug, Drop)]
+pub struct RegionFindings {
+    findings: Vec<RegionFinding>,
+}
+
+impl Model for RegionFindings {
+    ghost use Rattle.std.specs.Prelude.{List};
+    ghost use Rattle.cbfs_check.specs.declared.finding.RegionFinding.{RegionFinding};
+
+    ghost Value = { List RegionFinding };
+
+    ghost view = { λ n. n.findings.items };
+}
+
+impl RegionFindings {
+    /// These findings, in their order.
+    pub fn new(findings: Vec<RegionFinding>) -> RegionFindings
+        ensures { result ≡ findings.items }
+    {
+        RegionFindings { findings }
+    }
+
+    /// The findings, in their order.
+    pub fn as_slice(&self) -> &[RegionFinding]
+        ensures { result.now ≡ self.now }
+    {
+        self.findings.as_slice()
+    }
+}
+
+/// One thing that is told of an image.
+#[derive(Debug, Drop)]
+pub enum ImageFinding {
+    /// Something of the image's flashmap.
+    Map(MapFinding),
+    /// The area would be looked at, but it meets an area behind it in the map that is.
+    Skipped(NumberedArea),
+    /// What is told of the CBFS region that the area is.
+    Region {
+        area: NumberedArea,
+        findings: RegionFindings,
+    },
+}

@@ -1,0 +1,163 @@
+//! The check of an image.
+ghost use Rattle.std.specs.Prelude.{◌≡◌, ℕ, ◌+◌, ◌*◌, ◌/◌, ◌≤◌, [], ◌∷◌, ◌++◌, length, map, is_some, OnOk, IfOk};
+ghost use Rattle.flash_format.specs.Entry.{front};
+ghost use Rattle.flash_store.specs.Device.{faults_told};
+ghost use Rattle.flash_store.specs.Pages.{HasRead, HasAnswered, OnHonest, OnHonestIn};
+ghost use Rattle.flash_store.specs.Regions.{LiesIn};
+ghost use Rattle.image_check.specs.declared.finding.ImageFinding.TheVariants.{Map};
+ghost use Rattle.image_check.specs.Faults.{by_device};
+ghost use Rattle.image_check.specs.ImageFindings.{Looked, begins_with_entry, look_if_wanted, looked, image_findings};
+ghost use Rattle.image_check.specs.Plans.{IsPlanOf, Descend, LiesBelow, told_of, told_before, calls_of};
+
+use crate::fault::ImageCheckFault;
+use crate::finding::{ImageFinding, RegionFindings};
+use crate::plan::{Choice, Plan};
+use cbfs_check::check_region;
+use flash_format::Head;
+use flash_store::{Flash, FlashFault, Paged, Region};
+use flashmap_check::{MapFinding, NumberedArea, checked_map};
+use std::alloc::{AllocError, Global};
+
+/// Whether the region begins with an entry, whole or damaged.
+fn begins_with_entry<F: Flash>(paged: &mut Paged<F>, region: Region) -> Result<bool, FlashFault>
+    requires { LiesIn region (F.facts paged.old.device).content }
+
+    ensures after { HasAnswered F.facts 1 paged.old paged.new result }
+    ensures begins { OnHonestIn F.facts paged.old.device region (λ x. IfOk result (λ begins. begins ≡ begins_with_entry x)) }
+{
+    if region.size() < 24 {
+        return Ok(false);
+    }
+    let mut bytes = [0; 24];
+    paged.read_small(region.start(), &mut bytes)?;
+    Ok(Head::read(&bytes).is_some())
+}
+
+/// Decides what is done with an area before those of the plan.
+fn plan_area<F: Flash>(
+    paged: &mut Paged<F>,
+    area: NumberedArea,
+    plan: &mut Plan,
+) -> Result<(), ImageCheckFault>
+    ensures after { HasRead F.facts 1 (faults_told by_device result) paged.old paged.new }
+    ensures told { OnHonest F.facts paged.old.device (λ image. (later : Looked) → IsPlanOf image plan.old later →
+        OnOk result (IsPlanOf image plan.new (look_if_wanted image area later))) }
+    ensures descend { (end : ℕ) → Descend end plan.old.choices.items plan.old.lowest → OnOk result
+        (Descend end plan.new.choices.items plan.new.lowest) }
+    ensures count { OnOk result (length plan.new.choices.items ≤ length plan.old.choices.items + 1) }
+{
+    let start = u64::from(area.area.offset);
+    let size = u64::from(area.area.size);
+    let Some(region) = Region::within(start, size, paged.len()) else {
+        return Ok(());
+    };
+    if begins_with_entry(paged, region)? {
+        plan.add(area, region)?;
+    }
+    Ok(())
+}
+
+/// What is done with these areas of the map, the last one first.
+fn planned<F: Flash>(
+    alloc: Global,
+    paged: &mut Paged<F>,
+    areas: &[NumberedArea],
+) -> Result<Vec<Choice>, ImageCheckFault>
+    ensures after { HasRead F.facts (length areas.now) (faults_told by_device result) paged.old paged.new }
+    ensures told { OnHonest F.facts paged.old.device (λ image. IfOk result (λ choices.
+        told_before image choices.items [] ≡ (looked image areas.now).findings)) }
+    ensures descend { IfOk result (λ choices. Descend (length (F.facts paged.old.device).content) choices.items 0) }
+    ensures count { IfOk result (λ choices. length choices.items ≤ length areas.now) }
+{
+    let mut plan = Plan::new(alloc, paged.len());
+    let mut left = areas.len();
+    while left > 0 {
+        left -= 1;
+        plan_area(paged, areas[left], &mut plan)?;
+    }
+    Ok(plan.choices)
+}
+
+/// Tells what an area tells of which so much is decided.
+fn check_choice<F: Flash>(
+    alloc: Global,
+    paged: &mut Paged<F>,
+    choice: Choice,
+) -> Result<ImageFinding, ImageCheckFault>
+    requires { LiesBelow (length (F.facts paged.old.device).content) choice }
+
+    ensures after { HasRead F.facts (calls_of choice) (faults_told by_device result) paged.old paged.new }
+    ensures told { OnHonest F.facts paged.old.device (λ image. IfOk result (λ finding. finding ≡ told_of image choice)) }
+{
+    match choice {
+        Choice::Look { area, region } => {
+            let findings = RegionFindings::new(check_region(alloc, paged, region)?);
+            Ok(ImageFinding::Region { area, findings })
+        }
+        Choice::Skip(area) => Ok(ImageFinding::Skipped(area)),
+    }
+}
+
+fn push(findings: &mut Vec<ImageFinding>, finding: ImageFinding) -> Result<(), AllocError>
+    ensures { OnOk result (findings.new.items ≡ findings.old.items ++ finding ∷ []) }
+{
+    match findings.push(finding) {
+        Ok(()) => Ok(()),
+        Err(_) => Err(AllocError),
+    }
+}
+
+/// Tells what these areas tell, from the last one on.
+fn check_planned<F: Flash>(
+    alloc: Global,
+    paged: &mut Paged<F>,
+    choices: Vec<Choice>,
+    findings: &mut Vec<ImageFinding>,
+) -> Result<(), ImageCheckFault>
+    requires { Descend (length (F.facts paged.old.device).content) choices.items 0 }
+
+    ensures after { HasRead F.facts (length (F.facts paged.old.device).content / 16 + 2 * length choices.items)
+        (faults_told by_device result) paged.old paged.new }
+    ensures told { OnHonest F.facts paged.old.device (λ image. OnOk result
+        (findings.new.items ≡ findings.old.items ++ told_before image choices.items [])) }
+{
+    let mut choices = choices;
+    while let Some(choice) = choices.pop() {
+        let finding = check_choice(alloc, paged, choice)?;
+        push(findings, finding)?;
+    }
+    Ok(())
+}
+
+/// What is told of the image's flashmap.
+fn map_part(alloc: Global, told: &[MapFinding]) -> Result<Vec<ImageFinding>, AllocError>
+    ensures { IfOk result (λ findings. findings.items ≡ map Map told.now) }
+{
+    let mut findings = Vec::new(alloc);
+    for finding in told {
+        push(&mut findings, ImageFinding::Map(*finding))?;
+    }
+    Ok(findings)
+}
+
+/// All that is told of an image: of its flashmap, and of each area in it that begins with an entry, in the map's order.
+/// `Device` comes exactly where the device refused a read, and `Memory` where an allocation was refused; then nothing is
+/// told.
+pub fn check_image<F: Flash>(
+    alloc: Global,
+    paged: &mut Paged<F>,
+) -> Result<Vec<ImageFinding>, ImageCheckFault>
+    // On any device.
+    ensures after { HasRead F.facts (2 * length (F.facts paged.old.device).content + 64)
+        (faults_told by_device result) paged.old paged.new }
+
+    // On an honest device.
+    ensures findings { OnHonest F.facts paged.old.device (λ image. IfOk result (λ findings.
+        findings.items ≡ image_findings image)) }
+{
+    let map = checked_map(alloc, paged)?;
+    let mut findings = map_part(alloc, &map.findings)?;
+    let choices = planned(alloc, paged, &map.areas)?;
+    check_planned(alloc, paged, choices, &mut findings)?;
+    Ok(findings)
+}

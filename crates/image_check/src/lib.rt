@@ -1,0 +1,13 @@
+//! Tells whether an image is fit to be flashed: its flashmap, and each CBFS region in it.
+//!
+//! A check takes memory for what it tells, and writes nothing.
+#![tactic(auto)]
+
+mod fault;
+mod finding;
+mod image;
+mod plan;
+
+pub use fault::ImageCheckFault;
+pub use finding::{ImageFinding, RegionFindings};
+pub use image::check_image;
