@@ -1,10 +1,9 @@
 -- What is told of an image. What is told, and in which order, is this project's own.
-use Rattle.std.specs.Prelude.{ℕ, Bool, ◌&&◌, List, [], ◌∷◌, ◌++◌, length, map, nat_le, is_some, if◌then◌else◌}
-use Rattle.flash_format.specs.Entry.{front}
+use Rattle.std.specs.Prelude.{ℕ, Bool, ◌&&◌, List, [], ◌∷◌, ◌++◌, length, map, nat_le, if◌then◌else◌}
 use Rattle.flash_store.specs.Regions.{Range, bytes_in}
 use Rattle.flashmap_check.specs.declared.finding.NumberedArea.{NumberedArea}
 use Rattle.flashmap_check.specs.MapFindings.{area_end, image_areas, map_findings}
-use Rattle.cbfs_check.specs.RegionFindings.{region_findings}
+use Rattle.cbfs_check.specs.RegionFindings.{begins_with_entry, region_findings}
 use Rattle.image_check.specs.declared.finding.ImageFinding.{ImageFinding}
 use Rattle.image_check.specs.declared.finding.ImageFinding.TheVariants.{Map, Skipped, Region}
 
@@ -15,10 +14,6 @@ range_of a = record { start = a.area.offset; size = a.area.size }
 -- the area's bytes
 abbrev pub bytes_of : List ℕ → NumberedArea → List ℕ
 bytes_of image a = bytes_in (range_of a) image
-
--- these bytes begin with an entry, whole or damaged
-abbrev pub begins_with_entry : List ℕ → Bool
-begins_with_entry x = is_some (front x)
 
 -- the area lies inside the image, and begins with an entry
 abbrev pub is_wanted : List ℕ → NumberedArea → Bool

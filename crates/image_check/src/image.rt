@@ -1,37 +1,20 @@
 //! The check of an image.
-ghost use Rattle.std.specs.Prelude.{◌≡◌, ℕ, ◌+◌, ◌*◌, ◌/◌, ◌≤◌, [], ◌∷◌, ◌++◌, length, map, is_some, OnOk, IfOk};
-ghost use Rattle.flash_format.specs.Entry.{front};
+ghost use Rattle.std.specs.Prelude.{◌≡◌, ℕ, ◌+◌, ◌*◌, ◌/◌, ◌≤◌, [], ◌∷◌, ◌++◌, length, map, OnOk, IfOk};
 ghost use Rattle.flash_store.specs.Device.{faults_told};
-ghost use Rattle.flash_store.specs.Pages.{HasRead, HasAnswered, OnHonest, OnHonestIn};
+ghost use Rattle.flash_store.specs.Pages.{HasRead, OnHonest};
 ghost use Rattle.flash_store.specs.Regions.{LiesIn};
 ghost use Rattle.image_check.specs.declared.finding.ImageFinding.TheVariants.{Map};
 ghost use Rattle.image_check.specs.Faults.{by_device};
-ghost use Rattle.image_check.specs.ImageFindings.{Looked, begins_with_entry, look_if_wanted, looked, image_findings};
+ghost use Rattle.image_check.specs.ImageFindings.{Looked, look_if_wanted, looked, image_findings};
 ghost use Rattle.image_check.specs.Plans.{IsPlanOf, Descend, LiesBelow, told_of, told_before, calls_of};
 
 use crate::fault::ImageCheckFault;
 use crate::finding::{ImageFinding, RegionFindings};
 use crate::plan::{Choice, Plan};
-use cbfs_check::check_region;
-use flash_format::Head;
-use flash_store::{Flash, FlashFault, Paged, Region};
+use cbfs_check::{check_region, starts_with_entry};
+use flash_store::{Flash, Paged, Region};
 use flashmap_check::{MapFinding, NumberedArea, checked_map};
 use std::alloc::{AllocError, Global};
-
-/// Whether the region begins with an entry, whole or damaged.
-fn begins_with_entry<F: Flash>(paged: &mut Paged<F>, region: Region) -> Result<bool, FlashFault>
-    requires { LiesIn region (F.facts paged.old.device).content }
-
-    ensures after { HasAnswered F.facts 1 paged.old paged.new result }
-    ensures begins { OnHonestIn F.facts paged.old.device region (λ x. IfOk result (λ begins. begins ≡ begins_with_entry x)) }
-{
-    if region.size() < 24 {
-        return Ok(false);
-    }
-    let mut bytes = [0; 24];
-    paged.read_small(region.start(), &mut bytes)?;
-    Ok(Head::read(&bytes).is_some())
-}
 
 /// Decides what is done with an area before those of the plan.
 fn plan_area<F: Flash>(
@@ -51,7 +34,7 @@ fn plan_area<F: Flash>(
     let Some(region) = Region::within(start, size, paged.len()) else {
         return Ok(());
     };
-    if begins_with_entry(paged, region)? {
+    if starts_with_entry(paged, region)? {
         plan.add(area, region)?;
     }
     Ok(())
