@@ -1,10 +1,10 @@
-use Rattle.std.proofs.Common.{◌≡◌, inl, inr, List, ℕ, IsTrue, Err, ap, ◌∙◌, sym, refl, rules, arith}
+use Rattle.std.proofs.Common.{inl, inr, List, ℕ, IsTrue, Err, ap, ◌∙◌, sym, rules, arith}
 use Rattle.flash_store.specs.Regions.{bytes_in}
 use Rattle.flash_store.proofs.DeviceLemmas.{honest_still}
 use Rattle.cbfs_edit.specs.Additions.{added_to, new_component, placed_of}
 use Rattle.cbfs_edit.specs.declared.fault.EditFault.TheVariants as faults
-use Rattle.cbfs_edit.proofs.Added.{by-fault, own-refused, own-by-fault}
-use Rattle.cbfs_edit.proofs.Adding.{told, told_as, refused_as, digest-sized, found_in, place_found, image_of, written, source_leaves, device_leaves}
+use Rattle.cbfs_edit.proofs.Added.{own-refused}
+use Rattle.cbfs_edit.proofs.Adding.{told, digest-sized, found_in, place_found, image_of, written, source_leaves, device_leaves}
 use Rattle.cbfs_edit.proofs.addition.add.Goals as goal
 
 pub returns-in-Ok-insert-clause-before : goal.returns-in-Ok-insert-clause-before

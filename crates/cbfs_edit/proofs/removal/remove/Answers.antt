@@ -1,4 +1,4 @@
-use Rattle.std.proofs.Common.{arith, rules}
+use Rattle.std.proofs.Common.{rules}
 use Rattle.flash_store.proofs.DeviceLemmas.{honest_still}
 use Rattle.cbfs_edit.proofs.Removals.{image_removed, removal_leaves}
 use Rattle.cbfs_edit.proofs.removal.remove.Goals as goal
