@@ -9,7 +9,7 @@ use crate::findings::push_if;
 use flash_format::Area;
 use std::alloc::AllocError;
 
-/// How many areas are compared, each with each: more would take seconds, and no board has so many.
+/// How many areas are compared, each with each. All that a map can have would take seconds.
 const MOST_COMPARED: usize = 4096;
 
 /// Pushes what is told of each area that overlaps another one.
