@@ -75,16 +75,16 @@ descend_look end choices next a r at start d pushed range is fits =
 -- ---- the loop
 
 -- the areas from one on are planned
-pub record Planning {F : Type 0} (facts : F → Device) (areas : List NumberedArea) (left : ℕ) (plan : Plan) (old now : Pages F) : Type 0 where
+pub record Planning {F : Type 0} (facts : F → Device) (names : List (List ℕ)) (areas : List NumberedArea) (left : ℕ) (plan : Plan) (old now : Pages F) : Type 0 where
   pub fits : left ≤ length areas
   pub read : HasRead facts (length areas - left) 0 old now
-  pub told : OnHonest facts old.device (λ image. IsPlanOf image plan (looked image (drop left areas)))
+  pub told : OnHonest facts old.device (λ image. IsPlanOf image plan (looked image names (drop left areas)))
   pub descend : Descend (length (facts old.device).content) plan.choices.items plan.lowest
   pub count : length plan.choices.items + left ≤ length areas
 
-pub planning_start : {F : Type 0} (facts : F → Device) (areas : List NumberedArea) (plan : Plan) (old : Pages F) → plan.choices.items ≡ [] → plan.lowest ≡ length (facts old.device).content → Planning facts areas (length areas) plan old old
+pub planning_start : {F : Type 0} (facts : F → Device) (names : List (List ℕ)) (areas : List NumberedArea) (plan : Plan) (old : Pages F) → plan.choices.items ≡ [] → plan.lowest ≡ length (facts old.device).content → Planning facts names areas (length areas) plan old old
 unfolding looked
-planning_start facts areas plan old none lowest = record {
+planning_start facts names areas plan old none lowest = record {
   fits = omega arith;
   read = HasRead-within facts 0 (length areas - length areas) 0 old old (omega arith) (HasRead-none facts old);
   told = λ h. rw (drop-length areas) (record { told = rw none refl; lowest = lowest });
@@ -92,19 +92,19 @@ planning_start facts areas plan old none lowest = record {
   count = rw none (omega arith);
 }
 
-looked_more : (image : List ℕ) (areas : List NumberedArea) (i : ℕ) (d : NumberedArea) → i < length areas → looked image (drop i areas) ≡ look_if_wanted image (get_or areas i d) (looked image (drop (i + 1) areas))
+looked_more : (image : List ℕ) (names : List (List ℕ)) (areas : List NumberedArea) (i : ℕ) (d : NumberedArea) → i < length areas → looked image names (drop i areas) ≡ look_if_wanted image names (get_or areas i d) (looked image names (drop (i + 1) areas))
 unfolding looked
-looked_more image areas i d lt =
+looked_more image names areas i d lt =
     let next : suc i ≡ i + 1 = omega arith in
-    ap (looked image) (drop-cons areas i d lt) ∙ ap (λ k. look_if_wanted image (get_or areas i d) (looked image (drop k areas))) next
+    ap (looked image names) (drop-cons areas i d lt) ∙ ap (λ k. look_if_wanted image names (get_or areas i d) (looked image names (drop k areas))) next
 
-pub planning_more : {F : Type 0} (facts : F → Device) (areas : List NumberedArea) (left i : ℕ) (d : NumberedArea) (plan next : Plan) (old now new : Pages F)
-    → Planning facts areas left plan old now → left ≡ i + 1 → HasRead facts 1 0 now new
-    → OnHonest facts now.device (λ image. (later : Looked) → IsPlanOf image plan later → IsPlanOf image next (look_if_wanted image (get_or areas i d) later))
+pub planning_more : {F : Type 0} (facts : F → Device) (names : List (List ℕ)) (areas : List NumberedArea) (left i : ℕ) (d : NumberedArea) (plan next : Plan) (old now new : Pages F)
+    → Planning facts names areas left plan old now → left ≡ i + 1 → HasRead facts 1 0 now new
+    → OnHonest facts now.device (λ image. (later : Looked) → IsPlanOf image plan later → IsPlanOf image next (look_if_wanted image names (get_or areas i d) later))
     → ((end : ℕ) → Descend end plan.choices.items plan.lowest → Descend end next.choices.items next.lowest)
     → length next.choices.items ≤ length plan.choices.items + 1
-    → Planning facts areas i next old new
-planning_more facts areas left i d plan next old now new so_far one reads tells keeps few = record {
+    → Planning facts names areas i next old new
+planning_more facts names areas left i d plan next old now new so_far one reads tells keeps few = record {
   fits = omega (arith, so_far.fits);
   read = HasRead-within facts (length areas - left + 1) (length areas - i) 0 old new (omega (arith, so_far.fits)) (HasRead-then facts (length areas - left) 1 0 old now new so_far.read reads);
   told = λ h.
@@ -112,11 +112,11 @@ planning_more facts areas left i d plan next old now new so_far one reads tells 
       let lt : i < length areas = omega (arith, so_far.fits) in
       let before = rw one at (so_far.told h) in
       let same = so_far.read.device.unchanged h in
-      let told = (rw same at (tells (honest_still so_far.read.device.calls.same_honesty h))) (looked image (drop (i + 1) areas)) before in
-      subst (λ (l : Looked). IsPlanOf image next l) (sym (looked_more image areas i d lt)) told;
+      let told = (rw same at (tells (honest_still so_far.read.device.calls.same_honesty h))) (looked image names (drop (i + 1) areas)) before in
+      subst (λ (l : Looked). IsPlanOf image next l) (sym (looked_more image names areas i d lt)) told;
   descend = keeps _ so_far.descend;
   count = omega (arith, so_far.count);
 }
 
-pub planned_all : (image : List ℕ) (areas : List NumberedArea) (left : ℕ) (plan : Plan) → left ≤ 0 → IsPlanOf image plan (looked image (drop left areas)) → told_before image plan.choices.items [] ≡ (looked image areas).findings
-planned_all image areas left plan none is = let zero_left : left ≡ 0 = omega arith in is.told ∙ ap (λ k. (looked image (drop k areas)).findings) zero_left
+pub planned_all : (image : List ℕ) (names : List (List ℕ)) (areas : List NumberedArea) (left : ℕ) (plan : Plan) → left ≤ 0 → IsPlanOf image plan (looked image names (drop left areas)) → told_before image plan.choices.items [] ≡ (looked image names areas).findings
+planned_all image names areas left plan none is = let zero_left : left ≡ 0 = omega arith in is.told ∙ ap (λ k. (looked image names (drop k areas)).findings) zero_left

@@ -15,7 +15,7 @@ use Rattle.image_check.specs.declared.finding.ImageFinding.TheVariants.{Map}
 use Rattle.image_check.specs.declared.plan.Choice.{Choice}
 use Rattle.image_check.specs.declared.plan.Choice.TheVariants.{Look, Skip}
 use Rattle.image_check.specs.Faults.{by_device}
-use Rattle.image_check.specs.ImageFindings.{looked, image_findings}
+use Rattle.image_check.specs.ImageFindings.{looked, names_findings, image_findings}
 use Rattle.image_check.specs.Plans.{told_of, told_before, Descend, LiesBelow, calls_of}
 use Rattle.image_check.proofs.Planning.{told_before-more}
 
@@ -126,10 +126,13 @@ module _ {F : Type 0} (facts : F → Device) (all choices : List Choice) (before
 
 -- ---- the whole
 
-pub told-image : (image : List ℕ) (of_map : List MapFinding) (areas : List NumberedArea) (choices : List Choice) (first all : List ImageFinding)
-    → first ≡ map Map of_map → of_map ≡ map_findings image → told_before image choices [] ≡ (looked image areas).findings → areas ≡ image_areas image → all ≡ first ++ told_before image choices [] → all ≡ image_findings image
+pub told-image : (image : List ℕ) (names : List (List ℕ)) (of_map : List MapFinding) (areas again : List NumberedArea) (choices : List Choice) (first second all : List ImageFinding)
+    → first ≡ map Map of_map → of_map ≡ map_findings image → told_before image choices [] ≡ (looked image names areas).findings → areas ≡ image_areas image → again ≡ image_areas image
+    → second ≡ first ++ told_before image choices [] → all ≡ second ++ names_findings again 0 names → all ≡ image_findings image names
 unfolding image_findings
-told-image image of_map areas choices first all is from_map told listed same =
-    same
-    ∙ ap (λ (l : List ImageFinding). l ++ told_before image choices []) (is ∙ ap (map Map) from_map)
-    ∙ ap (λ (l : List ImageFinding). map Map (map_findings image) ++ l) (told ∙ ap (λ (l : List NumberedArea). (looked image l).findings) listed)
+told-image image names of_map areas again choices first second all is from_map told listed listed_again same last =
+    last
+    ∙ ap (λ (l : List ImageFinding). l ++ names_findings again 0 names) (same ∙ ap (λ (l : List ImageFinding). l ++ told_before image choices []) (is ∙ ap (map Map) from_map))
+    ∙ append_assoc (map Map (map_findings image)) (told_before image choices []) (names_findings again 0 names)
+    ∙ ap (λ (l : List ImageFinding). map Map (map_findings image) ++ (l ++ names_findings again 0 names)) (told ∙ ap (λ (l : List NumberedArea). (looked image names l).findings) listed)
+    ∙ ap (λ (l : List NumberedArea). map Map (map_findings image) ++ ((looked image names (image_areas image)).findings ++ names_findings l 0 names)) listed_again

@@ -48,4 +48,6 @@ pub enum ImageFinding {
         area: NumberedArea,
         findings: RegionFindings,
     },
+    /// No area has the given name of this number, counted from 0.
+    NoRegion(usize),
 }

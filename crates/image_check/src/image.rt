@@ -1,30 +1,52 @@
 //! The check of an image.
-ghost use Rattle.std.specs.Prelude.{◌≡◌, ℕ, ◌+◌, ◌*◌, ◌/◌, ◌≤◌, [], ◌∷◌, ◌++◌, length, map, OnOk, IfOk};
+ghost use Rattle.std.specs.Prelude.{◌≡◌, ℕ, ◌+◌, ◌*◌, ◌/◌, ◌≤◌, [], ◌∷◌, ◌++◌, length, map, ◌||◌, OnOk, IfOk};
 ghost use Rattle.flash_store.specs.Device.{faults_told};
-ghost use Rattle.flash_store.specs.Pages.{HasRead, OnHonest};
+ghost use Rattle.flash_store.specs.Pages.{HasRead, HasAnswered, OnHonest, OnHonestIn};
 ghost use Rattle.flash_store.specs.Regions.{LiesIn};
 ghost use Rattle.image_check.specs.declared.finding.ImageFinding.TheVariants.{Map};
 ghost use Rattle.image_check.specs.Faults.{by_device};
-ghost use Rattle.image_check.specs.ImageFindings.{Looked, look_if_wanted, looked, image_findings};
+ghost use Rattle.cbfs_check.specs.RegionFindings.{begins_with_entry};
+ghost use Rattle.image_check.specs.ImageFindings.{Looked, has_one_of, look_if_wanted, looked, image_findings};
 ghost use Rattle.image_check.specs.Plans.{IsPlanOf, Descend, LiesBelow, told_of, told_before, calls_of};
 
 use crate::fault::ImageCheckFault;
 use crate::finding::{ImageFinding, RegionFindings};
+use crate::names::{has_one_of, push_missing};
 use crate::plan::{Choice, Plan};
 use cbfs_check::{check_region, starts_with_entry};
-use flash_store::{Flash, Paged, Region};
+use flash_store::{Flash, FlashFault, Paged, Region};
 use flashmap_check::{MapFinding, NumberedArea, checked_map};
 use std::alloc::{AllocError, Global};
+
+/// Whether the area is to be looked at, which is this region: it has one of the names, or begins with an entry.
+fn is_wanted<F: Flash>(
+    paged: &mut Paged<F>,
+    names: &[&[u8]],
+    area: NumberedArea,
+    region: Region,
+) -> Result<bool, FlashFault>
+    requires { LiesIn region (F.facts paged.old.device).content }
+
+    ensures after { HasAnswered F.facts 1 paged.old paged.new result }
+    ensures wanted { OnHonestIn F.facts paged.old.device region (λ x. IfOk result (λ wanted.
+        wanted ≡ (has_one_of (map (λ n. n.now) names.now) area || begins_with_entry x))) }
+{
+    if has_one_of(names, area) {
+        return Ok(true);
+    }
+    starts_with_entry(paged, region)
+}
 
 /// Decides what is done with an area before those of the plan.
 fn plan_area<F: Flash>(
     paged: &mut Paged<F>,
+    names: &[&[u8]],
     area: NumberedArea,
     plan: &mut Plan,
 ) -> Result<(), ImageCheckFault>
     ensures after { HasRead F.facts 1 (faults_told by_device result) paged.old paged.new }
     ensures told { OnHonest F.facts paged.old.device (λ image. (later : Looked) → IsPlanOf image plan.old later →
-        OnOk result (IsPlanOf image plan.new (look_if_wanted image area later))) }
+        OnOk result (IsPlanOf image plan.new (look_if_wanted image (map (λ n. n.now) names.now) area later))) }
     ensures descend { (end : ℕ) → Descend end plan.old.choices.items plan.old.lowest → OnOk result
         (Descend end plan.new.choices.items plan.new.lowest) }
     ensures count { OnOk result (length plan.new.choices.items ≤ length plan.old.choices.items + 1) }
@@ -34,7 +56,7 @@ fn plan_area<F: Flash>(
     let Some(region) = Region::within(start, size, paged.len()) else {
         return Ok(());
     };
-    if starts_with_entry(paged, region)? {
+    if is_wanted(paged, names, area, region)? {
         plan.add(area, region)?;
     }
     Ok(())
@@ -44,11 +66,12 @@ fn plan_area<F: Flash>(
 fn planned<F: Flash>(
     alloc: Global,
     paged: &mut Paged<F>,
+    names: &[&[u8]],
     areas: &[NumberedArea],
 ) -> Result<Vec<Choice>, ImageCheckFault>
     ensures after { HasRead F.facts (length areas.now) (faults_told by_device result) paged.old paged.new }
     ensures told { OnHonest F.facts paged.old.device (λ image. IfOk result (λ choices.
-        told_before image choices.items [] ≡ (looked image areas.now).findings)) }
+        told_before image choices.items [] ≡ (looked image (map (λ n. n.now) names.now) areas.now).findings)) }
     ensures descend { IfOk result (λ choices. Descend (length (F.facts paged.old.device).content) choices.items 0) }
     ensures count { IfOk result (λ choices. length choices.items ≤ length areas.now) }
 {
@@ -56,7 +79,7 @@ fn planned<F: Flash>(
     let mut left = areas.len();
     while left > 0 {
         left -= 1;
-        plan_area(paged, areas[left], &mut plan)?;
+        plan_area(paged, names, areas[left], &mut plan)?;
     }
     Ok(plan.choices)
 }
@@ -81,7 +104,7 @@ fn check_choice<F: Flash>(
     }
 }
 
-fn push(findings: &mut Vec<ImageFinding>, finding: ImageFinding) -> Result<(), AllocError>
+pub fn push(findings: &mut Vec<ImageFinding>, finding: ImageFinding) -> Result<(), AllocError>
     ensures { OnOk result (findings.new.items ≡ findings.old.items ++ finding ∷ []) }
 {
     match findings.push(finding) {
@@ -123,12 +146,14 @@ fn map_part(alloc: Global, told: &[MapFinding]) -> Result<Vec<ImageFinding>, All
     Ok(findings)
 }
 
-/// All that is told of an image: of its flashmap, and of each area in it that begins with an entry, in the map's order.
+/// All that is told of an image: of its flashmap, of each area in it that has one of the names or begins with an entry, in
+/// the map's order, and of each name that no area has.
 /// `Device` comes exactly where the device refused a read, and `Memory` where an allocation was refused; then nothing is
 /// told.
 pub fn check_image<F: Flash>(
     alloc: Global,
     paged: &mut Paged<F>,
+    names: &[&[u8]],
 ) -> Result<Vec<ImageFinding>, ImageCheckFault>
     // On any device.
     ensures after { HasRead F.facts (2 * length (F.facts paged.old.device).content + 64)
@@ -136,11 +161,12 @@ pub fn check_image<F: Flash>(
 
     // On an honest device.
     ensures findings { OnHonest F.facts paged.old.device (λ image. IfOk result (λ findings.
-        findings.items ≡ image_findings image)) }
+        findings.items ≡ image_findings image (map (λ n. n.now) names.now))) }
 {
     let map = checked_map(alloc, paged)?;
     let mut findings = map_part(alloc, &map.findings)?;
-    let choices = planned(alloc, paged, &map.areas)?;
+    let choices = planned(alloc, paged, names, &map.areas)?;
     check_planned(alloc, paged, choices, &mut findings)?;
+    push_missing(&mut findings, names, &map.areas)?;
     Ok(findings)
 }

@@ -6,6 +6,7 @@
 mod fault;
 mod finding;
 mod image;
+mod names;
 mod plan;
 
 pub use fault::ImageCheckFault;
