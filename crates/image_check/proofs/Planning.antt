@@ -1,5 +1,5 @@
 -- A plan that grows from the last area of a map on.
-use Rattle.std.proofs.Common.{◌≡◌, ◌∙◌, ℕ, suc, ◌+◌, ◌-◌, ◌*◌, ◌/◌, ◌<◌, ◌≤◌, IsTrue, List, [], ◌∷◌, ◌++◌, length, get_or, drop, refl, sym, ap, subst, arith}
+use Rattle.std.proofs.Common.{◌≡◌, ◌∙◌, ℕ, suc, ◌+◌, ◌-◌, ◌<◌, ◌≤◌, List, [], ◌∷◌, ◌++◌, length, get_or, drop, refl, sym, ap, subst, arith}
 use Rattle.std.proofs.Math.Seq.{drop-cons, drop-length}
 use Rattle.std.proofs.lemmas.Bool.{le-leb, lt-leb}
 use Rattle.flash_store.specs.Device.{Device}
@@ -15,7 +15,7 @@ use Rattle.image_check.specs.declared.plan.Choice.{Choice}
 use Rattle.image_check.specs.declared.plan.Choice.TheVariants.{Look, Skip}
 use Rattle.image_check.specs.declared.plan.Plan.{Plan}
 use Rattle.image_check.specs.ImageFindings.{Looked, range_of, bytes_of, look, look_if_wanted, looked}
-use Rattle.image_check.specs.Plans.{told_of, told_before, IsPlanOf, Descend, LiesBelow, calls_of}
+use Rattle.image_check.specs.Plans.{told_of, told_before, IsPlanOf, Descend}
 
 -- ---- one choice more
 

@@ -1,9 +1,8 @@
 -- What is told by the choices of a plan, one taken after the other.
-use Rattle.std.proofs.Common.{◌≡◌, ◌∙◌, ℕ, ◌+◌, ◌-◌, ◌*◌, ◌/◌, ◌<◌, ◌≤◌, IsTrue, List, [], ◌∷◌, ◌++◌, length, refl, sym, ap, subst, arith, append_assoc, append-nil, length-append}
+use Rattle.std.proofs.Common.{◌≡◌, ◌∙◌, ℕ, ◌+◌, ◌-◌, ◌*◌, ◌/◌, ◌≤◌, List, [], ◌∷◌, ◌++◌, length, refl, sym, ap, subst, arith, append_assoc, append-nil, length-append}
 use Rattle.std.specs.Prelude.{map, Result, Ok, Err, IsErrAnd}
 use Rattle.flash_store.specs.Device.{Device, faults_told}
 use Rattle.flash_store.specs.Pages.{Pages, HasRead, OnHonest}
-use Rattle.flash_store.specs.Regions.{Range}
 use Rattle.flash_store.proofs.DeviceLemmas.{honest_still}
 use Rattle.flash_store.proofs.WindowLemmas.{HasRead-none, HasRead-then, HasRead-within}
 use Rattle.flashmap_check.specs.declared.finding.MapFinding.{MapFinding}

@@ -1,6 +1,6 @@
 -- What a plan says of the last areas of a map.
 use Rattle.std.specs.Prelude.{◌≡◌, ℕ, ◌+◌, ◌/◌, ◌≤◌, List, [], ◌∷◌}
-use Rattle.flash_store.specs.Regions.{Range, bytes_in}
+use Rattle.flash_store.specs.Regions.{bytes_in}
 use Rattle.cbfs_check.specs.RegionFindings.{region_findings}
 use Rattle.image_check.specs.declared.finding.ImageFinding.{ImageFinding}
 use Rattle.image_check.specs.declared.finding.ImageFinding.TheVariants.{Skipped, Region}
