@@ -1,3 +1,4 @@
 pub mod Faults
 pub mod ImageFindings
 pub mod Plans
+pub mod Verdicts

@@ -8,7 +8,9 @@ mod finding;
 mod image;
 mod names;
 mod plan;
+mod verdict;
 
 pub use fault::ImageCheckFault;
 pub use finding::{ImageFinding, RegionFindings};
 pub use image::check_image;
+pub use verdict::{has_bad, is_bad, is_bad_map, is_bad_region};

@@ -2,7 +2,7 @@
 use cbfs_check::RegionFinding;
 use flash_store::{MemFlash, Paged};
 use flashmap_check::MapFinding;
-use image_check::{ImageFinding, check_image};
+use image_check::{ImageFinding, check_image, has_bad};
 use std::alloc::{AllocError, Global};
 use std::process::Abort;
 
@@ -99,12 +99,19 @@ fn text_of(alloc: Global, findings: &[ImageFinding]) -> Result<String, AllocErro
     Ok(text)
 }
 
-/// This is what is told of an image.
-fn tells(rt: &(impl Abort + AllocGlobal), image: Vec<u8>, names: &[&[u8]], expected: &str) {
+/// This is what is told of an image, and whether some of it is bad.
+fn tells(
+    rt: &(impl Abort + AllocGlobal),
+    image: Vec<u8>,
+    names: &[&[u8]],
+    expected: &str,
+    is_bad: bool,
+) {
     let mut paged = Paged::new(MemFlash::new(image).expect(rt, "a device"));
     let findings = check_image(rt.alloc(), &mut paged, names).expect(rt, "findings");
     let text = text_of(rt.alloc(), &findings).expect(rt, "memory");
     assert_eq!(rt; text.as_str(), expected);
+    assert_eq!(rt; has_bad(&findings), is_bad);
 }
 
 #[test]
@@ -114,6 +121,7 @@ fn an_image_with_one_region(rt: HostRuntime) {
         image(&rt, &[FMAP, A, B]),
         &[],
         "map 0, region 1 complete 0 256, ",
+        false,
     );
 }
 
@@ -124,6 +132,7 @@ fn the_inner_of_nested_areas(rt: HostRuntime) {
         image(&rt, &[FMAP, OUTER, A]),
         &[],
         "map 0, skipped 1, region 2 complete 0 256, ",
+        false,
     );
 }
 
@@ -135,5 +144,12 @@ fn areas_by_their_names(rt: HostRuntime) {
         image(&rt, &[FMAP, A, B]),
         names,
         "map 0, region 1 complete 0 256, region 2 not CBFS, no region 1, ",
+        true,
     );
+}
+
+#[test]
+fn an_image_without_a_map(rt: HostRuntime) {
+    let bytes = Vec::from_elem(rt.alloc(), 0xff, 1024).expect(&rt, "memory");
+    tells(&rt, bytes, &[], "no map, ", true);
 }
