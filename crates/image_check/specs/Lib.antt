@@ -2,3 +2,4 @@ pub mod Faults
 pub mod ImageFindings
 pub mod Plans
 pub mod Verdicts
+pub mod Laws

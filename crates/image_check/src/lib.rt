@@ -6,6 +6,7 @@
 mod fault;
 mod finding;
 mod image;
+mod laws;
 mod names;
 mod plan;
 mod verdict;
@@ -13,4 +14,5 @@ mod verdict;
 pub use fault::ImageCheckFault;
 pub use finding::{ImageFinding, RegionFindings};
 pub use image::check_image;
+pub use laws::fit_regions_lose_nothing;
 pub use verdict::{has_bad, is_bad, is_bad_map, is_bad_region};
