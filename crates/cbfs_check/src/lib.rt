@@ -1,6 +1,6 @@
 //! Tells whether a CBFS region of a device is fit to be flashed: what is found in it, cell by cell.
 //!
-//! A check takes memory for what it tells, and writes nothing.
+//! A check takes memory for what it tells, and leaves the bytes of an honest device as they are.
 #![tactic(auto)]
 
 mod check;

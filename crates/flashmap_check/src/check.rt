@@ -12,7 +12,7 @@ use crate::findings::{findings_of, push_if};
 use flash_store::{Flash, Paged, find_fmap, find_fmap_from};
 use std::alloc::{AllocError, Global};
 
-/// What is told of the image's flashmap, in the order of `MapFinding`. Nothing is written. `Device` comes exactly where the
+/// What is told of the image's flashmap, in the order of `MapFinding`. It only reads. `Device` comes exactly where the
 /// device refused a read; what was found till then is dropped.
 pub fn check_map<F: Flash>(
     alloc: Global,

@@ -1,6 +1,6 @@
 //! Tells whether an image is fit to be flashed: its flashmap, and each CBFS region in it.
 //!
-//! A check takes memory for what it tells, and writes nothing.
+//! A check takes memory for what it tells, and leaves the bytes of an honest device as they are.
 #![tactic(auto)]
 
 mod fault;
