@@ -9,7 +9,7 @@ use crate::stored_flash::StoredFlash;
 use std::fs::File;
 use std::rt::Files;
 
-/// A device in a file that is open for reading and writing and locked. The lock ends with the device.
+/// A device in a file that is open and locked. The lock ends with the device.
 ///
 /// Whether the system's files do what they answer isn't known, so every fact that a contract says of an honest device is,
 /// for this one, a premise about one call of the system at a time.
@@ -22,6 +22,15 @@ impl StoredFlash<Ahead<Erased<OsFile>>> {
         ensures { IfOk result (λ device. (device.calls ≡ 0) × (device.faults ≡ 0)) }
     {
         let file = OsFile::open(rt, path)?;
+        Ok(StoredFlash::new(Ahead::new(Erased::new(file))))
+    }
+
+    /// Opens a file for reading alone, and waits while a command that may change it holds its lock; others that only read
+    /// may share it. Each write to the device is refused. The faults are those of `open`.
+    pub fn open_to_read<R: Files<File = File>>(rt: &R, path: &str) -> Result<FileFlash, OpenFault>
+        ensures { IfOk result (λ device. (device.calls ≡ 0) × (device.faults ≡ 0)) }
+    {
+        let file = OsFile::open_shared(rt, path)?;
         Ok(StoredFlash::new(Ahead::new(Erased::new(file))))
     }
 

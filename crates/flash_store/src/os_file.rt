@@ -7,7 +7,7 @@ use crate::storage::{Storage, StorageFault};
 use std::fs::{File, OpenOptions};
 use std::io::{self, ErrorKind, Seek, SeekFrom};
 use std::marker::Model;
-use std::os::unix::fs::FileExt;
+use std::os::unix::fs::{FileExt, FileTypeExt};
 use std::rt::Files;
 use std::snapshot::Snapshot;
 
@@ -38,7 +38,7 @@ impl OsFile {
     /// Opens a file for reading and writing, and waits for its lock.
     pub fn open<R: Files<File = File>>(rt: &R, path: &str) -> Result<OsFile, OpenFault> {
         let mut file = OpenOptions::new().read(true).write(true).open(rt, path)?;
-        wait_for_lock(&file)?;
+        unless_without_locks(file.lock())?;
         let len = length_of(&mut file)?;
         Ok(Self::with_length(file, len))
     }
@@ -52,13 +52,25 @@ impl OsFile {
             .write(true)
             .create(true)
             .open(rt, path)?;
-        wait_for_lock(&file)?;
+        unless_without_locks(file.lock())?;
         if file.metadata()?.is_file() {
             file.set_len(0)?;
         } else if length_of(&mut file)? < size {
             return Err(OpenFault::Failed);
         }
         Ok(Self::with_length(file, size))
+    }
+
+    /// Opens a file for reading, and waits for a lock that those who only read share. A pipe isn't opened, since that would
+    /// wait for one who writes.
+    pub fn open_shared<R: Files<File = File>>(rt: &R, path: &str) -> Result<OsFile, OpenFault> {
+        if rt.metadata(path)?.file_type().is_fifo() {
+            return Err(OpenFault::Failed);
+        }
+        let mut file = OpenOptions::new().read(true).open(rt, path)?;
+        unless_without_locks(file.lock_shared())?;
+        let len = length_of(&mut file)?;
+        Ok(Self::with_length(file, len))
     }
 
     /// Opens a regular file for reading. Another one isn't opened, since that of a pipe would wait for one who writes.
@@ -90,13 +102,12 @@ impl OsFile {
 /// The system's number for a file system that keeps no locks.
 const ENOLCK: i32 = 37;
 
-/// Waits until no other command holds the file. One on a file system without locks goes on without.
-fn wait_for_lock(file: &File) -> io::Result<()> {
-    match file.lock() {
-        Ok(()) => Ok(()),
+/// The answer of a call that waited for a lock. On a file system without locks one goes on without.
+fn unless_without_locks(answer: io::Result<()>) -> io::Result<()> {
+    match answer {
         Err(fault) if fault.kind() == ErrorKind::Unsupported => Ok(()),
         Err(fault) if fault.raw_os_error() == Some(ENOLCK) => Ok(()),
-        Err(fault) => Err(fault),
+        other => other,
     }
 }
 
