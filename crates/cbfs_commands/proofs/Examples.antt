@@ -13,7 +13,8 @@ use Rattle.flash_format.specs.Flashmap.{has_signature, fmap_head_of, area_of, is
 use Rattle.flash_format.specs.TypeNames.{name_of_type}
 use Rattle.flash_store.specs.Regions.{region_of}
 use Rattle.cbfs_walk.specs.Finding.{component_in}
-use Rattle.cbfs_commands.specs.Rows.{hexadecimal, printed_byte, printed_type, printed_packing, row_text, label, compression}
+use Rattle.printed_fields.specs.Printed.{hexadecimal, printed_byte}
+use Rattle.cbfs_commands.specs.Rows.{printed_type, printed_packing, row_text, label, compression}
 use Rattle.cbfs_commands.specs.Details.{rows_from}
 use Rattle.cbfs_commands.specs.Layouts.{layout, map_row, area_row}
 use Rattle.cbfs_commands.specs.declared.refusal.Refusal.TheVariants.{RegionOutside, Damaged, NoFmap, NoRegion, NotCbfs, NotFound, Compressed, SourceSize}

@@ -1,4 +1,3 @@
-mod Digits
 mod RowLemmas
 mod Telling
 mod Areas

@@ -16,7 +16,8 @@ use Rattle.flash_format.specs.declared.digest.Digest.TheVariants as digests
 use Rattle.cbfs_walk.specs.Hashes.{hash_state}
 use Rattle.cbfs_walk.specs.declared.hashes.HashState.{HashState}
 use Rattle.cbfs_walk.specs.declared.hashes.HashState.TheVariants.{Absent, Valid, Invalid, Unsupported}
-use Rattle.cbfs_commands.specs.Rows.{row, tab, line_feed}
+use Rattle.printed_fields.specs.Printed.{tab, line_feed}
+use Rattle.cbfs_commands.specs.Rows.{row}
 
 -- the line of an attribute: its tag with eight digits, and its length, which counts its head
 unfoldable pub attribute_text : ℕ → ℕ → List ℕ

@@ -1,27 +1,12 @@
 -- What `print` writes: a row for each cell of a region. The forms of the texts are this project's own.
-use Rattle.std.specs.Prelude.{◌≡◌, ℕ, ◌+◌, ◌≤◌, ◌/◌, ◌%◌, false, not, ◌&&◌, List, [], ◌∷◌, ◌++◌, ◌==◌, if◌then◌else◌, unwrap_or}
-use Rattle.std.specs.List.{flat_map}
-use Rattle.std.specs.Fmt.{digits, decimal, digit_glyph}
+use Rattle.std.specs.Prelude.{ℕ, List, ◌++◌, ◌==◌, if◌then◌else◌, unwrap_or}
+use Rattle.std.specs.Fmt.{decimal}
 use lib.Chars.{codes}
-use Rattle.arrayvec.specs.ArrayVec.{ArrayVec, array_vec_len}
 use Rattle.flash_format.specs.Head.{head_of, is_free}
 use Rattle.flash_format.specs.Components.{cell_name, cell_attributes, packing}
-use Rattle.flash_format.specs.Flashmap.{is_printing}
 use Rattle.flash_format.specs.TypeNames.{name_of_type}
 use Rattle.flash_format.specs.declared.head.Head.{Head}
-
--- `0x` and lower-case digits without leading zeros
-unfoldable pub hexadecimal : ℕ → List ℕ
-hexadecimal n = codes "0x" ++ digits 16 false n
-
--- a byte of a name: itself, or `\x` and two digits where it is no printing byte, or the backslash
-unfoldable pub printed_byte : ℕ → List ℕ
-printed_byte b =
-    if is_printing b && not (b == 0x5c) then b ∷ []
-    else codes "\\x" ++ digit_glyph false (b / 16) ∷ digit_glyph false (b % 16) ∷ []
-
-abbrev pub printed_name : List ℕ → List ℕ
-printed_name name = flat_map printed_byte name
+use Rattle.printed_fields.specs.Printed.{hexadecimal, printed_name, tab, line_feed}
 
 -- a type by its name, or else by its number
 unfoldable pub printed_type : ℕ → List ℕ
@@ -39,12 +24,6 @@ label h name = if is_free h then codes "(empty)" else printed_name name
 unfoldable pub compression : Head → ℕ → List ℕ
 compression h n = if is_free h then codes "none" else printed_packing n
 
-abbrev pub tab : List ℕ
-tab = codes "\t"
-
-abbrev pub line_feed : List ℕ
-line_feed = codes "\n"
-
 -- The row of a cell at a place, by its head, its name and the value of its compression: name, position, type, length
 -- of the content, and compression.
 unfoldable pub row_text : ℕ → Head → List ℕ → ℕ → List ℕ
@@ -53,8 +32,3 @@ row_text at h name n = label h name ++ tab ++ hexadecimal at ++ tab ++ printed_t
 -- the row of a cell of these bytes
 abbrev pub row : ℕ → List ℕ → List ℕ
 row at x = row_text at (head_of x) (cell_name x) (packing (cell_attributes x))
-
--- a row has a text after what it had, of at most so many bytes
-pub record Pushes (old : ArrayVec ℕ) (text : List ℕ) (most : ℕ) (new : ArrayVec ℕ) : Type 0 where
-  pub items : new.items ≡ old.items ++ text
-  pub len : array_vec_len new ≤ array_vec_len old + most

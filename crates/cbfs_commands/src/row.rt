@@ -1,9 +1,10 @@
 //! The printed row of a cell.
 
-ghost use Rattle.std.specs.Prelude.{◌≡◌, ◌+◌, ◌*◌, ◌<◌, ◌≤◌, ◌++◌, ◌∷◌, [], false, length, drop, Some, None, Err, OnErr};
-ghost use Rattle.std.specs.Fmt.{digit_glyph, digits, decimal};
+ghost use Rattle.std.specs.Prelude.{◌≡◌, ◌+◌, ◌*◌, ◌<◌, ◌≤◌, length, Err, OnErr};
+ghost use Rattle.std.specs.Fmt.{decimal};
 ghost use Rattle.arrayvec.specs.ArrayVec.{array_vec_len};
-ghost use Rattle.cbfs_commands.specs.Rows.{Pushes, printed_byte, printed_name, hexadecimal, printed_type, printed_packing, label, compression, row_text};
+ghost use Rattle.printed_fields.specs.Printed.{Pushes, hexadecimal, printed_name};
+ghost use Rattle.cbfs_commands.specs.Rows.{printed_type, printed_packing, label, compression, row_text};
 ghost use Rattle.cbfs_commands.specs.Told.{Tells, shows};
 
 use crate::refusal::Refusal;
@@ -11,6 +12,7 @@ use arrayvec::ArrayVec;
 use flash_format::{Head, type_name};
 use flash_store::{Sink, put_all};
 use itoa::Buffer;
+use printed_fields::{hexadecimal, printed_byte, push_text};
 
 /// Room for the longest row: a name of 255 bytes, each escaped, and the other fields.
 pub const ROW_LEN: usize = 1152;
@@ -18,71 +20,20 @@ pub const ROW_LEN: usize = 1152;
 /// The buffer of a row. A listing has one for all its rows, since a new one would be filled with zeros each time.
 pub type Row = ArrayVec<u8, ROW_LEN>;
 
-pub fn push_text(row: &mut Row, text: &[u8])
-    requires { array_vec_len row.old + length text.now ≤ ROW_LEN }
-    ensures { Pushes row.old text.now (length text.now) row.new }
-{
-    let _fits = row.try_extend_from_slice(text);
-}
-
-/// A hexadecimal digit.
-fn digit(value: u8) -> u8
-    requires { value < 16 }
-    ensures { result ≡ digit_glyph false value }
-{
-    if value < 10 {
-        b'0' + value
-    } else {
-        b'a' + (value - 10)
-    }
-}
-
-#[tactic(auto, unfolding(crate::specs::Rows::printed_byte))]
-fn push_byte(row: &mut Row, byte: u8)
-    requires { array_vec_len row.old + 4 ≤ ROW_LEN }
-    ensures { Pushes row.old (printed_byte byte) 4 row.new }
-{
-    if matches!(byte, 0x21..=0x7e) && byte != b'\\' {
-        push_text(row, &[byte]);
-    } else {
-        push_text(row, &[b'\\', b'x', digit(byte / 16), digit(byte % 16)]);
-    }
-}
-
 pub fn push_name(row: &mut Row, name: &[u8])
     requires { array_vec_len row.old + 4 * length name.now ≤ ROW_LEN }
     ensures { Pushes row.old (printed_name name.now) (4 * length name.now) row.new }
 {
     for byte in name {
-        push_byte(row, *byte);
+        push_text(row, printed_byte(*byte).as_slice());
     }
 }
 
-/// Writes the hexadecimal digits of a number at the end of the text, and says where they begin.
-fn write_digits(n: u64, text: &mut [u8; 16]) -> usize
-    ensures start { result < 16 }
-    ensures digits { drop result text.new ≡ digits 16 false n }
-{
-    let mut rest = n;
-    let mut at = 15;
-    text[at] = digit((rest % 16) as u8);
-    while rest >= 16 {
-        rest /= 16;
-        at -= 1;
-        text[at] = digit((rest % 16) as u8);
-    }
-    at
-}
-
-#[tactic(auto, unfolding(crate::specs::Rows::hexadecimal))]
 pub fn push_hexadecimal(row: &mut Row, n: u64)
     requires { array_vec_len row.old + 18 ≤ ROW_LEN }
     ensures { Pushes row.old (hexadecimal n) 18 row.new }
 {
-    let mut text = [b'0'; 16];
-    let start = write_digits(n, &mut text);
-    push_text(row, b"0x");
-    push_text(row, &text[start..]);
+    push_text(row, hexadecimal(n).as_slice());
 }
 
 pub fn push_decimal(row: &mut Row, n: u32)

@@ -1,6 +1,6 @@
 use Rattle.std.proofs.Common.{◌≡◌, ◌+◌, ◌*◌, ◌≤◌, ◌++◌, take}
 use Rattle.arrayvec.specs.ArrayVec.{array_vec_len}
-use Rattle.cbfs_commands.specs.Rows.{printed_name}
+use Rattle.printed_fields.specs.Printed.{printed_name}
 use Rattle.cbfs_commands.proofs.row.push_name.Given as goal
 
 abbrev pub invariant-loop-byte : goal.invariant-loop-byte

@@ -1,5 +1,5 @@
-use Rattle.cbfs_commands.proofs.Digits.{Writing}
-use Rattle.cbfs_commands.proofs.row.write_digits.Given as goal
+use Rattle.printed_fields.proofs.Digits.{Writing}
+use Rattle.printed_fields.proofs.number.write_digits.Given as goal
 
 abbrev pub invariant-loop-rest : goal.invariant-loop-rest
 invariant-loop-rest l = Writing l.n l.rest l.at l.text

@@ -1,6 +1,6 @@
 use Rattle.std.proofs.Common.{arith}
-use Rattle.cbfs_commands.proofs.Digits.{writing_start, writing_more}
-use Rattle.cbfs_commands.proofs.row.write_digits.Goals as goal
+use Rattle.printed_fields.proofs.Digits.{writing_start, writing_more}
+use Rattle.printed_fields.proofs.number.write_digits.Goals as goal
 
 pub loop-rest-init : goal.loop-rest-init
 loop-rest-init c = rw c.digit.ensures (writing_start c.args.n c.args.text.now (omega arith) c.told-text)

@@ -1,0 +1,31 @@
+-- How names and numbers are printed. The forms of the texts are this project's own.
+use Rattle.std.specs.Prelude.{◌≡◌, ℕ, ◌+◌, ◌≤◌, ◌/◌, ◌%◌, false, not, ◌&&◌, List, [], ◌∷◌, ◌++◌, ◌==◌, if◌then◌else◌}
+use Rattle.std.specs.List.{flat_map}
+use Rattle.std.specs.Fmt.{digits, digit_glyph}
+use lib.Chars.{codes}
+use Rattle.arrayvec.specs.ArrayVec.{ArrayVec, array_vec_len}
+use Rattle.flash_format.specs.Flashmap.{is_printing}
+
+-- `0x` and lower-case digits without leading zeros
+unfoldable pub hexadecimal : ℕ → List ℕ
+hexadecimal n = codes "0x" ++ digits 16 false n
+
+-- a byte of a name: itself, or `\x` and two digits where it is no printing byte, or the backslash
+unfoldable pub printed_byte : ℕ → List ℕ
+printed_byte b =
+    if is_printing b && not (b == 0x5c) then b ∷ []
+    else codes "\\x" ++ digit_glyph false (b / 16) ∷ digit_glyph false (b % 16) ∷ []
+
+abbrev pub printed_name : List ℕ → List ℕ
+printed_name name = flat_map printed_byte name
+
+abbrev pub tab : List ℕ
+tab = codes "\t"
+
+abbrev pub line_feed : List ℕ
+line_feed = codes "\n"
+
+-- a buffer has a text after what it had, of at most so many bytes
+pub record Pushes (old : ArrayVec ℕ) (text : List ℕ) (most : ℕ) (new : ArrayVec ℕ) : Type 0 where
+  pub items : new.items ≡ old.items ++ text
+  pub len : array_vec_len new ≤ array_vec_len old + most
