@@ -48,9 +48,13 @@ area_findings n a = told_if (nat_lt n (area_end a.area)) (findings.AreaOutside a
 abbrev pub has_name : List ℕ → NumberedArea → Bool
 has_name name a = is_area name a.area
 
+-- the area's number
+abbrev pub number_of : NumberedArea → ℕ
+number_of a = a.number
+
 -- the number of the first of these areas with the name
 abbrev pub first_with : List ℕ → List NumberedArea → Option ℕ
-first_with name areas = option_map (λ (a : NumberedArea). a.number) (find (has_name name) areas)
+first_with name areas = option_map number_of (find (has_name name) areas)
 
 -- of an area, where the first one before it that has its name has this number
 abbrev pub name_finding : NumberedArea → Option ℕ → List MapFinding

@@ -1,16 +1,17 @@
--- A map that keeps for each name the number of the first area with it.
+-- The first area of each name.
 use Rattle.std.specs.Prelude.{◌≡◌, ℕ, List, Option}
-use Rattle.std.specs.Borrow.{Bor}
+use Rattle.std.specs.List.{find}
 use Rattle.std.specs.Ordering.{nat_cmp}
 use Rattle.std.specs.Cmp.Lexicographic.{slice_cmp}
-use Rattle.std.specs.BTreeMap.{BTreeMap, get_by}
+use Rattle.std.specs.BTreeMap.{get_by}
 use Rattle.flashmap_check.specs.declared.finding.NumberedArea.{NumberedArea}
-use Rattle.flashmap_check.specs.MapFindings.{first_with}
+use Rattle.flashmap_check.specs.declared.names.AreaNames.{AreaNames}
+use Rattle.flashmap_check.specs.MapFindings.{has_name}
 
--- the number that is kept for a name
-abbrev pub noted : BTreeMap (Bor (List ℕ)) ℕ → List ℕ → Option ℕ
-noted seen name = get_by (λ k. slice_cmp nat_cmp name k.now) seen
+-- the area that is kept for a name
+abbrev pub noted : AreaNames → List ℕ → Option NumberedArea
+noted names name = get_by (λ k. slice_cmp nat_cmp name k.now) names.first
 
--- it keeps those of these areas, and no more
-abbrev pub Notes : BTreeMap (Bor (List ℕ)) ℕ → List NumberedArea → Type 0
-Notes seen areas = (name : List ℕ) → noted seen name ≡ first_with name areas
+-- the first of these areas with each name is kept, and no more
+abbrev pub Notes : AreaNames → List NumberedArea → Type 0
+Notes names areas = (name : List ℕ) → noted names name ≡ find (has_name name) areas

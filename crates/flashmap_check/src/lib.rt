@@ -12,3 +12,4 @@ mod overlaps;
 pub use check::{CheckedMap, check_map, checked_map};
 pub use finding::{MapCheckFault, MapFinding, NumberedArea};
 pub use laws::untold_maps_are_sound;
+pub use names::AreaNames;

@@ -6,6 +6,6 @@ use Rattle.flashmap_check.proofs.names.push_name_findings.Given as goal
 
 abbrev pub invariant-loop-a : goal.invariant-loop-a
 invariant-loop-a l = record {
-  notes : Notes l.seen (take l.a-index l.areas);
+  notes : Notes l.names (take l.a-index l.areas);
   told : l.findings.items ++ names_left l.areas l.a-index ≡ l.initial.findings.items ++ name_findings [] l.areas;
 }
