@@ -1,0 +1,12 @@
+use Rattle.std.proofs.Common.{◌≡◌, ℕ, subst}
+use Rattle.std.specs.Prelude.{IfOk}
+use Rattle.flashmap_changes.proofs.BlockLemmas.{different_blocks-whole}
+use Rattle.flashmap_changes.proofs.blocks.different_blocks.Goals as goal
+
+pub returns-clause-different : goal.returns-clause-different
+returns-clause-different g c = λ old new.
+    let x = (g.F.Flash.facts c.args.old_image.now.device).content in
+    let y = (g.G.Flash.facts c.args.new_image.now.device).content in
+    subst (λ k. IfOk c.different_in.result (λ n. n ≡ k))
+    (different_blocks-whole c.in-Some-Some.old_region c.in-Some-Some.new_region x y c.len-old_len.result c.len-new_len.result c.in-Some-Some.ensures.0 c.in-Some-Some.ensures'.0 c.len-old_len.ensures.length c.len-new_len.ensures.length)
+    (c.different_in.ensures.different old new)

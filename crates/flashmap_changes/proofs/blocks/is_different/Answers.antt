@@ -1,0 +1,8 @@
+use Rattle.std.proofs.Common.{◌+◌, ◌*◌, arith}
+use Rattle.flashmap_changes.proofs.BlockLemmas.{differs-bytes_in}
+use Rattle.flashmap_changes.proofs.blocks.is_different.Goals as goal
+
+pub returns-clause-different : goal.returns-clause-different
+returns-clause-different g c = λ old new.
+    differs-bytes_in c.args.old_region c.args.new_region _ _ _ _ c.args.number (c.args.number * 4096) (c.start.result + c.args.number * 4096) (c.start-2.result + c.args.number * 4096) c.min-old_size.result c.min-new_size.result _ (omega arith) (omega arith) (omega arith) (omega arith) (omega arith) (omega arith) (omega arith)
+    (c.in-Ok.ensures.read old) (c.in-Ok-piece.ensures.read new) c.ne.ensures

@@ -1,0 +1,51 @@
+//! What is told of two flashmaps, and why nothing is told.
+ghost use Rattle.std.specs.Prelude.{◌≡◌};
+
+use flashmap_check::NumberedArea;
+use std::alloc::AllocError;
+
+/// One thing that changes between the areas of an old image and those of a new one.
+#[derive(Clone, Copy, Debug, PartialEq, Eq, Drop)]
+pub enum AreaChange {
+    /// Only the new map has an area of the name.
+    Added(NumberedArea),
+    /// Only the old map has an area of the name.
+    Gone(NumberedArea),
+    /// The area begins at another place.
+    Moved {
+        old: NumberedArea,
+        new: NumberedArea,
+    },
+    /// The area has another size.
+    Resized {
+        old: NumberedArea,
+        new: NumberedArea,
+    },
+    /// The area, of the new map, has the size that it had, and other bytes: in so many of its blocks, the pieces of 4096
+    /// bytes from its start on.
+    Differs { area: NumberedArea, blocks: u32 },
+    /// The area, of the new map, has the size that it had, and its bytes aren't looked at: it ends outside one of the
+    /// images, or too much was compared before.
+    NotCompared(NumberedArea),
+}
+
+/// Why nothing is told of two images.
+#[derive(Clone, Copy, Debug, PartialEq, Eq)]
+pub enum ChangeFault {
+    /// The device with the old image refused a read.
+    OldDevice,
+    /// The device with the new image refused a read.
+    NewDevice,
+    /// Memory was refused.
+    Memory,
+}
+
+impl From<AllocError> for ChangeFault {
+    ghost use Rattle.flashmap_changes.specs.declared.change.ChangeFault.TheVariants.{Memory};
+
+    ghost from_gives = { λ _ fault. fault ≡ Memory };
+
+    fn from(_: AllocError) -> ChangeFault {
+        ChangeFault::Memory
+    }
+}
