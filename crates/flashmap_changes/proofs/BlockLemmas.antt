@@ -1,14 +1,12 @@
 -- The blocks of a region's bytes, and how many differ.
-use Rattle.std.proofs.Common.{◌≡◌, ◌∙◌, ℕ, zero, suc, ◌+◌, ◌-◌, ◌*◌, ◌<◌, ◌≤◌, Bool, true, false, IsTrue, List, [], ◌∷◌, length, take, drop, min, max, refl, sym, ap, arith, ⊎_elim, length-take, length-drop, slice_range}
+use Rattle.std.proofs.Common.{◌≡◌, ◌∙◌, ℕ, zero, suc, ◌+◌, ◌-◌, ◌*◌, ◌<◌, ◌≤◌, Bool, true, List, length, take, drop, min, max, refl, sym, ap, arith, ⊎_elim, length-take, length-drop, slice_range}
 use Rattle.std.specs.Prelude.{not, if◌then◌else◌}
-use Rattle.std.specs.Int.{from_bool}
 use Rattle.std.specs.Str.{bytes_eq}
 use Rattle.std.proofs.lemmas.Bool.{cases_lt, false_from_ne_true}
 use Rattle.std.proofs.lemmas.List.{drop-drop, drop-take, take-take, take_all}
 use Rattle.std.proofs.lemmas.Slice.Eq.{bytes_eq-Decides}
-use Rattle.flash_store.specs.Regions.{Range, LiesIn, bytes_in}
+use Rattle.flash_store.specs.Regions.{Range, bytes_in}
 use Rattle.flash_store.proofs.BytesLemmas.{slice_range_is}
-use Rattle.flash_store.proofs.DeviceLemmas.{length-bytes_in}
 use Rattle.flashmap_changes.specs.Blocks.{blocks_of, block, differs, different_among, different_blocks}
 
 -- two limits on a length are the lower one

@@ -1,2 +1,4 @@
+pub mod Changes
+pub mod AreaChanges
 pub mod Blocks
 pub mod Images

@@ -1,5 +1,6 @@
 //! What is told of two flashmaps, and why nothing is told.
-ghost use Rattle.std.specs.Prelude.{◌≡◌};
+ghost use Rattle.std.specs.Prelude.{◌≡◌, ◌++◌, OnOk};
+ghost use Rattle.flashmap_changes.specs.Changes.{told_if};
 
 use flashmap_check::NumberedArea;
 use std::alloc::AllocError;
@@ -23,7 +24,10 @@ pub enum AreaChange {
     },
     /// The area, of the new map, has the size that it had, and other bytes: in so many of its blocks, the pieces of 4096
     /// bytes from its start on.
-    Differs { area: NumberedArea, blocks: u32 },
+    Differs {
+        area: NumberedArea,
+        blocks: u32,
+    },
     /// The area, of the new map, has the size that it had, and its bytes aren't looked at: it ends outside one of the
     /// images, or too much was compared before.
     NotCompared(NumberedArea),
@@ -48,4 +52,18 @@ impl From<AllocError> for ChangeFault {
     fn from(_: AllocError) -> ChangeFault {
         ChangeFault::Memory
     }
+}
+
+/// Pushes the change where it is to be told.
+pub fn push_if(
+    changes: &mut Vec<AreaChange>,
+    told: bool,
+    change: AreaChange,
+) -> Result<(), AllocError>
+    ensures { OnOk result (changes.new.items ≡ changes.old.items ++ told_if told change) }
+{
+    if told {
+        changes.push(change)?;
+    }
+    Ok(())
 }

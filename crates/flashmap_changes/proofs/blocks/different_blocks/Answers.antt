@@ -1,4 +1,4 @@
-use Rattle.std.proofs.Common.{◌≡◌, ℕ, subst}
+use Rattle.std.proofs.Common.{◌≡◌, subst}
 use Rattle.std.specs.Prelude.{IfOk}
 use Rattle.flashmap_changes.proofs.BlockLemmas.{different_blocks-whole}
 use Rattle.flashmap_changes.proofs.blocks.different_blocks.Goals as goal

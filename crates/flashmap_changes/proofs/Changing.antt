@@ -1,0 +1,24 @@
+-- What is told of areas, one after the other.
+use Rattle.std.proofs.Common.{◌≡◌, ◌∙◌, ℕ, ◌+◌, ◌*◌, ◌<◌, List, [], ◌++◌, length, drop, get_or, refl, sym, ap, add-one, append_assoc}
+use Rattle.std.specs.List.{flat_map}
+use Rattle.std.proofs.Math.Seq.{drop-cons}
+use Rattle.flashmap_check.specs.declared.finding.NumberedArea.{NumberedArea}
+use Rattle.flashmap_changes.specs.declared.change.AreaChange.{AreaChange}
+use Rattle.flashmap_changes.specs.declared.pairs.Pair.{Pair}
+use Rattle.flashmap_changes.specs.AreaChanges.{pairs, changes_in, gone_of, area_changes}
+
+-- one element more
+pub flat_map-more : {X Y : Type 0} (f : X → List Y) (xs : List X) (i : ℕ) (d : X) (before after all : List Y) → i < length xs → after ≡ before ++ f (get_or xs i d) → before ++ flat_map f (drop i xs) ≡ all → after ++ flat_map f (drop (i + 1) xs) ≡ all
+flat_map-more f xs i d before after all lt pushed so_far =
+    let here = get_or xs i d in
+    let rest = flat_map f (drop (i + 1) xs) in
+    let left : flat_map f (drop i xs) ≡ f here ++ rest = rw (add-one, drop-cons xs i d lt) refl in
+    ap (λ l. l ++ rest) pushed ∙ append_assoc before (f here) rest ∙ ap (λ l. before ++ l) (sym left) ∙ so_far
+
+-- what is told of the new map, and then of the old one
+pub area_changes-parts : (x y : List ℕ) (olds news : List NumberedArea) (found read : List Pair) (first second all : List AreaChange) → first ≡ [] → read ≡ found → found ≡ pairs olds news
+    → second ≡ first ++ changes_in (8 * length y) x y read → all ≡ second ++ flat_map (gone_of olds news) olds → all ≡ area_changes x olds y news
+unfolding area_changes
+area_changes-parts x y olds news found read first second all none same is told gone =
+    let start : second ≡ changes_in (8 * length y) x y read = told ∙ ap (λ (l : List AreaChange). l ++ changes_in (8 * length y) x y read) none in
+    gone ∙ ap (λ (l : List AreaChange). l ++ flat_map (gone_of olds news) olds) (start ∙ ap (changes_in (8 * length y) x y) (same ∙ is))

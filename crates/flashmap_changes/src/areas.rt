@@ -1,0 +1,151 @@
+//! What changes between the areas of two images.
+ghost use Rattle.std.specs.Prelude.{◌≡◌, ◌+◌, ◌-◌, ◌*◌, ◌/◌, ◌≤◌, ◌++◌, length, false, true, MatchOption, IfOk, OnOk};
+ghost use Rattle.flashmap_changes.specs.AreaChanges.{range_of, is_compared, left_after, content_changes, left_after_pair, changes_of, changes_in, area_changes};
+ghost use Rattle.flashmap_changes.specs.Blocks.{blocks_of};
+ghost use Rattle.flashmap_changes.specs.Images.{HasCompared, OnBoth};
+
+use crate::blocks::different_in;
+use crate::change::{AreaChange, ChangeFault, push_if};
+use crate::pairs::{Pair, pairs, push_gone};
+use flash_store::{Flash, Paged, Region};
+use flashmap_check::{AreaNames, NumberedArea};
+use std::alloc::Global;
+
+/// How many times the length of the new image is compared at most. Areas of a map may hold each other, and a map may have
+/// 65535 areas that each hold the whole image.
+const MOST_TIMES: u64 = 8;
+
+/// The regions of two areas, where they are compared.
+fn compared_regions(
+    left: u64,
+    old_len: u64,
+    old: NumberedArea,
+    new_len: u64,
+    new: NumberedArea,
+) -> Option<(Region, Region)>
+    ensures { MatchOption result (is_compared left old_len new_len old new ≡ false) (λ regions.
+        (is_compared left old_len new_len old new ≡ true) × (regions.0 ≡ range_of old) × (regions.1 ≡ range_of new)
+        × (old.area.offset + old.area.size ≤ old_len) × (new.area.offset + new.area.size ≤ new_len) × (new.area.size ≤ left)) }
+{
+    let size = u64::from(new.area.size);
+    if old.area.size != new.area.size || size > left {
+        return None;
+    }
+    let (Some(old_region), Some(new_region)) = (
+        Region::within(u64::from(old.area.offset), size, old_len),
+        Region::within(u64::from(new.area.offset), size, new_len),
+    ) else {
+        return None;
+    };
+    Some((old_region, new_region))
+}
+
+/// Tells of the bytes of two areas of one size.
+fn push_content_changes<F: Flash, G: Flash>(
+    changes: &mut Vec<AreaChange>,
+    left: &mut u64,
+    old_image: &mut Paged<F>,
+    old: NumberedArea,
+    new_image: &mut Paged<G>,
+    new: NumberedArea,
+) -> Result<(), ChangeFault>
+    ensures after { HasCompared F.facts G.facts (blocks_of (left.old - left.new))
+        old_image.old old_image.new new_image.old new_image.new result }
+    ensures left { left.new ≡ left_after left.old (length (F.facts old_image.old.device).content)
+        (length (G.facts new_image.old.device).content) old new }
+    ensures fewer { left.new ≤ left.old }
+    ensures changes { OnBoth F.facts old_image.old.device G.facts new_image.old.device (λ x y.
+        OnOk result (changes.new.items ≡ changes.old.items ++ content_changes left.old x y old new)) }
+{
+    let compared = compared_regions(*left, old_image.len(), old, new_image.len(), new);
+    let Some((old_region, new_region)) = compared else {
+        push_if(changes, true, AreaChange::NotCompared(new))?;
+        return Ok(());
+    };
+    *left -= u64::from(new.area.size);
+    let blocks = different_in(old_image, old_region, new_image, new_region)?;
+    push_if(
+        changes,
+        blocks > 0,
+        AreaChange::Differs { area: new, blocks },
+    )?;
+    Ok(())
+}
+
+/// Tells of one area of the new map.
+fn push_changes_of<F: Flash, G: Flash>(
+    changes: &mut Vec<AreaChange>,
+    left: &mut u64,
+    old_image: &mut Paged<F>,
+    new_image: &mut Paged<G>,
+    pair: Pair,
+) -> Result<(), ChangeFault>
+    ensures after { HasCompared F.facts G.facts (blocks_of (left.old - left.new))
+        old_image.old old_image.new new_image.old new_image.new result }
+    ensures left { OnOk result (left.new ≡ left_after_pair left.old (length (F.facts old_image.old.device).content)
+        (length (G.facts new_image.old.device).content) pair) }
+    ensures fewer { left.new ≤ left.old }
+    ensures changes { OnBoth F.facts old_image.old.device G.facts new_image.old.device (λ x y.
+        OnOk result (changes.new.items ≡ changes.old.items ++ changes_of left.old x y pair)) }
+{
+    let new = pair.new;
+    let Some(old) = pair.old else {
+        push_if(changes, true, AreaChange::Added(new))?;
+        return Ok(());
+    };
+    let is_moved = old.area.offset != new.area.offset;
+    push_if(changes, is_moved, AreaChange::Moved { old, new })?;
+    if old.area.size != new.area.size {
+        push_if(changes, true, AreaChange::Resized { old, new })?;
+        return Ok(());
+    }
+    push_content_changes(changes, left, old_image, old, new_image, new)
+}
+
+/// Tells of the areas of the new map.
+fn push_changes<F: Flash, G: Flash>(
+    changes: &mut Vec<AreaChange>,
+    old_image: &mut Paged<F>,
+    new_image: &mut Paged<G>,
+    pairs: &[Pair],
+) -> Result<(), ChangeFault>
+    ensures after { HasCompared F.facts G.facts (8 * length (G.facts new_image.old.device).content / 4096 + length pairs.now)
+        old_image.old old_image.new new_image.old new_image.new result }
+    ensures changes { OnBoth F.facts old_image.old.device G.facts new_image.old.device (λ x y.
+        OnOk result (changes.new.items ≡ changes.old.items ++ changes_in (8 * length y) x y pairs.now)) }
+{
+    let mut left = MOST_TIMES * new_image.len();
+    for pair in pairs {
+        push_changes_of(changes, &mut left, old_image, new_image, *pair)?;
+    }
+    Ok(())
+}
+
+/// What changes between the areas of an old image and those of a new one: of each area of the new map that its name
+/// reaches, in the map's order, whether it is added, moved or resized and in how many blocks its bytes differ; then which
+/// areas of the old map are gone.
+/// `OldDevice` comes exactly where the device with the old image refused a read, and `NewDevice` where the other one did;
+/// then nothing is told.
+pub fn area_changes<'a, F: Flash, G: Flash>(
+    alloc: Global,
+    old_image: &mut Paged<F>,
+    old_areas: &'a [NumberedArea],
+    new_image: &mut Paged<G>,
+    new_areas: &'a [NumberedArea],
+) -> Result<Vec<AreaChange>, ChangeFault>
+    // On any devices.
+    ensures after { HasCompared F.facts G.facts (8 * length (G.facts new_image.old.device).content / 4096 + length new_areas.now)
+        old_image.old old_image.new new_image.old new_image.new result }
+
+    // On honest devices.
+    ensures changes { OnBoth F.facts old_image.old.device G.facts new_image.old.device (λ x y.
+        IfOk result (λ changes. changes.items ≡ area_changes x old_areas.now y new_areas.now)) }
+{
+    let old_names = AreaNames::of(alloc, old_areas)?;
+    let new_names = AreaNames::of(alloc, new_areas)?;
+    let pairs = pairs(alloc, &old_names, &new_names, new_areas)?;
+    let mut changes = Vec::new(alloc);
+    push_changes(&mut changes, old_image, new_image, &pairs)?;
+    push_gone(&mut changes, &old_names, &new_names, old_areas)?;
+    Ok(changes)
+}
