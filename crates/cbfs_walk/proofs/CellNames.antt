@@ -1,6 +1,6 @@
 -- The name of a component whose cell stands in a region.
-use Rattle.std.proofs.Common.{◌≡◌, ℕ, ◌+◌, ◌-◌, ◌<◌, ◌≤◌, min, Bool, true, false, List, ◌++◌, length, take, drop, Result, Ok, Err, sym, ap, ◌∙◌, arith, ltb, ◌⊎◌, inl, inr}
-use Rattle.std.specs.Prelude.{slice_range, IfOk, OnOk}
+use Rattle.std.proofs.Common.{◌≡◌, ℕ, ◌+◌, ◌-◌, ◌<◌, ◌≤◌, min, true, false, List, ◌++◌, length, take, drop, sym, ap, ◌∙◌, arith, ltb, ◌⊎◌, inl, inr}
+use Rattle.std.specs.Prelude.{slice_range}
 use Rattle.std.specs.List.{list_any, before_first, position_or_len}
 use Rattle.std.specs.Str.{bytes_eq}
 use Rattle.std.proofs.lemmas.List.{take-append-le}
@@ -8,7 +8,6 @@ use Rattle.flash_format.specs.declared.head.Head.{Head}
 use Rattle.flash_format.specs.Head.{head_of, is_free}
 use Rattle.flash_format.specs.Entry.{name_end, name_field, name_of, is_nul, has_name}
 use Rattle.flash_format.specs.Components.{cell_name}
-use Rattle.flash_store.specs.declared.flash.FlashFault.{FlashFault}
 use Rattle.cbfs_walk.specs.Cells.{PassesChecks, cell_in}
 use Rattle.cbfs_walk.specs.Walks.{StandsIn}
 use Rattle.cbfs_walk.specs.declared.cell.Cell.{Cell}
@@ -68,42 +67,28 @@ module _ (x : List ℕ) (size : ℕ) (c : Cell) (is : PassesChecks size c) (used
       omega (arith, length-range x (c.at + 24) (c.at + name_end c.head) (omega (arith, f.inside, len)), f.low)
 
   -- the text that stands first in what is read of the field
-  read_name : (n m room : ℕ) (out : List ℕ) → room + 24 ≡ name_end c.head → n ≡ min room 255 → m ≡ n → StandsIn x c → out ≡ slice_range x (c.at + 24) (c.at + 24 + m)
+  pub read_name : (n room : ℕ) (out : List ℕ) → room + 24 ≡ name_end c.head → n ≡ min room 255 → StandsIn x c → out ≡ slice_range x (c.at + 24) (c.at + 24 + n)
       → before_first is_nul out ≡ cell_name (cell_in x c)
-  read_name n m room out fits is_min same stands read =
+  read_name n room out fits is_min stands read =
       let named = shows_name x size c is used stands in
-      let field = length-field in
-      let prefix : out ≡ take n (field_of x c) =
-      read ∙ ap (λ j. slice_range x (c.at + 24) (c.at + 24 + j)) same ∙ sym (field_prefix x c n (omega (arith, fits, is_min))) in
-      ap (before_first is_nul) prefix
-      ∙ text_prefix n (field_of x c) (omega (arith, fits, is_min, named.short, named.within, field))
+      ap (before_first is_nul) (read ∙ sym (field_prefix x c n (omega (arith, fits, is_min))))
+      ∙ text_prefix n (field_of x c) (omega (arith, fits, is_min, named.short, named.within, length-field))
       ∙ sym named.name
 
-  pub name_written : (r : Result ℕ FlashFault) (n m room : ℕ) (out rest : List ℕ) → room + 24 ≡ name_end c.head → n ≡ min room 255 → m ≡ n → StandsIn x c
-      → IfOk r (λ k. k ≡ length (before_first is_nul out)) → OnOk r (out ≡ slice_range x (c.at + 24) (c.at + 24 + m))
-      → IfOk r (λ k. take k (out ++ rest) ≡ cell_name (cell_in x c))
-  name_written (Err e) n m room out rest fits is_min same stands told read = tt
-  name_written (Ok k) n m room out rest fits is_min same stands told read =
+  pub name_written : (k n room : ℕ) (out rest : List ℕ) → room + 24 ≡ name_end c.head → n ≡ min room 255 → StandsIn x c
+      → k ≡ length (before_first is_nul out) → out ≡ slice_range x (c.at + 24) (c.at + 24 + n) → take k (out ++ rest) ≡ cell_name (cell_in x c)
+  name_written k n room out rest fits is_min stands told read =
       let count : k ≡ position_or_len is_nul out = told ∙ text_len out in
       let short : k ≤ length out = omega (arith, count, text_most out) in
-      take-append-le k out rest short ∙ ap (λ j. take j out) count ∙ read_name n m room out fits is_min same stands read
-
-  pub name_counted : (r : Result ℕ FlashFault) (n m room : ℕ) (out : List ℕ) → room + 24 ≡ name_end c.head → n ≡ min room 255 → m ≡ n → StandsIn x c
-      → IfOk r (λ k. k ≡ length (before_first is_nul out)) → OnOk r (out ≡ slice_range x (c.at + 24) (c.at + 24 + m))
-      → IfOk r (λ k. k ≡ length (cell_name (cell_in x c)))
-  name_counted (Err e) n m room out fits is_min same stands told read = tt
-  name_counted (Ok k) n m room out fits is_min same stands told read = told ∙ ap length (read_name n m room out fits is_min same stands read)
+      take-append-le k out rest short ∙ ap (λ j. take j out) count ∙ read_name n room out fits is_min stands read
 
   -- ---- the name is compared
 
-  pub name_compared : (r : Result Bool FlashFault) (room : ℕ) (name : List ℕ) → room + 24 ≡ name_end c.head → length name < room → StandsIn x c
-      → IfOk r (λ s. s ≡ bytes_eq (before_first is_nul (slice_range x (c.at + 24) (c.at + 24 + (length name + 1)))) name)
-      → IfOk r (λ s. s ≡ bytes_eq (cell_name (cell_in x c)) name)
-  name_compared (Err e) room name fits shorter stands told = tt
-  name_compared (Ok s) room name fits shorter stands told =
+  pub name_compared : (room : ℕ) (name out : List ℕ) → room + 24 ≡ name_end c.head → length name < room → StandsIn x c → out ≡ slice_range x (c.at + 24) (c.at + 24 + (length name + 1))
+      → bytes_eq (before_first is_nul out) name ≡ bytes_eq (cell_name (cell_in x c)) name
+  name_compared room name out fits shorter stands read =
       let named = shows_name x size c is used stands in
-      told
-      ∙ ap (λ l. bytes_eq (before_first is_nul l) name) (sym (field_prefix x c (length name + 1) (omega (arith, fits, shorter))))
+      ap (λ l. bytes_eq (before_first is_nul l) name) (read ∙ sym (field_prefix x c (length name + 1) (omega (arith, fits, shorter))))
       ∙ text_is (field_of x c) name (length name + 1) (omega arith) named.within
       ∙ ap (λ t. bytes_eq t name) (sym named.name)
 
@@ -117,16 +102,8 @@ module _ (x : List ℕ) (size : ℕ) (c : Cell) (is : PassesChecks size c) (used
       longer (inl lt) short within = omega arith
       longer (inr le) short within = omega arith
 
-pub name_short : (r : Result ℕ FlashFault) (out : List ℕ) (most : ℕ) → IfOk r (λ k. k ≡ length (before_first is_nul out)) → length out ≤ most → IfOk r (λ k. k ≤ most)
-name_short (Err e) out most told le = tt
-name_short (Ok k) out most told le = omega (arith, told ∙ text_len out, text_most out, le)
-
--- a NUL shows before the end of what is read
-pub nul_shown : (out all : List ℕ) (k : ℕ) → k ≡ length (before_first is_nul out) → out ≡ all → ltb k (length out) ≡ list_any is_nul all
-nul_shown out all k told read = ap (λ j. ltb j (length out)) (told ∙ text_len out) ∙ sym (any_len out) ∙ ap (list_any is_nul) read
-
 -- a NUL within the name field shows in its first 256 bytes
-pub nul_in_field : (r : Result Bool FlashFault) (x : List ℕ) (at end room n : ℕ) → IfOk r (λ b. b ≡ list_any is_nul (slice_range x (at + 24) (at + 24 + n)))
-    → room + 24 ≡ end → n ≡ min room 256 → IfOk r (λ b. b ≡ has_name (slice_range (drop at x) 24 end))
-nul_in_field (Err e) x at end room n told fits is_min = tt
-nul_in_field (Ok b) x at end room n told fits is_min = name_read x at end n b told (omega (arith, fits)) (omega (arith, fits, is_min))
+pub nul_in_field : (x : List ℕ) (at end room n k : ℕ) (out : List ℕ) → k ≡ length (before_first is_nul out) → length out ≡ n → out ≡ slice_range x (at + 24) (at + 24 + n)
+    → room + 24 ≡ end → n ≡ min room 256 → ltb k n ≡ has_name (slice_range (drop at x) 24 end)
+nul_in_field x at end room n k out told size read fits is_min =
+    name_read x at end n (ltb k n) (ap (λ j. ltb j n) (told ∙ text_len out) ∙ ap (ltb (position_or_len is_nul out)) (sym size) ∙ sym (any_len out) ∙ ap (list_any is_nul) read) (omega (arith, fits)) (omega (arith, fits, is_min))

@@ -1,5 +1,5 @@
 -- The digest of a component's content: the pieces of which it is made, and what the first hash attribute says of it.
-use Rattle.std.proofs.Common.{◌≡◌, ℕ, ◌+◌, ◌-◌, ◌≤◌, Bool, true, false, cond, IsTrue, List, ◌++◌, take, drop, length, Some, None, Result, Ok, refl, sym, subst, ap, ◌∙◌, arith}
+use Rattle.std.proofs.Common.{◌≡◌, ℕ, ◌+◌, ◌-◌, ◌≤◌, Bool, true, false, cond, IsTrue, List, ◌++◌, take, drop, length, Some, None, refl, sym, subst, ap, ◌∙◌, arith}
 use Rattle.std.specs.Prelude.{slice_range}
 use Rattle.std.specs.Str.{bytes_eq}
 use Rattle.std.proofs.lemmas.Bool.Decides.{nat_tests}
@@ -11,16 +11,12 @@ use Rattle.flash_format.specs.declared.digest.Digest.TheVariants as digests
 use Rattle.flash_format.specs.declared.head.Head.{Head}
 use Rattle.flash_format.specs.Head.{be32, is_free}
 use Rattle.flash_format.specs.Attributes.{HASH}
-use Rattle.flash_format.specs.Entry.{name_end}
 use Rattle.flash_format.specs.Components.{cell_attributes, cell_content}
 use Rattle.std.proofs.lemmas.List.{take-append-drop}
 use Rattle.flash_store.specs.Device.{Device}
-use Rattle.flash_store.specs.Pages.{Pages, HasSeen, HasAnswered}
-use Rattle.flash_store.specs.Regions.{Range, LiesIn, bytes_in}
-use Rattle.flash_store.specs.Scans.{ScansTo}
-use Rattle.flash_store.proofs.DeviceLemmas.{honest_still}
-use Rattle.flash_store.proofs.WindowLemmas.{ScansTo-on, ScansTo-then}
-use Rattle.cbfs_walk.specs.Passing.{HasPassed, reads_over}
+use Rattle.flash_store.specs.Pages.{Pages}
+use Rattle.flash_store.specs.Regions.{Range, bytes_in}
+use Rattle.cbfs_walk.specs.Passing.{Passes}
 use Rattle.cbfs_walk.specs.Cells.{PassesChecks, cell_in}
 use Rattle.cbfs_walk.specs.Walks.{StandsIn}
 use Rattle.cbfs_walk.specs.Hashes.{sha256_of, sha512_of, digest_like, has_sha256, has_sha512, stored_digest, compared, state_of, data_of, hash_state, content_at, hash_state_in, IsUncompared}
@@ -31,8 +27,7 @@ use Rattle.flash_format.specs.Made.{digest_bytes}
 use Rattle.cbfs_walk.proofs.Parts.{range-inner, range-take, range-after, length-range}
 use Rattle.cbfs_walk.proofs.Checks.{checks_give}
 use Rattle.cbfs_walk.proofs.CutLaws.{standing, cell_head, cell_part}
-use Rattle.cbfs_walk.proofs.Reading.{HasPassed-none, HasPassed-on, HasPassed-then, HasPassed-answers, read_passes}
-use Rattle.cbfs_walk.proofs.Scanning.{data_found, Scanning, left_by, scanned}
+use Rattle.cbfs_walk.proofs.Scanning.{data_found, Scanning, told_before, scanning_more}
 
 -- ---- a hasher that takes the bytes between two places, piece by piece
 
@@ -53,39 +48,16 @@ HoldsPart holds r image from at hasher = holds hasher (slice_range (bytes_in r i
 abbrev pub Taking : {F H : Type 0} → (F → Device) → (H → List ℕ → Type 0) → Range → ℕ → ℕ → ℕ → Pages F → Pages F → H → Type 0
 Taking facts holds r from end at old now hasher = Scanning facts r from end at old now (HoldsPart holds r (facts old.device).content from at hasher)
 
-pub lies_still : {F : Type 0} (facts : F → Device) (r : Range) (from end at : ℕ) (old now : Pages F) (Asked : Type 0) → Scanning facts r from end at old now Asked → LiesIn r (facts old.device).content → LiesIn r (facts now.device).content
-lies_still facts r from end at old now Asked s lies = omega (arith, lies, (left_by facts r from end at old now Asked s).calls.same_length)
-
 -- one piece more
-pub taking_more : {F H T E : Type 0} (facts : F → Device) (holds : H → List ℕ → Type 0) (r : Range) (from end at n : ℕ) (old now new : Pages F) (before hasher : H) (x : T) → Taking facts holds r from end at old now before
-    → LiesIn r (facts old.device).content → end ≤ r.size → at + n ≤ end → n ≤ 256 → HasSeen {E = E} facts (r.start + at) n now new (Ok x)
-    → (IsTrue (facts now.device).honest → (m : List ℕ) → holds before m → holds hasher (m ++ slice_range (bytes_in r (facts now.device).content) at (at + n)))
+pub taking_more : {F H : Type 0} (facts : F → Device) (holds : H → List ℕ → Type 0) (r : Range) (from end at n : ℕ) (old now new : Pages F) (before hasher : H) (piece : List ℕ) → Taking facts holds r from end at old now before
+    → at + n ≤ end → Passes facts r at at 0 now new → (IsTrue (facts now.device).honest → piece ≡ slice_range (bytes_in r (facts now.device).content) at (at + n)) → ((m : List ℕ) → holds before m → holds hasher (m ++ piece))
     → Taking facts holds r from end (at + n) old new hasher
-taking_more {F} {H} {T} {E} facts holds r from end at n old now new before hasher x s lies inside fits short seen taken =
-    let passed : HasPassed {E = E} facts (r.start + at) (r.start + at) now new (Ok x) = read_passes facts r at n now new (Ok x) (lies_still facts r from end at old now _ s lies) (omega (arith, inside, fits)) short seen in
-    record {
-      low = omega (arith, s.low);
-      high = fits;
-      scans = ScansTo-on facts (r.start + from) (r.start + at) (r.start + (at + n)) old new (omega arith) (ScansTo-then facts (r.start + from) (r.start + at) (r.start + at) old now new s.scans passed.scans);
-      asked = λ k.
-          let kept = left_by facts r from end at old now _ s in
-          let more = taken (honest_still kept.calls.same_honesty k) (slice_range (bytes_in r (facts old.device).content) from at) (s.asked k) in
-          rw (← range-join (bytes_in r (facts old.device).content) from at n s.low) (rw (kept.unchanged k) at more);
-    }
-
--- all were taken
-pub taken_all : {F H T E : Type 0} (facts : F → Device) (holds : H → List ℕ → Type 0) (r : Range) (from end at : ℕ) (old now : Pages F) (hasher : H) (x : T) → Taking facts holds r from end at old now hasher → HasPassed {E = E} facts (r.start + from) (r.start + end) old now (Ok x)
-taken_all facts holds r from end at old now hasher x s = scanned facts r from end at old now now _ (Ok x) s (HasPassed-none facts (r.start + at) now x)
+taking_more facts holds r from end at n old now new before hasher piece s fits read shown taken = scanning_more s n new _ fits read (λ k held.
+    let x = bytes_in r (facts old.device).content in
+    let same = told_before s (λ image. piece ≡ slice_range (bytes_in r image) at (at + n)) shown k in
+    rw (← range-join x from at n s.low, ← same) (taken (slice_range x from at) held))
 
 -- ---- the digest in a hash attribute
-
--- a read after that of the algorithm
-pub after_algorithm : {F T E : Type 0} (facts : F → Device) (r : Range) (at n k : ℕ) (old mid new : Pages F) (result : Result T E) → LiesIn r (facts mid.device).content → at + n ≤ r.size → 4 + k ≤ n → k ≤ 256
-    → ScansTo facts (r.start + at) (r.start + at) old mid → HasSeen facts (r.start + (at + 4)) k mid new result → HasPassed facts (r.start + at) (r.start + (at + n)) old new result
-after_algorithm facts r at n k old mid new result lies inside fits short first seen =
-    HasPassed-on facts (r.start + at) (r.start + (at + 4)) (r.start + (at + n)) old new result (omega (arith, fits))
-    (HasPassed-then facts (r.start + at) (r.start + at) (r.start + (at + 4)) (r.start + (at + 4)) old mid new result (omega arith) first
-    (read_passes facts r (at + 4) k mid new result lies (omega (arith, inside, fits)) short seen))
 
 -- what is read where an attribute's data begins and in the bytes after
 data_parts : (x : List ℕ) (at n number : ℕ) → number ≡ be32 at x → 4 ≤ n → at + n ≤ length x → (be32 0 (slice_range x at (at + n)) ≡ number) × (length (slice_range x at (at + n)) ≡ n)
@@ -160,21 +132,6 @@ state_found x size c inside is stands used =
     ap (λ d. state_of d (content_at x c)) (data_found HASH x c inside stands used)
     ∙ ap (state_of (data_of HASH (cell_attributes (cell_in x c)))) (sym content)
 
--- ---- how many calls show a component's digests
-
--- the reads up to the data of an attribute, and those of the data
-pub data_passes : {F T E : Type 0} (facts : F → Device) (start : ℕ) (c : Cell) (at len : ℕ) (old mid new : Pages F) (result : Result T E) → 8 ≤ len → at + len ≤ c.at + c.head.offset
-    → ScansTo facts (start + (c.at + name_end c.head)) (start + at) old mid → HasPassed facts (start + (at + 8)) (start + (at + 8 + (len - 8))) mid new result
-    → HasPassed facts (start + (c.at + name_end c.head)) (start + (c.at + c.head.offset)) old new result
-data_passes facts start c at len old mid new result room fits first p =
-    HasPassed-on facts (start + (c.at + name_end c.head)) (start + (at + 8 + (len - 8))) (start + (c.at + c.head.offset)) old new result (omega (arith, room, fits))
-    (HasPassed-then facts (start + (c.at + name_end c.head)) (start + at) (start + (at + 8)) (start + (at + 8 + (len - 8))) old mid new result (omega arith) first p)
-
--- the same by what stands before the content alone
-pub front_answers : {F T E : Type 0} (facts : F → Device) (start : ℕ) (c : Cell) (old new : Pages F) (result : Result T E) → HasPassed facts (start + (c.at + name_end c.head)) (start + (c.at + c.head.offset)) old new result → HasAnswered facts (reads_over c.head.offset) old new result
-front_answers facts start c old new result p =
-    HasPassed-answers facts (start + (c.at + name_end c.head)) (start + (c.at + c.head.offset)) (reads_over c.head.offset) old new result (omega arith) p
-
 -- a digest that is compared is not told without the content
 pub compared_is_told : (stored computed : Digest) (state : HashState) → state ≡ compared stored computed → IsUncompared state → ⊥
 compared_is_told stored computed state is = go (bytes_eq (digest_bytes stored) (digest_bytes computed)) is
@@ -182,13 +139,3 @@ compared_is_told stored computed state is = go (bytes_eq (digest_bytes stored) (
     go : (b : Bool) → state ≡ cond b (Valid stored) (Invalid stored) → IsUncompared state → ⊥
     go true e told = subst (λ (s : HashState). IsUncompared s) e told
     go false e told = subst (λ (s : HashState). IsUncompared s) e told
-
-pub attributes_answers : {F T E : Type 0} (facts : F → Device) (start size : ℕ) (c : Cell) (old new : Pages F) (result : Result T E) → PassesChecks size c → HasPassed facts (start + (c.at + name_end c.head)) (start + (c.at + c.head.offset)) old new result → HasAnswered facts (reads_over c.span) old new result
-attributes_answers facts start size c old new result is p =
-    HasPassed-answers facts (start + (c.at + name_end c.head)) (start + (c.at + c.head.offset)) (reads_over c.span) old new result (omega (arith, (checks_give (size - c.at) c.head c.span is).fits)) p
-
-pub content_answers : {F T E : Type 0} (facts : F → Device) (start size : ℕ) (c : Cell) (old mid new : Pages F) (result : Result T E) → PassesChecks size c → ScansTo facts (start + (c.at + name_end c.head)) (start + (c.at + c.head.offset)) old mid
-    → HasPassed facts (start + (c.at + c.head.offset)) (start + (c.at + (c.head.offset + c.head.len))) mid new result → HasAnswered facts (reads_over c.span) old new result
-content_answers facts start size c old mid new result is first p =
-    HasPassed-answers facts (start + (c.at + name_end c.head)) (start + (c.at + (c.head.offset + c.head.len))) (reads_over c.span) old new result (omega (arith, (checks_give (size - c.at) c.head c.span is).fits))
-    (HasPassed-then facts (start + (c.at + name_end c.head)) (start + (c.at + c.head.offset)) (start + (c.at + c.head.offset)) (start + (c.at + (c.head.offset + c.head.len))) old mid new result (omega arith) first p)

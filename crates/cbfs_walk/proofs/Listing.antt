@@ -192,6 +192,13 @@ stepped x k a p q w l view from to inside is all left = go l is
         (ap first_head (sym none), none_left ∙ ap (λ (l : List Attribute). Some (after_first l)) (sym none))
     go Malformed is = let e : (let o : Option (List Attribute) = None in o) ≡ Some all = sym (goes_malformed (slice_range x p q) is) ∙ here in absurd cc
 
+-- without an attribute the walk ends
+pub gives_none : (x : List ℕ) (k : Cell) (a : ℕ) (all : List Attribute) (l : declared.Listed) → ((h : AttrHead) → l ≡ listed.Attribute h → ⊥) → GivesListed x k a all l
+    → (None ≡ first_head all) × (attributes_left x (record { cell = k; at = k.head.offset }) ≡ Some (after_first all))
+gives_none x k a all (listed.Attribute h) other gives = absurd (other h refl)
+gives_none x k a all End other gives = gives
+gives_none x k a all Malformed other gives = absurd gives
+
 pub walk_step : (r : Range) (image : List ℕ) (k : Cell) (a p q : ℕ) (w : AttrWalking) (l : declared.Listed) → LiesIn r image → w.cell.at + w.cell.head.offset ≤ r.size → w ≡ record { cell = k; at = a }
     → p ≡ k.at + a → q ≡ k.at + k.head.offset → l ≡ listed_in (slice_range (bytes_in r image) p q)
     → (all : List Attribute) → attributes_left (bytes_in r image) w ≡ Some all → GivesListed (bytes_in r image) k a all l

@@ -1,20 +1,18 @@
 -- A scan of attributes on a device, from place to place.
-use Rattle.std.proofs.Common.{◌≡◌, ℕ, ◌+◌, ◌-◌, ◌≤◌, Bool, true, false, cond, IsTrue, List, [], ◌∷◌, drop, Option, Some, None, Result, refl, sym, ap, ◌∙◌, arith, eqb, zero, suc, le_refl, length-drop, length}
+use Rattle.std.proofs.Common.{◌≡◌, ℕ, ◌+◌, ◌≤◌, Bool, true, false, cond, IsTrue, List, [], ◌∷◌, drop, Option, Some, None, refl, sym, subst, ap, ◌∙◌, arith, eqb, zero, suc, le_refl, length-drop, length}
 use Rattle.std.specs.Prelude.{slice_range, is_some, unwrap_or, IfSome}
 use Rattle.std.specs.Option.{option_map, option_or}
 use Rattle.byteorder.specs.Endian.{big_number}
 use Rattle.flash_format.specs.declared.attribute.AttrHead.{AttrHead}
 use Rattle.flash_format.specs.Head.{be32, is_free}
-use Rattle.flash_format.specs.Attributes.{Attribute, attribute, attributes, attr_head_of, packing_in, least_len, COMPRESSION, ends_list}
+use Rattle.flash_format.specs.Attributes.{Attribute, attribute, attributes, attr_head_of, packing_in, least_len, COMPRESSION, ends_list, is_malformed}
 use Rattle.flash_format.specs.Entry.{name_end}
 use Rattle.flash_format.specs.Components.{packing, cell_attributes}
 use Rattle.flash_store.specs.Device.{Device}
-use Rattle.flash_store.specs.Device.{Reads}
 use Rattle.flash_store.specs.Pages.{Pages}
-use Rattle.flash_store.specs.Scans.{ScansTo}
-use Rattle.cbfs_walk.specs.Passing.{HasPassed, reads_over}
-use Rattle.flash_store.specs.Regions.{Range, bytes_in}
-use Rattle.cbfs_walk.specs.Cells.{PassesChecks, cell_in}
+use Rattle.flash_store.specs.Regions.{Range, LiesIn, bytes_in}
+use Rattle.cbfs_walk.specs.Passing.{Passes}
+use Rattle.cbfs_walk.specs.Cells.{attributes_start, content_start, cell_in}
 use Rattle.cbfs_walk.specs.Walks.{StandsIn}
 use Rattle.cbfs_walk.specs.AttrWalks.{IsAttrIn, after_first}
 use Rattle.cbfs_walk.specs.Hashes.{data_of, data_at}
@@ -24,156 +22,137 @@ use Rattle.cbfs_walk.specs.declared.attribute_walk.Listed as declared
 use Rattle.cbfs_walk.specs.declared.attribute_walk.Listed.TheVariants as listed
 use Rattle.flash_format.proofs.AttributeSteps.{attributes_end}
 use Rattle.flash_store.proofs.DeviceLemmas.{honest_still}
-use Rattle.flash_store.proofs.WindowLemmas.{ScansTo-none, ScansTo-on, ScansTo-then}
-use Rattle.cbfs_walk.proofs.Reading.{HasPassed-on, HasPassed-then, ScansTo-reads}
+use Rattle.cbfs_walk.proofs.Reading.{Passes-none, Passes-then}
 use Rattle.cbfs_walk.proofs.Parts.{range-inner, range-after, length-range}
-use Rattle.cbfs_walk.proofs.CellNames.{has_field}
-use Rattle.cbfs_walk.proofs.Listing.{Goes, goes, goes_end, goes_malformed, goes_none, goes_on, listed_all}
+use Rattle.cbfs_walk.proofs.Listing.{goes, goes_end, goes_malformed, goes_none, goes_on, listed_all}
 
--- the scan of a region has come to a place, and what is asked of the list is asked of the rest
+-- the scan of a region has come to a place, and what is asked of it is so
 pub record Scanning {F : Type 0} (facts : F → Device) (r : Range) (from end at : ℕ) (old now : Pages F) (Asked : Type 0) : Type 0 where
   pub low : from ≤ at
   pub high : at ≤ end
-  pub scans : ScansTo facts (r.start + from) (r.start + at) old now
+  pub passed : Passes facts r from at 0 old now
   pub asked : IsTrue (facts old.device).honest → Asked
 
--- what it left as it was
-pub left_by : {F : Type 0} (facts : F → Device) (r : Range) (from end at : ℕ) (old now : Pages F) (Asked : Type 0) → Scanning facts r from end at old now Asked → Reads (reads_over (r.start + at - (r.start + from))) 0 (facts old.device) (facts now.device)
-left_by facts r from end at old now Asked s = (ScansTo-reads facts (r.start + from) (r.start + at) old now s.scans).device
-
 pub scanning_start : {F : Type 0} (facts : F → Device) (r : Range) (from end : ℕ) (old : Pages F) (Asked : Type 0) → from ≤ end → (IsTrue (facts old.device).honest → Asked) → Scanning facts r from end from old old Asked
-scanning_start facts r from end old Asked le asked = record { low = omega arith; high = le; scans = ScansTo-none facts (r.start + from) old; asked = asked }
+scanning_start facts r from end old Asked le asked = record { low = le_refl from; high = le; passed = Passes-none facts r from old; asked = asked }
 
-scanning_more : {F : Type 0} (facts : F → Device) (r : Range) (from end at n : ℕ) (h : AttrHead) (old now new : Pages F) (Before After : Type 0) → Scanning facts r from end at old now Before → n ≡ h.len → IsAttrIn at end h
-    → ScansTo facts (r.start + at) (r.start + at) now new → (IsTrue (facts old.device).honest → (facts now.device).content ≡ (facts old.device).content → Before → After) → Scanning facts r from end (at + n) old new After
-scanning_more facts r from end at n h old now new Before After s e is step next = record {
-  low = omega (arith, s.low);
-  high = omega (arith, is.inside, e);
-  scans = ScansTo-on facts (r.start + from) (r.start + at) (r.start + (at + n)) old new (omega arith) (ScansTo-then facts (r.start + from) (r.start + at) (r.start + at) old now new s.scans step);
-  asked = λ k. next k ((left_by facts r from end at old now Before s).unchanged k) (s.asked k);
-}
+module _ {F : Type 0} {facts : F → Device} {r : Range} {from end at : ℕ} {old now : Pages F} {Asked : Type 0} (s : Scanning facts r from end at old now Asked) where
+  -- what the device has now it had before
+  pub told_before : (P : List ℕ → Type 0) → (IsTrue (facts now.device).honest → P (facts now.device).content) → IsTrue (facts old.device).honest → P (facts old.device).content
+  told_before P told k = subst P (s.passed.read.device.unchanged k) (told (honest_still s.passed.read.device.calls.same_honesty k))
 
--- the scan comes to its end with the next read
-pub scanned : {F T E : Type 0} (facts : F → Device) (r : Range) (from end at : ℕ) (old now new : Pages F) (Asked : Type 0) (result : Result T E) → Scanning facts r from end at old now Asked
-    → HasPassed facts (r.start + at) (r.start + at) now new result → HasPassed facts (r.start + from) (r.start + end) old new result
-scanned facts r from end at old now new Asked result s read =
-    HasPassed-on facts (r.start + from) (r.start + at) (r.start + end) old new result (omega (arith, s.high))
-    (HasPassed-then facts (r.start + from) (r.start + at) (r.start + at) (r.start + at) old now new result (omega arith) s.scans read)
+  pub lies_still : LiesIn r (facts old.device).content → LiesIn r (facts now.device).content
+  lies_still lies = omega (arith, lies, s.passed.read.device.calls.same_length)
 
--- the scan has come to the attribute that was read last
-pub scanned_so_far : {F : Type 0} (facts : F → Device) (r : Range) (from end p at : ℕ) (old now new : Pages F) (Asked : Type 0) → from ≡ p → Scanning facts r from end at old now Asked → ScansTo facts (r.start + at) (r.start + at) now new
-    → ScansTo facts (r.start + p) (r.start + at) old new
-scanned_so_far facts r from end p at old now new Asked same s step = rw (← same) (ScansTo-then facts (r.start + from) (r.start + at) (r.start + at) old now new s.scans step)
+  -- the scan goes on by a read
+  pub scanning_more : (n : ℕ) (new : Pages F) (After : Type 0) → at + n ≤ end → Passes facts r at at 0 now new → (IsTrue (facts old.device).honest → Asked → After) → Scanning facts r from end (at + n) old new After
+  scanning_more n new After fits step next = record {
+    low = omega (arith, s.low);
+    high = fits;
+    passed = Passes-then s.passed step (le_refl from) (le_refl at) (omega arith);
+    asked = λ k. next k (s.asked k);
+  }
+
+  -- or comes to its end with it
+  pub scanned : {new : Pages F} {refused : ℕ} → Passes facts r at at refused now new → Passes facts r from end refused old new
+  scanned read = Passes-then s.passed read (le_refl from) (le_refl at) s.high
 
 -- the list between two places of a region
 abbrev pub list_at : Range → List ℕ → ℕ → ℕ → List ℕ
 list_at r image at end = slice_range (bytes_in r image) at end
 
-after_is : (r : Range) (image : List ℕ) (at end n : ℕ) (h : AttrHead) → n ≡ h.len → IsAttrIn at end h → drop h.len (list_at r image at end) ≡ list_at r image (at + n) end
-after_is r image at end n h e is =
-    range-after (bytes_in r image) at end h.len (omega (arith, is.inside)) ∙ ap (λ k. slice_range (bytes_in r image) (at + k) end) (sym e)
+-- what is asked of a list is asked of its rest from a place on
+abbrev pub AsksRest : {A : Type 0} → (ℕ → List ℕ → A) → Range → List ℕ → ℕ → ℕ → ℕ → Type 0
+AsksRest ask r image from end at = ask at (list_at r image at end) ≡ ask from (list_at r image from end)
+
+module _ {F A : Type 0} (facts : F → Device) (ask : ℕ → List ℕ → A) (r : Range) (from end at : ℕ) (old now : Pages F) (l : declared.Listed)
+    (s : Scanning facts r from end at old now (AsksRest ask r (facts old.device).content from end at))
+    (told : IsTrue (facts now.device).honest → l ≡ listed_in (list_at r (facts now.device).content at end)) where
+  told_there : IsTrue (facts old.device).honest → l ≡ listed_in (list_at r (facts old.device).content at end)
+  told_there = told_before s (λ image. l ≡ listed_in (list_at r image at end)) told
+
+  -- the answer, where what stands there gives it
+  pub asked_here : (v : A) → ((y : List ℕ) → l ≡ listed_in y → v ≡ ask at y) → IsTrue (facts old.device).honest → v ≡ ask from (list_at r (facts old.device).content from end)
+  asked_here v here k = here (list_at r (facts old.device).content at end) (told_there k) ∙ s.asked k
+
+  -- an attribute that doesn't give it is passed by
+  pub asked_more : (h : AttrHead) (n : ℕ) (new : Pages F) → n ≡ h.len → IsAttrIn at end h → Passes facts r at at 0 now new → ((y : List ℕ) → l ≡ listed_in y → ask at y ≡ ask (at + h.len) (drop h.len y))
+      → Scanning facts r from end (at + n) old new (AsksRest ask r (facts old.device).content from end (at + n))
+  asked_more h n new e is read by = scanning_more s n new _ (omega (arith, is.inside, e)) read (λ k before.
+      let list = list_at r (facts old.device).content at end in
+      let there : drop h.len list ≡ list_at r (facts old.device).content (at + n) end =
+      range-after (bytes_in r (facts old.device).content) at end h.len (omega (arith, is.inside)) ∙ ap (λ k. slice_range (bytes_in r (facts old.device).content) (at + k) end) (sym e) in
+      ap (ask (at + n)) (sym there) ∙ ap (λ k. ask (at + k) (drop h.len list)) e ∙ sym (by list (told_there k)) ∙ before)
 
 -- ---- are all attributes well formed?
 
--- all are well formed where those from a place on are
-abbrev pub FormedFrom : Range → List ℕ → ℕ → ℕ → ℕ → Type 0
-FormedFrom r image from end at = is_some (attributes (list_at r image at end)) ≡ is_some (attributes (list_at r image from end))
+abbrev pub are_formed : ℕ → List ℕ → Bool
+are_formed at y = is_some (attributes y)
 
-pub forming_more : {F : Type 0} (facts : F → Device) (r : Range) (from end at n : ℕ) (h : AttrHead) (old now new : Pages F) → Scanning facts r from end at old now (FormedFrom r (facts old.device).content from end at) → n ≡ h.len → IsAttrIn at end h
-    → ScansTo facts (r.start + at) (r.start + at) now new → (IsTrue (facts now.device).honest → listed.Attribute h ≡ listed_in (list_at r (facts now.device).content at end))
-    → Scanning facts r from end (at + n) old new (FormedFrom r (facts old.device).content from end (at + n))
-forming_more facts r from end at n h old now new s e is reads told = scanning_more facts r from end at n h old now new _ _ s e is reads (λ k same before.
-    let list = list_at r (facts old.device).content at end in
-    let g : Goes list h = goes list h (rw same at (told (honest_still (left_by facts r from end at old now _ s).calls.same_honesty k))) in
-    let there = after_is r (facts old.device).content at end n h e is in
-    ap (λ y. is_some (attributes y)) (sym there) ∙ some_after _ (attributes (drop h.len list)) ∙ ap (λ (o : Option (List Attribute)). is_some o) (sym g.all) ∙ before)
+pub formed_more : (at : ℕ) (h : AttrHead) (y : List ℕ) → listed.Attribute h ≡ listed_in y → are_formed at y ≡ are_formed (at + h.len) (drop h.len y)
+formed_more at h y told = ap (λ (o : Option (List Attribute)). is_some o) (goes y h told).all ∙ some_after (attribute y) (attributes (drop h.len y))
   where
-    some_after : (a : Attribute) (o : Option (List Attribute)) → is_some o ≡ is_some (option_map (λ others. a ∷ others) o)
+    some_after : (a : Attribute) (o : Option (List Attribute)) → is_some (option_map (λ others. a ∷ others) o) ≡ is_some o
     some_after a None = refl
     some_after a (Some others) = refl
 
-pub formed_end : {F : Type 0} (facts : F → Device) (r : Range) (from end at : ℕ) (old now : Pages F) → Scanning facts r from end at old now (FormedFrom r (facts old.device).content from end at)
-    → (IsTrue (facts now.device).honest → listed.End ≡ listed_in (list_at r (facts now.device).content at end)) → IsTrue (facts old.device).honest → true ≡ is_some (attributes (list_at r (facts old.device).content from end))
-formed_end facts r from end at old now s told k =
-    sym (ap (λ (o : Option (List Attribute)). is_some o) (goes_end (list_at r (facts old.device).content at end) (rw ((left_by facts r from end at old now _ s).unchanged k) at (told (honest_still (left_by facts r from end at old now _ s).calls.same_honesty k))))) ∙ s.asked k
+pub formed_end : (at : ℕ) (y : List ℕ) → listed.End ≡ listed_in y → true ≡ are_formed at y
+formed_end at y told = sym (ap (λ (o : Option (List Attribute)). is_some o) (goes_end y told))
 
-pub formed_malformed : {F : Type 0} (facts : F → Device) (r : Range) (from end at : ℕ) (old now : Pages F) → Scanning facts r from end at old now (FormedFrom r (facts old.device).content from end at)
-    → (IsTrue (facts now.device).honest → listed.Malformed ≡ listed_in (list_at r (facts now.device).content at end)) → IsTrue (facts old.device).honest → false ≡ is_some (attributes (list_at r (facts old.device).content from end))
-formed_malformed facts r from end at old now s told k =
-    sym (ap (λ (o : Option (List Attribute)). is_some o) (goes_malformed (list_at r (facts old.device).content at end) (rw ((left_by facts r from end at old now _ s).unchanged k) at (told (honest_still (left_by facts r from end at old now _ s).calls.same_honesty k))))) ∙ s.asked k
+pub formed_malformed : (at : ℕ) (y : List ℕ) → listed.Malformed ≡ listed_in y → false ≡ are_formed at y
+formed_malformed at y told = sym (ap (λ (o : Option (List Attribute)). is_some o) (goes_malformed y told))
 
 -- ---- the first attribute with a tag
 
--- what is asked of a list is asked of its rest from a place on
-pub record FirstFrom (r : Range) (image : List ℕ) (tag from end at : ℕ) : Type 0 where
-  pub left : ℕ
-  pub enough : length (list_at r image at end) ≤ left
-  pub same : first_in tag from (list_at r image from end) ≡ first_within left tag at (list_at r image at end)
+ends_empty : (y : List ℕ) → length y ≤ 0 → ends_list y ≡ true
+ends_empty [] e = refl
+ends_empty (b ∷ y) e = absurd (omega (arith, e))
 
-first_start : (r : Range) (image : List ℕ) (tag from end : ℕ) → FirstFrom r image tag from end from
-first_start r image tag from end = record { left = length (list_at r image from end); enough = le_refl _; same = refl }
-
--- an attribute is given, or the rest is asked
-by_attribute : (n tag at : ℕ) (y : List ℕ) (h : AttrHead) → listed.Attribute h ≡ listed_in y → length y ≤ n
-    → (m : ℕ) × (length (drop h.len y) ≤ m) × (first_within n tag at y ≡ cond (eqb h.tag tag) (Some (at, h)) (first_within m tag (at + h.len) (drop h.len y)))
+none_within : (n tag at : ℕ) (y : List ℕ) (l : declared.Listed) → l ≡ listed_in y → ((h : AttrHead) → l ≡ listed.Attribute h → ⊥) → None ≡ first_within n tag at y
 unfolding first_within
-by_attribute zero tag at y h told enough = let g = goes y h told in absurd (omega (arith, g.least, g.inside, enough))
-by_attribute (suc n) tag at y h told enough =
-    let g = goes y h told in
-    (n, omega (arith, length-drop h.len y, g.least, enough), ap (λ l. by_tag tag at y l (first_within n tag)) (sym told))
+none_within zero tag at y l told other = refl
+none_within (suc n) tag at y (listed.Attribute h) told other = absurd (other h refl)
+none_within (suc n) tag at y listed.End told other = ap (λ l. by_tag tag at y l (first_within n tag)) told
+none_within (suc n) tag at y listed.Malformed told other = ap (λ l. by_tag tag at y l (first_within n tag)) told
 
-none_listed : (n tag at : ℕ) (y : List ℕ) (l : declared.Listed) → l ≡ listed_in y → ((h : AttrHead) → l ≡ listed.Attribute h → ⊥) → first_within n tag at y ≡ None
+none_empty : (n tag at : ℕ) (y : List ℕ) → length y ≤ 0 → None ≡ first_within n tag at y
+none_empty n tag at y few =
+    none_within n tag at y listed.End (sym (ap (λ b. cond b listed.End (cond (is_malformed y) listed.Malformed (listed.Attribute (attr_head_of y)))) (ends_empty y few))) (λ h e. absurd cc)
+
+-- it is the same among as many attributes as bytes, or more
+within_enough : (n m tag at : ℕ) (y : List ℕ) → length y ≤ n → length y ≤ m → first_within n tag at y ≡ first_within m tag at y
 unfolding first_within
-none_listed zero tag at y l told other = refl
-none_listed (suc n) tag at y (listed.Attribute h) told other = absurd (other h refl)
-none_listed (suc n) tag at y listed.End told other = ap (λ l. by_tag tag at y l (first_within n tag)) (sym told)
-none_listed (suc n) tag at y listed.Malformed told other = ap (λ l. by_tag tag at y l (first_within n tag)) (sym told)
+within_enough zero m tag at y few more = none_empty m tag at y few
+within_enough (suc n) zero tag at y few more = sym (none_empty (suc n) tag at y more)
+within_enough (suc n) (suc m) tag at y few more = go (within_enough n m tag) (listed_in y) refl
+  where
+    go : ((at : ℕ) (z : List ℕ) → length z ≤ n → length z ≤ m → first_within n tag at z ≡ first_within m tag at z) → (l : declared.Listed) → l ≡ listed_in y
+        → by_tag tag at y l (first_within n tag) ≡ by_tag tag at y l (first_within m tag)
+    go same (listed.Attribute h) told =
+        let g = goes y h told in
+        ap (cond (eqb h.tag tag) (Some (at, h))) (same (at + h.len) (drop h.len y) (omega (arith, length-drop h.len y, g.least, few)) (omega (arith, length-drop h.len y, g.least, more)))
+    go same listed.End told = refl
+    go same listed.Malformed told = refl
 
-pub first_more : {F : Type 0} (facts : F → Device) (r : Range) (tag from end at n : ℕ) (h : AttrHead) (old now new : Pages F) → Scanning facts r from end at old now (FirstFrom r (facts old.device).content tag from end at)
-    → n ≡ h.len → IsAttrIn at end h → ScansTo facts (r.start + at) (r.start + at) now new → (IsTrue (facts now.device).honest → listed.Attribute h ≡ listed_in (list_at r (facts now.device).content at end)) → eqb h.tag tag ≡ false
-    → Scanning facts r from end (at + n) old new (FirstFrom r (facts old.device).content tag from end (at + n))
-first_more facts r tag from end at n h old now new s e is read told other = scanning_more facts r from end at n h old now new _ _ s e is read (λ k same before.
-    let image = (facts old.device).content in
-    let list = list_at r image at end in
-    let next = by_attribute before.left tag at list h (rw same at (told (honest_still (left_by facts r from end at old now _ s).calls.same_honesty k))) before.enough in
-    let there = after_is r image at end n h e is in
-    record {
-      left = next.0;
-      enough = omega (arith, next.1, ap (λ (y : List ℕ). length y) there);
-      same =
-          before.same ∙ next.2
-          ∙ ap (λ b. cond b (Some (at, h)) (first_within next.0 tag (at + h.len) (drop h.len list))) other
-          ∙ ap (λ k. first_within next.0 tag (at + k) (drop h.len list)) (sym e)
-          ∙ ap (first_within next.0 tag (at + n)) there;
-    })
+first_by : (tag at : ℕ) (h : AttrHead) (y : List ℕ) → listed.Attribute h ≡ listed_in y → first_in tag at y ≡ cond (eqb h.tag tag) (Some (at, h)) (first_in tag (at + h.len) (drop h.len y))
+unfolding first_within
+first_by tag at h y told =
+    within_enough (length y) (suc (length y)) tag at y (le_refl _) (omega arith)
+    ∙ ap (λ l. by_tag tag at y l (first_within (length y) tag)) (sym told)
+    ∙ ap (cond (eqb h.tag tag) (Some (at, h))) (within_enough (length y) (length (drop h.len y)) tag (at + h.len) (drop h.len y) (omega (arith, length-drop h.len y)) (le_refl _))
 
-pub first_here : {F : Type 0} (facts : F → Device) (r : Range) (tag from end at : ℕ) (h : AttrHead) (old now : Pages F) → Scanning facts r from end at old now (FirstFrom r (facts old.device).content tag from end at)
-    → (IsTrue (facts now.device).honest → listed.Attribute h ≡ listed_in (list_at r (facts now.device).content at end)) → eqb h.tag tag ≡ true → IsTrue (facts old.device).honest
-    → Some (at, h) ≡ first_in tag from (list_at r (facts old.device).content from end)
-first_here facts r tag from end at h old now s told this k =
-    let before = s.asked k in
-    let list = list_at r (facts old.device).content at end in
-    let next = by_attribute before.left tag at list h (rw ((left_by facts r from end at old now _ s).unchanged k) at (told (honest_still (left_by facts r from end at old now _ s).calls.same_honesty k))) before.enough in
-    sym (before.same ∙ next.2 ∙ ap (λ b. cond b (Some (at, h)) (first_within next.0 tag (at + h.len) (drop h.len list))) this)
+pub first_more : (tag at : ℕ) (h : AttrHead) (y : List ℕ) → eqb h.tag tag ≡ false → listed.Attribute h ≡ listed_in y → first_in tag at y ≡ first_in tag (at + h.len) (drop h.len y)
+first_more tag at h y other told = first_by tag at h y told ∙ ap (λ b. cond b (Some (at, h)) (first_in tag (at + h.len) (drop h.len y))) other
 
-pub first_none : {F : Type 0} (facts : F → Device) (r : Range) (tag from end at : ℕ) (l : declared.Listed) (old now : Pages F) → Scanning facts r from end at old now (FirstFrom r (facts old.device).content tag from end at)
-    → (IsTrue (facts now.device).honest → l ≡ listed_in (list_at r (facts now.device).content at end)) → ((h : AttrHead) → l ≡ listed.Attribute h → ⊥) → IsTrue (facts old.device).honest
-    → None ≡ first_in tag from (list_at r (facts old.device).content from end)
-first_none facts r tag from end at l old now s told other k =
-    let before = s.asked k in
-    let list = list_at r (facts old.device).content at end in
-    sym (before.same ∙ none_listed before.left tag at list l (rw ((left_by facts r from end at old now _ s).unchanged k) at (told (honest_still (left_by facts r from end at old now _ s).calls.same_honesty k))) other)
+pub first_here : (tag at : ℕ) (h : AttrHead) (y : List ℕ) → eqb h.tag tag ≡ true → listed.Attribute h ≡ listed_in y → Some (at, h) ≡ first_in tag at y
+first_here tag at h y this told = sym (first_by tag at h y told ∙ ap (λ b. cond b (Some (at, h)) (first_in tag (at + h.len) (drop h.len y))) this)
 
--- where a scan of a component's attributes begins
-pub first_begins : {F : Type 0} (facts : F → Device) (r : Range) (size tag : ℕ) (c : Cell) (from end : ℕ) (old : Pages F) → PassesChecks size c → is_free c.head ≡ false → from ≡ c.at + name_end c.head → end ≡ c.at + c.head.offset
-    → Scanning facts r from end from old old (FirstFrom r (facts old.device).content tag from end from)
-first_begins facts r size tag c from end old is used begins ends =
-    let f = has_field size c is used in
-    scanning_start facts r from end old _ (omega (arith, begins, ends, f.high)) (λ h. first_start r (facts old.device).content tag from end)
+pub first_none : (tag at : ℕ) (l : declared.Listed) (y : List ℕ) → ((h : AttrHead) → l ≡ listed.Attribute h → ⊥) → l ≡ listed_in y → None ≡ first_in tag at y
+first_none tag at l y other told = none_within (length y) tag at y l told other
 
 -- the same by the component
-pub first_is : (x : List ℕ) (tag : ℕ) (c : Cell) (from end : ℕ) (found : Option Placed) → from ≡ c.at + name_end c.head → end ≡ c.at + c.head.offset → found ≡ first_in tag from (slice_range x from end) → found ≡ first_of x c tag
-first_is x tag c from end found begins ends is = is ∙ ap (λ n. first_in tag n (slice_range x n end)) begins ∙ ap (λ n. first_in tag (c.at + name_end c.head) (slice_range x (c.at + name_end c.head) n)) ends
+pub first_is : (x : List ℕ) (tag : ℕ) (c : Cell) (from end : ℕ) (found : Option Placed) → from ≡ attributes_start c → end ≡ content_start c → found ≡ first_in tag from (slice_range x from end) → found ≡ first_of x c tag
+first_is x tag c from end found begins ends is = rw (← begins, ← ends) is
 
 -- ---- the data of the first attribute with a tag
 
@@ -191,10 +170,6 @@ by_use tag x y at end h others rest b is fits head more e =
     go : (t : Bool) → option_map (data_at x) (cond t (Some (at, h)) rest) ≡ cond t (Some (attribute y).contents) (data_of tag others)
     go true = ap Some contents
     go false = more
-
-ends_empty : (y : List ℕ) → length y ≤ 0 → ends_list y ≡ true
-ends_empty [] e = refl
-ends_empty (b ∷ y) e = absurd (omega (arith, e))
 
 -- among well formed attributes, the data of the first with a tag is the list's
 first_data : (tag n : ℕ) (x : List ℕ) (at end : ℕ) (all : List Attribute) → end ≤ length x → length (slice_range x at end) ≤ n → attributes (slice_range x at end) ≡ Some all

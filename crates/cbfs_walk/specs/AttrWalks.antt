@@ -4,12 +4,17 @@ use Rattle.flash_format.specs.declared.attribute.AttrHead.{AttrHead}
 use Rattle.flash_format.specs.Attributes.{Attribute, attributes, is_unused, least_len}
 use Rattle.flash_format.specs.Entry.{name_end}
 use Rattle.flash_store.specs.declared.flash.FlashFault.{FlashFault}
+use Rattle.cbfs_walk.specs.Cells.{content_start}
 use Rattle.cbfs_walk.specs.declared.cell.Cell.{Cell}
 
 -- what contracts see of such a walk: the component's cell, and where it stands, counted from the cell's begin
 pub record AttrWalking : Type 0 where
   pub cell : Cell
   pub at : ℕ
+
+-- the same, counted from the region's start
+abbrev pub place_of : AttrWalking → ℕ
+place_of w = w.cell.at + w.at
 
 -- the attributes begin after the name, and never after the content's begin
 abbrev pub attr_walk_of : Cell → AttrWalking
@@ -37,7 +42,7 @@ attr_reads w = min 1 ((w.cell.head.offset - w.at) / 8)
 
 -- the attributes that are left, in a region of these bytes, or None where one of them is malformed
 abbrev pub attributes_left : List ℕ → AttrWalking → Option (List Attribute)
-attributes_left x w = attributes (slice_range x (w.cell.at + w.at) (w.cell.at + w.cell.head.offset))
+attributes_left x w = attributes (slice_range x (place_of w) (content_start w.cell))
 
 -- the head of an attribute, whose length counts its own eight bytes
 abbrev pub head_of_attribute : Attribute → AttrHead

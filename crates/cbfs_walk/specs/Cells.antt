@@ -2,6 +2,7 @@
 use Rattle.std.specs.Prelude.{◌≡◌, ℕ, ◌+◌, ◌-◌, ◌%◌, ◌≤◌, List, slice_range, Ok}
 use Rattle.flash_format.specs.declared.head.Head.{Head}
 use Rattle.flash_format.specs.Head.{checked}
+use Rattle.flash_format.specs.Entry.{name_end}
 use Rattle.cbfs_walk.specs.declared.cell.Cell.{Cell}
 
 -- a head passes its checks with so many bytes left, and its cell has this span
@@ -20,6 +21,16 @@ pub record IsCellIn (size : ℕ) (c : Cell) : Type 0 where
   pub inside : c.at + c.span ≤ size
   pub content : c.head.offset + c.head.len ≤ c.span
   pub checks : PassesChecks size c
+
+-- where its attributes begin, where its content begins, and where it ends, counted from the region's start
+abbrev pub attributes_start : Cell → ℕ
+attributes_start c = c.at + name_end c.head
+
+abbrev pub content_start : Cell → ℕ
+content_start c = c.at + c.head.offset
+
+abbrev pub content_end : Cell → ℕ
+content_end c = c.at + (c.head.offset + c.head.len)
 
 -- the bytes of a cell, of all those of its region
 abbrev pub cell_in : List ℕ → Cell → List ℕ

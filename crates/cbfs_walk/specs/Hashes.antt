@@ -15,6 +15,7 @@ use Rattle.flash_format.specs.Made.{digest_bytes}
 use Rattle.cbfs_walk.specs.declared.cell.Cell.{Cell}
 use Rattle.cbfs_walk.specs.declared.hashes.HashState.{HashState}
 use Rattle.cbfs_walk.specs.declared.hashes.HashState.TheVariants.{Absent, Valid, Invalid, Unsupported}
+use Rattle.cbfs_walk.specs.Cells.{content_start, content_end}
 use Rattle.cbfs_walk.specs.Listed.{Placed, first_of}
 
 -- ---- digests
@@ -78,7 +79,7 @@ abbrev pub data_at : List ℕ → Placed → List ℕ
 data_at x found = slice_range x (found.0 + 8) (found.0 + found.1.len)
 
 abbrev pub content_at : List ℕ → Cell → List ℕ
-content_at x c = slice_range x (c.at + c.head.offset) (c.at + (c.head.offset + c.head.len))
+content_at x c = slice_range x (content_start c) (content_end c)
 
 -- what the first hash attribute of a component says of its content, in a region of these bytes
 abbrev pub hash_state_in : List ℕ → Cell → HashState

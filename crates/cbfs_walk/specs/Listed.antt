@@ -1,10 +1,11 @@
 -- What a list of attributes has at its start, as the program has it, and the first attribute with a tag.
-use Rattle.std.specs.Prelude.{◌≡◌, ℕ, zero, suc, ◌+◌, List, length, drop, slice_range, Option, Some, None, ⊤, ◌==◌, if◌then◌else◌, ◌≤◌}
+use Rattle.std.specs.Prelude.{◌≡◌, ℕ, zero, suc, ◌+◌, List, length, drop, slice_range, Option, Some, None, Result, Ok, Err, ⊤, ◌==◌, if◌then◌else◌, ◌≤◌}
 use Rattle.flash_format.specs.declared.attribute.AttrHead.{AttrHead}
 use Rattle.flash_format.specs.Head.{be32}
-use Rattle.flash_format.specs.Entry.{name_end}
 use Rattle.flash_format.specs.Attributes.{attr_head_of, ends_list, is_malformed}
+use Rattle.cbfs_walk.specs.Cells.{attributes_start, content_start}
 use Rattle.cbfs_walk.specs.AttrWalks.{IsAttrIn}
+use Rattle.flash_store.specs.declared.flash.FlashFault.{FlashFault}
 use Rattle.cbfs_walk.specs.declared.cell.Cell.{Cell}
 use Rattle.cbfs_walk.specs.declared.attribute_walk.Listed.{Listed}
 use Rattle.cbfs_walk.specs.declared.attribute_walk.Listed.TheVariants.{Attribute, End, Malformed}
@@ -41,13 +42,19 @@ first_in tag at x = first_within (length x) tag at x
 
 -- the same of a component in a region of these bytes
 abbrev pub first_of : List ℕ → Cell → ℕ → Option Placed
-first_of x c tag = first_in tag (c.at + name_end c.head) (slice_range x (c.at + name_end c.head) (c.at + c.head.offset))
+first_of x c tag = first_in tag (attributes_start c) (slice_range x (attributes_start c) (content_start c))
 
 -- an attribute with this tag that lies between a component's name and its content
 pub record IsAttrOf (c : Cell) (tag : ℕ) (found : Placed) : Type 0 where
-  pub low : c.at + name_end c.head ≤ found.0
-  pub attribute : IsAttrIn found.0 (c.at + c.head.offset) found.1
+  pub low : attributes_start c ≤ found.0
+  pub attribute : IsAttrIn found.0 (content_start c) found.1
   pub has : found.1.tag ≡ tag
+
+-- the place up to which a search for an attribute reads: that of the attribute, or the content
+abbrev pub searched_to : Cell → Result (Option Placed) FlashFault → ℕ
+searched_to c (Ok (Some found)) = found.0
+searched_to c (Ok None) = content_start c
+searched_to c (Err fault) = content_start c
 
 -- the value that stands first in the data of an attribute, 0 without one
 abbrev pub value_in : List ℕ → Option Placed → ℕ

@@ -6,12 +6,11 @@ ghost use Rattle.flash_format.specs.Components.{cell_attributes, packing};
 ghost use Rattle.flash_format.specs.Entry.{name_end};
 ghost use Rattle.flash_store.specs.Pages.{HasAnswered, OnHonestIn};
 ghost use Rattle.flash_store.specs.Regions.{LiesIn};
-ghost use Rattle.flash_store.specs.Scans.{ScansTo};
 ghost use Rattle.cbfs_walk.specs.Passing.{HasPassed, reads_over};
-ghost use Rattle.cbfs_walk.specs.Cells.{PassesChecks, cell_in};
+ghost use Rattle.cbfs_walk.specs.Cells.{PassesChecks, attributes_start, cell_in};
 ghost use Rattle.cbfs_walk.specs.Walks.{StandsIn};
-ghost use Rattle.cbfs_walk.specs.AttrWalks.{attr_walk_of, attr_moved, attr_reads, IsAttrIn, attributes_left, first_head, after_first};
-ghost use Rattle.cbfs_walk.specs.Listed.{IsListedIn, listed_in, IsAttrOf, first_of, value_in};
+ghost use Rattle.cbfs_walk.specs.AttrWalks.{place_of, attr_walk_of, attr_moved, attr_reads, IsAttrIn, attributes_left, first_head, after_first};
+ghost use Rattle.cbfs_walk.specs.Listed.{IsListedIn, listed_in, IsAttrOf, first_of, searched_to, value_in};
 
 use crate::cell::{Cell, content_fits};
 use crate::names::name_end;
@@ -64,8 +63,7 @@ impl AttrWalk {
 
         // On any device.
         ensures after { HasAnswered F.facts (attr_reads self.old) paged.old paged.new result }
-        ensures passes { HasPassed F.facts (region.start + (self.old.cell.at + self.old.at))
-            (region.start + (self.old.cell.at + self.old.at)) paged.old paged.new result }
+        ensures passes { HasPassed F.facts region (place_of self.old) (place_of self.old) paged.old paged.new result }
         ensures attribute { IfOk result (λ found. IfSome found (λ head.
             IsAttrIn self.old.at self.old.cell.head.offset head)) }
         ensures moved { self.new ≡ attr_moved self.old result }
@@ -87,11 +85,7 @@ impl AttrWalk {
                 self.at += head.len;
                 Ok(Some(head))
             }
-            Listed::End => {
-                self.at = self.cell.head.offset;
-                Ok(None)
-            }
-            Listed::Malformed => {
+            _ => {
                 self.at = self.cell.head.offset;
                 Ok(None)
             }
@@ -139,11 +133,8 @@ pub fn first_attribute<F: Flash>(
     requires cell { PassesChecks region.size cell.now }
     requires component { is_free cell.now.head ≡ false }
 
-    ensures after { HasAnswered F.facts (reads_over cell.now.head.offset) paged.old paged.new result }
-    ensures passes { HasPassed F.facts (region.start + (cell.now.at + name_end cell.now.head))
-        (region.start + (cell.now.at + cell.now.head.offset)) paged.old paged.new result }
-    ensures reached { IfOk result (λ found. IfSome found (λ found. ScansTo F.facts
-        (region.start + (cell.now.at + name_end cell.now.head)) (region.start + found.0) paged.old paged.new)) }
+    ensures passes { HasPassed F.facts region (attributes_start cell.now) (searched_to cell.now result)
+        paged.old paged.new result }
     ensures attribute { IfOk result (λ found. IfSome found (IsAttrOf cell.now tag)) }
     ensures first { OnHonestIn F.facts paged.old.device region (λ x.
         IfOk result (λ found. found ≡ first_of x cell.now tag)) }
@@ -160,8 +151,7 @@ pub fn first_attribute<F: Flash>(
                 }
                 at += u64::from(head.len);
             }
-            Listed::End => return Ok(None),
-            Listed::Malformed => return Ok(None),
+            _ => return Ok(None),
         }
     }
 }
@@ -177,8 +167,7 @@ pub fn are_well_formed<F: Flash>(
     requires order { from ≤ end }
     requires inside { end ≤ region.size }
 
-    ensures after { HasAnswered F.facts (reads_over (end - from)) paged.old paged.new result }
-    ensures passes { HasPassed F.facts (region.start + from) (region.start + end) paged.old paged.new result }
+    ensures passes { HasPassed F.facts region from end paged.old paged.new result }
     ensures formed { OnHonestIn F.facts paged.old.device region (λ x.
         IfOk result (λ formed. formed ≡ is_some (attributes (slice_range x from end)))) }
 {
@@ -213,7 +202,7 @@ fn listed_at<F: Flash>(
     requires inside { end ≤ region.size }
 
     ensures after { HasAnswered F.facts (min 1 ((end - at) / 8)) paged.old paged.new result }
-    ensures passes { HasPassed F.facts (region.start + at) (region.start + at) paged.old paged.new result }
+    ensures passes { HasPassed F.facts region at at paged.old paged.new result }
     ensures no_call { at ≡ end → paged.new ≡ paged.old }
     ensures none { at ≡ end → result ≡ Ok Listed.End }
     ensures attribute { IfOk result (λ listed. IsListedIn at end listed) }
@@ -223,7 +212,10 @@ fn listed_at<F: Flash>(
     if end - at < 8 {
         return Ok(Listed::End);
     }
-    let head = attribute_at(paged, region, at)?;
+    paged.places_fit();
+    let mut bytes = [0; 8];
+    read_in(paged, region, at, &mut bytes)?;
+    let head = AttrHead::read(&bytes);
     if head.is_unused() {
         return Ok(Listed::End);
     }
@@ -233,33 +225,12 @@ fn listed_at<F: Flash>(
     Ok(Listed::Attribute(head))
 }
 
-/// The head of the attribute at a place.
-fn attribute_at<F: Flash>(
-    paged: &mut Paged<F>,
-    region: Region,
-    at: u64,
-) -> Result<AttrHead, FlashFault>
-    requires region { LiesIn region (F.facts paged.old.device).content }
-    requires inside { at + 8 ≤ region.size }
-
-    ensures after { HasAnswered F.facts 1 paged.old paged.new result }
-    ensures passes { HasPassed F.facts (region.start + at) (region.start + at) paged.old paged.new result }
-    ensures head { OnHonestIn F.facts paged.old.device region (λ x.
-        IfOk result (λ head. head ≡ attr_head_of (slice_range x at (at + 8)))) }
-{
-    paged.places_fit();
-    let mut bytes = [0; 8];
-    read_in(paged, region, at, &mut bytes)?;
-    Ok(AttrHead::read(&bytes))
-}
-
 /// The big-endian number at a place.
 pub fn value_at<F: Flash>(paged: &mut Paged<F>, region: Region, at: u64) -> Result<u32, FlashFault>
     requires region { LiesIn region (F.facts paged.old.device).content }
     requires inside { at + 4 ≤ region.size }
 
-    ensures after { HasAnswered F.facts 1 paged.old paged.new result }
-    ensures passes { HasPassed F.facts (region.start + at) (region.start + at) paged.old paged.new result }
+    ensures passes { HasPassed F.facts region at at paged.old paged.new result }
     ensures value { OnHonestIn F.facts paged.old.device region (λ x.
         IfOk result (λ value. value ≡ be32 at x)) }
 {

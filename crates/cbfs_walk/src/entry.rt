@@ -1,7 +1,6 @@
 //! What stands at a place of a region.
 ghost use Rattle.std.specs.Prelude.{◌≡◌, ℕ, ◌+◌, ◌-◌, ◌/◌, ◌≤◌, false, drop, IfOk};
-ghost use Rattle.flash_format.specs.Head.{attributes_misplaced};
-ghost use Rattle.flash_format.specs.Entry.{entry, front, component};
+ghost use Rattle.flash_format.specs.Entry.{entry, front, component, name_end};
 ghost use Rattle.flash_store.specs.Pages.{HasAnswered, OnHonestIn};
 ghost use Rattle.flash_store.specs.Regions.{LiesIn};
 ghost use Rattle.cbfs_walk.specs.Passing.{HasPassed, reads_over};
@@ -62,8 +61,7 @@ fn head_at<F: Flash>(
     requires region { LiesIn region (F.facts paged.old.device).content }
     requires inside { at ≤ region.size }
 
-    ensures after { HasAnswered F.facts 1 paged.old paged.new result }
-    ensures passes { HasPassed F.facts (region.start + at) (region.start + at) paged.old paged.new result }
+    ensures passes { HasPassed F.facts region at at paged.old paged.new result }
     ensures head { OnHonestIn F.facts paged.old.device region (λ x.
         IfOk result (λ head. head ≡ front (drop at x))) }
 {
@@ -84,12 +82,10 @@ fn damage_in<F: Flash>(
 ) -> Result<Option<DamageKind>, FlashFault>
     requires region { LiesIn region (F.facts paged.old.device).content }
     requires inside { at + head.now.offset ≤ region.size }
-    requires room { 24 ≤ head.now.offset }
-    requires placed { attributes_misplaced head.now ≡ false }
+    requires room { 24 ≤ name_end head.now }
+    requires placed { name_end head.now ≤ head.now.offset }
 
-    ensures after { HasAnswered F.facts (reads_over head.now.offset) paged.old paged.new result }
-    ensures passes { HasPassed F.facts (region.start + at) (region.start + at + head.now.offset)
-        paged.old paged.new result }
+    ensures passes { HasPassed F.facts region at (at + head.now.offset) paged.old paged.new result }
     ensures damage { OnHonestIn F.facts paged.old.device region (λ x. IfOk result (λ damage.
         (span : ℕ) → entry_or damage span ≡ component head.now (drop at x) span)) }
 {

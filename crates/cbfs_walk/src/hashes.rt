@@ -6,13 +6,13 @@ ghost use Rattle.flash_format.specs.Components.{cell_attributes, cell_content};
 ghost use Rattle.flash_store.specs.Pages.{HasSeen, HasAnswered, HasRead, OnHonestIn};
 ghost use Rattle.flash_store.specs.Regions.{LiesIn};
 ghost use Rattle.cbfs_walk.specs.Passing.{HasPassed, reads_over};
-ghost use Rattle.cbfs_walk.specs.Cells.{PassesChecks, cell_in};
+ghost use Rattle.cbfs_walk.specs.Cells.{PassesChecks, content_start, content_end, cell_in};
 ghost use Rattle.cbfs_walk.specs.Walks.{StandsIn};
 ghost use Rattle.cbfs_walk.specs.Hashes.{digest_like, has_sha256, has_sha512, stored_digest, compared, hash_state, content_at, hash_state_in, IsUncompared};
 
 use crate::attribute_walk::{first_attribute, value_at};
 use crate::cell::{Cell, content_fits};
-use crate::read::read_in;
+use crate::read::{piece_in, read_in};
 use flash_format::{AttrHead, Digest};
 use flash_store::{Flash, FlashFault, Paged, Region};
 use sha2::{Sha256, Sha512};
@@ -81,8 +81,7 @@ fn stored_digest<F: Flash>(
     requires inside { at + n ≤ region.size }
     requires least { 4 ≤ n }
 
-    ensures after { HasAnswered F.facts 2 paged.old paged.new result }
-    ensures passes { HasPassed F.facts (region.start + at) (region.start + (at + n)) paged.old paged.new result }
+    ensures passes { HasPassed F.facts region at (at + n) paged.old paged.new result }
     ensures stored { OnHonestIn F.facts paged.old.device region (λ x.
         IfOk result (λ stored. stored ≡ stored_digest (slice_range x at (at + n)))) }
 {
@@ -125,8 +124,7 @@ fn content_digest<F: Flash>(
     requires region { LiesIn region (F.facts paged.old.device).content }
     requires cell { PassesChecks region.size cell.now }
 
-    ensures passes { HasPassed F.facts (region.start + (cell.now.at + cell.now.head.offset))
-        (region.start + (cell.now.at + (cell.now.head.offset + cell.now.head.len))) paged.old paged.new result }
+    ensures passes { HasPassed F.facts region (content_start cell.now) (content_end cell.now) paged.old paged.new result }
     ensures digest { OnHonestIn F.facts paged.old.device region (λ x.
         IfOk result (λ digest. digest ≡ digest_like stored.now (content_at x cell.now))) }
 {
@@ -166,7 +164,7 @@ fn digest_between<F: Flash, D: sha2::Digest>(
     requires order { from ≤ end }
     requires inside { end ≤ region.size }
 
-    ensures passes { HasPassed F.facts (region.start + from) (region.start + end) paged.old paged.new result }
+    ensures passes { HasPassed F.facts region from end paged.old paged.new result }
     ensures digest { OnHonestIn F.facts paged.old.device region (λ x.
         IfOk result (D.digest_of (slice_range x from end))) }
 {
@@ -175,30 +173,9 @@ fn digest_between<F: Flash, D: sha2::Digest>(
     let mut at = from;
     while at < end {
         let n = (end - at).min(PIECE);
-        take_piece(paged, region, at, n as usize, &mut hasher)?;
+        let bytes = piece_in(paged, region, at, n as usize)?;
+        hasher.update(bytes);
         at += n;
     }
     Ok(hasher.finalize())
-}
-
-/// Adds the n bytes from a place on to a hasher's message.
-fn take_piece<F: Flash, D: sha2::Digest>(
-    paged: &mut Paged<F>,
-    region: Region,
-    at: u64,
-    n: usize,
-    hasher: &mut D,
-) -> Result<(), FlashFault>
-    requires region { LiesIn region (F.facts paged.old.device).content }
-    requires inside { at + n ≤ region.size }
-    requires short { n ≤ 4096 }
-
-    ensures after { HasSeen F.facts (region.start + at) n paged.old paged.new result }
-    ensures taken { OnHonestIn F.facts paged.old.device region (λ x. OnOk result
-        ((m : List ℕ) → D.holds hasher.old m → D.holds hasher.new (m ++ slice_range x at (at + n)))) }
-{
-    paged.places_fit();
-    let bytes = paged.piece(region.start() + at, n)?;
-    hasher.update(bytes);
-    Ok(())
 }

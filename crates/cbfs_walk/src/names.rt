@@ -12,7 +12,7 @@ ghost use Rattle.cbfs_walk.specs.Cells.{PassesChecks, cell_in};
 ghost use Rattle.cbfs_walk.specs.Walks.{StandsIn};
 
 use crate::cell::{Cell, content_fits};
-use crate::read::read_in;
+use crate::read::piece_in;
 use flash_format::Head;
 use flash_store::{Flash, FlashFault, Paged, Region};
 
@@ -44,7 +44,9 @@ pub fn name<F: Flash>(
     paged.places_fit();
     content_fits(cell, region);
     let n = name_room(&cell.head).min(LONGEST);
-    read_text(paged, region, cell.at + 24, &mut out[..n])
+    let bytes = piece_in(paged, region, cell.at + 24, n)?;
+    out[..n].copy_from_slice(bytes);
+    Ok(text_len(bytes))
 }
 
 /// Whether a component has this name.
@@ -70,7 +72,8 @@ pub fn name_is<F: Flash>(
     if name.len() > LONGEST || name.len() >= name_room(&cell.head) {
         return Ok(false);
     }
-    is_text_at(paged, region, cell.at + 24, name)
+    let bytes = piece_in(paged, region, cell.at + 24, name.len() + 1)?;
+    Ok(shows_text(bytes, name))
 }
 
 /// Whether the name of a component ends within its field's first 256 bytes.
@@ -84,15 +87,14 @@ pub fn has_name_end<F: Flash>(
     requires inside { at + name_end head.now ≤ region.size }
     requires order { 24 ≤ name_end head.now }
 
-    ensures after { HasAnswered F.facts 1 paged.old paged.new result }
-    ensures passes { HasPassed F.facts (region.start + (at + 24)) (region.start + (at + 24))
-        paged.old paged.new result }
+    ensures passes { HasPassed F.facts region (at + 24) (at + 24) paged.old paged.new result }
     ensures ends { OnHonestIn F.facts paged.old.device region (λ x.
         IfOk result (λ ends. ends ≡ has_name (name_field head.now (drop at x)))) }
 {
     paged.places_fit();
     let n = name_room(head).min(256);
-    shows_nul(paged, region, at + 24, n)
+    let bytes = piece_in(paged, region, at + 24, n)?;
+    Ok(text_len(bytes) < n)
 }
 
 /// Where the name field of a component ends, and its attributes begin.
@@ -114,26 +116,6 @@ fn name_room(head: &Head) -> usize
     name_end(head) as usize - 24
 }
 
-/// Whether the text at a place is this one, which it shows with its NUL.
-fn is_text_at<F: Flash>(
-    paged: &mut Paged<F>,
-    region: Region,
-    at: u64,
-    text: &[u8],
-) -> Result<bool, FlashFault>
-    requires region { LiesIn region (F.facts paged.old.device).content }
-    requires inside { at + (length text.now + 1) ≤ region.size }
-    requires short { length text.now ≤ 255 }
-
-    ensures after { HasAnswered F.facts 1 paged.old paged.new result }
-    ensures same { OnHonestIn F.facts paged.old.device region (λ x. IfOk result (λ same. same
-        ≡ bytes_eq (before_first is_nul (slice_range x at (at + (length text.now + 1)))) text.now)) }
-{
-    paged.places_fit();
-    let bytes = paged.piece(region.start() + at, text.len() + 1)?;
-    Ok(shows_text(bytes, text))
-}
-
 /// Whether the bytes before the first NUL are this text.
 fn shows_text(bytes: &[u8], text: &[u8]) -> bool
     ensures { result ≡ bytes_eq (before_first is_nul bytes.now) text.now }
@@ -141,46 +123,7 @@ fn shows_text(bytes: &[u8], text: &[u8]) -> bool
     &bytes[..text_len(bytes)] == text
 }
 
-/// Whether a NUL is among the n bytes at a place.
-fn shows_nul<F: Flash>(
-    paged: &mut Paged<F>,
-    region: Region,
-    at: u64,
-    n: usize,
-) -> Result<bool, FlashFault>
-    requires region { LiesIn region (F.facts paged.old.device).content }
-    requires inside { at + n ≤ region.size }
-    requires short { n ≤ 4096 }
-
-    ensures after { HasSeen F.facts (region.start + at) n paged.old paged.new result }
-    ensures nul { OnHonestIn F.facts paged.old.device region (λ x.
-        IfOk result (λ nul. nul ≡ list_any is_nul (slice_range x at (at + n)))) }
-{
-    paged.places_fit();
-    let bytes = paged.piece(region.start() + at, n)?;
-    Ok(text_len(bytes) < n)
-}
-
-/// Reads bytes, and answers how many of them stand before the first NUL, or all.
-fn read_text<F: Flash>(
-    paged: &mut Paged<F>,
-    region: Region,
-    at: u64,
-    out: &mut [u8],
-) -> Result<usize, FlashFault>
-    requires region { LiesIn region (F.facts paged.old.device).content }
-    requires inside { at + length out.old ≤ region.size }
-    requires short { length out.old ≤ 4096 }
-
-    ensures after { HasAnswered F.facts 1 paged.old paged.new result }
-    ensures len { IfOk result (λ n. n ≡ length (before_first is_nul out.new)) }
-    ensures read { OnHonestIn F.facts paged.old.device region (λ x.
-        OnOk result (out.new ≡ slice_range x at (at + length out.old))) }
-{
-    read_in(paged, region, at, out)?;
-    Ok(text_len(out))
-}
-
+/// How many bytes stand before the first NUL, or all.
 fn text_len(bytes: &[u8]) -> usize
     ensures { result ≡ length (before_first is_nul bytes.now) }
 {

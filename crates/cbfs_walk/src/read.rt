@@ -1,7 +1,11 @@
-//! Reads at places of a region.
-ghost use Rattle.std.specs.Prelude.{◌≡◌, ◌+◌, ◌≤◌, length, slice_range, OnOk};
-ghost use Rattle.flash_store.specs.Pages.{HasSeen, OnHonestIn};
+//! Reads at places of a region, one after the other.
+ghost use Rattle.std.specs.Prelude.{◌≡◌, ◌+◌, ◌≤◌, length, slice_range, OnOk, IfOk};
+ghost use Rattle.std.specs.Borrow.{sem};
+ghost use Rattle.std.specs.Io.BufRead.{Rests};
+ghost use Rattle.flash_store.specs.Pages.{OnHonestIn};
 ghost use Rattle.flash_store.specs.Regions.{LiesIn};
+ghost use Rattle.flash_store.specs.contracts.paged.Paged.{the_row};
+ghost use Rattle.cbfs_walk.specs.Passing.{HasPassed};
 
 use flash_store::{Flash, FlashFault, Paged, Region};
 
@@ -14,12 +18,33 @@ pub fn read_in<F: Flash>(
 ) -> Result<(), FlashFault>
     requires region { LiesIn region (F.facts paged.old.device).content }
     requires inside { at + length out.old ≤ region.size }
-    requires short { length out.old ≤ 4096 }
+    requires short { length out.old ≤ 256 }
 
-    ensures after { HasSeen F.facts (region.start + at) (length out.old) paged.old paged.new result }
+    ensures passes { HasPassed F.facts region at at paged.old paged.new result }
     ensures read { OnHonestIn F.facts paged.old.device region (λ x.
         OnOk result (out.new ≡ slice_range x at (at + length out.old))) }
 {
     paged.places_fit();
     paged.read_small(region.start() + at, out)
+}
+
+/// The n bytes of the region from `at` on.
+pub fn piece_in<F: Flash>(
+    paged: &mut Paged<F>,
+    region: Region,
+    at: u64,
+    n: usize,
+) -> Result<&[u8], FlashFault>
+    requires region { LiesIn region (F.facts paged.old.device).content }
+    requires inside { at + n ≤ region.size }
+    requires short { n ≤ 256 }
+
+    ensures* passes { sem 𝓛 (Rests (the_row F.row F.Flash) paged.entry (λ new.
+        HasPassed F.facts region at at paged.old new result)) }
+    ensures size { IfOk result (λ bytes. length bytes.now ≡ n) }
+    ensures read { OnHonestIn F.facts paged.old.device region (λ x.
+        IfOk result (λ bytes. bytes.now ≡ slice_range x at (at + n))) }
+{
+    paged.places_fit();
+    paged.piece(region.start() + at, n)
 }

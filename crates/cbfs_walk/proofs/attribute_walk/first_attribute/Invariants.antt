@@ -1,10 +1,11 @@
 use Rattle.std.proofs.Common.{◌-◌}
-use Rattle.cbfs_walk.proofs.Scanning.{Scanning, FirstFrom}
+use Rattle.cbfs_walk.specs.Listed.{first_in}
+use Rattle.cbfs_walk.proofs.Scanning.{Scanning, AsksRest}
 use Rattle.cbfs_walk.proofs.attribute_walk.first_attribute.Given as goal
 
 abbrev pub invariant-loop-head : goal.invariant-loop-head
 invariant-loop-head g l = Scanning g.F.Flash.facts l.region l.initial.at l.end l.at l.initial.paged l.paged
-    (FirstFrom l.region (g.F.Flash.facts l.initial.paged.device).content l.tag l.initial.at l.end l.at)
+    (AsksRest (first_in l.tag) l.region (g.F.Flash.facts l.initial.paged.device).content l.initial.at l.end l.at)
 
 abbrev pub decreases-loop-head : goal.decreases-loop-head
 decreases-loop-head g l = l.end - l.at

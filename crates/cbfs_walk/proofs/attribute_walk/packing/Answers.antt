@@ -1,30 +1,22 @@
-use Rattle.std.proofs.Common.{arith, ◌+◌, ◌≤◌, length}
-use Rattle.flash_format.specs.Entry.{name_end}
+use Rattle.std.proofs.Common.{arith, ◌+◌, ◌≤◌, length, le_refl}
 use Rattle.flash_store.specs.Regions.{bytes_in}
 use Rattle.flash_store.proofs.DeviceLemmas.{honest_still}
-use Rattle.cbfs_walk.specs.Passing.{reads_over}
 use Rattle.cbfs_walk.proofs.Parts.{length-region}
 use Rattle.cbfs_walk.proofs.Checks.{content_inside}
-use Rattle.cbfs_walk.proofs.Reading.{HasPassed-answers, HasPassed-then, IfOk-to}
-use Rattle.cbfs_walk.proofs.CellNames.{has_field}
+use Rattle.cbfs_walk.proofs.Reading.{Passes-answers, Passes-then, IfOk-to}
 use Rattle.cbfs_walk.proofs.Scanning.{packing_found}
 use Rattle.cbfs_walk.proofs.attribute_walk.packing.Goals as goal
 
 pub returns-in-Some-clause-after : goal.returns-in-Some-clause-after
 returns-in-Some-clause-after g c =
-    let f = has_field c.args.region.size c.args.cell.now c.requires.cell c.requires.component in
-    let start = c.args.region.start in
-    let cell = c.args.cell.now in
-    let reached = rw c.in-Some.is at c.in_ok-at.ensures.reached in
     let attribute = rw c.in-Some.is at c.in_ok-at.ensures.attribute in
-    HasPassed-answers _ (start + (cell.at + name_end cell.head)) (start + (c.in-Some.at + 8)) (reads_over cell.head.offset) _ _ _ (omega (arith, f.high, attribute.attribute.inside, attribute.attribute.head))
-    (HasPassed-then _ (start + (cell.at + name_end cell.head)) (start + c.in-Some.at) (start + (c.in-Some.at + 8)) (start + (c.in-Some.at + 8)) _ _ _ _ (omega arith) reached c.value_at.ensures.passes)
+    Passes-answers (Passes-then (rw c.in-Some.is at c.in_ok-at.ensures.passes) c.value_at.ensures.passes (le_refl _) (omega arith) (le_refl _)) (omega (arith, attribute.attribute.inside, attribute.attribute.head))
 
 pub returns-in-Some-clause-packing : goal.returns-in-Some-clause-packing
 returns-in-Some-clause-packing g c = λ h stands.
     let x = bytes_in c.args.region (g.F.Flash.facts c.args.paged.now.device).content in
     let inside : c.args.cell.now.at + c.args.cell.now.head.offset ≤ length x = omega (arith, length-region c.args.region _ c.requires.region, content_inside c.args.region.size c.args.cell.now c.requires.cell) in
-    let calls = c.first_attribute.ensures.after.read.device in
+    let calls = c.first_attribute.ensures.passes.read.device in
     let found = rw c.in-Some.is at (c.in_ok-at.ensures.first h) in
     IfOk-to _ _ _ (packing_found x c.args.cell.now _ found (rw c.in-Some.is at c.in_ok-at.ensures.attribute) inside stands c.requires.component) (rw (calls.unchanged h) at (c.value_at.ensures.value (honest_still calls.calls.same_honesty h)))
 

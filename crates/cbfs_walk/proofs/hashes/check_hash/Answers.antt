@@ -1,52 +1,49 @@
-use Rattle.std.proofs.Common.{Ok, arith, ◌≡◌, ◌∙◌, ◌+◌, ◌≤◌, length, rules}
+use Rattle.std.proofs.Common.{arith, le_refl, ◌≡◌, ◌∙◌, ◌+◌, ◌≤◌, length, rules}
 use Rattle.flash_store.specs.Regions.{bytes_in}
 use Rattle.cbfs_walk.specs.Hashes.{hash_state_in}
 use Rattle.cbfs_walk.specs.declared.hashes.HashState.TheVariants.{Absent, Unsupported}
+use Rattle.flash_store.proofs.WindowLemmas.{HasRead-within}
 use Rattle.cbfs_walk.proofs.Parts.{length-region}
 use Rattle.cbfs_walk.proofs.Checks.{content_inside}
-use Rattle.cbfs_walk.proofs.Reading.{HasPassed-ok, HasPassed-raised}
-use Rattle.cbfs_walk.proofs.Hashing.{data_passes, front_answers, compared_is_told, attributes_answers, content_answers, state_found}
+use Rattle.std.proofs.lemmas.Result.{err_from_is_err_and}
+use Rattle.cbfs_walk.proofs.Reading.{Passes-then, Passes-answers}
+use Rattle.cbfs_walk.proofs.Hashing.{compared_is_told, state_found}
 use Rattle.cbfs_walk.proofs.hashes.check_hash.Goals as goal
 
 pub returns-in_err-stored-in-Some-clause-after : goal.returns-in_err-stored-in-Some-clause-after
 returns-in_err-stored-in-Some-clause-after g c =
-    let attribute = rw c.in-Some.is at c.in_ok-at.ensures.attribute in
-    let reached = rw c.in-Some.is at c.in_ok-at.ensures.reached in
-    attributes_answers _ c.args.region.start c.args.region.size c.args.cell.now _ _ _ c.requires.cell
-    (data_passes _ c.args.region.start c.args.cell.now c.in-Some.at c.in-Some.head.len _ _ _ _ attribute.attribute.head attribute.attribute.inside reached (HasPassed-raised _ _ _ _ _ _ _ _ c.from_residual-in_err-stored-in-Some.ensures.1 c.in_err-stored-in-Some.ensures.passes))
+    let attribute = (rw c.in-Some.is at c.in_ok-at.ensures.attribute).attribute in
+    let first = rw c.in-Some.is at c.in_ok-at.ensures.passes in
+    rw (err_from_is_err_and c.from_residual-in_err-stored-in-Some.result c.from_residual-in_err-stored-in-Some.ensures.1).1
+    (Passes-answers (Passes-then first c.in_err-stored-in-Some.ensures.passes (le_refl _) (omega arith) (le_refl _)) (omega (arith, attribute.head, attribute.inside)))
 
 pub returns-in-None-2-clause-after : goal.returns-in-None-2-clause-after
 returns-in-None-2-clause-after g c =
-    let attribute = rw c.in-Some.is at c.in_ok-at.ensures.attribute in
-    let reached = rw c.in-Some.is at c.in_ok-at.ensures.reached in
-    attributes_answers _ c.args.region.start c.args.region.size c.args.cell.now _ _ _ c.requires.cell
-    (data_passes _ c.args.region.start c.args.cell.now c.in-Some.at c.in-Some.head.len _ _ _ _ attribute.attribute.head attribute.attribute.inside reached (HasPassed-ok _ _ _ _ _ _ _ c.in_ok-stored-in-Some.ensures.passes))
+    let attribute = (rw c.in-Some.is at c.in_ok-at.ensures.attribute).attribute in
+    let first = rw c.in-Some.is at c.in_ok-at.ensures.passes in
+    Passes-answers (Passes-then first c.in_ok-stored-in-Some.ensures.passes (le_refl _) (omega arith) (le_refl _)) (omega (arith, attribute.head, attribute.inside))
 
 pub returns-in-None-2-clause-unread : goal.returns-in-None-2-clause-unread
 returns-in-None-2-clause-unread g c = λ told.
-    let attribute = rw c.in-Some.is at c.in_ok-at.ensures.attribute in
-    let reached = rw c.in-Some.is at c.in_ok-at.ensures.reached in
-    (front_answers _ c.args.region.start c.args.cell.now _ _ (Ok Unsupported)
-    (data_passes _ c.args.region.start c.args.cell.now c.in-Some.at c.in-Some.head.len _ _ _ _ attribute.attribute.head attribute.attribute.inside reached (HasPassed-ok _ _ _ _ _ _ Unsupported c.in_ok-stored-in-Some.ensures.passes))).read
+    let attribute = (rw c.in-Some.is at c.in_ok-at.ensures.attribute).attribute in
+    let first = rw c.in-Some.is at c.in_ok-at.ensures.passes in
+    HasRead-within _ _ _ 0 _ _ (omega (arith, attribute.head, attribute.inside)) (Passes-then first c.in_ok-stored-in-Some.ensures.passes (le_refl _) (omega arith) (le_refl _)).read
 
 pub returns-in_ok-computed-in-Some-2-clause-unread : goal.returns-in_ok-computed-in-Some-2-clause-unread
 returns-in_ok-computed-in-Some-2-clause-unread g c = λ told. absurd (compared_is_told c.in-Some-2.stored c.in_ok-computed-in-Some-2.computed c.compared.result c.compared.ensures told)
 
 pub returns-in_err-computed-in-Some-2-clause-after : goal.returns-in_err-computed-in-Some-2-clause-after
 returns-in_err-computed-in-Some-2-clause-after g c =
-    let attribute = rw c.in-Some.is at c.in_ok-at.ensures.attribute in
-    let reached = rw c.in-Some.is at c.in_ok-at.ensures.reached in
-    let first = data_passes _ c.args.region.start c.args.cell.now c.in-Some.at c.in-Some.head.len _ _ _ _ attribute.attribute.head attribute.attribute.inside reached c.in_ok-stored-in-Some.ensures.passes in
-    content_answers _ c.args.region.start c.args.region.size c.args.cell.now _ _ _ _ c.requires.cell first.scans
-    (HasPassed-raised _ _ _ _ _ _ _ _ c.from_residual-in_err-computed-in-Some-2.ensures.1 c.in_err-computed-in-Some-2.ensures.passes)
+    let attribute = (rw c.in-Some.is at c.in_ok-at.ensures.attribute).attribute in
+    let first = rw c.in-Some.is at c.in_ok-at.ensures.passes in
+    rw (err_from_is_err_and c.from_residual-in_err-computed-in-Some-2.result c.from_residual-in_err-computed-in-Some-2.ensures.1).1
+    (Passes-answers (Passes-then (Passes-then first c.in_ok-stored-in-Some.ensures.passes (le_refl _) (omega arith) (le_refl _)) c.in_err-computed-in-Some-2.ensures.passes (le_refl _) (omega (arith, attribute.head, attribute.inside)) (le_refl _)) (omega (arith, attribute.head, attribute.inside)))
 
 pub returns-in_ok-computed-in-Some-2-clause-after : goal.returns-in_ok-computed-in-Some-2-clause-after
 returns-in_ok-computed-in-Some-2-clause-after g c =
-    let attribute = rw c.in-Some.is at c.in_ok-at.ensures.attribute in
-    let reached = rw c.in-Some.is at c.in_ok-at.ensures.reached in
-    let first = data_passes _ c.args.region.start c.args.cell.now c.in-Some.at c.in-Some.head.len _ _ _ _ attribute.attribute.head attribute.attribute.inside reached c.in_ok-stored-in-Some.ensures.passes in
-    content_answers _ c.args.region.start c.args.region.size c.args.cell.now _ _ _ _ c.requires.cell first.scans
-    (HasPassed-ok _ _ _ _ _ _ _ c.in_ok-computed-in-Some-2.ensures.passes)
+    let attribute = (rw c.in-Some.is at c.in_ok-at.ensures.attribute).attribute in
+    let first = rw c.in-Some.is at c.in_ok-at.ensures.passes in
+    Passes-answers (Passes-then (Passes-then first c.in_ok-stored-in-Some.ensures.passes (le_refl _) (omega arith) (le_refl _)) c.in_ok-computed-in-Some-2.ensures.passes (le_refl _) (omega (arith, attribute.head, attribute.inside)) (le_refl _)) (omega (arith, attribute.head, attribute.inside))
 
 pub returns-in_ok-computed-in-Some-2-clause-value : goal.returns-in_ok-computed-in-Some-2-clause-value
 returns-in_ok-computed-in-Some-2-clause-value g c = search rules

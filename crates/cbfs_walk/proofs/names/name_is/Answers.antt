@@ -1,4 +1,4 @@
-use Rattle.std.proofs.Common.{rules, arith, inl, inr}
+use Rattle.std.proofs.Common.{arith, inl, inr, ◌∙◌}
 use Rattle.flash_store.specs.Regions.{bytes_in}
 use Rattle.cbfs_walk.proofs.Parts.{length-region}
 use Rattle.cbfs_walk.proofs.CellNames.{has_field, name_compared, name_too_long}
@@ -18,8 +18,8 @@ returns-then-name-gt-LONGEST-clause-named g c = λ h stands.
       | then-name-gt-LONGEST-via-else-name-gt-LONGEST+then-name-name_room w ↦ inr (omega (arith, w.if-name-name_room.true, w.name_room.ensures))
     ]) stands
 
-pub is_text_at-requires-clause-inside : goal.is_text_at-requires-clause-inside
-is_text_at-requires-clause-inside g c =
+pub piece_in-requires-clause-inside : goal.piece_in-requires-clause-inside
+piece_in-requires-clause-inside g c =
     let f = has_field c.args.region.size c.args.cell.now c.requires.cell c.requires.component in
     omega (arith, f.inside, c.name_room.ensures)
 
@@ -27,8 +27,5 @@ pub returns-clause-named : goal.returns-clause-named
 returns-clause-named g c = λ h stands.
     let image = (g.F.Flash.facts c.args.paged.now.device).content in
     let len = length-region c.args.region image c.requires.region in
-    name_compared (bytes_in c.args.region image) c.args.region.size c.args.cell.now c.requires.cell c.requires.component len
-    c.is_text_at.result _ c.args.name.now c.name_room.ensures c.if-name-name_room.false stands (c.is_text_at.ensures.same h)
-
-pub is_text_at-requires-clause-short : goal.is_text_at-requires-clause-short
-is_text_at-requires-clause-short g c = search rules
+    c.shows_text.ensures ∙ name_compared (bytes_in c.args.region image) c.args.region.size c.args.cell.now c.requires.cell c.requires.component len
+    _ c.args.name.now _ c.name_room.ensures c.if-name-name_room.false stands (c.in_ok-bytes.ensures.read h)
