@@ -14,5 +14,4 @@ pub mod MadeLaws
 pub mod Placed
 pub mod NumberLaws
 pub mod TypeLaws
-mod Examples
 pub mod MapBytes
