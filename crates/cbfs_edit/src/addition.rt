@@ -5,9 +5,10 @@ ghost use Rattle.flash_format.specs.Entry.{is_nul};
 ghost use Rattle.flash_format.specs.Made.{hash_len, meta_length, pointed};
 ghost use Rattle.flash_store.specs.Bytes.{overwritten, SameOutside};
 ghost use Rattle.flash_store.specs.Copies as copies;
-ghost use Rattle.flash_store.specs.Device.{Calls, faults_told};
+ghost use Rattle.flash_store.specs.Device.{Calls, Reads, faults_told};
 ghost use Rattle.flash_store.specs.Pages.{HasChanged, OnHonestIn};
 ghost use Rattle.flash_store.specs.Regions.{LiesIn, bytes_in};
+ghost use Rattle.cbfs_edit.specs.Changes.{OnHonestChange, HasCopied};
 ghost use Rattle.cbfs_edit.specs.Additions.{added, added_to, addition_in, attribute_len, digest_of, is_bad_name, kept_from, labelled, new_component, own_fault, placed_of};
 ghost use Rattle.cbfs_edit.specs.Insertions.{EndsAlike, IsOldOrBlanked};
 ghost use Rattle.cbfs_edit.specs.Placings.{Fits};
@@ -63,24 +64,12 @@ fn copy_content<F: Flash, S: Source>(
     requires region { LiesIn region (F.facts paged.old.device).content }
     requires inside { at + length (S.facts source.old).content ≤ region.size }
 
-    ensures after { HasChanged F.facts region ((length (S.facts source.old).content + 4095) / 4096) (faults_told copies.by_device result)
-        paged.old paged.new }
-    ensures source_calls { Calls ((length (S.facts source.old).content + 4095) / 4096) (faults_told copies.by_source result)
-        (S.facts source.old) (S.facts source.new) }
-    ensures no_output { IsErrOf result CopyFault.Output → ⊥ }
+    ensures after { HasCopied F.facts region at paged.old paged.new (S.facts source.old) (S.facts source.new) result }
     ensures digest_len { IfOk result (λ digest. hash_len digest ≡ attribute_len hash) }
-    ensures same_source { IsTrue (S.facts source.old).honest →
-        (S.facts source.new).content ≡ (S.facts source.old).content }
 
-    // On an honest device, the first two from an honest source.
-    ensures copied { IsTrue (F.facts paged.old.device).honest → IsTrue (S.facts source.old).honest → OnOk result
-        (bytes_in region (F.facts paged.new.device).content
-        ≡ overwritten (bytes_in region (F.facts paged.old.device).content) at (S.facts source.old).content) }
+    // From an honest source, whatever the device.
     ensures digest { IsTrue (S.facts source.old).honest →
         IfOk result (λ digest. digest ≡ digest_of hash (S.facts source.old).content) }
-    ensures torn { IsTrue (F.facts paged.old.device).honest →
-        SameOutside at (length (S.facts source.old).content) (bytes_in region (F.facts paged.old.device).content)
-        (bytes_in region (F.facts paged.new.device).content) }
 {
     match hash {
         HashChoice::Plain => {
@@ -149,24 +138,19 @@ fn insert<F: Flash, S: Source>(
 
     ensures after { HasChanged F.facts region (region.size / 4096 + region.size / 4096 + 6) (faults_told copies.by_device result)
         paged.old paged.new }
-    ensures source_calls { Calls ((length (S.facts source.old).content + 4095) / 4096) (faults_told copies.by_source result)
+    ensures source { Reads ((length (S.facts source.old).content + 4095) / 4096) (faults_told copies.by_source result)
         (S.facts source.old) (S.facts source.new) }
     ensures no_output { IsErrOf result CopyFault.Output → ⊥ }
-    ensures same_source { IsTrue (S.facts source.old).honest →
-        (S.facts source.new).content ≡ (S.facts source.old).content }
 
     // On an honest device.
-    ensures added { OnHonestIn F.facts paged.old.device region (λ x. IsTrue (S.facts source.old).honest → OnOk result
-        (bytes_in region (F.facts paged.new.device).content
-        ≡ added x (labelled label.now (S.facts source.old).content) place)) }
-    ensures stopped { OnHonestIn F.facts paged.old.device region (λ x. region.size % 64 ≡ 0 →
-        IsOldOrBlanked x place.run (bytes_in region (F.facts paged.new.device).content)
+    ensures added { OnHonestChange F.facts region paged.old paged.new (λ x y. IsTrue (S.facts source.old).honest →
+        OnOk result (y ≡ added x (labelled label.now (S.facts source.old).content) place)) }
+    ensures stopped { OnHonestChange F.facts region paged.old paged.new (λ x y. region.size % 64 ≡ 0 →
+        IsOldOrBlanked x place.run y
         ⊎ ((IsErrOf result CopyFault.Source → ⊥) × (IsTrue (S.facts source.old).honest →
-        bytes_in region (F.facts paged.new.device).content
-        ≡ added x (labelled label.now (S.facts source.old).content) place))) }
-    ensures last { OnHonestIn F.facts paged.old.device region (λ x. region.size % 64 ≡ 0 →
-        EndsAlike (kept_from x (labelled label.now (S.facts source.old).content) place)
-        x (bytes_in region (F.facts paged.new.device).content)) }
+        y ≡ added x (labelled label.now (S.facts source.old).content) place))) }
+    ensures last { OnHonestChange F.facts region paged.old paged.new (λ x y. region.size % 64 ≡ 0 →
+        EndsAlike (kept_from x (labelled label.now (S.facts source.old).content) place) x y) }
 {
     paged.places_fit();
     let end = (place.content + wanted.len + 63) / 64 * 64;
@@ -261,21 +245,18 @@ pub fn add<F: Flash, S: Source>(
         ⊎ (result ≡ placed_of (addition_in x (new_component name.now kind hash (S.facts source.old).content) spot)))) }
     ensures refused { IsTrue (F.facts paged.old.device).honest → IfErr result (λ fault. fault ≢ EditFault.Device →
         fault ≢ EditFault.Source → (F.facts paged.new.device).content ≡ (F.facts paged.old.device).content) }
-    ensures before { OnHonestIn F.facts paged.old.device region (λ x. IsErrOf result EditFault.Source →
-        AddLeavesBefore x (new_component name.now kind hash (S.facts source.old).content) spot
-        (bytes_in region (F.facts paged.new.device).content)) }
+    ensures before { OnHonestChange F.facts region paged.old paged.new (λ x y. IsErrOf result EditFault.Source →
+        AddLeavesBefore x (new_component name.now kind hash (S.facts source.old).content) spot y) }
 
     // On an honest device, from an honest source.
-    ensures added { OnHonestIn F.facts paged.old.device region (λ x. IsTrue (S.facts source.old).honest → OnOk result
-        (bytes_in region (F.facts paged.new.device).content
-        ≡ added_to x (new_component name.now kind hash (S.facts source.old).content) spot)) }
+    ensures added { OnHonestChange F.facts region paged.old paged.new (λ x y. IsTrue (S.facts source.old).honest →
+        OnOk result (y ≡ added_to x (new_component name.now kind hash (S.facts source.old).content) spot)) }
     ensures image { OnHonestIn F.facts paged.old.device region (λ x. IsTrue (S.facts source.old).honest → OnOk result
         ((F.facts paged.new.device).content ≡ overwritten (F.facts paged.old.device).content region.start
         (added_to x (new_component name.now kind hash (S.facts source.old).content) spot))) }
-    ensures stopped { OnHonestIn F.facts paged.old.device region (λ x. IsTrue (S.facts source.old).honest →
+    ensures stopped { OnHonestChange F.facts region paged.old paged.new (λ x y. IsTrue (S.facts source.old).honest →
         IsErrOf result EditFault.Device →
-        AddLeavesWhole x (new_component name.now kind hash (S.facts source.old).content) spot
-        (bytes_in region (F.facts paged.new.device).content)) }
+        AddLeavesWhole x (new_component name.now kind hash (S.facts source.old).content) spot y) }
 {
     paged.places_fit();
     if let Some(fault) = own_fault(name, kind, spot) {

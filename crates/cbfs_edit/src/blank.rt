@@ -3,9 +3,10 @@ ghost use Rattle.std.specs.Prelude.{◌≡◌, ◌⊎◌, ◌+◌, ◌-◌, ◌/
 ghost use Rattle.flash_store.specs.Device.{refusals};
 ghost use Rattle.flash_store.specs.Pages.{HasChanged};
 ghost use Rattle.flash_store.specs.Regions.{LiesIn, bytes_in};
+ghost use Rattle.cbfs_edit.specs.Changes.{OnHonestChange};
 ghost use Rattle.cbfs_edit.specs.Groups.{IsCellRange};
 ghost use Rattle.cbfs_edit.specs.Removals.{last_four, removed};
-ghost use Rattle.cbfs_edit.specs.Stops.{IsBlanked};
+ghost use Rattle.cbfs_edit.specs.Insertions.{IsOldOrBlanked};
 
 use crate::group::Freed;
 use crate::write::{commit_in, fill_in};
@@ -25,17 +26,11 @@ pub fn write_blank<F: Flash>(
     ensures after { HasChanged F.facts region (region.size / 4096 + 2) (refusals result) paged.old paged.new }
 
     // On an honest device.
-    ensures removed { IsTrue (F.facts paged.old.device).honest → OnOk result
-        (bytes_in region (F.facts paged.new.device).content
-        ≡ removed (bytes_in region (F.facts paged.old.device).content) group) }
-    ensures stopped { IsTrue (F.facts paged.old.device).honest → region.size % 64 ≡ 0 →
-        (bytes_in region (F.facts paged.new.device).content
-        ≡ bytes_in region (F.facts paged.old.device).content)
-        ⊎ IsBlanked (bytes_in region (F.facts paged.old.device).content) group
-        (bytes_in region (F.facts paged.new.device).content) }
-    ensures last_four { IsTrue (F.facts paged.old.device).honest → region.size % 64 ≡ 0 →
-        last_four (bytes_in region (F.facts paged.new.device).content)
-        ≡ last_four (bytes_in region (F.facts paged.old.device).content) }
+    ensures removed { OnHonestChange F.facts region paged.old paged.new (λ x y. OnOk result (y ≡ removed x group)) }
+    ensures stopped { OnHonestChange F.facts region paged.old paged.new (λ x y. region.size % 64 ≡ 0 →
+        IsOldOrBlanked x group y) }
+    ensures last_four { OnHonestChange F.facts region paged.old paged.new (λ x y. region.size % 64 ≡ 0 →
+        last_four y ≡ last_four x) }
 {
     paged.places_fit();
     let kept = group.end == region.size();

@@ -3,6 +3,7 @@ ghost use Rattle.std.specs.Prelude.{◌≡◌, ◌≢◌, ◌⊎◌, ◌+◌, �
 ghost use Rattle.flash_store.specs.Device.{faults_told};
 ghost use Rattle.flash_store.specs.Pages.{HasChanged, OnHonestIn};
 ghost use Rattle.flash_store.specs.Regions.{LiesIn, bytes_in};
+ghost use Rattle.cbfs_edit.specs.Changes.{OnHonestChange};
 ghost use Rattle.cbfs_edit.specs.Formats.{format_of, formatted, IsFormatStop};
 ghost use Rattle.cbfs_edit.specs.Refusals.{by_device};
 
@@ -23,12 +24,11 @@ pub fn format<F: Flash>(paged: &mut Paged<F>, region: Region) -> Result<(), Edit
     ensures answer { IsErrOf result EditFault.Device ⊎ (result ≡ format_of region.size) }
 
     // On an honest device.
-    ensures formatted { OnHonestIn F.facts paged.old.device region (λ x.
-        OnOk result (bytes_in region (F.facts paged.new.device).content ≡ formatted x)) }
+    ensures formatted { OnHonestChange F.facts region paged.old paged.new (λ x y. OnOk result (y ≡ formatted x)) }
     ensures refused { IsTrue (F.facts paged.old.device).honest → IfErr result (λ fault. fault ≢ EditFault.Device →
         (F.facts paged.new.device).content ≡ (F.facts paged.old.device).content) }
-    ensures stopped { OnHonestIn F.facts paged.old.device region (λ x. IsErrOf result EditFault.Device →
-        IsFormatStop x (bytes_in region (F.facts paged.new.device).content)) }
+    ensures stopped { OnHonestChange F.facts region paged.old paged.new (λ x y.
+        IsErrOf result EditFault.Device → IsFormatStop x y) }
 {
     paged.places_fit();
     let end = region.size();

@@ -8,6 +8,7 @@ ghost use Rattle.flash_format.specs.Made.{described, described_len};
 ghost use Rattle.flash_store.specs.Device.{refusals};
 ghost use Rattle.flash_store.specs.Pages.{HasChanged};
 ghost use Rattle.flash_store.specs.Regions.{LiesIn, bytes_in};
+ghost use Rattle.cbfs_edit.specs.Changes.{OnHonestChange};
 ghost use Rattle.cbfs_edit.specs.Insertions.{ChangesFrom, HasRoom, IsUnfinished, bounded, finished, fronted, held_back, shown_by};
 
 use crate::place::Place;
@@ -40,12 +41,9 @@ fn write_front<F: Flash>(
     ensures after { HasChanged F.facts region 1 (refusals result) paged.old paged.new }
 
     // On an honest device.
-    ensures written { IsTrue (F.facts paged.old.device).honest → OnOk result
-        (bytes_in region (F.facts paged.new.device).content
-        ≡ fronted (bytes_in region (F.facts paged.old.device).content) place front.now) }
-    ensures torn { IsTrue (F.facts paged.old.device).honest →
-        IsUnfinished place place.content (bytes_in region (F.facts paged.old.device).content)
-        (bytes_in region (F.facts paged.new.device).content) }
+    ensures written { OnHonestChange F.facts region paged.old paged.new (λ x y.
+        OnOk result (y ≡ fronted x place front.now)) }
+    ensures torn { OnHonestChange F.facts region paged.old paged.new (IsUnfinished place place.content) }
 {
     let skip = held_back(place);
     write_in(paged, region, place.header + skip as u64, &front[skip..])
@@ -64,12 +62,9 @@ fn write_bound<F: Flash>(
     ensures after { HasChanged F.facts region 1 (refusals result) paged.old paged.new }
 
     // On an honest device.
-    ensures written { IsTrue (F.facts paged.old.device).honest → OnOk result
-        (bytes_in region (F.facts paged.new.device).content
-        ≡ bounded (bytes_in region (F.facts paged.old.device).content) end place.run.end) }
-    ensures torn { IsTrue (F.facts paged.old.device).honest →
-        IsUnfinished place place.content (bytes_in region (F.facts paged.old.device).content)
-        (bytes_in region (F.facts paged.new.device).content) }
+    ensures written { OnHonestChange F.facts region paged.old paged.new (λ x y.
+        OnOk result (y ≡ bounded x end place.run.end)) }
+    ensures torn { OnHonestChange F.facts region paged.old paged.new (IsUnfinished place place.content) }
 {
     if end == place.run.end {
         return Ok(());
@@ -111,17 +106,11 @@ fn show<F: Flash>(
     ensures after { HasChanged F.facts region 3 (refusals result) paged.old paged.new }
 
     // On an honest device.
-    ensures shown { IsTrue (F.facts paged.old.device).honest → OnOk result
-        (bytes_in region (F.facts paged.new.device).content
-        ≡ finished (bytes_in region (F.facts paged.old.device).content) place end front.now) }
-    ensures stopped { IsTrue (F.facts paged.old.device).honest →
-        (bytes_in region (F.facts paged.new.device).content
-        ≡ finished (bytes_in region (F.facts paged.old.device).content) place end front.now)
-        ⊎ IsUnfinished place place.content (bytes_in region (F.facts paged.old.device).content)
-        (bytes_in region (F.facts paged.new.device).content) }
-    ensures torn { IsTrue (F.facts paged.old.device).honest →
-        ChangesFrom place.run.start place place.content (bytes_in region (F.facts paged.old.device).content)
-        (bytes_in region (F.facts paged.new.device).content) }
+    ensures shown { OnHonestChange F.facts region paged.old paged.new (λ x y.
+        OnOk result (y ≡ finished x place end front.now)) }
+    ensures stopped { OnHonestChange F.facts region paged.old paged.new (λ x y.
+        (y ≡ finished x place end front.now) ⊎ IsUnfinished place place.content x y) }
+    ensures torn { OnHonestChange F.facts region paged.old paged.new (ChangesFrom place.run.start place place.content) }
 {
     write_front(paged, region, place, end, front)?;
     write_bound(paged, region, place, end)?;
@@ -146,17 +135,11 @@ pub fn describe<F: Flash>(
     ensures front { length (described meta.now) ≡ described_len meta.now }
 
     // On an honest device.
-    ensures shown { IsTrue (F.facts paged.old.device).honest → OnOk result
-        (bytes_in region (F.facts paged.new.device).content
-        ≡ finished (bytes_in region (F.facts paged.old.device).content) place end (described meta.now)) }
-    ensures stopped { IsTrue (F.facts paged.old.device).honest →
-        (bytes_in region (F.facts paged.new.device).content
-        ≡ finished (bytes_in region (F.facts paged.old.device).content) place end (described meta.now))
-        ⊎ IsUnfinished place place.content (bytes_in region (F.facts paged.old.device).content)
-        (bytes_in region (F.facts paged.new.device).content) }
-    ensures torn { IsTrue (F.facts paged.old.device).honest →
-        ChangesFrom place.run.start place place.content (bytes_in region (F.facts paged.old.device).content)
-        (bytes_in region (F.facts paged.new.device).content) }
+    ensures shown { OnHonestChange F.facts region paged.old paged.new (λ x y.
+        OnOk result (y ≡ finished x place end (described meta.now))) }
+    ensures stopped { OnHonestChange F.facts region paged.old paged.new (λ x y.
+        (y ≡ finished x place end (described meta.now)) ⊎ IsUnfinished place place.content x y) }
+    ensures torn { OnHonestChange F.facts region paged.old paged.new (ChangesFrom place.run.start place place.content) }
 {
     let mut front = [0; LONGEST_FRONT];
     let n = write_meta(meta, &mut front);

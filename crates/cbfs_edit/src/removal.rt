@@ -4,6 +4,7 @@ ghost use Rattle.flash_store.specs.Bytes.{overwritten};
 ghost use Rattle.flash_store.specs.Device.{faults_told};
 ghost use Rattle.flash_store.specs.Pages.{HasChanged, OnHonestIn};
 ghost use Rattle.flash_store.specs.Regions.{LiesIn, bytes_in};
+ghost use Rattle.cbfs_edit.specs.Changes.{OnHonestChange};
 ghost use Rattle.cbfs_edit.specs.Refusals.{by_device};
 ghost use Rattle.cbfs_edit.specs.Removals.{removed, removal_in};
 ghost use Rattle.cbfs_edit.specs.Stops.{LeavesWhole};
@@ -35,15 +36,15 @@ pub fn remove<F: Flash>(
     // On an honest device.
     ensures answer { OnHonestIn F.facts paged.old.device region (λ x.
         IsErrOf result EditFault.Device ⊎ (result ≡ removal_in x name.now)) }
-    ensures removed { OnHonestIn F.facts paged.old.device region (λ x. IfOk result (λ group.
-        bytes_in region (F.facts paged.new.device).content ≡ removed x group)) }
+    ensures removed { OnHonestChange F.facts region paged.old paged.new (λ x y.
+        IfOk result (λ group. y ≡ removed x group)) }
     ensures image { OnHonestIn F.facts paged.old.device region (λ x. IfOk result (λ group.
         (F.facts paged.new.device).content
         ≡ overwritten (F.facts paged.old.device).content region.start (removed x group))) }
     ensures refused { IsTrue (F.facts paged.old.device).honest → IfErr result (λ fault. fault ≢ EditFault.Device →
         (F.facts paged.new.device).content ≡ (F.facts paged.old.device).content) }
-    ensures stopped { OnHonestIn F.facts paged.old.device region (λ x. IsErrOf result EditFault.Device →
-        LeavesWhole x name.now (bytes_in region (F.facts paged.new.device).content)) }
+    ensures stopped { OnHonestChange F.facts region paged.old paged.new (λ x y.
+        IsErrOf result EditFault.Device → LeavesWhole x name.now y) }
 {
     paged.places_fit();
     let group = find_group(paged, region, name)?;

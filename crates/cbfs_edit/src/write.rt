@@ -6,6 +6,7 @@ ghost use Rattle.flash_store.specs.Copies.{by_device, by_source};
 ghost use Rattle.flash_store.specs.Device.{Calls, faults_told, refusals};
 ghost use Rattle.flash_store.specs.Pages.{HasChanged};
 ghost use Rattle.flash_store.specs.Regions.{LiesIn, bytes_in};
+ghost use Rattle.cbfs_edit.specs.Changes.{OnHonestChange, HasCopied};
 
 use flash_format::HEADER_LENGTH;
 use flash_store::{CopyFault, Flash, FlashFault, MemSource, Nobody, Paged, Region, Source, Watch};
@@ -23,14 +24,10 @@ pub fn commit_in<F: Flash>(
     ensures after { HasChanged F.facts region 1 (refusals result) paged.old paged.new }
 
     // On an honest device.
-    ensures written { IsTrue (F.facts paged.old.device).honest → OnOk result
-        (bytes_in region (F.facts paged.new.device).content
-        ≡ overwritten (bytes_in region (F.facts paged.old.device).content) at bytes.now) }
-    ensures whole { IsTrue (F.facts paged.old.device).honest →
-        (bytes_in region (F.facts paged.new.device).content
-        ≡ bytes_in region (F.facts paged.old.device).content)
-        ⊎ (bytes_in region (F.facts paged.new.device).content
-        ≡ overwritten (bytes_in region (F.facts paged.old.device).content) at bytes.now) }
+    ensures written { OnHonestChange F.facts region paged.old paged.new (λ x y.
+        OnOk result (y ≡ overwritten x at bytes.now)) }
+    ensures whole { OnHonestChange F.facts region paged.old paged.new (λ x y.
+        (y ≡ x) ⊎ (y ≡ overwritten x at bytes.now)) }
 {
     paged.places_fit();
     paged.commit(region.start() + at, bytes)
@@ -50,12 +47,9 @@ pub fn fill_in<F: Flash>(
     ensures after { HasChanged F.facts region ((n + 4095) / 4096) (refusals result) paged.old paged.new }
 
     // On an honest device.
-    ensures filled { IsTrue (F.facts paged.old.device).honest → OnOk result
-        (bytes_in region (F.facts paged.new.device).content
-        ≡ overwritten (bytes_in region (F.facts paged.old.device).content) at (replicate n byte)) }
-    ensures torn { IsTrue (F.facts paged.old.device).honest →
-        SameOutside at n (bytes_in region (F.facts paged.old.device).content)
-        (bytes_in region (F.facts paged.new.device).content) }
+    ensures filled { OnHonestChange F.facts region paged.old paged.new (λ x y.
+        OnOk result (y ≡ overwritten x at (replicate n byte))) }
+    ensures torn { OnHonestChange F.facts region paged.old paged.new (SameOutside at n) }
 {
     paged.places_fit();
     paged.fill(region.start() + at, n, byte)
@@ -72,23 +66,9 @@ pub fn copy_into<F: Flash, S: Source, W: Watch>(
     requires region { LiesIn region (F.facts paged.old.device).content }
     requires inside { at + length (S.facts source.old).content ≤ region.size }
 
-    ensures after { HasChanged F.facts region ((length (S.facts source.old).content + 4095) / 4096) (faults_told by_device result)
-        paged.old paged.new }
-    ensures source_calls { Calls ((length (S.facts source.old).content + 4095) / 4096) (faults_told by_source result)
-        (S.facts source.old) (S.facts source.new) }
-    ensures no_output { IsErrOf result CopyFault.Output → ⊥ }
-
-    // On an honest device, the first from an honest source.
-    ensures copied { IsTrue (F.facts paged.old.device).honest → IsTrue (S.facts source.old).honest → OnOk result
-        (bytes_in region (F.facts paged.new.device).content
-        ≡ overwritten (bytes_in region (F.facts paged.old.device).content) at (S.facts source.old).content) }
-    ensures torn { IsTrue (F.facts paged.old.device).honest →
-        SameOutside at (length (S.facts source.old).content) (bytes_in region (F.facts paged.old.device).content)
-        (bytes_in region (F.facts paged.new.device).content) }
+    ensures after { HasCopied F.facts region at paged.old paged.new (S.facts source.old) (S.facts source.new) result }
 
     // From an honest source, whatever the device.
-    ensures same_source { IsTrue (S.facts source.old).honest →
-        (S.facts source.new).content ≡ (S.facts source.old).content }
     ensures shown { IsTrue (S.facts source.old).honest → (seen : List ℕ) → W.saw watch.old seen →
         OnOk result (W.saw watch.new (seen ++ (S.facts source.old).content)) }
 {
@@ -111,12 +91,9 @@ pub fn write_in<F: Flash>(
     ensures after { HasChanged F.facts region 1 (refusals result) paged.old paged.new }
 
     // On an honest device.
-    ensures written { IsTrue (F.facts paged.old.device).honest → OnOk result
-        (bytes_in region (F.facts paged.new.device).content
-        ≡ overwritten (bytes_in region (F.facts paged.old.device).content) at bytes.now) }
-    ensures torn { IsTrue (F.facts paged.old.device).honest →
-        SameOutside at (length bytes.now) (bytes_in region (F.facts paged.old.device).content)
-        (bytes_in region (F.facts paged.new.device).content) }
+    ensures written { OnHonestChange F.facts region paged.old paged.new (λ x y.
+        OnOk result (y ≡ overwritten x at bytes.now)) }
+    ensures torn { OnHonestChange F.facts region paged.old paged.new (SameOutside at (length bytes.now)) }
 {
     let mut source = MemSource::new(bytes);
     match copy_into(paged, region, at, &mut source, &mut Nobody) {

@@ -1,5 +1,5 @@
 use Rattle.std.proofs.Common.{rules}
 use Rattle.cbfs_edit.proofs.addition.copy_content.Goals as goal
 
-pub returns-in_ok-copy_into-in-Plain-clause-source_calls : goal.returns-in_ok-copy_into-in-Plain-clause-source_calls
-returns-in_ok-copy_into-in-Plain-clause-source_calls g c = search rules
+pub returns-in_ok-copy_into-in-Plain-clause-after : goal.returns-in_ok-copy_into-in-Plain-clause-after
+returns-in_ok-copy_into-in-Plain-clause-after g c = search rules
