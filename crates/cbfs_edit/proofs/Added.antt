@@ -40,7 +40,7 @@ use Rattle.cbfs_edit.specs.declared.place.Place.{Place}
 use Rattle.cbfs_edit.proofs.AnsweredPlaces.{answered_place}
 use Rattle.cbfs_edit.proofs.ContentPlaces.{content_at}
 use Rattle.cbfs_edit.proofs.FreeRuns.{IsRun, run_of, blanked_runs}
-use Rattle.cbfs_edit.proofs.Groups.{as_splice, group_range, padding-length}
+use Rattle.cbfs_edit.proofs.Groups.{as_splice, padding-length}
 use Rattle.cbfs_edit.proofs.Leasts.{place_among-right}
 
 -- ---- what is said of a fault
@@ -212,7 +212,7 @@ module _ (x : List ℕ) (new : NewComponent) (spot : Spot) (place : Place) (smal
   the_run = run_of x place.run there.whole there.is_run
 
   range : IsCellRange place.run (length x)
-  range = group_range x place.run the_run.cells the_run.some
+  range = the_run.range
 
   is_wanted : IsWanted wanted
   is_wanted = record { header = omega (arith, hash_short new.digest, good.short); len = content_small; spot = good_spot spot fine.spot_good }

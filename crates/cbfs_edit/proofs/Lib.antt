@@ -10,8 +10,8 @@ pub mod RowPlaces
 pub mod AnsweredPlaces
 pub mod PlaceSurveys
 pub mod Exact
-pub mod FreeRuns
 pub mod ExactRuns
+pub mod FreeRuns
 pub mod FormatLemmas
 mod Examples
 pub mod Assembly

@@ -1,7 +1,8 @@
 -- The components that an edit keeps.
-use Rattle.std.proofs.Common.{◌≡◌, inl, inr, true, false, zero, suc, List, ◌∷◌, ◌++◌, Contains, sym, ◌∙◌, ap, subst, arith}
+use Rattle.std.proofs.Common.{◌≡◌, inl, inr, true, false, suc, List, ◌∷◌, ◌++◌, Contains, sym, ◌∙◌, ap, subst, arith}
 use Rattle.std.specs.Str.{bytes_eq}
 use Rattle.std.proofs.lemmas.List.Elements.{Contains-append_left, Contains-append_right, Contains-append_cases}
+use Rattle.std.proofs.lemmas.Map.Made.{Contains-tail}
 use Rattle.flash_format.specs.Components.{Component}
 use Rattle.cbfs_edit.specs.Laws.{AdditionsKeepAll, RemovalsKeepOthers, added_component}
 use Rattle.cbfs_edit.proofs.FoundAgain.{before, after, one_more}
@@ -16,12 +17,8 @@ one_between before after d c has = elim (Contains-append_cases before after c ha
 one_less : (before after : List Component) (d c : Component) → (d ≡ c → ⊥) → Contains (before ++ (d ∷ after)) c → Contains (before ++ after) c
 one_less before after d c other has = elim (Contains-append_cases before (d ∷ after) c has) [
   | inl first ↦ Contains-append_left before after c first
-  | inr last ↦ Contains-append_right before after c (behind last)
+  | inr last ↦ Contains-append_right before after c (Contains-tail d after c other last)
 ]
-  where
-    behind : Contains (d ∷ after) c → Contains after c
-    behind (zero, below, is) = absurd (other is)
-    behind (suc k, below, is) = (k, omega arith, is)
 
 pub additions_keep : AdditionsKeepAll
 additions_keep x new spot place is c has =

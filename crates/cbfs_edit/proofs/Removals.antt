@@ -11,7 +11,7 @@ use Rattle.cbfs_walk.specs.declared.walk.WalkFault.{WalkFault}
 use Rattle.cbfs_walk.specs.declared.walk.WalkFault.TheVariants as walk
 use Rattle.cbfs_edit.specs.Refusals.{refusal_of}
 use Rattle.cbfs_walk.proofs.Answering.{good_size}
-use Rattle.cbfs_edit.specs.Groups.{group_of}
+use Rattle.cbfs_edit.specs.Groups.{IsCellRange, IsGroupOf, group_of}
 use Rattle.cbfs_edit.specs.Removals.{last_four, unless_damaged, found, removed, removal_in}
 use Rattle.flash_store.specs.Bytes.{overwritten, SameOutside}
 use Rattle.flash_store.proofs.RegionLemmas.{image_is}
@@ -20,12 +20,13 @@ use Rattle.cbfs_edit.specs.Laws.{BlankedGroupsLackTheComponent}
 use Rattle.cbfs_edit.specs.declared.fault.EditFault.{EditFault}
 use Rattle.cbfs_edit.specs.declared.fault.EditFault.TheVariants as faults
 use Rattle.cbfs_edit.specs.declared.group.Freed.{Freed}
-use Rattle.cbfs_edit.proofs.Parts.{the_group}
+use Rattle.cbfs_edit.proofs.Exact.{cells_of, group_exact, group_some}
 use Rattle.cbfs_edit.proofs.Groups.{group_range, blanked-same, blanked-stopped}
 
 pub record IsAccepted (x name : List ℕ) (group : Freed) : Type 0 where
   pub whole : length x % 64 ≡ 0
-  pub group_is : group_of x name ≡ Some group
+  pub is : IsGroupOf name (cut x).cells group
+  pub range : IsCellRange group (length x)
 
 abbrev refused : WalkFault → Result Freed EditFault
 refused fault = Err (refusal_of fault)
@@ -49,23 +50,21 @@ accepted x name group is = go (has_bad_size (length x)) (is_absent (entry x)) re
     go : (b n : Bool) → has_bad_size (length x) ≡ b → refused_or refused (cond b (Some walk.RegionShape) (cond n (Some walk.NotCbfs) None)) taken ≡ Ok group → IsAccepted x name group
     go true n e p = absurd cc
     go false true e p = absurd cc
-    go false false e p = record {
-      whole = good_size (length x) (sym e);
-      group_is = by_group (group_of x name) (by_end _ (cut x).end _ p);
-    }
+    go false false e p =
+        let whole : length x % 64 ≡ 0 = good_size (length x) (sym e) in
+        let is : IsGroupOf name (cut x).cells group = group_exact x name group (by_group (group_of x name) (by_end _ (cut x).end _ p)) in
+        record { whole = whole; is = is; range = group_range x group (cells_of x name group whole is) (group_some x name group is) }
 
 pub blanked_lacks : BlankedGroupsLackTheComponent
 blanked_lacks x name group y small is blanked =
     let a = accepted x name group is in
-    let g = the_group x name group a.whole a.group_is in
-    blanked-same x group g.cells (group_range x group g.cells g.some) small y blanked
+    blanked-same x group (cells_of x name group a.whole a.is) a.range small y blanked
 
 -- a stop after the commit of a removal that was accepted
 blanked_stops : (x name : List ℕ) (group : Freed) (y : List ℕ) → length x < 2 ^ 32 → removal_in x name ≡ Ok group → IsBlanked x group y → last_four y ≡ last_four x → IsStopped x group (removed x group) (length x - 4) y
 blanked_stops x name group y small is blanked last =
     let a = accepted x name group is in
-    let g = the_group x name group a.whole a.group_is in
-    blanked-stopped x group g.cells (group_range x group g.cells g.some) small y blanked last
+    blanked-stopped x group (cells_of x name group a.whole a.is) a.range small y blanked last
 
 -- what a removal leaves that stops at one of its writes
 pub removal_leaves : (r : Range) (name : List ℕ) (group : Freed) (old mid new : List ℕ) → LiesIn r old → length old < 2 ^ 32 → mid ≡ old

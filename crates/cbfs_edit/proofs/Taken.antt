@@ -1,7 +1,8 @@
 -- A removal takes one component, the first of its name, and leaves all others with their places and bytes.
-use Rattle.std.proofs.Common.{◌≡◌, ℕ, ◌+◌, ◌<◌, Bool, true, false, cond, List, [], ◌∷◌, ◌++◌, length, sym, ◌∙◌, ap, subst, refl, arith, All, append_assoc, length-append}
+use Rattle.std.proofs.Common.{◌≡◌, inl, inr, ℕ, ◌+◌, false, List, [], ◌∷◌, ◌++◌, length, ◌∙◌, ap, refl, arith, All}
 use Rattle.std.specs.Str.{bytes_eq}
 use Rattle.std.specs.List.{concat}
+use Rattle.std.proofs.lemmas.Bool.{cases_Bool}
 use Rattle.std.proofs.lemmas.List.Elements.{All-nil, All-cons, All-head, All-tail}
 use Rattle.flash_format.specs.Head.{head_of, is_free}
 use Rattle.flash_format.specs.Cut.{cut, IsCut}
@@ -12,9 +13,8 @@ use Rattle.flash_format.proofs.Splices.{components-free, concat-append}
 use Rattle.cbfs_edit.specs.Groups.{IsComponent, IsGroupOf, IsNot}
 use Rattle.cbfs_edit.specs.Laws.{RemovalsTakeOneComponent}
 use Rattle.cbfs_edit.specs.declared.group.Freed.{Freed}
-use Rattle.cbfs_edit.proofs.Exact.{group_exact}
-use Rattle.cbfs_edit.proofs.Groups.{group_range, removed-components, removed-end}
-use Rattle.cbfs_edit.proofs.Parts.{the_group, whole_cut}
+use Rattle.cbfs_edit.proofs.Exact.{cells_of}
+use Rattle.cbfs_edit.proofs.Groups.{removed-components, removed-end}
 use Rattle.cbfs_edit.proofs.Removals.{accepted}
 
 abbrev IsOther : List ℕ → Component → Type 0
@@ -26,17 +26,15 @@ unfolding components_from
 others_have_not name at [] none = All-nil (IsOther name)
 others_have_not name at (c ∷ cells) none =
     let later : All (IsOther name) (components_from (at + length c) cells) = others_have_not name (at + length c) cells (All-tail (IsNot name) c cells none) in
-    let T : Bool → Type 0 = λ b. is_free (head_of c) ≡ b → All (IsOther name) (cond b (components_from (at + length c) cells) (component_at at c ∷ components_from (at + length c) cells)) in
-    let by_kind : T (is_free (head_of c)) = elim (is_free (head_of c)) as T [
-      | true ↦ λ e. later
-      | false ↦ λ e. All-cons (IsOther name) (component_at at c) (components_from (at + length c) cells) (All-head (IsNot name) c cells none e) later
-    ] in
-    by_kind refl
+    elim (cases_Bool (is_free (head_of c))) [
+      | inl e ↦ rw e later
+      | inr e ↦ rw e (All-cons (IsOther name) (component_at at c) (components_from (at + length c) cells) (All-head (IsNot name) c cells none e) later)
+    ]
 
 -- a component, and the components of the cells behind it
 one_then : (at : ℕ) (c : List ℕ) (cells : List (List ℕ)) → IsComponent c → components_from at (c ∷ cells) ≡ component_at at c ∷ components_from (at + length c) cells
 unfolding components_from
-one_then at c cells is = ap (λ b. cond b (components_from (at + length c) cells) (component_at at c ∷ components_from (at + length c) cells)) is
+one_then at c cells is = rw is refl
 
 -- free cells, a component and free cells, and what is behind them
 row_of_one : (at end : ℕ) (row more after : List (List ℕ)) (c : List ℕ) → AllFree row → AllFree more → IsComponent c → at + length (concat row) + length c + length (concat more) ≡ end
@@ -51,26 +49,11 @@ row_of_one at end row more after c free free_more is ends =
     ∙ ap (λ (l : List Component). l ++ components_from (place + length c + length (concat more)) after) (components-free (place + length c) more free_more)
     ∙ ap (λ n. components_from n after) ends)
 
--- the cells around a group, and in it
-abbrev cells_of : (x name : List ℕ) (group : Freed) (rest : List ℕ) → IsCut x (cut x).cells rest (cut x).end → IsGroupOf name (cut x).cells group → CellsBetween x group.start group.end
-cells_of x name group rest is g = record {
-  before = g.before;
-  group = g.row_before ++ (g.component ∷ g.row_after);
-  after = g.after;
-  rest = rest;
-  ending = (cut x).end;
-  is = subst (λ (l : List (List ℕ)). IsCut x l rest (cut x).end) (g.whole ∙ ap (λ (l : List (List ℕ)). g.before ++ l) (sym (append_assoc g.row_before (g.component ∷ g.row_after) g.after)) ∙ sym (append_assoc g.before (g.row_before ++ (g.component ∷ g.row_after)) g.after)) is;
-  start_is = g.start_is;
-  end_is = omega (arith, g.end_is, ap length (concat-append g.row_before (g.component ∷ g.row_after)), length-append (concat g.row_before) (g.component ++ concat g.row_after), length-append g.component (concat g.row_after));
-}
-
 pub removal_takes_one : RemovalsTakeOneComponent
 removal_takes_one x name group small is =
     let a = accepted x name group is in
-    let g : IsGroupOf name (cut x).cells group = group_exact x name group a.group_is in
-    let whole = whole_cut x a.whole in
-    let cells : CellsBetween x group.start group.end = cells_of x name group whole.rest whole.is g in
-    let some : group.start < group.end = (the_group x name group a.whole a.group_is).some in
+    let g = a.is in
+    let cells : CellsBetween x group.start group.end = cells_of x name group a.whole g in
     let first : 0 + length (concat g.before) ≡ group.start = omega (arith, g.start_is) in
     record {
       before = components_from 0 g.before;
@@ -80,8 +63,8 @@ removal_takes_one x name group small is =
           ∙ components-append 0 g.before (g.row_before ++ (g.component ∷ (g.row_after ++ g.after)))
           ∙ ap (λ n. components_from 0 g.before ++ components_from n (g.row_before ++ (g.component ∷ (g.row_after ++ g.after)))) first
           ∙ ap (λ (l : List Component). components_from 0 g.before ++ l) (row_of_one group.start group.end g.row_before g.row_after g.after g.component g.row_before_free g.row_after_free g.is_component g.end_is);
-      is = removed-components x group cells (group_range x group cells some) small;
+      is = removed-components x group cells a.range small;
       named = g.named;
       first = others_have_not name 0 g.before g.first;
-      same_end = removed-end x group cells (group_range x group cells some) small;
+      same_end = removed-end x group cells a.range small;
     }
