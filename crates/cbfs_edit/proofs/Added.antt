@@ -1,8 +1,8 @@
 -- An accepted addition: where it stands, and what the region has after it.
-use Rattle.std.proofs.Common.{◌≡◌, ◌≢◌, inl, inr, ⊎_elim, ℕ, ◌+◌, ◌-◌, ◌%◌, ◌^◌, ◌<◌, ◌≤◌, Bool, true, false, cond, eqb, ltb, ◌||◌, List, [], ◌∷◌, ◌++◌, length, Option, Some, None, Ok, Err, sym, ◌∙◌, ap, subst, refl, arith, length-append, length-drop}
-use Rattle.std.specs.Prelude.{◌==◌, is_some}
+use Rattle.std.proofs.Common.{◌≡◌, ◌≢◌, inl, inr, ⊎_elim, ℕ, ◌+◌, ◌-◌, ◌%◌, ◌^◌, ◌<◌, ◌≤◌, Bool, true, false, cond, eqb, ltb, ◌||◌, List, [], ◌∷◌, ◌++◌, length, drop, Option, Some, None, Ok, Err, sym, ◌∙◌, ap, subst, refl, arith, length-append, length-drop}
+use Rattle.std.specs.Prelude.{◌==◌}
 use Rattle.std.specs.List.{list_any}
-use Rattle.std.proofs.lemmas.Bool.{cases_eq, eq-eqb, ne_eqb}
+use Rattle.std.proofs.lemmas.Bool.{cond_both, eqb-false, eqb-true, or_parts}
 use Rattle.std.proofs.lemmas.Bool.Decides.{nat_tests}
 use Rattle.flash_format.specs.Head.{header_length, round64}
 use Rattle.flash_format.specs.Entry.{is_nul}
@@ -10,29 +10,23 @@ use Rattle.flash_format.specs.Blanks.{blank_header, blank, padding}
 use Rattle.flash_format.specs.Cut.{cut}
 use Rattle.flash_format.specs.Components.{components}
 use Rattle.flash_format.specs.Splices.{spliced}
-use Rattle.flash_format.specs.Made.{IsDigest, IsMade, KeepsFour, hash_len, meta_length, made_front}
+use Rattle.flash_format.specs.Made.{IsDigest, IsMade, hash_len, meta_length, made_front}
 use Rattle.flash_format.specs.Placings.{HasOneMore, IsSpace, IsPlacing, made_component, space_cells}
 use Rattle.flash_format.specs.declared.digest.Digest.{Digest}
 use Rattle.flash_format.specs.declared.digest.Digest.TheVariants as digests
-use Rattle.flash_format.proofs.BlankLaws.{length-blank_header}
 use Rattle.flash_format.proofs.MadeLaws.{length-front, hash_as_long, made_as_long, made_alone}
-use Rattle.flash_format.proofs.Placed.{components_placed}
-use Rattle.flash_store.specs.Bytes.{overwritten, SameOutside}
-use Rattle.flash_store.proofs.BytesLemmas.{SameOutside-overwritten, length-overwritten}
+use Rattle.flash_format.proofs.Placed.{blank_is_space, components_placed}
 use Rattle.cbfs_walk.specs.Finding.{first_named}
 use Rattle.cbfs_edit.specs.Groups.{IsCellRange}
 use Rattle.cbfs_edit.specs.Runs.{runs}
-use Rattle.cbfs_edit.specs.Removals.{last_four, kept_at}
-use Rattle.cbfs_edit.specs.Refusals.{ByFault}
+use Rattle.cbfs_edit.specs.Removals.{kept_at}
 use Rattle.cbfs_edit.specs.Places.{IsAnsweredPlace, IsWanted, IsFirstPlace, IsPlaceAmong, limit_of, placing_in}
 use Rattle.cbfs_edit.specs.Placings.{Fits}
-use Rattle.cbfs_edit.specs.Stops.{AddLeavesWhole, AddLeavesBefore}
+use Rattle.cbfs_edit.specs.Stops.{AddLeavesWhole, AddLeavesBefore, IsOldOrBlanked}
 use Rattle.cbfs_edit.specs.Additions.{NewComponent, AddsOne, added, addition_in, blank_between, cell_end, header_of, is_bad_align, is_bad_name, is_bad_type, kept_from, made_at, own_fault, unless_faulty, wanted_for}
-use Rattle.cbfs_edit.specs.Insertions.{EndsAlike, IsOldOrBlanked}
 use Rattle.cbfs_edit.specs.Laws.{AdditionsAddOneComponent}
 use Rattle.cbfs_edit.specs.declared.fault.EditFault.{EditFault}
 use Rattle.cbfs_edit.specs.declared.fault.EditFault.TheVariants as faults
-use Rattle.cbfs_edit.specs.declared.group.Freed.{Freed}
 use Rattle.cbfs_edit.specs.declared.place.Spot.{Spot}
 use Rattle.cbfs_edit.specs.declared.place.Spot.TheVariants.{First, Aligned, Fixed}
 use Rattle.cbfs_edit.specs.declared.place.Wanted.{Wanted}
@@ -40,25 +34,11 @@ use Rattle.cbfs_edit.specs.declared.place.Place.{Place}
 use Rattle.cbfs_edit.proofs.AnsweredPlaces.{answered_place}
 use Rattle.cbfs_edit.proofs.ContentPlaces.{content_at}
 use Rattle.cbfs_edit.proofs.FreeRuns.{IsRun, run_of, blanked_runs}
-use Rattle.cbfs_edit.proofs.Groups.{as_splice, padding-length}
+use Rattle.cbfs_edit.proofs.Groups.{as_splice, blanked-written, over-range}
+use Rattle.cbfs_edit.proofs.Kept.{keeps}
 use Rattle.cbfs_edit.proofs.Leasts.{place_among-right}
 
--- ---- what is said of a fault
-
-pub by-fault : (fault : EditFault) (A B C : Type 0) → (fault ≡ faults.Device → A) → (fault ≡ faults.Source → B) → (fault ≢ faults.Device → fault ≢ faults.Source → C) → ByFault fault A B C
-by-fault faults.Device A B C a b c = a refl
-by-fault faults.Source A B C a b c = b refl
-by-fault faults.RegionShape A B C a b c = c (λ e. absurd cc) (λ e. absurd cc)
-by-fault faults.NotCbfs A B C a b c = c (λ e. absurd cc) (λ e. absurd cc)
-by-fault (faults.Damaged at kind) A B C a b c = c (λ e. absurd cc) (λ e. absurd cc)
-by-fault faults.NotFound A B C a b c = c (λ e. absurd cc) (λ e. absurd cc)
-by-fault faults.Exists A B C a b c = c (λ e. absurd cc) (λ e. absurd cc)
-by-fault faults.NoSpace A B C a b c = c (λ e. absurd cc) (λ e. absurd cc)
-by-fault faults.BadName A B C a b c = c (λ e. absurd cc) (λ e. absurd cc)
-by-fault faults.BadType A B C a b c = c (λ e. absurd cc) (λ e. absurd cc)
-by-fault faults.BadAlign A B C a b c = c (λ e. absurd cc) (λ e. absurd cc)
-
--- the caller's own faults
+-- ---- the caller's own faults
 pub own-refused : (x : List ℕ) (new : NewComponent) (spot : Spot) (fault : EditFault) → Some fault ≡ own_fault new.name new.kind spot → Err fault ≡ addition_in x new spot
 unfolding addition_in
 own-refused x new spot fault is = ap (λ (o : Option EditFault). unless_faulty o (placing_in x new.name (wanted_for new spot))) is
@@ -66,18 +46,6 @@ own-refused x new spot fault is = ap (λ (o : Option EditFault). unless_faulty o
 pub own-fine : (x : List ℕ) (new : NewComponent) (spot : Spot) → None ≡ own_fault new.name new.kind spot → placing_in x new.name (wanted_for new spot) ≡ addition_in x new spot
 unfolding addition_in
 own-fine x new spot is = ap (λ (o : Option EditFault). unless_faulty o (placing_in x new.name (wanted_for new spot))) is
-
-pub own-by-fault : (name : List ℕ) (kind : ℕ) (spot : Spot) (fault : EditFault) (A B C : Type 0) → Some fault ≡ own_fault name kind spot → C → ByFault fault A B C
-own-by-fault name kind spot fault A B C is c = go (is_bad_name name) (is_bad_type kind) (is_bad_align spot) is
-  where
-    same : (f : EditFault) → Some fault ≡ Some f → f ≡ fault
-    same f e = cc
-
-    go : (n k s : Bool) → Some fault ≡ cond n (Some faults.BadName) (cond k (Some faults.BadType) (cond s (Some faults.BadAlign) None)) → ByFault fault A B C
-    go true k s e = subst (λ (f : EditFault). ByFault f A B C) (same faults.BadName e) c
-    go false true s e = subst (λ (f : EditFault). ByFault f A B C) (same faults.BadType e) c
-    go false false true e = subst (λ (f : EditFault). ByFault f A B C) (same faults.BadAlign e) c
-    go false false false e = absurd cc
 
 -- ---- an accepted addition
 
@@ -101,18 +69,14 @@ accepted x new spot place is = go (is_bad_name new.name) (is_bad_type new.kind) 
 pub accepted_size : (x : List ℕ) (new : NewComponent) (spot : Spot) (place : Place) → addition_in x new spot ≡ Ok place → length x % 64 ≡ 0
 accepted_size x new spot place is = (answered_place x new.name (wanted_for new spot) place (accepted x new spot place is).placed).whole
 
-both_false : (a b : Bool) → (a || b) ≡ false → (a ≡ false) × (b ≡ false)
-both_false true b e = absurd cc
-both_false false b e = (refl, e)
-
 record IsGoodName (name : List ℕ) : Type 0 where
   short : length name ≤ 127
   plain : list_any is_nul name ≡ false
 
 good_name : (name : List ℕ) → is_bad_name name ≡ false → IsGoodName name
 good_name name good =
-    let first = both_false (eqb (length name) 0 || ltb 127 (length name)) (list_any is_nul name) good in
-    let second = both_false (eqb (length name) 0) (ltb 127 (length name)) first.0 in
+    let first = or_parts (eqb (length name) 0 || ltb 127 (length name)) (list_any is_nul name) good in
+    let second = or_parts (eqb (length name) 0) (ltb 127 (length name)) first.0 in
     record { short = grind (arith, nat_tests, second.1); plain = first.1 }
 
 good_spot : (spot : Spot) → is_bad_align spot ≡ false → (let none : Spot = Aligned 0 in spot ≢ none)
@@ -126,52 +90,12 @@ good_spot (Aligned unit) good = λ e. not_zero unit good (same_unit unit e)
     not_zero n other is = grind (arith, nat_tests)
 good_spot (Fixed place) good = λ e. absurd cc
 
--- a run with a length: bytes written over it
-record IsWritten (x : List ℕ) (run : Freed) (y : List ℕ) : Type 0 where
-  same_length : length y ≡ length x
-  outside : SameOutside run.start (run.end - run.start) x y
-
-over-run : (x : List ℕ) (run : Freed) (u y : List ℕ) → IsCellRange run (length x) → length u ≡ run.end - run.start → y ≡ overwritten x run.start u → IsWritten x run y
-over-run x run u y range long is = record {
-  same_length = ap length is ∙ length-overwritten x run.start u (omega (arith, long, range.some, range.inside));
-  outside = subst (λ (l : List ℕ). SameOutside run.start (run.end - run.start) x l) (sym is) (SameOutside-overwritten x run.start (run.end - run.start) u (omega (arith, long)) (omega (arith, range.some, range.inside)));
-}
-
 -- the space between two places
-keeps : (x : List ℕ) (end : ℕ) → 4 ≤ length x → KeepsFour (kept_at x end)
-keeps x end some = go (end == length x)
-  where
-    go : (b : Bool) → KeepsFour (cond b (Some (last_four x)) None)
-    go true = omega (arith, length-drop (length x - 4) x)
-    go false = tt
-
 space : (x : List ℕ) (start end : ℕ) → start ≤ end → start % 64 ≡ 0 → end % 64 ≡ 0 → 4 ≤ length x → IsSpace (end - start) (blank_between x start end)
-space x start end order start_aligned end_aligned some = ⊎_elim none blanked (cases_eq start end)
-  where
-    size : ℕ
-    size = end - start
-
-    none : start ≡ end → IsSpace (end - start) (blank_between x start end)
-    none same =
-        let is : blank_between x start end ≡ [] = ap (λ b. cond b [] (blank (end - start) (kept_at x end))) (eq-eqb start end same) in
-        record { long = omega (arith, ap length is, same); header = λ positive. absurd (omega (arith, positive, same)) }
-
-    blanked : (start ≡ end → ⊥) → IsSpace (end - start) (blank_between x start end)
-    blanked other =
-        let is : blank_between x start end ≡ blank (end - start) (kept_at x end) = ap (λ b. cond b [] (blank (end - start) (kept_at x end))) (ne_eqb start end other) in
-        let pad : List ℕ = padding (end - start - header_length) (kept_at x end) in
-        let four : length (last_four x) ≡ 4 = omega (arith, length-drop (length x - 4) x, some) in
-        record {
-          long = ap length is ∙ omega (
-            arith,
-            length-append (blank_header (end - start) (is_some (kept_at x end))) pad,
-            length-blank_header (end - start) (is_some (kept_at x end)),
-            padding-length (end - start - header_length) (end == length x) (last_four x) four,
-            other,
-            order,
-          );
-          header = λ positive. (is_some (kept_at x end), pad, is);
-        }
+space x start end order start_aligned end_aligned some =
+    cond_both (start == end) [] (blank (end - start) (kept_at x end)) (λ (l : List ℕ). IsSpace (end - start) l)
+    (λ e. let same : start ≡ end = eqb-true start end e in record { long = omega arith; header = λ positive. absurd (omega (arith, positive, same)) })
+    (λ e. blank_is_space (end - start) (kept_at x end) (omega (arith, eqb-false start end e, order, start_aligned, end_aligned)) (keeps x end some))
 
 hash_short : (d : Option Digest) → hash_len d ≤ 76
 hash_short None = omega arith
@@ -179,16 +103,8 @@ hash_short (Some (digests.Sha256 bytes)) = omega arith
 hash_short (Some (digests.Sha512 bytes)) = omega arith
 
 limit_below : (spot : Spot) (size end : ℕ) → limit_of spot size end ≤ end
-limit_below First size end = go (end == size)
-  where
-    go : (b : Bool) → cond b (end - 4) end ≤ end
-    go true = omega arith
-    go false = omega arith
-limit_below (Aligned unit) size end = go (end == size)
-  where
-    go : (b : Bool) → cond b (end - 4) end ≤ end
-    go true = omega arith
-    go false = omega arith
+limit_below First size end = cond_both (end == size) (end - 4) end (λ n. n ≤ end) (λ e. omega arith) (λ e. omega arith)
+limit_below (Aligned unit) size end = cond_both (end == size) (end - 4) end (λ n. n ≤ end) (λ e. omega arith) (λ e. omega arith)
 limit_below (Fixed place) size end = omega arith
 
 module _ (x : List ℕ) (new : NewComponent) (spot : Spot) (place : Place) (small : length x < 2 ^ 32) (kind_small : new.kind < 2 ^ 32) (content_small : length new.content < 2 ^ 32) (digest : IsDigest new.digest)
@@ -297,7 +213,7 @@ module _ (x : List ℕ) (new : NewComponent) (spot : Spot) (place : Place) (smal
   as_spliced = as_splice x place.run.start place.run.end (before ++ (made_at x new place ++ after)) (omega (arith, whole_long, range.some))
 
   pub added_length : length (added x new place) ≡ length x
-  added_length = (over-run x place.run (before ++ (made_at x new place ++ after)) (added x new place) range whole_long refl).same_length
+  added_length = (over-range x place.run (before ++ (made_at x new place ++ after)) (added x new place) range whole_long refl).same_length
 
   pub region_some : 64 ≤ length x
   region_some = omega (arith, range.some, range.inside)
@@ -317,20 +233,17 @@ module _ (x : List ℕ) (new : NewComponent) (spot : Spot) (place : Place) (smal
       }
 
   -- a stop before the last commit
-  pub add_leaves_before : (y : List ℕ) → IsOldOrBlanked x place.run y → EndsAlike (kept_from x new place) x y → AddLeavesBefore x new spot y
+  pub add_leaves_before : (y : List ℕ) → IsOldOrBlanked x place.run y → drop (kept_from x new place) y ≡ drop (kept_from x new place) x → AddLeavesBefore x new spot y
   add_leaves_before y (inl same) last = (inl same, ap (λ (l : List ℕ). components l) same)
   add_leaves_before y (inr blanked) last =
       let kept = blanked_runs x place.run y there.whole small there.is_run blanked in
-      let written = over-run x place.run (blank_header (place.run.end - place.run.start) (place.run.end == length x) ++ blanked.more) y range
-      (omega (arith, length-append (blank_header (place.run.end - place.run.start) (place.run.end == length x)) blanked.more, length-blank_header (place.run.end - place.run.start) (place.run.end == length x), blanked.room)) blanked.bytes in (
-        inr (place, is, record { components = inl kept.components; end = kept.end; same_length = written.same_length; outside = written.outside; last = last }),
-        kept.components,
-      )
+      let written = blanked-written x place.run range y blanked in
+      (inr (place, is, record { components = inl kept.components; end = kept.end; same_length = written.same_length; outside = written.outside; last = last }), kept.components)
 
   -- and after it
-  pub add_leaves_done : (y : List ℕ) → y ≡ added x new place → EndsAlike (kept_from x new place) x y → AddLeavesWhole x new spot y
+  pub add_leaves_done : (y : List ℕ) → y ≡ added x new place → drop (kept_from x new place) y ≡ drop (kept_from x new place) x → AddLeavesWhole x new spot y
   add_leaves_done y done last =
-      let written = over-run x place.run (before ++ (made_at x new place ++ after)) y range whole_long done in
+      let written = over-range x place.run (before ++ (made_at x new place ++ after)) y range whole_long done in
       inr (
         place,
         is,

@@ -12,9 +12,8 @@ use Rattle.sha2.proofs.Facts256.{length-sha256}
 use Rattle.sha2.proofs.Facts512.{length-sha512}
 use Rattle.cbfs_walk.specs.Hashes.{sha256_of, sha512_of}
 use Rattle.cbfs_edit.specs.Places.{placing_in}
-use Rattle.cbfs_edit.specs.Stops.{AddLeavesBefore, AddLeavesWhole}
+use Rattle.cbfs_edit.specs.Stops.{AddLeavesBefore, AddLeavesWhole, IsInsertStop, IsOldOrBlanked}
 use Rattle.cbfs_edit.specs.Additions.{NewComponent, added, added_to, addition_in, after_addition, attribute_len, digest_of, kept_from, new_component, own_fault}
-use Rattle.cbfs_edit.specs.Insertions.{EndsAlike, IsOldOrBlanked}
 use Rattle.cbfs_edit.specs.declared.addition.HashChoice.{HashChoice}
 use Rattle.cbfs_edit.specs.declared.addition.HashChoice.TheVariants.{Plain, Sha256, Sha512}
 use Rattle.cbfs_edit.specs.declared.fault.EditFault.{EditFault}
@@ -94,33 +93,32 @@ written r new spot place old mid now same is there = there ∙ ap (λ (l : List 
 
 module _ (r : Range) (new : NewComponent) (spot : Spot) (place : Place) (old mid now : List ℕ) (honest : Type 0) (result : Result (Unit {0}) CopyFault) (lies : LiesIn r old) (small : length old < 2 ^ 32) (kind_small : new.kind < 2 ^ 32)
     (content_small : length new.content < 2 ^ 32) (digest : IsDigest new.digest) (same : mid ≡ old) (is : addition_in (bytes_in r old) new spot ≡ Ok place)
-    (stopped : r.size % 64 ≡ 0 → IsOldOrBlanked (bytes_in r mid) place.run (bytes_in r now) ⊎ ((IsErrOf result copies.Source → ⊥) × (honest → bytes_in r now ≡ added (bytes_in r mid) new place)))
-    (last : r.size % 64 ≡ 0 → EndsAlike (kept_from (bytes_in r mid) new place) (bytes_in r mid) (bytes_in r now)) where
-  size : length (bytes_in r old) ≡ r.size
+    (stopped : r.size % 64 ≡ 0 → IsInsertStop (bytes_in r mid) new place ((IsErrOf result copies.Source → ⊥) × (honest → bytes_in r now ≡ added (bytes_in r mid) new place)) (bytes_in r now)) where
+  abbrev x : List ℕ
+  x = bytes_in r old
+
+  abbrev y : List ℕ
+  y = bytes_in r now
+
+  size : length x ≡ r.size
   size = length-bytes_in r old lies
 
-  whole : r.size % 64 ≡ 0
-  whole = omega (arith, size, accepted_size (bytes_in r old) new spot place is)
-
-  x_small : length (bytes_in r old) < 2 ^ 32
+  x_small : length x < 2 ^ 32
   x_small = omega (arith, size, lies, small)
 
-  is_stopped : IsOldOrBlanked (bytes_in r old) place.run (bytes_in r now) ⊎ ((IsErrOf result copies.Source → ⊥) × (honest → bytes_in r now ≡ added (bytes_in r old) new place))
-  is_stopped = subst (λ (l : List ℕ). IsOldOrBlanked (bytes_in r l) place.run (bytes_in r now) ⊎ ((IsErrOf result copies.Source → ⊥) × (honest → bytes_in r now ≡ added (bytes_in r l) new place))) same (stopped whole)
+  stop : IsInsertStop x new place ((IsErrOf result copies.Source → ⊥) × (honest → y ≡ added x new place)) y
+  stop =
+      let whole : r.size % 64 ≡ 0 = omega (arith, size, accepted_size x new spot place is) in
+      subst (λ (l : List ℕ). IsInsertStop (bytes_in r l) new place ((IsErrOf result copies.Source → ⊥) × (honest → y ≡ added (bytes_in r l) new place)) y) same (stopped whole)
 
-  is_last : EndsAlike (kept_from (bytes_in r old) new place) (bytes_in r old) (bytes_in r now)
-  is_last = subst (λ (l : List ℕ). EndsAlike (kept_from (bytes_in r l) new place) (bytes_in r l) (bytes_in r now)) same (last whole)
+  left_before : IsOldOrBlanked x place.run y → AddLeavesBefore x new spot y
+  left_before before = add_leaves_before x new spot place x_small kind_small content_small digest is y before stop.last
 
   -- after a fault of the source
-  pub source_leaves : IsErrOf result copies.Source → AddLeavesBefore (bytes_in r old) new spot (bytes_in r now)
-  source_leaves failed =
-      ⊎_elim
-      (λ before. add_leaves_before (bytes_in r old) new spot place x_small kind_small content_small digest is (bytes_in r now) before is_last)
-      (λ shown. absurd (shown.0 failed)) is_stopped
+  pub source_leaves : IsErrOf result copies.Source → AddLeavesBefore x new spot y
+  source_leaves failed = ⊎_elim left_before (λ shown. absurd (shown.0 failed)) stop.bytes
 
   -- after one of the device
-  pub device_leaves : honest → AddLeavesWhole (bytes_in r old) new spot (bytes_in r now)
+  pub device_leaves : honest → AddLeavesWhole x new spot y
   device_leaves true_source =
-      ⊎_elim
-      (λ before. (add_leaves_before (bytes_in r old) new spot place x_small kind_small content_small digest is (bytes_in r now) before is_last).0)
-      (λ shown. add_leaves_done (bytes_in r old) new spot place x_small kind_small content_small digest is (bytes_in r now) (shown.1 true_source) is_last) is_stopped
+      ⊎_elim (λ before. (left_before before).0) (λ shown. add_leaves_done x new spot place x_small kind_small content_small digest is y (shown.1 true_source) stop.last) stop.bytes

@@ -3,6 +3,7 @@ use Rattle.std.proofs.Common.{◌≡◌, inl, inr, ℕ, ◌+◌, ◌-◌, ◌≤
 use Rattle.std.proofs.lemmas.Bool.{cases_lt}
 use Rattle.std.proofs.lemmas.List.{take_at, drop_at, drop-drop, drop-append-le, length-replicate, length-take-le, drop-replicate, replicate-append-replicate}
 use Rattle.flash_format.specs.Blanks.{padding}
+use Rattle.flash_format.specs.Made.{KeepsFour}
 use Rattle.flash_store.specs.Bytes.{overwritten}
 
 -- ---- writes
@@ -32,13 +33,8 @@ over_part x at u v w new place inside is same =
 
 -- ---- padding
 
--- the four bytes that are kept, where some are
-abbrev pub IsKept : Option (List ℕ) → Type 0
-IsKept None = Unit {0}
-IsKept (Some last) = length last ≡ 4
-
 -- what is left of a padding after some of its bytes
-pub drop-padding : (a b : ℕ) (last : Option (List ℕ)) → IsKept last → drop a (padding (a + b) last) ≡ padding b last
+pub drop-padding : (a b : ℕ) (last : Option (List ℕ)) → KeepsFour last → drop a (padding (a + b) last) ≡ padding b last
 drop-padding a b None four = let e : a + b - a ≡ b = omega arith in drop-replicate a (a + b) 0xff ∙ ap (λ n. replicate n 0xff) e
 drop-padding a b (Some last) four = elim (cases_lt b 4) [
   | inl few ↦
@@ -76,6 +72,6 @@ padding-begins a b (Some last) some =
     ∙ append_assoc (replicate a 0xff) (replicate (b - 4) 0xff) (drop (4 - b) last)
 
 -- in two parts, of which the first is the rest of a longer one
-pub padding-split : (a b : ℕ) (last : Option (List ℕ)) → IsKept last → padding (a + b) last ≡ take a (padding (a + b) last) ++ padding b last
+pub padding-split : (a b : ℕ) (last : Option (List ℕ)) → KeepsFour last → padding (a + b) last ≡ take a (padding (a + b) last) ++ padding b last
 padding-split a b last four =
     sym (take-append-drop a (padding (a + b) last)) ∙ ap (λ (l : List ℕ). take a (padding (a + b) last) ++ l) (drop-padding a b last four)

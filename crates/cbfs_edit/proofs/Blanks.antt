@@ -1,8 +1,8 @@
 -- The writes of a blank over a group: its header, then the rest.
 use Rattle.std.proofs.Common.{◌≡◌, ◌⊎◌, inl, inr, ℕ, ◌+◌, ◌-◌, ◌%◌, ◌<◌, ◌≤◌, Bool, true, false, cond, List, ◌++◌, length, take, drop, replicate, Some, None, sym, ◌∙◌, ap, subst, refl, arith, append_assoc, length-append, length-drop}
-use Rattle.std.specs.Prelude.{slice_range, ◌==◌, is_some}
+use Rattle.std.specs.Prelude.{slice_range, ◌==◌}
 use Rattle.std.proofs.lemmas.List.{length-replicate, take_all}
-use Rattle.std.proofs.lemmas.Bool.Decides.{nat_tests}
+use Rattle.std.proofs.lemmas.Bool.{eqb-false, eqb-true}
 use Rattle.flash_format.specs.Head.{header_length}
 use Rattle.flash_format.specs.Blanks.{blank_header, padding}
 use Rattle.flash_format.proofs.BlankLaws.{length-blank_header}
@@ -12,9 +12,11 @@ use Rattle.flash_store.specs.Regions.{Range, LiesIn, bytes_in}
 use Rattle.flash_store.proofs.DeviceLemmas.{length-bytes_in}
 use Rattle.cbfs_edit.specs.Groups.{IsCellRange}
 use Rattle.cbfs_edit.specs.Removals.{last_four, kept_at, removed}
-use Rattle.cbfs_edit.specs.Stops.{IsBlanked}
+use Rattle.cbfs_edit.specs.Stops.{IsBlankStop, IsBlanked}
 use Rattle.cbfs_edit.specs.declared.group.Freed.{Freed}
 use Rattle.cbfs_edit.proofs.Blanked.{blanked-commit, blanked-write}
+use Rattle.cbfs_edit.proofs.Groups.{blanked-written}
+use Rattle.cbfs_edit.proofs.Kept.{is_some-cond}
 
 -- the region keeps its length where the image does
 pub same_region_length : (r : Range) (x y z : List ℕ) → LiesIn r x → length y ≡ length x → length z ≡ length y → length (bytes_in r z) ≡ length (bytes_in r y)
@@ -35,17 +37,25 @@ last_four-same x y at n below size same =
 abbrev pub space_end : ℕ → Bool → ℕ
 space_end end kept = cond kept (end - 4) end
 
-is_some-cond : (b : Bool) (last : List ℕ) → is_some (cond b (Some last) None) ≡ b
-is_some-cond true last = refl
-is_some-cond false last = refl
+module _ (r : Range) (group : Freed) (old mid : List ℕ) (told : ℕ) (header : List ℕ) (lies : LiesIn r old) (in_region : IsCellRange group r.size) (is_told : told ≡ r.size)
+    (is_header : header ≡ blank_header (group.end - group.start) (group.end == told)) where
+  abbrev x : List ℕ
+  x = bytes_in r old
 
-module _ (x y : List ℕ) (group : Freed) (size : ℕ) (header : List ℕ) (range : IsCellRange group size) (long : length x ≡ size)
-    (told : ℕ) (is_told : told ≡ size) (is_header : header ≡ blank_header (group.end - group.start) (group.end == told)) where
+  abbrev y : List ℕ
+  y = bytes_in r mid
+
   abbrev start : ℕ
   start = group.start
 
   abbrev end : ℕ
   end = group.end
+
+  long : length x ≡ r.size
+  long = length-bytes_in r old lies
+
+  range : IsCellRange group (length x)
+  range = subst (λ n. IsCellRange group n) (sym long) in_region
 
   header-length : length header ≡ header_length
   header-length = ap length is_header ∙ length-blank_header (end - start) (end == told)
@@ -59,38 +69,40 @@ module _ (x y : List ℕ) (group : Freed) (size : ℕ) (header : List ℕ) (rang
   after_header : start + header_length ≤ end
   after_header = omega (arith, range.some)
 
-  in_region : end ≤ length x
-  in_region = omega (arith, range.inside, long)
-
   module _ (is : y ≡ overwritten x start header) where
+    committed : IsBlanked x group y
+    committed = subst (λ (l : List ℕ). IsBlanked x group l) (sym (is ∙ ap (λ (h : List ℕ). overwritten x start h) a_header)) (blanked-commit x group after_header range.inside)
+
     committed_size : length y ≡ length x
-    committed_size = ap length is ∙ length-overwritten x start header (omega (arith, header-length, range.some, range.inside))
+    committed_size = (blanked-written x group range y committed).same_length
 
-    committed_same : SameOutside start header_length x y
-    committed_same = subst (λ (l : List ℕ). SameOutside start header_length x l) (sym is) (SameOutside-overwritten x start header_length header (omega (arith, header-length)) (omega (arith, range.some, range.inside)))
+    pub committed_stop : IsBlankStop x group y
+    committed_stop =
+        let same : SameOutside start header_length x y =
+        subst (λ (l : List ℕ). SameOutside start header_length x l) (sym is) (SameOutside-overwritten x start header_length header (omega (arith, header-length)) (omega (arith, range.some, range.inside))) in
+        record { bytes = inr committed; last_four = last_four-same x y start header_length (omega (arith, range.some, range.inside)) committed_size same }
 
-    committed_last : last_four y ≡ last_four x
-    committed_last = last_four-same x y start header_length (omega (arith, range.some, range.inside)) committed_size committed_same
+    module _ (now : List ℕ) (n : ℕ) (to : n ≡ space_end end (end == told) - (start + header_length)) where
+      abbrev z : List ℕ
+      z = bytes_in r now
 
-    pub committed : IsBlanked x group y
-    committed = subst (λ (l : List ℕ). IsBlanked x group l) (sym (is ∙ ap (λ (h : List ℕ). overwritten x start h) a_header)) (blanked-commit x group after_header in_region)
-
-    module _ (z : List ℕ) (n : ℕ) (to : n ≡ space_end end (end == told) - (start + header_length)) where
-      fits : size % 64 ≡ 0 → (start + header_length + n ≤ end) × (start + header_length + n + 4 ≤ length x)
+      fits : r.size % 64 ≡ 0 → (start + header_length + n ≤ end) × (start + header_length + n + 4 ≤ length x)
       fits whole = go (end == told) refl to
         where
           go : (b : Bool) → (end == told) ≡ b → n ≡ space_end end b - (start + header_length) → (start + header_length + n ≤ end) × (start + header_length + n + 4 ≤ length x)
           go true e is_n = (omega (arith, range.some), omega (arith, range.some, range.inside))
           go false e is_n =
-              let other : end < size = let d : (end ≡ told → ⊥) = grind (arith, nat_tests) in omega (arith, range.inside, d, is_told) in
-              (omega (arith, range.some), omega (arith, range.some, range.end_aligned))
+              let other : end < length x = omega (arith, range.inside, eqb-false end told e, told_length) in
+              (omega (arith, range.some), omega (arith, range.some, range.end_aligned, long))
 
       -- any change of the space that the blank describes
-      pub filled_part : size % 64 ≡ 0 → length z ≡ length y → SameOutside (start + header_length) n y z → IsBlanked x group z
-      filled_part whole same_size same = blanked-write x group after_header in_region y z n committed (fits whole).0 (same_size ∙ committed_size) same
-
-      pub filled_last : size % 64 ≡ 0 → length z ≡ length y → SameOutside (start + header_length) n y z → last_four z ≡ last_four x
-      filled_last whole same_size same = last_four-same y z (start + header_length) n (omega (arith, (fits whole).1, committed_size)) same_size same ∙ committed_last
+      pub filled_stop : length mid ≡ length old → length now ≡ length mid → SameOutside (start + header_length) n y z → r.size % 64 ≡ 0 → IsBlankStop x group z
+      filled_stop mid_size now_size same whole =
+          let size : length z ≡ length y = same_region_length r old mid now lies mid_size now_size in
+          record {
+            bytes = inr (blanked-write x group after_header range.inside y z n committed (fits whole).0 (size ∙ committed_size) same);
+            last_four = last_four-same y z (start + header_length) n (omega (arith, (fits whole).1, committed_size)) size same ∙ committed_stop.last_four;
+          }
 
       filled_bytes : z ≡ overwritten y (start + header_length) (replicate n 0xff) → z ≡ overwritten x start (header ++ replicate n 0xff)
       filled_bytes at =
@@ -116,8 +128,7 @@ module _ (x y : List ℕ) (group : Freed) (size : ℕ) (header : List ℕ) (rang
 
       as_blank : (b : Bool) → (end == length x) ≡ b → n ≡ space_end end b - (start + header_length) → overwritten x start (header ++ replicate n 0xff) ≡ overwritten x start (header ++ padding (end - start - header_length) (cond b (Some (last_four x)) None))
       as_blank true e is_n =
-          let at_end : end ≡ length x = grind (arith, nat_tests) in
-          kept_bytes (end - start - header_length) (omega (arith, is_n)) refl at_end
+          kept_bytes (end - start - header_length) (omega (arith, is_n)) refl (eqb-true end (length x) e)
       as_blank false e is_n =
           let all : n ≡ end - start - header_length = omega (arith, is_n) in
           ap (λ p. overwritten x start (header ++ replicate p 0xff)) all
@@ -131,10 +142,6 @@ module _ (x y : List ℕ) (group : Freed) (size : ℕ) (header : List ℕ) (rang
           ∙ ap (λ b. overwritten x start (blank_header (end - start) b ++ padding (end - start - header_length) (kept_at x end))) (sym (is_some-cond (end == length x) (last_four x)))
 
   -- a commit that was refused is whole or absent
-  pub commit_stopped : (y ≡ x) ⊎ (y ≡ overwritten x start header) → (y ≡ x) ⊎ IsBlanked x group y
-  commit_stopped (inl same) = inl same
-  commit_stopped (inr is) = inr (committed is)
-
-  pub commit_last : (y ≡ x) ⊎ (y ≡ overwritten x start header) → last_four y ≡ last_four x
-  commit_last (inl same) = ap (λ (l : List ℕ). last_four l) same
-  commit_last (inr is) = committed_last is
+  pub commit_stop : (y ≡ x) ⊎ (y ≡ overwritten x start header) → IsBlankStop x group y
+  commit_stop (inl same) = record { bytes = inl same; last_four = ap (λ (l : List ℕ). last_four l) same }
+  commit_stop (inr is) = committed_stop is

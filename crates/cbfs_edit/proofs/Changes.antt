@@ -1,11 +1,12 @@
 -- Changes of a run, within a range.
-use Rattle.std.proofs.Common.{◌≡◌, ◌⊎◌, inl, inr, ℕ, ◌+◌, ◌-◌, ◌%◌, ◌≤◌, List, length, sym, ◌∙◌, ap, subst, refl, arith, cond}
+use Rattle.std.proofs.Common.{◌≡◌, ◌⊎◌, inl, inr, ℕ, ◌+◌, ◌-◌, ◌%◌, ◌≤◌, List, sym, ◌∙◌, ap, subst, refl, arith, cond}
+use Rattle.std.specs.Prelude.{max}
 use Rattle.std.proofs.lemmas.Bool.{cases_eq, eq-eqb, ne_eqb}
 use Rattle.flash_format.specs.Head.{header_length}
-use Rattle.flash_store.specs.Bytes.{overwritten, SameOutside}
-use Rattle.flash_store.proofs.BytesLemmas.{SameOutside-trans, SameOutside-overwritten}
+use Rattle.flash_store.specs.Bytes.{SameOutside}
+use Rattle.flash_store.proofs.BytesLemmas.{SameOutside-trans}
 use Rattle.cbfs_edit.specs.declared.place.Place.{Place}
-use Rattle.cbfs_edit.specs.Insertions.{HasRoom, held_back, touched_to, ChangesFrom, IsUnfinished}
+use Rattle.cbfs_edit.specs.Insertions.{HasRoom, held_back, IsUnfinished}
 
 pub unchanged : (x : List ℕ) (at n : ℕ) → SameOutside at n x x
 unchanged x at n = record { before = refl; after = refl }
@@ -30,32 +31,18 @@ held-back place order start_aligned aligned = elim (cases_eq place.header place.
 
 module _ (size : ℕ) (place : Place) (end front : ℕ) (room : HasRoom size place end front) (y z : List ℕ) where
   -- the rest of the front
-  pub front-within : (at n : ℕ) → at ≡ place.header + held_back place → n ≡ front - held_back place → SameOutside at n y z → IsUnfinished place place.content y z
+  pub front-within : (at n : ℕ) → at ≡ place.header + held_back place → n ≡ front - held_back place → SameOutside at n y z → IsUnfinished place y z
   front-within at n is long same =
       let where_it_is = held-back place room.start_below room.run.start_aligned room.header_aligned in
       let bounds : (place.run.start + header_length ≤ at) × (at + n ≤ place.content) = elim where_it_is [
         | inl here ↦ (omega (arith, here.0, here.1), omega (arith, here.0, here.1, room.front_is, room.front_long))
         | inr later ↦ (omega (arith, later.0, later.1), omega (arith, later.1, room.front_is))
       ] in
-      within y z at n (place.run.start + header_length) (touched_to place place.content) bounds.0 (omega (arith, bounds.1)) same
+      within y z at n (place.run.start + header_length) (max place.content (place.run.end - 4)) bounds.0 (omega (arith, bounds.1)) same
 
   -- the header of the blank after the component
-  pub bound-within : (n : ℕ) → n ≡ header_length → (end ≡ place.run.end → ⊥) → SameOutside end n y z → IsUnfinished place place.content y z
+  pub bound-within : (n : ℕ) → n ≡ header_length → (end ≡ place.run.end → ⊥) → SameOutside end n y z → IsUnfinished place y z
   bound-within n long other same =
-      within y z end n (place.run.start + header_length) (touched_to place place.content)
+      within y z end n (place.run.start + header_length) (max place.content (place.run.end - 4))
       (omega (arith, room.start_below, room.front_is, room.front_long, room.content_below))
       (omega (arith, long, other, room.end_below, room.end_aligned, room.run.end_aligned)) same
-
-  -- from the run's start on
-  pub wider : IsUnfinished place place.content y z → ChangesFrom place.run.start place place.content y z
-  wider same =
-      within y z (place.run.start + header_length) (touched_to place place.content - (place.run.start + header_length)) place.run.start (touched_to place place.content) (omega arith)
-      (omega (arith, room.start_below, room.front_is, room.front_long)) same
-
-  -- the last commit
-  pub begin-within : (begin : List ℕ) → length begin ≡ header_length → length y ≡ size → (z ≡ y) ⊎ (z ≡ overwritten y place.run.start begin) → ChangesFrom place.run.start place place.content y z
-  begin-within begin long whole_size (inl same) = subst (λ (l : List ℕ). ChangesFrom place.run.start place place.content y l) (sym same) (unchanged y place.run.start _)
-  begin-within begin long whole_size (inr is) =
-      let only : SameOutside place.run.start header_length y z =
-      subst (λ (l : List ℕ). SameOutside place.run.start header_length y l) (sym is) (SameOutside-overwritten y place.run.start header_length begin (omega (arith, long)) (omega (arith, whole_size, room.run.some, room.run.inside))) in
-      within y z place.run.start header_length place.run.start (touched_to place place.content) (omega arith) (omega (arith, room.start_below, room.front_is, room.front_long)) only

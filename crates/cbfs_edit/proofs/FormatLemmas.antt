@@ -1,8 +1,8 @@
 -- A region that becomes one blank.
-use Rattle.std.proofs.Common.{◌≡◌, ◌⊎◌, inl, inr, ℕ, ◌+◌, ◌-◌, ◌%◌, ◌^◌, ◌<◌, ◌≤◌, Bool, true, cond, Some, None, List, [], ◌∷◌, ◌++◌, length, sym, ◌∙◌, ap, refl, arith, length-append, length-drop, Result, Ok, Err}
-use Rattle.std.specs.Prelude.{◌==◌, OnOk}
+use Rattle.std.proofs.Common.{◌≡◌, ◌⊎◌, inl, inr, ℕ, ◌+◌, ◌-◌, ◌%◌, ◌^◌, ◌<◌, ◌≤◌, Bool, true, cond, Some, None, List, [], ◌∷◌, ◌++◌, length, sym, ◌∙◌, ap, refl, arith, length-append}
+use Rattle.std.specs.Prelude.{◌==◌}
 use Rattle.std.proofs.lemmas.List.{append-nil, drop_all}
-use Rattle.std.proofs.lemmas.Bool.Decides.{nat_tests}
+use Rattle.std.proofs.lemmas.Bool.{eq-eqb}
 use Rattle.std.proofs.lemmas.List.Elements.{All-nil, All-cons}
 use Rattle.flash_format.specs.Head.{header_length, head_of, is_free}
 use Rattle.flash_format.specs.Blanks.{blank_header, blank, padding}
@@ -10,13 +10,14 @@ use Rattle.flash_format.specs.Entry.{entry, cell}
 use Rattle.flash_format.specs.Cut.{complete, IsCell}
 use Rattle.flash_format.proofs.CutLaws.{cut_unique}
 use Rattle.flash_format.proofs.BlankLaws.{blank_header-cell, length-blank_header}
+use Rattle.flash_format.proofs.MadeLaws.{length-padding}
 use Rattle.flash_store.specs.Bytes.{overwritten}
 use Rattle.cbfs_edit.specs.Removals.{removed, last_four, kept_at}
-use Rattle.cbfs_edit.specs.Stops.{IsBlanked}
+use Rattle.cbfs_edit.specs.Stops.{IsBlankStop, IsOldOrBlanked}
 use Rattle.cbfs_edit.specs.Formats.{formatted, IsOneFreeCell, IsFormatStop}
 use Rattle.cbfs_edit.specs.Laws.{FormattedIsOneFreeCell}
 use Rattle.cbfs_edit.specs.declared.group.Freed.{Freed}
-use Rattle.cbfs_edit.proofs.Groups.{padding-length}
+use Rattle.cbfs_edit.proofs.Kept.{length-last_four}
 
 -- bytes over a whole list
 overwritten-whole : (x u : List ℕ) → length u ≡ length x → overwritten x 0 u ≡ u
@@ -41,15 +42,11 @@ one_free_cell y more size kept some whole small room is =
 -- a region that was formatted
 pub formatted_free : FormattedIsOneFreeCell
 formatted_free x some whole small =
-    let four : length (last_four x) ≡ 4 = omega (arith, length-drop (length x - 4) x) in
     one_free_cell (formatted x) (padding (length x - header_length) (Some (last_four x))) (length x) true some whole small
-    (omega (arith, padding-length (length x - header_length) true (last_four x) four, some)) refl
+    (omega (arith, length-padding (length x - header_length) (Some (last_four x)) (length-last_four x (omega arith)), some)) refl
 
 abbrev pub whole_range : ℕ → Freed
 whole_range size = record { start = 0; end = size }
-
-equal_self : (a : ℕ) → (a == a) ≡ true
-equal_self a = grind (arith, nat_tests)
 
 no_less : (n : ℕ) → n - 0 ≡ n
 no_less n = omega arith
@@ -57,26 +54,25 @@ no_less n = omega arith
 -- a finished format
 pub format_done : (x y : List ℕ) (size : ℕ) → length x ≡ size → 64 ≤ size → y ≡ removed x (whole_range size) → y ≡ formatted x
 format_done x y size long some is =
-    let four : length (last_four x) ≡ 4 = omega (arith, length-drop (length x - 4) x) in
+    let space : List ℕ = padding (length x - header_length) (Some (last_four x)) in
     let wide : length (formatted x) ≡ length x =
-    omega (arith, length-append (blank_header (length x) true) (padding (length x - header_length) (Some (last_four x))), length-blank_header (length x) true, padding-length (length x - header_length) true (last_four x) four) in
+    omega (arith, length-append (blank_header (length x) true) space, length-blank_header (length x) true, length-padding (length x - header_length) (Some (last_four x)) (length-last_four x (omega arith))) in
     is
     ∙ ap (λ n. removed x (whole_range n)) (sym long)
     ∙ ap (λ n. overwritten x 0 (blank n (kept_at x (length x)))) (no_less (length x))
-    ∙ ap (λ b. overwritten x 0 (blank (length x) (cond b (Some (last_four x)) None))) (equal_self (length x))
+    ∙ ap (λ b. overwritten x 0 (blank (length x) (cond b (Some (last_four x)) None))) (eq-eqb (length x) (length x) refl)
     ∙ overwritten-whole x (formatted x) wide
 
-pub format_ok : {A E : Type 0} (result : Result A E) (x y : List ℕ) (size : ℕ) → length x ≡ size → 64 ≤ size → OnOk result (y ≡ removed x (whole_range size)) → OnOk result (y ≡ formatted x)
-format_ok (Ok a) x y size long some is = format_done x y size long some is
-format_ok (Err e) x y size long some is = tt
-
 -- a stop at one of the writes
-pub format_stopped : (x y : List ℕ) (size : ℕ) → length x ≡ size → 64 ≤ size → size % 64 ≡ 0 → size < 2 ^ 32 → (y ≡ x) ⊎ IsBlanked x (whole_range size) y → last_four y ≡ last_four x → IsFormatStop x y
-format_stopped x y size long some whole small (inl same) last = record { cells = inl same; last_four = last }
-format_stopped x y size long some whole small (inr is) last =
-    let room : header_length + length is.more ≡ size = omega (arith, is.room) in
-    let header : List ℕ = blank_header (size - 0) (size == length x) in
-    let wide : length (header ++ is.more) ≡ length x = omega (arith, length-append header is.more, length-blank_header (size - 0) (size == length x)) in
-    let bytes : y ≡ blank_header size (size == length x) ++ is.more =
-    is.bytes ∙ overwritten-whole x (header ++ is.more) wide ∙ ap (λ n. blank_header n (size == length x) ++ is.more) (no_less size) in
-    record { cells = inr (one_free_cell y is.more size (size == length x) some whole small room bytes); last_four = last }
+pub format_stopped : (x y : List ℕ) (size : ℕ) → length x ≡ size → 64 ≤ size → size % 64 ≡ 0 → size < 2 ^ 32 → IsBlankStop x (whole_range size) y → IsFormatStop x y
+format_stopped x y size long some whole small stop = record { cells = cells stop.bytes; last_four = stop.last_four }
+  where
+    cells : IsOldOrBlanked x (whole_range size) y → (y ≡ x) ⊎ IsOneFreeCell y
+    cells (inl same) = inl same
+    cells (inr is) =
+        let room : header_length + length is.more ≡ size = omega (arith, is.room) in
+        let header : List ℕ = blank_header (size - 0) (size == length x) in
+        let wide : length (header ++ is.more) ≡ length x = omega (arith, length-append header is.more, length-blank_header (size - 0) (size == length x)) in
+        let bytes : y ≡ blank_header size (size == length x) ++ is.more =
+        is.bytes ∙ overwritten-whole x (header ++ is.more) wide ∙ ap (λ n. blank_header n (size == length x) ++ is.more) (no_less size) in
+        inr (one_free_cell y is.more size (size == length x) some whole small room bytes)

@@ -29,11 +29,11 @@ blanked_runs x run y aligned small has is =
     let g = r.cells in
     record {
       components =
-          blanked-components x run g r.range small y is.more is.room is.bytes
+          blanked-components x run r.range y is g small
           ∙ sym (
           group-components x run.start run.end g
           ∙ ap (λ (l : List Component). components_from 0 g.before ++ l ++ components_from run.end g.after) (components-free run.start g.group r.free)
           ∙ ap (λ (l : List Component). l ++ components_from run.end g.after) (append-nil (components_from 0 g.before))
           );
-      end = blanked-end x run g r.range small y is.more is.room is.bytes;
+      end = blanked-end x run r.range y is g small;
     }

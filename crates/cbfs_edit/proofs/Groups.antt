@@ -1,23 +1,24 @@
 -- The group that a removal takes is a group of the region's cells, and a stop after its commit leaves the cells of the
 -- finished removal.
-use Rattle.std.proofs.Common.{◌≡◌, inr, ℕ, ◌+◌, ◌-◌, ◌%◌, ◌^◌, ◌<◌, Bool, true, false, cond, List, ◌++◌, length, take, drop, replicate, sym, ◌∙◌, ap, subst, refl, arith, length-append, length-drop, Some, None}
-use Rattle.std.specs.Prelude.{◌==◌, is_some}
+use Rattle.std.proofs.Common.{◌≡◌, ℕ, ◌+◌, ◌-◌, ◌%◌, ◌^◌, ◌<◌, List, ◌++◌, length, take, drop, sym, ◌∙◌, ap, subst, arith, length-append}
+use Rattle.std.specs.Prelude.{◌==◌}
 use Rattle.std.specs.List.{concat}
-use Rattle.std.proofs.lemmas.List.{length-replicate}
 use Rattle.flash_format.specs.Head.{header_length}
 use Rattle.flash_format.specs.Blanks.{blank_header, padding}
 use Rattle.flash_format.specs.Cut.{cut}
 use Rattle.flash_format.specs.Components.{components_from, components}
 use Rattle.flash_format.specs.Splices.{CellsBetween, spliced}
 use Rattle.flash_format.proofs.BlankLaws.{length-blank_header}
+use Rattle.flash_format.proofs.MadeLaws.{length-padding}
 use Rattle.flash_format.proofs.Splices.{length-concat-cells, group-whole, cells-before, cells-group}
 use Rattle.flash_format.proofs.Splices as splices
 use Rattle.flash_store.specs.Bytes.{overwritten, SameOutside}
 use Rattle.flash_store.proofs.BytesLemmas.{SameOutside-overwritten, length-overwritten}
 use Rattle.cbfs_edit.specs.Groups.{IsCellRange}
 use Rattle.cbfs_edit.specs.Removals.{last_four, kept_at, removed}
-use Rattle.cbfs_edit.specs.Stops.{IsBlanked, IsStopped, SameCells}
+use Rattle.cbfs_edit.specs.Stops.{IsBlanked, SameCells}
 use Rattle.cbfs_edit.specs.declared.group.Freed.{Freed}
+use Rattle.cbfs_edit.proofs.Kept.{is_some-cond, keeps}
 
 -- ---- where a group lies
 
@@ -40,82 +41,60 @@ group_range x group g some =
 pub as_splice : (x : List ℕ) (start end : ℕ) (u : List ℕ) → start + length u ≡ end → overwritten x start u ≡ spliced x start end u
 as_splice x start end u size = ap (λ n. take start x ++ (u ++ drop n x)) size
 
-module _ (x : List ℕ) (group : Freed) (g : CellsBetween x group.start group.end) (range : IsCellRange group (length x)) (small : length x < 2 ^ 32) where
+-- bytes were written over a range, and nothing else
+pub record IsWritten (x : List ℕ) (range : Freed) (y : List ℕ) : Type 0 where
+  pub same_length : length y ≡ length x
+  pub outside : SameOutside range.start (range.end - range.start) x y
+
+pub over-range : (x : List ℕ) (range : Freed) (u y : List ℕ) → IsCellRange range (length x) → length u ≡ range.end - range.start → y ≡ overwritten x range.start u → IsWritten x range y
+over-range x range u y cells long is = record {
+  same_length = ap length is ∙ length-overwritten x range.start u (omega (arith, long, cells.some, cells.inside));
+  outside =
+      subst (λ (l : List ℕ). SameOutside range.start (range.end - range.start) x l) (sym is)
+      (SameOutside-overwritten x range.start (range.end - range.start) u (omega (arith, long)) (omega (arith, cells.some, cells.inside)));
+}
+
+module _ (x : List ℕ) (group : Freed) (range : IsCellRange group (length x)) where
   abbrev size : ℕ
   size = group.end - group.start
 
-  module _ (y more : List ℕ) (room : header_length + length more ≡ group.end - group.start) (is : y ≡ overwritten x group.start (blank_header (group.end - group.start) (group.end == length x) ++ more)) where
-    abbrev kept : Bool
-    kept = group.end == length x
+  -- a finished removal is a blank of which the header stands
+  pub removed-blanked : IsBlanked x group (removed x group)
+  removed-blanked =
+      let space : List ℕ = padding (size - header_length) (kept_at x group.end) in
+      record {
+        more = space;
+        room = omega (arith, length-padding (size - header_length) (kept_at x group.end) (keeps x group.end (omega (arith, range.some, range.inside))), range.some);
+        bytes = ap (λ b. overwritten x group.start (blank_header size b ++ space)) (is_some-cond (group.end == length x) (last_four x));
+      }
 
+  module _ (y : List ℕ) (is : IsBlanked x group y) where
     abbrev cell_bytes : List ℕ
-    cell_bytes = blank_header size kept ++ more
+    cell_bytes = blank_header size (group.end == length x) ++ is.more
 
     cell_length : length cell_bytes ≡ size
-    cell_length = omega (arith, length-append (blank_header size kept) more, length-blank_header size kept, room)
+    cell_length = omega (arith, length-append (blank_header size (group.end == length x)) is.more, length-blank_header size (group.end == length x), is.room)
+
+    pub blanked-written : IsWritten x group y
+    blanked-written = over-range x group cell_bytes y range cell_length is.bytes
 
     is_splice : y ≡ spliced x group.start group.end cell_bytes
-    is_splice = is ∙ as_splice x group.start group.end cell_bytes (omega (arith, cell_length, range.some))
+    is_splice = is.bytes ∙ as_splice x group.start group.end cell_bytes (omega (arith, cell_length, range.some))
 
-    pub blanked-components : components y ≡ components_from 0 g.before ++ components_from group.end g.after
-    blanked-components =
-        ap (λ (l : List ℕ). components l) is_splice
-        ∙ splices.blanked-components x group.start group.end g kept more (omega (arith, range.some)) (omega (arith, range.some, range.inside, small)) (omega (arith, room, range.some))
+    module _ (g : CellsBetween x group.start group.end) (small : length x < 2 ^ 32) where
+      pub blanked-components : components y ≡ components_from 0 g.before ++ components_from group.end g.after
+      blanked-components =
+          ap (λ (l : List ℕ). components l) is_splice
+          ∙ splices.blanked-components x group.start group.end g (group.end == length x) is.more (omega (arith, range.some)) (omega (arith, range.some, range.inside, small)) (omega (arith, is.room, range.some))
 
-    pub blanked-end : (cut y).end ≡ (cut x).end
-    blanked-end =
-        ap (λ (l : List ℕ). (cut l).end) is_splice
-        ∙ splices.blanked-end x group.start group.end g kept more (omega (arith, range.some)) (omega (arith, range.some, range.inside, small)) (omega (arith, room, range.some))
+      pub blanked-end : (cut y).end ≡ (cut x).end
+      blanked-end =
+          ap (λ (l : List ℕ). (cut l).end) is_splice
+          ∙ splices.blanked-end x group.start group.end g (group.end == length x) is.more (omega (arith, range.some)) (omega (arith, range.some, range.inside, small)) (omega (arith, is.room, range.some))
 
-    pub blanked-length : length y ≡ length x
-    blanked-length = ap length is ∙ length-overwritten x group.start cell_bytes (omega (arith, cell_length, range.some, range.inside))
-
-    pub blanked-outside : SameOutside group.start size x y
-    blanked-outside = subst (λ (l : List ℕ). SameOutside group.start size x l) (sym is) (SameOutside-overwritten x group.start size cell_bytes (omega (arith, cell_length)) (omega (arith, range.some, range.inside)))
-
--- ---- the finished removal
-
-is_some-cond : (b : Bool) (last : List ℕ) → is_some (cond b (Some last) None) ≡ b
-is_some-cond true last = refl
-is_some-cond false last = refl
-
-pub padding-length : (n : ℕ) (b : Bool) (last : List ℕ) → length last ≡ 4 → length (padding n (cond b (Some last) None)) ≡ n
-padding-length n true last four =
-    omega (arith, length-append (replicate (n - 4) 0xff) (drop (4 - n) last), length-replicate {A = ℕ} (n - 4) 0xff, length-drop (4 - n) last)
-padding-length n false last four = length-replicate {A = ℕ} n 0xff
-
-module _ (x : List ℕ) (group : Freed) (g : CellsBetween x group.start group.end) (range : IsCellRange group (length x)) (small : length x < 2 ^ 32) where
-  abbrev space : List ℕ
-  space = padding (group.end - group.start - header_length) (kept_at x group.end)
-
-  removed-room : header_length + length space ≡ group.end - group.start
-  removed-room =
-      let four : length (last_four x) ≡ 4 = omega (arith, length-drop (length x - 4) x, range.some, range.inside) in
-      omega (arith, padding-length (group.end - group.start - header_length) (group.end == length x) (last_four x) four, range.some)
-
-  removed-bytes : removed x group ≡ overwritten x group.start (blank_header (group.end - group.start) (group.end == length x) ++ space)
-  removed-bytes = ap (λ b. overwritten x group.start (blank_header (group.end - group.start) b ++ space)) (is_some-cond (group.end == length x) (last_four x))
-
-  -- the components of the finished removal
-  pub removed-components : components (removed x group) ≡ components_from 0 g.before ++ components_from group.end g.after
-  removed-components = blanked-components x group g range small (removed x group) space removed-room removed-bytes
-
-  pub removed-end : (cut (removed x group)).end ≡ (cut x).end
-  removed-end = blanked-end x group g range small (removed x group) space removed-room removed-bytes
-
-  -- After the commit the cells are those of the finished removal.
-  pub blanked-same : (y : List ℕ) → IsBlanked x group y → SameCells y (removed x group)
-  blanked-same y is = record {
-    components = blanked-components x group g range small y is.more is.room is.bytes ∙ sym removed-components;
-    end = blanked-end x group g range small y is.more is.room is.bytes ∙ sym (blanked-end x group g range small (removed x group) space removed-room removed-bytes);
-  }
-
-  -- A stop after it.
-  pub blanked-stopped : (y : List ℕ) → IsBlanked x group y → last_four y ≡ last_four x → IsStopped x group (removed x group) (length x - 4) y
-  blanked-stopped y is last = record {
-    components = inr (blanked-same y is).components;
-    end = blanked-end x group g range small y is.more is.room is.bytes;
-    same_length = blanked-length x group g range small y is.more is.room is.bytes;
-    outside = blanked-outside x group g range small y is.more is.room is.bytes;
-    last = ap (λ n. drop (n - 4) y) (sym (blanked-length x group g range small y is.more is.room is.bytes)) ∙ last;
+  -- after the commit the cells are those of the finished removal
+  pub blanked-same : (y : List ℕ) → IsBlanked x group y → CellsBetween x group.start group.end → length x < 2 ^ 32 → SameCells y (removed x group)
+  blanked-same y is g small = record {
+    components = blanked-components y is g small ∙ sym (blanked-components (removed x group) removed-blanked g small);
+    end = blanked-end y is g small ∙ sym (blanked-end (removed x group) removed-blanked g small);
   }

@@ -5,39 +5,26 @@ use Rattle.std.proofs.lemmas.Bool.{cases_eq, eq-eqb, ne_eqb}
 use Rattle.std.proofs.lemmas.List.{append-nil, length-replicate, length-take-le}
 use Rattle.flash_format.specs.Head.{header_length}
 use Rattle.flash_format.specs.Blanks.{blank_header, blank, padding}
+use Rattle.flash_format.specs.Made.{KeepsFour}
 use Rattle.flash_format.proofs.BlankLaws.{length-blank_header}
+use Rattle.flash_format.proofs.MadeLaws.{length-padding}
 use Rattle.flash_store.specs.Bytes.{overwritten}
 use Rattle.flash_store.proofs.BytesLemmas.{length-overwritten}
 use Rattle.cbfs_edit.specs.declared.place.Place.{Place}
 use Rattle.cbfs_edit.specs.Removals.{last_four, kept_at, removed}
 use Rattle.cbfs_edit.specs.Additions.{blank_between}
 use Rattle.cbfs_edit.specs.Insertions.{HasRoom, held_back, fronted, bounded, shown_by, finished}
-use Rattle.cbfs_edit.proofs.Groups.{padding-length}
-use Rattle.cbfs_edit.proofs.Assembly.{IsKept, over_part, padding-begins, padding-split}
-
-pub is_some-cond : (b : Bool) (last : List ℕ) → is_some (cond b (Some last) None) ≡ b
-is_some-cond true last = refl
-is_some-cond false last = refl
-
-kept-is : (x : List ℕ) (end : ℕ) → 4 ≤ length x → IsKept (kept_at x end)
-kept-is x end some = go (end == length x)
-  where
-    go : (b : Bool) → IsKept (cond b (Some (last_four x)) None)
-    go true = omega (arith, length-drop (length x - 4) x)
-    go false = tt
-
--- a cell that ends before the region's end keeps nothing
-kept-none : (x : List ℕ) (end : ℕ) → end < length x → kept_at x end ≡ None
-kept-none x end below = ap (λ b. cond b (Some (last_four x)) None) (ne_eqb end (length x) (λ e. absurd (omega (arith, e, below))))
+use Rattle.cbfs_edit.proofs.Kept.{is_some-cond, keeps, kept-none}
+use Rattle.cbfs_edit.proofs.Assembly.{over_part, padding-begins, padding-split}
 
 -- the begin of the run: what the last commit writes, the space of the blank before, and the rest of the front
-record IsFronted (x : List ℕ) (place : Place) (front : List ℕ) : Type 0 where
-  space : ℕ
-  rest_at : place.header + held_back place ≡ place.run.start + header_length + space
-  begin_long : length (shown_by place front) ≡ header_length
-  rest_long : place.run.start + header_length + space + length (drop (held_back place) front) ≡ place.content
-  whole : shown_by place front ++ (replicate space 0xff ++ drop (held_back place) front) ≡ blank_between x place.run.start place.header ++ front
-  room : place.run.start + header_length + space + 4 ≤ place.run.end
+pub record IsFronted (x : List ℕ) (place : Place) (front : List ℕ) : Type 0 where
+  pub space : ℕ
+  pub rest_at : place.header + held_back place ≡ place.run.start + header_length + space
+  pub begin_long : length (shown_by place front) ≡ header_length
+  pub rest_long : place.run.start + header_length + space + length (drop (held_back place) front) ≡ place.content
+  pub whole : shown_by place front ++ (replicate space 0xff ++ drop (held_back place) front) ≡ blank_between x place.run.start place.header ++ front
+  pub room : place.run.start + header_length + space + 4 ≤ place.run.end
 
 module _ (x : List ℕ) (place : Place) (end : ℕ) (front : List ℕ) (room : HasRoom (length x) place end (length front)) where
   abbrev s : ℕ
@@ -51,47 +38,33 @@ module _ (x : List ℕ) (place : Place) (end : ℕ) (front : List ℕ) (room : H
 
   at_start : h ≡ s → IsFronted x place front
   at_start same =
-      let b : (h == s) ≡ true = eq-eqb h s same in
-      let back : s ≡ h = sym same in
-      let held : held_back place ≡ header_length = ap (λ k. cond k header_length 0) b in
-      let begin : shown_by place front ≡ take header_length front = ap (λ k. cond k (take header_length front) (blank_header (h - s) false)) b in
-      let none : blank_between x s h ≡ [] = ap (λ k. cond k [] (blank (h - s) (kept_at x h))) (eq-eqb s h back) in
+      let here : (h == s) ≡ true = eq-eqb h s same in
+      let none : (s == h) ≡ true = eq-eqb s h (sym same) in
       record {
         space = 0;
-        rest_at = omega (arith, held, same);
-        begin_long = ap length begin ∙ length-take-le header_length front room.front_long;
-        rest_long = omega (arith, ap (λ k. length (drop k front)) held, length-drop header_length front, room.front_is, room.front_long, same);
-        whole =
-            ap (λ (l : List ℕ). l ++ ([] ++ drop (held_back place) front)) begin
-            ∙ ap (λ k. take header_length front ++ drop k front) held
-            ∙ take-append-drop header_length front
-            ∙ ap (λ (l : List ℕ). l ++ front) (sym none);
+        rest_at = rw here (omega arith);
+        begin_long = rw here (length-take-le header_length front room.front_long);
+        rest_long = rw here (omega (arith, length-drop header_length front, room.front_is, room.front_long));
+        whole = rw (here, none) (take-append-drop header_length front);
         room = omega (arith, room.run.some);
       }
 
   later : (h ≡ s → ⊥) → IsFronted x place front
   later other =
-      let b : (h == s) ≡ false = ne_eqb h s other in
       let apart : s + 64 ≤ h = omega (arith, other, room.start_below, room.run.start_aligned, room.header_aligned) in
-      let held : held_back place ≡ 0 = ap (λ k. cond k header_length 0) b in
-      let begin : shown_by place front ≡ blank_header (h - s) false = ap (λ k. cond k (take header_length front) (blank_header (h - s) false)) b in
-      let below : h < length x = omega (arith, room.front_is, room.front_long, room.content_below, room.end_below, room.run.inside) in
-      let some : blank_between x s h ≡ blank (h - s) None =
-      ap (λ k. cond k [] (blank (h - s) (kept_at x h))) (ne_eqb s h (λ q. absurd (omega (arith, q, apart)))) ∙ ap (λ (o : Option (List ℕ)). blank (h - s) o) (kept-none x h below) in
+      let there : (h == s) ≡ false = ne_eqb h s other in
+      let some : (s == h) ≡ false = ne_eqb s h (λ q. absurd (omega (arith, q, apart))) in
+      let nothing : kept_at x h ≡ None = kept-none x h (omega (arith, room.front_is, room.front_long, room.content_below, room.end_below, room.run.inside)) in
       record {
         space = h - s - header_length;
-        rest_at = omega (arith, held, apart);
-        begin_long = ap length begin ∙ length-blank_header (h - s) false;
-        rest_long = omega (arith, ap (λ k. length (drop k front)) held, room.front_is, apart);
-        whole =
-            ap (λ (l : List ℕ). l ++ (replicate (h - s - header_length) 0xff ++ drop (held_back place) front)) begin
-            ∙ ap (λ k. blank_header (h - s) false ++ (replicate (h - s - header_length) 0xff ++ drop k front)) held
-            ∙ sym (append_assoc (blank_header (h - s) false) (replicate (h - s - header_length) 0xff) front)
-            ∙ ap (λ (l : List ℕ). l ++ front) (sym some);
+        rest_at = rw there (omega (arith, apart));
+        begin_long = rw there (length-blank_header (h - s) false);
+        rest_long = rw there (omega (arith, room.front_is, apart));
+        whole = rw (there, some, nothing) (sym (append_assoc (blank_header (h - s) false) (replicate (h - s - header_length) 0xff) front));
         room = omega (arith, apart, room.front_is, room.front_long, room.content_below, room.end_below);
       }
 
-  is_fronted : IsFronted x place front
+  pub is_fronted : IsFronted x place front
   is_fronted = ⊎_elim at_start later (cases_eq h s)
 
   module _ (content : List ℕ) (fits : place.content + length content ≤ end) where
@@ -104,8 +77,8 @@ module _ (x : List ℕ) (place : Place) (end : ℕ) (front : List ℕ) (room : H
     abbrev tail : List ℕ
     tail = padding (e - d) last
 
-    four : IsKept last
-    four = kept-is x e (omega (arith, room.run.some, room.run.inside))
+    four : KeepsFour last
+    four = keeps x e (omega (arith, room.run.some, room.run.inside))
 
     -- the header of the blank after the component, where there is one
     abbrev after : List ℕ
@@ -113,11 +86,8 @@ module _ (x : List ℕ) (place : Place) (end : ℕ) (front : List ℕ) (room : H
 
     bound_same : (y : List ℕ) (p : List ℕ) → end ≡ e → y ≡ overwritten x s (p ++ tail) → bounded y end e ≡ overwritten x s (p ++ after)
     bound_same y p same is =
-        ap (λ b. cond b y (overwritten y end (blank_header (e - end) (e == length y)))) (eq-eqb end e same)
-        ∙ is
-        ∙ ap (λ k. overwritten x s (p ++ padding (k - d) (kept_at x k))) (sym same)
-        ∙ ap (λ (l : List ℕ). overwritten x s (p ++ l)) (sym (append-nil (padding (end - d) (kept_at x end))))
-        ∙ ap (λ b. overwritten x s (p ++ (padding (end - d) (kept_at x end) ++ cond b [] (blank (e - end) (kept_at x e))))) (sym (eq-eqb end e same))
+        let here : (end == e) ≡ true = eq-eqb end e same in
+        rw here (is ∙ ap (λ k. overwritten x s (p ++ padding (k - d) (kept_at x k))) (sym same) ∙ ap (λ (l : List ℕ). overwritten x s (p ++ l)) (sym (append-nil (padding (end - d) (kept_at x end)))))
 
     bound_other : (y : List ℕ) (p : List ℕ) → length p ≡ d - s → (end ≡ e → ⊥) → y ≡ overwritten x s (p ++ tail) → bounded y end e ≡ overwritten x s (p ++ after)
     bound_other y p long other is =
@@ -130,22 +100,22 @@ module _ (x : List ℕ) (place : Place) (end : ℕ) (front : List ℕ) (room : H
         (let sum : e - d ≡ (end - d) + (header_length + n) = omega (arith, apart, fits) in ap (λ k. padding k last) sum)
         ∙ padding-begins (end - d) (header_length + n) last (omega arith)
         ∙ ap (λ (l : List ℕ). gap ++ l) (padding-split header_length n last four) in
-        let q_long : length q ≡ header_length = length-take-le header_length (padding (header_length + n) last) (omega (arith, padding-length (header_length + n) (e == length x) (last_four x) (omega (arith, length-drop (length x - 4) x, room.run.some, room.run.inside)))) in
-        let total : length (p ++ tail) ≡ e - s = omega (arith, length-append p tail, padding-length (e - d) (e == length x) (last_four x) (omega (arith, length-drop (length x - 4) x, room.run.some, room.run.inside)), long, fits, apart, room.content_below, room.front_is, room.start_below) in
+        let q_long : length q ≡ header_length = length-take-le header_length (padding (header_length + n) last) (omega (arith, length-padding (header_length + n) last four)) in
+        let total : length (p ++ tail) ≡ e - s = omega (arith, length-append p tail, length-padding (e - d) last four, long, fits, apart, room.content_below, room.front_is, room.start_below) in
         let same_size : length y ≡ length x = ap length is ∙ length-overwritten x s (p ++ tail) (omega (arith, total, room.run.some, room.run.inside)) in
         let header : List ℕ = blank_header (e - end) (e == length y) in
         let header_is : header ≡ blank_header (e - end) (is_some last) =
         ap (λ k. blank_header (e - end) (e == k)) same_size ∙ ap (λ b. blank_header (e - end) b) (sym (is_some-cond (e == length x) (last_four x))) in
         let nothing : kept_at x end ≡ None = kept-none x end (omega (arith, apart, room.run.inside)) in
-        ap (λ b. cond b y (overwritten y end header)) (ne_eqb end e other)
-        ∙ ap (λ (l : List ℕ). overwritten l end header) (is ∙ ap (λ (l : List ℕ). overwritten x s (p ++ l)) tail_is ∙ ap (λ (l : List ℕ). overwritten x s l) (sym (append_assoc p gap (q ++ rest))))
+        let there : (end == e) ≡ false = ne_eqb end e other in
+        rw (there, nothing) (
+        ap (λ (l : List ℕ). overwritten l end header) (is ∙ ap (λ (l : List ℕ). overwritten x s (p ++ l)) tail_is ∙ ap (λ (l : List ℕ). overwritten x s l) (sym (append_assoc p gap (q ++ rest))))
         ∙ over_part x s (p ++ gap) q rest header end (omega (arith, room.run.some, room.run.inside))
         (omega (arith, length-append p gap, length-replicate {A = ℕ} (end - d) 0xff, long, fits, room.content_below, room.front_is, room.start_below))
         (length-blank_header (e - end) (e == length y) ∙ sym q_long)
         ∙ ap (λ (l : List ℕ). overwritten x s ((p ++ gap) ++ (l ++ rest))) header_is
         ∙ ap (λ (l : List ℕ). overwritten x s l) (append_assoc p gap (blank (e - end) last))
-        ∙ ap (λ (o : Option (List ℕ)). overwritten x s (p ++ (padding (end - d) o ++ blank (e - end) last))) (sym nothing)
-        ∙ ap (λ b. overwritten x s (p ++ (padding (end - d) (kept_at x end) ++ cond b [] (blank (e - end) last)))) (sym (ne_eqb end e other))
+        )
 
     bound : (y : List ℕ) (p : List ℕ) → length p ≡ d - s → y ≡ overwritten x s (p ++ tail) → bounded y end e ≡ overwritten x s (p ++ after)
     bound y p long is = ⊎_elim (λ same. bound_same y p same is) (λ other. bound_other y p long other is) (cases_eq end e)
@@ -170,9 +140,8 @@ module _ (x : List ℕ) (place : Place) (end : ℕ) (front : List ℕ) (room : H
         ap (λ k. padding k last) sum
         ∙ padding-begins g b last enough
         ∙ ap (λ (l : List ℕ). space ++ l) (padding-split v (length content + (e - d)) last four ∙ ap (λ (l : List ℕ). u1 ++ l) (padding-split (length content) (e - d) last four)) in
-        let keeps : length (last_four x) ≡ 4 = omega (arith, length-drop (length x - 4) x, room.run.some, room.run.inside) in
-        let u1_long : length u1 ≡ v = length-take-le v (padding b last) (omega (arith, padding-length b (e == length x) (last_four x) keeps)) in
-        let u2_long : length u2 ≡ length content = length-take-le (length content) (padding (length content + (e - d)) last) (omega (arith, padding-length (length content + (e - d)) (e == length x) (last_four x) keeps)) in
+        let u1_long : length u1 ≡ v = length-take-le v (padding b last) (omega (arith, length-padding b last four)) in
+        let u2_long : length u2 ≡ length content = length-take-le (length content) (padding (length content + (e - d)) last) (omega (arith, length-padding (length content + (e - d)) last four)) in
         let header_long : length header ≡ header_length = length-blank_header size (is_some last) in
         let space_long : length space ≡ g = length-replicate {A = ℕ} g 0xff in
         let inside : s ≤ length x = omega (arith, room.run.some, room.run.inside) in

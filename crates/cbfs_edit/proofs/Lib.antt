@@ -1,7 +1,8 @@
 pub mod Parts
+pub mod Kept
+pub mod Groups
 pub mod Blanked
 pub mod Blanks
-pub mod Groups
 pub mod Removals
 pub mod CellSearches
 pub mod Surveys
@@ -13,12 +14,10 @@ pub mod Exact
 pub mod ExactRuns
 pub mod FreeRuns
 pub mod FormatLemmas
-mod Examples
 pub mod Assembly
 pub mod Changes
 pub mod Inserted
 pub mod Insertions
-pub mod Inserting
 pub mod ContentPlaces
 pub mod Added
 pub mod Adding

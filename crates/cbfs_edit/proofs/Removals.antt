@@ -1,5 +1,5 @@
 -- An accepted removal has a group, in a region of a good size.
-use Rattle.std.proofs.Common.{◌≡◌, ◌⊎◌, inl, inr, ℕ, ◌-◌, ◌%◌, ◌^◌, ◌<◌, Bool, true, false, cond, List, length, Option, Some, None, Result, Ok, Err, refl, sym, ap, subst, arith}
+use Rattle.std.proofs.Common.{◌≡◌, ◌⊎◌, inl, inr, ℕ, ◌-◌, ◌%◌, ◌^◌, ◌<◌, Bool, true, false, cond, List, length, drop, Option, Some, None, Result, Ok, Err, refl, sym, ◌∙◌, ap, subst, arith}
 use Rattle.std.specs.Prelude.{IsErrOf}
 use Rattle.flash_store.specs.Regions.{Range, LiesIn, bytes_in}
 use Rattle.flash_store.proofs.DeviceLemmas.{length-bytes_in}
@@ -12,16 +12,16 @@ use Rattle.cbfs_walk.specs.declared.walk.WalkFault.TheVariants as walk
 use Rattle.cbfs_edit.specs.Refusals.{refusal_of}
 use Rattle.cbfs_walk.proofs.Answering.{good_size}
 use Rattle.cbfs_edit.specs.Groups.{IsCellRange, IsGroupOf, group_of}
-use Rattle.cbfs_edit.specs.Removals.{last_four, unless_damaged, found, removed, removal_in}
+use Rattle.cbfs_edit.specs.Removals.{unless_damaged, found, removed, removal_in}
 use Rattle.flash_store.specs.Bytes.{overwritten, SameOutside}
 use Rattle.flash_store.proofs.RegionLemmas.{image_is}
-use Rattle.cbfs_edit.specs.Stops.{IsBlanked, IsStopped, LeavesWhole}
+use Rattle.cbfs_edit.specs.Stops.{IsBlankStop, IsOldOrBlanked, LeavesWhole}
 use Rattle.cbfs_edit.specs.Laws.{BlankedGroupsLackTheComponent}
 use Rattle.cbfs_edit.specs.declared.fault.EditFault.{EditFault}
 use Rattle.cbfs_edit.specs.declared.fault.EditFault.TheVariants as faults
 use Rattle.cbfs_edit.specs.declared.group.Freed.{Freed}
 use Rattle.cbfs_edit.proofs.Exact.{cells_of, group_exact, group_some}
-use Rattle.cbfs_edit.proofs.Groups.{group_range, blanked-same, blanked-stopped}
+use Rattle.cbfs_edit.proofs.Groups.{group_range, blanked-end, blanked-same, blanked-written}
 
 pub record IsAccepted (x name : List ℕ) (group : Freed) : Type 0 where
   pub whole : length x % 64 ≡ 0
@@ -58,38 +58,42 @@ accepted x name group is = go (has_bad_size (length x)) (is_absent (entry x)) re
 pub blanked_lacks : BlankedGroupsLackTheComponent
 blanked_lacks x name group y small is blanked =
     let a = accepted x name group is in
-    blanked-same x group (cells_of x name group a.whole a.is) a.range small y blanked
-
--- a stop after the commit of a removal that was accepted
-blanked_stops : (x name : List ℕ) (group : Freed) (y : List ℕ) → length x < 2 ^ 32 → removal_in x name ≡ Ok group → IsBlanked x group y → last_four y ≡ last_four x → IsStopped x group (removed x group) (length x - 4) y
-blanked_stops x name group y small is blanked last =
-    let a = accepted x name group is in
-    blanked-stopped x group (cells_of x name group a.whole a.is) a.range small y blanked last
+    blanked-same x group a.range y blanked (cells_of x name group a.whole a.is) small
 
 -- what a removal leaves that stops at one of its writes
 pub removal_leaves : (r : Range) (name : List ℕ) (group : Freed) (old mid new : List ℕ) → LiesIn r old → length old < 2 ^ 32 → mid ≡ old
     → (let a : Result Freed EditFault = Ok group in IsErrOf a faults.Device ⊎ (a ≡ removal_in (bytes_in r old) name))
-    → (r.size % 64 ≡ 0 → (bytes_in r new ≡ bytes_in r mid) ⊎ IsBlanked (bytes_in r mid) group (bytes_in r new))
-    → (r.size % 64 ≡ 0 → last_four (bytes_in r new) ≡ last_four (bytes_in r mid))
-    → LeavesWhole (bytes_in r old) name (bytes_in r new)
-removal_leaves r name group old mid new lies small same answer stopped last = told answer
+    → (r.size % 64 ≡ 0 → IsBlankStop (bytes_in r mid) group (bytes_in r new)) → LeavesWhole (bytes_in r old) name (bytes_in r new)
+removal_leaves r name group old mid new lies small same (inl e) stopped = absurd cc
+removal_leaves r name group old mid new lies small same (inr e) stopped = left stop.bytes
   where
-    x : List ℕ
-    x = bytes_in r old
-
     size : length (bytes_in r old) ≡ r.size
     size = length-bytes_in r old lies
 
-    left : removal_in (bytes_in r old) name ≡ Ok group → (bytes_in r new ≡ bytes_in r old) ⊎ IsBlanked (bytes_in r old) group (bytes_in r new) → last_four (bytes_in r new) ≡ last_four (bytes_in r old) → LeavesWhole (bytes_in r old) name (bytes_in r new)
-    left is (inl unchanged) kept = inl unchanged
-    left is (inr blanked) kept = inr (group, is, blanked_stops (bytes_in r old) name group (bytes_in r new) (omega (arith, size, lies, small)) is blanked kept)
+    is : IsAccepted (bytes_in r old) name group
+    is = accepted (bytes_in r old) name group (sym e)
 
-    told : (let a : Result Freed EditFault = Ok group in IsErrOf a faults.Device ⊎ (a ≡ removal_in (bytes_in r old) name)) → LeavesWhole (bytes_in r old) name (bytes_in r new)
-    told (inl e) = absurd cc
-    told (inr e) =
-        let a = accepted (bytes_in r old) name group (sym e) in
-        let whole : r.size % 64 ≡ 0 = omega (arith, a.whole, size) in
-        left (sym e) (rw same at (stopped whole)) (rw same at (last whole))
+    stop : IsBlankStop (bytes_in r old) group (bytes_in r new)
+    stop = let whole : r.size % 64 ≡ 0 = omega (arith, is.whole, size) in rw same at (stopped whole)
+
+    left : IsOldOrBlanked (bytes_in r old) group (bytes_in r new) → LeavesWhole (bytes_in r old) name (bytes_in r new)
+    left (inl unchanged) = inl unchanged
+    left (inr blanked) =
+        let x : List ℕ = bytes_in r old in
+        let y : List ℕ = bytes_in r new in
+        let cells = cells_of x name group is.whole is.is in
+        let written = blanked-written x group is.range y blanked in
+        inr (
+          group,
+          sym e,
+          record {
+            components = inr (blanked-same x group is.range y blanked cells (omega (arith, size, lies, small))).components;
+            end = blanked-end x group is.range y blanked cells (omega (arith, size, lies, small));
+            same_length = written.same_length;
+            outside = written.outside;
+            last = ap (λ n. drop (n - 4) y) (sym written.same_length) ∙ stop.last_four;
+          },
+        )
 
 -- the image that a finished removal leaves
 pub image_removed : (r : Range) (group : Freed) (old mid new : List ℕ) → LiesIn r old → mid ≡ old → length new ≡ length mid → SameOutside r.start r.size mid new

@@ -1,8 +1,9 @@
 -- An edit's step, from what its clauses say one by one.
-use Rattle.std.proofs.Common.{◌≡◌, ◌≢◌, ◌⊎◌, inl, inr, List, ℕ, Result, Ok, Err, ap, sym}
+use Rattle.std.proofs.Common.{◌≡◌, ◌≢◌, ◌⊎◌, inl, inr, List, ℕ, Result, Ok, Err, ap, refl, sym}
 use Rattle.std.specs.Prelude.{IsErrOf, IfErr, IfOk, OnOk}
 use Rattle.flash_store.specs.Regions.{Range, bytes_in}
 use Rattle.cbfs_edit.specs.Additions.{NewComponent, addition_in, added_to, placed_of}
+use Rattle.cbfs_edit.specs.Refusals.{ByFault}
 use Rattle.cbfs_edit.specs.Removals.{removed, removal_in}
 use Rattle.cbfs_edit.specs.Steps.{AdditionStep, RemovalStep}
 use Rattle.cbfs_edit.specs.Stops.{LeavesWhole, AddLeavesWhole, AddLeavesBefore}
@@ -12,8 +13,13 @@ use Rattle.cbfs_edit.specs.declared.fault.EditFault.TheVariants as faults
 use Rattle.cbfs_edit.specs.declared.group.Freed.{Freed}
 use Rattle.cbfs_edit.specs.declared.place.Place.{Place}
 use Rattle.cbfs_edit.specs.declared.place.Spot.{Spot}
-use Rattle.cbfs_edit.proofs.Added.{by-fault}
 use Rattle.cbfs_edit.proofs.Adding.{same_fault, told_as}
+
+-- what is said of a fault
+by-fault : (fault : EditFault) (A B C : Type 0) → (fault ≡ faults.Device → A) → (fault ≡ faults.Source → B) → (fault ≢ faults.Device → fault ≢ faults.Source → C) → ByFault fault A B C
+by-fault faults.Device A B C a b c = a refl
+by-fault faults.Source A B C a b c = b refl
+by-fault other A B C a b c = c (λ e. absurd cc) (λ e. absurd cc)
 
 pub removal_step : (name : List ℕ) (r : Range) (old now : List ℕ) (result : Result Freed EditFault)
     → (IsErrOf result faults.Source → ⊥)

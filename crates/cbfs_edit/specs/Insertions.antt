@@ -4,8 +4,6 @@ use Rattle.flash_format.specs.Head.{header_length}
 use Rattle.flash_format.specs.Blanks.{blank_header}
 use Rattle.flash_store.specs.Bytes.{overwritten, SameOutside}
 use Rattle.cbfs_edit.specs.Groups.{IsCellRange}
-use Rattle.cbfs_edit.specs.Stops.{IsBlanked}
-use Rattle.cbfs_edit.specs.declared.group.Freed.{Freed}
 use Rattle.cbfs_edit.specs.declared.place.Place.{Place}
 
 -- a component with so many bytes before its content fits there, with a cell that ends at `end`
@@ -41,24 +39,7 @@ shown_by place front = if place.header == place.run.start then take header_lengt
 abbrev pub finished : List ℕ → Place → ℕ → List ℕ → List ℕ
 finished y place end front = overwritten (bounded (fronted y place front) end place.run.end) place.run.start (shown_by place front)
 
--- where the writes of a component end whose own bytes end at `to`: the last four bytes of its run are touched by these alone
-abbrev pub touched_to : Place → ℕ → ℕ
-touched_to place to = max to (place.run.end - 4)
-
--- nothing has changed but bytes of the run from a place on
-abbrev pub ChangesFrom : ℕ → Place → ℕ → List ℕ → List ℕ → Type 0
-ChangesFrom from place to y z = SameOutside from (touched_to place to - from) y z
-
--- before the last commit the header of the blank over the run stays
-abbrev pub IsUnfinished : Place → ℕ → List ℕ → List ℕ → Type 0
-IsUnfinished place to y z = ChangesFrom (place.run.start + header_length) place to y z
-
--- ---- what a stop leaves
-
--- all is as it was, or the header of a blank over the run stands at its start, and the rest of the run may hold anything
-abbrev pub IsOldOrBlanked : List ℕ → Freed → List ℕ → Type 0
-IsOldOrBlanked x run y = (y ≡ x) ⊎ IsBlanked x run y
-
--- from here on both have the same bytes
-abbrev pub EndsAlike : ℕ → List ℕ → List ℕ → Type 0
-EndsAlike from x y = drop from y ≡ drop from x
+-- before the last commit nothing has changed but bytes of the run behind the header of its blank, and of the run's last four
+-- only those before the content
+abbrev pub IsUnfinished : Place → List ℕ → List ℕ → Type 0
+IsUnfinished place y z = SameOutside (place.run.start + header_length) (max place.content (place.run.end - 4) - (place.run.start + header_length)) y z

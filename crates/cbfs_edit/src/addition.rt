@@ -9,11 +9,10 @@ ghost use Rattle.flash_store.specs.Device.{Calls, Reads, faults_told};
 ghost use Rattle.flash_store.specs.Pages.{HasChanged, OnHonestIn};
 ghost use Rattle.flash_store.specs.Regions.{LiesIn, bytes_in};
 ghost use Rattle.cbfs_edit.specs.Changes.{OnHonestChange, HasCopied};
-ghost use Rattle.cbfs_edit.specs.Additions.{added, added_to, addition_in, attribute_len, digest_of, is_bad_name, kept_from, labelled, new_component, own_fault, placed_of};
-ghost use Rattle.cbfs_edit.specs.Insertions.{EndsAlike, IsOldOrBlanked};
+ghost use Rattle.cbfs_edit.specs.Additions.{added, added_to, addition_in, attribute_len, digest_of, is_bad_name, labelled, new_component, own_fault, placed_of};
 ghost use Rattle.cbfs_edit.specs.Placings.{Fits};
 ghost use Rattle.cbfs_edit.specs.Refusals.{by_device, by_source};
-ghost use Rattle.cbfs_edit.specs.Stops.{AddLeavesBefore, AddLeavesWhole};
+ghost use Rattle.cbfs_edit.specs.Stops.{AddLeavesBefore, AddLeavesWhole, IsInsertStop};
 
 use crate::blank::write_blank;
 use crate::fault::EditFault;
@@ -146,11 +145,9 @@ fn insert<F: Flash, S: Source>(
     ensures added { OnHonestChange F.facts region paged.old paged.new (λ x y. IsTrue (S.facts source.old).honest →
         OnOk result (y ≡ added x (labelled label.now (S.facts source.old).content) place)) }
     ensures stopped { OnHonestChange F.facts region paged.old paged.new (λ x y. region.size % 64 ≡ 0 →
-        IsOldOrBlanked x place.run y
-        ⊎ ((IsErrOf result CopyFault.Source → ⊥) × (IsTrue (S.facts source.old).honest →
-        y ≡ added x (labelled label.now (S.facts source.old).content) place))) }
-    ensures last { OnHonestChange F.facts region paged.old paged.new (λ x y. region.size % 64 ≡ 0 →
-        EndsAlike (kept_from x (labelled label.now (S.facts source.old).content) place) x y) }
+        IsInsertStop x (labelled label.now (S.facts source.old).content) place
+        ((IsErrOf result CopyFault.Source → ⊥) × (IsTrue (S.facts source.old).honest →
+        y ≡ added x (labelled label.now (S.facts source.old).content) place)) y) }
 {
     paged.places_fit();
     let end = (place.content + wanted.len + 63) / 64 * 64;

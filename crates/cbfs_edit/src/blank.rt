@@ -5,8 +5,8 @@ ghost use Rattle.flash_store.specs.Pages.{HasChanged};
 ghost use Rattle.flash_store.specs.Regions.{LiesIn, bytes_in};
 ghost use Rattle.cbfs_edit.specs.Changes.{OnHonestChange};
 ghost use Rattle.cbfs_edit.specs.Groups.{IsCellRange};
-ghost use Rattle.cbfs_edit.specs.Removals.{last_four, removed};
-ghost use Rattle.cbfs_edit.specs.Insertions.{IsOldOrBlanked};
+ghost use Rattle.cbfs_edit.specs.Removals.{removed};
+ghost use Rattle.cbfs_edit.specs.Stops.{IsBlankStop};
 
 use crate::group::Freed;
 use crate::write::{commit_in, fill_in};
@@ -27,10 +27,8 @@ pub fn write_blank<F: Flash>(
 
     // On an honest device.
     ensures removed { OnHonestChange F.facts region paged.old paged.new (λ x y. OnOk result (y ≡ removed x group)) }
-    ensures stopped { OnHonestChange F.facts region paged.old paged.new (λ x y. region.size % 64 ≡ 0 →
-        IsOldOrBlanked x group y) }
-    ensures last_four { OnHonestChange F.facts region paged.old paged.new (λ x y. region.size % 64 ≡ 0 →
-        last_four y ≡ last_four x) }
+    ensures stopped { OnHonestChange F.facts region paged.old paged.new (λ x y.
+        region.size % 64 ≡ 0 → IsBlankStop x group y) }
 {
     paged.places_fit();
     let kept = group.end == region.size();

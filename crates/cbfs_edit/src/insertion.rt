@@ -9,7 +9,7 @@ ghost use Rattle.flash_store.specs.Device.{refusals};
 ghost use Rattle.flash_store.specs.Pages.{HasChanged};
 ghost use Rattle.flash_store.specs.Regions.{LiesIn, bytes_in};
 ghost use Rattle.cbfs_edit.specs.Changes.{OnHonestChange};
-ghost use Rattle.cbfs_edit.specs.Insertions.{ChangesFrom, HasRoom, IsUnfinished, bounded, finished, fronted, held_back, shown_by};
+ghost use Rattle.cbfs_edit.specs.Insertions.{HasRoom, IsUnfinished, bounded, finished, fronted, held_back, shown_by};
 
 use crate::place::Place;
 use crate::write::{commit_in, write_in};
@@ -43,7 +43,7 @@ fn write_front<F: Flash>(
     // On an honest device.
     ensures written { OnHonestChange F.facts region paged.old paged.new (λ x y.
         OnOk result (y ≡ fronted x place front.now)) }
-    ensures torn { OnHonestChange F.facts region paged.old paged.new (IsUnfinished place place.content) }
+    ensures torn { OnHonestChange F.facts region paged.old paged.new (IsUnfinished place) }
 {
     let skip = held_back(place);
     write_in(paged, region, place.header + skip as u64, &front[skip..])
@@ -64,7 +64,7 @@ fn write_bound<F: Flash>(
     // On an honest device.
     ensures written { OnHonestChange F.facts region paged.old paged.new (λ x y.
         OnOk result (y ≡ bounded x end place.run.end)) }
-    ensures torn { OnHonestChange F.facts region paged.old paged.new (IsUnfinished place place.content) }
+    ensures torn { OnHonestChange F.facts region paged.old paged.new (IsUnfinished place) }
 {
     if end == place.run.end {
         return Ok(());
@@ -109,8 +109,7 @@ fn show<F: Flash>(
     ensures shown { OnHonestChange F.facts region paged.old paged.new (λ x y.
         OnOk result (y ≡ finished x place end front.now)) }
     ensures stopped { OnHonestChange F.facts region paged.old paged.new (λ x y.
-        (y ≡ finished x place end front.now) ⊎ IsUnfinished place place.content x y) }
-    ensures torn { OnHonestChange F.facts region paged.old paged.new (ChangesFrom place.run.start place place.content) }
+        (y ≡ finished x place end front.now) ⊎ IsUnfinished place x y) }
 {
     write_front(paged, region, place, end, front)?;
     write_bound(paged, region, place, end)?;
@@ -138,8 +137,7 @@ pub fn describe<F: Flash>(
     ensures shown { OnHonestChange F.facts region paged.old paged.new (λ x y.
         OnOk result (y ≡ finished x place end (described meta.now))) }
     ensures stopped { OnHonestChange F.facts region paged.old paged.new (λ x y.
-        (y ≡ finished x place end (described meta.now)) ⊎ IsUnfinished place place.content x y) }
-    ensures torn { OnHonestChange F.facts region paged.old paged.new (ChangesFrom place.run.start place place.content) }
+        (y ≡ finished x place end (described meta.now)) ⊎ IsUnfinished place x y) }
 {
     let mut front = [0; LONGEST_FRONT];
     let n = write_meta(meta, &mut front);

@@ -58,7 +58,7 @@ returns-in-Err-Device-clause-stopped g c honest source_honest =
     let still = honest_still c.find_place.ensures.after.device.calls.same_honesty honest in
     let is = place_found (bytes_in c.args.region (g.F.Flash.facts c.args.paged.now.device).content) c.args.name.now c.args.kind c.args.hash (g.S.Source.facts c.args.source.now).content c.args.spot _ _ _ _ c.in_default.not-Some c.own_fault.ensures c.attribute_len.ensures.is c.meta_len.ensures c.len.ensures.length c.in-Ok.place (c.in-Ok.ensures.answer honest) in
     λ failed. device_leaves c.args.region new c.args.spot c.in-Ok.place old mid now (IsTrue (g.S.Source.facts c.args.source.now).honest) c.insert.result c.requires c.places_fit.ensures c.ranges.kind.fits (omega (arith, c.len.ensures))
-    (digest-sized c.args.hash (g.S.Source.facts c.args.source.now).content) (c.find_place.ensures.after.device.unchanged honest) is (c.insert.ensures.stopped still) (c.insert.ensures.last still) source_honest
+    (digest-sized c.args.hash (g.S.Source.facts c.args.source.now).content) (c.find_place.ensures.after.device.unchanged honest) is (c.insert.ensures.stopped still) source_honest
 
 pub returns-in-Err-Source-clause-before : goal.returns-in-Err-Source-clause-before
 returns-in-Err-Source-clause-before g c honest =
@@ -69,7 +69,7 @@ returns-in-Err-Source-clause-before g c honest =
     let still = honest_still c.find_place.ensures.after.device.calls.same_honesty honest in
     let is = place_found (bytes_in c.args.region (g.F.Flash.facts c.args.paged.now.device).content) c.args.name.now c.args.kind c.args.hash (g.S.Source.facts c.args.source.now).content c.args.spot _ _ _ _ c.in_default.not-Some c.own_fault.ensures c.attribute_len.ensures.is c.meta_len.ensures c.len.ensures.length c.in-Ok.place (c.in-Ok.ensures.answer honest) in
     λ failed. source_leaves c.args.region new c.args.spot c.in-Ok.place old mid now (IsTrue (g.S.Source.facts c.args.source.now).honest) c.insert.result c.requires c.places_fit.ensures c.ranges.kind.fits (omega (arith, c.len.ensures))
-    (digest-sized c.args.hash (g.S.Source.facts c.args.source.now).content) (c.find_place.ensures.after.device.unchanged honest) is (c.insert.ensures.stopped still) (c.insert.ensures.last still) (search rules)
+    (digest-sized c.args.hash (g.S.Source.facts c.args.source.now).content) (c.find_place.ensures.after.device.unchanged honest) is (c.insert.ensures.stopped still) (search rules)
 
 pub returns-in-Err-Source-clause-after : goal.returns-in-Err-Source-clause-after
 returns-in-Err-Source-clause-after g c = search rules

@@ -26,7 +26,7 @@ returns-in-Err-clause-stopped g c honest = λ is.
     removal_leaves c.args.region c.args.name.now c.in_ok-group.group (g.F.Flash.facts c.args.paged.now.device).content (g.F.Flash.facts c.find_group.new.paged.device).content _
     c.requires c.places_fit.ensures (c.find_group.ensures.after.device.unchanged honest)
     (c.in_ok-group.ensures.answer honest)
-    (c.write_blank.ensures.stopped (honest_still c.find_group.ensures.after.device.calls.same_honesty honest)) (c.write_blank.ensures.last_four (honest_still c.find_group.ensures.after.device.calls.same_honesty honest))
+    (c.write_blank.ensures.stopped (honest_still c.find_group.ensures.after.device.calls.same_honesty honest))
 
 pub returns-in-Ok-clause-image : goal.returns-in-Ok-clause-image
 returns-in-Ok-clause-image g c honest =
