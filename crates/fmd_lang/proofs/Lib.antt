@@ -13,4 +13,3 @@ pub mod FaultlessLemmas
 pub mod NameFields
 pub mod FaultlessTables
 pub mod TableBytes
-mod Examples

@@ -51,6 +51,7 @@ fn texts_that_are_refused(rt: HostRuntime) {
     refused(&rt, "F 4G {}", NumberTooLarge { at: 2 });
     refused(&rt, "F 4294967296", NumberTooLarge { at: 2 });
     refused(&rt, "F 4K 5", expected(5, Expected::End));
+    refused(&rt, "A#b {\nC", expected(6, Expected::End));
     refused(&rt, "F()", expected(2, Expected::Annotation));
     refused(&rt, "F(X)", expected(2, Expected::Annotation));
     refused(&rt, "F(CBFS X)", expected(7, Expected::Annotation));
@@ -79,6 +80,7 @@ fn words_at_the_limits(rt: HostRuntime) {
     size_is(&rt, "F 4095M", 4_293_918_720);
     size_is(&rt, "F 0K", 0);
     size_is(&rt, "F 0x1K", 1024);
+    size_is(&rt, "F 0x1FK", 31_744);
     at_the_limit(&rt, "", "!", 1, None);
     at_the_limit(&rt, "", "~", 1, None);
     at_the_limit(&rt, "F{A", " }", 1, None);
