@@ -6,7 +6,6 @@ mod Printing
 mod Planning
 mod Meeting
 mod Blameless
-mod Examples
 mod RegionPlaces
 mod ByRegion
 mod WrittenBack

@@ -42,7 +42,7 @@ const DIGEST: [u8; 32] = *b"\xba\x78\x16\xbf\x8f\x01\xcf\xea\x41\x41\x40\xde\x5d
 /// A fresh region before the flashmap.
 const MAP_LATER: Parts = &[(0, &FRESH), (0x200, &LATER_MAP)];
 
-const DAMAGED: Parts = &[(0, &MAP), (0x200, &A), (0x240, &TOO_LONG)];
+pub const DAMAGED: Parts = &[(0, &MAP), (0x200, &A), (0x240, &TOO_LONG)];
 
 const WITH_PACKED: Parts = &[(0, &MAP), (0x200, &PACKED), (0x280, &FRESH_384)];
 

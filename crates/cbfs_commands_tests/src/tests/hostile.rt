@@ -1,6 +1,6 @@
 //! Images that are cut anywhere or have other numbers, and outputs, sources and devices that fail at each place in turn.
 
-use super::adding::PACKED;
+use super::adding::{DAMAGED, PACKED};
 use super::{
     COREBOOT, MAP, PRINT, Parts, READ, SHOWN, SMALL, Short, WRITE, damage, device_of, device_with,
     equal, filled, image_of, put, runs, same_bytes,
@@ -178,6 +178,46 @@ fn what_is_packed_is_not_extracted(rt: HostRuntime) {
     extracted(&rt, 0, &PACKED[56..], Ok(()));
     extracted(&rt, 1, b"", packed);
     extracted(&rt, 3, b"", packed);
+}
+
+/// Extracting a component of this name from an image whose second entry is damaged writes this.
+fn extracted_before_damage(
+    rt: &(impl Abort + AllocGlobal),
+    name: &[u8],
+    text: &[u8],
+    answer: Result<(), Refusal>,
+) {
+    let region = COREBOOT;
+    let extract = Command::Extract { region, name };
+    shows(rt, image_of(rt, DAMAGED), &extract, text, answer);
+}
+
+#[test]
+fn what_is_behind_a_component_does_not_stop_its_extraction(rt: HostRuntime) {
+    extracted_before_damage(&rt, b"a", b"0123456789", Ok(()));
+    let damaged = Err(damage(0x40, DamageKind::Extent));
+    extracted_before_damage(&rt, b"z", b"", damaged);
+}
+
+/// Printing this region of the small image is refused.
+fn not_printed(rt: &(impl Abort + AllocGlobal), region: &[u8], refusal: Refusal) {
+    let print = Command::Print {
+        region,
+        verbose: false,
+    };
+    shows(rt, image_of(rt, SMALL), &print, b"", Err(refusal));
+}
+
+#[test]
+fn what_is_not_there_is_refused(rt: HostRuntime) {
+    not_printed(&rt, b"NONE", Refusal::NoRegion);
+    not_printed(&rt, b"REST", Refusal::NotCbfs);
+    let extract = Command::Extract {
+        region: COREBOOT,
+        name: b"z",
+    };
+    let none = Err(Refusal::NotFound);
+    shows(&rt, image_of(&rt, SMALL), &extract, b"", none);
 }
 
 /// A command on the small image, into a writer that takes so many bytes a call and so many in all, writes this text.
