@@ -1,11 +1,12 @@
 -- The digest of a component's content: the pieces of which it is made, and what the first hash attribute says of it.
-use Rattle.std.proofs.Common.{◌≡◌, ℕ, ◌+◌, ◌-◌, ◌≤◌, Bool, true, false, cond, IsTrue, List, ◌++◌, take, drop, length, Some, None, refl, sym, subst, ap, ◌∙◌, arith}
+use Rattle.std.proofs.Common.{◌≡◌, ℕ, ◌+◌, ◌-◌, ◌<◌, ◌≤◌, Bool, true, false, cond, IsTrue, List, ◌++◌, take, drop, length, Option, Some, None, sym, subst, ap, ◌∙◌, arith, ltb}
 use Rattle.std.specs.Prelude.{slice_range}
 use Rattle.std.specs.Str.{bytes_eq}
-use Rattle.std.proofs.lemmas.Bool.Decides.{nat_tests}
+use Rattle.std.proofs.lemmas.Bool.{lt-ltb, le-ltb}
 use Rattle.byteorder.specs.Endian.{big_number}
 use Rattle.sha2.specs.Sha256.{sha256}
 use Rattle.sha2.specs.Sha512.{sha512}
+use Rattle.flash_format.specs.declared.digest.Algorithm.{Algorithm}
 use Rattle.flash_format.specs.declared.digest.Digest.{Digest}
 use Rattle.flash_format.specs.declared.digest.Digest.TheVariants as digests
 use Rattle.flash_format.specs.declared.head.Head.{Head}
@@ -15,16 +16,16 @@ use Rattle.flash_format.specs.Components.{cell_attributes, cell_content}
 use Rattle.std.proofs.lemmas.List.{take-append-drop}
 use Rattle.flash_store.specs.Device.{Device}
 use Rattle.flash_store.specs.Pages.{Pages}
-use Rattle.flash_store.specs.Regions.{Range, bytes_in}
+use Rattle.flash_store.specs.Regions.{Range, LiesIn, bytes_in}
 use Rattle.cbfs_walk.specs.Passing.{Passes}
 use Rattle.cbfs_walk.specs.Cells.{PassesChecks, cell_in}
 use Rattle.cbfs_walk.specs.Walks.{StandsIn}
-use Rattle.cbfs_walk.specs.Hashes.{sha256_of, sha512_of, digest_like, has_sha256, has_sha512, stored_digest, compared, state_of, data_of, hash_state, content_at, hash_state_in, IsUncompared}
+use Rattle.cbfs_walk.specs.Hashes.{sha256_of, sha512_of, digest_like, digest_by, stored_digest, compared, state_of, data_of, hash_state, content_at, hash_state_in, IsUncompared}
 use Rattle.cbfs_walk.specs.declared.cell.Cell.{Cell}
 use Rattle.cbfs_walk.specs.declared.hashes.HashState.{HashState}
 use Rattle.cbfs_walk.specs.declared.hashes.HashState.TheVariants.{Valid, Invalid}
-use Rattle.flash_format.specs.Made.{digest_bytes}
-use Rattle.cbfs_walk.proofs.Parts.{range-inner, range-take, range-after, length-range}
+use Rattle.flash_format.specs.Made.{algorithm_len, algorithm_numbered, digest_with, digest_bytes}
+use Rattle.cbfs_walk.proofs.Parts.{length-region, range-inner, range-take, range-after, length-range}
 use Rattle.cbfs_walk.proofs.Checks.{checks_give}
 use Rattle.cbfs_walk.proofs.CutLaws.{standing, cell_head, cell_part}
 use Rattle.cbfs_walk.proofs.Scanning.{data_found, Scanning, told_before, scanning_more}
@@ -59,49 +60,35 @@ taking_more facts holds r from end at n old now new before hasher piece s fits r
 
 -- ---- the digest in a hash attribute
 
--- what is read where an attribute's data begins and in the bytes after
-data_parts : (x : List ℕ) (at n number : ℕ) → number ≡ be32 at x → 4 ≤ n → at + n ≤ length x → (be32 0 (slice_range x at (at + n)) ≡ number) × (length (slice_range x at (at + n)) ≡ n)
-data_parts x at n number e room inside = (
-  ap (big_number 4) (range-inner x at (at + n) 0 4 (omega (arith, room)) ∙ ap (λ k. slice_range x k (at + 4)) {x = at + 0} {y = at} (omega arith)) ∙ sym e,
-  length-range x at (at + n) inside ∙ (omega arith),
-)
+-- the data of a hash attribute, of which the number is read first
+module _ (r : Range) (image : List ℕ) (at n number : ℕ) (lies : LiesIn r image) (inside : at + n ≤ r.size) (room : 4 ≤ n) (e : number ≡ be32 at (bytes_in r image)) where
+  abbrev its_data : List ℕ
+  its_data = slice_range (bytes_in r image) at (at + n)
 
-digest_part : (x : List ℕ) (at n k : ℕ) → 4 + k ≤ n → slice_range x (at + 4) (at + 4 + k) ≡ slice_range (slice_range x at (at + n)) 4 (4 + k)
-digest_part x at n k fits = ap (slice_range x (at + 4)) {x = at + 4 + k} {y = at + (4 + k)} (omega arith) ∙ sym (range-inner x at (at + n) 4 (4 + k) (omega (arith, fits)))
+  length-data : length its_data ≡ n
+  length-data = omega (arith, length-range (bytes_in r image) at (at + n) (omega (arith, length-region r image lies, inside)))
 
-by_tests : (y : List ℕ) (a b : Bool) → has_sha256 (be32 0 y) (length y) ≡ a → has_sha512 (be32 0 y) (length y) ≡ b
-    → cond a (Some (digests.Sha256 (slice_range y 4 36))) (cond b (Some (digests.Sha512 (slice_range y 4 68))) None) ≡ stored_digest y
-unfolding stored_digest
-by_tests y a b e f = rw (← e, ← f) refl
+  pub stored_by : (found : Option Algorithm) → found ≡ algorithm_numbered number → digest_by found its_data ≡ stored_digest its_data
+  unfolding stored_digest
+  stored_by found is =
+      let x = bytes_in r image in
+      let first : be32 0 its_data ≡ number =
+      ap (big_number 4) (range-inner x at (at + n) 0 4 (omega (arith, room)) ∙ ap (λ k. slice_range x k (at + 4)) {x = at + 0} {y = at} (omega arith)) ∙ sym e in
+      rw first (ap (λ o. digest_by o its_data) is)
 
-pub long256 : (number n : ℕ) → has_sha256 number n ≡ true → 36 ≤ n
-long256 number n e = grind (arith, nat_tests)
+  pub stored_whole : (a : Algorithm) (bytes : List ℕ) → Some a ≡ algorithm_numbered number → 4 + algorithm_len a ≤ n → bytes ≡ slice_range (bytes_in r image) (at + 4) (at + 4 + algorithm_len a)
+      → Some (digest_with a bytes) ≡ stored_digest its_data
+  stored_whole a bytes is long read =
+      let x = bytes_in r image in
+      let part : bytes ≡ slice_range its_data 4 (4 + algorithm_len a) =
+      read ∙ ap (slice_range x (at + 4)) {x = at + 4 + algorithm_len a} {y = at + (4 + algorithm_len a)} (omega arith) ∙ sym (range-inner x at (at + n) 4 (4 + algorithm_len a) (omega (arith, long))) in
+      let long_enough : ltb (length its_data) (4 + algorithm_len a) ≡ false = le-ltb (length its_data) (4 + algorithm_len a) (omega (arith, length-data, long)) in
+      ap (λ l. Some (digest_with a l)) part ∙ sym (ap (λ b. cond b None (Some (digest_with a (slice_range its_data 4 (4 + algorithm_len a))))) long_enough) ∙ stored_by (Some a) is
 
-pub long512 : (number n : ℕ) → has_sha512 number n ≡ true → 68 ≤ n
-long512 number n e = grind (arith, nat_tests)
-
-pub stored_sha256 : (x : List ℕ) (at n number : ℕ) (bytes : List ℕ) → at + n ≤ length x → number ≡ be32 at x → has_sha256 number n ≡ true → bytes ≡ slice_range x (at + 4) (at + 4 + 32) → Some (digests.Sha256 bytes) ≡ stored_digest (slice_range x at (at + n))
-stored_sha256 x at n number bytes inside e has read =
-    let long = long256 number n has in
-    let parts = data_parts x at n number e (omega (arith, long)) inside in
-    let y = slice_range x at (at + n) in
-    ap (λ l. Some (digests.Sha256 l)) (read ∙ digest_part x at n 32 long)
-    ∙ by_tests y true (has_sha512 (be32 0 y) (length y)) (ap (λ k. has_sha256 k (length y)) parts.0 ∙ ap (has_sha256 number) parts.1 ∙ has) refl
-
-pub stored_sha512 : (x : List ℕ) (at n number : ℕ) (bytes : List ℕ) → at + n ≤ length x → number ≡ be32 at x → has_sha256 number n ≡ false → has_sha512 number n ≡ true → bytes ≡ slice_range x (at + 4) (at + 4 + 64)
-    → Some (digests.Sha512 bytes) ≡ stored_digest (slice_range x at (at + n))
-stored_sha512 x at n number bytes inside e other has read =
-    let long = long512 number n has in
-    let parts = data_parts x at n number e (omega (arith, long)) inside in
-    let y = slice_range x at (at + n) in
-    ap (λ l. Some (digests.Sha512 l)) (read ∙ digest_part x at n 64 long)
-    ∙ by_tests y false true (ap (λ k. has_sha256 k (length y)) parts.0 ∙ ap (has_sha256 number) parts.1 ∙ other) (ap (λ k. has_sha512 k (length y)) parts.0 ∙ ap (has_sha512 number) parts.1 ∙ has)
-
-pub stored_none : (x : List ℕ) (at n number : ℕ) → 4 ≤ n → at + n ≤ length x → number ≡ be32 at x → has_sha256 number n ≡ false → has_sha512 number n ≡ false → None ≡ stored_digest (slice_range x at (at + n))
-stored_none x at n number room inside e other none =
-    let parts = data_parts x at n number e room inside in
-    let y = slice_range x at (at + n) in
-    by_tests y false false (ap (λ k. has_sha256 k (length y)) parts.0 ∙ ap (has_sha256 number) parts.1 ∙ other) (ap (λ k. has_sha512 k (length y)) parts.0 ∙ ap (has_sha512 number) parts.1 ∙ none)
+  pub stored_short : (a : Algorithm) → Some a ≡ algorithm_numbered number → n < 4 + algorithm_len a → None ≡ stored_digest its_data
+  stored_short a is short =
+      let too_short : ltb (length its_data) (4 + algorithm_len a) ≡ true = lt-ltb (length its_data) (4 + algorithm_len a) (omega (arith, length-data, short)) in
+      sym (ap (λ b. cond b None (Some (digest_with a (slice_range its_data 4 (4 + algorithm_len a))))) too_short) ∙ stored_by (Some a) is
 
 -- ---- the digest of the content
 

@@ -2,16 +2,17 @@
 -- The attribute is coreboot's `struct cbfs_file_attr_hash`: a number of an algorithm, big-endian, and the digest. The
 -- numbers are those of vboot's `enum vb2_hash_algorithm`, and the digests those of FIPS 180-4. Which algorithms are
 -- supported, and which lengths of the attribute are accepted, is this project's own.
-use Rattle.std.specs.Prelude.{ℕ, ◌+◌, Bool, List, [], ◌∷◌, length, slice_range, Option, Some, None, nat_le, ◌&&◌, ◌==◌, if◌then◌else◌, ⊤}
+use Rattle.std.specs.Prelude.{ℕ, ◌+◌, List, [], ◌∷◌, length, slice_range, Option, Some, None, nat_lt, ◌==◌, if◌then◌else◌, ⊤}
 use Rattle.std.specs.Option.{option_map}
 use Rattle.std.specs.Str.{bytes_eq}
 use Rattle.sha2.specs.Sha256.{sha256}
 use Rattle.sha2.specs.Sha512.{sha512}
+use Rattle.flash_format.specs.declared.digest.Algorithm.{Algorithm}
 use Rattle.flash_format.specs.declared.digest.Digest.{Digest}
 use Rattle.flash_format.specs.declared.digest.Digest.TheVariants.{Sha256, Sha512}
 use Rattle.flash_format.specs.Head.{be32}
 use Rattle.flash_format.specs.Attributes.{Attribute, HASH}
-use Rattle.flash_format.specs.Made.{digest_bytes}
+use Rattle.flash_format.specs.Made.{algorithm_len, algorithm_numbered, digest_with, digest_bytes}
 use Rattle.cbfs_walk.specs.declared.cell.Cell.{Cell}
 use Rattle.cbfs_walk.specs.declared.hashes.HashState.{HashState}
 use Rattle.cbfs_walk.specs.declared.hashes.HashState.TheVariants.{Absent, Valid, Invalid, Unsupported}
@@ -34,20 +35,16 @@ digest_like (Sha512 other) bytes = sha512_of bytes
 
 -- ---- what a hash attribute says
 
--- n bytes of data with this algorithm hold a digest of SHA-256 (32 bytes after the four of the algorithm)
-abbrev pub has_sha256 : ℕ → ℕ → Bool
-has_sha256 number n = number == 2 && nat_le 36 n
-
--- or one of SHA-512 (64 bytes)
-abbrev pub has_sha512 : ℕ → ℕ → Bool
-has_sha512 number n = number == 3 && nat_le 68 n
+-- the digest after the number of an algorithm, where all of it is there
+abbrev pub digest_by : Option Algorithm → List ℕ → Option Digest
+digest_by None contents = None
+digest_by (Some algorithm) contents =
+    let end = 4 + algorithm_len algorithm in
+    if nat_lt (length contents) end then None else Some (digest_with algorithm (slice_range contents 4 end))
 
 -- the digest in the data of a hash attribute
 unfoldable pub stored_digest : List ℕ → Option Digest
-stored_digest contents =
-    if has_sha256 (be32 0 contents) (length contents) then Some (Sha256 (slice_range contents 4 36))
-    else (if has_sha512 (be32 0 contents) (length contents) then Some (Sha512 (slice_range contents 4 68))
-    else None)
+stored_digest contents = digest_by (algorithm_numbered (be32 0 contents)) contents
 
 -- a stored digest, and the digest of the content
 abbrev pub compared : Digest → Digest → HashState

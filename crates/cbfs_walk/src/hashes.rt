@@ -8,12 +8,12 @@ ghost use Rattle.flash_store.specs.Regions.{LiesIn};
 ghost use Rattle.cbfs_walk.specs.Passing.{HasPassed, reads_over};
 ghost use Rattle.cbfs_walk.specs.Cells.{PassesChecks, content_start, content_end, cell_in};
 ghost use Rattle.cbfs_walk.specs.Walks.{StandsIn};
-ghost use Rattle.cbfs_walk.specs.Hashes.{digest_like, has_sha256, has_sha512, stored_digest, compared, hash_state, content_at, hash_state_in, IsUncompared};
+ghost use Rattle.cbfs_walk.specs.Hashes.{digest_like, stored_digest, compared, hash_state, content_at, hash_state_in, IsUncompared};
 
 use crate::attribute_walk::{first_attribute, value_at};
 use crate::cell::{Cell, content_fits};
-use crate::read::{piece_in, read_in};
-use flash_format::{AttrHead, Digest};
+use crate::read::piece_in;
+use flash_format::{Algorithm, AttrHead, Digest};
 use flash_store::{Flash, FlashFault, Paged, Region};
 use sha2::{Sha256, Sha512};
 
@@ -86,32 +86,16 @@ fn stored_digest<F: Flash>(
         IfOk result (λ stored. stored ≡ stored_digest (slice_range x at (at + n)))) }
 {
     paged.places_fit();
-    let algorithm = value_at(paged, region, at)?;
-    if has_sha256(algorithm, n) {
-        let mut bytes = [0; 32];
-        read_in(paged, region, at + 4, &mut bytes)?;
-        return Ok(Some(Digest::Sha256(bytes)));
+    let number = value_at(paged, region, at)?;
+    let Some(algorithm) = Algorithm::numbered(number) else {
+        return Ok(None);
+    };
+    let len = algorithm.digest_len();
+    if (n as usize) < 4 + len {
+        return Ok(None);
     }
-    if has_sha512(algorithm, n) {
-        let mut bytes = [0; 64];
-        read_in(paged, region, at + 4, &mut bytes)?;
-        return Ok(Some(Digest::Sha512(bytes)));
-    }
-    Ok(None)
-}
-
-/// Whether n bytes of data with this algorithm hold a digest of SHA-256.
-fn has_sha256(algorithm: u32, n: u32) -> bool
-    ensures { result ≡ has_sha256 algorithm n }
-{
-    algorithm == 2 && n >= 36
-}
-
-/// Whether n bytes of data with this algorithm hold a digest of SHA-512.
-fn has_sha512(algorithm: u32, n: u32) -> bool
-    ensures { result ≡ has_sha512 algorithm n }
-{
-    algorithm == 3 && n >= 68
+    let bytes = piece_in(paged, region, at + 4, len)?;
+    Ok(Some(Digest::read(algorithm, bytes)))
 }
 
 /// The digest of a component's content by the algorithm of a stored one.

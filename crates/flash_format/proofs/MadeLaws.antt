@@ -20,7 +20,7 @@ use Rattle.flash_format.specs.Head.{name_padding, head_of, head_at, head_bytes, 
 use Rattle.flash_format.specs.Attributes.{Attribute, attr_head_of, attributes, attributes_after, attribute, ends_list, is_malformed, is_unused, has_bad_len, HASH}
 use Rattle.flash_format.specs.Entry.{damaged, cell, present, component, is_nul, name_end, name_field, has_name, attribute_field}
 use Rattle.flash_format.specs.Blanks.{padding}
-use Rattle.flash_format.specs.Made.{IsDigest, IsMade, IsReadAs, KeepsFour, name_room, meta_length, algorithm, digest_bytes, digest_len, hash_attribute, hash_bytes, hash_len, made_head, padded_name, made_front, made, made_attributes}
+use Rattle.flash_format.specs.Made.{IsDigest, IsMade, IsReadAs, KeepsFour, name_room, meta_length, algorithm_number, algorithm, digest_bytes, digest_len, hash_attribute, hash_bytes, hash_len, made_head, padded_name, made_front, made, made_attributes}
 use Rattle.flash_format.proofs.AttributeSteps.{attributes_end, attributes_more}
 use Rattle.flash_format.proofs.BlankLaws.{length-head_bytes, head_in_front, head_is}
 use Rattle.flash_format.proofs.EntryLaws.{from_head}
@@ -184,7 +184,7 @@ attributes_read name kind (Some d) gap n more is =
     ∙ ap (λ (l : List ℕ). slice_range l at h.offset) shape
     ∙ range_of before list more at h.offset (omega (arith, length-append (head_bytes h) (padded_name name), length-head_bytes h, length-padded name))
     (omega (arith, length-append hash (replicate gap 255), length-replicate {A = ℕ} gap 255)) in
-    ap (λ (l : List ℕ). attributes l) field ∙ hash_read (algorithm d) (digest_bytes d) gap (few_bytes d is)
+    ap (λ (l : List ℕ). attributes l) field ∙ hash_read (algorithm_number (algorithm d)) (digest_bytes d) gap (few_bytes d is)
 
 -- ---- the cell
 
@@ -295,7 +295,7 @@ made_alone name kind digest gap content last is four =
 
 pub hash_as_long : (digest : Option Digest) → IsDigest digest → length (hash_bytes digest) ≡ hash_len digest
 hash_as_long None is = refl
-hash_as_long (Some d) is = length-hash (algorithm d) (digest_bytes d) ∙ ap (λ (k : ℕ). 12 + k) is
+hash_as_long (Some d) is = length-hash (algorithm_number (algorithm d)) (digest_bytes d) ∙ ap (λ (k : ℕ). 12 + k) is
 
 pub made_as_long : (name : List ℕ) (kind : ℕ) (digest : Option Digest) (gap : ℕ) (content : List ℕ) (last : Option (List ℕ)) → IsDigest digest → KeepsFour last
     → length (made name kind digest gap content last) ≡ round64 (meta_length (length name) (hash_len digest) + gap + length content)

@@ -6,6 +6,8 @@ use Rattle.std.specs.List.{list_any}
 use Rattle.std.specs.Borrow.{Bor}
 use Rattle.byteorder.specs.Endian.{big_bytes}
 use Rattle.flash_format.specs.declared.head.Head.{Head}
+use Rattle.flash_format.specs.declared.digest.Algorithm.{Algorithm}
+use Rattle.flash_format.specs.declared.digest.Algorithm.TheVariants.{Sha256, Sha512}
 use Rattle.flash_format.specs.declared.digest.Digest.{Digest}
 use Rattle.flash_format.specs.declared.digest.Digest.TheVariants as digests
 use Rattle.flash_format.specs.declared.meta.Meta.{Meta}
@@ -23,18 +25,34 @@ name_room k = (k / name_padding + 1) * name_padding
 abbrev pub meta_length : ℕ → ℕ → ℕ
 meta_length name_len attr_len = 24 + name_room name_len + attr_len
 
--- the number of a digest's algorithm, by vboot's `enum vb2_hash_algorithm`
-abbrev pub algorithm : Digest → ℕ
-algorithm (digests.Sha256 bytes) = 2
-algorithm (digests.Sha512 bytes) = 3
+-- the table of algorithms: their numbers, by vboot's `enum vb2_hash_algorithm`, and how many bytes their digests have
+abbrev pub algorithm_number : Algorithm → ℕ
+algorithm_number Sha256 = 2
+algorithm_number Sha512 = 3
+
+abbrev pub algorithm_len : Algorithm → ℕ
+algorithm_len Sha256 = 32
+algorithm_len Sha512 = 64
+
+-- the algorithm of a number, where it is in the table
+abbrev pub algorithm_numbered : ℕ → Option Algorithm
+algorithm_numbered number = if number == 2 then Some Sha256 else (if number == 3 then Some Sha512 else None)
+
+-- the digest by an algorithm that has these bytes
+abbrev pub digest_with : Algorithm → List ℕ → Digest
+digest_with Sha256 bytes = digests.Sha256 bytes
+digest_with Sha512 bytes = digests.Sha512 bytes
+
+abbrev pub algorithm : Digest → Algorithm
+algorithm (digests.Sha256 bytes) = Sha256
+algorithm (digests.Sha512 bytes) = Sha512
 
 abbrev pub digest_bytes : Digest → List ℕ
 digest_bytes (digests.Sha256 bytes) = bytes
 digest_bytes (digests.Sha512 bytes) = bytes
 
 abbrev pub digest_len : Digest → ℕ
-digest_len (digests.Sha256 bytes) = 32
-digest_len (digests.Sha512 bytes) = 64
+digest_len digest = algorithm_len (algorithm digest)
 
 -- the bytes of a hash attribute: its tag, its length, the algorithm and the digest
 unfoldable pub hash_attribute : ℕ → List ℕ → List ℕ
@@ -43,7 +61,7 @@ hash_attribute number bytes = big_bytes 4 HASH ++ big_bytes 4 (12 + length bytes
 -- those of a component's hash attribute, where it has one
 abbrev pub hash_bytes : Option Digest → List ℕ
 hash_bytes None = []
-hash_bytes (Some digest) = hash_attribute (algorithm digest) (digest_bytes digest)
+hash_bytes (Some digest) = hash_attribute (algorithm_number (algorithm digest)) (digest_bytes digest)
 
 -- how many bytes that has: 44 with SHA-256 and 76 with SHA-512
 abbrev pub hash_len : Option Digest → ℕ
@@ -76,7 +94,7 @@ made name kind digest gap content last =
 -- the attributes of a made component
 abbrev pub made_attributes : Option Digest → List Attribute
 made_attributes None = []
-made_attributes (Some digest) = record { tag = HASH; contents = big_bytes 4 (algorithm digest) ++ digest_bytes digest } ∷ []
+made_attributes (Some digest) = record { tag = HASH; contents = big_bytes 4 (algorithm_number (algorithm digest)) ++ digest_bytes digest } ∷ []
 
 -- ---- what made cells are read as
 

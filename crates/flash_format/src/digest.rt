@@ -2,7 +2,49 @@
 
 ghost use Rattle.std.specs.Prelude.{◌≡◌, ◌*◌, length, take, drop};
 ghost use Rattle.hex.specs.Hex.{encode_lower};
-ghost use Rattle.flash_format.specs.Made.{algorithm, digest_bytes, digest_len};
+ghost use Rattle.flash_format.specs.Made.{algorithm_number, algorithm_len, algorithm_numbered, digest_with, algorithm, digest_bytes, digest_len};
+
+/// An algorithm of digests. Its number and the length of its digests stand here alone.
+#[derive(Clone, Copy, Debug, PartialEq, Eq)]
+pub enum Algorithm {
+    /// SHA-256 (FIPS 180-4).
+    Sha256,
+    /// SHA-512 (FIPS 180-4).
+    Sha512,
+}
+
+impl Algorithm {
+    /// The algorithm of a number in a hash attribute (vboot's `enum vb2_hash_algorithm`), where it is supported.
+    pub fn numbered(number: u32) -> Option<Algorithm>
+        ensures { result ≡ algorithm_numbered number }
+    {
+        match number {
+            2 => Some(Algorithm::Sha256),
+            3 => Some(Algorithm::Sha512),
+            _ => None,
+        }
+    }
+
+    /// That number.
+    pub fn number(self) -> u32
+        ensures { result ≡ algorithm_number self }
+    {
+        match self {
+            Algorithm::Sha256 => 2,
+            Algorithm::Sha512 => 3,
+        }
+    }
+
+    /// How many bytes a digest has.
+    pub fn digest_len(self) -> usize
+        ensures { result ≡ algorithm_len self }
+    {
+        match self {
+            Algorithm::Sha256 => 32,
+            Algorithm::Sha512 => 64,
+        }
+    }
+}
 
 /// The digest of a component's content, by its algorithm.
 #[derive(Clone, Copy, Debug, PartialEq, Eq)]
@@ -14,13 +56,31 @@ pub enum Digest {
 }
 
 impl Digest {
-    /// The number of the algorithm in a hash attribute (vboot's `enum vb2_hash_algorithm`).
-    pub fn algorithm(&self) -> u32
+    /// The digest by an algorithm that has these bytes.
+    pub fn read(algorithm: Algorithm, bytes: &[u8]) -> Digest
+        requires { length bytes.now ≡ algorithm_len algorithm }
+        ensures { result ≡ digest_with algorithm bytes.now }
+    {
+        match algorithm {
+            Algorithm::Sha256 => {
+                let mut digest = [0; 32];
+                digest.copy_from_slice(bytes);
+                Digest::Sha256(digest)
+            }
+            Algorithm::Sha512 => {
+                let mut digest = [0; 64];
+                digest.copy_from_slice(bytes);
+                Digest::Sha512(digest)
+            }
+        }
+    }
+
+    pub fn algorithm(&self) -> Algorithm
         ensures { result ≡ algorithm self.now }
     {
         match self {
-            Digest::Sha256(_) => 2,
-            Digest::Sha512(_) => 3,
+            Digest::Sha256(_) => Algorithm::Sha256,
+            Digest::Sha512(_) => Algorithm::Sha512,
         }
     }
 

@@ -17,7 +17,7 @@ mod type_names;
 
 pub use attribute::AttrHead;
 pub use blank::empty_header;
-pub use digest::{Digest, digest_text};
+pub use digest::{Algorithm, Digest, digest_text};
 pub use flashmap::{Area, FmapHead};
 pub use head::{DamageKind, Extent, HEADER_LENGTH, Head};
 pub use laws::{

@@ -150,7 +150,7 @@ fn put_hash(out: &mut [u8], at: usize, digest: Option<&Digest>) -> usize
 {
     match digest {
         None => at,
-        Some(digest) => put_attribute(out, at, digest.algorithm(), digest.bytes()),
+        Some(digest) => put_attribute(out, at, digest.algorithm().number(), digest.bytes()),
     }
 }
 

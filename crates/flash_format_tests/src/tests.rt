@@ -1,6 +1,6 @@
 //! Bytes from outside through each public function, on both sides of each limit, and the names of all types.
 use flash_format::{
-    Area, AttrHead, DamageKind, Digest, Extent, FmapHead, Head, LONGEST_FRONT, Meta, attr_len,
+    Algorithm, Area, AttrHead, DamageKind, Digest, Extent, FmapHead, Head, LONGEST_FRONT, Meta, attr_len,
     digest_text, digits_value, empty_header, meta_len, read_number, type_name, type_number,
     write_meta,
 };
@@ -368,7 +368,8 @@ const OF_ABC: [u8; 32] = *b"\xba\x78\x16\xbf\x8f\x01\xcf\xea\x41\x41\x40\xde\x5d
 #[test]
 fn a_digest_has_a_text(rt: HostRuntime) {
     let digest = Digest::Sha256(OF_ABC);
-    equal(&rt, &digest.algorithm(), &2);
+    equal(&rt, &digest.algorithm(), &Algorithm::Sha256);
+    equal(&rt, &Digest::read(Algorithm::Sha256, &OF_ABC), &digest);
     same_bytes(&rt, digest.bytes(), &OF_ABC);
     let mut text = [b'-'; 128];
     equal(&rt, &digest_text(&digest, &mut text), &64);

@@ -1,51 +1,33 @@
-use Rattle.std.proofs.Common.{arith, le_refl, ◌+◌, ◌≤◌, ◌∙◌, sym, length}
-use Rattle.flash_store.specs.Regions.{bytes_in}
-use Rattle.flash_store.proofs.DeviceLemmas.{honest_still}
-use Rattle.cbfs_walk.proofs.Parts.{length-region}
+use Rattle.std.proofs.Common.{arith, le_refl, sym, ◌∙◌, None}
 use Rattle.std.proofs.lemmas.Result.{err_from_is_err_and}
+use Rattle.flash_store.proofs.DeviceLemmas.{honest_still}
 use Rattle.cbfs_walk.proofs.Reading.{Passes-then, Passes-within}
-use Rattle.cbfs_walk.proofs.Hashing.{stored_sha256, stored_sha512, stored_none, long256, long512}
+use Rattle.cbfs_walk.proofs.Hashing.{stored_by, stored_whole, stored_short}
 use Rattle.cbfs_walk.proofs.hashes.stored_digest.Goals as goal
 
-pub returns-in_err-read_in-clause-passes : goal.returns-in_err-read_in-clause-passes
-returns-in_err-read_in-clause-passes g c =
-    let long = long256 c.in_ok-algorithm.algorithm c.args.n (sym c.has_sha256.ensures ∙ c.if-has_sha256.true) in
-    rw (err_from_is_err_and c.from_residual-in_err-read_in.result c.from_residual-in_err-read_in.ensures.1).1 (Passes-then c.in_ok-algorithm.ensures.passes c.in_err-read_in.ensures.passes (le_refl _) (omega arith) (omega (arith, long)))
+pub returns-in_default-clause-passes : goal.returns-in_default-clause-passes
+returns-in_default-clause-passes g c = Passes-within c.in_ok-number.ensures.passes (le_refl _) (omega arith)
 
-pub returns-then-has_sha256-clause-passes : goal.returns-then-has_sha256-clause-passes
-returns-then-has_sha256-clause-passes g c =
-    let long = long256 c.in_ok-algorithm.algorithm c.args.n (sym c.has_sha256.ensures ∙ c.if-has_sha256.true) in
-    Passes-then c.in_ok-algorithm.ensures.passes c.in_ok-read_in.ensures.passes (le_refl _) (omega arith) (omega (arith, long))
+pub returns-in_default-clause-stored : goal.returns-in_default-clause-stored
+returns-in_default-clause-stored g c = λ h. stored_by c.args.region (g.F.Flash.facts c.args.paged.now.device).content c.args.at c.args.n c.in_ok-number.number c.requires.region c.requires.inside c.requires.least (c.in_ok-number.ensures.value h) None (sym c.in_default.is ∙ c.numbered.ensures)
 
-pub returns-in_err-read_in-2-clause-passes : goal.returns-in_err-read_in-2-clause-passes
-returns-in_err-read_in-2-clause-passes g c =
-    let long = long512 c.in_ok-algorithm.algorithm c.args.n (sym c.has_sha512.ensures ∙ c.if-has_sha512.true) in
-    rw (err_from_is_err_and c.from_residual-in_err-read_in-2.result c.from_residual-in_err-read_in-2.ensures.1).1 (Passes-then c.in_ok-algorithm.ensures.passes c.in_err-read_in-2.ensures.passes (le_refl _) (omega arith) (omega (arith, long)))
+pub returns-then-n-len-clause-passes : goal.returns-then-n-len-clause-passes
+returns-then-n-len-clause-passes g c = Passes-within c.in_ok-number.ensures.passes (le_refl _) (omega arith)
 
-pub returns-then-has_sha512-clause-passes : goal.returns-then-has_sha512-clause-passes
-returns-then-has_sha512-clause-passes g c =
-    let long = long512 c.in_ok-algorithm.algorithm c.args.n (sym c.has_sha512.ensures ∙ c.if-has_sha512.true) in
-    Passes-then c.in_ok-algorithm.ensures.passes c.in_ok-read_in-2.ensures.passes (le_refl _) (omega arith) (omega (arith, long))
+pub returns-then-n-len-clause-stored : goal.returns-then-n-len-clause-stored
+returns-then-n-len-clause-stored g c = λ h. stored_short c.args.region (g.F.Flash.facts c.args.paged.now.device).content c.args.at c.args.n c.in_ok-number.number c.requires.region c.requires.inside c.requires.least (c.in_ok-number.ensures.value h) c.in-Some.algorithm (sym c.in-Some.is ∙ c.numbered.ensures) (omega (arith, c.if-n-len.true, c.digest_len-len.ensures))
 
-pub returns-then-has_sha256-clause-stored : goal.returns-then-has_sha256-clause-stored
-returns-then-has_sha256-clause-stored g c = λ h.
-    let calls = c.value_at.ensures.passes.read.device in
-    let x = bytes_in c.args.region (g.F.Flash.facts c.args.paged.now.device).content in
-    let inside : c.args.at + c.args.n ≤ length x = omega (arith, length-region c.args.region _ c.requires.region, c.requires.inside) in
-    stored_sha256 x c.args.at c.args.n c.in_ok-algorithm.algorithm _ inside (c.in_ok-algorithm.ensures.value h) (sym c.has_sha256.ensures ∙ c.if-has_sha256.true) (rw (calls.unchanged h) at (c.in_ok-read_in.ensures.read (honest_still calls.calls.same_honesty h)))
-
-pub returns-then-has_sha512-clause-stored : goal.returns-then-has_sha512-clause-stored
-returns-then-has_sha512-clause-stored g c = λ h.
-    let calls = c.value_at.ensures.passes.read.device in
-    let x = bytes_in c.args.region (g.F.Flash.facts c.args.paged.now.device).content in
-    let inside : c.args.at + c.args.n ≤ length x = omega (arith, length-region c.args.region _ c.requires.region, c.requires.inside) in
-    stored_sha512 x c.args.at c.args.n c.in_ok-algorithm.algorithm _ inside (c.in_ok-algorithm.ensures.value h) (sym c.has_sha256.ensures ∙ c.if-has_sha256.false) (sym c.has_sha512.ensures ∙ c.if-has_sha512.true) (rw (calls.unchanged h) at (c.in_ok-read_in-2.ensures.read (honest_still calls.calls.same_honesty h)))
+pub returns-in_err-bytes-clause-passes : goal.returns-in_err-bytes-clause-passes
+returns-in_err-bytes-clause-passes g c =
+    rw (err_from_is_err_and c.from_residual-in_err-bytes.result c.from_residual-in_err-bytes.ensures.1).1
+    (Passes-then c.in_ok-number.ensures.passes (rw c.in_err-bytes.was at c.piece_in.follows.holds-at-none) (le_refl _) (omega arith) (omega (arith, c.if-n-len.false)))
 
 pub returns-clause-passes : goal.returns-clause-passes
-returns-clause-passes g c = Passes-within c.in_ok-algorithm.ensures.passes (le_refl _) (omega arith)
+returns-clause-passes g c =
+    Passes-then c.in_ok-number.ensures.passes (rw c.in_ok-bytes.was at c.piece_in.follows.holds-at-none) (le_refl _) (omega arith) (omega (arith, c.if-n-len.false))
 
 pub returns-clause-stored : goal.returns-clause-stored
 returns-clause-stored g c = λ h.
-    let x = bytes_in c.args.region (g.F.Flash.facts c.args.paged.now.device).content in
-    let inside : c.args.at + c.args.n ≤ length x = omega (arith, length-region c.args.region _ c.requires.region, c.requires.inside) in
-    stored_none x c.args.at c.args.n c.in_ok-algorithm.algorithm c.requires.least inside (c.in_ok-algorithm.ensures.value h) (sym c.has_sha256.ensures ∙ c.if-has_sha256.false) (sym c.has_sha512.ensures ∙ c.if-has_sha512.false)
+    let calls = c.value_at.ensures.passes.read.device in
+    let read = rw (calls.unchanged h, c.digest_len-len.ensures) at (c.in_ok-bytes.ensures.read (honest_still calls.calls.same_honesty h)) in
+    rw c.read.ensures (stored_whole c.args.region (g.F.Flash.facts c.args.paged.now.device).content c.args.at c.args.n c.in_ok-number.number c.requires.region c.requires.inside c.requires.least (c.in_ok-number.ensures.value h) c.in-Some.algorithm _ (sym c.in-Some.is ∙ c.numbered.ensures) (omega (arith, c.if-n-len.false, c.digest_len-len.ensures)) read)
