@@ -8,7 +8,7 @@ use Rattle.flash_format.specs.Head.{head_of}
 use Rattle.flash_format.specs.Entry.{Entry, absent, damaged, cell, entry}
 use Rattle.flash_store.specs.Device.{faults_told}
 use Rattle.cbfs_walk.specs.Shapes.{has_bad_size, is_absent}
-use Rattle.cbfs_walk.specs.Walks.{Answer, Walking, EndsWalk, by_device, GivesCellAt, moved, answer_by, answer_at}
+use Rattle.cbfs_walk.specs.Walks.{Answer, Walking, EndsWalk, by_device, GivesCell, moved, answer_by, answer_at}
 use Rattle.cbfs_walk.specs.declared.walk.Step.TheVariants as steps
 use Rattle.cbfs_walk.specs.declared.walk.WalkFault.TheVariants as faults
 
@@ -72,35 +72,14 @@ answer_cell x at size span h len good inside is head =
 -- an answer with which a walk ends tells no fault of the device
 pub ends_faultless : (a : Answer) → EndsWalk a → faults_told by_device a ≡ 0
 ends_faultless (Ok (steps.Cell c)) e = absurd e
-ends_faultless (Ok steps.End) e = refl
-ends_faultless (Ok (steps.Tail at)) e = refl
 ends_faultless (Err faults.Device) e = absurd e
-ends_faultless (Err faults.RegionShape) e = refl
-ends_faultless (Err faults.NotCbfs) e = refl
-ends_faultless (Err (faults.Damaged at kind)) e = refl
+ends_faultless _ e = refl
 
-pub ends_cell : (size at : ℕ) (a : Answer) → EndsWalk a → GivesCellAt size at a
+pub ends_cell : (size at : ℕ) (a : Answer) → EndsWalk a → GivesCell size at a
 ends_cell size at (Ok (steps.Cell c)) e = absurd e
-ends_cell size at (Ok steps.End) e = tt
-ends_cell size at (Ok (steps.Tail place)) e = tt
-ends_cell size at (Err fault) e = tt
+ends_cell size at _ e = tt
 
 pub ends_moved : (w : Walking) (a : Answer) → EndsWalk a → w.ended ≡ Some a → w ≡ moved w a
 ends_moved w (Ok (steps.Cell c)) e is = absurd e
-ends_moved w (Ok steps.End) e is = ap (λ o. record w { ended = o }) is
-ends_moved w (Ok (steps.Tail at)) e is = ap (λ o. record w { ended = o }) is
 ends_moved w (Err faults.Device) e is = absurd e
-ends_moved w (Err faults.RegionShape) e is = ap (λ o. record w { ended = o }) is
-ends_moved w (Err faults.NotCbfs) e is = ap (λ o. record w { ended = o }) is
-ends_moved w (Err (faults.Damaged at kind)) e is = ap (λ o. record w { ended = o }) is
-
--- ---- what an answer leaves of a walk
-
-pub moved-region : (w : Walking) (a : Answer) → (moved w a).region ≡ w.region
-moved-region w (Ok (steps.Cell c)) = refl
-moved-region w (Ok steps.End) = refl
-moved-region w (Ok (steps.Tail at)) = refl
-moved-region w (Err faults.Device) = refl
-moved-region w (Err faults.RegionShape) = refl
-moved-region w (Err faults.NotCbfs) = refl
-moved-region w (Err (faults.Damaged at kind)) = refl
+ends_moved w _ e is = ap (λ o. record w { ended = o }) is

@@ -2,7 +2,7 @@
 use Rattle.std.proofs.Common.{◌≡◌, ℕ, ◌+◌, ◌-◌, ◌<◌, ◌≤◌, Bool, true, false, cond, List, length, drop, Option, Some, None, Result, Ok, Err, refl, sym, ap, subst, ◌∙◌, arith, eqb, length-take, length-drop, not, ◌&&◌}
 use Rattle.std.specs.Prelude.{slice_range, is_some}
 use Rattle.std.proofs.lemmas.List.{drop-drop}
-use Rattle.std.proofs.lemmas.Bool.{eqb-true}
+use Rattle.std.proofs.lemmas.Bool.{eqb-true, and_parts}
 use Rattle.std.proofs.lemmas.Grind.{common_steps}
 use Rattle.flash_format.specs.declared.head.Head.{Head}
 use Rattle.flash_format.specs.declared.head.Extent.{Extent}
@@ -26,21 +26,8 @@ use Rattle.cbfs_walk.proofs.Checks.{IsGood, checks_give, checked_extent}
 use Rattle.cbfs_walk.proofs.Parts.{range_is, range-drop, part-in, length-region}
 
 none_first : (at : ℕ) (e : Entry) → (eqb at 0 && is_absent e) ≡ true → (at ≡ 0) × (e ≡ absent)
-none_first at absent z = (eqb-true at 0 (go (eqb at 0) z), refl)
-  where
-    go : (b : Bool) → (b && true) ≡ true → b ≡ true
-    go true z = refl
-    go false z = z
-none_first at (damaged k) z = absurd (go (eqb at 0) z)
-  where
-    go : (b : Bool) → (b && false) ≡ true → ⊥
-    go true z = absurd cc
-    go false z = absurd cc
-none_first at (cell span) z = absurd (go (eqb at 0) z)
-  where
-    go : (b : Bool) → (b && false) ≡ true → ⊥
-    go true z = absurd cc
-    go false z = absurd cc
+none_first at absent z = (eqb-true at 0 (and_parts (eqb at 0) true z).0, refl)
+none_first at _ z = let never : false ≡ true = (and_parts (eqb at 0) false z).1 in absurd cc
 
 pub walks_follow : WalksFollowTheCut
 unfolding answer_at
@@ -73,8 +60,6 @@ unfolding answer_at
 standing x c e = go (has_bad_size (length x)) (eqb c.at 0 && is_absent (entry x)) (eqb (length (drop c.at x)) 0) refl e
   where
     by_entry : (f : Entry) → entry (drop c.at x) ≡ f → 0 < length (drop c.at x) → answer_by (drop c.at x) c.at f ≡ Ok (steps.Cell c) → Standing x c
-    by_entry absent is some p = absurd cc
-    by_entry (damaged k) is some p = absurd cc
     by_entry (cell span) is some p =
         let same : (let d : Cell = record { at = c.at; head = head_of (drop c.at x); span = span } in d) ≡ c = cc in
         record {
@@ -82,13 +67,12 @@ standing x c e = go (has_bad_size (length x)) (eqb c.at 0 && is_absent (entry x)
           entry = is ∙ ap (λ (d : Cell). cell d.span) same;
           head = ap (λ (d : Cell). d.head) (sym same);
         }
+    by_entry _ is some p = absurd cc
 
     go : (b m n : Bool) → eqb (length (drop c.at x)) 0 ≡ n
         → (let a : Answer = refused_or (λ fault. Err fault) (cond b (Some walk.RegionShape) (cond m (Some walk.NotCbfs) None)) (cond n (Ok steps.End) (answer_by (drop c.at x) c.at (entry (drop c.at x)))) in a ≡ Ok (steps.Cell c)) → Standing x c
-    go true m n f p = absurd cc
-    go false true n f p = absurd cc
-    go false false true f p = absurd cc
     go false false false f p = by_entry (entry (drop c.at x)) refl (grind (arith, common_steps)) p
+    go _ _ _ f p = absurd cc
 
 -- the head of a cell is the one in its bytes
 pub cell_head : (x : List ℕ) (c : Cell) → Standing x c → 64 ≤ c.span → head_of (cell_in x c) ≡ c.head
@@ -138,9 +122,8 @@ unfolding entry
 component_whole x span e used = go (front x) refl e
   where
     inner : (n : ℕ) (a b : Bool) → (let k : Entry = cond (not a) (damaged kinds.Name) (cond (not b) (damaged kinds.AttrLength) (cell n)) in k) ≡ cell span → (a ≡ true) × (b ≡ true)
-    inner n false b p = absurd cc
-    inner n true false p = absurd cc
     inner n true true p = (refl, refl)
+    inner n _ _ p = absurd cc
 
     by_use : (h : Head) (d : Extent) (free : Bool) → h ≡ head_of x → is_free h ≡ free → (let k : Entry = cond free (cell d.span) (component h x d.span) in k) ≡ cell span → IsWhole x
     by_use h d true same f p = absurd (let k : true ≡ false = sym f ∙ ap is_free same ∙ used in cc)

@@ -76,9 +76,8 @@ unfolding component_in
 found_first x name c found = is_first name (components x) c (by_shape (shape x) (first_named name (components x)) found)
   where
     none : (at : ℕ) (e : End) → not_found at e ≡ Ok (Some c) → ⊥
-    none at complete is = absurd cc
-    none at tail is = absurd cc
     none at (damage kind) is = absurd cc
+    none at _ is = absurd cc
 
     same : (d : Component) → (let f : Found = Ok (Some d) in f ≡ Ok (Some c)) → Some d ≡ Some c
     same d is = cc

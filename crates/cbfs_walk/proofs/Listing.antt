@@ -54,9 +54,8 @@ module _ (r : Range) (image : List ℕ) (at end : ℕ) (h : AttrHead) (lies : Li
 -- ---- how the list goes on
 
 inverted : (a b : Bool) (k h : AttrHead) → (let v : declared.Listed = cond a End (cond b Malformed (listed.Attribute k)) in listed.Attribute h ≡ v) → (a ≡ false) × (b ≡ false) × (h ≡ k)
-inverted true b k h e = absurd cc
-inverted false true k h e = absurd cc
 inverted false false k h e = (refl, refl, cc)
+inverted _ _ k h e = absurd cc
 
 inverted_end : (a b : Bool) (k : AttrHead) → (let v : declared.Listed = cond a End (cond b Malformed (listed.Attribute k)) in End ≡ v) → a ≡ true
 inverted_end true b k e = refl
@@ -64,9 +63,8 @@ inverted_end false true k e = absurd cc
 inverted_end false false k e = absurd cc
 
 inverted_malformed : (a b : Bool) (k : AttrHead) → (let v : declared.Listed = cond a End (cond b Malformed (listed.Attribute k)) in Malformed ≡ v) → (a ≡ false) × (b ≡ true)
-inverted_malformed true b k e = absurd cc
 inverted_malformed false true k e = (refl, refl)
-inverted_malformed false false k e = absurd cc
+inverted_malformed _ _ k e = absurd cc
 
 -- an attribute that stands first, and the others after it
 pub record Goes (y : List ℕ) (h : AttrHead) : Type 0 where
@@ -205,8 +203,3 @@ pub walk_step : (r : Range) (image : List ℕ) (k : Cell) (a p q : ℕ) (w : Att
 walk_step r image k a p q w l lies inside view from to is all left =
     let fits : k.at + k.head.offset ≤ r.size = subst (λ (v : AttrWalking). v.cell.at + v.cell.head.offset ≤ r.size) view inside in
     stepped (bytes_in r image) k a p q w l view from to (omega (arith, to, fits, length-region r image lies)) is all left
-
-pub attr_moved-cell : (w : AttrWalking) (a : AttrAnswer) → (attr_moved w a).cell ≡ w.cell
-attr_moved-cell w (Ok (Some h)) = refl
-attr_moved-cell w (Ok None) = refl
-attr_moved-cell w (Err fault) = refl

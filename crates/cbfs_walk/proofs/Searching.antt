@@ -170,10 +170,8 @@ module _ {F : Type 0} (facts : F → Device) (r : Range) (name : List ℕ) (w : 
 
   refusal : (fault : WalkFault) → found_cell (found_by (bytes_in r (facts old.device).content) name (Err fault)) ≡ Err fault
   unfolding found_by find_cut components_from refused
-  refusal faults.Device = refl
-  refusal faults.RegionShape = refl
-  refusal faults.NotCbfs = refl
   refusal (faults.Damaged at kind) = refl
+  refusal _ = refl
 
   pub searching_err : (fault : WalkFault) → (answer : IsTrue (facts now.device).honest → w.ended ≡ None → (let a : Answer = Err fault in IsErrOf a faults.Device ⊎ (a ≡ answer_at (bytes_in w.region (facts now.device).content) w.at)))
       → IsTrue (facts old.device).honest → (let a : Result (Option Cell) WalkFault = Err fault in IsErrOf a faults.Device ⊎ (a ≡ find_in (bytes_in r (facts old.device).content) name))

@@ -28,9 +28,8 @@ pub record IsFirstOf (name : List ℕ) (all : List Component) (c : Component) : 
 
 -- without a component of the name: a damage that ends the cells, at its place, or nothing
 abbrev pub not_found : ℕ → End → Found
-not_found at complete = Ok None
-not_found at tail = Ok None
 not_found at (damage kind) = Err (faults.Damaged at kind)
+not_found at _ = Ok None
 
 abbrev pub found_or : Option Component → Found → Found
 found_or None otherwise = otherwise
@@ -58,5 +57,4 @@ find_in x name = found_cell (component_in x name)
 -- how many calls a search of a region of this size makes at most; it goes no further than the component
 abbrev pub find_reads : ℕ → Result (Option Cell) WalkFault → ℕ
 find_reads size (Ok (Some c)) = (c.at + c.span) / 16
-find_reads size (Ok None) = size / 16 + 2
-find_reads size (Err fault) = size / 16 + 2
+find_reads size _ = size / 16 + 2

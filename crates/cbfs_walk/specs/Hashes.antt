@@ -84,7 +84,6 @@ hash_state_in x c = state_of (option_map (data_at x) (first_of x c HASH)) (conte
 
 -- a state that is told without a look at the content
 abbrev pub IsUncompared : HashState → Type 0
-IsUncompared Absent = ⊤
 IsUncompared (Valid digest) = ⊥
 IsUncompared (Invalid digest) = ⊥
-IsUncompared Unsupported = ⊤
+IsUncompared _ = ⊤

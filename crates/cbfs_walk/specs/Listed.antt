@@ -16,8 +16,7 @@ listed_in x = if ends_list x then End else (if is_malformed x then Malformed els
 -- an attribute at a place lies before the list's end
 abbrev pub IsListedIn : ℕ → ℕ → Listed → Type 0
 IsListedIn at end (Attribute h) = IsAttrIn at end h
-IsListedIn at end End = ⊤
-IsListedIn at end Malformed = ⊤
+IsListedIn at end _ = ⊤
 
 -- ---- the first attribute with a tag
 
@@ -28,8 +27,7 @@ Placed = ℕ × AttrHead
 -- the attribute at a place where it has the tag, and else what the rest of the list gives
 abbrev pub by_tag : ℕ → ℕ → List ℕ → Listed → (ℕ → List ℕ → Option Placed) → Option Placed
 by_tag tag at x (Attribute h) rest = if h.tag == tag then Some (at, h) else rest (at + h.len) (drop h.len x)
-by_tag tag at x End rest = None
-by_tag tag at x Malformed rest = None
+by_tag tag at x _ rest = None
 
 -- the first with a tag among so many attributes at most
 unfoldable pub first_within : ℕ → ℕ → ℕ → List ℕ → Option Placed
@@ -53,8 +51,7 @@ pub record IsAttrOf (c : Cell) (tag : ℕ) (found : Placed) : Type 0 where
 -- the place up to which a search for an attribute reads: that of the attribute, or the content
 abbrev pub searched_to : Cell → Result (Option Placed) FlashFault → ℕ
 searched_to c (Ok (Some found)) = found.0
-searched_to c (Ok None) = content_start c
-searched_to c (Err fault) = content_start c
+searched_to c _ = content_start c
 
 -- the value that stands first in the data of an attribute, 0 without one
 abbrev pub value_in : List ℕ → Option Placed → ℕ

@@ -29,6 +29,4 @@ by_answer refuse read each x (Ok (steps.Cell c)) = each (cell_in x c) c (shaped 
 by_answer refuse read each x (Ok steps.End) = read (length x) (ends complete)
 by_answer refuse read each x (Ok (steps.Tail at)) = read at (ends tail)
 by_answer refuse read each x (Err (faults.Damaged at kind)) = read at (ends (damage kind))
-by_answer refuse read each x (Err faults.Device) = refuse faults.Device
-by_answer refuse read each x (Err faults.RegionShape) = refuse faults.RegionShape
-by_answer refuse read each x (Err faults.NotCbfs) = refuse faults.NotCbfs
+by_answer refuse read each x (Err fault) = refuse fault

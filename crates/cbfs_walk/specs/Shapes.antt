@@ -9,8 +9,7 @@ has_bad_size size = size == 0 || not (size % 64 == 0)
 
 abbrev pub is_absent : Entry → Bool
 is_absent absent = true
-is_absent (damaged kind) = false
-is_absent (cell span) = false
+is_absent _ = false
 
 -- why a walk that stands at a place of a region of these bytes gives no cell: the region's size is bad, or the place is
 -- the region's start and no entry stands there

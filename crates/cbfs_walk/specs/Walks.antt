@@ -46,42 +46,26 @@ StandsIn x c = answer_at x c.at ≡ Ok (steps.Cell c)
 -- how many refused calls of the device a fault tells
 abbrev pub by_device : WalkFault → ℕ
 by_device faults.Device = 1
-by_device faults.RegionShape = 0
-by_device faults.NotCbfs = 0
-by_device (faults.Damaged at kind) = 0
+by_device _ = 0
 
 -- ---- what an answer makes of a walk
 
 -- a cell goes on, a device's fault changes nothing, and every other answer ends the walk
 abbrev pub moved : Walking → Answer → Walking
 moved w (Ok (steps.Cell c)) = record w { at = w.at + c.span; steps = w.steps + 1 }
-moved w (Ok steps.End) = record w { ended = Some (Ok steps.End) }
-moved w (Ok (steps.Tail at)) = record w { ended = Some (Ok (steps.Tail at)) }
 moved w (Err faults.Device) = w
-moved w (Err faults.RegionShape) = record w { ended = Some (Err faults.RegionShape) }
-moved w (Err faults.NotCbfs) = record w { ended = Some (Err faults.NotCbfs) }
-moved w (Err (faults.Damaged at kind)) = record w { ended = Some (Err (faults.Damaged at kind)) }
+moved w answer = record w { ended = Some answer }
 
--- a cell stands at this place and lies in a region of this size
-abbrev pub GivesCellAt : ℕ → ℕ → Answer → Type 0
-GivesCellAt size at (Ok (steps.Cell c)) = IsCellIn size c × (c.at ≡ at)
-GivesCellAt size at (Ok steps.End) = ⊤
-GivesCellAt size at (Ok (steps.Tail place)) = ⊤
-GivesCellAt size at (Err fault) = ⊤
-
--- every cell lies in the region, where the walk stood
-abbrev pub GivesCell : Walking → Answer → Type 0
-GivesCell w answer = GivesCellAt w.region.size w.at answer
+-- every cell lies in a region of this size, at this place
+abbrev pub GivesCell : ℕ → ℕ → Answer → Type 0
+GivesCell size at (Ok (steps.Cell c)) = IsCellIn size c × (c.at ≡ at)
+GivesCell size at _ = ⊤
 
 -- the answers with which a walk ends
 abbrev pub EndsWalk : Answer → Type 0
 EndsWalk (Ok (steps.Cell c)) = ⊥
-EndsWalk (Ok steps.End) = ⊤
-EndsWalk (Ok (steps.Tail at)) = ⊤
 EndsWalk (Err faults.Device) = ⊥
-EndsWalk (Err faults.RegionShape) = ⊤
-EndsWalk (Err faults.NotCbfs) = ⊤
-EndsWalk (Err (faults.Damaged at kind)) = ⊤
+EndsWalk _ = ⊤
 
 -- the answer of a walk, once it has ended
 abbrev pub HasEnded : Walking → Answer → Type 0
@@ -91,9 +75,7 @@ HasEnded w answer = (a : Answer) → w.ended ≡ Some a → answer ≡ a
 
 abbrev pub reads_at : ℕ → ℕ → Answer → ℕ
 reads_at size at (Ok (steps.Cell c)) = reads_over c.span
-reads_at size at (Ok steps.End) = reads_over (size - at)
-reads_at size at (Ok (steps.Tail place)) = reads_over (size - at)
-reads_at size at (Err fault) = reads_over (size - at)
+reads_at size at _ = reads_over (size - at)
 
 abbrev pub reads_of : Walking → Answer → ℕ
 reads_of w answer = reads_at w.region.size w.at answer

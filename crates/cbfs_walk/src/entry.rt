@@ -1,10 +1,12 @@
 //! What stands at a place of a region.
 ghost use Rattle.std.specs.Prelude.{◌≡◌, ℕ, ◌+◌, ◌-◌, ◌/◌, ◌≤◌, false, drop, IfOk};
+ghost use Rattle.flash_format.specs.Head.{head_of};
 ghost use Rattle.flash_format.specs.Entry.{entry, front, component, name_end};
 ghost use Rattle.flash_store.specs.Pages.{HasAnswered, OnHonestIn};
 ghost use Rattle.flash_store.specs.Regions.{LiesIn};
+ghost use Rattle.cbfs_walk.specs.Cells.{IsChecked};
 ghost use Rattle.cbfs_walk.specs.Passing.{HasPassed, reads_over};
-ghost use Rattle.cbfs_walk.specs.Entries.{seen, HasHead, HasChecks, entry_or, reads_by};
+ghost use Rattle.cbfs_walk.specs.Entries.{seen, OnCell, entry_or, reads_by};
 
 use crate::attribute_walk::are_well_formed;
 use crate::names::{has_name_end, name_end};
@@ -29,11 +31,11 @@ pub fn entry_at<F: Flash>(
     requires inside { at ≤ region.size }
 
     ensures after { HasAnswered F.facts (reads_by (region.size - at) result) paged.old paged.new result }
-    ensures checks { IfOk result (λ e. HasChecks (region.size - at) e) }
+    ensures checks { IfOk result (λ e. OnCell e (IsChecked (region.size - at))) }
     ensures entry { OnHonestIn F.facts paged.old.device region (λ x.
         IfOk result (λ e. seen e ≡ entry (drop at x))) }
     ensures head { OnHonestIn F.facts paged.old.device region (λ x.
-        IfOk result (λ e. HasHead e (drop at x))) }
+        IfOk result (λ e. OnCell e (λ head span. head ≡ head_of (drop at x)))) }
 {
     let left = region.size() - at;
     let Some(head) = head_at(paged, region, at)? else {

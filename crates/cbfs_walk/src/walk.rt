@@ -4,7 +4,7 @@ ghost use Rattle.flash_store.specs.Device.{faults_told};
 ghost use Rattle.flash_store.specs.Pages.{HasRead, OnHonestIn};
 ghost use Rattle.flash_store.specs.Regions.{LiesIn};
 ghost use Rattle.cbfs_walk.specs.Shapes.{has_bad_size};
-ghost use Rattle.cbfs_walk.specs.Walks.{by_device, walk_of, moved, answer_at, GivesCell, GivesCellAt, HasEnded, reads_of, reads_at};
+ghost use Rattle.cbfs_walk.specs.Walks.{by_device, walk_of, moved, answer_at, GivesCell, HasEnded, reads_of, reads_at};
 
 use crate::cell::Cell;
 use crate::entry::{Entry, entry_at};
@@ -89,7 +89,7 @@ impl Walk {
 
         // On any device.
         ensures after { HasRead F.facts (reads_of self.old result) (faults_told by_device result) paged.old paged.new }
-        ensures cell { GivesCell self.old result }
+        ensures cell { GivesCell self.old.region.size self.old.at result }
         ensures moved { self.new ≡ moved self.old result }
         ensures ended { HasEnded self.old result }
         ensures no_call { IsSome self.old.ended → paged.new ≡ paged.old }
@@ -127,7 +127,7 @@ fn answer_at<F: Flash>(paged: &mut Paged<F>, region: Region, at: u64) -> Result<
     requires aligned { at % 64 ≡ 0 }
 
     ensures after { HasRead F.facts (reads_at region.size at result) (faults_told by_device result) paged.old paged.new }
-    ensures cell { GivesCellAt region.size at result }
+    ensures cell { GivesCell region.size at result }
     ensures answer { OnHonestIn F.facts paged.old.device region (λ x.
         IsErrOf result WalkFault.Device ⊎ (result ≡ answer_at x at)) }
 {
