@@ -1,12 +1,9 @@
 -- How a list of attributes goes on from one to the next.
 use Rattle.std.proofs.Common.{◌≡◌, ℕ, zero, suc, pred, ◌<◌, ◌≤◌, Bool, true, false, cond, List, [], ◌∷◌, length, drop, Option, Some, None, refl, ap, ◌∙◌, arith, eqb, ltb, ◌||◌}
 use Rattle.std.specs.Option.{option_map}
-use Rattle.std.proofs.lemmas.Bool.{ltb-false}
+use Rattle.std.proofs.lemmas.Bool.{ltb-false, or_parts}
+use Rattle.flash_format.proofs.Fronts.{drop-pred}
 use Rattle.flash_format.specs.Attributes.{Attribute, attr_head_of, attribute, attributes, attributes_after, ends_list, is_malformed, least_len, COMPRESSION, HASH}
-
-either_false : (a b : Bool) → (a || b) ≡ false → (a ≡ false) × (b ≡ false)
-either_false true b e = absurd cc
-either_false false b e = (refl, e)
 
 eight : (a b : Bool) → 8 ≤ cond a 16 (cond b 12 8)
 eight true b = omega arith
@@ -22,13 +19,9 @@ pub record IsAttributeLen (x : List ℕ) (len : ℕ) : Type 0 where
 pub attribute_len : (x : List ℕ) → is_malformed x ≡ false → IsAttributeLen x (attr_head_of x).len
 attribute_len x e =
     let h = attr_head_of x in
-    let b = either_false (ltb h.len (least_len h.tag)) (ltb (length x) h.len) e in
+    let b = or_parts (ltb h.len (least_len h.tag)) (ltb (length x) h.len) e in
     let least : least_len h.tag ≤ h.len = ltb-false _ _ b.0 in
     record { head = omega (arith, least, eight (eqb h.tag COMPRESSION) (eqb h.tag HASH)); least = least; inside = ltb-false _ _ b.1 }
-
--- a head is left where the list does not end
-pub head_left : (x : List ℕ) → ends_list x ≡ false → 8 ≤ length x
-head_left x e = ltb-false _ _ (either_false (ltb (length x) 8) _ e).0
 
 -- the bytes that belong to the attribute before don't count
 pub attributes_after-drop : (k : ℕ) (x : List ℕ) → attributes_after k x ≡ attributes (drop k x)
@@ -36,10 +29,6 @@ unfolding attributes_after
 attributes_after-drop zero x = refl
 attributes_after-drop (suc k) [] = refl
 attributes_after-drop (suc k) (b ∷ x) = attributes_after-drop k x
-
-drop-pred : (b : ℕ) (x : List ℕ) (n : ℕ) → 0 < n → drop (pred n) x ≡ drop n (b ∷ x)
-drop-pred b x zero some = absurd (omega arith)
-drop-pred b x (suc n) some = refl
 
 -- ---- the equations of `attributes`
 

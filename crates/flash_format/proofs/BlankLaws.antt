@@ -9,7 +9,7 @@ use Rattle.flash_format.specs.Head.{header_length, head_of, head_at, head_bytes,
 use Rattle.flash_format.specs.Blanks.{blank_header}
 use Rattle.flash_format.specs.Entry.{cell, entry, present}
 use Rattle.flash_format.proofs.Fronts.{head_at-take}
-use Rattle.flash_format.proofs.EntryLaws.{from_head}
+use Rattle.flash_format.proofs.EntryLaws.{from_head, present_by}
 use Rattle.flash_format.proofs.Writing.{head_is_read_back}
 
 pub length-head_bytes : (h : Head) → length (head_bytes h) ≡ 24
@@ -35,9 +35,6 @@ free_checked : (h : Head) (left : ℕ) → is_free h ≡ true → 24 ≤ h.offse
 unfolding checked
 free_checked h left free offset fits = rw (free, le-ltb h.offset 24 offset, le-ltb left (h.offset + h.len) fits) refl
 
-free_present : (h : Head) (x : List ℕ) (e : Extent) → is_free h ≡ true → present h x (Ok e) ≡ cell e.span
-free_present h x e free = rw free refl
-
 -- a head of free space that fills so many bytes
 free_entry : (h : Head) (more : List ℕ) (size : ℕ) → is_free h ≡ true → 24 ≤ h.offset → h.offset + h.len ≤ size → size < h.offset + h.len + 64 → size % 64 ≡ 0 → size < 2 ^ 32
     → h.kind < 256 ^ 4 → h.attributes_offset < 256 ^ 4 → 24 + length more ≡ size
@@ -50,7 +47,7 @@ free_entry h more size free offset fits full whole small kind_fits attributes_fi
     let span : round64 (h.offset + h.len) ≡ size = omega arith in (
       from_head x h (omega arith) head
           ∙ ap (λ (r : Result Extent DamageKind). present h x r) (free_checked h (length x) free offset (omega arith))
-          ∙ free_present h x e free
+          ∙ present_by true h x e free
           ∙ ap (λ (n : ℕ). cell n) span,
       ap (λ (k : Head). is_free k) (head_is x h head) ∙ free,
     )

@@ -7,15 +7,7 @@ use Rattle.std.proofs.lemmas.List.Elements.{All-head, All-tail}
 use Rattle.flash_format.specs.Head.{head_of, is_free}
 use Rattle.flash_format.specs.Cut.{Cut, cut, after, after_all, IsCell}
 use Rattle.flash_format.specs.Components.{Component, component_at, components_from, components, moved}
-use Rattle.flash_format.proofs.CutLaws.{cut_before}
-
--- cells before anything
-pub cut_joined : (cells : List (List ℕ)) (rest : List ℕ) → All IsCell cells → cut (concat cells ++ rest) ≡ after_all cells (cut rest)
-cut_joined [] rest each = refl
-cut_joined (c ∷ cells) rest each =
-    ap (λ (l : List ℕ). cut l) (append_assoc c (concat cells) rest)
-    ∙ cut_before c (concat cells ++ rest) (All-head IsCell c cells each)
-    ∙ ap (λ (l : Cut). after c l) (cut_joined cells rest (All-tail IsCell c cells each))
+use Rattle.flash_format.proofs.CutLaws.{cut_joined}
 
 -- a list whose first bytes are these cells
 in_parts : (x : List ℕ) (at : ℕ) (cells : List (List ℕ)) → take at x ≡ concat cells → x ≡ concat cells ++ drop at x

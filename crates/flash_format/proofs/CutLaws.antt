@@ -1,10 +1,10 @@
 -- A region is its cells joined, and a rest, in one way.
 use Rattle.std.proofs.Common.{◌≡◌, ℕ, zero, suc, ◌%◌, ◌<◌, ◌≤◌, List, [], ◌∷◌, ◌++◌, length, take, drop, sym, ◌∙◌, ap, subst, refl, arith, All, append_assoc, length-append, length-drop, take-append-drop}
 use Rattle.std.specs.List.{concat}
-use Rattle.std.proofs.lemmas.List.{take_at, drop_at, take-take, take_all, length-take-le}
+use Rattle.std.proofs.lemmas.List.{take_at, drop_at, append-nil, take-take, take_all, length-take-le}
 use Rattle.std.proofs.lemmas.List.Elements.{All-nil, All-cons, All-head, All-tail}
 use Rattle.flash_format.specs.Entry.{Entry, absent, damaged, cell, entry}
-use Rattle.flash_format.specs.Cut.{Cut, End, complete, tail, damage, ends, after, cut, IsCell, EndsAt, IsCut}
+use Rattle.flash_format.specs.Cut.{Cut, End, complete, tail, damage, ends, after, after_all, cut, IsCell, EndsAt, IsCut}
 use Rattle.flash_format.proofs.CutSteps.{cell_span, cut_empty, cut_absent, cut_damaged, cut_cell}
 use Rattle.flash_format.proofs.EntryLaws.{entry_alike}
 
@@ -20,7 +20,7 @@ front_cell x span is fits =
     subst (λ n. entry (take span x) ≡ cell n) (sym len)
     (entry_alike x (take span x) span is fits (omega (arith, len)) (sym (take-take span span x (omega arith))))
 
-pub cut_before : (c z : List ℕ) → IsCell c → cut (c ++ z) ≡ after c (cut z)
+cut_before : (c z : List ℕ) → IsCell c → cut (c ++ z) ≡ after c (cut z)
 cut_before c z is =
     let long : 64 ≤ length c = (cell_span c (length c) is).positive in
     cut_cell (c ++ z) (length c) (omega (arith, long, length-append c z)) (cell_before c z is)
@@ -33,15 +33,18 @@ cut_rest rest complete at = cut_empty rest (ap (λ (l : List ℕ). length l) at)
 cut_rest rest tail at = cut_absent rest at.0 at.1
 cut_rest rest (damage kind) at = cut_damaged rest kind at.0 at.1
 
+-- cells before anything
+pub cut_joined : (cells : List (List ℕ)) (rest : List ℕ) → All IsCell cells → cut (concat cells ++ rest) ≡ after_all cells (cut rest)
+cut_joined [] rest each = refl
+cut_joined (c ∷ cells) rest each =
+    ap (λ (l : List ℕ). cut l) (append_assoc c (concat cells) rest)
+    ∙ cut_before c (concat cells ++ rest) (All-head IsCell c cells each)
+    ∙ ap (λ (l : Cut). after c l) (cut_joined cells rest (All-tail IsCell c cells each))
+
 pub cut_unique : (x : List ℕ) (cells : List (List ℕ)) (rest : List ℕ) (e : End) → IsCut x cells rest e → cut x ≡ record { cells = cells; end = e }
-cut_unique x cells rest e is = ap (λ (l : List ℕ). cut l) is.whole ∙ go cells is.each
-  where
-    go : (all : List (List ℕ)) → All IsCell all → cut (concat all ++ rest) ≡ record { cells = all; end = e }
-    go [] each = cut_rest rest e is.last
-    go (c ∷ all) each =
-        ap (λ (l : List ℕ). cut l) (append_assoc c (concat all) rest)
-        ∙ cut_before c (concat all ++ rest) (All-head IsCell c all each)
-        ∙ ap (λ (l : Cut). after c l) (go all (All-tail IsCell c all each))
+cut_unique x cells rest e is =
+    ap (λ (l : List ℕ). cut l) is.whole ∙ cut_joined cells rest is.each ∙ ap (λ (k : Cut). after_all cells k) (cut_rest rest e is.last)
+    ∙ ap (λ (l : List (List ℕ)). let k : Cut = record { cells = l; end = e } in k) (append-nil cells)
 
 -- ---- every region has a cut
 

@@ -7,6 +7,7 @@ use Rattle.flash_format.specs.declared.head.DamageKind.{DamageKind}
 use Rattle.flash_format.specs.declared.head.DamageKind.TheVariants as kinds
 use Rattle.flash_format.specs.Head.{head_of, head_at, is_free, attributes_misplaced, checked, round64}
 use Rattle.flash_format.specs.Entry.{Entry, absent, damaged, cell, entry, present, under, front, component}
+use Rattle.flash_format.proofs.Fronts.{drop-pred}
 use Rattle.flash_format.specs.Cut.{Cut, complete, tail, damage, ends, after, by_entry, cut, cut_after}
 
 -- what is known of the length of a cell
@@ -83,9 +84,8 @@ present_cell h x (Err k) span p = absurd cc
 present_cell h x (Ok e) span p = (e, refl, go (is_free h) p)
   where
     inner : (a b : Bool) → cond (not a) (damaged kinds.Name) (cond (not b) (damaged kinds.AttrLength) (cell_of e.span)) ≡ cell span → e.span ≡ span
-    inner false b q = absurd cc
-    inner true false q = absurd cc
     inner true true q = cc
+    inner _ _ q = absurd cc
 
     go : (b : Bool) → cond b (cell_of e.span) (component h x e.span) ≡ cell span → e.span ≡ span
     go true q = cc
@@ -133,10 +133,6 @@ unfolding cut_after
 cut_after-drop zero x = refl
 cut_after-drop (suc k) [] = refl
 cut_after-drop (suc k) (b ∷ x) = cut_after-drop k x
-
-drop-pred : (b : ℕ) (x : List ℕ) (n : ℕ) → 0 < n → drop (pred n) x ≡ drop n (b ∷ x)
-drop-pred b x zero some = absurd (omega arith)
-drop-pred b x (suc n) some = refl
 
 -- by what the bytes begin with
 pub cut_step : (x : List ℕ) (e : Entry) → 0 < length x → entry x ≡ e → cut x ≡ by_entry e x (λ span. cut_after (pred span) (drop 1 x))

@@ -14,9 +14,6 @@ use Rattle.flash_format.proofs.CutSteps.{IsCell, cell_is, checked_ok, cell_span}
 
 -- ---- the head
 
-same_head : (x y : List ℕ) (n : ℕ) → 24 ≤ n → take n x ≡ take n y → head_of x ≡ head_of y
-same_head x y n long same = sym (head_of-take x n long) ∙ ap (λ (l : List ℕ). head_of l) same ∙ head_of-take y n long
-
 same_head_at : (x y : List ℕ) (n : ℕ) → 24 ≤ n → take n x ≡ take n y → head_at x ≡ head_at y
 same_head_at x y n long same = sym (head_at-take x n long) ∙ ap (λ (l : List ℕ). head_at l) same ∙ head_at-take y n long
 
@@ -60,7 +57,7 @@ as_under x y span c long head fits =
     from_head y h long (head ∙ c.head)
     ∙ ap (λ (r : Result Extent DamageKind). present h y r) (checked_alike h (length x) (length y) inside fits ∙ c.checks)
 
-up : (n : ℕ) → n ≤ round64 n
+pub up : (n : ℕ) → n ≤ round64 n
 up n = omega arith
 
 -- the content ends inside the cell
@@ -69,12 +66,13 @@ content_within x span c =
     let k = checked_ok (head_of x) (length x) c.extent c.checks in
     omega (arith, up ((head_of x).offset + (head_of x).len), k.span, c.spans)
 
-present_free : (h : Head) (x : List ℕ) (e : Extent) → is_free h ≡ true → present h x (Ok e) ≡ cell e.span
-present_free h x e free = ap (λ (b : Bool). cond b (cell e.span) (component h x e.span)) free
+-- a cell whose head passes its checks, by whether it is free
+pub present_by : (free : Bool) (h : Head) (x : List ℕ) (e : Extent) → is_free h ≡ free → present h x (Ok e) ≡ cond free (cell e.span) (component h x e.span)
+present_by free h x e is = ap (λ (b : Bool). cond b (cell e.span) (component h x e.span)) is
 
 present_alike : (h : Head) (x y : List ℕ) (n : ℕ) (e : Extent) → h.offset ≤ n → (is_free h ≡ false → attributes_misplaced h ≡ false) → take n x ≡ take n y → present h y (Ok e) ≡ present h x (Ok e)
 present_alike h x y n e fits placed same = elim (cases_Bool (is_free h)) [
-  | inl free ↦ present_free h y e free ∙ sym (present_free h x e free)
+  | inl free ↦ present_by true h y e free ∙ sym (present_by true h x e free)
   | inr other ↦
       let named : name_end h ≤ n = omega (arith, name_ends h (placed other)) in
       ap (λ (v : Entry). cond (is_free h) (cell e.span) v) (sym (component_alike h x y n e.span named fits same))
@@ -98,7 +96,7 @@ entry_free x y span e free same in_y =
     let large = (cell_span x span e).positive in
     let ends = content_within x span c in
     as_under x y span c (omega arith) (sym (same_head_at x y 24 (omega arith) same)) (omega (arith, ends))
-    ∙ present_free (head_of x) y c.extent free
+    ∙ present_by true (head_of x) y c.extent free
     ∙ ap (λ (n : ℕ). cell n) c.spans
 
 pub entry_large : (x : List ℕ) (span : ℕ) → entry x ≡ cell span → (64 ≤ span) × (span % 64 ≡ 0)

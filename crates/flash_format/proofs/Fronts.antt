@@ -1,5 +1,5 @@
 -- A head is read alike from its own bytes and from any list of which they are a prefix.
-use Rattle.std.proofs.Common.{◌≡◌, ℕ, ◌+◌, ◌≤◌, List, take, drop, refl, sym, ap, ◌∙◌, arith}
+use Rattle.std.proofs.Common.{◌≡◌, ℕ, zero, suc, pred, ◌+◌, ◌<◌, ◌≤◌, List, ◌∷◌, take, drop, refl, sym, ap, ◌∙◌, arith}
 use Rattle.std.specs.Prelude.{slice_range}
 use Rattle.std.proofs.lemmas.List.{take-take}
 use Rattle.std.proofs.lemmas.Slice.{between_is}
@@ -11,6 +11,11 @@ use Rattle.flash_format.specs.Attributes.{attr_head_of}
 
 pub range-take : (x : List ℕ) (n a b : ℕ) → b ≤ n → slice_range (take n x) a b ≡ slice_range x a b
 range-take x n a b le = between_is (take n x) a b ∙ ap (drop a) (take-take b n x le) ∙ sym (between_is x a b)
+
+-- without its first byte a list is dropped by one less
+pub drop-pred : (b : ℕ) (x : List ℕ) (n : ℕ) → 0 < n → drop (pred n) x ≡ drop n (b ∷ x)
+drop-pred b x zero some = absurd (omega arith)
+drop-pred b x (suc n) some = refl
 
 be32-take : (x : List ℕ) (n at : ℕ) → at + 4 ≤ n → be32 at (take n x) ≡ be32 at x
 be32-take x n at le = ap (big_number 4) (range-take x n at (at + 4) le)

@@ -3,7 +3,7 @@ use Rattle.std.proofs.Common.{◌≡◌, ℕ, zero, suc, ◌+◌, ◌-◌, ◌%�
 use Rattle.std.specs.Prelude.{slice_range, is_some}
 use Rattle.std.specs.List.{list_any, before_first, prefix_len}
 use Rattle.std.specs.Option.{option_map}
-use Rattle.std.proofs.lemmas.Bool.{le-ltb, and_right, or_from, or_parts, or_right}
+use Rattle.std.proofs.lemmas.Bool.{le-ltb, ne_eqb, and_right, or_from, or_parts, or_right}
 use Rattle.std.proofs.lemmas.Bool.Decides.{nat_tests}
 use Rattle.std.proofs.lemmas.List.Folds.{list_any_at}
 use Rattle.std.proofs.lemmas.List.{take_at, drop_at, append-nil, length-replicate, get_or-take, get_or-append_right}
@@ -23,7 +23,7 @@ use Rattle.flash_format.specs.Blanks.{padding}
 use Rattle.flash_format.specs.Made.{IsDigest, IsMade, IsReadAs, KeepsFour, name_room, meta_length, algorithm_number, algorithm, digest_bytes, digest_len, hash_attribute, hash_bytes, hash_len, made_head, padded_name, made_front, made, made_attributes}
 use Rattle.flash_format.proofs.AttributeSteps.{attributes_end, attributes_more}
 use Rattle.flash_format.proofs.BlankLaws.{length-head_bytes, head_in_front, head_is}
-use Rattle.flash_format.proofs.EntryLaws.{from_head}
+use Rattle.flash_format.proofs.EntryLaws.{from_head, present_by, up}
 
 pub room_is_least : (k : ℕ) → (k < name_room k) × (name_room k % name_padding ≡ 0) × (name_room k ≤ k + name_padding)
 room_is_least k = (omega arith, omega arith, omega arith)
@@ -33,9 +33,6 @@ room_is_least k = (omega arith, omega arith, omega arith)
 either_way : (b : Bool) (k u v : ℕ) → k < u → k < v → k < cond b u v
 either_way true k u v in_u in_v = in_u
 either_way false k u v in_u in_v = in_v
-
-not_zero : (n : ℕ) → 0 < n → eqb n 0 ≡ false
-not_zero n some = grind (arith, nat_tests)
 
 -- ---- the name
 
@@ -180,7 +177,7 @@ attributes_read name kind (Some d) gap n more is =
     let x : List ℕ = made_front name kind (Some d) gap n ++ more in
     let shape : x ≡ before ++ (list ++ more) = ap (λ (l : List ℕ). l ++ more) (append_assoc before hash (replicate gap 255)) ∙ append_assoc before list more in
     let field : attribute_field h x ≡ list =
-    ap (λ (b : Bool). cond b [] (slice_range x at h.offset)) (not_zero at (omega arith))
+    ap (λ (b : Bool). cond b [] (slice_range x at h.offset)) (ne_eqb at 0 (λ z. omega (arith, z)))
     ∙ ap (λ (l : List ℕ). slice_range l at h.offset) shape
     ∙ range_of before list more at h.offset (omega (arith, length-append (head_bytes h) (padded_name name), length-head_bytes h, length-padded name))
     (omega (arith, length-append hash (replicate gap 255), length-replicate {A = ℕ} gap 255)) in
@@ -192,9 +189,6 @@ checked_used : (h : Head) (left : ℕ) → is_free h ≡ false → 25 ≤ h.offs
     → checked h left ≡ Ok (record { content = h.offset; span = round64 (h.offset + h.len) })
 unfolding checked
 checked_used h left used offset well fits = rw (used, le-ltb h.offset 25 offset, well, le-ltb left (h.offset + h.len) fits) refl
-
-present_used : (h : Head) (x : List ℕ) (e : Extent) → is_free h ≡ false → present h x (Ok e) ≡ component h x e.span
-present_used h x e used = ap (λ (b : Bool). cond b (cell e.span) (component h x e.span)) used
 
 component_whole : (h : Head) (x : List ℕ) (span : ℕ) (list : List Attribute) → has_name (name_field h x) ≡ true → attributes (attribute_field h x) ≡ Some list → component h x span ≡ cell span
 component_whole h x span list name read =
@@ -244,7 +238,7 @@ front_is_read name kind digest gap content more is =
       is_cell =
           from_head x h (omega (arith, long)) head
           ∙ ap (λ (r : Result Extent DamageKind). present h x r) (checked_used h (length x) is.kind_used (omega arith) (placed name kind digest gap n) (omega (arith, long)))
-          ∙ present_used h x e is.kind_used
+          ∙ present_by false h x e is.kind_used
           ∙ component_whole h x e.span (made_attributes digest) named list
           ∙ ap (λ (k : ℕ). cell k) span;
       is_used = ap (λ (k : Head). is_free k) head_there ∙ is.kind_used;
@@ -265,9 +259,6 @@ front_is_read name kind digest gap content more is =
 pub length-padding : (n : ℕ) (last : Option (List ℕ)) → KeepsFour last → length (padding n last) ≡ n
 length-padding n None is = length-replicate n 255
 length-padding n (Some last) is = omega (arith, is, length-append (replicate (n - 4) 255) (drop (4 - n) last), length-replicate {A = ℕ} (n - 4) 255, length-drop (4 - n) last)
-
-up : (n : ℕ) → n ≤ round64 n
-up n = omega arith
 
 pub length-made : (name : List ℕ) (kind : ℕ) (digest : Option Digest) (gap : ℕ) (content : List ℕ) (last : Option (List ℕ)) → KeepsFour last
     → length (made name kind digest gap content last) ≡ round64 (length (made_front name kind digest gap (length content) ++ content))

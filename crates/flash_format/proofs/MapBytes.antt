@@ -1,8 +1,8 @@
 -- A map is read as it was written, and it is the image's where none stands below it.
-use Rattle.std.proofs.Common.{◌≡◌, ℕ, ◌*◌, ◌<◌, ◌≤◌, Bool, true, false, List, [], ◌∷◌, ◌++◌, All, length, take, drop, Option, Some, None, refl, sym, ◌∙◌, ap, arith, append_assoc, length-append, length-drop}
+use Rattle.std.proofs.Common.{◌≡◌, ℕ, ◌*◌, ◌<◌, ◌≤◌, Bool, true, false, List, [], ◌∷◌, ◌++◌, All, length, take, drop, Option, Some, None, refl, sym, ◌∙◌, ap, arith, append_assoc, length-append, length-drop, ⊎_elim}
 use Rattle.std.specs.Prelude.{nat_lt}
 use Rattle.std.specs.List.{flat_map}
-use Rattle.std.proofs.lemmas.Bool.{eq-eqb, le-leb}
+use Rattle.std.proofs.lemmas.Bool.{cases_lt, eq-eqb, le-leb}
 use Rattle.std.proofs.lemmas.Bool.Decides.{nat_tests}
 use Rattle.std.proofs.lemmas.List.{take_at, drop_at}
 use Rattle.std.proofs.lemmas.List.Elements.{All-head, All-tail}
@@ -26,12 +26,7 @@ map_long x is = go (nat_lt (length x) 56) refl
     go false e = grind (arith, nat_tests)
 
 one_place : (p q : ℕ) → (p < q → ⊥) → (q < p → ⊥) → p ≡ q
-one_place p q above below = go (nat_lt p q) (nat_lt q p) refl refl
-  where
-    go : (a b : Bool) → nat_lt p q ≡ a → nat_lt q p ≡ b → p ≡ q
-    go true b e f = absurd (above (grind (arith, nat_tests)))
-    go false true e f = absurd (below (grind (arith, nat_tests)))
-    go false false e f = grind (arith, nat_tests)
+one_place p q above below = ⊎_elim (λ lower. absurd (above lower)) (λ high. ⊎_elim (λ higher. absurd (below higher)) (λ low. omega (arith, high, low)) (cases_lt q p)) (cases_lt p q)
 
 pub lowest_found : LowestMapsAreFound
 lowest_found image q here none = go (map_of image) refl (map_lowest image)

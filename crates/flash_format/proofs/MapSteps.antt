@@ -11,14 +11,6 @@ pub not_map_short : (x : List ℕ) → length x < 56 → is_map x ≡ false
 unfolding is_map
 not_map_short x lt = rw (lt-leb 56 (length x) lt) refl
 
-pub not_map_unsigned : (x : List ℕ) → has_signature x ≡ false → is_map x ≡ false
-unfolding is_map
-not_map_unsigned x e = rw e (both_false (leb 56 (length x)))
-  where
-    both_false : (b : Bool) → (b && false) ≡ false
-    both_false true = refl
-    both_false false = refl
-
 pub map_where : (x : List ℕ) (b : Bool) → 56 ≤ length x → has_signature x ≡ true → is_valid_head (fmap_head_of x) (length x) ≡ b → is_map x ≡ b
 unfolding is_map
 map_where x b le s v = rw (le-leb 56 (length x) le, s) v
@@ -36,18 +28,6 @@ map_step image at here lt e = step at (get_or image at 0) (drop (at + 1) image) 
 pub map_end : (at : ℕ) (image : List ℕ) → length image ≤ at → map_from at (drop at image) ≡ None
 unfolding map_from
 map_end at image le = ap (map_from at) (nil_from_length (drop at image) (omega (arith, length-drop at image)))
-
--- a map lies inside the image
-pub map_inside : (x : List ℕ) → is_map x ≡ true → map_len (fmap_head_of x) ≤ length x
-unfolding is_map is_valid_head
-map_inside x e = go (leb 56 (length x)) (has_signature x) _ _ e
-  where
-    go : (a b c d : Bool) → (a && (b && (c && (d && leb (map_len (fmap_head_of x)) (length x))))) ≡ true → map_len (fmap_head_of x) ≤ length x
-    go false b c d p = absurd cc
-    go true false c d p = absurd cc
-    go true true false d p = absurd cc
-    go true true true false p = absurd cc
-    go true true true true p = leb-true _ _ p
 
 -- ---- the first area of a name
 

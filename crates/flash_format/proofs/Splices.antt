@@ -8,16 +8,13 @@ use Rattle.flash_format.specs.Blanks.{blank_header}
 use Rattle.flash_format.specs.Cut.{Cut, cut, IsCell, IsCut}
 use Rattle.flash_format.specs.Components.{Component, component_at, components_from, components}
 use Rattle.flash_format.specs.Splices.{CellsBetween, spliced}
+pub use Rattle.std.proofs.lemmas.List.Folds.{concat-append}
 pub use Rattle.flash_format.specs.Splices.{AllFree}
 use Rattle.flash_format.specs.Laws.{BlanksHaveNoComponent}
 use Rattle.flash_format.proofs.CutSteps.{cell_span}
 use Rattle.flash_format.proofs.CutLaws.{cut_unique}
 use Rattle.flash_format.proofs.CellLists.{components-append}
 use Rattle.flash_format.proofs.BlankLaws.{blank_header-cell, length-blank_header}
-
-pub concat-append : (a b : List (List ℕ)) → concat (a ++ b) ≡ concat a ++ concat b
-concat-append [] b = refl
-concat-append (c ∷ a) b = ap (λ (l : List ℕ). c ++ l) (concat-append a b) ∙ sym (append_assoc c (concat a) (concat b))
 
 pub All-left : (P : List ℕ → Type 0) (a b : List (List ℕ)) → All P (a ++ b) → All P a
 All-left P [] b each = All-nil P

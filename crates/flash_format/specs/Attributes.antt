@@ -2,7 +2,7 @@
 -- They are those of `struct cbfs_file_attribute` in coreboot's sources; where a list ends and which lengths are
 -- well formed is this project's own.
 use Rattle.std.specs.Prelude.{ℕ, zero, suc, pred, Bool, ◌||◌, List, [], ◌∷◌, length, slice_range, Option, Some, None, nat_lt, ◌==◌, if◌then◌else◌}
-use Rattle.std.specs.Option.{option_map, option_or}
+use Rattle.std.specs.Option.{option_map}
 use Rattle.flash_format.specs.declared.attribute.AttrHead.{AttrHead}
 use Rattle.flash_format.specs.Head.{be32}
 
@@ -61,11 +61,12 @@ attributes_after zero (b ∷ rest) = by_attribute (b ∷ rest) (λ len. attribut
 abbrev pub attributes : List ℕ → Option (List Attribute)
 attributes x = attributes_after 0 x
 
--- the value of an attribute of compression
-abbrev pub packing_of : Attribute → Option ℕ
-packing_of a = if a.tag == COMPRESSION then Some (be32 0 a.contents) else None
+-- the data of the first attribute with a tag
+abbrev pub data_of : ℕ → List Attribute → Option (List ℕ)
+data_of tag [] = None
+data_of tag (a ∷ others) = if a.tag == tag then Some a.contents else data_of tag others
 
--- that of the first such attribute
-abbrev pub packing_in : List Attribute → Option ℕ
-packing_in [] = None
-packing_in (a ∷ others) = option_or (packing_of a) (packing_in others)
+-- the value that stands first in data, 0 without any
+abbrev pub value_of : Option (List ℕ) → ℕ
+value_of None = 0
+value_of (Some contents) = be32 0 contents

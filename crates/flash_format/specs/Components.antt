@@ -1,7 +1,7 @@
 -- The components of a region: its cells that are no free space.
 use Rattle.std.specs.Prelude.{ℕ, ◌+◌, Bool, not, List, [], ◌∷◌, length, slice_range, map, unwrap_or, ◌==◌, if◌then◌else◌}
 use Rattle.flash_format.specs.Head.{head_of, is_free}
-use Rattle.flash_format.specs.Attributes.{Attribute, attributes, packing_in}
+use Rattle.flash_format.specs.Attributes.{Attribute, attributes, data_of, value_of, COMPRESSION}
 use Rattle.flash_format.specs.Entry.{name_field, name_of, attribute_field}
 use Rattle.flash_format.specs.Cut.{cut}
 
@@ -28,7 +28,7 @@ cell_content x = let h = head_of x in slice_range x h.offset (h.offset + h.len)
 
 -- the value of the first compression attribute, 0 without one
 abbrev pub packing : List Attribute → ℕ
-packing all = unwrap_or (packing_in all) 0
+packing all = value_of (data_of COMPRESSION all)
 
 -- the content is stored compressed
 abbrev pub is_packed : List Attribute → Bool
