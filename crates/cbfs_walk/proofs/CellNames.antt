@@ -8,7 +8,7 @@ use Rattle.flash_format.specs.declared.head.Head.{Head}
 use Rattle.flash_format.specs.Head.{head_of, is_free}
 use Rattle.flash_format.specs.Entry.{name_end, name_field, name_of, is_nul, has_name}
 use Rattle.flash_format.specs.Components.{cell_name}
-use Rattle.cbfs_walk.specs.Cells.{PassesChecks, cell_in}
+use Rattle.cbfs_walk.specs.Cells.{IsComponentIn, cell_in}
 use Rattle.cbfs_walk.specs.Walks.{StandsIn}
 use Rattle.cbfs_walk.specs.declared.cell.Cell.{Cell}
 use Rattle.cbfs_walk.proofs.Parts.{range-drop, range-take, length-range, name_read}
@@ -22,11 +22,11 @@ pub record HasField (size : ℕ) (c : Cell) : Type 0 where
   pub high : name_end c.head ≤ c.head.offset
   pub inside : c.at + name_end c.head ≤ size
 
-pub has_field : (size : ℕ) (c : Cell) → PassesChecks size c → is_free c.head ≡ false → HasField size c
-has_field size c is used =
-    let k = checks_give (size - c.at) c.head c.span is in
-    let low = k.name_low used in
-    let high = k.name_high used in
+pub has_field : (size : ℕ) (c : Cell) → IsComponentIn size c → HasField size c
+has_field size c is =
+    let k = checks_give (size - c.at) c.head c.span is.checks in
+    let low = k.name_low is.used in
+    let high = k.name_high is.used in
     record { low = low; high = high; inside = omega (arith, high, k.room, k.inside) }
 
 -- the bytes of the name field
@@ -38,12 +38,12 @@ pub record ShowsName (x : List ℕ) (c : Cell) : Type 0 where
   pub short : position_or_len is_nul (field_of x c) < 256
   pub within : position_or_len is_nul (field_of x c) < length (field_of x c)
 
-pub shows_name : (x : List ℕ) (size : ℕ) (c : Cell) → PassesChecks size c → is_free c.head ≡ false → StandsIn x c → ShowsName x c
-shows_name x size c is used stands =
+pub shows_name : (x : List ℕ) (size : ℕ) (c : Cell) → IsComponentIn size c → StandsIn x c → ShowsName x c
+shows_name x size c is stands =
     let s = standing x c stands in
-    let k = checks_give (size - c.at) c.head c.span is in
-    let f = has_field size c is used in
-    let whole = component_whole (drop c.at x) c.span s.entry (ap is_free (sym s.head) ∙ used) in
+    let k = checks_give (size - c.at) c.head c.span is.checks in
+    let f = has_field size c is in
+    let whole = component_whole (drop c.at x) c.span s.entry (ap is_free (sym s.head) ∙ is.used) in
     let there : name_field (head_of (drop c.at x)) (drop c.at x) ≡ field_of x c =
     ap (λ h. name_field h (drop c.at x)) (sym s.head) ∙ range-drop x c.at 24 (name_end c.head) in
     let nul : list_any is_nul (take 256 (field_of x c)) ≡ true = ap (λ l. list_any is_nul (take 256 l)) (sym there) ∙ whole.named in
@@ -60,17 +60,17 @@ shows_name x size c is used stands =
 field_prefix : (x : List ℕ) (c : Cell) (n : ℕ) → 24 + n ≤ name_end c.head → take n (field_of x c) ≡ slice_range x (c.at + 24) (c.at + 24 + n)
 field_prefix x c n room = range-take x (c.at + 24) (c.at + name_end c.head) n (omega (arith, room))
 
-module _ (x : List ℕ) (size : ℕ) (c : Cell) (is : PassesChecks size c) (used : is_free c.head ≡ false) (len : length x ≡ size) where
+module _ (x : List ℕ) (size : ℕ) (c : Cell) (is : IsComponentIn size c) (len : length x ≡ size) where
   length-field : length (field_of x c) + 24 ≡ name_end c.head
   length-field =
-      let f = has_field size c is used in
+      let f = has_field size c is in
       omega (arith, length-range x (c.at + 24) (c.at + name_end c.head) (omega (arith, f.inside, len)), f.low)
 
   -- the text that stands first in what is read of the field
   pub read_name : (n room : ℕ) (out : List ℕ) → room + 24 ≡ name_end c.head → n ≡ min room 255 → StandsIn x c → out ≡ slice_range x (c.at + 24) (c.at + 24 + n)
       → before_first is_nul out ≡ cell_name (cell_in x c)
   read_name n room out fits is_min stands read =
-      let named = shows_name x size c is used stands in
+      let named = shows_name x size c is stands in
       ap (before_first is_nul) (read ∙ sym (field_prefix x c n (omega (arith, fits, is_min))))
       ∙ text_prefix n (field_of x c) (omega (arith, fits, is_min, named.short, named.within, length-field))
       ∙ sym named.name
@@ -87,14 +87,14 @@ module _ (x : List ℕ) (size : ℕ) (c : Cell) (is : PassesChecks size c) (used
   pub name_compared : (room : ℕ) (name out : List ℕ) → room + 24 ≡ name_end c.head → length name < room → StandsIn x c → out ≡ slice_range x (c.at + 24) (c.at + 24 + (length name + 1))
       → bytes_eq (before_first is_nul out) name ≡ bytes_eq (cell_name (cell_in x c)) name
   name_compared room name out fits shorter stands read =
-      let named = shows_name x size c is used stands in
+      let named = shows_name x size c is stands in
       ap (λ l. bytes_eq (before_first is_nul l) name) (read ∙ sym (field_prefix x c (length name + 1) (omega (arith, fits, shorter))))
       ∙ text_is (field_of x c) name (length name + 1) (omega arith) named.within
       ∙ ap (λ t. bytes_eq t name) (sym named.name)
 
   pub name_too_long : (name : List ℕ) → (255 < length name) ⊎ (name_end c.head ≤ length name + 24) → StandsIn x c → false ≡ bytes_eq (cell_name (cell_in x c)) name
   name_too_long name long stands =
-      let named = shows_name x size c is used stands in
+      let named = shows_name x size c is stands in
       let field = length-field in
       text_is_not (field_of x c) name (longer long named.short (omega (arith, named.within, field))) ∙ ap (λ t. bytes_eq t name) (sym named.name)
     where

@@ -10,17 +10,17 @@ use Rattle.flash_format.specs.declared.digest.Algorithm.{Algorithm}
 use Rattle.flash_format.specs.declared.digest.Digest.{Digest}
 use Rattle.flash_format.specs.declared.digest.Digest.TheVariants as digests
 use Rattle.flash_format.specs.declared.head.Head.{Head}
-use Rattle.flash_format.specs.Head.{be32, is_free}
-use Rattle.flash_format.specs.Attributes.{HASH}
+use Rattle.flash_format.specs.Head.{be32}
+use Rattle.flash_format.specs.Attributes.{data_of, HASH}
 use Rattle.flash_format.specs.Components.{cell_attributes, cell_content}
 use Rattle.std.proofs.lemmas.List.{take-append-drop}
 use Rattle.flash_store.specs.Device.{Device}
 use Rattle.flash_store.specs.Pages.{Pages}
 use Rattle.flash_store.specs.Regions.{Range, LiesIn, bytes_in}
 use Rattle.cbfs_walk.specs.Passing.{Passes}
-use Rattle.cbfs_walk.specs.Cells.{PassesChecks, cell_in}
+use Rattle.cbfs_walk.specs.Cells.{IsComponentIn, cell_in}
 use Rattle.cbfs_walk.specs.Walks.{StandsIn}
-use Rattle.cbfs_walk.specs.Hashes.{sha256_of, sha512_of, digest_like, digest_by, stored_digest, compared, state_of, data_of, hash_state, content_at, hash_state_in, IsUncompared}
+use Rattle.cbfs_walk.specs.Hashes.{sha256_of, sha512_of, digest_like, digest_by, stored_digest, compared, state_of, hash_state, content_at, hash_state_in, IsUncompared}
 use Rattle.cbfs_walk.specs.declared.cell.Cell.{Cell}
 use Rattle.cbfs_walk.specs.declared.hashes.HashState.{HashState}
 use Rattle.cbfs_walk.specs.declared.hashes.HashState.TheVariants.{Valid, Invalid}
@@ -109,14 +109,16 @@ like_sha512 x c stored old bytes from end is e begins ends =
 -- ---- the first hash attribute
 
 -- what is found in a component that stands in the region
-pub state_found : (x : List ℕ) (size : ℕ) (c : Cell) → c.at + c.head.offset ≤ length x → PassesChecks size c → StandsIn x c → is_free c.head ≡ false
-    → hash_state_in x c ≡ hash_state (cell_attributes (cell_in x c)) (cell_content (cell_in x c))
-state_found x size c inside is stands used =
-    let k = checks_give (size - c.at) c.head c.span is in
+pub state_found : (r : Range) (image : List ℕ) (c : Cell) (state : HashState) → LiesIn r image → IsComponentIn r.size c → StandsIn (bytes_in r image) c → state ≡ hash_state_in (bytes_in r image) c
+    → state ≡ hash_state (cell_attributes (cell_in (bytes_in r image) c)) (cell_content (cell_in (bytes_in r image) c))
+state_found r image c state lies is stands told =
+    let x = bytes_in r image in
+    let k = checks_give (r.size - c.at) c.head c.span is.checks in
+    let inside : c.at + c.head.offset ≤ length x = omega (arith, length-region r image lies, k.room, k.inside) in
     let head = cell_head x c (standing x c stands) k.positive in
     let content : cell_content (cell_in x c) ≡ content_at x c =
     ap (λ (h : Head). slice_range (cell_in x c) h.offset (h.offset + h.len)) head ∙ cell_part x c c.head.offset (c.head.offset + c.head.len) k.fits in
-    ap (λ d. state_of d (content_at x c)) (data_found HASH x c inside stands used)
+    told ∙ ap (λ d. state_of d (content_at x c)) (data_found HASH x c inside stands is.used)
     ∙ ap (state_of (data_of HASH (cell_attributes (cell_in x c)))) (sym content)
 
 -- a digest that is compared is not told without the content

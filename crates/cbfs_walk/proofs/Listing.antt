@@ -14,7 +14,7 @@ use Rattle.flash_format.proofs.AttributeSteps.{attribute_len, attributes_end, at
 use Rattle.flash_store.specs.Regions.{Range, LiesIn, bytes_in}
 use Rattle.cbfs_walk.specs.Cells.{cell_in}
 use Rattle.cbfs_walk.specs.Walks.{StandsIn}
-use Rattle.cbfs_walk.specs.AttrWalks.{AttrWalking, AttrAnswer, attr_walk_of, attr_moved, attributes_left, first_head, after_first}
+use Rattle.cbfs_walk.specs.AttrWalks.{AttrWalking, attr_walk_of, attributes_left, first_head, after_first}
 use Rattle.cbfs_walk.specs.Listed.{listed_in}
 use Rattle.cbfs_walk.specs.declared.cell.Cell.{Cell}
 use Rattle.cbfs_walk.specs.declared.attribute_walk.Listed as declared

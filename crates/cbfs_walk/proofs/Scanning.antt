@@ -1,11 +1,11 @@
 -- A scan of attributes on a device, from place to place.
 use Rattle.std.proofs.Common.{◌≡◌, ℕ, ◌+◌, ◌≤◌, Bool, true, false, cond, IsTrue, List, [], ◌∷◌, drop, Option, Some, None, refl, sym, subst, ap, ◌∙◌, arith, eqb, zero, suc, le_refl, length-drop, length}
-use Rattle.std.specs.Prelude.{slice_range, is_some, unwrap_or, IfSome}
-use Rattle.std.specs.Option.{option_map, option_or}
+use Rattle.std.specs.Prelude.{slice_range, is_some, IfSome}
+use Rattle.std.specs.Option.{option_map}
 use Rattle.byteorder.specs.Endian.{big_number}
 use Rattle.flash_format.specs.declared.attribute.AttrHead.{AttrHead}
 use Rattle.flash_format.specs.Head.{be32, is_free}
-use Rattle.flash_format.specs.Attributes.{Attribute, attribute, attributes, attr_head_of, packing_in, least_len, COMPRESSION, ends_list, is_malformed}
+use Rattle.flash_format.specs.Attributes.{Attribute, attribute, attributes, attr_head_of, data_of, value_of, least_len, COMPRESSION, ends_list, is_malformed}
 use Rattle.flash_format.specs.Entry.{name_end}
 use Rattle.flash_format.specs.Components.{packing, cell_attributes}
 use Rattle.flash_store.specs.Device.{Device}
@@ -15,7 +15,7 @@ use Rattle.cbfs_walk.specs.Passing.{Passes}
 use Rattle.cbfs_walk.specs.Cells.{attributes_start, content_start, cell_in}
 use Rattle.cbfs_walk.specs.Walks.{StandsIn}
 use Rattle.cbfs_walk.specs.AttrWalks.{IsAttrIn, after_first}
-use Rattle.cbfs_walk.specs.Hashes.{data_of, data_at}
+use Rattle.cbfs_walk.specs.Hashes.{data_at}
 use Rattle.cbfs_walk.specs.Listed.{IsAttrOf, listed_in, Placed, by_tag, first_within, first_in, first_of, value_in}
 use Rattle.cbfs_walk.specs.declared.cell.Cell.{Cell}
 use Rattle.cbfs_walk.specs.declared.attribute_walk.Listed as declared
@@ -206,19 +206,6 @@ data_found tag x c inside stands used =
 
 -- ---- the value of the first compression attribute
 
--- the value that stands first in data, 0 without any
-abbrev value_of : Option (List ℕ) → ℕ
-value_of None = 0
-value_of (Some contents) = be32 0 contents
-
-packing_data : (all : List Attribute) → value_of (data_of COMPRESSION all) ≡ packing all
-packing_data [] = refl
-packing_data (a ∷ others) = go (eqb a.tag COMPRESSION) (packing_data others)
-  where
-    go : (b : Bool) → value_of (data_of COMPRESSION others) ≡ packing others → value_of (cond b (Some a.contents) (data_of COMPRESSION others)) ≡ unwrap_or (option_or (cond b (Some (be32 0 a.contents)) None) (packing_in others)) 0
-    go true more = refl
-    go false more = more
-
 compression_len : (h : AttrHead) → h.tag ≡ COMPRESSION → least_len h.tag ≡ 16
 compression_len h e = rw e refl
 
@@ -235,5 +222,4 @@ value_is x c (Some found) is =
 -- the value that is found in a component that stands in the region
 pub packing_found : (x : List ℕ) (c : Cell) (found : Option Placed) → found ≡ first_of x c COMPRESSION → IfSome found (IsAttrOf c COMPRESSION) → c.at + c.head.offset ≤ length x → StandsIn x c → is_free c.head ≡ false
     → value_in x found ≡ packing (cell_attributes (cell_in x c))
-packing_found x c found first is inside stands used =
-    value_is x c found is ∙ ap (λ f. value_of (option_map (data_at x) f)) first ∙ ap value_of (data_found COMPRESSION x c inside stands used) ∙ packing_data (cell_attributes (cell_in x c))
+packing_found x c found first is inside stands used = value_is x c found is ∙ ap (λ f. value_of (option_map (data_at x) f)) first ∙ ap value_of (data_found COMPRESSION x c inside stands used)

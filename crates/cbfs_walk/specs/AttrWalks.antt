@@ -20,11 +20,8 @@ place_of w = w.cell.at + w.at
 abbrev pub attr_walk_of : Cell → AttrWalking
 attr_walk_of c = record { cell = c; at = min (name_end c.head) c.head.offset }
 
-abbrev pub AttrAnswer : Type 0
-AttrAnswer = Result (Option AttrHead) FlashFault
-
 -- an attribute goes on, a device's fault changes nothing, and None ends the walk at the content
-abbrev pub attr_moved : AttrWalking → AttrAnswer → AttrWalking
+abbrev pub attr_moved : AttrWalking → Result (Option AttrHead) FlashFault → AttrWalking
 attr_moved w (Ok (Some h)) = record w { at = w.at + h.len }
 attr_moved w (Ok None) = record w { at = w.cell.head.offset }
 attr_moved w (Err fault) = w

@@ -1,7 +1,7 @@
 -- A cell of a region as a walk gives it: its place, its head and its length.
-use Rattle.std.specs.Prelude.{◌≡◌, ℕ, ◌+◌, ◌-◌, ◌%◌, ◌≤◌, List, slice_range, Ok}
+use Rattle.std.specs.Prelude.{◌≡◌, ℕ, ◌+◌, ◌-◌, ◌%◌, ◌≤◌, false, List, slice_range, Ok}
 use Rattle.flash_format.specs.declared.head.Head.{Head}
-use Rattle.flash_format.specs.Head.{checked}
+use Rattle.flash_format.specs.Head.{checked, is_free}
 use Rattle.flash_format.specs.Entry.{name_end}
 use Rattle.cbfs_walk.specs.declared.cell.Cell.{Cell}
 
@@ -12,6 +12,11 @@ IsChecked left head span = checked head left ≡ Ok (record { content = head.off
 -- the head of a cell passes its checks where the cell stands in a region of this size, and it has that span
 abbrev pub PassesChecks : ℕ → Cell → Type 0
 PassesChecks size c = IsChecked (size - c.at) c.head c.span
+
+-- the same of a component
+pub record IsComponentIn (size : ℕ) (c : Cell) : Type 0 where
+  pub checks : PassesChecks size c
+  pub used : is_free c.head ≡ false
 
 -- a cell that lies in a region of this size, and its content in the cell
 pub record IsCellIn (size : ℕ) (c : Cell) : Type 0 where

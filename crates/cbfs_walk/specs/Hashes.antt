@@ -11,7 +11,7 @@ use Rattle.flash_format.specs.declared.digest.Algorithm.{Algorithm}
 use Rattle.flash_format.specs.declared.digest.Digest.{Digest}
 use Rattle.flash_format.specs.declared.digest.Digest.TheVariants.{Sha256, Sha512}
 use Rattle.flash_format.specs.Head.{be32}
-use Rattle.flash_format.specs.Attributes.{Attribute, HASH}
+use Rattle.flash_format.specs.Attributes.{Attribute, data_of, HASH}
 use Rattle.flash_format.specs.Made.{algorithm_len, algorithm_numbered, digest_with, digest_bytes}
 use Rattle.cbfs_walk.specs.declared.cell.Cell.{Cell}
 use Rattle.cbfs_walk.specs.declared.hashes.HashState.{HashState}
@@ -59,11 +59,6 @@ state_by (Some stored) content = compared stored (digest_like stored content)
 abbrev pub state_of : Option (List ℕ) → List ℕ → HashState
 state_of None content = Absent
 state_of (Some contents) content = state_by (stored_digest contents) content
-
--- the data of the first attribute with a tag
-abbrev pub data_of : ℕ → List Attribute → Option (List ℕ)
-data_of tag [] = None
-data_of tag (a ∷ others) = if a.tag == tag then Some a.contents else data_of tag others
 
 -- what the first hash attribute among a component's attributes says of its content, as it is stored
 abbrev pub hash_state : List Attribute → List ℕ → HashState

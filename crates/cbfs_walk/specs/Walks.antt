@@ -67,10 +67,6 @@ EndsWalk (Ok (steps.Cell c)) = ⊥
 EndsWalk (Err faults.Device) = ⊥
 EndsWalk _ = ⊤
 
--- the answer of a walk, once it has ended
-abbrev pub HasEnded : Walking → Answer → Type 0
-HasEnded w answer = (a : Answer) → w.ended ≡ Some a → answer ≡ a
-
 -- ---- how many calls an answer takes at most
 
 abbrev pub reads_at : ℕ → ℕ → Answer → ℕ

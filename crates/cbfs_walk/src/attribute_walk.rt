@@ -7,7 +7,7 @@ ghost use Rattle.flash_format.specs.Entry.{name_end};
 ghost use Rattle.flash_store.specs.Pages.{HasAnswered, OnHonestIn};
 ghost use Rattle.flash_store.specs.Regions.{LiesIn};
 ghost use Rattle.cbfs_walk.specs.Passing.{HasPassed, reads_over};
-ghost use Rattle.cbfs_walk.specs.Cells.{PassesChecks, attributes_start, cell_in};
+ghost use Rattle.cbfs_walk.specs.Cells.{IsComponentIn, PassesChecks, attributes_start, cell_in};
 ghost use Rattle.cbfs_walk.specs.Walks.{StandsIn};
 ghost use Rattle.cbfs_walk.specs.AttrWalks.{place_of, attr_walk_of, attr_moved, attr_reads, IsAttrIn, attributes_left, first_head, after_first};
 ghost use Rattle.cbfs_walk.specs.Listed.{IsListedIn, listed_in, IsAttrOf, first_of, searched_to, value_in};
@@ -101,8 +101,7 @@ pub fn packing<F: Flash>(
     cell: &Cell,
 ) -> Result<u32, FlashFault>
     requires region { LiesIn region (F.facts paged.old.device).content }
-    requires cell { PassesChecks region.size cell.now }
-    requires component { is_free cell.now.head ≡ false }
+    requires component { IsComponentIn region.size cell.now }
 
     // On any device.
     ensures after { HasAnswered F.facts (reads_over cell.now.head.offset) paged.old paged.new result }
@@ -130,8 +129,7 @@ pub fn first_attribute<F: Flash>(
     tag: u32,
 ) -> Result<Option<(u64, AttrHead)>, FlashFault>
     requires region { LiesIn region (F.facts paged.old.device).content }
-    requires cell { PassesChecks region.size cell.now }
-    requires component { is_free cell.now.head ≡ false }
+    requires component { IsComponentIn region.size cell.now }
 
     ensures passes { HasPassed F.facts region (attributes_start cell.now) (searched_to cell.now result)
         paged.old paged.new result }

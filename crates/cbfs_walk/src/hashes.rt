@@ -6,7 +6,7 @@ ghost use Rattle.flash_format.specs.Components.{cell_attributes, cell_content};
 ghost use Rattle.flash_store.specs.Pages.{HasSeen, HasAnswered, HasRead, OnHonestIn};
 ghost use Rattle.flash_store.specs.Regions.{LiesIn};
 ghost use Rattle.cbfs_walk.specs.Passing.{HasPassed, reads_over};
-ghost use Rattle.cbfs_walk.specs.Cells.{PassesChecks, content_start, content_end, cell_in};
+ghost use Rattle.cbfs_walk.specs.Cells.{IsComponentIn, PassesChecks, content_start, content_end, cell_in};
 ghost use Rattle.cbfs_walk.specs.Walks.{StandsIn};
 ghost use Rattle.cbfs_walk.specs.Hashes.{digest_like, stored_digest, compared, hash_state, content_at, hash_state_in, IsUncompared};
 
@@ -42,8 +42,7 @@ pub fn check_hash<F: Flash>(
     cell: &Cell,
 ) -> Result<HashState, FlashFault>
     requires region { LiesIn region (F.facts paged.old.device).content }
-    requires cell { PassesChecks region.size cell.now }
-    requires component { is_free cell.now.head ≡ false }
+    requires component { IsComponentIn region.size cell.now }
 
     // On any device.
     ensures after { HasAnswered F.facts (reads_over cell.now.span) paged.old paged.new result }

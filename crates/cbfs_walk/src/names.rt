@@ -8,7 +8,7 @@ ghost use Rattle.flash_format.specs.Components.{cell_name};
 ghost use Rattle.flash_store.specs.Pages.{HasAnswered, HasSeen, OnHonestIn};
 ghost use Rattle.flash_store.specs.Regions.{LiesIn};
 ghost use Rattle.cbfs_walk.specs.Passing.{HasPassed};
-ghost use Rattle.cbfs_walk.specs.Cells.{PassesChecks, cell_in};
+ghost use Rattle.cbfs_walk.specs.Cells.{IsComponentIn, PassesChecks, cell_in};
 ghost use Rattle.cbfs_walk.specs.Walks.{StandsIn};
 
 use crate::cell::{Cell, content_fits};
@@ -28,8 +28,7 @@ pub fn name<F: Flash>(
     out: &mut [u8; 256],
 ) -> Result<usize, FlashFault>
     requires region { LiesIn region (F.facts paged.old.device).content }
-    requires cell { PassesChecks region.size cell.now }
-    requires component { is_free cell.now.head ≡ false }
+    requires component { IsComponentIn region.size cell.now }
 
     // On any device.
     ensures after { HasAnswered F.facts 1 paged.old paged.new result }
@@ -57,8 +56,7 @@ pub fn name_is<F: Flash>(
     name: &[u8],
 ) -> Result<bool, FlashFault>
     requires region { LiesIn region (F.facts paged.old.device).content }
-    requires cell { PassesChecks region.size cell.now }
-    requires component { is_free cell.now.head ≡ false }
+    requires component { IsComponentIn region.size cell.now }
 
     // On any device.
     ensures after { HasAnswered F.facts 1 paged.old paged.new result }

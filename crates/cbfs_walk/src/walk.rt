@@ -1,10 +1,10 @@
 //! A walk from cell to cell.
-ghost use Rattle.std.specs.Prelude.{◌≡◌, ◌⊎◌, ◌+◌, ◌*◌, ◌/◌, ◌%◌, ◌<◌, ◌≤◌, None, IsTrue, IsSome, IsErrOf};
+ghost use Rattle.std.specs.Prelude.{◌≡◌, ◌⊎◌, ◌+◌, ◌*◌, ◌/◌, ◌%◌, ◌<◌, ◌≤◌, None, IsTrue, IsSome, IfSome, IsErrOf};
 ghost use Rattle.flash_store.specs.Device.{faults_told};
 ghost use Rattle.flash_store.specs.Pages.{HasRead, OnHonestIn};
 ghost use Rattle.flash_store.specs.Regions.{LiesIn};
 ghost use Rattle.cbfs_walk.specs.Shapes.{has_bad_size};
-ghost use Rattle.cbfs_walk.specs.Walks.{by_device, walk_of, moved, answer_at, GivesCell, HasEnded, reads_of, reads_at};
+ghost use Rattle.cbfs_walk.specs.Walks.{by_device, walk_of, moved, answer_at, GivesCell, reads_of, reads_at};
 
 use crate::cell::Cell;
 use crate::entry::{Entry, entry_at};
@@ -91,7 +91,7 @@ impl Walk {
         ensures after { HasRead F.facts (reads_of self.old result) (faults_told by_device result) paged.old paged.new }
         ensures cell { GivesCell self.old.region.size self.old.at result }
         ensures moved { self.new ≡ moved self.old result }
-        ensures ended { HasEnded self.old result }
+        ensures ended { IfSome self.old.ended (λ answer. result ≡ answer) }
         ensures no_call { IsSome self.old.ended → paged.new ≡ paged.old }
 
         // On an honest device.

@@ -55,22 +55,10 @@ pub returns-in-None-clause-value : goal.returns-in-None-clause-value
 returns-in-None-clause-value g c = search rules
 
 pub returns-in_ok-computed-in-Some-2-clause-state : goal.returns-in_ok-computed-in-Some-2-clause-state
-returns-in_ok-computed-in-Some-2-clause-state g c = λ h stands.
-    let x = bytes_in c.args.region (g.F.Flash.facts c.args.paged.now.device).content in
-    let inside : c.args.cell.now.at + c.args.cell.now.head.offset ≤ length x = omega (arith, length-region c.args.region _ c.requires.region, content_inside c.args.region.size c.args.cell.now c.requires.cell) in
-    let value : c.compared.result ≡ hash_state_in x c.args.cell.now = returns-in_ok-computed-in-Some-2-clause-value g c h in
-    value ∙ state_found x c.args.region.size c.args.cell.now inside c.requires.cell stands c.requires.component
+returns-in_ok-computed-in-Some-2-clause-state g c = λ h stands. state_found c.args.region _ c.args.cell.now _ c.requires.region c.requires.component stands (returns-in_ok-computed-in-Some-2-clause-value g c h)
 
 pub returns-in-None-2-clause-state : goal.returns-in-None-2-clause-state
-returns-in-None-2-clause-state g c = λ h stands.
-    let x = bytes_in c.args.region (g.F.Flash.facts c.args.paged.now.device).content in
-    let inside : c.args.cell.now.at + c.args.cell.now.head.offset ≤ length x = omega (arith, length-region c.args.region _ c.requires.region, content_inside c.args.region.size c.args.cell.now c.requires.cell) in
-    let value : Unsupported ≡ hash_state_in x c.args.cell.now = returns-in-None-2-clause-value g c h in
-    value ∙ state_found x c.args.region.size c.args.cell.now inside c.requires.cell stands c.requires.component
+returns-in-None-2-clause-state g c = λ h stands. state_found c.args.region _ c.args.cell.now _ c.requires.region c.requires.component stands (returns-in-None-2-clause-value g c h)
 
 pub returns-in-None-clause-state : goal.returns-in-None-clause-state
-returns-in-None-clause-state g c = λ h stands.
-    let x = bytes_in c.args.region (g.F.Flash.facts c.args.paged.now.device).content in
-    let inside : c.args.cell.now.at + c.args.cell.now.head.offset ≤ length x = omega (arith, length-region c.args.region _ c.requires.region, content_inside c.args.region.size c.args.cell.now c.requires.cell) in
-    let value : Absent ≡ hash_state_in x c.args.cell.now = returns-in-None-clause-value g c h in
-    value ∙ state_found x c.args.region.size c.args.cell.now inside c.requires.cell stands c.requires.component
+returns-in-None-clause-state g c = λ h stands. state_found c.args.region _ c.args.cell.now _ c.requires.region c.requires.component stands (returns-in-None-clause-value g c h)

@@ -6,13 +6,13 @@ use Rattle.cbfs_walk.proofs.names.name_is.Goals.{then-name-gt-LONGEST-via-then-n
 use Rattle.cbfs_walk.proofs.names.name_is.Goals as goal
 
 pub name_room-requires : goal.name_room-requires
-name_room-requires g c = (has_field c.args.region.size c.args.cell.now c.requires.cell c.requires.component).low
+name_room-requires g c = (has_field c.args.region.size c.args.cell.now c.requires.component).low
 
 pub returns-then-name-gt-LONGEST-clause-named : goal.returns-then-name-gt-LONGEST-clause-named
 returns-then-name-gt-LONGEST-clause-named g c = λ h stands.
     let image = (g.F.Flash.facts c.args.paged.now.device).content in
     let len = length-region c.args.region image c.requires.region in
-    name_too_long (bytes_in c.args.region image) c.args.region.size c.args.cell.now c.requires.cell c.requires.component len c.args.name.now
+    name_too_long (bytes_in c.args.region image) c.args.region.size c.args.cell.now c.requires.component len c.args.name.now
     (elim c.then-name-gt-LONGEST.branch [
       | then-name-gt-LONGEST-via-then-name-gt-LONGEST w ↦ inl (omega (arith, w.if-name-gt-LONGEST.true))
       | then-name-gt-LONGEST-via-else-name-gt-LONGEST+then-name-name_room w ↦ inr (omega (arith, w.if-name-name_room.true, w.name_room.ensures))
@@ -20,12 +20,12 @@ returns-then-name-gt-LONGEST-clause-named g c = λ h stands.
 
 pub piece_in-requires-clause-inside : goal.piece_in-requires-clause-inside
 piece_in-requires-clause-inside g c =
-    let f = has_field c.args.region.size c.args.cell.now c.requires.cell c.requires.component in
+    let f = has_field c.args.region.size c.args.cell.now c.requires.component in
     omega (arith, f.inside, c.name_room.ensures)
 
 pub returns-clause-named : goal.returns-clause-named
 returns-clause-named g c = λ h stands.
     let image = (g.F.Flash.facts c.args.paged.now.device).content in
     let len = length-region c.args.region image c.requires.region in
-    c.shows_text.ensures ∙ name_compared (bytes_in c.args.region image) c.args.region.size c.args.cell.now c.requires.cell c.requires.component len
+    c.shows_text.ensures ∙ name_compared (bytes_in c.args.region image) c.args.region.size c.args.cell.now c.requires.component len
     _ c.args.name.now _ c.name_room.ensures c.if-name-name_room.false stands (c.in_ok-bytes.ensures.read h)
