@@ -48,41 +48,33 @@ cut_unique x cells rest e is =
 
 -- ---- every region has a cut
 
-record SomeCut (x : List ℕ) : Type 0 where
-  cells : List (List ℕ)
-  rest : List ℕ
-  end : End
-  is : IsCut x cells rest end
+abbrev HasCut : List ℕ → Cut → Type 0
+HasCut x k = (rest : List ℕ) × IsCut x k.cells rest k.end
 
-no_cells : (x : List ℕ) (e : End) → EndsAt x e → SomeCut x
-no_cells x e at = record { cells = []; rest = x; end = e; is = record { whole = refl; each = All-nil IsCell; last = at } }
-
-behind_cell : (x : List ℕ) (span : ℕ) → entry x ≡ cell span → span ≤ length x → SomeCut (drop span x) → SomeCut x
-behind_cell x span is fits behind = record {
-  cells = take span x ∷ behind.cells;
-  rest = behind.rest;
-  end = behind.end;
-  is = record {
-    whole = sym (take-append-drop span x) ∙ ap (λ (l : List ℕ). take span x ++ l) behind.is.whole ∙ sym (append_assoc (take span x) (concat behind.cells) behind.rest);
-    each = All-cons IsCell (take span x) behind.cells (front_cell x span is fits) behind.is.each;
-    last = behind.is.last;
-  };
-}
+behind_cell : (x : List ℕ) (span : ℕ) (k : Cut) → entry x ≡ cell span → span ≤ length x → HasCut (drop span x) k → HasCut x (after (take span x) k)
+behind_cell x span k is fits behind = (
+  behind.0,
+  record {
+    whole = sym (take-append-drop span x) ∙ ap (λ (l : List ℕ). take span x ++ l) behind.1.whole ∙ sym (append_assoc (take span x) (concat k.cells) behind.0);
+    each = All-cons IsCell (take span x) k.cells (front_cell x span is fits) behind.1.each;
+    last = behind.1.last;
+  },
+)
 
 -- by what the bytes begin with, given a cut of what follows a cell
-by_front : (x : List ℕ) → 0 < length x → length x % 64 ≡ 0 → ((span : ℕ) → 64 ≤ span → span % 64 ≡ 0 → span ≤ length x → SomeCut (drop span x)) → (e : Entry) → entry x ≡ e → SomeCut x
-by_front x some whole behind absent is = no_cells x tail (some, is)
-by_front x some whole behind (damaged kind) is = no_cells x (damage kind) (some, is)
+by_front : (x : List ℕ) → 0 < length x → length x % 64 ≡ 0 → ((span : ℕ) → 64 ≤ span → span % 64 ≡ 0 → span ≤ length x → HasCut (drop span x) (cut (drop span x))) → (e : Entry) → entry x ≡ e → HasCut x (cut x)
+by_front x some whole behind absent is = rw (cut_absent x some is) (x, record { whole = refl; each = All-nil IsCell; last = (some, is) })
+by_front x some whole behind (damaged kind) is = rw (cut_damaged x kind some is) (x, record { whole = refl; each = All-nil IsCell; last = (some, is) })
 by_front x some whole behind (cell span) is =
     let s = cell_span x span is in
     let fits : span ≤ length x = s.inside whole in
-    behind_cell x span is fits (behind span s.positive s.whole fits)
+    rw (cut_cell x span some is) (behind_cell x span (cut (drop span x)) is fits (behind span s.positive s.whole fits))
 
 shorter : (x : List ℕ) (span bound : ℕ) → 64 ≤ span → span ≤ length x → length x ≤ suc bound → length (drop span x) ≤ bound
 shorter x span bound some fits below = omega (arith, length-drop span x)
 
-within : (bound : ℕ) (x : List ℕ) → length x ≤ bound → length x % 64 ≡ 0 → SomeCut x
-within bound [] below whole = no_cells [] complete refl
+within : (bound : ℕ) (x : List ℕ) → length x ≤ bound → length x % 64 ≡ 0 → HasCut x (cut x)
+within bound [] below whole = rw (cut_empty [] refl) ([], record { whole = refl; each = All-nil IsCell; last = refl })
 within zero (b ∷ x) below whole = absurd (omega arith)
 within (suc bound) (b ∷ x) below whole =
     by_front (b ∷ x) (omega arith) whole
@@ -90,7 +82,4 @@ within (suc bound) (b ∷ x) below whole =
     (entry (b ∷ x)) refl
 
 pub cut_exists : (x : List ℕ) → length x % 64 ≡ 0 → (rest : List ℕ) × IsCut x (cut x).cells rest (cut x).end
-cut_exists x whole =
-    let some = within (length x) x (omega arith) whole in
-    let same = cut_unique x some.cells some.rest some.end some.is in
-    (some.rest, subst (λ (c : Cut). IsCut x c.cells some.rest c.end) (sym same) some.is)
+cut_exists x whole = within (length x) x (omega arith) whole

@@ -19,29 +19,9 @@ use Rattle.flash_format.proofs.CutSteps.{cell_span}
 use Rattle.flash_format.proofs.CellLists.{components-append}
 use Rattle.flash_format.proofs.BlankLaws.{blank_header-cell, length-blank_header}
 use Rattle.flash_format.proofs.MadeLaws.{length-padding}
-use Rattle.flash_format.proofs.Splices.{concat-append, components-free, length-concat-cells, cells-before, cells-group, splice-cut, splice-components, splice-end, group-components}
+use Rattle.flash_format.proofs.Splices.{concat-append, space_each, concat-space, components-free, length-concat-cells, cells-before, cells-group, splice-cut, splice-components, splice-end, group-components}
 
 -- ---- free space
-
--- free space that isn't empty is a free cell
-space_cell : (size : ℕ) (bytes : List ℕ) → IsSpace size bytes → 0 < size → size % 64 ≡ 0 → size < 2 ^ 32 → IsCell bytes × (is_free (head_of bytes) ≡ true)
-space_cell size bytes is some whole small =
-    let (kept, more, shape) = is.header some in
-    let room : header_length + length more ≡ size = omega (arith, is.long, ap length shape, length-append (blank_header size kept) more, length-blank_header size kept) in
-    let read = blank_header-cell size kept more (omega arith) whole small room in (
-      ap (λ (l : List ℕ). entry l) shape ∙ read.0 ∙ ap (λ (n : ℕ). cell n) (sym is.long),
-      ap (λ (l : List ℕ). is_free (head_of l)) shape ∙ read.1,
-    )
-
-space_each : (size : ℕ) (bytes : List ℕ) → IsSpace size bytes → size % 64 ≡ 0 → size < 2 ^ 32 → All IsCell (space_cells bytes) × AllFree (space_cells bytes)
-space_each size [] is whole small = (All-nil IsCell, All-nil (λ c. is_free (head_of c) ≡ true))
-space_each size (b ∷ bytes) is whole small =
-    let read = space_cell size (b ∷ bytes) is (omega (arith, is.long)) whole small in
-    (All-cons IsCell (b ∷ bytes) [] read.0 (All-nil IsCell), All-cons (λ c. is_free (head_of c) ≡ true) (b ∷ bytes) [] read.1 (All-nil (λ c. is_free (head_of c) ≡ true)))
-
-concat-space : (bytes : List ℕ) → concat (space_cells bytes) ≡ bytes
-concat-space [] = refl
-concat-space (b ∷ bytes) = append-nil (b ∷ bytes)
 
 pub blank_is_space : (size : ℕ) (last : Option (List ℕ)) → 64 ≤ size → KeepsFour last → IsSpace size (blank size last)
 blank_is_space size last some four =

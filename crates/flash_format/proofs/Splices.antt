@@ -5,16 +5,18 @@ use Rattle.std.proofs.lemmas.List.{take_at, drop_at, append-nil}
 use Rattle.std.proofs.lemmas.List.Elements.{All-nil, All-cons, All-head, All-tail, All-append}
 use Rattle.flash_format.specs.Head.{header_length, head_of, is_free}
 use Rattle.flash_format.specs.Blanks.{blank_header}
+use Rattle.flash_format.specs.Entry.{cell, entry}
+use Rattle.flash_format.specs.Placings.{IsSpace, space_cells}
+use Rattle.flash_format.specs.Laws.{BlanksHaveNoComponent}
+use Rattle.flash_format.proofs.BlankLaws.{blank_header-cell, length-blank_header}
 use Rattle.flash_format.specs.Cut.{Cut, cut, IsCell, IsCut}
 use Rattle.flash_format.specs.Components.{Component, component_at, components_from, components}
 use Rattle.flash_format.specs.Splices.{CellsBetween, spliced}
 pub use Rattle.std.proofs.lemmas.List.Folds.{concat-append}
 pub use Rattle.flash_format.specs.Splices.{AllFree}
-use Rattle.flash_format.specs.Laws.{BlanksHaveNoComponent}
 use Rattle.flash_format.proofs.CutSteps.{cell_span}
 use Rattle.flash_format.proofs.CutLaws.{cut_unique}
 use Rattle.flash_format.proofs.CellLists.{components-append}
-use Rattle.flash_format.proofs.BlankLaws.{blank_header-cell, length-blank_header}
 
 pub All-left : (P : List ℕ → Type 0) (a b : List (List ℕ)) → All P (a ++ b) → All P a
 All-left P [] b each = All-nil P
@@ -51,6 +53,30 @@ components-three a b c =
     components-append 0 (a ++ b) c
     ∙ ap (λ (l : List Component). l ++ components_from (0 + length (concat (a ++ b))) c) (components-append 0 a b ∙ ap (λ n. components_from 0 a ++ components_from n b) at_b)
     ∙ ap (λ n. components_from 0 a ++ components_from (length (concat a)) b ++ components_from n c) at_c
+
+-- ---- free space
+
+-- free space that isn't empty is a free cell
+space_cell : (size : ℕ) (bytes : List ℕ) → IsSpace size bytes → 0 < size → size % 64 ≡ 0 → size < 2 ^ 32 → IsCell bytes × (is_free (head_of bytes) ≡ true)
+space_cell size bytes is some whole small =
+    let (kept, more, shape) = is.header some in
+    let room : header_length + length more ≡ size = omega (arith, is.long, ap length shape, length-append (blank_header size kept) more, length-blank_header size kept) in
+    let read = blank_header-cell size kept more (omega arith) whole small room in (
+      ap (λ (l : List ℕ). entry l) shape ∙ read.0 ∙ ap (λ (n : ℕ). cell n) (sym is.long),
+      ap (λ (l : List ℕ). is_free (head_of l)) shape ∙ read.1,
+    )
+
+pub space_each : (size : ℕ) (bytes : List ℕ) → IsSpace size bytes → size % 64 ≡ 0 → size < 2 ^ 32 → All IsCell (space_cells bytes) × AllFree (space_cells bytes)
+space_each size [] is whole small = (All-nil IsCell, All-nil (λ c. is_free (head_of c) ≡ true))
+space_each size (b ∷ bytes) is whole small =
+    let read = space_cell size (b ∷ bytes) is (omega (arith, is.long)) whole small in
+    (All-cons IsCell (b ∷ bytes) [] read.0 (All-nil IsCell), All-cons (λ c. is_free (head_of c) ≡ true) (b ∷ bytes) [] read.1 (All-nil (λ c. is_free (head_of c) ≡ true)))
+
+pub concat-space : (bytes : List ℕ) → concat (space_cells bytes) ≡ bytes
+concat-space [] = refl
+concat-space (b ∷ bytes) = append-nil (b ∷ bytes)
+
+-- ---- a group of cells
 
 module _ (x : List ℕ) (start end : ℕ) (g : CellsBetween x start end) where
   pub group-whole : x ≡ concat g.before ++ (concat g.group ++ (concat g.after ++ g.rest))
@@ -111,39 +137,27 @@ module _ (x : List ℕ) (start end : ℕ) (g : CellsBetween x start end) where
   -- ---- a blank's header in the group's place, with anything after it
 
   module _ (kept : Bool) (more : List ℕ) (some : start < end) (small : end - start < 2 ^ 32) (room : start + header_length + length more ≡ end) where
-    abbrev blank_cell : List ℕ
-    blank_cell = blank_header (end - start) kept ++ more
+    abbrev blank_bytes : List ℕ
+    blank_bytes = blank_header (end - start) kept ++ more
 
-    blank-length : length blank_cell ≡ end - start
+    blank-length : length blank_bytes ≡ end - start
     blank-length = omega (arith, length-append (blank_header (end - start) kept) more, length-blank_header (end - start) kept, room)
 
-    blank-cell : IsCell blank_cell × (is_free (head_of blank_cell) ≡ true)
-    blank-cell =
-        let whole : (end - start) % 64 ≡ 0 = omega (arith, length-concat-cells g.group cells-group, g.end_is) in
-        let made = blank_header-cell (end - start) kept more (omega (arith, whole, some)) whole small (omega (arith, room)) in
-        (rw blank-length made.0, made.1)
+    blank-space : All IsCell (space_cells blank_bytes) × AllFree (space_cells blank_bytes)
+    blank-space = space_each (end - start) blank_bytes (record { long = blank-length; header = λ _. (kept, more, refl) }) (omega (arith, length-concat-cells g.group cells-group, g.end_is)) small
 
-    blank-each : All IsCell (blank_cell ∷ [])
-    blank-each = All-cons IsCell blank_cell [] blank-cell.0 (All-nil IsCell)
+    blank-size : start + length (concat (space_cells blank_bytes)) ≡ end
+    blank-size = omega (arith, ap length (concat-space blank_bytes), blank-length, some)
 
-    blank-free : AllFree (blank_cell ∷ [])
-    blank-free = All-cons (λ c. is_free (head_of c) ≡ true) blank_cell [] blank-cell.1 (All-nil (λ c. is_free (head_of c) ≡ true))
-
-    blank-size : start + length (concat (blank_cell ∷ [])) ≡ end
-    blank-size = omega (arith, blank-length, ap length (append-nil blank_cell), some)
-
-    blank-as-cells : spliced x start end blank_cell ≡ spliced x start end (concat (blank_cell ∷ []))
-    blank-as-cells = ap (λ (l : List ℕ). spliced x start end l) (sym (append-nil blank_cell))
-
-    pub blanked-components : components (spliced x start end blank_cell) ≡ components_from 0 g.before ++ components_from end g.after
+    pub blanked-components : components (spliced x start end blank_bytes) ≡ components_from 0 g.before ++ components_from end g.after
     blanked-components =
-        ap (λ (l : List ℕ). components l) blank-as-cells
-        ∙ splice-components (blank_cell ∷ []) blank-each blank-size
-        ∙ ap (λ (l : List Component). components_from 0 g.before ++ l ++ components_from end g.after) (components-free start (blank_cell ∷ []) blank-free)
+        ap (λ (l : List ℕ). components (spliced x start end l)) (sym (concat-space blank_bytes))
+        ∙ splice-components (space_cells blank_bytes) blank-space.0 blank-size
+        ∙ ap (λ (l : List Component). components_from 0 g.before ++ l ++ components_from end g.after) (components-free start (space_cells blank_bytes) blank-space.1)
         ∙ ap (λ (l : List Component). l ++ components_from end g.after) (append-nil (components_from 0 g.before))
 
-    pub blanked-end : (cut (spliced x start end blank_cell)).end ≡ (cut x).end
-    blanked-end = ap (λ (l : List ℕ). (cut l).end) blank-as-cells ∙ splice-end (blank_cell ∷ []) blank-each blank-size
+    pub blanked-end : (cut (spliced x start end blank_bytes)).end ≡ (cut x).end
+    blanked-end = ap (λ (l : List ℕ). (cut (spliced x start end l)).end) (sym (concat-space blank_bytes)) ∙ splice-end (space_cells blank_bytes) blank-space.0 blank-size
 
 pub blanks_have_none : BlanksHaveNoComponent
 blanks_have_none x start end g kept more some small room = blanked-components x start end g kept more some small room
