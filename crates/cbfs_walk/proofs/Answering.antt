@@ -37,10 +37,6 @@ first_entry x at e is = go (eqb at 0) refl
     go true z = let zero_is : at ≡ 0 = eqb-true at 0 z in ap (λ n. is_absent (entry (drop n x))) (sym zero_is) ∙ ap is_absent (sym is)
     go false z = refl
 
-and_false : (b : Bool) → (b && false) ≡ false
-and_false true = refl
-and_false false = refl
-
 pub answer_entry : (x : List ℕ) (at size : ℕ) (e : Entry) → length x ≡ size → false ≡ has_bad_size size → at < size → e ≡ entry (drop at x) → (eqb at 0 && is_absent e) ≡ false
     → answer_by (drop at x) at e ≡ answer_at x at
 unfolding answer_at
@@ -53,19 +49,6 @@ unfolding answer_at
 answer_absent x at size len good is first =
     let here : (eqb at 0 && is_absent (entry x)) ≡ true = first_entry x at absent is ∙ ap (λ n. eqb n 0 && true) first in
     rw (len, ← good, here) refl
-
-pub answer_tail : (x : List ℕ) (at size : ℕ) → length x ≡ size → false ≡ has_bad_size size → at < size → absent ≡ entry (drop at x) → 0 < at → Ok (steps.Tail at) ≡ answer_at x at
-answer_tail x at size len good inside is later =
-    let e : eqb at 0 ≡ false = grind (arith, common_steps) in
-    answer_entry x at size absent len good inside is (ap (λ b. b && true) e)
-
-pub answer_damaged : (x : List ℕ) (at size : ℕ) (k : DamageKind) → length x ≡ size → false ≡ has_bad_size size → at < size → damaged k ≡ entry (drop at x) → Err (faults.Damaged at k) ≡ answer_at x at
-answer_damaged x at size k len good inside is = answer_entry x at size (damaged k) len good inside is (and_false (eqb at 0))
-
-pub answer_cell : (x : List ℕ) (at size span : ℕ) (h : Head) → length x ≡ size → false ≡ has_bad_size size → at < size → cell span ≡ entry (drop at x) → h ≡ head_of (drop at x)
-    → Ok (steps.Cell (record { at = at; head = h; span = span })) ≡ answer_at x at
-answer_cell x at size span h len good inside is head =
-    ap (λ (k : Head). Ok (steps.Cell (record { at = at; head = k; span = span }))) head ∙ answer_entry x at size (cell span) len good inside is (and_false (eqb at 0))
 
 -- ---- a walk that has ended
 

@@ -1,5 +1,5 @@
 -- What the checks of a head say, and how they make an entry.
-use Rattle.std.proofs.Common.{◌≡◌, ℕ, ◌+◌, ◌-◌, ◌%◌, ◌≤◌, Bool, true, false, cond, not, ◌&&◌, ◌||◌, List, length, Some, None, Ok, Err, refl, sym, ap, ◌∙◌, arith, eqb, ltb}
+use Rattle.std.proofs.Common.{◌≡◌, ℕ, ◌+◌, ◌-◌, ◌%◌, ◌≤◌, Bool, true, false, cond, not, ◌&&◌, ◌||◌, List, length, Some, None, Result, Ok, refl, sym, ap, ◌∙◌, arith, eqb, ltb}
 use Rattle.std.proofs.lemmas.Bool.{ltb-false}
 use Rattle.flash_format.specs.declared.head.Head.{Head}
 use Rattle.flash_format.specs.declared.head.Extent.{Extent}
@@ -68,16 +68,7 @@ pub entry_absent : (x : List ℕ) → None ≡ front x → absent ≡ entry x
 unfolding entry
 entry_absent x f = ap (under x) f
 
-pub entry_damaged : (x : List ℕ) (h : Head) (left : ℕ) (k : DamageKind) → Some h ≡ front x → length x ≡ left → Err k ≡ checked h left → damaged k ≡ entry x
+-- what stands where a head is, by its checks
+pub entry_present : (x : List ℕ) (h : Head) (left : ℕ) (r : Result Extent DamageKind) → Some h ≡ front x → length x ≡ left → r ≡ checked h left → present h x r ≡ entry x
 unfolding entry
-entry_damaged x h left k f n e = ap (present h x) (e ∙ ap (checked h) (sym n)) ∙ ap (under x) f
-
-pub entry_free : (x : List ℕ) (h : Head) (left : ℕ) (e : Extent) → Some h ≡ front x → length x ≡ left → Ok e ≡ checked h left → true ≡ is_free h → cell e.span ≡ entry x
-unfolding entry
-entry_free x h left e f n ok free =
-    ap (λ b. cond b (cell e.span) (component h x e.span)) free ∙ ap (present h x) (ok ∙ ap (checked h) (sym n)) ∙ ap (under x) f
-
-pub entry_used : (x : List ℕ) (h : Head) (left : ℕ) (e : Extent) (s : Entry) → Some h ≡ front x → length x ≡ left → Ok e ≡ checked h left → false ≡ is_free h → s ≡ component h x e.span → s ≡ entry x
-unfolding entry
-entry_used x h left e s f n ok used is =
-    is ∙ ap (λ b. cond b (cell e.span) (component h x e.span)) used ∙ ap (present h x) (ok ∙ ap (checked h) (sym n)) ∙ ap (under x) f
+entry_present x h left r f n e = ap (present h x) (e ∙ ap (checked h) (sym n)) ∙ ap (under x) f

@@ -12,7 +12,7 @@ use Rattle.flash_store.specs.Device.{Device}
 use Rattle.flash_store.specs.Pages.{Pages}
 use Rattle.flash_store.specs.Regions.{Range, LiesIn, bytes_in}
 use Rattle.cbfs_walk.specs.Passing.{Passes}
-use Rattle.cbfs_walk.specs.Cells.{attributes_start, content_start, cell_in}
+use Rattle.cbfs_walk.specs.Cells.{attributes_start, content_start, IsComponentIn, cell_in}
 use Rattle.cbfs_walk.specs.Walks.{StandsIn}
 use Rattle.cbfs_walk.specs.AttrWalks.{IsAttrIn, after_first}
 use Rattle.cbfs_walk.specs.Hashes.{data_at}
@@ -23,7 +23,8 @@ use Rattle.cbfs_walk.specs.declared.attribute_walk.Listed.TheVariants as listed
 use Rattle.flash_format.proofs.AttributeSteps.{attributes_end}
 use Rattle.flash_store.proofs.DeviceLemmas.{honest_still}
 use Rattle.cbfs_walk.proofs.Reading.{Passes-none, Passes-then}
-use Rattle.cbfs_walk.proofs.Parts.{range-inner, range-after, length-range}
+use Rattle.cbfs_walk.proofs.Parts.{length-region, range-inner, range-after, length-range}
+use Rattle.cbfs_walk.proofs.Checks.{content_inside}
 use Rattle.cbfs_walk.proofs.Listing.{goes, goes_end, goes_malformed, goes_none, goes_on, listed_all}
 
 -- the scan of a region has come to a place, and what is asked of it is so
@@ -220,6 +221,9 @@ value_is x c (Some found) is =
     ))
 
 -- the value that is found in a component that stands in the region
-pub packing_found : (x : List ℕ) (c : Cell) (found : Option Placed) → found ≡ first_of x c COMPRESSION → IfSome found (IsAttrOf c COMPRESSION) → c.at + c.head.offset ≤ length x → StandsIn x c → is_free c.head ≡ false
-    → value_in x found ≡ packing (cell_attributes (cell_in x c))
-packing_found x c found first is inside stands used = value_is x c found is ∙ ap (λ f. value_of (option_map (data_at x) f)) first ∙ ap value_of (data_found COMPRESSION x c inside stands used)
+pub packing_found : (r : Range) (image : List ℕ) (c : Cell) (found : Option Placed) → LiesIn r image → IsComponentIn r.size c → StandsIn (bytes_in r image) c → IfSome found (IsAttrOf c COMPRESSION)
+    → found ≡ first_of (bytes_in r image) c COMPRESSION → value_in (bytes_in r image) found ≡ packing (cell_attributes (cell_in (bytes_in r image) c))
+packing_found r image c found lies is stands attribute first =
+    let x = bytes_in r image in
+    let inside : c.at + c.head.offset ≤ length x = omega (arith, length-region r image lies, content_inside r.size c is.checks) in
+    value_is x c found attribute ∙ ap (λ f. value_of (option_map (data_at x) f)) first ∙ ap value_of (data_found COMPRESSION x c inside stands is.used)

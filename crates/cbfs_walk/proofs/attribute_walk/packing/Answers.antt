@@ -14,15 +14,10 @@ returns-in-Some-clause-after g c =
 
 pub returns-in-Some-clause-packing : goal.returns-in-Some-clause-packing
 returns-in-Some-clause-packing g c = λ h stands.
-    let x = bytes_in c.args.region (g.F.Flash.facts c.args.paged.now.device).content in
-    let inside : c.args.cell.now.at + c.args.cell.now.head.offset ≤ length x = omega (arith, length-region c.args.region _ c.requires.region, content_inside c.args.region.size c.args.cell.now c.requires.component.checks) in
     let calls = c.first_attribute.ensures.passes.read.device in
-    let found = rw c.in-Some.is at (c.in_ok-at.ensures.first h) in
-    IfOk-to _ _ _ (packing_found x c.args.cell.now _ found (rw c.in-Some.is at c.in_ok-at.ensures.attribute) inside stands c.requires.component.used) (rw (calls.unchanged h) at (c.value_at.ensures.value (honest_still calls.calls.same_honesty h)))
+    let found = packing_found c.args.region _ c.args.cell.now _ c.requires.region c.requires.component stands (rw c.in-Some.is at c.in_ok-at.ensures.attribute) (rw c.in-Some.is at (c.in_ok-at.ensures.first h)) in
+    IfOk-to _ _ _ found (rw (calls.unchanged h) at (c.value_at.ensures.value (honest_still calls.calls.same_honesty h)))
 
 pub returns-in-None-clause-packing : goal.returns-in-None-clause-packing
 returns-in-None-clause-packing g c = λ h stands.
-    let x = bytes_in c.args.region (g.F.Flash.facts c.args.paged.now.device).content in
-    let inside : c.args.cell.now.at + c.args.cell.now.head.offset ≤ length x = omega (arith, length-region c.args.region _ c.requires.region, content_inside c.args.region.size c.args.cell.now c.requires.component.checks) in
-    let found = rw c.in-None.is at (c.in_ok-at.ensures.first h) in
-    packing_found x c.args.cell.now _ found tt inside stands c.requires.component.used
+    packing_found c.args.region _ c.args.cell.now _ c.requires.region c.requires.component stands tt (rw c.in-None.is at (c.in_ok-at.ensures.first h))

@@ -1,8 +1,10 @@
 use Rattle.std.proofs.lemmas.Result.{err_from_is_err_and}
-use Rattle.std.proofs.Common.{arith, le_refl, ap, ◌∙◌, sym, ◌-◌}
+use Rattle.std.proofs.Common.{arith, le_refl, true, false, drop, ap, ◌∙◌, sym, ◌-◌}
 use Rattle.flash_format.specs.Head.{checked}
+use Rattle.flash_store.specs.Regions.{bytes_in}
+use Rattle.flash_format.proofs.EntryLaws.{present_by}
 use Rattle.cbfs_walk.proofs.Parts.{length-rest}
-use Rattle.cbfs_walk.proofs.Checks.{checked_extent, entry_absent, entry_damaged, entry_free, entry_used, checks_give}
+use Rattle.cbfs_walk.proofs.Checks.{checked_extent, entry_absent, entry_present, checks_give}
 use Rattle.flash_store.proofs.DeviceLemmas.{honest_still}
 use Rattle.cbfs_walk.proofs.Reading.{Passes-then, Passes-answers}
 use Rattle.cbfs_walk.proofs.entry.entry_at.Goals as goal
@@ -16,12 +18,13 @@ returns-then-is_free-clause-checks g c = checked_extent _ _ c.in-Ok.extent (c.in
 pub returns-in-Err-clause-entry : goal.returns-in-Err-clause-entry
 returns-in-Err-clause-entry g c = λ h.
     let len = length-rest c.args.region (g.F.Flash.facts c.args.paged.now.device).content c.args.at c.requires.region in
-    entry_damaged _ c.in-Some.head _ c.in-Err.kind (rw c.in-Some.is at (c.in_ok-head.ensures.head h)) len (c.in-Err.ensures ∙ ap (λ n. checked c.in-Some.head (n - c.args.at)) c.size.ensures)
+    entry_present _ c.in-Some.head _ _ (rw c.in-Some.is at (c.in_ok-head.ensures.head h)) len (c.in-Err.ensures ∙ ap (λ n. checked c.in-Some.head (n - c.args.at)) c.size.ensures)
 
 pub returns-then-is_free-clause-entry : goal.returns-then-is_free-clause-entry
 returns-then-is_free-clause-entry g c = λ h.
     let len = length-rest c.args.region (g.F.Flash.facts c.args.paged.now.device).content c.args.at c.requires.region in
-    entry_free _ c.in-Some.head _ c.in-Ok.extent (rw c.in-Some.is at (c.in_ok-head.ensures.head h)) len (c.in-Ok.ensures ∙ ap (λ n. checked c.in-Some.head (n - c.args.at)) c.size.ensures) c.if-is_free.ensures
+    sym (present_by true c.in-Some.head (drop c.args.at (bytes_in c.args.region (g.F.Flash.facts c.args.paged.now.device).content)) c.in-Ok.extent (sym c.if-is_free.ensures))
+    ∙ entry_present _ c.in-Some.head _ _ (rw c.in-Some.is at (c.in_ok-head.ensures.head h)) len (c.in-Ok.ensures ∙ ap (λ n. checked c.in-Some.head (n - c.args.at)) c.size.ensures)
 
 pub damage_in-requires-clause-inside : goal.damage_in-requires-clause-inside
 damage_in-requires-clause-inside g c =
@@ -59,7 +62,8 @@ returns-in-Some-2-clause-entry g c = λ h.
     let len = length-rest c.args.region image c.args.at c.requires.region in
     let k = honest_still c.head_at.ensures.passes.read.device.calls.same_honesty h in
     let told = rw (c.in-Some-2.is, c.head_at.ensures.passes.read.device.unchanged h) at (c.in_ok-kind-in-Ok.ensures.damage k) in
-    entry_used _ c.in-Some.head _ c.in-Ok.extent _ (rw c.in-Some.is at (c.in_ok-head.ensures.head h)) len (c.in-Ok.ensures ∙ ap (λ n. checked c.in-Some.head (n - c.args.at)) c.size.ensures) c.if-is_free.ensures (told c.in-Ok.extent.span)
+    told c.in-Ok.extent.span ∙ sym (present_by false c.in-Some.head (drop c.args.at (bytes_in c.args.region image)) c.in-Ok.extent (sym c.if-is_free.ensures))
+    ∙ entry_present _ c.in-Some.head _ _ (rw c.in-Some.is at (c.in_ok-head.ensures.head h)) len (c.in-Ok.ensures ∙ ap (λ n. checked c.in-Some.head (n - c.args.at)) c.size.ensures)
 
 pub returns-in-None-clause-entry : goal.returns-in-None-clause-entry
 returns-in-None-clause-entry g c = λ h.
@@ -67,4 +71,5 @@ returns-in-None-clause-entry g c = λ h.
     let len = length-rest c.args.region image c.args.at c.requires.region in
     let k = honest_still c.head_at.ensures.passes.read.device.calls.same_honesty h in
     let told = rw (c.in-None.is, c.head_at.ensures.passes.read.device.unchanged h) at (c.in_ok-kind-in-Ok.ensures.damage k) in
-    entry_used _ c.in-Some.head _ c.in-Ok.extent _ (rw c.in-Some.is at (c.in_ok-head.ensures.head h)) len (c.in-Ok.ensures ∙ ap (λ n. checked c.in-Some.head (n - c.args.at)) c.size.ensures) c.if-is_free.ensures (told c.in-Ok.extent.span)
+    told c.in-Ok.extent.span ∙ sym (present_by false c.in-Some.head (drop c.args.at (bytes_in c.args.region image)) c.in-Ok.extent (sym c.if-is_free.ensures))
+    ∙ entry_present _ c.in-Some.head _ _ (rw c.in-Some.is at (c.in_ok-head.ensures.head h)) len (c.in-Ok.ensures ∙ ap (λ n. checked c.in-Some.head (n - c.args.at)) c.size.ensures)
