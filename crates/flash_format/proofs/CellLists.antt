@@ -1,11 +1,10 @@
 -- Lists of cells that follow each other: their cut, their components and their places.
-use Rattle.std.proofs.Common.{◌≡◌, ℕ, ◌+◌, ◌≤◌, Bool, true, false, cond, List, [], ◌∷◌, ◌++◌, length, take, drop, sym, ◌∙◌, ap, refl, arith, All, append_assoc, length-append, take-append-drop}
+use Rattle.std.proofs.Common.{◌≡◌, ℕ, ◌+◌, ◌≤◌, Bool, true, false, cond, List, [], ◌∷◌, ◌++◌, length, take, drop, sym, ◌∙◌, ap, refl, arith, All, length-append, take-append-drop}
 use Rattle.std.specs.List.{concat, sum_by}
 use Rattle.std.proofs.lemmas.List.{length-take-le}
 use Rattle.std.proofs.lemmas.List.Concat.{concat_is, length-flat_map}
-use Rattle.std.proofs.lemmas.List.Elements.{All-head, All-tail}
 use Rattle.flash_format.specs.Head.{head_of, is_free}
-use Rattle.flash_format.specs.Cut.{Cut, cut, after, after_all, IsCell}
+use Rattle.flash_format.specs.Cut.{Cut, cut, after_all, IsCell}
 use Rattle.flash_format.specs.Components.{Component, component_at, components_from, components, moved}
 use Rattle.flash_format.proofs.CutLaws.{cut_joined}
 

@@ -9,7 +9,7 @@ use Rattle.flash_format.specs.declared.head.DamageKind.TheVariants as kinds
 use Rattle.flash_format.specs.Head.{head_of, head_at, is_free, attributes_misplaced, checked, round64}
 use Rattle.flash_format.specs.Entry.{Entry, damaged, cell, entry, present, under, component, name_end, name_field, attribute_field, has_name}
 use Rattle.flash_format.specs.Attributes.{attributes}
-use Rattle.flash_format.proofs.Fronts.{range-take, head_of-take, head_at-take}
+use Rattle.flash_format.proofs.Fronts.{range-take, head_at-take}
 use Rattle.flash_format.proofs.CutSteps.{IsCell, cell_is, checked_ok, cell_span}
 
 -- ---- the head

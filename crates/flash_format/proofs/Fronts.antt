@@ -22,12 +22,7 @@ be32-take x n at le = ap (big_number 4) (range-take x n at (at + 4) le)
 
 pub head_of-take : (x : List ℕ) (n : ℕ) → 24 ≤ n → head_of (take n x) ≡ head_of x
 unfolding head_of
-head_of-take x n le =
-    let a = be32-take x n 8 (omega arith) in
-    let b = be32-take x n 12 (omega arith) in
-    let c = be32-take x n 16 (omega arith) in
-    let d = be32-take x n 20 (omega arith) in
-    cc
+head_of-take x n le = rw (be32-take x n 8 (omega arith), be32-take x n 12 (omega arith), be32-take x n 16 (omega arith), be32-take x n 20 (omega arith)) refl
 
 pub has_magic-take : (x : List ℕ) (n : ℕ) → 24 ≤ n → has_magic (take n x) ≡ has_magic x
 unfolding has_magic
@@ -38,10 +33,7 @@ head_at-take x n le = rw (has_magic-take x n le, head_of-take x n le) refl
 
 pub attr_head_of-take : (x : List ℕ) (n : ℕ) → 8 ≤ n → attr_head_of (take n x) ≡ attr_head_of x
 unfolding attr_head_of
-attr_head_of-take x n le =
-    let a = be32-take x n 0 (omega arith) in
-    let b = be32-take x n 4 (omega arith) in
-    cc
+attr_head_of-take x n le = rw (be32-take x n 0 (omega arith), be32-take x n 4 (omega arith)) refl
 
 le-take : (x : List ℕ) (n k at : ℕ) → at + k ≤ n → le k at (take n x) ≡ le k at x
 le-take x n k at fits = ap (little_number k) (range-take x n at (at + k) fits)

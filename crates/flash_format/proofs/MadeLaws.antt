@@ -4,7 +4,6 @@ use Rattle.std.specs.Prelude.{slice_range, is_some}
 use Rattle.std.specs.List.{list_any, before_first, prefix_len}
 use Rattle.std.specs.Option.{option_map}
 use Rattle.std.proofs.lemmas.Bool.{le-ltb, ne_eqb, and_right, or_from, or_parts, or_right}
-use Rattle.std.proofs.lemmas.Bool.Decides.{nat_tests}
 use Rattle.std.proofs.lemmas.List.Folds.{list_any_at}
 use Rattle.std.proofs.lemmas.List.{take_at, drop_at, append-nil, length-replicate, get_or-take, get_or-append_right}
 use Rattle.byteorder.specs.Endian.{big_bytes}
@@ -70,13 +69,10 @@ some_nul name z m short room =
 -- 0xff ends a list of attributes
 gap_ends : (gap : ℕ) → ends_list (replicate gap 255) ≡ true
 unfolding attr_head_of
-gap_ends zero = refl
-gap_ends (suc zero) = refl
-gap_ends (suc (suc zero)) = refl
-gap_ends (suc (suc (suc zero))) = refl
 gap_ends (suc (suc (suc (suc gap)))) =
     let x : List ℕ = replicate (suc (suc (suc (suc gap)))) 255 in
     or_right (ltb (length x) 8) (is_unused (attr_head_of x).tag) refl
+gap_ends _ = refl
 
 hash_head : (number : ℕ) (bytes more : List ℕ) → length bytes ≤ 64 → attr_head_of (hash_attribute number bytes ++ more) ≡ record { tag = HASH; len = 12 + length bytes }
 unfolding attr_head_of hash_attribute
@@ -128,17 +124,7 @@ length-padded : (name : List ℕ) → length (padded_name name) ≡ name_room (l
 length-padded name = omega (arith, length-append name (replicate (name_room (length name) - length name) 0), length-replicate {A = ℕ} (name_room (length name) - length name) 0)
 
 pub length-front : (name : List ℕ) (kind : ℕ) (digest : Option Digest) (gap n : ℕ) → length (made_front name kind digest gap n) ≡ (made_head name kind digest gap n).offset
-length-front name kind digest gap n =
-    let head : List ℕ = head_bytes (made_head name kind digest gap n) in
-    omega (
-      arith,
-      length-append (head ++ padded_name name ++ hash_bytes digest) (replicate gap 255),
-      length-append (head ++ padded_name name) (hash_bytes digest),
-      length-append head (padded_name name),
-      length-head_bytes (made_head name kind digest gap n),
-      length-padded name,
-      length-replicate {A = ℕ} gap 255,
-    )
+length-front name kind digest gap n = simp (length-append, length-head_bytes, length-padded, length-replicate) (omega arith)
 
 padded_is : (name : List ℕ) → padded_name name ≡ name ++ (0 ∷ replicate (name_room (length name) - length name - 1) 0)
 padded_is name = ap (λ (l : List ℕ). name ++ l) (zeros_begin (name_room (length name) - length name) (omega arith))

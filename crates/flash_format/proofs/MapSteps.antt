@@ -1,9 +1,9 @@
 -- The search for a flashmap and for an area, step by step.
-use Rattle.std.proofs.Common.{◌≡◌, ℕ, suc, ◌+◌, ◌<◌, ◌≤◌, Bool, true, false, cond, List, ◌∷◌, length, drop, get_or, Some, None, refl, sym, ap, ◌∙◌, arith, length-drop, leb, ◌&&◌, add-one, drop-cons}
-use Rattle.std.proofs.lemmas.Bool.{leb-true, le-leb, lt-leb}
+use Rattle.std.proofs.Common.{◌≡◌, ℕ, suc, ◌+◌, ◌<◌, ◌≤◌, Bool, true, false, cond, List, ◌∷◌, length, drop, get_or, Some, None, refl, sym, ap, ◌∙◌, arith, length-drop, add-one, drop-cons}
+use Rattle.std.proofs.lemmas.Bool.{le-leb, lt-leb}
 use Rattle.std.proofs.lemmas.List.{nil_from_length}
 use Rattle.std.specs.List.{find}
-use Rattle.flash_format.specs.Flashmap.{has_signature, fmap_head_of, is_valid_head, is_map, map_from, areas_from, area_of, is_area, map_len}
+use Rattle.flash_format.specs.Flashmap.{has_signature, fmap_head_of, is_valid_head, is_map, map_from, areas_from, area_of, is_area}
 
 -- ---- is there a map?
 

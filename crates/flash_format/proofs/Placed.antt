@@ -1,5 +1,5 @@
 -- A component in place of free cells: one more, and all others stay.
-use Rattle.std.proofs.Common.{◌≡◌, ℕ, ◌+◌, ◌-◌, ◌%◌, ◌^◌, ◌<◌, ◌≤◌, true, false, cond, List, [], ◌∷◌, ◌++◌, length, Option, Some, sym, ◌∙◌, ap, subst, refl, arith, All, append_assoc, length-append}
+use Rattle.std.proofs.Common.{◌≡◌, ℕ, ◌+◌, ◌-◌, ◌%◌, ◌≤◌, false, cond, List, [], ◌∷◌, ◌++◌, length, Option, Some, sym, ◌∙◌, ap, subst, refl, arith, All, append_assoc, length-append}
 use Rattle.std.specs.Prelude.{is_some, unwrap_or}
 use Rattle.std.specs.List.{concat}
 use Rattle.std.proofs.lemmas.List.{append-nil}
@@ -8,7 +8,6 @@ use Rattle.flash_format.specs.declared.digest.Digest.{Digest}
 use Rattle.flash_format.specs.Head.{header_length, head_of, is_free}
 use Rattle.flash_format.specs.Attributes.{Attribute}
 use Rattle.flash_format.specs.Blanks.{blank_header, blank, padding}
-use Rattle.flash_format.specs.Entry.{cell, entry}
 use Rattle.flash_format.specs.Cut.{cut, IsCell, IsCut}
 use Rattle.flash_format.specs.Components.{Component, cell_content, cell_attributes, component_at, components_from, components}
 use Rattle.flash_format.specs.Splices.{AllFree, spliced}
@@ -17,7 +16,7 @@ use Rattle.flash_format.specs.Placings.{IsSpace, space_cells, made_component}
 use Rattle.flash_format.specs.Laws.{ComponentsArePlaced}
 use Rattle.flash_format.proofs.CutSteps.{cell_span}
 use Rattle.flash_format.proofs.CellLists.{components-append}
-use Rattle.flash_format.proofs.BlankLaws.{blank_header-cell, length-blank_header}
+use Rattle.flash_format.proofs.BlankLaws.{length-blank_header}
 use Rattle.flash_format.proofs.MadeLaws.{length-padding}
 use Rattle.flash_format.proofs.Splices.{concat-append, space_each, concat-space, components-free, length-concat-cells, cells-before, cells-group, splice-cut, splice-components, splice-end, group-components}
 
