@@ -1,11 +1,11 @@
 //! What stands at a place of a region.
-ghost use Rattle.std.specs.Prelude.{◌≡◌, ℕ, ◌+◌, ◌-◌, ◌/◌, ◌≤◌, false, drop, IfOk};
+ghost use Rattle.std.specs.Prelude.{◌≡◌, ℕ, ◌+◌, ◌-◌, ◌/◌, ◌≤◌, drop, IfOk};
 ghost use Rattle.flash_format.specs.Head.{head_of};
 ghost use Rattle.flash_format.specs.Entry.{entry, front, component, name_end};
 ghost use Rattle.flash_store.specs.Pages.{HasAnswered, OnHonestIn};
 ghost use Rattle.flash_store.specs.Regions.{LiesIn};
 ghost use Rattle.cbfs_walk.specs.Cells.{IsChecked};
-ghost use Rattle.cbfs_walk.specs.Passing.{HasPassed, reads_over};
+ghost use Rattle.cbfs_walk.specs.Passing.{HasPassed};
 ghost use Rattle.cbfs_walk.specs.Entries.{seen, OnCell, entry_or, reads_by};
 
 use crate::attribute_walk::are_well_formed;

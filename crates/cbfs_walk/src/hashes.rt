@@ -1,9 +1,8 @@
 //! The digest that a component has of its content.
-ghost use Rattle.std.specs.Prelude.{◌≡◌, ℕ, ◌+◌, ◌≤◌, false, List, ◌++◌, slice_range, IfOk, OnOk};
+ghost use Rattle.std.specs.Prelude.{◌≡◌, ◌+◌, ◌≤◌, slice_range, IfOk};
 ghost use Rattle.flash_format.specs.declared.digest.Digest.TheVariants as digests;
-ghost use Rattle.flash_format.specs.Head.{is_free};
 ghost use Rattle.flash_format.specs.Components.{cell_attributes, cell_content};
-ghost use Rattle.flash_store.specs.Pages.{HasSeen, HasAnswered, HasRead, OnHonestIn};
+ghost use Rattle.flash_store.specs.Pages.{HasAnswered, HasRead, OnHonestIn};
 ghost use Rattle.flash_store.specs.Regions.{LiesIn};
 ghost use Rattle.cbfs_walk.specs.Passing.{HasPassed, reads_over};
 ghost use Rattle.cbfs_walk.specs.Cells.{IsComponentIn, PassesChecks, content_start, content_end, cell_in};

@@ -1,14 +1,13 @@
 //! The names of components.
-ghost use Rattle.std.specs.Prelude.{◌≡◌, ◌+◌, ◌≤◌, false, length, take, drop, slice_range, OnOk, IfOk};
-ghost use Rattle.std.specs.List.{list_any, before_first};
+ghost use Rattle.std.specs.Prelude.{◌≡◌, ◌+◌, ◌≤◌, false, length, take, drop, IfOk};
+ghost use Rattle.std.specs.List.{before_first};
 ghost use Rattle.std.specs.Str.{bytes_eq};
-ghost use Rattle.flash_format.specs.Head.{is_free};
 ghost use Rattle.flash_format.specs.Entry.{name_field, name_end, has_name, is_nul};
 ghost use Rattle.flash_format.specs.Components.{cell_name};
-ghost use Rattle.flash_store.specs.Pages.{HasAnswered, HasSeen, OnHonestIn};
+ghost use Rattle.flash_store.specs.Pages.{HasAnswered, OnHonestIn};
 ghost use Rattle.flash_store.specs.Regions.{LiesIn};
 ghost use Rattle.cbfs_walk.specs.Passing.{HasPassed};
-ghost use Rattle.cbfs_walk.specs.Cells.{IsComponentIn, PassesChecks, cell_in};
+ghost use Rattle.cbfs_walk.specs.Cells.{IsComponentIn, cell_in};
 ghost use Rattle.cbfs_walk.specs.Walks.{StandsIn};
 
 use crate::cell::{Cell, content_fits};
@@ -70,6 +69,7 @@ pub fn name_is<F: Flash>(
     if name.len() > LONGEST || name.len() >= name_room(&cell.head) {
         return Ok(false);
     }
+    // As many bytes show it, and one more its NUL.
     let bytes = piece_in(paged, region, cell.at + 24, name.len() + 1)?;
     Ok(shows_text(bytes, name))
 }

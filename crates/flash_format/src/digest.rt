@@ -75,6 +75,7 @@ impl Digest {
         }
     }
 
+    /// The algorithm that made it.
     pub fn algorithm(&self) -> Algorithm
         ensures { result ≡ algorithm self.now }
     {
