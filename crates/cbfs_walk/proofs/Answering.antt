@@ -2,10 +2,7 @@
 use Rattle.std.proofs.Common.{◌≡◌, ℕ, ◌%◌, ◌<◌, Some, Bool, true, false, ◌&&◌, List, length, drop, Ok, Err, refl, sym, ap, ◌∙◌, arith, eqb, length-drop, true≢false}
 use Rattle.std.proofs.lemmas.Bool.{eqb-true, ne_eqb}
 use Rattle.std.proofs.lemmas.Grind.{common_steps}
-use Rattle.flash_format.specs.declared.head.Head.{Head}
-use Rattle.flash_format.specs.declared.head.DamageKind.{DamageKind}
-use Rattle.flash_format.specs.Head.{head_of}
-use Rattle.flash_format.specs.Entry.{Entry, absent, damaged, cell, entry}
+use Rattle.flash_format.specs.Entry.{Entry, absent, entry}
 use Rattle.flash_store.specs.Device.{faults_told}
 use Rattle.cbfs_walk.specs.Shapes.{has_bad_size, is_absent}
 use Rattle.cbfs_walk.specs.Walks.{Answer, Walking, EndsWalk, by_device, GivesCell, moved, answer_by, answer_at}

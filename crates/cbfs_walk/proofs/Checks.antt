@@ -5,7 +5,7 @@ use Rattle.flash_format.specs.declared.head.Head.{Head}
 use Rattle.flash_format.specs.declared.head.Extent.{Extent}
 use Rattle.flash_format.specs.declared.head.DamageKind.{DamageKind}
 use Rattle.flash_format.specs.Head.{is_free, attributes_misplaced, checked, round64}
-use Rattle.flash_format.specs.Entry.{Entry, absent, damaged, cell, entry, under, front, present, component, name_end}
+use Rattle.flash_format.specs.Entry.{absent, entry, under, front, present, name_end}
 use Rattle.flash_format.proofs.CutSteps.{checked_ok}
 use Rattle.cbfs_walk.specs.Cells as cells
 use Rattle.cbfs_walk.specs.Cells.{PassesChecks}

@@ -3,7 +3,7 @@ use Rattle.std.proofs.Common.{◌≡◌, ℕ, Bool, true, false, cond, List, [],
 use Rattle.std.specs.Str.{bytes_eq}
 use Rattle.std.proofs.lemmas.List.Elements.{All-nil, All-cons, All-head, All-tail, All-contains}
 use Rattle.std.proofs.lemmas.Slice.Eq.{bytes_eq-Decides}
-use Rattle.flash_format.specs.Cut.{End, complete, tail, damage, cut}
+use Rattle.flash_format.specs.Cut.{End, damage, cut}
 use Rattle.flash_format.specs.Components.{Component, components}
 use Rattle.cbfs_walk.specs.Shapes.{shape, refused_or}
 use Rattle.cbfs_walk.specs.Shaped.{place_after}

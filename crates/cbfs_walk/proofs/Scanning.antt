@@ -4,7 +4,7 @@ use Rattle.std.specs.Prelude.{slice_range, is_some, IfSome}
 use Rattle.std.specs.Option.{option_map}
 use Rattle.byteorder.specs.Endian.{big_number}
 use Rattle.flash_format.specs.declared.attribute.AttrHead.{AttrHead}
-use Rattle.flash_format.specs.Head.{be32, is_free}
+use Rattle.flash_format.specs.Head.{is_free}
 use Rattle.flash_format.specs.Attributes.{Attribute, attribute, attributes, attr_head_of, data_of, value_of, least_len, COMPRESSION, ends_list, is_malformed}
 use Rattle.flash_format.specs.Entry.{name_end}
 use Rattle.flash_format.specs.Components.{packing, cell_attributes}

@@ -2,7 +2,7 @@
 -- The attribute is coreboot's `struct cbfs_file_attr_hash`: a number of an algorithm, big-endian, and the digest. The
 -- numbers are those of vboot's `enum vb2_hash_algorithm`, and the digests those of FIPS 180-4. Which algorithms are
 -- supported, and which lengths of the attribute are accepted, is this project's own.
-use Rattle.std.specs.Prelude.{ℕ, ◌+◌, List, [], ◌∷◌, length, slice_range, Option, Some, None, nat_lt, ◌==◌, if◌then◌else◌, ⊤}
+use Rattle.std.specs.Prelude.{ℕ, ◌+◌, List, length, slice_range, Option, Some, None, nat_lt, if◌then◌else◌, ⊤}
 use Rattle.std.specs.Option.{option_map}
 use Rattle.std.specs.Str.{bytes_eq}
 use Rattle.sha2.specs.Sha256.{sha256}

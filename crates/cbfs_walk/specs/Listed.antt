@@ -1,5 +1,5 @@
 -- What a list of attributes has at its start, as the program has it, and the first attribute with a tag.
-use Rattle.std.specs.Prelude.{◌≡◌, ℕ, zero, suc, ◌+◌, List, length, drop, slice_range, Option, Some, None, Result, Ok, Err, ⊤, ◌==◌, if◌then◌else◌, ◌≤◌}
+use Rattle.std.specs.Prelude.{◌≡◌, ℕ, zero, suc, ◌+◌, List, length, drop, slice_range, Option, Some, None, Result, Ok, ⊤, ◌==◌, if◌then◌else◌, ◌≤◌}
 use Rattle.flash_format.specs.declared.attribute.AttrHead.{AttrHead}
 use Rattle.flash_format.specs.Head.{be32}
 use Rattle.flash_format.specs.Attributes.{attr_head_of, ends_list, is_malformed}

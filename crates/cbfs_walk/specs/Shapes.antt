@@ -1,6 +1,6 @@
 -- The shape that a region must have before a walk gives any cell of it.
 use Rattle.std.specs.Prelude.{ℕ, Bool, true, false, not, ◌||◌, ◌&&◌, ◌%◌, List, length, Option, Some, None, ◌==◌, if◌then◌else◌}
-use Rattle.flash_format.specs.Entry.{Entry, absent, damaged, cell, entry}
+use Rattle.flash_format.specs.Entry.{Entry, absent, entry}
 use Rattle.cbfs_walk.specs.declared.walk.WalkFault.{WalkFault}
 use Rattle.cbfs_walk.specs.declared.walk.WalkFault.TheVariants as faults
 

@@ -1,10 +1,5 @@
-use Rattle.std.proofs.Common.{arith, le_refl, ◌≡◌, ◌∙◌, ◌+◌, ◌≤◌, length, rules}
-use Rattle.flash_store.specs.Regions.{bytes_in}
-use Rattle.cbfs_walk.specs.Hashes.{hash_state_in}
-use Rattle.cbfs_walk.specs.declared.hashes.HashState.TheVariants.{Absent, Unsupported}
+use Rattle.std.proofs.Common.{arith, le_refl, rules}
 use Rattle.flash_store.proofs.WindowLemmas.{HasRead-within}
-use Rattle.cbfs_walk.proofs.Parts.{length-region}
-use Rattle.cbfs_walk.proofs.Checks.{content_inside}
 use Rattle.std.proofs.lemmas.Result.{err_from_is_err_and}
 use Rattle.cbfs_walk.proofs.Reading.{Passes-then, Passes-answers}
 use Rattle.cbfs_walk.proofs.Hashing.{compared_is_told, state_found}
