@@ -1,8 +1,8 @@
 //! Bytes from outside through each public function, on both sides of each limit, and the names of all types.
 use flash_format::{
-    Algorithm, Area, AttrHead, DamageKind, Digest, Extent, FmapHead, Head, LONGEST_FRONT, Meta, attr_len,
-    digest_text, digits_value, empty_header, meta_len, read_number, type_name, type_number,
-    write_meta,
+    Algorithm, Area, AttrHead, DamageKind, Digest, Extent, FmapHead, Head, LONGEST_FRONT, Meta,
+    attr_len, digest_text, digits_value, empty_header, meta_len, read_number, type_name,
+    type_number, write_meta,
 };
 use std::fmt::Debug;
 use std::process::Abort;
