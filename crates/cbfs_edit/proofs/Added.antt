@@ -20,7 +20,7 @@ use Rattle.cbfs_walk.specs.Finding.{first_named}
 use Rattle.cbfs_edit.specs.Groups.{IsCellRange}
 use Rattle.cbfs_edit.specs.Runs.{runs}
 use Rattle.cbfs_edit.specs.Removals.{kept_at}
-use Rattle.cbfs_edit.specs.Places.{IsAnsweredPlace, IsWanted, IsFirstPlace, IsPlaceAmong, limit_of, placing_in}
+use Rattle.cbfs_edit.specs.Places.{IsWanted, IsFirstPlace, IsPlaceAmong, limit_of, placing_in}
 use Rattle.cbfs_edit.specs.Placings.{Fits}
 use Rattle.cbfs_edit.specs.Stops.{AddLeavesWhole, AddLeavesBefore, IsOldOrBlanked}
 use Rattle.cbfs_edit.specs.Additions.{NewComponent, AddsOne, added, addition_in, blank_between, cell_end, header_of, is_bad_align, is_bad_name, is_bad_type, kept_from, made_at, own_fault, unless_faulty, wanted_for}
@@ -31,7 +31,7 @@ use Rattle.cbfs_edit.specs.declared.place.Spot.{Spot}
 use Rattle.cbfs_edit.specs.declared.place.Spot.TheVariants.{First, Aligned, Fixed}
 use Rattle.cbfs_edit.specs.declared.place.Wanted.{Wanted}
 use Rattle.cbfs_edit.specs.declared.place.Place.{Place}
-use Rattle.cbfs_edit.proofs.AnsweredPlaces.{answered_place}
+use Rattle.cbfs_edit.proofs.AnsweredPlaces.{IsAnsweredPlace, answered_place}
 use Rattle.cbfs_edit.proofs.ContentPlaces.{content_at}
 use Rattle.cbfs_edit.proofs.FreeRuns.{IsRun, run_of, blanked_runs}
 use Rattle.cbfs_edit.proofs.Groups.{as_splice, blanked-written, over-range}
@@ -67,7 +67,7 @@ accepted x new spot place is = go (is_bad_name new.name) (is_bad_type new.kind) 
     go false false false e f h p = record { name_good = e; kind_good = f; spot_good = h; placed = p }
 
 pub accepted_size : (x : List ℕ) (new : NewComponent) (spot : Spot) (place : Place) → addition_in x new spot ≡ Ok place → length x % 64 ≡ 0
-accepted_size x new spot place is = (answered_place x new.name (wanted_for new spot) place (accepted x new spot place is).placed).whole
+accepted_size x new spot place is = (answered_place x new.name (wanted_for new spot) place (accepted x new spot place is).placed).sound.whole
 
 record IsGoodName (name : List ℕ) : Type 0 where
   short : length name ≤ 127
@@ -121,11 +121,11 @@ module _ (x : List ℕ) (new : NewComponent) (spot : Spot) (place : Place) (smal
   good : IsGoodName new.name
   good = good_name new.name fine.name_good
 
-  there : IsAnsweredPlace x new.name wanted place
+  pub there : IsAnsweredPlace x new.name wanted place
   there = answered_place x new.name wanted place fine.placed
 
   the_run : IsRun x place.run
-  the_run = run_of x place.run there.whole there.is_run
+  the_run = run_of x place.run there.sound.whole there.is_run
 
   range : IsCellRange place.run (length x)
   range = the_run.range
@@ -218,9 +218,6 @@ module _ (x : List ℕ) (new : NewComponent) (spot : Spot) (place : Place) (smal
   pub region_some : 64 ≤ length x
   region_some = omega (arith, range.some, range.inside)
 
-  pub no_other_named : first_named new.name (components x) ≡ None
-  no_other_named = there.no_other
-
   adds_one : AddsOne x new place
   adds_one =
       let more = components_placed x place.run.start place.run.end the_run.cells place.header before (made_at x new place) after new.name new.kind new.digest new.content the_run.free placing
@@ -236,7 +233,7 @@ module _ (x : List ℕ) (new : NewComponent) (spot : Spot) (place : Place) (smal
   pub add_leaves_before : (y : List ℕ) → IsOldOrBlanked x place.run y → drop (kept_from x new place) y ≡ drop (kept_from x new place) x → AddLeavesBefore x new spot y
   add_leaves_before y (inl same) last = (inl same, ap (λ (l : List ℕ). components l) same)
   add_leaves_before y (inr blanked) last =
-      let kept = blanked_runs x place.run y there.whole small there.is_run blanked in
+      let kept = blanked_runs x place.run y there.sound.whole small there.is_run blanked in
       let written = blanked-written x place.run range y blanked in
       (inr (place, is, record { components = inl kept.components; end = kept.end; same_length = written.same_length; outside = written.outside; last = last }), kept.components)
 

@@ -1,6 +1,8 @@
 -- The steps of an addition: its own checks, the search for a place, the writes.
 use Rattle.std.proofs.Common.{◌≡◌, ◌≢◌, ◌⊎◌, inl, inr, ⊎_elim, ℕ, ◌%◌, ◌^◌, ◌<◌, List, length, Option, Some, None, Result, Ok, Err, sym, ◌∙◌, ap, subst, refl, arith}
 use Rattle.std.specs.Prelude.{IsErrOf}
+use Rattle.std.specs.Option.{option_map_or}
+use Rattle.std.specs.Result.{result_ok}
 use Rattle.flash_format.specs.Made.{IsDigest, hash_len, meta_length}
 use Rattle.flash_store.specs.Bytes.{overwritten, SameOutside}
 use Rattle.flash_store.specs.Regions.{Range, LiesIn, bytes_in}
@@ -13,7 +15,7 @@ use Rattle.sha2.proofs.Facts512.{length-sha512}
 use Rattle.cbfs_walk.specs.Hashes.{sha256_of, sha512_of}
 use Rattle.cbfs_edit.specs.Places.{placing_in}
 use Rattle.cbfs_edit.specs.Stops.{AddLeavesBefore, AddLeavesWhole, IsInsertStop, IsOldOrBlanked}
-use Rattle.cbfs_edit.specs.Additions.{NewComponent, added, added_to, addition_in, after_addition, attribute_len, digest_of, kept_from, new_component, own_fault}
+use Rattle.cbfs_edit.specs.Additions.{NewComponent, added, added_to, addition_in, attribute_len, digest_of, kept_from, new_component, own_fault}
 use Rattle.cbfs_edit.specs.declared.addition.HashChoice.{HashChoice}
 use Rattle.cbfs_edit.specs.declared.addition.HashChoice.TheVariants.{Plain, Sha256, Sha512}
 use Rattle.cbfs_edit.specs.declared.fault.EditFault.{EditFault}
@@ -85,7 +87,7 @@ image_of r u old mid new lies same size outside is =
     subst (λ (l : List ℕ). new ≡ overwritten l r.start u) same (image_is r mid new u lies_mid size outside is)
 
 pub added_is : (x : List ℕ) (new : NewComponent) (spot : Spot) (place : Place) → addition_in x new spot ≡ Ok place → added_to x new spot ≡ added x new place
-added_is x new spot place is = ap (λ (a : Result Place EditFault). after_addition x new a) is
+added_is x new spot place is = ap (λ (a : Result Place EditFault). option_map_or (added x new) (result_ok a) x) is
 
 -- what is written over a region that the search has left as it was
 pub written : (r : Range) (new : NewComponent) (spot : Spot) (place : Place) (old mid now : List ℕ) → mid ≡ old → addition_in (bytes_in r old) new spot ≡ Ok place → bytes_in r now ≡ added (bytes_in r mid) new place → bytes_in r now ≡ added_to (bytes_in r old) new spot

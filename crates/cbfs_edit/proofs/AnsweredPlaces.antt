@@ -14,12 +14,13 @@ use Rattle.cbfs_walk.proofs.Answering.{good_size}
 use Rattle.cbfs_edit.specs.Refusals.{refusal_of}
 use Rattle.cbfs_edit.specs.Runs.{runs}
 use Rattle.cbfs_edit.specs.Removals.{unless_damaged}
-use Rattle.cbfs_edit.specs.Places.{least_in, place_at, place_among, place_of, placed, placing_in, IsAnsweredPlace}
+use Rattle.cbfs_edit.specs.Places.{least_in, place_at, place_among, place_of, placed, placing_in}
 use Rattle.cbfs_edit.specs.declared.fault.EditFault.{EditFault}
 use Rattle.cbfs_edit.specs.declared.fault.EditFault.TheVariants as faults
 use Rattle.cbfs_edit.specs.declared.group.Freed.{Freed}
 use Rattle.cbfs_edit.specs.declared.place.Wanted.{Wanted}
 use Rattle.cbfs_edit.specs.declared.place.Place.{Place}
+use Rattle.cbfs_edit.proofs.Sound.{IsAccepted, IsSound, accepted_by, found-some}
 
 same_some : (p q : Place) → Some p ≡ Some q → p ≡ q
 same_some p q is = cc
@@ -34,40 +35,22 @@ among-run wanted size (run ∷ later) place is = go (least_in wanted size run) i
     go None e more = let h : Contains later place.run = more e in (suc h.0, omega (arith, h.1), h.2)
     go (Some c) e more = (0, omega arith, ap (λ (k : Place). k.run) (same_some (place_at wanted run c) place e))
 
-abbrev refused : WalkFault → Result Place EditFault
-refused fault = Err (refusal_of fault)
-
-abbrev unless_named : Option Component → Result Place EditFault → Result Place EditFault
-unless_named found otherwise = cond (is_some found) (Err faults.Exists) otherwise
+-- what an answer says: no component has the name, and the place is in a run of the region
+pub record IsAnsweredPlace (x name : List ℕ) (wanted : Wanted) (place : Place) : Type 0 where
+  pub sound : IsSound x
+  pub no_other : first_named name (components x) ≡ None
+  pub found : place_of x wanted ≡ Some place
+  pub is_run : Contains (runs x) place.run
 
 pub answered_place : (x name : List ℕ) (wanted : Wanted) (place : Place) → placing_in x name wanted ≡ Ok place → IsAnsweredPlace x name wanted place
 unfolding placing_in
-answered_place x name wanted place is = go (has_bad_size (length x)) (is_absent (entry x)) refl is
+answered_place x name wanted place is = by_name (first_named name (components x)) refl a.is
   where
-    by_place : (o : Option Place) → placed o ≡ Ok place → o ≡ Some place
-    by_place None e = absurd cc
-    by_place (Some found) e = cc
+    a : IsAccepted x (cond (is_some (first_named name (components x))) (Err faults.Exists) (placed (place_of x wanted))) place
+    a = accepted_by x _ place is
 
-    by_end : (at : ℕ) (e : End) (r : Result Place EditFault) → unless_damaged at e r ≡ Ok place → r ≡ Ok place
-    by_end at complete r e = e
-    by_end at tail r e = e
-    by_end at (damage kind) r e = absurd cc
-
-    by_name : (o : Option Component) → first_named name (components x) ≡ o → has_bad_size (length x) ≡ false → unless_named o (placed (place_of x wanted)) ≡ Ok place → IsAnsweredPlace x name wanted place
-    by_name (Some c) e good p = absurd cc
-    by_name None e good p =
-        let found : place_of x wanted ≡ Some place = by_place (place_of x wanted) p in
-        record {
-          whole = good_size (length x) (sym good);
-          no_other = e;
-          found = found;
-          is_run = among-run wanted (length x) (runs x) place found;
-        }
-
-    rest : Result Place EditFault
-    rest = unless_damaged (place_after 0 (cut x).cells) (cut x).end (unless_named (first_named name (components x)) (placed (place_of x wanted)))
-
-    go : (b n : Bool) → has_bad_size (length x) ≡ b → refused_or refused (cond b (Some walk.RegionShape) (cond n (Some walk.NotCbfs) None)) rest ≡ Ok place → IsAnsweredPlace x name wanted place
-    go true n e p = absurd cc
-    go false true e p = absurd cc
-    go false false e p = by_name (first_named name (components x)) refl e (by_end _ (cut x).end _ p)
+    by_name : (o : Option Component) → first_named name (components x) ≡ o → cond (is_some o) (Err faults.Exists) (placed (place_of x wanted)) ≡ Ok place → IsAnsweredPlace x name wanted place
+    by_name (Some c) e p = absurd cc
+    by_name None e p =
+        let found : place_of x wanted ≡ Some place = found-some (place_of x wanted) faults.NoSpace place p in
+        record { sound = a.sound; no_other = e; found = found; is_run = among-run wanted (length x) (runs x) place found }

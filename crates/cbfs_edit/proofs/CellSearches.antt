@@ -20,7 +20,7 @@ use Rattle.cbfs_walk.specs.declared.walk.WalkFault.{WalkFault}
 use Rattle.cbfs_walk.specs.declared.walk.WalkFault.TheVariants as walk
 use Rattle.cbfs_walk.proofs.Shapes.{shaped_step}
 use Rattle.cbfs_edit.specs.Refusals.{refusal_of}
-use Rattle.cbfs_edit.specs.Removals.{unless_damaged}
+use Rattle.cbfs_edit.specs.Removals.{unless_damaged, unless_unsound}
 use Rattle.cbfs_edit.specs.declared.fault.EditFault.{EditFault}
 use Rattle.cbfs_edit.specs.declared.fault.EditFault.TheVariants as faults
 
@@ -37,9 +37,7 @@ gone search s at (c ∷ cells) = gone search (search.step s at c) (at + length c
 
 -- what it answers in a region, or the region's first refusal
 abbrev pub searched : {S A : Type 0} → CellSearch S A → List ℕ → Result A EditFault
-searched search x =
-    refused_or (λ fault. Err (refusal_of fault)) (shape x)
-    (unless_damaged (place_after 0 (cut x).cells) (cut x).end (search.last (gone search search.start 0 (cut x).cells)))
+searched search x = unless_unsound x (search.last (gone search search.start 0 (cut x).cells))
 
 -- ---- as a reading of the cut
 

@@ -5,9 +5,10 @@ use Rattle.std.specs.List.{concat}
 use Rattle.std.proofs.lemmas.Bool.{cases_Bool, lt-ltb, ltb-true}
 use Rattle.std.proofs.lemmas.List.Elements.{All-nil, All-head, All-tail, All-push}
 use Rattle.flash_format.specs.Head.{head_of, is_free}
+use Rattle.flash_format.specs.Cut.{cut}
 use Rattle.cbfs_edit.specs.Groups.{IsFree, EndsWithComponent, BeginsWithComponent}
-use Rattle.cbfs_edit.specs.Runs.{add_run, runs_from, IsRunOf}
-use Rattle.cbfs_edit.specs.Laws.{RunsAreMaximal, MaximalRunsAreThere}
+use Rattle.cbfs_edit.specs.Runs.{add_run, runs, runs_from, IsRunOf}
+use Rattle.cbfs_edit.specs.Laws.{RunsAreExact}
 use Rattle.cbfs_edit.specs.declared.group.Freed.{Freed}
 use Rattle.cbfs_edit.proofs.Parts.{length-concat-push}
 use Rattle.flash_format.proofs.Splices.{concat-append}
@@ -17,8 +18,8 @@ use Rattle.cbfs_edit.proofs.Exact.{ends_after, ends_push, not_alone}
 
 -- a run that ends here
 closed : (start at : ℕ) (done row others : List (List ℕ)) (run : Freed) → EndsWithComponent done → All IsFree row → BeginsWithComponent others → length (concat done) ≡ start → start + length (concat row) ≡ at
-    → start < at → record { start = start; end = at } ≡ run → IsRunOf 0 (done ++ (row ++ others)) run
-closed start at done row others run ends free begins begun is some here = subst (λ (r : Freed). IsRunOf 0 (done ++ (row ++ others)) r) here (record {
+    → start < at → record { start = start; end = at } ≡ run → IsRunOf (done ++ (row ++ others)) run
+closed start at done row others run ends free begins begun is some here = subst (λ (r : Freed). IsRunOf (done ++ (row ++ others)) r) here (record {
   before = done;
   row = row;
   after = others;
@@ -27,7 +28,7 @@ closed start at done row others run ends free begins begun is some here = subst 
   some = some;
   no_more_before = ends;
   no_more_after = begins;
-  start_is = omega (arith, begun);
+  start_is = begun;
   end_is = is;
 })
 
@@ -45,7 +46,7 @@ run-cases start end others run has = elim (cases_Bool (nat_lt start end)) [
 ]
 
 maximal : (start at : ℕ) (done row cells : List (List ℕ)) (run : Freed) → EndsWithComponent done → All IsFree row → length (concat done) ≡ start → start + length (concat row) ≡ at
-    → Contains (runs_from start at cells) run → IsRunOf 0 (done ++ (row ++ cells)) run
+    → Contains (runs_from start at cells) run → IsRunOf (done ++ (row ++ cells)) run
 unfolding runs_from
 maximal start at done row [] run ends free begun is has = elim (run-cases start at [] run has) [
   | inl here ↦ closed start at done row [] run ends free tt begun is here.0 here.1
@@ -58,15 +59,15 @@ maximal start at done row (c ∷ cells) run ends free begun is has =
     let longer : start + length (concat (row ++ c ∷ [])) ≡ next = omega (arith, length-concat-push row c) in
     let before : length (concat ((done ++ row) ++ c ∷ [])) ≡ next = omega (arith, length-concat-push (done ++ row) c, ap length (concat-append done row), length-append (concat done) (concat row)) in
     elim (cases_Bool (is_free (head_of c))) [
-      | inl e ↦ subst (λ (l : List (List ℕ)). IsRunOf 0 l run) moved (maximal start next done (row ++ c ∷ []) cells run ends (All-push IsFree row c free e) begun longer (rw e at has))
+      | inl e ↦ subst (λ (l : List (List ℕ)). IsRunOf l run) moved (maximal start next done (row ++ c ∷ []) cells run ends (All-push IsFree row c free e) begun longer (rw e at has))
       | inr e ↦ elim (run-cases start at (runs_from next next cells) run (rw e at has)) [
         | inl here ↦ closed start at done row (c ∷ cells) run ends free e begun is here.0 here.1
-        | inr there ↦ subst (λ (l : List (List ℕ)). IsRunOf 0 l run) passed (maximal next next ((done ++ row) ++ c ∷ []) [] cells run (ends_push (done ++ row) c e) (All-nil IsFree) before (omega arith) there)
+        | inr there ↦ subst (λ (l : List (List ℕ)). IsRunOf l run) passed (maximal next next ((done ++ row) ++ c ∷ []) [] cells run (ends_push (done ++ row) c e) (All-nil IsFree) before (omega arith) there)
       ]
     ]
 
-pub runs_maximal : RunsAreMaximal
-runs_maximal x run has = maximal 0 0 [] [] _ run tt (All-nil IsFree) refl refl has
+pub run_maximal : (x : List ℕ) (run : Freed) → Contains (runs x) run → IsRunOf (cut x).cells run
+run_maximal x run has = maximal 0 0 [] [] _ run tt (All-nil IsFree) refl refl has
 
 -- ---- and each such group is a run
 
@@ -115,7 +116,10 @@ there start at (c ∷ before) row after run fresh ends free begins begun is some
       | inr e ↦ rw e (later_is run later start at (there next next before row after run (λ none. refl) (ends_after c before ends) free begins begun_next is some))
     ]
 
-pub maximal_there : MaximalRunsAreThere
-maximal_there x run is =
-    subst (λ (cs : List (List ℕ)). Contains (runs_from 0 0 cs) run) (sym is.whole)
-    (there 0 0 is.before is.row is.after run (λ none. refl) is.no_more_before is.free is.no_more_after is.start_is is.end_is is.some)
+pub runs_exact : RunsAreExact
+runs_exact x run = (
+  run_maximal x run,
+  λ is.
+      subst (λ (cs : List (List ℕ)). Contains (runs_from 0 0 cs) run) (sym is.whole)
+      (there 0 0 is.before is.row is.after run (λ none. refl) is.no_more_before is.free is.no_more_after (omega (arith, is.start_is)) is.end_is is.some),
+)

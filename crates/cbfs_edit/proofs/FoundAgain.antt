@@ -18,7 +18,7 @@ use Rattle.cbfs_edit.specs.Additions.{NewComponent, AddsOne, added, blank_betwee
 use Rattle.cbfs_edit.specs.Laws.{IsAdded, AdditionsAreFound, added_component}
 use Rattle.cbfs_edit.specs.declared.place.Spot.{Spot}
 use Rattle.cbfs_edit.specs.declared.place.Place.{Place}
-use Rattle.cbfs_edit.proofs.Added.{accepted_size, added_length, additions_add_one, no_other_named, region_some}
+use Rattle.cbfs_edit.proofs.Added.{accepted_size, added_length, additions_add_one, there, region_some}
 
 all_left : (P : Component → Type 0) (a b : List Component) → All P (a ++ b) → All P a
 all_left P [] b each = All-nil P
@@ -85,7 +85,7 @@ module _ (x : List ℕ) (new : NewComponent) (spot : Spot) (place : Place) (is :
   -- none of the others has the name
   others_after : All (λ (c : Component). bytes_eq c.name new.name ≡ false) (before ++ after)
   others_after =
-      let none : first_named new.name (components x) ≡ None = no_other_named x new spot place is.region is.kind is.content is.digest is.placed in
+      let none : first_named new.name (components x) ≡ None = (there x new spot place is.region is.kind is.content is.digest is.placed).no_other in
       none_named new.name (before ++ after) (sym (ap (λ (l : List Component). first_named new.name l) one_more.more.old_components) ∙ none)
 
   pub none_before : All (λ (c : Component). bytes_eq c.name new.name ≡ false) before

@@ -9,7 +9,7 @@ use Rattle.cbfs_edit.specs.Runs.{runs}
 use Rattle.cbfs_edit.specs.Laws.{BlankedRunsKeepTheComponents}
 use Rattle.cbfs_edit.specs.declared.group.Freed.{Freed}
 use Rattle.cbfs_edit.proofs.Parts.{between}
-use Rattle.cbfs_edit.proofs.ExactRuns.{runs_maximal}
+use Rattle.cbfs_edit.proofs.ExactRuns.{run_maximal}
 use Rattle.cbfs_edit.proofs.Groups.{group_range, blanked-components, blanked-end}
 
 pub record IsRun (x : List ℕ) (run : Freed) : Type 0 where
@@ -19,8 +19,8 @@ pub record IsRun (x : List ℕ) (run : Freed) : Type 0 where
 
 pub run_of : (x : List ℕ) (run : Freed) → length x % 64 ≡ 0 → Contains (runs x) run → IsRun x run
 run_of x run aligned has =
-    let r = runs_maximal x run has in
-    let cells : CellsBetween x run.start run.end = between x run r.before r.row r.after aligned r.whole (omega (arith, r.start_is)) r.end_is in
+    let r = run_maximal x run has in
+    let cells : CellsBetween x run.start run.end = between x run r.before r.row r.after aligned r.whole r.start_is r.end_is in
     record { cells = cells; free = r.free; range = group_range x run cells r.some }
 
 pub blanked_runs : BlankedRunsKeepTheComponents

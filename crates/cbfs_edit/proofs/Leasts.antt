@@ -1,12 +1,14 @@
 -- The place of a new component is the least allowed one of the first run that has one.
-use Rattle.std.proofs.Common.{◌≡◌, ◌≢◌, ℕ, ◌+◌, ◌-◌, ◌*◌, ◌/◌, ◌%◌, ◌<◌, ◌≤◌, Bool, true, false, cond, List, [], ◌∷◌, ◌++◌, All, ap, subst, sym, ◌∙◌, refl, arith, zero, suc, Option, Some, None}
+use Rattle.std.proofs.Common.{◌≡◌, ◌≢◌, ℕ, ◌+◌, ◌-◌, ◌*◌, ◌/◌, ◌%◌, ◌<◌, ◌≤◌, Bool, true, false, cond, List, [], ◌∷◌, ◌++◌, length, All, ap, subst, sym, ◌∙◌, refl, arith, zero, suc, Option, Some, None}
 use Rattle.std.specs.Prelude.{◌&&◌, nat_le, MatchOption, option_map}
 use Rattle.std.specs.Option.{option_or}
 use Rattle.std.specs.Int.{next_multiple_of}
 use Rattle.std.proofs.lemmas.Bool.Decides.{nat_tests}
 use Rattle.std.proofs.lemmas.List.Elements.{All-nil, All-cons, All-head, All-tail}
 use Rattle.std.proofs.Math.Nat.{mul-mod_left, mod_self, mod-lt, mod-eq_of_lt, div-add-mod, lt_of_mul-lt-mul_right, mul-le-mul_right}
-use Rattle.cbfs_edit.specs.Places.{Meets, IsLeast, HasNoRoom, IsAllowed, IsHeaderOf, IsFirstPlace, IsPlaceAmong, IsWanted, limit_of, least_from, least_in, place_at, place_among}
+use Rattle.cbfs_edit.specs.Places.{Meets, IsLeast, HasNoRoom, IsAllowed, IsHeaderOf, IsFirstPlace, IsPlace, IsPlaceAmong, IsWanted, limit_of, least_from, least_in, place_at, place_among, place_of}
+use Rattle.cbfs_edit.specs.Laws.{PlacesAreExact}
+use Rattle.cbfs_edit.specs.Runs.{runs}
 use Rattle.cbfs_edit.specs.declared.group.Freed.{Freed}
 use Rattle.cbfs_edit.specs.declared.place.Spot.{Spot}
 use Rattle.cbfs_edit.specs.declared.place.Spot.TheVariants.{First, Aligned, Fixed}
@@ -169,3 +171,8 @@ module _ (wanted : Wanted) (size : ℕ) where
       let no_less : q.content ≤ p.content = other.content.least p.content (subst (λ (r : Freed). IsAllowed wanted size r p.content) run is.content.allowed) in
       let content : p.content ≡ q.content = omega arith in
       ap (λ (k : Place). Some k) (same_place p q run (omega (arith, is.header, other.header, content)) content)
+
+pub places_exact : PlacesAreExact
+places_exact x wanted found is =
+    let here = place_among-right wanted (length x) (runs x) is in
+    (λ place. one_place wanted (length x) (runs x) found (place_of x wanted) place here, λ same. subst (λ (o : Option Place). IsPlace x wanted o) (sym same) here)

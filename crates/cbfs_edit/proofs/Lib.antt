@@ -3,6 +3,8 @@ pub mod Kept
 pub mod Groups
 pub mod Blanked
 pub mod Blanks
+pub mod Exact
+pub mod Sound
 pub mod Removals
 pub mod CellSearches
 pub mod Surveys
@@ -10,7 +12,6 @@ pub mod Leasts
 pub mod RowPlaces
 pub mod AnsweredPlaces
 pub mod PlaceSurveys
-pub mod Exact
 pub mod ExactRuns
 pub mod FreeRuns
 pub mod FormatLemmas

@@ -5,11 +5,12 @@ use Rattle.std.specs.List.{concat}
 use Rattle.std.proofs.lemmas.Bool.{cases_Bool}
 use Rattle.std.proofs.lemmas.List.Elements.{All-head, All-tail}
 use Rattle.flash_format.specs.Head.{head_of, is_free}
+use Rattle.flash_format.specs.Cut.{cut}
 use Rattle.flash_format.specs.Components.{cell_name}
-use Rattle.cbfs_edit.specs.Groups.{free_prefix, group_from, IsFree, IsComponent, EndsWithComponent, BeginsWithComponent, IsNot}
-use Rattle.cbfs_edit.specs.Laws.{OneGroup}
+use Rattle.cbfs_edit.specs.Groups.{free_prefix, group_from, group_of, IsFree, IsGroupOf, IsComponent, EndsWithComponent, BeginsWithComponent, IsNot}
+use Rattle.cbfs_edit.specs.Laws.{GroupsAreExact}
 use Rattle.cbfs_edit.specs.declared.group.Freed.{Freed}
-use Rattle.cbfs_edit.proofs.Exact.{ends_after, not_alone}
+use Rattle.cbfs_edit.proofs.Exact.{ends_after, group_exact, not_alone}
 
 -- a row of free cells at the begin, which no other free cell follows
 prefix_row : (row after : List (List ℕ)) → All IsFree row → BeginsWithComponent after → free_prefix (row ++ after) ≡ length (concat row)
@@ -52,7 +53,7 @@ over_others name start at (c ∷ before) cells fresh ends others =
 range_is : (group : Freed) (start end : ℕ) → start ≡ group.start → end ≡ group.end → Some (record { start = start; end = end }) ≡ Some group
 range_is group start end first last = ap (λ n. Some (let r : Freed = record { start = n; end = end } in r)) first ∙ ap (λ n. Some (let r : Freed = record { start = group.start; end = n } in r)) last
 
-pub one_group : OneGroup
+one_group : (x name : List ℕ) (group : Freed) → IsGroupOf name (cut x).cells group → group_of x name ≡ Some group
 one_group x name group is =
     let behind : List (List ℕ) = is.row_after ++ is.after in
     let first : 0 + length (concat is.before) ≡ group.start = omega (arith, is.start_is) in
@@ -64,3 +65,6 @@ one_group x name group is =
     ∙ over_row name group.start group.start is.row_before (is.component ∷ behind) is.row_before_free
     ∙ at_component name group.start (group.start + length (concat is.row_before)) is.component behind is.is_component is.named
     ∙ range_is group group.start _ refl last
+
+pub groups_exact : GroupsAreExact
+groups_exact x name group = (group_exact x name group, one_group x name group)

@@ -11,7 +11,7 @@ use Rattle.cbfs_walk.specs.Shapes.{shape, refused_or}
 use Rattle.cbfs_walk.specs.Shaped.{place_after}
 use Rattle.cbfs_edit.specs.Refusals.{refusal_of}
 use Rattle.cbfs_edit.specs.Runs.{add_run, runs_from}
-use Rattle.cbfs_edit.specs.Removals.{unless_damaged}
+use Rattle.cbfs_edit.specs.Removals.{unless_unsound}
 use Rattle.cbfs_edit.specs.Places.{place_in, place_among, placed, placing_in}
 use Rattle.cbfs_edit.specs.Placings.{closed, surveyed, answer_of}
 use Rattle.cbfs_edit.specs.declared.fault.EditFault.{EditFault}
@@ -93,6 +93,5 @@ place_found name wanted size s at (c ∷ cells) = sought-step name wanted size s
 pub place_searched : (x name : List ℕ) (wanted : Wanted) (size : ℕ) → length x ≡ size → placing_in x name wanted ≡ searched (place_search name wanted size) x
 unfolding placing_in sought named_in place_by by_name
 place_searched x name wanted size is =
-    ap (λ (r : Result Place EditFault). refused_or (λ fault. Err (refusal_of fault)) (shape x) (unless_damaged (place_after 0 (cut x).cells) (cut x).end r))
-    (place_found name wanted (length x) (place_search name wanted size).start 0 (cut x).cells)
+    ap (λ (r : Result Place EditFault). unless_unsound x r) (place_found name wanted (length x) (place_search name wanted size).start 0 (cut x).cells)
     ∙ ap (λ n. searched (place_search name wanted n) x) is

@@ -21,6 +21,7 @@ use Rattle.cbfs_edit.specs.declared.fault.EditFault.{EditFault}
 use Rattle.cbfs_edit.specs.declared.fault.EditFault.TheVariants as faults
 use Rattle.cbfs_edit.specs.declared.group.Freed.{Freed}
 use Rattle.cbfs_edit.proofs.Exact.{cells_of, group_exact, group_some}
+use Rattle.cbfs_edit.proofs.Sound.{accepted_by, found-some}
 use Rattle.cbfs_edit.proofs.Groups.{group_range, blanked-end, blanked-same, blanked-written}
 
 pub record IsAccepted (x name : List ℕ) (group : Freed) : Type 0 where
@@ -28,32 +29,12 @@ pub record IsAccepted (x name : List ℕ) (group : Freed) : Type 0 where
   pub is : IsGroupOf name (cut x).cells group
   pub range : IsCellRange group (length x)
 
-abbrev refused : WalkFault → Result Freed EditFault
-refused fault = Err (refusal_of fault)
-
 pub accepted : (x name : List ℕ) (group : Freed) → removal_in x name ≡ Ok group → IsAccepted x name group
 unfolding removal_in
-accepted x name group is = go (has_bad_size (length x)) (is_absent (entry x)) refl is
-  where
-    by_group : (o : Option Freed) → found o ≡ Ok group → o ≡ Some group
-    by_group None e = absurd cc
-    by_group (Some range) e = cc
-
-    by_end : (at : ℕ) (e : End) (r : Result Freed EditFault) → unless_damaged at e r ≡ Ok group → r ≡ Ok group
-    by_end at complete r e = e
-    by_end at tail r e = e
-    by_end at (damage kind) r e = absurd cc
-
-    taken : Result Freed EditFault
-    taken = unless_damaged (place_after 0 (cut x).cells) (cut x).end (found (group_of x name))
-
-    go : (b n : Bool) → has_bad_size (length x) ≡ b → refused_or refused (cond b (Some walk.RegionShape) (cond n (Some walk.NotCbfs) None)) taken ≡ Ok group → IsAccepted x name group
-    go true n e p = absurd cc
-    go false true e p = absurd cc
-    go false false e p =
-        let whole : length x % 64 ≡ 0 = good_size (length x) (sym e) in
-        let is : IsGroupOf name (cut x).cells group = group_exact x name group (by_group (group_of x name) (by_end _ (cut x).end _ p)) in
-        record { whole = whole; is = is; range = group_range x group (cells_of x name group whole is) (group_some x name group is) }
+accepted x name group is =
+    let a = accepted_by x (found (group_of x name)) group is in
+    let g : IsGroupOf name (cut x).cells group = group_exact x name group (found-some (group_of x name) faults.NotFound group a.is) in
+    record { whole = a.sound.whole; is = g; range = group_range x group (cells_of x name group a.sound.whole g) (group_some x name group g) }
 
 pub blanked_lacks : BlankedGroupsLackTheComponent
 blanked_lacks x name group y small is blanked =

@@ -5,9 +5,11 @@ use Rattle.flash_store.specs.Regions.{Range, bytes_in}
 use Rattle.cbfs_edit.specs.Additions.{NewComponent, addition_in, added_to, placed_of}
 use Rattle.cbfs_edit.specs.Refusals.{ByFault}
 use Rattle.cbfs_edit.specs.Removals.{removed, removal_in}
-use Rattle.cbfs_edit.specs.Steps.{AdditionStep, RemovalStep}
+use Rattle.cbfs_edit.specs.Steps.{AdditionReply, RemovalReply}
 use Rattle.cbfs_edit.specs.Stops.{LeavesWhole, AddLeavesWhole, AddLeavesBefore}
 use Rattle.cbfs_edit.specs.declared.addition.Placed.{Placed}
+use Rattle.cbfs_edit.specs.declared.edit.Reply.{Reply}
+use Rattle.cbfs_edit.specs.declared.edit.Reply.TheVariants as replies
 use Rattle.cbfs_edit.specs.declared.fault.EditFault.{EditFault}
 use Rattle.cbfs_edit.specs.declared.fault.EditFault.TheVariants as faults
 use Rattle.cbfs_edit.specs.declared.group.Freed.{Freed}
@@ -21,13 +23,21 @@ by-fault faults.Device A B C a b c = a refl
 by-fault faults.Source A B C a b c = b refl
 by-fault other A B C a b c = c (λ e. absurd cc) (λ e. absurd cc)
 
+abbrev removal_reply : Result Freed EditFault → Reply
+removal_reply (Ok group) = replies.Freed group
+removal_reply (Err fault) = replies.Refused fault
+
+abbrev addition_reply : Result Placed EditFault → Reply
+addition_reply (Ok placed) = replies.Placed placed
+addition_reply (Err fault) = replies.Refused fault
+
 pub removal_step : (name : List ℕ) (r : Range) (old now : List ℕ) (result : Result Freed EditFault)
     → (IsErrOf result faults.Source → ⊥)
     → IsErrOf result faults.Device ⊎ (result ≡ removal_in (bytes_in r old) name)
     → IfOk result (λ group. bytes_in r now ≡ removed (bytes_in r old) group)
     → IfErr result (λ fault. fault ≢ faults.Device → now ≡ old)
     → (IsErrOf result faults.Device → LeavesWhole (bytes_in r old) name (bytes_in r now))
-    → RemovalStep name (bytes_in r old) result (bytes_in r now)
+    → RemovalReply name (bytes_in r old) (removal_reply result) (bytes_in r now)
 removal_step name r old now (Ok group) no_source (inl failed) changed refused stopped = absurd cc
 removal_step name r old now (Ok group) no_source (inr is) changed refused stopped = (sym is, changed)
 removal_step name r old now (Err fault) no_source answer changed refused stopped =
@@ -51,7 +61,7 @@ pub addition_step : (new : NewComponent) (spot : Spot) (r : Range) (old now : Li
     → IfErr result (λ fault. fault ≢ faults.Device → fault ≢ faults.Source → now ≡ old)
     → (IsErrOf result faults.Device → AddLeavesWhole (bytes_in r old) new spot (bytes_in r now))
     → (IsErrOf result faults.Source → AddLeavesBefore (bytes_in r old) new spot (bytes_in r now))
-    → AdditionStep new spot (bytes_in r old) result (bytes_in r now)
+    → AdditionReply new spot (bytes_in r old) (addition_reply result) (bytes_in r now)
 addition_step new spot r old now (Ok placed) (inl failed) changed refused stopped before = absurd cc
 addition_step new spot r old now (Ok placed) (inr (inl failed)) changed refused stopped before = absurd cc
 addition_step new spot r old now (Ok placed) (inr (inr is)) changed refused stopped before = (sym is, changed)

@@ -9,7 +9,7 @@ use Rattle.cbfs_walk.specs.Shaped.{place_after}
 use Rattle.cbfs_edit.specs.Refusals.{refusal_of}
 use Rattle.cbfs_edit.specs.Groups.{free_prefix, group_from}
 use Rattle.cbfs_edit.specs.Searches.{passed, group_in}
-use Rattle.cbfs_edit.specs.Removals.{unless_damaged, found, removal_in}
+use Rattle.cbfs_edit.specs.Removals.{unless_unsound, found, removal_in}
 use Rattle.cbfs_edit.specs.declared.fault.EditFault.{EditFault}
 use Rattle.cbfs_edit.specs.declared.group.Freed.{Freed}
 use Rattle.cbfs_edit.specs.declared.group.Search.{Search}
@@ -65,5 +65,4 @@ group_found name s at (c ∷ cells) = ap found (group-step name s at c cells) �
 pub group_searched : (x name : List ℕ) → removal_in x name ≡ searched (group_search name) x
 unfolding removal_in group_by
 group_searched x name =
-    ap (λ (r : Result Freed EditFault). refused_or (λ fault. Err (refusal_of fault)) (shape x) (unless_damaged (place_after 0 (cut x).cells) (cut x).end r))
-    (group_found name (Looking 0) 0 (cut x).cells)
+    ap (λ (r : Result Freed EditFault). unless_unsound x r) (group_found name (Looking 0) 0 (cut x).cells)

@@ -24,7 +24,7 @@ use Rattle.cbfs_edit.specs.declared.group.Freed.{Freed}
 use Rattle.cbfs_edit.specs.declared.place.Spot.{Spot}
 use Rattle.cbfs_edit.specs.declared.place.Place.{Place}
 use Rattle.cbfs_edit.specs.declared.place.Wanted.{Wanted}
-use Rattle.cbfs_edit.proofs.Added.{added_length}
+use Rattle.cbfs_edit.proofs.Added.{added_length, there}
 use Rattle.cbfs_edit.proofs.Exact.{group_none}
 use Rattle.cbfs_edit.proofs.FoundAgain.{added_first, after, before, none_before, one_more, shape_after}
 use Rattle.cbfs_edit.proofs.Taken.{others_have_not, removal_takes_one}
@@ -58,37 +58,9 @@ one_first name (d ∷ before) after (d' ∷ before') after' c c' named named' no
 
 -- ---- the removal isn't refused
 
--- an end that refuses nothing
-Passes : End → Type 1
-Passes e = (A : Type 0) (at : ℕ) (r : Result A EditFault) → unless_damaged at e r ≡ r
-
-passes : (x name : List ℕ) (wanted : Wanted) (place : Place) → placing_in x name wanted ≡ Ok place → Passes (cut x).end
-unfolding placing_in Passes
-passes x name wanted place is = go (has_bad_size (length x)) (is_absent (entry x)) (cut x).end is
-  where
-    rest : Result Place EditFault
-    rest = cond (is_some (first_named name (components x))) (Err faults.Exists) (placed (place_of x wanted))
-
-    go : (b n : Bool) (e : End) → refused_or (λ fault. Err (refusal_of fault)) (cond b (Some walk.RegionShape) (cond n (Some walk.NotCbfs) None)) (unless_damaged (place_after 0 (cut x).cells) e rest) ≡ Ok place → Passes e
-    go true n e p = absurd cc
-    go false true e p = absurd cc
-    go false false complete p = λ A at r. refl
-    go false false tail p = λ A at r. refl
-    go false false (damage kind) p = absurd cc
-
-placed_by : (x : List ℕ) (new : NewComponent) (spot : Spot) (place : Place) → addition_in x new spot ≡ Ok place → placing_in x new.name (wanted_for new spot) ≡ Ok place
-unfolding addition_in
-placed_by x new spot place is = go (own_fault new.name new.kind spot) is
-  where
-    go : (o : Option EditFault) → unless_faulty o (placing_in x new.name (wanted_for new spot)) ≡ Ok place → placing_in x new.name (wanted_for new spot) ≡ Ok place
-    go None e = e
-    go (Some fault) e = absurd cc
-
-removal_is : (y name : List ℕ) → shape y ≡ None → Passes (cut y).end → removal_in y name ≡ found (group_of y name)
-unfolding removal_in Passes
-removal_is y name good through =
-    ap (λ (o : Option WalkFault). refused_or (λ fault. Err (refusal_of fault)) o (unless_damaged (place_after 0 (cut y).cells) (cut y).end (found (group_of y name)))) good
-    ∙ through Freed (place_after 0 (cut y).cells) (found (group_of y name))
+removal_is : (y name : List ℕ) → shape y ≡ None → unless_damaged (place_after 0 (cut y).cells) (cut y).end (found (group_of y name)) ≡ found (group_of y name) → removal_in y name ≡ found (group_of y name)
+unfolding removal_in
+removal_is y name good through = ap (λ (o : Option WalkFault). refused_or (λ fault. Err (refusal_of fault)) o (unless_damaged (place_after 0 (cut y).cells) (cut y).end (found (group_of y name)))) good ∙ through
 
 -- where a component has the name there is a group
 some_group : (y name : List ℕ) (c : Component) → IsFirstOf name (components y) c → (group : Freed) × (group_of y name ≡ Some group)
@@ -103,15 +75,15 @@ some_group y name c is = go (group_of y name) refl
         absurd (let k : true ≡ false = sym is.named ∙ other in cc)
 
 pub additions_undone : AdditionsAreUndone
-unfolding Passes
 additions_undone x new spot place is =
     let y : List ℕ = added x new place in
     let more = one_more x new spot place is in
     let some = some_group y new.name (added_component x new place) (added_first x new spot place is) in
     let group : Freed = some.0 in
-    let through : Passes (cut x).end = passes x new.name (wanted_for new spot) place (placed_by x new spot place is.placed) in
+    let sound = (there x new spot place is.region is.kind is.content is.digest is.placed).sound in
+    let at = place_after 0 (cut y).cells in
     let removes : removal_in y new.name ≡ Ok group =
-    removal_is y new.name (shape_after x new spot place is) (λ A at r. ap (λ (e : End). unless_damaged at e r) more.more.same_end ∙ through A at r) ∙ ap (λ (o : Option Freed). found o) some.1 in
+    removal_is y new.name (shape_after x new spot place is) (ap (λ (e : End). unless_damaged at e (found (group_of y new.name))) more.more.same_end ∙ sound.undamaged at (found (group_of y new.name))) ∙ ap (λ (o : Option Freed). found o) some.1 in
     let long : length y ≡ length x = added_length x new spot place is.region is.kind is.content is.digest is.placed in
     let loses : LosesOne new.name y (removed y group) = removal_takes_one y new.name group (omega (arith, long, is.region)) removes in
     let once = one_first new.name loses.before loses.after (before x new spot place is) (after x new spot place is) loses.component (added_component x new place) loses.named (same_name new.name) loses.first (none_before x new spot place is)

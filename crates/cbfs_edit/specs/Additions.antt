@@ -1,5 +1,7 @@
 -- What the addition of a component leaves, and how it is refused.
 use Rattle.std.specs.List.{list_any}
+use Rattle.std.specs.Option.{option_map_or}
+use Rattle.std.specs.Result.{result_ok}
 use Rattle.std.specs.Prelude.{◌≡◌, ℕ, ◌+◌, ◌-◌, ◌==◌, ◌||◌, max, Bool, false, List, [], ◌∷◌, ◌++◌, length, slice_range, nat_lt, Option, Some, None, Result, Ok, Err, if◌then◌else◌}
 use Rattle.flash_format.specs.Head.{round64}
 use Rattle.flash_format.specs.Entry.{is_nul}
@@ -19,7 +21,7 @@ use Rattle.cbfs_edit.specs.declared.addition.Label.{Label}
 use Rattle.cbfs_edit.specs.declared.fault.EditFault.{EditFault}
 use Rattle.cbfs_edit.specs.declared.fault.EditFault.TheVariants.{BadName, BadType, BadAlign}
 use Rattle.cbfs_edit.specs.declared.place.Spot.{Spot}
-use Rattle.cbfs_edit.specs.declared.place.Spot.TheVariants.{First, Aligned, Fixed}
+use Rattle.cbfs_edit.specs.declared.place.Spot.TheVariants.{Aligned}
 use Rattle.cbfs_edit.specs.declared.place.Wanted.{Wanted}
 use Rattle.cbfs_edit.specs.declared.place.Place.{Place}
 
@@ -100,9 +102,8 @@ abbrev pub is_bad_type : ℕ → Bool
 is_bad_type kind = kind == 0 || kind == 0xffffffff
 
 abbrev pub is_bad_align : Spot → Bool
-is_bad_align First = false
 is_bad_align (Aligned unit) = unit == 0
-is_bad_align (Fixed place) = false
+is_bad_align spot = false
 
 -- the first refusal for which no device is looked at
 abbrev pub own_fault : List ℕ → ℕ → Spot → Option EditFault
@@ -124,10 +125,6 @@ abbrev pub placed_of : Result Place EditFault → Result Placed EditFault
 placed_of (Err fault) = Err fault
 placed_of (Ok place) = Ok (record { header = place.header; content = place.content })
 
-abbrev pub after_addition : List ℕ → NewComponent → Result Place EditFault → List ℕ
-after_addition x new (Err fault) = x
-after_addition x new (Ok place) = added x new place
-
 -- the region after the addition: as it was where that is refused
 abbrev pub added_to : List ℕ → NewComponent → Spot → List ℕ
-added_to x new spot = after_addition x new (addition_in x new spot)
+added_to x new spot = option_map_or (added x new) (result_ok (addition_in x new spot)) x

@@ -1,5 +1,5 @@
 -- The laws that the edits rest on.
-use Rattle.std.specs.Prelude.{◌≡◌, ℕ, ◌%◌, ◌^◌, ◌<◌, ◌≤◌, false, All, Contains, List, length, Ok, Option, Some, None}
+use Rattle.std.specs.Prelude.{◌≡◌, ◌↔◌, ℕ, ◌%◌, ◌^◌, ◌<◌, ◌≤◌, false, All, Contains, List, length, Ok, Option, Some, None}
 use Rattle.std.specs.List.{AllPairs}
 use Rattle.std.specs.Str.{bytes_eq}
 use Rattle.flash_format.specs.Cut.{cut}
@@ -28,29 +28,21 @@ BlankedGroupsLackTheComponent = (x name : List ℕ) (group : Freed) (y : List �
 abbrev pub RemovalsTakeOneComponent : Type 0
 RemovalsTakeOneComponent = (x name : List ℕ) (group : Freed) → length x < 2 ^ 32 → removal_in x name ≡ Ok group → LosesOne name x (removed x group)
 
--- the group that a removal takes is the first component of the name, with all free cells that touch it
+-- the group that a removal takes is the first component of the name, with all free cells that touch it, and nothing else is
 abbrev pub GroupsAreExact : Type 0
-GroupsAreExact = (x name : List ℕ) (group : Freed) → group_of x name ≡ Some group → IsGroupOf name (cut x).cells group
+GroupsAreExact = (x name : List ℕ) (group : Freed) → (group_of x name ≡ Some group) ↔ IsGroupOf name (cut x).cells group
 
 -- without a group no component has the name
 abbrev pub NoGroupNoComponent : Type 0
 NoGroupNoComponent = (x name : List ℕ) → group_of x name ≡ None → All (IsNot name) (cut x).cells
 
--- and there is no other such group
-abbrev pub OneGroup : Type 0
-OneGroup = (x name : List ℕ) (group : Freed) → IsGroupOf name (cut x).cells group → group_of x name ≡ Some group
-
 -- between the commits of an edit that fills a run the components are those of before
 abbrev pub BlankedRunsKeepTheComponents : Type 0
 BlankedRunsKeepTheComponents = (x : List ℕ) (run : Freed) (y : List ℕ) → length x % 64 ≡ 0 → length x < 2 ^ 32 → Contains (runs x) run → IsBlanked x run y → SameCells y x
 
--- each run is a maximal row of neighbouring free cells
-abbrev pub RunsAreMaximal : Type 0
-RunsAreMaximal = (x : List ℕ) (run : Freed) → Contains (runs x) run → IsRunOf 0 (cut x).cells run
-
--- and each maximal row is a run
-abbrev pub MaximalRunsAreThere : Type 0
-MaximalRunsAreThere = (x : List ℕ) (run : Freed) → IsRunOf 0 (cut x).cells run → Contains (runs x) run
+-- the runs are the maximal rows of neighbouring free cells, all of them
+abbrev pub RunsAreExact : Type 0
+RunsAreExact = (x : List ℕ) (run : Freed) → Contains (runs x) run ↔ IsRunOf (cut x).cells run
 
 -- in their order, with a cell between each and the next
 abbrev pub RunsAscend : Type 0
@@ -60,13 +52,9 @@ RunsAscend = (x : List ℕ) → length x % 64 ≡ 0 → AllPairs (λ (a b : Free
 abbrev pub FormattedIsOneFreeCell : Type 0
 FormattedIsOneFreeCell = (x : List ℕ) → 64 ≤ length x → length x % 64 ≡ 0 → length x < 2 ^ 32 → IsOneFreeCell (formatted x)
 
--- the place of a new component is in the first run with an allowed place, at its least one
+-- the place of a new component is in the first run with an allowed place, at its least one, and nowhere else
 abbrev pub PlacesAreExact : Type 0
-PlacesAreExact = (x : List ℕ) (wanted : Wanted) → IsWanted wanted → IsPlace x wanted (place_of x wanted)
-
--- and nowhere else
-abbrev pub OnePlace : Type 0
-OnePlace = (x : List ℕ) (wanted : Wanted) (found : Option Place) → IsWanted wanted → IsPlace x wanted found → found ≡ place_of x wanted
+PlacesAreExact = (x : List ℕ) (wanted : Wanted) (found : Option Place) → IsWanted wanted → IsPlace x wanted found ↔ (found ≡ place_of x wanted)
 
 -- an addition makes one component more, with its name, type, attributes and content, at its place, and the content where
 -- the caller is told; all others stay

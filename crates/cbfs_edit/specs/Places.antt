@@ -1,15 +1,11 @@
 -- The place of a new component.
 use Rattle.std.specs.Option.{option_or}
 use Rattle.std.specs.Int.{next_multiple_of}
-use Rattle.std.specs.Prelude.{◌≡◌, ◌≢◌, ℕ, ◌+◌, ◌-◌, ◌*◌, ◌/◌, ◌%◌, ◌^◌, ◌<◌, ◌≤◌, ⊤, Bool, ◌&&◌, ◌==◌, nat_le, if◌then◌else◌, is_some, List, [], ◌∷◌, ◌++◌, All, Contains, length, Option, Some, None, option_map, Result, Ok, Err}
-use Rattle.flash_format.specs.Cut.{cut}
+use Rattle.std.specs.Prelude.{◌≡◌, ◌≢◌, ℕ, ◌+◌, ◌-◌, ◌*◌, ◌/◌, ◌%◌, ◌^◌, ◌<◌, ◌≤◌, ⊤, Bool, ◌&&◌, ◌==◌, nat_le, if◌then◌else◌, is_some, List, [], ◌∷◌, ◌++◌, All, length, Option, Some, None, option_map, Result, Err, ok_or}
 use Rattle.flash_format.specs.Components.{components}
-use Rattle.cbfs_walk.specs.Shapes.{shape, refused_or}
-use Rattle.cbfs_walk.specs.Shaped.{place_after}
 use Rattle.cbfs_walk.specs.Finding.{first_named}
-use Rattle.cbfs_edit.specs.Refusals.{refusal_of}
 use Rattle.cbfs_edit.specs.Runs.{runs}
-use Rattle.cbfs_edit.specs.Removals.{unless_damaged}
+use Rattle.cbfs_edit.specs.Removals.{unless_unsound}
 use Rattle.cbfs_edit.specs.declared.fault.EditFault.{EditFault}
 use Rattle.cbfs_edit.specs.declared.fault.EditFault.TheVariants.{Exists, NoSpace}
 use Rattle.cbfs_edit.specs.declared.group.Freed.{Freed}
@@ -34,9 +30,8 @@ Meets (Fixed place) c = c ≡ place
 
 -- where content ends at the latest, in a run that ends here, of a region of this size
 abbrev pub limit_of : Spot → ℕ → ℕ → ℕ
-limit_of First size end = if end == size then end - 4 else end
-limit_of (Aligned unit) size end = if end == size then end - 4 else end
 limit_of (Fixed place) size end = end
+limit_of spot size end = if end == size then end - 4 else end
 
 -- content may begin at `c` in the run
 pub record IsAllowed (wanted : Wanted) (size : ℕ) (run : Freed) (c : ℕ) : Type 0 where
@@ -110,19 +105,9 @@ place_of x wanted = place_among wanted (length x) (runs x)
 -- ---- with its refusals
 
 abbrev pub placed : Option Place → Result Place EditFault
-placed None = Err NoSpace
-placed (Some place) = Ok place
+placed place = ok_or place NoSpace
 
 -- the place of a new component of a name, or its first refusal
 unfoldable pub placing_in : List ℕ → List ℕ → Wanted → Result Place EditFault
 placing_in x name wanted =
-    refused_or (λ fault. Err (refusal_of fault)) (shape x)
-    (unless_damaged (place_after 0 (cut x).cells) (cut x).end
-    (if is_some (first_named name (components x)) then Err Exists else placed (place_of x wanted)))
-
--- what an answer says: no component has the name, and the place is in a run of the region
-pub record IsAnsweredPlace (x name : List ℕ) (wanted : Wanted) (place : Place) : Type 0 where
-  pub whole : length x % 64 ≡ 0
-  pub no_other : first_named name (components x) ≡ None
-  pub found : place_of x wanted ≡ Some place
-  pub is_run : Contains (runs x) place.run
+    unless_unsound x (if is_some (first_named name (components x)) then Err Exists else placed (place_of x wanted))

@@ -1,6 +1,6 @@
 -- What a removal leaves, and how it is refused.
 use Rattle.std.specs.Str.{bytes_eq}
-use Rattle.std.specs.Prelude.{◌≡◌, ℕ, ◌-◌, true, false, All, List, ◌∷◌, ◌++◌, length, drop, Option, Some, None, Result, Ok, Err, ◌==◌, if◌then◌else◌}
+use Rattle.std.specs.Prelude.{◌≡◌, ℕ, ◌-◌, true, false, All, List, ◌∷◌, ◌++◌, length, drop, Option, Some, None, Result, Err, ok_or, ◌==◌, if◌then◌else◌}
 use Rattle.flash_format.specs.Blanks.{blank}
 use Rattle.flash_format.specs.Components.{Component, components}
 use Rattle.flash_format.specs.Cut.{End, complete, tail, damage, cut}
@@ -41,12 +41,14 @@ unless_damaged at complete otherwise = otherwise
 unless_damaged at tail otherwise = otherwise
 unless_damaged at (damage kind) otherwise = Err (Damaged at kind)
 
+-- a region's own refusal comes first: its size, no entry at its start, or a damage
+abbrev pub unless_unsound : {A : Type 0} → List ℕ → Result A EditFault → Result A EditFault
+unless_unsound x otherwise =
+    refused_or (λ fault. Err (refusal_of fault)) (shape x) (unless_damaged (place_after 0 (cut x).cells) (cut x).end otherwise)
+
 abbrev pub found : Option Freed → Result Freed EditFault
-found None = Err NotFound
-found (Some group) = Ok group
+found group = ok_or group NotFound
 
 -- the group that a removal takes, or its first refusal
 unfoldable pub removal_in : List ℕ → List ℕ → Result Freed EditFault
-removal_in x name =
-    refused_or (λ fault. Err (refusal_of fault)) (shape x)
-    (unless_damaged (place_after 0 (cut x).cells) (cut x).end (found (group_of x name)))
+removal_in x name = unless_unsound x (found (group_of x name))

@@ -23,8 +23,8 @@ runs_from start at (x ∷ cells) =
 abbrev pub runs : List ℕ → List Freed
 runs x = runs_from 0 0 (cut x).cells
 
--- a run among cells of which the first stands at a place: free cells with a component, or nothing, on either side
-pub record IsRunOf (at : ℕ) (cells : List (List ℕ)) (run : Freed) : Type 0 where
+-- a run among cells: free ones with a component, or nothing, on either side
+pub record IsRunOf (cells : List (List ℕ)) (run : Freed) : Type 0 where
   pub before : List (List ℕ)
   pub row : List (List ℕ)
   pub after : List (List ℕ)
@@ -33,5 +33,5 @@ pub record IsRunOf (at : ℕ) (cells : List (List ℕ)) (run : Freed) : Type 0 w
   pub some : run.start < run.end
   pub no_more_before : EndsWithComponent before
   pub no_more_after : BeginsWithComponent after
-  pub start_is : at + length (concat before) ≡ run.start
+  pub start_is : length (concat before) ≡ run.start
   pub end_is : run.start + length (concat row) ≡ run.end

@@ -23,8 +23,7 @@ passed name (Whole group) at x = Whole group
 -- the component is found: no further name is read
 abbrev pub HasFound : Search → Type 0
 HasFound (Looking start) = ⊥
-HasFound (Growing group) = ⊤
-HasFound (Whole group) = ⊤
+HasFound search = ⊤
 
 -- what a search has found where the cells end
 abbrev pub group_in : Search → Result Freed EditFault
@@ -32,13 +31,8 @@ group_in (Looking start) = Err NotFound
 group_in (Growing group) = Ok group
 group_in (Whole group) = Ok group
 
--- a row of free cells from a multiple of 64 up to a place
-pub record IsRow (start at : ℕ) : Type 0 where
-  pub order : start ≤ at
-  pub aligned : start % 64 ≡ 0
-
 -- whatever the device is, a search speaks of whole cells before its place
 abbrev pub IsBefore : ℕ → Search → Type 0
-IsBefore at (Looking start) = IsRow start at
+IsBefore at (Looking start) = (start ≤ at) × (start % 64 ≡ 0)
 IsBefore at (Growing group) = IsCellRange group at
 IsBefore at (Whole group) = IsCellRange group at

@@ -25,33 +25,18 @@ state_of region device = record { bytes = bytes_in region device.content; faults
 
 -- ---- what the answers of an edit say of the region's bytes, on an honest device
 
--- a removal that its region refuses changes nothing
-abbrev pub RefusedRemoval : List ℕ → List ℕ → EditFault → List ℕ → Type 0
-RefusedRemoval name x fault y = (removal_in x name ≡ Err fault) × (y ≡ x)
-
--- a removal has no source, so none refuses it
-abbrev pub RemovalStep : List ℕ → List ℕ → Result Freed EditFault → List ℕ → Type 0
-RemovalStep name x (Ok group) y = (removal_in x name ≡ Ok group) × (y ≡ removed x group)
-RemovalStep name x (Err fault) y = ByFault fault (LeavesWhole x name y) ⊥ (RefusedRemoval name x fault y)
-
-abbrev pub RefusedAddition : NewComponent → Spot → List ℕ → EditFault → List ℕ → Type 0
-RefusedAddition new spot x fault y = (addition_in x new spot ≡ Err fault) × (y ≡ x)
-
-abbrev pub AdditionStep : NewComponent → Spot → List ℕ → Result Placed EditFault → List ℕ → Type 0
-AdditionStep new spot x (Ok placed) y = (placed_of (addition_in x new spot) ≡ Ok placed) × (y ≡ added_to x new spot)
-AdditionStep new spot x (Err fault) y = ByFault fault (AddLeavesWhole x new spot y) (AddLeavesBefore x new spot y) (RefusedAddition new spot x fault y)
-
--- what a reply to an addition says, which is never a group
+-- a reply to an addition is never a group
 abbrev pub AdditionReply : NewComponent → Spot → List ℕ → Reply → List ℕ → Type 0
-AdditionReply new spot x (replies.Placed placed) y = AdditionStep new spot x (Ok placed) y
+AdditionReply new spot x (replies.Placed placed) y = (placed_of (addition_in x new spot) ≡ Ok placed) × (y ≡ added_to x new spot)
 AdditionReply new spot x (replies.Freed group) y = ⊥
-AdditionReply new spot x (replies.Refused fault) y = AdditionStep new spot x (Err fault) y
+AdditionReply new spot x (replies.Refused fault) y =
+    ByFault fault (AddLeavesWhole x new spot y) (AddLeavesBefore x new spot y) ((addition_in x new spot ≡ Err fault) × (y ≡ x))
 
--- what one to a removal says, which is never a place
+-- one to a removal is never a place, and a removal has no source, so none refuses it
 abbrev pub RemovalReply : List ℕ → List ℕ → Reply → List ℕ → Type 0
 RemovalReply name x (replies.Placed placed) y = ⊥
-RemovalReply name x (replies.Freed group) y = RemovalStep name x (Ok group) y
-RemovalReply name x (replies.Refused fault) y = RemovalStep name x (Err fault) y
+RemovalReply name x (replies.Freed group) y = (removal_in x name ≡ Ok group) × (y ≡ removed x group)
+RemovalReply name x (replies.Refused fault) y = ByFault fault (LeavesWhole x name y) ⊥ ((removal_in x name ≡ Err fault) × (y ≡ x))
 
 abbrev pub IsReply : {S : Type 0} → (S → Device) → Edit S → List ℕ → Reply → List ℕ → Type 0
 IsReply facts (Add name kind hash spot source) x reply y = AdditionReply (new_component name.now kind hash (facts source).content) spot x reply y
@@ -61,9 +46,8 @@ IsReply facts (Remove name) x reply y = RemovalReply name.now x reply y
 
 -- how many refused calls of a side a reply tells: one call at most, with which the edit ends
 abbrev pub faults_of : (EditFault → ℕ) → Reply → ℕ
-faults_of told (replies.Placed placed) = 0
-faults_of told (replies.Freed group) = 0
 faults_of told (replies.Refused fault) = told fault
+faults_of told reply = 0
 
 -- An edit stays what it was. Its source counts its own calls and faults, so an edit is given as it was and as it is; the
 -- content is that of before where the source is honest. A removal has no source to blame.
@@ -73,19 +57,11 @@ Stays facts refused (Add name kind hash spot source) (Add name' kind' hash' spot
 Stays facts refused (Remove name) (Remove name') = (name' ≡ name) × (refused ≡ 0)
 Stays facts refused old new = ⊥
 
-abbrev pub IsAddition : {S : Type 0} → Edit S → Type 0
-IsAddition (Add name kind hash spot source) = ⊤
-IsAddition (Remove name) = ⊥
-
-abbrev pub IsRemoval : {S : Type 0} → Edit S → Type 0
-IsRemoval (Add name kind hash spot source) = ⊥
-IsRemoval (Remove name) = ⊤
-
 -- an addition is answered by its place, a removal by its group, and each by why it is refused
 abbrev pub Answers : {S : Type 0} → Edit S → Reply → Type 0
-Answers edit (replies.Placed placed) = IsAddition edit
-Answers edit (replies.Freed group) = IsRemoval edit
-Answers edit (replies.Refused fault) = ⊤
+Answers (Add name kind hash spot source) (replies.Freed group) = ⊥
+Answers (Remove name) (replies.Placed placed) = ⊥
+Answers edit reply = ⊤
 
 pub record Answered {S : Type 0} (facts : S → Device) (old new : Edit S) (before : State) (reply : Reply) (after : State) : Type 0 where
   pub stays : Stays facts (faults_of by_source reply) old new

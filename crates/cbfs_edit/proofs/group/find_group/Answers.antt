@@ -7,7 +7,7 @@ use Rattle.cbfs_edit.proofs.Surveys.{group_search, group_searched}
 use Rattle.cbfs_edit.proofs.group.find_group.Goals as goal
 
 pub loop-cell-init : goal.loop-cell-init
-loop-cell-init g c = rw c.new-walk.ensures (surveying_start _ c.args.region (group_search c.args.name.now) _ _ _ (record { order = omega arith; aligned = refl }) (group_searched _ c.args.name.now))
+loop-cell-init g c = rw c.new-walk.ensures (surveying_start _ c.args.region (group_search c.args.name.now) _ _ _ (omega arith, refl) (group_searched _ c.args.name.now))
 
 pub loop-cell-preserved : goal.loop-cell-preserved
 loop-cell-preserved g c =

@@ -1,0 +1,37 @@
+-- What is known of a region that is not refused itself.
+use Rattle.std.proofs.Common.{◌≡◌, ℕ, ◌%◌, Bool, true, false, cond, List, length, Option, Some, None, Result, Ok, Err, refl, sym}
+use Rattle.std.specs.Prelude.{ok_or}
+use Rattle.flash_format.specs.Cut.{End, complete, tail, damage, cut}
+use Rattle.flash_format.specs.Entry.{entry}
+use Rattle.cbfs_walk.specs.Shapes.{has_bad_size, is_absent, refused_or}
+use Rattle.cbfs_walk.specs.Shaped.{place_after}
+use Rattle.cbfs_walk.specs.declared.walk.WalkFault.TheVariants as walk
+use Rattle.cbfs_walk.proofs.Answering.{good_size}
+use Rattle.cbfs_edit.specs.Refusals.{refusal_of}
+use Rattle.cbfs_edit.specs.Removals.{unless_damaged, unless_unsound}
+use Rattle.cbfs_edit.specs.declared.fault.EditFault.{EditFault}
+use Rattle.cbfs_edit.specs.declared.group.Freed.{Freed}
+
+-- its size is good, and no damage ends its cells
+pub record IsSound (x : List ℕ) : Type 0 where
+  pub whole : length x % 64 ≡ 0
+  pub undamaged : (at : ℕ) (r : Result Freed EditFault) → unless_damaged at (cut x).end r ≡ r
+
+pub record IsAccepted {A : Type 0} (x : List ℕ) (r : Result A EditFault) (a : A) : Type 0 where
+  pub sound : IsSound x
+  pub is : r ≡ Ok a
+
+pub accepted_by : {A : Type 0} (x : List ℕ) (r : Result A EditFault) (a : A) → unless_unsound x r ≡ Ok a → IsAccepted x r a
+accepted_by {A} x r a is = go (has_bad_size (length x)) (is_absent (entry x)) (cut x).end refl refl is
+  where
+    go : (b n : Bool) (e : End) → has_bad_size (length x) ≡ b → e ≡ (cut x).end
+        → refused_or (λ fault. Err (refusal_of fault)) (cond b (Some walk.RegionShape) (cond n (Some walk.NotCbfs) None)) (unless_damaged (place_after 0 (cut x).cells) e r) ≡ Ok a → IsAccepted x r a
+    go true n e size ends p = absurd cc
+    go false true e size ends p = absurd cc
+    go false false complete size ends p = record { sound = record { whole = good_size (length x) (sym size); undamaged = λ at s. rw (← ends) refl }; is = p }
+    go false false tail size ends p = record { sound = record { whole = good_size (length x) (sym size); undamaged = λ at s. rw (← ends) refl }; is = p }
+    go false false (damage kind) size ends p = absurd cc
+
+pub found-some : {A : Type 0} (o : Option A) (fault : EditFault) (a : A) → ok_or o fault ≡ Ok a → o ≡ Some a
+found-some None fault a is = absurd cc
+found-some (Some b) fault a is = cc
