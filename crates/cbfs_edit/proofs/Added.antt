@@ -2,7 +2,7 @@
 use Rattle.std.proofs.Common.{◌≡◌, ◌≢◌, inl, inr, ⊎_elim, ℕ, ◌+◌, ◌-◌, ◌%◌, ◌^◌, ◌<◌, ◌≤◌, Bool, true, false, cond, eqb, ltb, ◌||◌, List, [], ◌∷◌, ◌++◌, length, drop, Option, Some, None, Ok, Err, sym, ◌∙◌, ap, subst, refl, arith, length-append, length-drop}
 use Rattle.std.specs.Prelude.{◌==◌}
 use Rattle.std.specs.List.{list_any}
-use Rattle.std.proofs.lemmas.Bool.{cond_both, eqb-false, eqb-true, or_parts}
+use Rattle.std.proofs.lemmas.Bool.{cond_both, eqb-false, eqb-true, ltb-false, or_parts}
 use Rattle.std.proofs.lemmas.Bool.Decides.{nat_tests}
 use Rattle.flash_format.specs.Head.{header_length, round64}
 use Rattle.flash_format.specs.Entry.{is_nul}
@@ -38,21 +38,22 @@ use Rattle.cbfs_edit.proofs.Groups.{as_splice, blanked-written, over-range}
 use Rattle.cbfs_edit.proofs.Kept.{keeps}
 use Rattle.cbfs_edit.proofs.Leasts.{place_among-right}
 
--- ---- the caller's own faults
-pub own-refused : (x : List ℕ) (new : NewComponent) (spot : Spot) (fault : EditFault) → Some fault ≡ own_fault new.name new.kind spot → Err fault ≡ addition_in x new spot
+-- once the caller's own faults are looked at
+pub own-is : (x : List ℕ) (new : NewComponent) (spot : Spot) (own : Option EditFault) → own ≡ own_fault new.name new.kind spot → unless_faulty own (placing_in x new.name (wanted_for new spot)) ≡ addition_in x new spot
 unfolding addition_in
-own-refused x new spot fault is = ap (λ (o : Option EditFault). unless_faulty o (placing_in x new.name (wanted_for new spot))) is
+own-is x new spot own is = ap (λ (o : Option EditFault). unless_faulty o (placing_in x new.name (wanted_for new spot))) is
 
-pub own-fine : (x : List ℕ) (new : NewComponent) (spot : Spot) → None ≡ own_fault new.name new.kind spot → placing_in x new.name (wanted_for new spot) ≡ addition_in x new spot
-unfolding addition_in
-own-fine x new spot is = ap (λ (o : Option EditFault). unless_faulty o (placing_in x new.name (wanted_for new spot))) is
+good_spot : (spot : Spot) → is_bad_align spot ≡ false → (let none : Spot = Aligned 0 in spot ≢ none)
+good_spot (Aligned unit) good = λ e. absurd (let same : unit ≡ 0 = cc in eqb-false unit 0 good same)
+good_spot other good = λ e. absurd cc
 
 -- ---- an accepted addition
 
 record IsAccepted (x : List ℕ) (new : NewComponent) (spot : Spot) (place : Place) : Type 0 where
-  name_good : is_bad_name new.name ≡ false
+  name_short : length new.name ≤ 127
+  name_plain : list_any is_nul new.name ≡ false
   kind_good : is_bad_type new.kind ≡ false
-  spot_good : is_bad_align spot ≡ false
+  spot_good : (let none : Spot = Aligned 0 in spot ≢ none)
   placed : placing_in x new.name (wanted_for new spot) ≡ Ok place
 
 accepted : (x : List ℕ) (new : NewComponent) (spot : Spot) (place : Place) → addition_in x new spot ≡ Ok place → IsAccepted x new spot place
@@ -64,31 +65,18 @@ accepted x new spot place is = go (is_bad_name new.name) (is_bad_type new.kind) 
     go true k s e f h p = absurd cc
     go false true s e f h p = absurd cc
     go false false true e f h p = absurd cc
-    go false false false e f h p = record { name_good = e; kind_good = f; spot_good = h; placed = p }
+    go false false false e f h p =
+        let name = or_parts (eqb (length new.name) 0 || ltb 127 (length new.name)) (list_any is_nul new.name) e in
+        record {
+          name_short = ltb-false 127 (length new.name) (or_parts (eqb (length new.name) 0) (ltb 127 (length new.name)) name.0).1;
+          name_plain = name.1;
+          kind_good = f;
+          spot_good = good_spot spot h;
+          placed = p;
+        }
 
 pub accepted_size : (x : List ℕ) (new : NewComponent) (spot : Spot) (place : Place) → addition_in x new spot ≡ Ok place → length x % 64 ≡ 0
 accepted_size x new spot place is = (answered_place x new.name (wanted_for new spot) place (accepted x new spot place is).placed).sound.whole
-
-record IsGoodName (name : List ℕ) : Type 0 where
-  short : length name ≤ 127
-  plain : list_any is_nul name ≡ false
-
-good_name : (name : List ℕ) → is_bad_name name ≡ false → IsGoodName name
-good_name name good =
-    let first = or_parts (eqb (length name) 0 || ltb 127 (length name)) (list_any is_nul name) good in
-    let second = or_parts (eqb (length name) 0) (ltb 127 (length name)) first.0 in
-    record { short = grind (arith, nat_tests, second.1); plain = first.1 }
-
-good_spot : (spot : Spot) → is_bad_align spot ≡ false → (let none : Spot = Aligned 0 in spot ≢ none)
-good_spot First good = λ e. absurd cc
-good_spot (Aligned unit) good = λ e. not_zero unit good (same_unit unit e)
-  where
-    same_unit : (n : ℕ) → (let none : Spot = Aligned 0 in Aligned n ≡ none) → n ≡ 0
-    same_unit n e = cc
-
-    not_zero : (n : ℕ) → (n == 0) ≡ false → n ≡ 0 → ⊥
-    not_zero n other is = grind (arith, nat_tests)
-good_spot (Fixed place) good = λ e. absurd cc
 
 -- the space between two places
 space : (x : List ℕ) (start end : ℕ) → start ≤ end → start % 64 ≡ 0 → end % 64 ≡ 0 → 4 ≤ length x → IsSpace (end - start) (blank_between x start end)
@@ -103,9 +91,8 @@ hash_short (Some (digests.Sha256 bytes)) = omega arith
 hash_short (Some (digests.Sha512 bytes)) = omega arith
 
 limit_below : (spot : Spot) (size end : ℕ) → limit_of spot size end ≤ end
-limit_below First size end = cond_both (end == size) (end - 4) end (λ n. n ≤ end) (λ e. omega arith) (λ e. omega arith)
-limit_below (Aligned unit) size end = cond_both (end == size) (end - 4) end (λ n. n ≤ end) (λ e. omega arith) (λ e. omega arith)
 limit_below (Fixed place) size end = omega arith
+limit_below other size end = cond_both (end == size) (end - 4) end (λ n. n ≤ end) (λ e. omega arith) (λ e. omega arith)
 
 module _ (x : List ℕ) (new : NewComponent) (spot : Spot) (place : Place) (small : length x < 2 ^ 32) (kind_small : new.kind < 2 ^ 32) (content_small : length new.content < 2 ^ 32) (digest : IsDigest new.digest)
     (is : addition_in x new spot ≡ Ok place) where
@@ -118,9 +105,6 @@ module _ (x : List ℕ) (new : NewComponent) (spot : Spot) (place : Place) (smal
   fine : IsAccepted x new spot place
   fine = accepted x new spot place is
 
-  good : IsGoodName new.name
-  good = good_name new.name fine.name_good
-
   pub there : IsAnsweredPlace x new.name wanted place
   there = answered_place x new.name wanted place fine.placed
 
@@ -131,7 +115,7 @@ module _ (x : List ℕ) (new : NewComponent) (spot : Spot) (place : Place) (smal
   range = the_run.range
 
   is_wanted : IsWanted wanted
-  is_wanted = record { header = omega (arith, hash_short new.digest, good.short); len = content_small; spot = good_spot spot fine.spot_good }
+  is_wanted = record { header = omega (arith, hash_short new.digest, fine.name_short); len = content_small; spot = fine.spot_good }
 
   first : IsFirstPlace wanted (length x) (runs x) place
   first = subst (λ (o : Option Place). IsPlaceAmong wanted (length x) (runs x) o) there.found (place_among-right wanted (length x) (runs x) is_wanted)
@@ -166,8 +150,8 @@ module _ (x : List ℕ) (new : NewComponent) (spot : Spot) (place : Place) (smal
 
   is_made : IsMade new.name new.kind new.digest (place.content - place.header - header_of new) new.content
   is_made = record {
-    name_short = good.short;
-    name_plain = good.plain;
+    name_short = fine.name_short;
+    name_plain = fine.name_plain;
     kind_small = kind_small;
     kind_used = fine.kind_good;
     digest_long = digest;

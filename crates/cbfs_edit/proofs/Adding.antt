@@ -15,15 +15,16 @@ use Rattle.sha2.proofs.Facts512.{length-sha512}
 use Rattle.cbfs_walk.specs.Hashes.{sha256_of, sha512_of}
 use Rattle.cbfs_edit.specs.Places.{placing_in}
 use Rattle.cbfs_edit.specs.Stops.{AddLeavesBefore, AddLeavesWhole, IsInsertStop, IsOldOrBlanked}
-use Rattle.cbfs_edit.specs.Additions.{NewComponent, added, added_to, addition_in, attribute_len, digest_of, kept_from, new_component, own_fault}
+use Rattle.cbfs_edit.specs.Additions.{NewComponent, added, added_to, addition_in, attribute_len, digest_of, header_of, new_component, own_fault}
 use Rattle.cbfs_edit.specs.declared.addition.HashChoice.{HashChoice}
 use Rattle.cbfs_edit.specs.declared.addition.HashChoice.TheVariants.{Plain, Sha256, Sha512}
 use Rattle.cbfs_edit.specs.declared.fault.EditFault.{EditFault}
 use Rattle.cbfs_edit.specs.declared.fault.EditFault.TheVariants as faults
 use Rattle.cbfs_edit.specs.declared.place.Spot.{Spot}
 use Rattle.cbfs_edit.specs.declared.place.Place.{Place}
+use Rattle.cbfs_edit.specs.declared.place.Wanted.{Wanted}
 use Rattle.cbfs_edit.proofs.Insertions.{attribute-is}
-use Rattle.cbfs_edit.proofs.Added.{own-fine, accepted_size, add_leaves_before, add_leaves_done}
+use Rattle.cbfs_edit.proofs.Added.{own-is, accepted_size, add_leaves_before, add_leaves_done}
 
 pub digest-sized : (hash : HashChoice) (content : List ℕ) → IsDigest (digest_of hash content)
 unfolding sha256_of sha512_of
@@ -36,18 +37,6 @@ pub no_fault : (o : Option EditFault) → ((fault : EditFault) → o ≡ Some fa
 no_fault None none = refl
 no_fault (Some fault) none = absurd (none fault refl)
 
--- what the search has answered is the answer of the addition
-pub searched : (x name : List ℕ) (kind : ℕ) (hash : HashChoice) (content : List ℕ) (spot : Spot) (header len : ℕ) (r : Result Place EditFault)
-    → header ≡ meta_length (length name) (attribute_len hash) → len ≡ length content → None ≡ own_fault name kind spot
-    → IsErrOf r faults.Device ⊎ (r ≡ placing_in x name (record { header = header; len = len; spot = spot }))
-    → IsErrOf r faults.Device ⊎ (r ≡ addition_in x (new_component name kind hash content) spot)
-searched x name kind hash content spot header len r is_header is_len fine (inl failed) = inl failed
-searched x name kind hash content spot header len r is_header is_len fine (inr found) =
-    inr (found
-    ∙ ap (λ n. placing_in x name (record { header = n; len = len; spot = spot })) (is_header ∙ ap (λ n. meta_length (length name) n) (attribute-is hash content))
-    ∙ ap (λ n. placing_in x name (record { header = meta_length (length name) (hash_len (digest_of hash content)); len = n; spot = spot })) is_len
-    ∙ own-fine x (new_component name kind hash content) spot fine)
-
 pub same_fault : {A : Type 0} (fault other : EditFault) → (let a : Result A EditFault = Err fault in IsErrOf a other) → fault ≡ other
 same_fault fault other is = cc
 
@@ -58,27 +47,28 @@ told fault other is = ap (λ e. Err e) (same_fault fault other is)
 pub told_as : {A : Type 0} (fault other : EditFault) → fault ≡ other → (let a : Result A EditFault = Err fault in IsErrOf a other)
 told_as fault other is = ap (λ e. Err e) is
 
-pub refused_as : (x : List ℕ) (new : NewComponent) (spot : Spot) (fault : EditFault) → fault ≢ faults.Device → (let a : Result Place EditFault = Err fault in IsErrOf a faults.Device ⊎ (a ≡ addition_in x new spot)) → addition_in x new spot ≡ Err fault
-refused_as x new spot fault other (inl failed) = absurd (other (told-is failed))
-  where
-    told-is : (let a : Result Place EditFault = Err fault in IsErrOf a faults.Device) → fault ≡ faults.Device
-    told-is e = same_fault fault faults.Device e
-refused_as x new spot fault other (inr found) = sym found
-
--- an answered place is that of the addition
-pub the_place : (x : List ℕ) (new : NewComponent) (spot : Spot) (place : Place)
-    → (let a : Result Place EditFault = Ok place in IsErrOf a faults.Device ⊎ (a ≡ addition_in x new spot)) → addition_in x new spot ≡ Ok place
-the_place x new spot place (inl failed) = absurd cc
-the_place x new spot place (inr found) = sym found
-
 -- what the search for a place has answered, once the caller's own checks are passed
 module _ (x name : List ℕ) (kind : ℕ) (hash : HashChoice) (content : List ℕ) (spot : Spot) (own : Option EditFault) (attribute header len : ℕ)
     (passed : (fault : EditFault) → own ≡ Some fault → ⊥) (own_is : own ≡ own_fault name kind spot) (attribute_is : attribute ≡ attribute_len hash) (header_is : header ≡ meta_length (length name) attribute) (len_is : len ≡ length content) where
-  pub found_in : (r : Result Place EditFault) → IsErrOf r faults.Device ⊎ (r ≡ placing_in x name (record { header = header; len = len; spot = spot })) → IsErrOf r faults.Device ⊎ (r ≡ addition_in x (new_component name kind hash content) spot)
-  found_in r found = searched x name kind hash content spot header len r (header_is ∙ ap (λ n. meta_length (length name) n) attribute_is) len_is (no_fault own passed ∙ own_is) found
+  abbrev new : NewComponent
+  new = new_component name kind hash content
 
-  pub place_found : (place : Place) → (let a : Result Place EditFault = Ok place in IsErrOf a faults.Device ⊎ (a ≡ placing_in x name (record { header = header; len = len; spot = spot }))) → addition_in x (new_component name kind hash content) spot ≡ Ok place
-  place_found place found = the_place x (new_component name kind hash content) spot place (found_in (Ok place) found)
+  abbrev asked : Wanted
+  asked = record { header = header; len = len; spot = spot }
+
+  same : placing_in x name asked ≡ addition_in x new spot
+  same =
+      ap (λ n. placing_in x name (record { header = n; len = len; spot = spot })) (header_is ∙ ap (λ n. meta_length (length name) n) (attribute_is ∙ attribute-is hash content))
+      ∙ ap (λ n. placing_in x name (record { header = header_of new; len = n; spot = spot })) len_is
+      ∙ own-is x new spot None (no_fault own passed ∙ own_is)
+
+  pub found_in : (r : Result Place EditFault) → IsErrOf r faults.Device ⊎ (r ≡ placing_in x name asked) → IsErrOf r faults.Device ⊎ (r ≡ addition_in x new spot)
+  found_in r (inl failed) = inl failed
+  found_in r (inr found) = inr (found ∙ same)
+
+  pub place_found : (place : Place) → (let a : Result Place EditFault = Ok place in IsErrOf a faults.Device ⊎ (a ≡ placing_in x name asked)) → addition_in x new spot ≡ Ok place
+  place_found place (inl failed) = absurd cc
+  place_found place (inr found) = sym (found ∙ same)
 
 -- the image after a change of its region alone
 pub image_of : (r : Range) (u old mid new : List ℕ) → LiesIn r old → mid ≡ old → length new ≡ length mid → SameOutside r.start r.size mid new → bytes_in r new ≡ u → new ≡ overwritten old r.start u

@@ -66,9 +66,6 @@ module _ {F S : Type 0} (device : F → Device) (facts : S → Device) where
     pub answered : Run (Answered facts) (take i olds) (take i edits) (take i replies) (state_of region (device old.device)) (state_of region (device now.device))
     pub run : IsTrue (device old.device).honest → All (HasHonestSource facts) olds → Run (Step facts) (take i olds) (take i edits) (take i replies) (state_of region (device old.device)) (state_of region (device now.device))
 
-  pub applied_none : (region : Range) (edits : List (Edit S)) (replies : List Reply) (old : Pages F) → length edits ≡ length replies → Applied region edits edits replies 0 old old
-  applied_none region edits replies old same = record { after = changed_none device region old; as_many = refl; replied = sym same; others = refl; answered = refl; run = λ h all. refl }
-
   same_edit : (olds edits : List (Edit S)) (i : ℕ) (d : Edit S) → drop i edits ≡ drop i olds → get_or edits i d ≡ get_or olds i d
   same_edit olds edits i d same =
       let here : i + 0 ≡ i = omega arith in

@@ -3,7 +3,7 @@ use Rattle.std.proofs.Common.{◌≡◌, ◌≢◌, ℕ, ◌+◌, ◌-◌, ◌*�
 use Rattle.std.specs.Prelude.{◌&&◌, nat_le, MatchOption, option_map}
 use Rattle.std.specs.Option.{option_or}
 use Rattle.std.specs.Int.{next_multiple_of}
-use Rattle.std.proofs.lemmas.Bool.Decides.{nat_tests}
+use Rattle.std.proofs.lemmas.Bool.{leb-false, leb-true}
 use Rattle.std.proofs.lemmas.List.Elements.{All-nil, All-cons, All-head, All-tail}
 use Rattle.std.proofs.Math.Nat.{mul-mod_left, mod_self, mod-lt, mod-eq_of_lt, div-add-mod, lt_of_mul-lt-mul_right, mul-le-mul_right}
 use Rattle.cbfs_edit.specs.Places.{Meets, IsLeast, HasNoRoom, IsAllowed, IsHeaderOf, IsFirstPlace, IsPlace, IsPlaceAmong, IsWanted, limit_of, least_from, least_in, place_at, place_among, place_of}
@@ -65,12 +65,6 @@ least_from-none First from d some less below meets = omega arith
 least_from-none (Aligned unit) from d some less below meets = omega arith
 least_from-none (Fixed place) from d some less below meets = omega arith
 
-le_of : (a b : ℕ) → nat_le a b ≡ true → a ≤ b
-le_of a b is = grind (arith, nat_tests)
-
-lt_of : (a b : ℕ) → nat_le a b ≡ false → b < a
-lt_of a b is = grind (arith, nat_tests)
-
 header_lemma : (wanted : Wanted) (run : Freed) (c : ℕ) → wanted.header ≤ c → IsHeaderOf wanted (place_at wanted run c)
 header_lemma wanted run c above = record { aligned = omega arith; room = omega arith; largest = omega arith }
 
@@ -88,10 +82,10 @@ least_in-right wanted size run is = go (nat_le from c) (nat_le (c + wanted.len) 
 
     go : (a b : Bool) → nat_le from c ≡ a → nat_le (c + wanted.len) limit ≡ b
         → MatchOption (cond (a && b) (Some c) None) (HasNoRoom wanted size run) (IsLeast wanted size run)
-    go false b ta tb = λ d allowed. least_from-none wanted.spot from d is.spot (lt_of from c ta) allowed.after_header allowed.meets
-    go true false ta tb = λ d allowed. omega (arith, least_from-least wanted.spot from d is.spot allowed.after_header allowed.meets, allowed.ends, lt_of (c + wanted.len) limit tb)
+    go false b ta tb = λ d allowed. least_from-none wanted.spot from d is.spot (leb-false from c ta) allowed.after_header allowed.meets
+    go true false ta tb = λ d allowed. omega (arith, least_from-least wanted.spot from d is.spot allowed.after_header allowed.meets, allowed.ends, leb-false (c + wanted.len) limit tb)
     go true true ta tb = record {
-      allowed = record { after_header = le_of from c ta; meets = least_from-meets wanted.spot from is.spot; ends = le_of (c + wanted.len) limit tb };
+      allowed = record { after_header = leb-true from c ta; meets = least_from-meets wanted.spot from is.spot; ends = leb-true (c + wanted.len) limit tb };
       least = λ d allowed. least_from-least wanted.spot from d is.spot allowed.after_header allowed.meets;
     }
 
