@@ -124,9 +124,7 @@ module _ (x : List ℕ) (new : NewComponent) (spot : Spot) (place : Place) (smal
   fits = record {
     run = range;
     start_below = omega (arith, range.start_aligned, first.header.aligned, first.header.largest, first.content.allowed.after_header);
-    aligned = first.header.aligned;
-    room = first.header.room;
-    near = first.header.largest;
+    header = first.header;
     inside = omega (arith, first.content.allowed.ends, limit_below spot (length x) place.run.end);
   }
 
@@ -134,13 +132,13 @@ module _ (x : List ℕ) (new : NewComponent) (spot : Spot) (place : Place) (smal
   some = omega (arith, range.some, range.inside)
 
   cell_long : length (made_at x new place) ≡ end - place.header
-  cell_long = made_as_long new.name new.kind new.digest (place.content - place.header - header_of new) new.content (kept_at x end) digest (keeps x end some) ∙ omega (arith, fits.aligned, fits.room)
+  cell_long = made_as_long new.name new.kind new.digest (place.content - place.header - header_of new) new.content (kept_at x end) digest (keeps x end some) ∙ omega (arith, fits.header.aligned, fits.header.room)
 
   front_long : length (made_front new.name new.kind new.digest (place.content - place.header - header_of new) (length new.content)) ≡ place.content - place.header
   front_long =
       length-front new.name new.kind new.digest (place.content - place.header - header_of new) (length new.content)
       ∙ ap (λ n. meta_length (length new.name) n + (place.content - place.header - header_of new)) (hash_as_long new.digest digest)
-      ∙ omega (arith, fits.room)
+      ∙ omega (arith, fits.header.room)
 
   abbrev front : List ℕ
   front = made_front new.name new.kind new.digest (place.content - place.header - header_of new) (length new.content)
@@ -155,7 +153,7 @@ module _ (x : List ℕ) (new : NewComponent) (spot : Spot) (place : Place) (smal
     kind_small = kind_small;
     kind_used = fine.kind_good;
     digest_long = digest;
-    small = omega (arith, front_long, fits.inside, range.inside, small, fits.room);
+    small = omega (arith, front_long, fits.inside, range.inside, small, fits.header.room);
   }
 
   abbrev before : List ℕ
@@ -169,13 +167,13 @@ module _ (x : List ℕ) (new : NewComponent) (spot : Spot) (place : Place) (smal
 
   placing : IsPlacing place.run.start place.run.end place.header before (made_at x new place) after
   placing =
-      let to_end : place.header + length (made_at x new place) ≡ end = omega (arith, cell_long, fits.room) in
+      let to_end : place.header + length (made_at x new place) ≡ end = omega (arith, cell_long, fits.header.room) in
       record {
-        aligned = fits.aligned;
+        aligned = fits.header.aligned;
         from_start = fits.start_below;
         to_end = omega (arith, to_end, end_below);
         small = omega (arith, range.inside, small);
-        space_before = space x place.run.start place.header fits.start_below range.start_aligned fits.aligned some;
+        space_before = space x place.run.start place.header fits.start_below range.start_aligned fits.header.aligned some;
         space_after = subst (λ n. IsSpace (place.run.end - n) after) (sym to_end) (space x end place.run.end end_below (omega arith) range.end_aligned some);
       }
 
@@ -190,7 +188,7 @@ module _ (x : List ℕ) (new : NewComponent) (spot : Spot) (place : Place) (smal
         cell_long,
         end_below,
         fits.start_below,
-        fits.room,
+        fits.header.room,
       )
 
   as_spliced : added x new place ≡ spliced x place.run.start place.run.end (before ++ (made_at x new place ++ after))
@@ -210,7 +208,7 @@ module _ (x : List ℕ) (new : NewComponent) (spot : Spot) (place : Place) (smal
         cells = the_run.cells;
         free = the_run.free;
         more = subst (λ (l : List ℕ). HasOneMore x place.run.start place.run.end the_run.cells (space_cells before ++ (made_at x new place ∷ []) ++ space_cells after) (made_component place.header new.name new.kind new.digest new.content (made_at x new place)) l) (sym as_spliced) more;
-        content = content_at x before front new.content pad after place.run.start place.content (omega (arith, range.some, range.inside)) (omega (arith, placing.space_before.long, front_long, fits.start_below, fits.room));
+        content = content_at x before front new.content pad after place.run.start place.content (omega (arith, range.some, range.inside)) (omega (arith, placing.space_before.long, front_long, fits.start_below, fits.header.room));
       }
 
   -- a stop before the last commit

@@ -41,17 +41,16 @@ searched search x = unless_unsound x (search.last (gone search search.start 0 (c
 
 -- ---- as a reading of the cut
 
-read_cut : {S A : Type 0} → CellSearch S A → ℕ → Cut → S → Result A EditFault
+abbrev read_cut : {S A : Type 0} → CellSearch S A → ℕ → Cut → S → Result A EditFault
 read_cut search at k s = unless_damaged (place_after at k.cells) k.end (search.last (gone search s at k.cells))
 
-each_cell : {S A : Type 0} → CellSearch S A → List ℕ → Cell → (S → Result A EditFault) → S → Result A EditFault
+abbrev each_cell : {S A : Type 0} → CellSearch S A → List ℕ → Cell → (S → Result A EditFault) → S → Result A EditFault
 each_cell search c given later s = later (search.step s given.at c)
 
-refused : {S A : Type 0} → WalkFault → S → Result A EditFault
+abbrev refused : {S A : Type 0} → WalkFault → S → Result A EditFault
 refused fault s = Err (refusal_of fault)
 
 law : {S A : Type 0} (search : CellSearch S A) → ReadsCells (read_cut search) (each_cell search)
-unfolding read_cut each_cell
 law {S} search at c k = fun_ext (λ (s : S). refl)
 
 -- what it answers from a place on
@@ -59,7 +58,7 @@ pub found_from : {S A : Type 0} → CellSearch S A → List ℕ → S → ℕ �
 found_from search x s at = shaped refused (read_cut search) x at s
 
 found_whole : {S A : Type 0} (search : CellSearch S A) (x : List ℕ) → searched search x ≡ found_from search x search.start 0
-unfolding found_from refused read_cut shaped
+unfolding found_from shaped
 found_whole {S} {A} search x = go (shape x)
   where
     taken : S → Result A EditFault
@@ -70,23 +69,14 @@ found_whole {S} {A} search x = go (shape x)
     go (Some fault) = refl
 
 -- the same by the answer of the walk
-found_by : {S A : Type 0} → CellSearch S A → List ℕ → S → Answer → Result A EditFault
+abbrev found_by : {S A : Type 0} → CellSearch S A → List ℕ → S → Answer → Result A EditFault
 found_by search x s answer = by_answer refused (read_cut search) (each_cell search) x answer s
 
 found_step : {S A : Type 0} (search : CellSearch S A) (x : List ℕ) (s : S) (at : ℕ) → at ≤ length x → at % 64 ≡ 0 → found_from search x s at ≡ found_by search x s (answer_at x at)
-unfolding found_from found_by
+unfolding found_from
 found_step {S} {A} search x s at inside aligned = ap (λ (f : S → Result A EditFault). f s) (shaped_step refused (read_cut search) (each_cell search) (law search) x at inside aligned)
 
-found_end : {S A : Type 0} (search : CellSearch S A) (x : List ℕ) (s : S) → found_by search x s (Ok steps.End) ≡ search.last s
-unfolding found_by read_cut
-found_end search x s = refl
-
-found_tail : {S A : Type 0} (search : CellSearch S A) (x : List ℕ) (s : S) (at : ℕ) → found_by search x s (Ok (steps.Tail at)) ≡ search.last s
-unfolding found_by read_cut
-found_tail search x s at = refl
-
 found_refusal : {S A : Type 0} (search : CellSearch S A) (x : List ℕ) (s : S) (fault : WalkFault) → found_by search x s (Err fault) ≡ Err (refusal_of fault)
-unfolding found_by read_cut refused
 found_refusal search x s walk.Device = refl
 found_refusal search x s walk.RegionShape = refl
 found_refusal search x s walk.NotCbfs = refl
@@ -142,7 +132,7 @@ module _ {F S A : Type 0} (facts : F → Device) (r : Range) (search : CellSearc
       → IsBefore (c.at + c.span) t
       → (IsTrue (facts mid.device).honest → StandsIn (bytes_in r (facts mid.device).content) c → t ≡ search.step s c.at (cell_in (bytes_in r (facts mid.device).content) c))
       → Surveying facts r search want IsBefore v t old new
-  unfolding found_by each_cell found_from
+  unfolding found_from
   surveying_more c v t mid new n given reads few more answer moved before pass = rw moved (record {
     region = i.region;
     going = i.going;
@@ -166,13 +156,9 @@ module _ {F S A : Type 0} (facts : F → Device) (r : Range) (search : CellSearc
 
   -- ---- the walk ended
 
-  pub surveying_end : (answer : IsTrue (facts now.device).honest → w.ended ≡ None → (let a : Answer = Ok steps.End in IsErrOf a walk.Device ⊎ (a ≡ answer_at (bytes_in w.region (facts now.device).content) w.at)))
-      → IsTrue (facts old.device).honest → search.last s ≡ want
-  surveying_end answer h = sym ((answered (Ok steps.End) h (told_step _ _ (answer (honest_still i.read.device.calls.same_honesty h) i.going))).1 ∙ found_end search x s)
-
-  pub surveying_tail : (at : ℕ) → (answer : IsTrue (facts now.device).honest → w.ended ≡ None → (let a : Answer = Ok (steps.Tail at) in IsErrOf a walk.Device ⊎ (a ≡ answer_at (bytes_in w.region (facts now.device).content) w.at)))
-      → IsTrue (facts old.device).honest → search.last s ≡ want
-  surveying_tail at answer h = sym ((answered (Ok (steps.Tail at)) h (told_step _ _ (answer (honest_still i.read.device.calls.same_honesty h) i.going))).1 ∙ found_tail search x s at)
+  pub surveying_last : (step : Step) → (IsTrue (facts now.device).honest → w.ended ≡ None → (let a : Answer = Ok step in IsErrOf a walk.Device ⊎ (a ≡ answer_at (bytes_in w.region (facts now.device).content) w.at)))
+      → found_by search x s (Ok step) ≡ search.last s → IsTrue (facts old.device).honest → search.last s ≡ want
+  surveying_last step answer last h = sym ((answered (Ok step) h (told_step _ _ (answer (honest_still i.read.device.calls.same_honesty h) i.going))).1 ∙ last)
 
   pub surveying_err : (fault : WalkFault) → (answer : IsTrue (facts now.device).honest → w.ended ≡ None → (let a : Answer = Err fault in IsErrOf a walk.Device ⊎ (a ≡ answer_at (bytes_in w.region (facts now.device).content) w.at)))
       → IsTrue (facts old.device).honest → (let a : Result A EditFault = Err (refusal_of fault) in IsErrOf a faults.Device ⊎ (a ≡ want))

@@ -60,10 +60,10 @@ room-for size k a wanted place end front small fits short few is ends long = rec
   run = fits.run;
   small = small;
   start_below = fits.start_below;
-  header_aligned = fits.aligned;
-  front_is = omega (arith, long, fits.room);
+  header_aligned = fits.header.aligned;
+  front_is = omega (arith, long, fits.header.room);
   front_long = omega (arith, long, is);
-  front_short = omega (arith, long, is, short, few, fits.near, fits.room);
+  front_short = omega (arith, long, is, short, few, fits.header.largest, fits.header.room);
   content_below = omega (arith, ends);
   end_aligned = omega (arith, ends);
   end_below = omega (arith, ends, fits.inside, fits.run.end_aligned);
@@ -167,7 +167,7 @@ module _ (r : Range) (old : List ℕ) (label : Label) (content : List ℕ) (want
       copied_blanked : IsBlanked x run z
       copied_blanked =
           blanked-write x run after_header fits.run.inside y z (run.end - (run.start + header_length)) (subst (λ (l : List ℕ). IsBlanked x run l) (sym is) (removed-blanked x run fits.run)) (omega (arith, after_header)) z_size
-          (within y z place.content (length content) (run.start + header_length) run.end (omega (arith, fits.start_below, fits.room, is_header)) (omega (arith, fits.inside, len)) torn)
+          (within y z place.content (length content) (run.start + header_length) run.end (omega (arith, fits.start_below, fits.header.room, is_header)) (omega (arith, fits.inside, len)) torn)
 
       -- the content
       pub copied_stop : (Done : Type 0) → IsBlankStop x run y → IsInsertStop x new place Done z
@@ -198,7 +198,7 @@ module _ (r : Range) (old : List ℕ) (label : Label) (content : List ℕ) (want
               let gap = place.content - place.header - header_of new in
               let whole : List ℕ = front ++ content in
               let long : length whole ≡ d - place.header = omega (arith, length-append front content, room.front_is) in
-              let pad : end - d ≡ round64 (length whole) - length whole = omega (arith, long, fits.aligned, fits.room, len) in
+              let pad : end - d ≡ round64 (length whole) - length whole = omega (arith, long, fits.header.aligned, fits.header.room, len) in
               let header : wanted.header ≡ header_of new = is_header ∙ ap (λ n. meta_length (length label.name.now) n) (attribute-is label.hash content) in
               let is_front : front ≡ made_front new.name new.kind new.digest gap (length content) =
               described-is meta label.name.now label.kind new.digest gap (length content) is_name is_kind (is_digest ∙ digest_is) (is_gap ∙ ap (λ n. place.content - place.header - n) header) (is_len ∙ len) in
@@ -219,7 +219,7 @@ module _ (r : Range) (old : List ℕ) (label : Label) (content : List ℕ) (want
               rw third (finished-within z place end front (subst (λ n. HasRoom n place end (length front)) (sym z_size) room)) in
               record {
                 bytes = inr (sound, λ honest. shown_added (digest_is honest) (second honest) third);
-                last = later_on (run.start + (max place.content (run.end - 4) - run.start)) kept z w (omega (arith, fits.run.inside, fits.start_below, fits.room)) same.after ∙ copied_last stop;
+                last = later_on (run.start + (max place.content (run.end - 4) - run.start)) kept z w (omega (arith, fits.run.inside, fits.start_below, fits.header.room)) same.after ∙ copied_last stop;
               }
           shown_stop Sound Honest stop sound digest_is second (inr unfinished) =
               let from = run.start + header_length in
@@ -227,5 +227,5 @@ module _ (r : Range) (old : List ℕ) (label : Label) (content : List ℕ) (want
               let w_size : length w ≡ length x = same_region_length r old copied shown lies (copied_long ∙ blank_long) shown_long ∙ z_size in
               record {
                 bytes = inl (inr (blanked-write x run after_header fits.run.inside z w n copied_blanked (omega (arith, fits.inside, after_header)) w_size unfinished));
-                last = later_on (from + n) kept z w (omega (arith, fits.run.inside, fits.start_below, fits.room, is_header)) unfinished.after ∙ copied_last stop;
+                last = later_on (from + n) kept z w (omega (arith, fits.run.inside, fits.start_below, fits.header.room, is_header)) unfinished.after ∙ copied_last stop;
               }

@@ -4,7 +4,7 @@ use Rattle.std.specs.Prelude.{◌&&◌, nat_le, MatchOption, option_map}
 use Rattle.std.specs.Option.{option_or}
 use Rattle.std.specs.Int.{next_multiple_of}
 use Rattle.std.proofs.lemmas.Bool.{leb-false, leb-true}
-use Rattle.std.proofs.lemmas.List.Elements.{All-nil, All-cons, All-head, All-tail}
+use Rattle.std.proofs.lemmas.List.Elements.{All-nil, All-cons, All-head, All-tail, All-weaker}
 use Rattle.std.proofs.Math.Nat.{mul-mod_left, mod_self, mod-lt, mod-eq_of_lt, div-add-mod, lt_of_mul-lt-mul_right, mul-le-mul_right}
 use Rattle.cbfs_edit.specs.Places.{Meets, IsLeast, HasNoRoom, IsAllowed, IsHeaderOf, IsFirstPlace, IsPlace, IsPlaceAmong, IsWanted, limit_of, least_from, least_in, place_at, place_among, place_of}
 use Rattle.cbfs_edit.specs.Laws.{PlacesAreExact}
@@ -14,6 +14,7 @@ use Rattle.cbfs_edit.specs.declared.place.Spot.{Spot}
 use Rattle.cbfs_edit.specs.declared.place.Spot.TheVariants.{First, Aligned, Fixed}
 use Rattle.cbfs_edit.specs.declared.place.Wanted.{Wanted}
 use Rattle.cbfs_edit.specs.declared.place.Place.{Place}
+use Rattle.cbfs_edit.proofs.Splits.{one_split}
 
 some_unit : (unit : ℕ) → (let s : Spot = Aligned unit in s) ≢ Aligned 0 → 0 < unit
 some_unit zero some = absurd (some refl)
@@ -127,24 +128,12 @@ module _ (wanted : Wanted) (size : ℕ) where
   no_room [] later run c none allowed = All-head (HasNoRoom wanted size) run later none c allowed
   no_room (r ∷ before) later run c none allowed = no_room before later run c (All-tail (HasNoRoom wanted size) r (before ++ run ∷ later) none) allowed
 
-  heads : (a b : Freed) (l m : List Freed) → a ∷ l ≡ b ∷ m → a ≡ b
-  heads a b l m is = cc
+  -- a run in which content may begin
+  abbrev HasRoom : Freed → Type 0
+  HasRoom run = (c : ℕ) × IsAllowed wanted size run c
 
-  tails : (a b : Freed) (l m : List Freed) → a ∷ l ≡ b ∷ m → l ≡ m
-  tails a b l m is = cc
-
-  same_run : (before others : List Freed) (later more : List Freed) (run other : Freed) (c d : ℕ) → All (HasNoRoom wanted size) before → All (HasNoRoom wanted size) others
-      → IsAllowed wanted size run c → IsAllowed wanted size other d → before ++ run ∷ later ≡ others ++ other ∷ more → run ≡ other
-  same_run [] [] later more run other c d none no_other here there is = heads run other later more is
-  same_run [] (o ∷ others) later more run other c d none no_other here there is =
-      let same : run ≡ o = heads run o later (others ++ other ∷ more) is in
-      absurd (All-head (HasNoRoom wanted size) o others no_other c (subst (λ (r : Freed). IsAllowed wanted size r c) same here))
-  same_run (b ∷ before) [] later more run other c d none no_other here there is =
-      let same : other ≡ b = sym (heads b other (before ++ run ∷ later) more is) in
-      absurd (All-head (HasNoRoom wanted size) b before none d (subst (λ (r : Freed). IsAllowed wanted size r d) same there))
-  same_run (b ∷ before) (o ∷ others) later more run other c d none no_other here there is =
-      same_run before others later more run other c d (All-tail (HasNoRoom wanted size) b before none) (All-tail (HasNoRoom wanted size) o others no_other) here there
-      (tails b o (before ++ run ∷ later) (others ++ other ∷ more) is)
+  without_room : (runs : List Freed) → All (HasNoRoom wanted size) runs → All (λ run. HasRoom run → ⊥) runs
+  without_room runs none = All-weaker (HasNoRoom wanted size) (λ run. HasRoom run → ⊥) (λ run no room. no room.0 room.1) runs none
 
   same_place : (p q : Place) → p.run ≡ q.run → p.header ≡ q.header → p.content ≡ q.content → p ≡ q
   same_place p q run header content =
@@ -159,8 +148,9 @@ module _ (wanted : Wanted) (size : ℕ) where
   one_place runs (Some p) None is other =
       absurd (no_room is.before is.later p.run p.content (subst (λ (l : List Freed). All (HasNoRoom wanted size) l) is.whole other) is.content.allowed)
   one_place runs (Some p) (Some q) is other =
-      let run : p.run ≡ q.run = same_run is.before other.before is.later other.later p.run q.run p.content q.content is.none_before other.none_before is.content.allowed other.content.allowed
-      (sym is.whole ∙ other.whole) in
+      let run : p.run ≡ q.run =
+      (one_split HasRoom is.before is.later other.before other.later p.run q.run (p.content, is.content.allowed) (q.content, other.content.allowed) (without_room is.before is.none_before) (without_room other.before other.none_before)
+      (sym is.whole ∙ other.whole)).same in
       let no_more : p.content ≤ q.content = is.content.least q.content (subst (λ (r : Freed). IsAllowed wanted size r q.content) (sym run) other.content.allowed) in
       let no_less : q.content ≤ p.content = other.content.least p.content (subst (λ (r : Freed). IsAllowed wanted size r p.content) run is.content.allowed) in
       let content : p.content ≡ q.content = omega arith in

@@ -1,4 +1,5 @@
 pub mod Parts
+pub mod Splits
 pub mod Kept
 pub mod Groups
 pub mod Blanked

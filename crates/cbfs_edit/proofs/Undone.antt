@@ -2,7 +2,8 @@
 use Rattle.std.proofs.Common.{◌≡◌, ℕ, Bool, true, false, cond, List, [], ◌∷◌, ◌++◌, length, Option, Some, None, Result, Ok, Err, refl, sym, ◌∙◌, ap, arith, subst, All, Contains}
 use Rattle.std.specs.Prelude.{is_some}
 use Rattle.std.specs.Str.{bytes_eq}
-use Rattle.std.proofs.lemmas.List.Elements.{All-head, All-tail, All-contains, Contains-append_right}
+use Rattle.std.proofs.lemmas.Bool.{both_ways}
+use Rattle.std.proofs.lemmas.List.Elements.{All-weaker, All-contains, Contains-append_right}
 use Rattle.flash_format.specs.Entry.{entry}
 use Rattle.flash_format.specs.Cut.{End, complete, tail, damage, cut}
 use Rattle.flash_format.specs.Components.{Component, components}
@@ -27,34 +28,16 @@ use Rattle.cbfs_edit.specs.declared.place.Wanted.{Wanted}
 use Rattle.cbfs_edit.proofs.Added.{added_length, there}
 use Rattle.cbfs_edit.proofs.Exact.{group_none}
 use Rattle.cbfs_edit.proofs.FoundAgain.{added_first, after, before, none_before, one_more, shape_after}
+use Rattle.cbfs_edit.proofs.Splits.{one_split}
 use Rattle.cbfs_edit.proofs.Taken.{others_have_not, removal_takes_one}
 
 -- ---- the first of a name
 
--- among components it is at one place, and so are those before it and behind it
-record IsOnce (before after before' after' : List Component) : Type 0 where
-  first : before ≡ before'
-  last : after ≡ after'
+abbrev IsNamed : List ℕ → Component → Type 0
+IsNamed name c = bytes_eq c.name name ≡ true
 
-other_head : (name : List ℕ) (c d : Component) → c ≡ d → bytes_eq c.name name ≡ true → bytes_eq d.name name ≡ false → ⊥
-other_head name c d same here other = let k : true ≡ false = sym here ∙ ap (λ (h : Component). bytes_eq h.name name) same ∙ other in cc
-
-one_first : (name : List ℕ) (before after before' after' : List Component) (c c' : Component) → bytes_eq c.name name ≡ true → bytes_eq c'.name name ≡ true
-    → All (λ (d : Component). bytes_eq d.name name ≡ false) before → All (λ (d : Component). bytes_eq d.name name ≡ false) before'
-    → before ++ (c ∷ after) ≡ before' ++ (c' ∷ after') → IsOnce before after before' after'
-one_first name [] after [] after' c c' named named' none none' same = let e : after ≡ after' = cc in record { first = refl; last = e }
-one_first name [] after (d ∷ before') after' c c' named named' none none' same =
-    let e : c ≡ d = cc in
-    absurd (other_head name c d e named (All-head (λ (d : Component). bytes_eq d.name name ≡ false) d before' none'))
-one_first name (d ∷ before) after [] after' c c' named named' none none' same =
-    let e : c' ≡ d = cc in
-    absurd (other_head name c' d e named' (All-head (λ (d : Component). bytes_eq d.name name ≡ false) d before none))
-one_first name (d ∷ before) after (d' ∷ before') after' c c' named named' none none' same =
-    let e : d ≡ d' = cc in
-    let behind : before ++ (c ∷ after) ≡ before' ++ (c' ∷ after') = cc in
-    let once = one_first name before after before' after' c c' named named' (All-tail (λ (d : Component). bytes_eq d.name name ≡ false) d before none) (All-tail (λ (d : Component). bytes_eq d.name name ≡ false) d' before' none') behind in
-    let first : d ∷ before ≡ d' ∷ before' = cc in
-    record { first = first; last = once.last }
+unnamed : (name : List ℕ) (cs : List Component) → All (λ (c : Component). bytes_eq c.name name ≡ false) cs → All (λ c. IsNamed name c → ⊥) cs
+unnamed name cs none = All-weaker (λ (c : Component). bytes_eq c.name name ≡ false) (λ c. IsNamed name c → ⊥) (λ (c : Component) other. both_ways (bytes_eq c.name name) other) cs none
 
 -- ---- the removal isn't refused
 
@@ -86,7 +69,8 @@ additions_undone x new spot place is =
     removal_is y new.name (shape_after x new spot place is) (ap (λ (e : End). unless_damaged at e (found (group_of y new.name))) more.more.same_end ∙ sound.undamaged at (found (group_of y new.name))) ∙ ap (λ (o : Option Freed). found o) some.1 in
     let long : length y ≡ length x = added_length x new spot place is.region is.kind is.content is.digest is.placed in
     let loses : LosesOne new.name y (removed y group) = removal_takes_one y new.name group (omega (arith, long, is.region)) removes in
-    let once = one_first new.name loses.before loses.after (before x new spot place is) (after x new spot place is) loses.component (added_component x new place) loses.named (same_name new.name) loses.first (none_before x new spot place is)
+    let once = one_split (IsNamed new.name) loses.before loses.after (before x new spot place is) (after x new spot place is) loses.component (added_component x new place) loses.named (same_name new.name)
+    (unnamed new.name loses.before loses.first) (unnamed new.name (before x new spot place is) (none_before x new spot place is))
     (sym loses.was ∙ more.more.new_components) in (
       group,
       removes,

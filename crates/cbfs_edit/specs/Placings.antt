@@ -6,7 +6,7 @@ use Rattle.flash_format.specs.Head.{head_of, is_free}
 use Rattle.flash_format.specs.Components.{cell_name}
 use Rattle.cbfs_edit.specs.Groups.{IsCellRange}
 use Rattle.cbfs_edit.specs.Runs.{add_run}
-use Rattle.cbfs_edit.specs.Places.{place_among, placed}
+use Rattle.cbfs_edit.specs.Places.{IsHeaderOf, place_among, placed}
 use Rattle.cbfs_edit.specs.declared.fault.EditFault.{EditFault}
 use Rattle.cbfs_edit.specs.declared.fault.EditFault.TheVariants.{Exists}
 use Rattle.cbfs_edit.specs.declared.group.Freed.{Freed}
@@ -14,13 +14,9 @@ use Rattle.cbfs_edit.specs.declared.place.Wanted.{Wanted}
 use Rattle.cbfs_edit.specs.declared.place.Place.{Place}
 use Rattle.cbfs_edit.specs.declared.place.Survey.{Survey}
 
--- the place in a row of free cells, which may be empty
-abbrev pub place_in_row : Wanted → ℕ → Freed → Option Place
-place_in_row wanted size row = place_among wanted size (add_run row.start row.end [])
-
--- the first place so far, where the row of free cells ends
+-- the first place so far, where the row of free cells ends, which may be empty
 abbrev pub closed : Wanted → ℕ → Survey → Option Place
-closed wanted size s = option_or s.place (place_in_row wanted size s.row)
+closed wanted size s = option_or s.place (place_among wanted size (add_run s.row.start s.row.end []))
 
 -- a search after a cell
 abbrev pub surveyed : List ℕ → Wanted → ℕ → Survey → List ℕ → Survey
@@ -33,13 +29,11 @@ surveyed name wanted size s x =
 abbrev pub answer_of : Wanted → ℕ → Survey → Result Place EditFault
 answer_of wanted size s = if s.exists then Err Exists else placed (closed wanted size s)
 
--- a component fits there, in a region of this size, and less than 64 bytes are left between its header and its content
+-- a component fits there, in a region of this size
 pub record Fits (wanted : Wanted) (size : ℕ) (place : Place) : Type 0 where
   pub run : IsCellRange place.run size
   pub start_below : place.run.start ≤ place.header
-  pub aligned : place.header % 64 ≡ 0
-  pub room : place.header + wanted.header ≤ place.content
-  pub near : place.content < place.header + 64 + wanted.header
+  pub header : IsHeaderOf wanted place
   pub inside : place.content + wanted.len ≤ place.run.end
 
 -- whatever the device is, a search speaks of whole cells before its place

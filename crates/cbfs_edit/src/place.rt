@@ -8,7 +8,7 @@ ghost use Rattle.cbfs_walk.specs.Walks.{StandsIn};
 ghost use Rattle.cbfs_edit.specs.Groups.{IsCellRange};
 ghost use Rattle.cbfs_edit.specs.Refusals.{by_device};
 ghost use Rattle.cbfs_edit.specs.Places.{IsWanted, IsLeast, HasNoRoom, limit_of, least_from, least_in, place_in, placing_in};
-ghost use Rattle.cbfs_edit.specs.Placings.{place_in_row, closed, surveyed, answer_of, Fits, IsSurvey};
+ghost use Rattle.cbfs_edit.specs.Placings.{closed, surveyed, answer_of, Fits, IsSurvey};
 
 use crate::blank::space_end;
 use crate::fault::{EditFault, refusal_of};
@@ -154,7 +154,7 @@ fn answer_of(wanted: Wanted, region: Region, survey: Survey) -> Result<Place, Ed
     }
 }
 
-/// The first place so far, where the row of free cells ends.
+/// The first place so far, where the row of free cells ends, which may be empty.
 fn close(wanted: Wanted, region: Region, survey: Survey) -> Option<Place>
     requires wanted { IsWanted wanted }
     requires survey { IsSurvey wanted region.size survey.row.end survey }
@@ -163,23 +163,15 @@ fn close(wanted: Wanted, region: Region, survey: Survey) -> Option<Place>
     ensures is { result ≡ closed wanted region.size survey }
     ensures fits { IfSome result (Fits wanted region.size) }
 {
-    survey.place.or(place_in_row(wanted, region, survey.row))
-}
-
-/// The place in a row of free cells, which may have none.
-fn place_in_row(wanted: Wanted, region: Region, row: Freed) -> Option<Place>
-    requires wanted { IsWanted wanted }
-    requires row { row.start < row.end → IsCellRange row region.size }
-    requires order { row.start ≤ row.end }
-    requires small { region.size < 2 ^ 32 }
-
-    ensures is { result ≡ place_in_row wanted region.size row }
-    ensures fits { IfSome result (Fits wanted region.size) }
-{
-    if row.start == row.end {
-        return None;
+    match survey.place {
+        Some(place) => Some(place),
+        None => {
+            if survey.row.start == survey.row.end {
+                return None;
+            }
+            place_in(wanted, region, survey.row)
+        }
     }
-    place_in(wanted, region, row)
 }
 
 /// The place in a run: the head at the last multiple of 64 that leaves room for the metadata before the content.

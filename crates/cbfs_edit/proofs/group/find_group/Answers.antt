@@ -2,7 +2,7 @@ use Rattle.std.proofs.Common.{inr, refl, arith, rules}
 use Rattle.flash_store.specs.Regions.{bytes_in}
 use Rattle.cbfs_edit.specs.Removals.{removal_in}
 use Rattle.cbfs_edit.specs.Searches.{IsBefore}
-use Rattle.cbfs_edit.proofs.CellSearches.{surveying_start, surveying_more, surveying_end, surveying_tail, surveying_err}
+use Rattle.cbfs_edit.proofs.CellSearches.{surveying_start, surveying_more, surveying_last, surveying_err}
 use Rattle.cbfs_edit.proofs.Surveys.{group_search, group_searched}
 use Rattle.cbfs_edit.proofs.group.find_group.Goals as goal
 
@@ -22,11 +22,11 @@ loop-cell-preserved g c =
 
 pub returns-in-Ok-Tail-clause-answer : goal.returns-in-Ok-Tail-clause-answer
 returns-in-Ok-Tail-clause-answer g c = λ h.
-    inr (rw c.group_in.ensures (surveying_tail _ c.args.region (group_search c.args.name.now) _ _ c.loop-cell.walk c.loop-cell.search _ _ c.requires c.loop-cell.invariant _ (rw c.in-Ok-Tail.field-0-is at c.in-Ok-Tail.ensures.answer) h))
+    inr (rw c.group_in.ensures (surveying_last _ c.args.region (group_search c.args.name.now) _ _ c.loop-cell.walk c.loop-cell.search _ _ c.requires c.loop-cell.invariant _ (rw c.in-Ok-Tail.field-0-is at c.in-Ok-Tail.ensures.answer) refl h))
 
 pub returns-in-Ok-End-clause-answer : goal.returns-in-Ok-End-clause-answer
 returns-in-Ok-End-clause-answer g c = λ h.
-    inr (rw c.group_in-in-Ok-End.ensures (surveying_end _ c.args.region (group_search c.args.name.now) _ _ c.loop-cell.walk c.loop-cell.search _ _ c.requires c.loop-cell.invariant (rw c.in-Ok-End.field-0-is at c.in-Ok-End.ensures.answer) h))
+    inr (rw c.group_in-in-Ok-End.ensures (surveying_last _ c.args.region (group_search c.args.name.now) _ _ c.loop-cell.walk c.loop-cell.search _ _ c.requires c.loop-cell.invariant _ (rw c.in-Ok-End.field-0-is at c.in-Ok-End.ensures.answer) refl h))
 
 pub returns-in-Err-clause-answer : goal.returns-in-Err-clause-answer
 returns-in-Err-clause-answer g c = λ h.

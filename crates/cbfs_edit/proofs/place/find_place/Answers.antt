@@ -3,7 +3,7 @@ use Rattle.flash_store.specs.Regions.{bytes_in}
 use Rattle.flash_store.proofs.DeviceLemmas.{length-bytes_in}
 use Rattle.cbfs_edit.specs.Places.{placing_in}
 use Rattle.cbfs_edit.specs.Placings.{IsSurvey}
-use Rattle.cbfs_edit.proofs.CellSearches.{surveying_start, surveying_more, surveying_end, surveying_tail, surveying_err}
+use Rattle.cbfs_edit.proofs.CellSearches.{surveying_start, surveying_more, surveying_last, surveying_err}
 use Rattle.cbfs_edit.proofs.PlaceSurveys.{place_search, place_searched}
 use Rattle.cbfs_edit.proofs.place.find_place.Goals as goal
 
@@ -28,11 +28,11 @@ loop-cell-preserved g c =
 
 pub returns-in-Ok-Tail-clause-answer : goal.returns-in-Ok-Tail-clause-answer
 returns-in-Ok-Tail-clause-answer g c = λ h.
-    inr (rw c.answer_of.ensures.is (surveying_tail _ c.args.region (place_search c.args.name.now c.args.wanted c.args.region.size) _ _ c.loop-cell.walk c.loop-cell.survey _ _ c.requires.region c.loop-cell.invariant _ (rw c.in-Ok-Tail.field-0-is at c.in-Ok-Tail.ensures.answer) h))
+    inr (rw c.answer_of.ensures.is (surveying_last _ c.args.region (place_search c.args.name.now c.args.wanted c.args.region.size) _ _ c.loop-cell.walk c.loop-cell.survey _ _ c.requires.region c.loop-cell.invariant _ (rw c.in-Ok-Tail.field-0-is at c.in-Ok-Tail.ensures.answer) refl h))
 
 pub returns-in-Ok-End-clause-answer : goal.returns-in-Ok-End-clause-answer
 returns-in-Ok-End-clause-answer g c = λ h.
-    inr (rw c.answer_of-in-Ok-End.ensures.is (surveying_end _ c.args.region (place_search c.args.name.now c.args.wanted c.args.region.size) _ _ c.loop-cell.walk c.loop-cell.survey _ _ c.requires.region c.loop-cell.invariant (rw c.in-Ok-End.field-0-is at c.in-Ok-End.ensures.answer) h))
+    inr (rw c.answer_of-in-Ok-End.ensures.is (surveying_last _ c.args.region (place_search c.args.name.now c.args.wanted c.args.region.size) _ _ c.loop-cell.walk c.loop-cell.survey _ _ c.requires.region c.loop-cell.invariant _ (rw c.in-Ok-End.field-0-is at c.in-Ok-End.ensures.answer) refl h))
 
 pub returns-in-Err-clause-answer : goal.returns-in-Err-clause-answer
 returns-in-Err-clause-answer g c = λ h.
