@@ -179,17 +179,8 @@ module _ (x : List ℕ) (new : NewComponent) (spot : Spot) (place : Place) (smal
 
   whole_long : length (before ++ (made_at x new place ++ after)) ≡ place.run.end - place.run.start
   whole_long =
-      omega (
-        arith,
-        length-append before (made_at x new place ++ after),
-        length-append (made_at x new place) after,
-        placing.space_before.long,
-        placing.space_after.long,
-        cell_long,
-        end_below,
-        fits.start_below,
-        fits.header.room,
-      )
+      let long = length-append before (made_at x new place ++ after) ∙ ap (λ n. length before + n) (length-append (made_at x new place) after) in
+      omega (arith, long, placing.space_before.long, placing.space_after.long, cell_long, end_below, fits.start_below, fits.header.room)
 
   as_spliced : added x new place ≡ spliced x place.run.start place.run.end (before ++ (made_at x new place ++ after))
   as_spliced = as_splice x place.run.start place.run.end (before ++ (made_at x new place ++ after)) (omega (arith, whole_long, range.some))

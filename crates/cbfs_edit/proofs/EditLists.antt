@@ -13,13 +13,6 @@ use Rattle.cbfs_edit.specs.Refusals.{by_device}
 use Rattle.cbfs_edit.specs.declared.edit.Edit.{Edit}
 use Rattle.cbfs_edit.specs.declared.edit.Reply.{Reply}
 
--- no call
-pub changed_none : {F : Type 0} (facts : F → Device) (region : Range) (p : Pages F) → HasChanged facts region 0 0 p p
-changed_none facts region p = record {
-  calls = record { no_fewer = omega arith; no_more = omega arith; faults = omega arith; same_honesty = refl; same_length = refl };
-  outside = λ h. record { before = refl; after = refl };
-}
-
 -- what two calls leave
 pub changed_more : {F : Type 0} (facts : F → Device) (region : Range) (n k r q : ℕ) (a b c : Pages F) → HasChanged facts region n r a b → HasChanged facts region k q b c → HasChanged facts region (n + k) (r + q) a c
 changed_more facts region n k r q a b c first second = record {
@@ -40,21 +33,16 @@ module _ {S : Type 0} (step : Edit S → Edit S → State → Reply → State �
   run-push : (olds news : List (Edit S)) (replies : List Reply) (before mid after : State) (old new : Edit S) (reply : Reply) → Run step olds news replies before mid → step old new mid reply after
       → Run step (olds ++ old ∷ []) (news ++ new ∷ []) (replies ++ reply ∷ []) before after
   run-push [] [] [] before mid after old new reply run one = (after, subst (λ (s : State). step old new s reply after) run one, refl)
-  run-push [] [] (r ∷ replies) before mid after old new reply run one = absurd run
-  run-push [] (e ∷ news) replies before mid after old new reply run one = absurd run
-  run-push (e ∷ olds) [] replies before mid after old new reply run one = absurd run
-  run-push (e ∷ olds) (f ∷ news) [] before mid after old new reply run one = absurd run
   run-push (e ∷ olds) (f ∷ news) (r ∷ replies) before mid after old new reply run one = (run.0, run.1, run-push olds news replies run.0 mid after old new reply run.2 one)
+  run-push olds news replies before mid after old new reply run one = absurd run
 
   -- the first edits have gone by, and the next one goes by
   run_more : (olds edits : List (Edit S)) (replies : List Reply) (i : ℕ) (d f : Edit S) (reply : Reply) (before mid after : State) → i < length olds → i < length edits → i < length replies
       → Run step (take i olds) (take i edits) (take i replies) before mid → step (get_or olds i d) f mid reply after
       → Run step (take (i + 1) olds) (take (i + 1) (set edits i f)) (take (i + 1) (set replies i reply)) before after
   run_more olds edits replies i d f reply before mid after in_olds in_edits in_replies run one =
-      subst (λ (es : List (Edit S)). Run step es (take (i + 1) (set edits i f)) (take (i + 1) (set replies i reply)) before after) (sym (take_more olds i d in_olds))
-      (subst (λ (es : List (Edit S)). Run step (take i olds ++ get_or olds i d ∷ []) es (take (i + 1) (set replies i reply)) before after) (sym (take_more_set edits i f in_edits))
-      (subst (λ (rs : List Reply). Run step (take i olds ++ get_or olds i d ∷ []) (take i edits ++ f ∷ []) rs before after) (sym (take_more_set replies i reply in_replies))
-      (run-push (take i olds) (take i edits) (take i replies) before mid after (get_or olds i d) f reply run one)))
+      rw (take_more olds i d in_olds, take_more_set edits i f in_edits, take_more_set replies i reply in_replies)
+      (run-push (take i olds) (take i edits) (take i replies) before mid after (get_or olds i d) f reply run one)
 
 module _ {F S : Type 0} (device : F → Device) (facts : S → Device) where
   -- the first edits have gone by, each with its reply, and the others are as they were

@@ -1,5 +1,5 @@
 -- What was added is found by its name.
-use Rattle.std.proofs.Common.{◌≡◌, ℕ, ◌%◌, ◌<◌, ◌≤◌, All, append_assoc, false, cond, not, ◌||◌, List, [], ◌∷◌, ◌++◌, length, Option, Some, None, refl, sym, ◌∙◌, ap, arith, eqb}
+use Rattle.std.proofs.Common.{◌≡◌, ℕ, ◌%◌, ◌<◌, ◌≤◌, All, append_assoc, length-append, false, cond, not, ◌||◌, List, [], ◌∷◌, ◌++◌, length, Option, Some, None, refl, sym, ◌∙◌, ap, arith, eqb}
 use Rattle.std.specs.Str.{bytes_eq}
 use Rattle.std.proofs.lemmas.List.Elements.{All-nil, All-cons, All-head, All-tail}
 use Rattle.std.proofs.lemmas.Bool.{eq-eqb, ne_eqb}
@@ -27,25 +27,20 @@ all_left P (c ∷ a) b each = All-cons P c a (All-head P c (a ++ b) each) (all_l
 -- ---- the shape of a region that has a cell
 
 fine_size : (n : ℕ) → 0 < n → n % 64 ≡ 0 → has_bad_size n ≡ false
-fine_size n some whole = ap (λ b. b || not (eqb (n % 64) 0)) (ne_eqb n 0 (λ (e : n ≡ 0). omega (arith, e, some))) ∙ ap (λ b. false || not b) (eq-eqb (n % 64) 0 whole)
-
-no_cells : (x : List ℕ) → 0 < length x → entry x ≡ absent → (cut x).cells ≡ []
-no_cells x some is = ap (λ (c : Cut). c.cells) (cut_absent x some is)
+fine_size n some whole = rw (ne_eqb n 0 (λ (e : n ≡ 0). omega (arith, e, some)), eq-eqb (n % 64) 0 whole) refl
 
 cell_there : (x c : List ℕ) (cells more : List (List ℕ)) → 0 < length x → (cut x).cells ≡ cells ++ (c ∷ more) → is_absent (entry x) ≡ false
 cell_there x c cells more some is = go (entry x) refl
   where
-    never : (all : List (List ℕ)) → [] ≡ all ++ (c ∷ more) → ⊥
-    never [] e = absurd cc
-    never (d ∷ all) e = absurd cc
-
     go : (e : Entry) → entry x ≡ e → is_absent e ≡ false
-    go absent e = absurd (never cells (sym (no_cells x some e) ∙ is))
+    go absent e =
+        let same : [] ≡ cells ++ (c ∷ more) = sym (ap (λ (k : Cut). k.cells) (cut_absent x some e)) ∙ is in
+        absurd (omega (arith, ap length same, length-append cells (c ∷ more)))
     go (damaged kind) e = refl
     go (cell span) e = refl
 
 good_shape : (x : List ℕ) → has_bad_size (length x) ≡ false → is_absent (entry x) ≡ false → shape x ≡ None
-good_shape x good there = ap (λ b. cond b (Some walk.RegionShape) (cond (is_absent (entry x)) (Some walk.NotCbfs) None)) good ∙ ap (λ b. let o : Option WalkFault = cond b (Some walk.NotCbfs) None in o) there
+good_shape x good there = rw (good, there) refl
 
 -- ---- the region after an addition
 

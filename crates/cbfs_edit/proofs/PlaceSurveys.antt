@@ -1,5 +1,6 @@
 -- The search for a place, from cell to cell.
-use Rattle.std.proofs.Common.{◌≡◌, ℕ, ◌+◌, Bool, true, false, cond, List, [], ◌∷◌, length, Option, Some, None, Result, Err, refl, ap, ◌∙◌}
+use Rattle.std.proofs.Common.{◌≡◌, inl, inr, ℕ, ◌+◌, Bool, true, false, cond, List, [], ◌∷◌, length, Option, Some, None, Result, Err, refl, ap, ◌∙◌}
+use Rattle.std.proofs.lemmas.Bool.{cases_Bool}
 use Rattle.std.specs.Prelude.{◌||◌, is_some, nat_lt}
 use Rattle.std.specs.Option.{option_or}
 use Rattle.std.specs.Str.{bytes_eq}
@@ -62,28 +63,23 @@ or_run wanted size None false run later = refl
 
 sought-step : (name : List ℕ) (wanted : Wanted) (size : ℕ) (s : Survey) (c : List ℕ) (cells : List (List ℕ)) → sought name wanted size s (c ∷ cells) ≡ sought name wanted size (surveyed name wanted size s c) cells
 unfolding sought named_in place_by components_from runs_from
-sought-step name wanted size s c cells = go (is_free (head_of c))
-  where
-    go : (free : Bool)
-        → by_name (s.exists || is_some (first_named name (cond free (components_from (s.row.end + length c) cells) (component_at s.row.end c ∷ components_from (s.row.end + length c) cells))))
-        (option_or s.place (place_among wanted size (cond free (runs_from s.row.start (s.row.end + length c) cells) (add_run s.row.start s.row.end (runs_from (s.row.end + length c) (s.row.end + length c) cells)))))
-        ≡ sought name wanted size (cond free (record { row = record { start = s.row.start; end = s.row.end + length c }; exists = s.exists; place = s.place })
-        (record { row = record { start = s.row.end + length c; end = s.row.end + length c }; exists = s.exists || bytes_eq (cell_name c) name; place = closed wanted size s })) cells
-    go true = refl
-    go false =
-        ap (λ b. by_name b (option_or s.place (place_among wanted size (add_run s.row.start s.row.end (runs_from (s.row.end + length c) (s.row.end + length c) cells)))))
-        (or_found s.exists (bytes_eq (cell_name c) name) (component_at s.row.end c) (first_named name (components_from (s.row.end + length c) cells)))
-        ∙ ap (λ (p : Option Place). by_name ((s.exists || bytes_eq (cell_name c) name) || named_in name (s.row.end + length c) cells) p)
-        (or_run wanted size s.place (nat_lt s.row.start s.row.end) (record { start = s.row.start; end = s.row.end }) (runs_from (s.row.end + length c) (s.row.end + length c) cells))
+sought-step name wanted size s c cells = elim (cases_Bool (is_free (head_of c))) [
+  | inl free ↦ rw free refl
+  | inr used ↦
+      let next = s.row.end + length c in
+      rw used (ap (λ b. by_name b (option_or s.place (place_among wanted size (add_run s.row.start s.row.end (runs_from next next cells)))))
+      (or_found s.exists (bytes_eq (cell_name c) name) (component_at s.row.end c) (first_named name (components_from next cells)))
+      ∙ ap (λ (p : Option Place). by_name ((s.exists || bytes_eq (cell_name c) name) || named_in name next cells) p)
+      (or_run wanted size s.place (nat_lt s.row.start s.row.end) (record { start = s.row.start; end = s.row.end }) (runs_from next next cells)))
+]
 
 -- where the cells end
 nothing_left : (name : List ℕ) (wanted : Wanted) (size : ℕ) (s : Survey) → sought name wanted size s [] ≡ answer_of wanted size s
 unfolding sought named_in place_by by_name components_from runs_from
-nothing_left name wanted size s = go s.exists
-  where
-    go : (e : Bool) → cond (e || false) (let r : Result Place EditFault = Err faults.Exists in r) (placed (closed wanted size s)) ≡ cond e (Err faults.Exists) (placed (closed wanted size s))
-    go true = refl
-    go false = refl
+nothing_left name wanted size s = elim (cases_Bool s.exists) [
+  | inl exists ↦ rw exists refl
+  | inr none ↦ rw none refl
+]
 
 -- the search finds it
 place_found : (name : List ℕ) (wanted : Wanted) (size : ℕ) (s : Survey) (at : ℕ) (cells : List (List ℕ)) → sought name wanted size s cells ≡ answer_of wanted size (gone (place_search name wanted size) s at cells)

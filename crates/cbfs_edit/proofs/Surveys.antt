@@ -1,5 +1,6 @@
 -- The search for a group, from cell to cell.
-use Rattle.std.proofs.Common.{◌≡◌, ℕ, ◌+◌, Bool, true, false, cond, List, [], ◌∷◌, length, Option, Some, Result, Ok, Err, refl, ap, ◌∙◌, arith}
+use Rattle.std.proofs.Common.{◌≡◌, inl, inr, ℕ, ◌+◌, Bool, true, false, cond, List, [], ◌∷◌, length, Option, Some, Result, Ok, Err, refl, ap, ◌∙◌, arith}
+use Rattle.std.proofs.lemmas.Bool.{cases_Bool}
 use Rattle.std.specs.Str.{bytes_eq}
 use Rattle.flash_format.specs.Head.{head_of, is_free}
 use Rattle.flash_format.specs.Cut.{cut}
@@ -29,25 +30,20 @@ group_by name (Whole group) at cells = Some group
 
 group-step : (name : List ℕ) (s : Search) (at : ℕ) (c : List ℕ) (cells : List (List ℕ)) → group_by name s at (c ∷ cells) ≡ group_by name (passed name s at c) (at + length c) cells
 unfolding group_by group_from free_prefix
-group-step name (Looking start) at c cells = go (is_free (head_of c)) (bytes_eq (cell_name c) name)
-  where
-    next : ℕ
-    next = at + length c
-
-    go : (free named : Bool) → cond free (group_from name start (at + length c) cells) (cond named (Some (record { start = start; end = at + length c + free_prefix cells })) (group_from name (at + length c) (at + length c) cells))
-        ≡ group_by name (cond free (Looking start) (cond named (Growing (record { start = start; end = at + length c })) (Looking (at + length c)))) (at + length c) cells
-    go true named = refl
-    go false true = refl
-    go false false = refl
-group-step name (Growing group) at c cells = go (is_free (head_of c))
+group-step name (Looking start) at c cells = elim (cases_Bool (is_free (head_of c))) [
+  | inl free ↦ rw free refl
+  | inr used ↦ elim (cases_Bool (bytes_eq (cell_name c) name)) [
+    | inl named ↦ rw (used, named) refl
+    | inr other ↦ rw (used, other) refl
+  ]
+]
+group-step name (Growing group) at c cells = elim (cases_Bool (is_free (head_of c))) [
+  | inl free ↦ rw free (end_is (group.end + (length c + free_prefix cells)) (group.end + length c + free_prefix cells) (omega arith))
+  | inr used ↦ rw used (end_is (group.end + 0) group.end (omega arith))
+]
   where
     end_is : (n m : ℕ) → n ≡ m → (let g : Freed = record { start = group.start; end = n } in Some g) ≡ Some (record { start = group.start; end = m })
     end_is n m e = ap (λ k. let g : Freed = record { start = group.start; end = k } in Some g) e
-
-    go : (free : Bool) → (let g : Freed = record { start = group.start; end = group.end + cond free (length c + free_prefix cells) 0 } in Some g)
-        ≡ group_by name (cond free (Growing (record { start = group.start; end = group.end + length c })) (Whole group)) (at + length c) cells
-    go true = end_is (group.end + (length c + free_prefix cells)) (group.end + length c + free_prefix cells) (omega arith)
-    go false = end_is (group.end + 0) group.end (omega arith)
 group-step name (Whole group) at c cells = refl
 
 -- where the cells end
