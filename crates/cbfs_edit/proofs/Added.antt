@@ -1,12 +1,11 @@
 -- An accepted addition: where it stands, and what the region has after it.
-use Rattle.std.proofs.Common.{◌≡◌, ◌≢◌, inl, inr, ⊎_elim, ℕ, ◌+◌, ◌-◌, ◌%◌, ◌^◌, ◌<◌, ◌≤◌, Bool, true, false, cond, eqb, ltb, ◌||◌, List, [], ◌∷◌, ◌++◌, length, drop, Option, Some, None, Ok, Err, sym, ◌∙◌, ap, subst, refl, arith, length-append, length-drop}
+use Rattle.std.proofs.Common.{◌≡◌, ◌≢◌, inl, inr, ℕ, ◌+◌, ◌-◌, ◌%◌, ◌^◌, ◌<◌, ◌≤◌, Bool, true, false, cond, eqb, ltb, ◌||◌, List, [], ◌∷◌, ◌++◌, length, drop, Option, Some, None, Ok, sym, ◌∙◌, ap, subst, refl, arith, length-append}
 use Rattle.std.specs.Prelude.{◌==◌}
 use Rattle.std.specs.List.{list_any}
 use Rattle.std.proofs.lemmas.Bool.{cond_both, eqb-false, eqb-true, ltb-false, or_parts}
-use Rattle.std.proofs.lemmas.Bool.Decides.{nat_tests}
-use Rattle.flash_format.specs.Head.{header_length, round64}
+use Rattle.flash_format.specs.Head.{round64}
 use Rattle.flash_format.specs.Entry.{is_nul}
-use Rattle.flash_format.specs.Blanks.{blank_header, blank, padding}
+use Rattle.flash_format.specs.Blanks.{blank, padding}
 use Rattle.flash_format.specs.Cut.{cut}
 use Rattle.flash_format.specs.Components.{components}
 use Rattle.flash_format.specs.Splices.{spliced}
@@ -16,7 +15,6 @@ use Rattle.flash_format.specs.declared.digest.Digest.{Digest}
 use Rattle.flash_format.specs.declared.digest.Digest.TheVariants as digests
 use Rattle.flash_format.proofs.MadeLaws.{length-front, hash_as_long, made_as_long, made_alone}
 use Rattle.flash_format.proofs.Placed.{blank_is_space, components_placed}
-use Rattle.cbfs_walk.specs.Finding.{first_named}
 use Rattle.cbfs_edit.specs.Groups.{IsCellRange}
 use Rattle.cbfs_edit.specs.Runs.{runs}
 use Rattle.cbfs_edit.specs.Removals.{kept_at}
@@ -28,7 +26,7 @@ use Rattle.cbfs_edit.specs.Laws.{AdditionsAddOneComponent}
 use Rattle.cbfs_edit.specs.declared.fault.EditFault.{EditFault}
 use Rattle.cbfs_edit.specs.declared.fault.EditFault.TheVariants as faults
 use Rattle.cbfs_edit.specs.declared.place.Spot.{Spot}
-use Rattle.cbfs_edit.specs.declared.place.Spot.TheVariants.{First, Aligned, Fixed}
+use Rattle.cbfs_edit.specs.declared.place.Spot.TheVariants.{Aligned, Fixed}
 use Rattle.cbfs_edit.specs.declared.place.Wanted.{Wanted}
 use Rattle.cbfs_edit.specs.declared.place.Place.{Place}
 use Rattle.cbfs_edit.proofs.AnsweredPlaces.{IsAnsweredPlace, answered_place}

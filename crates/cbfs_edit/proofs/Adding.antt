@@ -1,9 +1,9 @@
 -- The steps of an addition: its own checks, the search for a place, the writes.
-use Rattle.std.proofs.Common.{◌≡◌, ◌≢◌, ◌⊎◌, inl, inr, ⊎_elim, ℕ, ◌%◌, ◌^◌, ◌<◌, List, length, Option, Some, None, Result, Ok, Err, sym, ◌∙◌, ap, subst, refl, arith}
+use Rattle.std.proofs.Common.{◌≡◌, ◌⊎◌, inl, inr, ⊎_elim, ℕ, ◌%◌, ◌^◌, ◌<◌, List, length, Option, Some, None, Result, Ok, Err, sym, ◌∙◌, ap, subst, refl, arith}
 use Rattle.std.specs.Prelude.{IsErrOf}
 use Rattle.std.specs.Option.{option_map_or}
 use Rattle.std.specs.Result.{result_ok}
-use Rattle.flash_format.specs.Made.{IsDigest, hash_len, meta_length}
+use Rattle.flash_format.specs.Made.{IsDigest, meta_length}
 use Rattle.flash_store.specs.Bytes.{overwritten, SameOutside}
 use Rattle.flash_store.specs.Regions.{Range, LiesIn, bytes_in}
 use Rattle.flash_store.specs.declared.paged.CopyFault.{CopyFault}

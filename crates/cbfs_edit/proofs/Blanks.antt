@@ -7,7 +7,7 @@ use Rattle.flash_format.specs.Head.{header_length}
 use Rattle.flash_format.specs.Blanks.{blank_header, padding}
 use Rattle.flash_format.proofs.BlankLaws.{length-blank_header}
 use Rattle.flash_store.specs.Bytes.{overwritten, SameOutside}
-use Rattle.flash_store.proofs.BytesLemmas.{SameOutside-overwritten, SameOutside-wider, overwritten-more_at, length-overwritten, overwritten-front, slice_range_is}
+use Rattle.flash_store.proofs.BytesLemmas.{SameOutside-overwritten, SameOutside-wider, overwritten-more_at, overwritten-front, slice_range_is}
 use Rattle.flash_store.specs.Regions.{Range, LiesIn, bytes_in}
 use Rattle.flash_store.proofs.DeviceLemmas.{length-bytes_in}
 use Rattle.cbfs_edit.specs.Groups.{IsCellRange}

@@ -1,5 +1,5 @@
 -- What was added is found by its name.
-use Rattle.std.proofs.Common.{◌≡◌, ℕ, ◌%◌, ◌<◌, ◌≤◌, All, append_assoc, length-append, false, cond, not, ◌||◌, List, [], ◌∷◌, ◌++◌, length, Option, Some, None, refl, sym, ◌∙◌, ap, arith, eqb}
+use Rattle.std.proofs.Common.{◌≡◌, ℕ, ◌%◌, ◌<◌, ◌≤◌, All, append_assoc, length-append, false, List, [], ◌∷◌, ◌++◌, length, None, refl, sym, ◌∙◌, ap, arith}
 use Rattle.std.specs.Str.{bytes_eq}
 use Rattle.std.proofs.lemmas.List.Elements.{All-nil, All-cons, All-head, All-tail}
 use Rattle.std.proofs.lemmas.Bool.{eq-eqb, ne_eqb}
@@ -11,8 +11,6 @@ use Rattle.flash_format.proofs.CutSteps.{cut_absent}
 use Rattle.flash_format.proofs.CutLaws.{cut_unique}
 use Rattle.cbfs_walk.specs.Finding.{IsFirstOf, first_named}
 use Rattle.cbfs_walk.specs.Shapes.{has_bad_size, is_absent, shape}
-use Rattle.cbfs_walk.specs.declared.walk.WalkFault.{WalkFault}
-use Rattle.cbfs_walk.specs.declared.walk.WalkFault.TheVariants as walk
 use Rattle.cbfs_walk.proofs.FirstNamed.{first_found, none_named, same_name}
 use Rattle.cbfs_edit.specs.Additions.{NewComponent, AddsOne, added, blank_between, cell_end, made_at}
 use Rattle.cbfs_edit.specs.Laws.{IsAdded, AdditionsAreFound, added_component}

@@ -1,5 +1,5 @@
 -- Each run is a group of free cells of its region, and a blank's header over it keeps the components.
-use Rattle.std.proofs.Common.{◌≡◌, ℕ, ◌%◌, ◌<◌, List, ◌++◌, length, sym, ◌∙◌, ap, arith, Contains}
+use Rattle.std.proofs.Common.{◌≡◌, ℕ, ◌%◌, List, ◌++◌, length, sym, ◌∙◌, ap, Contains}
 use Rattle.std.proofs.lemmas.List.{append-nil}
 use Rattle.flash_format.specs.Components.{Component, components_from}
 use Rattle.flash_format.specs.Splices.{CellsBetween}

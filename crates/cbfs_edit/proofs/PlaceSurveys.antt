@@ -8,13 +8,10 @@ use Rattle.flash_format.specs.Head.{head_of, is_free}
 use Rattle.flash_format.specs.Cut.{cut}
 use Rattle.flash_format.specs.Components.{Component, components_from, component_at, cell_name}
 use Rattle.cbfs_walk.specs.Finding.{first_named}
-use Rattle.cbfs_walk.specs.Shapes.{shape, refused_or}
-use Rattle.cbfs_walk.specs.Shaped.{place_after}
-use Rattle.cbfs_edit.specs.Refusals.{refusal_of}
 use Rattle.cbfs_edit.specs.Runs.{add_run, runs_from}
 use Rattle.cbfs_edit.specs.Removals.{unless_unsound}
 use Rattle.cbfs_edit.specs.Places.{place_in, place_among, placed, placing_in}
-use Rattle.cbfs_edit.specs.Placings.{closed, surveyed, answer_of}
+use Rattle.cbfs_edit.specs.Placings.{surveyed, answer_of}
 use Rattle.cbfs_edit.specs.declared.fault.EditFault.{EditFault}
 use Rattle.cbfs_edit.specs.declared.fault.EditFault.TheVariants as faults
 use Rattle.cbfs_edit.specs.declared.group.Freed.{Freed}

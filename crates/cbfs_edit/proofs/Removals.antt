@@ -1,18 +1,11 @@
 -- An accepted removal has a group, in a region of a good size.
-use Rattle.std.proofs.Common.{◌≡◌, ◌⊎◌, inl, inr, ℕ, ◌-◌, ◌%◌, ◌^◌, ◌<◌, Bool, true, false, cond, List, length, drop, Option, Some, None, Result, Ok, Err, refl, sym, ◌∙◌, ap, subst, arith}
+use Rattle.std.proofs.Common.{◌≡◌, ◌⊎◌, inl, inr, ℕ, ◌-◌, ◌%◌, ◌^◌, ◌<◌, List, length, drop, Result, Ok, sym, ◌∙◌, ap, subst, arith}
 use Rattle.std.specs.Prelude.{IsErrOf}
 use Rattle.flash_store.specs.Regions.{Range, LiesIn, bytes_in}
 use Rattle.flash_store.proofs.DeviceLemmas.{length-bytes_in}
-use Rattle.flash_format.specs.Entry.{entry}
-use Rattle.flash_format.specs.Cut.{End, complete, tail, damage, cut}
-use Rattle.cbfs_walk.specs.Shapes.{has_bad_size, is_absent, refused_or}
-use Rattle.cbfs_walk.specs.Shaped.{place_after}
-use Rattle.cbfs_walk.specs.declared.walk.WalkFault.{WalkFault}
-use Rattle.cbfs_walk.specs.declared.walk.WalkFault.TheVariants as walk
-use Rattle.cbfs_edit.specs.Refusals.{refusal_of}
-use Rattle.cbfs_walk.proofs.Answering.{good_size}
+use Rattle.flash_format.specs.Cut.{cut}
 use Rattle.cbfs_edit.specs.Groups.{IsCellRange, IsGroupOf, group_of}
-use Rattle.cbfs_edit.specs.Removals.{unless_damaged, found, removed, removal_in}
+use Rattle.cbfs_edit.specs.Removals.{found, removed, removal_in}
 use Rattle.flash_store.specs.Bytes.{overwritten, SameOutside}
 use Rattle.flash_store.proofs.RegionLemmas.{image_is}
 use Rattle.cbfs_edit.specs.Stops.{IsBlankStop, IsOldOrBlanked, LeavesWhole}

@@ -1,13 +1,10 @@
 -- The search for a group, from cell to cell.
-use Rattle.std.proofs.Common.{◌≡◌, inl, inr, ℕ, ◌+◌, Bool, true, false, cond, List, [], ◌∷◌, length, Option, Some, Result, Ok, Err, refl, ap, ◌∙◌, arith}
+use Rattle.std.proofs.Common.{◌≡◌, inl, inr, ℕ, ◌+◌, List, [], ◌∷◌, length, Option, Some, Result, Ok, refl, ap, ◌∙◌, arith}
 use Rattle.std.proofs.lemmas.Bool.{cases_Bool}
 use Rattle.std.specs.Str.{bytes_eq}
 use Rattle.flash_format.specs.Head.{head_of, is_free}
 use Rattle.flash_format.specs.Cut.{cut}
 use Rattle.flash_format.specs.Components.{cell_name}
-use Rattle.cbfs_walk.specs.Shapes.{shape, refused_or}
-use Rattle.cbfs_walk.specs.Shaped.{place_after}
-use Rattle.cbfs_edit.specs.Refusals.{refusal_of}
 use Rattle.cbfs_edit.specs.Groups.{free_prefix, group_from}
 use Rattle.cbfs_edit.specs.Searches.{passed, group_in}
 use Rattle.cbfs_edit.specs.Removals.{unless_unsound, found, removal_in}

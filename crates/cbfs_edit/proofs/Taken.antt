@@ -5,15 +5,13 @@ use Rattle.std.specs.List.{concat}
 use Rattle.std.proofs.lemmas.Bool.{cases_Bool}
 use Rattle.std.proofs.lemmas.List.Elements.{All-nil, All-cons, All-head, All-tail}
 use Rattle.flash_format.specs.Head.{head_of, is_free}
-use Rattle.flash_format.specs.Cut.{cut, IsCut}
 use Rattle.flash_format.specs.Components.{Component, component_at, components_from}
 use Rattle.flash_format.specs.Splices.{AllFree, CellsBetween}
 use Rattle.flash_format.proofs.CellLists.{components-append}
-use Rattle.flash_format.proofs.Splices.{components-free, concat-append}
-use Rattle.cbfs_edit.specs.Groups.{IsComponent, IsGroupOf, IsNot}
+use Rattle.flash_format.proofs.Splices.{components-free}
+use Rattle.cbfs_edit.specs.Groups.{IsComponent, IsNot}
 use Rattle.cbfs_edit.specs.Laws.{RemovalsTakeOneComponent}
 use Rattle.cbfs_edit.specs.Removals.{removed}
-use Rattle.cbfs_edit.specs.declared.group.Freed.{Freed}
 use Rattle.cbfs_edit.proofs.Exact.{cells_of}
 use Rattle.cbfs_edit.proofs.Groups.{blanked-components, blanked-end, removed-blanked}
 use Rattle.cbfs_edit.proofs.Removals.{accepted}

@@ -1,30 +1,21 @@
 -- What was added can be removed, and then the components are those of before.
-use Rattle.std.proofs.Common.{◌≡◌, ℕ, Bool, true, false, cond, List, [], ◌∷◌, ◌++◌, length, Option, Some, None, Result, Ok, Err, refl, sym, ◌∙◌, ap, arith, subst, All, Contains}
-use Rattle.std.specs.Prelude.{is_some}
+use Rattle.std.proofs.Common.{◌≡◌, ℕ, true, false, List, ◌∷◌, ◌++◌, length, Option, Some, None, Ok, Err, refl, sym, ◌∙◌, ap, arith, subst, All, Contains}
 use Rattle.std.specs.Str.{bytes_eq}
 use Rattle.std.proofs.lemmas.Bool.{both_ways}
 use Rattle.std.proofs.lemmas.List.Elements.{All-weaker, All-contains, Contains-append_right}
-use Rattle.flash_format.specs.Entry.{entry}
-use Rattle.flash_format.specs.Cut.{End, complete, tail, damage, cut}
+use Rattle.flash_format.specs.Cut.{End, cut}
 use Rattle.flash_format.specs.Components.{Component, components}
-use Rattle.cbfs_walk.specs.Finding.{IsFirstOf, first_named}
-use Rattle.cbfs_walk.specs.Shapes.{has_bad_size, is_absent, refused_or, shape}
+use Rattle.cbfs_walk.specs.Finding.{IsFirstOf}
+use Rattle.cbfs_walk.specs.Shapes.{refused_or, shape}
 use Rattle.cbfs_walk.specs.Shaped.{place_after}
 use Rattle.cbfs_walk.specs.declared.walk.WalkFault.{WalkFault}
-use Rattle.cbfs_walk.specs.declared.walk.WalkFault.TheVariants as walk
 use Rattle.cbfs_walk.proofs.FirstNamed.{same_name}
 use Rattle.cbfs_edit.specs.Groups.{group_of}
 use Rattle.cbfs_edit.specs.Refusals.{refusal_of}
 use Rattle.cbfs_edit.specs.Removals.{LosesOne, found, removed, removal_in, unless_damaged}
-use Rattle.cbfs_edit.specs.Places.{place_of, placed, placing_in}
-use Rattle.cbfs_edit.specs.Additions.{NewComponent, added, addition_in, own_fault, unless_faulty, wanted_for}
+use Rattle.cbfs_edit.specs.Additions.{added}
 use Rattle.cbfs_edit.specs.Laws.{AdditionsAreUndone, added_component}
-use Rattle.cbfs_edit.specs.declared.fault.EditFault.{EditFault}
-use Rattle.cbfs_edit.specs.declared.fault.EditFault.TheVariants as faults
 use Rattle.cbfs_edit.specs.declared.group.Freed.{Freed}
-use Rattle.cbfs_edit.specs.declared.place.Spot.{Spot}
-use Rattle.cbfs_edit.specs.declared.place.Place.{Place}
-use Rattle.cbfs_edit.specs.declared.place.Wanted.{Wanted}
 use Rattle.cbfs_edit.proofs.Added.{added_length, there}
 use Rattle.cbfs_edit.proofs.Exact.{group_none}
 use Rattle.cbfs_edit.proofs.FoundAgain.{added_first, after, before, none_before, one_more, shape_after}

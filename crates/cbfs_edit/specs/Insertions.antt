@@ -1,5 +1,5 @@
 -- The writes that put a component into a run of free cells, once a blank over the whole run stands there.
-use Rattle.std.specs.Prelude.{◌≡◌, ◌⊎◌, ℕ, ◌+◌, ◌-◌, ◌%◌, ◌^◌, ◌<◌, ◌≤◌, ◌==◌, if◌then◌else◌, max, false, List, length, take, drop}
+use Rattle.std.specs.Prelude.{◌≡◌, ℕ, ◌+◌, ◌-◌, ◌%◌, ◌^◌, ◌<◌, ◌≤◌, ◌==◌, if◌then◌else◌, max, false, List, length, take, drop}
 use Rattle.flash_format.specs.Head.{header_length}
 use Rattle.flash_format.specs.Blanks.{blank_header}
 use Rattle.flash_store.specs.Bytes.{overwritten, SameOutside}

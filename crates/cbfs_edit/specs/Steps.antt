@@ -1,18 +1,16 @@
 -- Edits of a region on a device that may stop at any call: one, and a list of them.
-use Rattle.std.specs.Prelude.{◌≡◌, ℕ, ◌+◌, ◌/◌, ⊤, IsTrue, List, [], ◌∷◌, length, Result, Ok, Err}
+use Rattle.std.specs.Prelude.{◌≡◌, ℕ, ◌+◌, ◌/◌, ⊤, IsTrue, List, [], ◌∷◌, length, Ok, Err}
 use Rattle.flash_store.specs.Device.{Device, Reads}
 use Rattle.flash_store.specs.Regions.{Range, bytes_in}
 use Rattle.cbfs_edit.specs.Refusals.{ByFault, by_device, by_source}
 use Rattle.cbfs_edit.specs.Removals.{removed, removal_in}
 use Rattle.cbfs_edit.specs.Additions.{NewComponent, new_component, addition_in, added_to, placed_of}
 use Rattle.cbfs_edit.specs.Stops.{LeavesWhole, AddLeavesWhole, AddLeavesBefore}
-use Rattle.cbfs_edit.specs.declared.addition.Placed.{Placed}
 use Rattle.cbfs_edit.specs.declared.edit.Edit.{Edit}
 use Rattle.cbfs_edit.specs.declared.edit.Edit.TheVariants.{Add, Remove}
 use Rattle.cbfs_edit.specs.declared.edit.Reply.{Reply}
 use Rattle.cbfs_edit.specs.declared.edit.Reply.TheVariants as replies
 use Rattle.cbfs_edit.specs.declared.fault.EditFault.{EditFault}
-use Rattle.cbfs_edit.specs.declared.group.Freed.{Freed}
 use Rattle.cbfs_edit.specs.declared.place.Spot.{Spot}
 
 -- a region's bytes, with the device's count of faults

@@ -3,11 +3,11 @@ ghost use Rattle.std.specs.Prelude.{◌≡◌, ◌≢◌, ◌⊎◌, ◌+◌, �
 ghost use Rattle.std.specs.List.{list_any};
 ghost use Rattle.flash_format.specs.Entry.{is_nul};
 ghost use Rattle.flash_format.specs.Made.{hash_len, meta_length, pointed};
-ghost use Rattle.flash_store.specs.Bytes.{overwritten, SameOutside};
+ghost use Rattle.flash_store.specs.Bytes.{overwritten};
 ghost use Rattle.flash_store.specs.Copies as copies;
 ghost use Rattle.flash_store.specs.Device.{Calls, Reads, faults_told};
 ghost use Rattle.flash_store.specs.Pages.{HasChanged, OnHonestIn};
-ghost use Rattle.flash_store.specs.Regions.{LiesIn, bytes_in};
+ghost use Rattle.flash_store.specs.Regions.{LiesIn};
 ghost use Rattle.cbfs_edit.specs.Changes.{OnHonestChange, HasCopied};
 ghost use Rattle.cbfs_edit.specs.Additions.{added, added_to, addition_in, attribute_len, digest_of, is_bad_name, labelled, new_component, own_fault, placed_of};
 ghost use Rattle.cbfs_edit.specs.Placings.{Fits};

@@ -1,8 +1,8 @@
 //! The formatting of a region.
 ghost use Rattle.std.specs.Prelude.{◌≡◌, ◌≢◌, ◌⊎◌, ◌+◌, ◌/◌, ◌<◌, IsTrue, IsErrOf, IfErr, OnOk};
 ghost use Rattle.flash_store.specs.Device.{faults_told};
-ghost use Rattle.flash_store.specs.Pages.{HasChanged, OnHonestIn};
-ghost use Rattle.flash_store.specs.Regions.{LiesIn, bytes_in};
+ghost use Rattle.flash_store.specs.Pages.{HasChanged};
+ghost use Rattle.flash_store.specs.Regions.{LiesIn};
 ghost use Rattle.cbfs_edit.specs.Changes.{OnHonestChange};
 ghost use Rattle.cbfs_edit.specs.Formats.{format_of, formatted, IsFormatStop};
 ghost use Rattle.cbfs_edit.specs.Refusals.{by_device};

@@ -1,11 +1,10 @@
 //! Writes at places of a region.
-ghost use Rattle.std.specs.Prelude.{◌≡◌, ◌⊎◌, ℕ, List, ◌++◌, ◌+◌, ◌/◌, ◌<◌, ◌≤◌, length, IsTrue, IsErrOf, OnOk, OnErr, replicate};
+ghost use Rattle.std.specs.Prelude.{◌≡◌, ◌⊎◌, ℕ, List, ◌++◌, ◌+◌, ◌/◌, ◌<◌, ◌≤◌, length, IsTrue, OnOk, OnErr, replicate};
 ghost use Rattle.flash_format.specs.Head.{header_length};
 ghost use Rattle.flash_store.specs.Bytes.{overwritten, SameOutside};
-ghost use Rattle.flash_store.specs.Copies.{by_device, by_source};
-ghost use Rattle.flash_store.specs.Device.{Calls, faults_told, refusals};
+ghost use Rattle.flash_store.specs.Device.{refusals};
 ghost use Rattle.flash_store.specs.Pages.{HasChanged};
-ghost use Rattle.flash_store.specs.Regions.{LiesIn, bytes_in};
+ghost use Rattle.flash_store.specs.Regions.{LiesIn};
 ghost use Rattle.cbfs_edit.specs.Changes.{OnHonestChange, HasCopied};
 
 use flash_format::HEADER_LENGTH;

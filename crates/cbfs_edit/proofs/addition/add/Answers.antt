@@ -1,7 +1,7 @@
-use Rattle.std.proofs.Common.{inl, inr, List, ℕ, IsTrue, Err, Some, ap, ◌∙◌, sym, rules, arith}
+use Rattle.std.proofs.Common.{inl, inr, IsTrue, Err, Some, ap, ◌∙◌, sym, rules, arith}
 use Rattle.flash_store.specs.Regions.{bytes_in}
 use Rattle.flash_store.proofs.DeviceLemmas.{honest_still}
-use Rattle.cbfs_edit.specs.Additions.{added_to, new_component, placed_of}
+use Rattle.cbfs_edit.specs.Additions.{new_component, placed_of}
 use Rattle.cbfs_edit.specs.declared.fault.EditFault.TheVariants as faults
 use Rattle.cbfs_edit.proofs.Added.{own-is}
 use Rattle.cbfs_edit.proofs.Adding.{told, digest-sized, found_in, place_found, image_of, written, source_leaves, device_leaves}
