@@ -70,12 +70,6 @@ module _ (x name : List ℕ) (kind : ℕ) (hash : HashChoice) (content : List �
   place_found place (inl failed) = absurd cc
   place_found place (inr found) = sym (found ∙ same)
 
--- the image after a change of its region alone
-pub image_of : (r : Range) (u old mid new : List ℕ) → LiesIn r old → mid ≡ old → length new ≡ length mid → SameOutside r.start r.size mid new → bytes_in r new ≡ u → new ≡ overwritten old r.start u
-image_of r u old mid new lies same size outside is =
-    let lies_mid : LiesIn r mid = omega (arith, lies, ap length same) in
-    subst (λ (l : List ℕ). new ≡ overwritten l r.start u) same (image_is r mid new u lies_mid size outside is)
-
 pub added_is : (x : List ℕ) (new : NewComponent) (spot : Spot) (place : Place) → addition_in x new spot ≡ Ok place → added_to x new spot ≡ added x new place
 added_is x new spot place is = ap (λ (a : Result Place EditFault). option_map_or (added x new) (result_ok a) x) is
 

@@ -12,9 +12,6 @@ use Rattle.cbfs_edit.specs.declared.place.Wanted.{Wanted}
 use Rattle.cbfs_edit.specs.declared.place.Place.{Place}
 use Rattle.cbfs_edit.proofs.Sound.{IsAccepted, IsSound, accepted_by, found-some}
 
-same_some : (p q : Place) → Some p ≡ Some q → p ≡ q
-same_some p q is = cc
-
 -- the run of a place is one of those in which it was looked for
 among-run : (wanted : Wanted) (size : ℕ) (all : List Freed) (place : Place) → place_among wanted size all ≡ Some place → Contains all place.run
 unfolding place_among
@@ -23,7 +20,7 @@ among-run wanted size (run ∷ later) place is = go (least_in wanted size run) i
   where
     go : (o : Option ℕ) → option_or (option_map (place_at wanted run) o) (place_among wanted size later) ≡ Some place → (place_among wanted size later ≡ Some place → Contains later place.run) → Contains (run ∷ later) place.run
     go None e more = let h : Contains later place.run = more e in (suc h.0, omega (arith, h.1), h.2)
-    go (Some c) e more = (0, omega arith, ap (λ (k : Place). k.run) (same_some (place_at wanted run c) place e))
+    go (Some c) e more = let same : place_at wanted run c ≡ place = cc in (0, omega arith, ap (λ (k : Place). k.run) same)
 
 -- what an answer says: no component has the name, and the place is in a run of the region
 pub record IsAnsweredPlace (x name : List ℕ) (wanted : Wanted) (place : Place) : Type 0 where

@@ -1,7 +1,7 @@
 -- Changes of a run, within a range.
 use Rattle.std.proofs.Common.{◌≡◌, ◌⊎◌, inl, inr, ℕ, ◌+◌, ◌-◌, ◌%◌, ◌≤◌, List, sym, ◌∙◌, ap, subst, refl, arith, cond}
-use Rattle.std.specs.Prelude.{max}
-use Rattle.std.proofs.lemmas.Bool.{cases_eq, eq-eqb, ne_eqb}
+use Rattle.std.specs.Prelude.{◌==◌, max}
+use Rattle.std.proofs.lemmas.Bool.{cases_Bool, eqb-false, eqb-true}
 use Rattle.flash_format.specs.Head.{header_length}
 use Rattle.flash_store.specs.Bytes.{SameOutside}
 use Rattle.flash_store.proofs.BytesLemmas.{SameOutside-trans}
@@ -21,22 +21,18 @@ within y z at n from to after before same =
 pub again : (x y z : List ℕ) (at n : ℕ) → SameOutside at n x y → SameOutside at n y z → SameOutside at n x z
 again x y z at n first second = record { before = second.before ∙ first.before; after = second.after ∙ first.after }
 
--- where the front is held back, and where its rest begins
-pub held-back : (place : Place) → place.run.start ≤ place.header → place.run.start % 64 ≡ 0 → place.header % 64 ≡ 0
-    → ((place.header ≡ place.run.start) × (held_back place ≡ header_length)) ⊎ ((place.run.start + 64 ≤ place.header) × (held_back place ≡ 0))
-held-back place order start_aligned aligned = elim (cases_eq place.header place.run.start) [
-  | inl same ↦ inl (same, ap (λ b. cond b header_length 0) (eq-eqb place.header place.run.start same))
-  | inr other ↦ inr (omega (arith, other), ap (λ b. cond b header_length 0) (ne_eqb place.header place.run.start other))
-]
-
 module _ (size : ℕ) (place : Place) (end front : ℕ) (room : HasRoom size place end front) (y z : List ℕ) where
   -- the rest of the front
   pub front-within : (at n : ℕ) → at ≡ place.header + held_back place → n ≡ front - held_back place → SameOutside at n y z → IsUnfinished place y z
   front-within at n is long same =
-      let where_it_is = held-back place room.start_below room.run.start_aligned room.header_aligned in
-      let bounds : (place.run.start + header_length ≤ at) × (at + n ≤ place.content) = elim where_it_is [
-        | inl here ↦ (omega (arith, here.0, here.1), omega (arith, here.0, here.1, room.front_is, room.front_long))
-        | inr later ↦ (omega (arith, later.0, later.1), omega (arith, later.1, room.front_is))
+      let bounds : (place.run.start + header_length ≤ at) × (at + n ≤ place.content) = elim (cases_Bool (place.header == place.run.start)) [
+        | inl here ↦
+            let held : held_back place ≡ header_length = rw here refl in
+            let same = eqb-true place.header place.run.start here in
+            (omega (arith, held, same), omega (arith, held, same, room.front_is, room.front_long))
+        | inr later ↦
+            let held : held_back place ≡ 0 = rw later refl in
+            (omega (arith, held, eqb-false place.header place.run.start later, room.start_below, room.run.start_aligned, room.header_aligned), omega (arith, held, room.front_is))
       ] in
       within y z at n (place.run.start + header_length) (max place.content (place.run.end - 4)) bounds.0 (omega (arith, bounds.1)) same
 

@@ -72,21 +72,11 @@ room-for size k a wanted place end front small fits short few is ends long = rec
 -- a description by its parts
 pub described-is : (m : Meta) (name : List ℕ) (kind : ℕ) (digest : Option Digest) (gap n : ℕ) → m.name.now ≡ name → m.kind ≡ kind → pointed m.digest ≡ digest → m.gap ≡ gap → m.len ≡ n
     → described m ≡ made_front name kind digest gap n
-described-is m name kind digest gap n is_name is_kind is_digest is_gap is_len =
-    ap (λ (l : List ℕ). made_front l m.kind (pointed m.digest) m.gap m.len) is_name
-    ∙ ap (λ k. made_front name k (pointed m.digest) m.gap m.len) is_kind
-    ∙ ap (λ (d : Option Digest). made_front name kind d m.gap m.len) is_digest
-    ∙ ap (λ k. made_front name kind digest k m.len) is_gap
-    ∙ ap (λ k. made_front name kind digest gap k) is_len
+described-is m name kind digest gap n is_name is_kind is_digest is_gap is_len = rw (is_name, is_kind, is_digest, is_gap, is_len) refl
 
 pub described_len-is : (m : Meta) (name : List ℕ) (digest : Option Digest) (gap header a : ℕ) → m.name.now ≡ name → pointed m.digest ≡ digest → m.gap ≡ gap → hash_len digest ≡ a → header ≡ meta_length (length name) a
     → described_len m ≡ header + gap
-described_len-is m name digest gap header a is_name is_digest is_gap is_len is_header =
-    ap (λ (l : List ℕ). meta_length (length l) (hash_len (pointed m.digest)) + m.gap) is_name
-    ∙ ap (λ (d : Option Digest). meta_length (length name) (hash_len d) + m.gap) is_digest
-    ∙ ap (λ k. meta_length (length name) (hash_len digest) + k) is_gap
-    ∙ ap (λ k. meta_length (length name) k + gap) is_len
-    ∙ ap (λ k. k + gap) (sym is_header)
+described_len-is m name digest gap header a is_name is_digest is_gap is_len is_header = rw (is_name, is_digest, is_gap, is_len, is_header) refl
 
 -- all that is written after the content stays in the run, and of its last four bytes before the content
 finished-within : (z : List ℕ) (place : Place) (end : ℕ) (front : List ℕ) → HasRoom (length z) place end (length front)

@@ -8,26 +8,18 @@ use Rattle.flash_format.proofs.CutLaws.{cut_exists}
 use Rattle.flash_format.proofs.Splices.{concat-append}
 use Rattle.cbfs_edit.specs.declared.group.Freed.{Freed}
 
--- a region's cut, with what is left
-pub record WholeCut (x : List ℕ) : Type 0 where
-  pub rest : List ℕ
-  pub is : IsCut x (cut x).cells rest (cut x).end
-
-pub whole_cut : (x : List ℕ) → length x % 64 ≡ 0 → WholeCut x
-whole_cut x aligned = let some = cut_exists x aligned in record { rest = some.0; is = some.1 }
-
 -- the cells of a range, between the others
 abbrev pub between : (x : List ℕ) (range : Freed) (before group after : List (List ℕ)) → length x % 64 ≡ 0 → (cut x).cells ≡ before ++ (group ++ after) → length (concat before) ≡ range.start
     → range.start + length (concat group) ≡ range.end → CellsBetween x range.start range.end
 between x range before group after aligned whole starts ends =
-    let all = whole_cut x aligned in
+    let all = cut_exists x aligned in
     record {
       before = before;
       group = group;
       after = after;
-      rest = all.rest;
+      rest = all.0;
       ending = (cut x).end;
-      is = subst (λ (cells : List (List ℕ)). IsCut x cells all.rest (cut x).end) (whole ∙ sym (append_assoc before group after)) all.is;
+      is = subst (λ (cells : List (List ℕ)). IsCut x cells all.0 (cut x).end) (whole ∙ sym (append_assoc before group after)) all.1;
       start_is = starts;
       end_is = ends;
     }

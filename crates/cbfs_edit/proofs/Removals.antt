@@ -69,9 +69,8 @@ removal_leaves r name group old mid new lies small same (inr e) stopped = left s
           },
         )
 
--- the image that a finished removal leaves
-pub image_removed : (r : Range) (group : Freed) (old mid new : List ℕ) → LiesIn r old → mid ≡ old → length new ≡ length mid → SameOutside r.start r.size mid new
-    → bytes_in r new ≡ removed (bytes_in r mid) group → new ≡ overwritten old r.start (removed (bytes_in r old) group)
-image_removed r group old mid new lies same size outside is =
+-- the image after a change of its region alone
+pub image_of : (r : Range) (u old mid new : List ℕ) → LiesIn r old → mid ≡ old → length new ≡ length mid → SameOutside r.start r.size mid new → bytes_in r new ≡ u → new ≡ overwritten old r.start u
+image_of r u old mid new lies same size outside is =
     let lies_mid : LiesIn r mid = omega (arith, lies, ap length same) in
-    subst (λ (l : List ℕ). new ≡ overwritten l r.start (removed (bytes_in r l) group)) same (image_is r mid new (removed (bytes_in r mid) group) lies_mid size outside is)
+    subst (λ (l : List ℕ). new ≡ overwritten l r.start u) same (image_is r mid new u lies_mid size outside is)

@@ -10,7 +10,7 @@ use Rattle.flash_format.proofs.CutSteps.{cell_span}
 use Rattle.cbfs_edit.specs.Runs.{add_run, runs_from}
 use Rattle.cbfs_edit.specs.Laws.{RunsAscend}
 use Rattle.cbfs_edit.specs.declared.group.Freed.{Freed}
-use Rattle.cbfs_edit.proofs.Parts.{whole_cut}
+use Rattle.flash_format.proofs.CutLaws.{cut_exists}
 
 abbrev Apart : Freed → Freed → Type 0
 Apart a b = a.end < b.start
@@ -55,4 +55,4 @@ apart start at (c ∷ cells) order each =
     (add_apart start at (runs_from next next cells) (begin_after at next next cells (omega (arith, some)) (omega arith)) (apart next next cells (omega arith) rest))
 
 pub runs_ascend : RunsAscend
-runs_ascend x aligned = apart 0 0 (cut x).cells (omega arith) (whole_cut x aligned).is.each
+runs_ascend x aligned = apart 0 0 (cut x).cells (omega arith) (cut_exists x aligned).1.each

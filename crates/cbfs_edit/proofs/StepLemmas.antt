@@ -1,5 +1,5 @@
 -- An edit's step, from what its clauses say one by one.
-use Rattle.std.proofs.Common.{◌≡◌, ◌≢◌, ◌⊎◌, inl, inr, List, ℕ, Result, Ok, Err, ap, refl, sym}
+use Rattle.std.proofs.Common.{◌≡◌, ◌≢◌, ◌⊎◌, inl, inr, ⊎_elim, List, ℕ, Result, Ok, Err, ap, refl, sym}
 use Rattle.std.specs.Prelude.{IsErrOf, IfErr, IfOk, OnOk}
 use Rattle.flash_store.specs.Regions.{Range, bytes_in}
 use Rattle.cbfs_edit.specs.Additions.{NewComponent, addition_in, added_to, placed_of}
@@ -44,11 +44,7 @@ removal_step name r old now (Err fault) no_source answer changed refused stopped
     by-fault fault _ _ _
     (λ e. stopped (told_as fault faults.Device e))
     (λ e. no_source (told_as fault faults.Source e))
-    (λ other _. (told_removal other answer, ap (λ (l : List ℕ). bytes_in r l) (refused other)))
-  where
-    told_removal : fault ≢ faults.Device → (let a : Result Freed EditFault = Err fault in IsErrOf a faults.Device ⊎ (a ≡ removal_in (bytes_in r old) name)) → removal_in (bytes_in r old) name ≡ Err fault
-    told_removal other (inl failed) = absurd (other (same_fault fault faults.Device failed))
-    told_removal other (inr is) = sym is
+    (λ other _. (⊎_elim (λ failed. absurd (other (same_fault fault faults.Device failed))) (λ is. sym is) answer, ap (λ (l : List ℕ). bytes_in r l) (refused other)))
 
 -- an addition is refused as its place is
 placed-refused : (place : Result Place EditFault) (fault : EditFault) → Err fault ≡ placed_of place → place ≡ Err fault
@@ -69,10 +65,7 @@ addition_step new spot r old now (Err fault) answer changed refused stopped befo
     by-fault fault _ _ _
     (λ e. stopped (told_as fault faults.Device e))
     (λ e. before (told_as fault faults.Source e))
-    (λ other not_source. (told_addition other not_source answer, ap (λ (l : List ℕ). bytes_in r l) (refused other not_source)))
-  where
-    told_addition : fault ≢ faults.Device → fault ≢ faults.Source
-        → (let a : Result Placed EditFault = Err fault in IsErrOf a faults.Device ⊎ (IsErrOf a faults.Source ⊎ (a ≡ placed_of (addition_in (bytes_in r old) new spot)))) → addition_in (bytes_in r old) new spot ≡ Err fault
-    told_addition other not_source (inl failed) = absurd (other (same_fault fault faults.Device failed))
-    told_addition other not_source (inr (inl failed)) = absurd (not_source (same_fault fault faults.Source failed))
-    told_addition other not_source (inr (inr is)) = placed-refused _ fault is
+    (λ other not_source. (
+      ⊎_elim (λ failed. absurd (other (same_fault fault faults.Device failed))) (λ rest. ⊎_elim (λ failed. absurd (not_source (same_fault fault faults.Source failed))) (λ is. placed-refused _ fault is) rest) answer,
+      ap (λ (l : List ℕ). bytes_in r l) (refused other not_source),
+    ))

@@ -78,15 +78,12 @@ least_from First from = from
 least_from (Aligned unit) from = next_multiple_of from unit
 least_from (Fixed place) from = place
 
--- a header before `c` and the content from there on lie in the run
-abbrev pub has_room : Wanted → ℕ → Freed → ℕ → Bool
-has_room wanted size run c = nat_le (run.start + wanted.header) c && nat_le (c + wanted.len) (limit_of wanted.spot size run.end)
-
--- the least allowed place in a run
+-- the least allowed place in a run, in which a header before it and the content from there on lie
 abbrev pub least_in : Wanted → ℕ → Freed → Option ℕ
 least_in wanted size run =
     let c = least_from wanted.spot (run.start + wanted.header) in
-    if has_room wanted size run c then Some c else None
+    if nat_le (run.start + wanted.header) c && nat_le (c + wanted.len) (limit_of wanted.spot size run.end) then Some c
+    else None
 
 abbrev pub place_at : Wanted → Freed → ℕ → Place
 place_at wanted run c = record { run = run; header = (c - wanted.header) / 64 * 64; content = c }

@@ -4,7 +4,8 @@ use Rattle.flash_store.proofs.DeviceLemmas.{honest_still}
 use Rattle.cbfs_edit.specs.Additions.{new_component, placed_of}
 use Rattle.cbfs_edit.specs.declared.fault.EditFault.TheVariants as faults
 use Rattle.cbfs_edit.proofs.Added.{own-is}
-use Rattle.cbfs_edit.proofs.Adding.{told, digest-sized, found_in, place_found, image_of, written, source_leaves, device_leaves}
+use Rattle.cbfs_edit.proofs.Adding.{told, digest-sized, found_in, place_found, written, source_leaves, device_leaves}
+use Rattle.cbfs_edit.proofs.Removals.{image_of}
 use Rattle.cbfs_edit.proofs.addition.add.Goals as goal
 
 pub returns-in-Ok-insert-clause-before : goal.returns-in-Ok-insert-clause-before

@@ -4,12 +4,6 @@ use Rattle.flash_store.proofs.DeviceLemmas.{length-bytes_in}
 use Rattle.cbfs_edit.proofs.FormatLemmas.{format_done, format_stopped}
 use Rattle.cbfs_edit.proofs.formatting.format.Goals as goal
 
-pub returns-then-end-eq0-clause-formatted : goal.returns-then-end-eq0-clause-formatted
-returns-then-end-eq0-clause-formatted g c = search rules
-
-pub returns-then-end-eq0-clause-refused : goal.returns-then-end-eq0-clause-refused
-returns-then-end-eq0-clause-refused g c = search rules
-
 pub returns-in-Ok-clause-after : goal.returns-in-Ok-clause-after
 returns-in-Ok-clause-after g c = search rules
 

@@ -3,6 +3,3 @@ use Rattle.cbfs_edit.proofs.place.pass.Goals as goal
 
 pub returns-then-is_free-clause-passed : goal.returns-then-is_free-clause-passed
 returns-then-is_free-clause-passed g c = search rules
-
-pub returns-clause-passed : goal.returns-clause-passed
-returns-clause-passed g c = search rules

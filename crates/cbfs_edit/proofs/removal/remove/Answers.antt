@@ -1,6 +1,6 @@
 use Rattle.std.proofs.Common.{rules}
 use Rattle.flash_store.proofs.DeviceLemmas.{honest_still}
-use Rattle.cbfs_edit.proofs.Removals.{image_removed, removal_leaves}
+use Rattle.cbfs_edit.proofs.Removals.{image_of, removal_leaves}
 use Rattle.cbfs_edit.proofs.removal.remove.Goals as goal
 
 pub returns-in_err-group-clause-refused : goal.returns-in_err-group-clause-refused
@@ -31,5 +31,5 @@ returns-in-Err-clause-stopped g c honest = λ is.
 pub returns-in-Ok-clause-image : goal.returns-in-Ok-clause-image
 returns-in-Ok-clause-image g c honest =
     let still = honest_still c.find_group.ensures.after.device.calls.same_honesty honest in
-    image_removed c.args.region c.in_ok-group.group (g.F.Flash.facts c.args.paged.now.device).content (g.F.Flash.facts c.find_group.new.paged.device).content _
-    c.requires (c.find_group.ensures.after.device.unchanged honest) c.write_blank.ensures.after.calls.same_length (c.write_blank.ensures.after.outside still) (c.in-Ok.ensures.removed still)
+    let same = c.find_group.ensures.after.device.unchanged honest in
+    image_of c.args.region _ _ _ _ c.requires same c.write_blank.ensures.after.calls.same_length (c.write_blank.ensures.after.outside still) (rw same at (c.in-Ok.ensures.removed still))
