@@ -70,12 +70,9 @@ module _ (x name : List ℕ) (kind : ℕ) (hash : HashChoice) (content : List �
   place_found place (inl failed) = absurd cc
   place_found place (inr found) = sym (found ∙ same)
 
-pub added_is : (x : List ℕ) (new : NewComponent) (spot : Spot) (place : Place) → addition_in x new spot ≡ Ok place → added_to x new spot ≡ added x new place
-added_is x new spot place is = ap (λ (a : Result Place EditFault). option_map_or (added x new) (result_ok a) x) is
-
 -- what is written over a region that the search has left as it was
 pub written : (r : Range) (new : NewComponent) (spot : Spot) (place : Place) (old mid now : List ℕ) → mid ≡ old → addition_in (bytes_in r old) new spot ≡ Ok place → bytes_in r now ≡ added (bytes_in r mid) new place → bytes_in r now ≡ added_to (bytes_in r old) new spot
-written r new spot place old mid now same is there = there ∙ ap (λ (l : List ℕ). added (bytes_in r l) new place) same ∙ sym (added_is (bytes_in r old) new spot place is)
+written r new spot place old mid now same is there = there ∙ ap (λ (l : List ℕ). added (bytes_in r l) new place) same ∙ sym (ap (λ (a : Result Place EditFault). option_map_or (added (bytes_in r old) new) (result_ok a) (bytes_in r old)) is)
 
 module _ (r : Range) (new : NewComponent) (spot : Spot) (place : Place) (old mid now : List ℕ) (honest : Type 0) (result : Result (Unit {0}) CopyFault) (lies : LiesIn r old) (small : length old < 2 ^ 32) (kind_small : new.kind < 2 ^ 32)
     (content_small : length new.content < 2 ^ 32) (digest : IsDigest new.digest) (same : mid ≡ old) (is : addition_in (bytes_in r old) new spot ≡ Ok place)

@@ -77,10 +77,8 @@ unfolding found_from
 found_step {S} {A} search x s at inside aligned = ap (λ (f : S → Result A EditFault). f s) (shaped_step refused (read_cut search) (each_cell search) (law search) x at inside aligned)
 
 found_refusal : {S A : Type 0} (search : CellSearch S A) (x : List ℕ) (s : S) (fault : WalkFault) → found_by search x s (Err fault) ≡ Err (refusal_of fault)
-found_refusal search x s walk.Device = refl
-found_refusal search x s walk.RegionShape = refl
-found_refusal search x s walk.NotCbfs = refl
 found_refusal search x s (walk.Damaged at kind) = refl
+found_refusal search x s other = refl
 
 -- ---- the loop
 

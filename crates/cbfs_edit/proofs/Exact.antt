@@ -3,7 +3,7 @@ use Rattle.std.proofs.Common.{◌≡◌, inl, inr, ℕ, ◌+◌, ◌%◌, ◌<�
 use Rattle.std.specs.Str.{bytes_eq}
 use Rattle.std.specs.List.{concat}
 use Rattle.std.proofs.lemmas.Bool.{both_ways, cases_Bool}
-use Rattle.std.proofs.lemmas.List.Elements.{All-nil, All-cons, All-head, All-tail, All-push, All-append}
+use Rattle.std.proofs.lemmas.List.Elements.{All-nil, All-cons, All-push, All-append, All-weaker}
 use Rattle.flash_format.specs.Head.{head_of, is_free}
 use Rattle.flash_format.specs.Cut.{cut}
 use Rattle.flash_format.specs.Components.{cell_name}
@@ -57,10 +57,6 @@ free_row (c ∷ cells) =
 free_is_not : (name c : List ℕ) → IsFree c → IsNot name c
 free_is_not name c free other = absurd (both_ways (is_free (head_of c)) other free)
 
-all_not : (name : List ℕ) (row : List (List ℕ)) → All IsFree row → All (IsNot name) row
-all_not name [] free = All-nil (IsNot name)
-all_not name (c ∷ row) free = All-cons (IsNot name) c row (free_is_not name c (All-head IsFree c row free)) (all_not name row (All-tail IsFree c row free))
-
 some-inj : (a b : Freed) → Some a ≡ Some b → a ≡ b
 some-inj a b is = cc
 
@@ -98,7 +94,7 @@ exact name start at done row (c ∷ cells) group none ends free begun is found =
             })
         | inr other ↦
             let before : length (concat ((done ++ row) ++ c ∷ [])) ≡ next = omega (arith, length-concat-push (done ++ row) c, ap length (concat-append done row), length-append (concat done) (concat row)) in
-            let not : All (IsNot name) ((done ++ row) ++ c ∷ []) = All-push (IsNot name) (done ++ row) c (All-append (IsNot name) done row none (all_not name row free)) (λ u. other) in
+            let not : All (IsNot name) ((done ++ row) ++ c ∷ []) = All-push (IsNot name) (done ++ row) c (All-append (IsNot name) done row none (All-weaker IsFree (IsNot name) (free_is_not name) row free)) (λ u. other) in
             subst (λ (l : List (List ℕ)). IsGroupOf name l group) passed
             (exact name next next ((done ++ row) ++ c ∷ []) [] cells group not (ends_push (done ++ row) c used) (All-nil IsFree) before (omega arith) (rw (used, other) at found))
       ]

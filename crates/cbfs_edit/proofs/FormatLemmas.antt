@@ -48,9 +48,6 @@ formatted_free x some whole small =
 abbrev pub whole_range : ℕ → Freed
 whole_range size = record { start = 0; end = size }
 
-no_less : (n : ℕ) → n - 0 ≡ n
-no_less n = omega arith
-
 -- a finished format
 pub format_done : (x y : List ℕ) (size : ℕ) → length x ≡ size → 64 ≤ size → y ≡ removed x (whole_range size) → y ≡ formatted x
 format_done x y size long some is =
@@ -59,7 +56,7 @@ format_done x y size long some is =
     omega (arith, length-append (blank_header (length x) true) space, length-blank_header (length x) true, length-padding (length x - header_length) (Some (last_four x)) (length-last_four x (omega arith))) in
     is
     ∙ ap (λ n. removed x (whole_range n)) (sym long)
-    ∙ ap (λ n. overwritten x 0 (blank n (kept_at x (length x)))) (no_less (length x))
+    ∙ ap (λ n. overwritten x 0 (blank n (kept_at x (length x)))) (let e : length x - 0 ≡ length x = omega arith in e)
     ∙ ap (λ b. overwritten x 0 (blank (length x) (cond b (Some (last_four x)) None))) (eq-eqb (length x) (length x) refl)
     ∙ overwritten-whole x (formatted x) wide
 
@@ -74,5 +71,5 @@ format_stopped x y size long some whole small stop = record { cells = cells stop
         let header : List ℕ = blank_header (size - 0) (size == length x) in
         let wide : length (header ++ is.more) ≡ length x = omega (arith, length-append header is.more, length-blank_header (size - 0) (size == length x)) in
         let bytes : y ≡ blank_header size (size == length x) ++ is.more =
-        is.bytes ∙ overwritten-whole x (header ++ is.more) wide ∙ ap (λ n. blank_header n (size == length x) ++ is.more) (no_less size) in
+        is.bytes ∙ overwritten-whole x (header ++ is.more) wide ∙ ap (λ n. blank_header n (size == length x) ++ is.more) (let e : size - 0 ≡ size = omega arith in e) in
         inr (one_free_cell y is.more size (size == length x) some whole small room bytes)

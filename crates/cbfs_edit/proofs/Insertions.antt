@@ -45,13 +45,11 @@ later_on a b x y le same =
 pub attribute-is : (hash : HashChoice) (content : List ℕ) → attribute_len hash ≡ hash_len (digest_of hash content)
 unfolding sha256_of sha512_of
 attribute-is Plain content = refl
-attribute-is Sha256 content = refl
-attribute-is Sha512 content = refl
+attribute-is other content = refl
 
 pub attribute-short : (hash : HashChoice) → attribute_len hash ≤ 76
 attribute-short Plain = omega arith
-attribute-short Sha256 = omega arith
-attribute-short Sha512 = omega arith
+attribute-short other = omega arith
 
 -- where a component fits there is room for its front
 pub room-for : (size k a : ℕ) (wanted : Wanted) (place : Place) (end front : ℕ) → size < 2 ^ 32 → Fits wanted size place → k ≤ 127 → a ≤ 76 → wanted.header ≡ meta_length k a

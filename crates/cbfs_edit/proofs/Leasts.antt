@@ -63,8 +63,7 @@ least_from-meets (Fixed place) from some = refl
 -- where that is before it, the spot allows none from it on
 least_from-none : (spot : Spot) (from d : ℕ) → spot ≢ Aligned 0 → least_from spot from < from → from ≤ d → Meets spot d → ⊥
 least_from-none First from d some less below meets = omega arith
-least_from-none (Aligned unit) from d some less below meets = omega arith
-least_from-none (Fixed place) from d some less below meets = omega arith
+least_from-none other from d some less below meets = omega arith
 
 header_lemma : (wanted : Wanted) (run : Freed) (c : ℕ) → wanted.header ≤ c → IsHeaderOf wanted (place_at wanted run c)
 header_lemma wanted run c above = record { aligned = omega arith; room = omega arith; largest = omega arith }

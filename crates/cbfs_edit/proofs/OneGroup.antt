@@ -50,9 +50,6 @@ over_others name start at (c ∷ before) cells fresh ends others =
       | inr e ↦ rw (e, All-head (IsNot name) c before others e) (rest next (λ none. refl))
     ]
 
-range_is : (group : Freed) (start end : ℕ) → start ≡ group.start → end ≡ group.end → Some (record { start = start; end = end }) ≡ Some group
-range_is group start end first last = ap (λ n. Some (let r : Freed = record { start = n; end = end } in r)) first ∙ ap (λ n. Some (let r : Freed = record { start = group.start; end = n } in r)) last
-
 one_group : (x name : List ℕ) (group : Freed) → IsGroupOf name (cut x).cells group → group_of x name ≡ Some group
 one_group x name group is =
     let behind : List (List ℕ) = is.row_after ++ is.after in
@@ -64,7 +61,7 @@ one_group x name group is =
     ∙ ap (λ n. group_from name n n (is.row_before ++ (is.component ∷ behind))) first
     ∙ over_row name group.start group.start is.row_before (is.component ∷ behind) is.row_before_free
     ∙ at_component name group.start (group.start + length (concat is.row_before)) is.component behind is.is_component is.named
-    ∙ range_is group group.start _ refl last
+    ∙ ap (λ n. Some (let r : Freed = record { start = group.start; end = n } in r)) last
 
 pub groups_exact : GroupsAreExact
 groups_exact x name group = (group_exact x name group, one_group x name group)

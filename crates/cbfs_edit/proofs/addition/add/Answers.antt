@@ -65,6 +65,3 @@ returns-in-Err-Source-clause-before g c honest =
 
 pub returns-in-Err-Source-clause-after : goal.returns-in-Err-Source-clause-after
 returns-in-Err-Source-clause-after g c = search rules
-
-pub returns-in-Ok-insert-clause-refused : goal.returns-in-Ok-insert-clause-refused
-returns-in-Ok-insert-clause-refused g c = search rules

@@ -8,8 +8,5 @@ returns-in-Ok-clause-answered g c = search rules
 pub returns-in-Ok-clause-step : goal.returns-in-Ok-clause-step
 returns-in-Ok-clause-step g c = search (rules, addition_step)
 
-pub returns-in-Ok-remove-clause-answered : goal.returns-in-Ok-remove-clause-answered
-returns-in-Ok-remove-clause-answered g c = search rules
-
 pub returns-in-Ok-remove-clause-step : goal.returns-in-Ok-remove-clause-step
 returns-in-Ok-remove-clause-step g c = search (rules, removal_step)

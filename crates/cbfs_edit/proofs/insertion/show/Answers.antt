@@ -1,8 +1,5 @@
 use Rattle.std.proofs.Common.{rules}
 use Rattle.cbfs_edit.proofs.insertion.show.Goals as goal
 
-pub returns-clause-shown : goal.returns-clause-shown
-returns-clause-shown g c = search rules
-
 pub returns-clause-stopped : goal.returns-clause-stopped
 returns-clause-stopped g c = search rules

@@ -3,9 +3,6 @@ use Rattle.flash_store.proofs.DeviceLemmas.{honest_still}
 use Rattle.cbfs_edit.proofs.Removals.{image_of, removal_leaves}
 use Rattle.cbfs_edit.proofs.removal.remove.Goals as goal
 
-pub returns-in_err-group-clause-refused : goal.returns-in_err-group-clause-refused
-returns-in_err-group-clause-refused g c = search rules
-
 pub returns-in_err-group-clause-after : goal.returns-in_err-group-clause-after
 returns-in_err-group-clause-after g c = search rules
 
@@ -14,9 +11,6 @@ returns-in-Ok-clause-after g c = search rules
 
 pub returns-in-Err-clause-after : goal.returns-in-Err-clause-after
 returns-in-Err-clause-after g c = search rules
-
-pub returns-in-Ok-clause-answer : goal.returns-in-Ok-clause-answer
-returns-in-Ok-clause-answer g c = search rules
 
 pub returns-in-Ok-clause-stopped : goal.returns-in-Ok-clause-stopped
 returns-in-Ok-clause-stopped g c = search rules
