@@ -4,12 +4,10 @@ use Rattle.std.specs.Prelude.{IsErrOf}
 use Rattle.std.specs.Option.{option_map_or}
 use Rattle.std.specs.Result.{result_ok}
 use Rattle.flash_format.specs.Made.{IsDigest, meta_length}
-use Rattle.flash_store.specs.Bytes.{overwritten, SameOutside}
 use Rattle.flash_store.specs.Regions.{Range, LiesIn, bytes_in}
 use Rattle.flash_store.specs.declared.paged.CopyFault.{CopyFault}
 use Rattle.flash_store.specs.declared.paged.CopyFault.TheVariants as copies
 use Rattle.flash_store.proofs.DeviceLemmas.{length-bytes_in}
-use Rattle.flash_store.proofs.RegionLemmas.{image_is}
 use Rattle.sha2.proofs.Facts256.{length-sha256}
 use Rattle.sha2.proofs.Facts512.{length-sha512}
 use Rattle.cbfs_walk.specs.Hashes.{sha256_of, sha512_of}

@@ -19,7 +19,7 @@ use Rattle.cbfs_edit.specs.Removals.{kept_at, removed}
 use Rattle.cbfs_edit.specs.Stops.{IsBlankStop, IsBlanked, IsInsertStop}
 use Rattle.cbfs_edit.specs.Additions.{NewComponent, added, blank_between, attribute_len, digest_of, header_of, kept_from, labelled}
 use Rattle.cbfs_edit.specs.declared.addition.HashChoice.{HashChoice}
-use Rattle.cbfs_edit.specs.declared.addition.HashChoice.TheVariants.{Plain, Sha256, Sha512}
+use Rattle.cbfs_edit.specs.declared.addition.HashChoice.TheVariants.{Plain}
 use Rattle.cbfs_edit.specs.declared.addition.Label.{Label}
 use Rattle.cbfs_edit.specs.Insertions.{HasRoom, IsUnfinished, bounded, finished, fronted, held_back, shown_by}
 use Rattle.cbfs_edit.specs.declared.group.Freed.{Freed}

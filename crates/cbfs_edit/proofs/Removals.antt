@@ -5,7 +5,7 @@ use Rattle.flash_store.specs.Regions.{Range, LiesIn, bytes_in}
 use Rattle.flash_store.proofs.DeviceLemmas.{length-bytes_in}
 use Rattle.flash_format.specs.Cut.{cut}
 use Rattle.cbfs_edit.specs.Groups.{IsCellRange, IsGroupOf, group_of}
-use Rattle.cbfs_edit.specs.Removals.{found, removed, removal_in}
+use Rattle.cbfs_edit.specs.Removals.{found, removal_in}
 use Rattle.flash_store.specs.Bytes.{overwritten, SameOutside}
 use Rattle.flash_store.proofs.RegionLemmas.{image_is}
 use Rattle.cbfs_edit.specs.Stops.{IsBlankStop, IsOldOrBlanked, LeavesWhole}

@@ -1,7 +1,7 @@
 -- The place of a new component.
 use Rattle.std.specs.Option.{option_or}
 use Rattle.std.specs.Int.{next_multiple_of}
-use Rattle.std.specs.Prelude.{◌≡◌, ◌≢◌, ℕ, ◌+◌, ◌-◌, ◌*◌, ◌/◌, ◌%◌, ◌^◌, ◌<◌, ◌≤◌, ⊤, Bool, ◌&&◌, ◌==◌, nat_le, if◌then◌else◌, is_some, List, [], ◌∷◌, ◌++◌, All, length, Option, Some, None, option_map, Result, Err, ok_or}
+use Rattle.std.specs.Prelude.{◌≡◌, ◌≢◌, ℕ, ◌+◌, ◌-◌, ◌*◌, ◌/◌, ◌%◌, ◌^◌, ◌<◌, ◌≤◌, ⊤, ◌&&◌, ◌==◌, nat_le, if◌then◌else◌, is_some, List, [], ◌∷◌, ◌++◌, All, length, Option, Some, None, option_map, Result, Err, ok_or}
 use Rattle.flash_format.specs.Components.{components}
 use Rattle.cbfs_walk.specs.Finding.{first_named}
 use Rattle.cbfs_edit.specs.Runs.{runs}
