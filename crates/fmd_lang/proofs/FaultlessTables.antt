@@ -1,16 +1,14 @@
 -- The numbers and the areas of the table of a text without a fault fit into its bytes.
-use Rattle.std.proofs.Common.{◌≡◌, ℕ, suc, ◌+◌, ◌^◌, ◌<◌, ◌&&◌, Bool, true, false, cond, not, All, List, [], ◌∷◌, ◌++◌, length, drop, Option, Some, None, refl, sym, ◌∙◌, ap, subst, arith, length-append}
-use Rattle.std.specs.Prelude.{nat_le, nat_lt, option_map, unwrap_or}
+use Rattle.std.proofs.Common.{◌≡◌, ℕ, suc, ◌+◌, ◌^◌, ◌<◌, Bool, true, false, cond, not, All, List, [], ◌∷◌, ◌++◌, length, drop, Option, Some, None, refl, sym, ◌∙◌, ap, subst, arith, length-append}
+use Rattle.std.specs.Prelude.{nat_lt, option_map, unwrap_or}
 use Rattle.std.specs.List.{list_any}
-use Rattle.std.specs.Option.{option_or}
 use Rattle.std.proofs.lemmas.Bool.Decides.{nat_tests}
 use Rattle.std.proofs.lemmas.List.Elements.{All-nil, All-cons, All-head, All-tail}
 use Rattle.flash_format.specs.declared.flashmap.Area.{Area}
-use Rattle.fmd_lang.specs.Words.{Word, is_bad, is_name, is_number, is_the_mark, open_brace, words}
-use Rattle.fmd_lang.specs.Numbers.{number_value}
+use Rattle.fmd_lang.specs.Words.{Word, kind_of, words}
 use Rattle.fmd_lang.specs.Tree.{Tree, section, Forest, none, some, names, names_of, parts_of}
 use Rattle.fmd_lang.specs.Grammar.{HasValue, IsOffset, IsSection, IsSize}
-use Rattle.fmd_lang.specs.Faults.{depth_limit, first_fault, next_depth, number_fault, own_fault, text_limit}
+use Rattle.fmd_lang.specs.Faults.{first_fault, next_depth, number_fault, own_fault, text_limit}
 use Rattle.fmd_lang.specs.WordFaults.{first_own_fault}
 use Rattle.fmd_lang.specs.LayoutFaults.{areas_fault, flag, is_fmap, layout_fault, names_fault, places_fault}
 use Rattle.fmd_lang.specs.Names.{duplicate}
@@ -18,12 +16,8 @@ use Rattle.fmd_lang.specs.Table.{AreasBelow, AreasOf, area_limit}
 use Rattle.fmd_lang.specs.declared.row.Place.{Place}
 use Rattle.fmd_lang.specs.declared.fault.FmdFault.{FmdFault}
 use Rattle.fmd_lang.specs.declared.fault.FmdFault.TheVariants as faults
-use Rattle.fmd_lang.proofs.AgreeLemmas.{text-agrees}
-use Rattle.fmd_lang.proofs.UniqueLemmas.{true_is}
-
-both_none : (a b : Option FmdFault) → option_or a b ≡ None → (a ≡ None) × (b ≡ None)
-both_none None b is = (refl, is)
-both_none (Some fault) b is = absurd cc
+use Rattle.fmd_lang.proofs.TreeLemmas.{text-agrees}
+use Rattle.fmd_lang.proofs.OptionLemmas.{or-none}
 
 -- ---- numbers
 
@@ -31,25 +25,17 @@ abbrev pub Fits : Word → Type 0
 Fits w = (n : ℕ) → HasValue n w → n < 2 ^ 32
 
 number_fits : (depth : ℕ) (w : Word) → own_fault depth w ≡ None → Fits w
-number_fits depth w fine n (is, value) = go (is_bad w) (is_number w) (true_is (is_number w) is) fine
+number_fits depth w fine n (is, value) = go (nat_lt n (2 ^ 32)) refl (ap (number_fault w.place) (sym value) ∙ rw is at fine)
   where
-    by_size : (b : Bool) → nat_lt n (2 ^ 32) ≡ b → (let o : Option FmdFault = cond b None (Some (faults.NumberTooLarge w.place)) in o) ≡ None → n < 2 ^ 32
-    by_size true e f = grind (arith, nat_tests)
-    by_size false e f = absurd cc
-
-    otherwise : Option FmdFault
-    otherwise = cond (is_name w) (cond (nat_lt (length w.bytes) 32) None (Some (faults.NameTooLong w.place))) (cond (is_the_mark open_brace w && nat_le depth_limit depth) (Some faults.TooDeep) None)
-
-    go : (bad number : Bool) → number ≡ true → (let o : Option FmdFault = cond bad (Some (faults.BadByte w.place)) (cond number (number_fault w.place (number_value w.bytes)) otherwise) in o) ≡ None → n < 2 ^ 32
-    go true number e f = absurd cc
-    go false false e f = absurd cc
-    go false true e f = by_size (nat_lt n (2 ^ 32)) refl (ap (λ (o : Option ℕ). number_fault w.place o) (sym value) ∙ f)
+    go : (b : Bool) → nat_lt n (2 ^ 32) ≡ b → (let o : Option FmdFault = cond b None (Some (faults.NumberTooLarge w.place)) in o) ≡ None → n < 2 ^ 32
+    go true e f = grind (arith, nat_tests)
+    go false e f = absurd cc
 
 all_fit : (depth : ℕ) (ws : List Word) → first_own_fault depth ws ≡ None → All Fits ws
 all_fit depth [] fine = All-nil Fits
 all_fit depth (w ∷ ws) fine =
-    let parts = both_none (own_fault depth w) (first_own_fault (next_depth depth w) ws) fine in
-    All-cons Fits w ws (number_fits depth w parts.0) (all_fit (next_depth depth w) ws parts.1)
+    let parts = or-none (own_fault depth w) (first_own_fault (next_depth (kind_of w.bytes) depth) ws) fine in
+    All-cons Fits w ws (number_fits depth w parts.0) (all_fit (next_depth (kind_of w.bytes) depth) ws parts.1)
 
 pub numbers_fit : (t : Tree) (text : List ℕ) → IsSection t (words text) → first_fault text ≡ None → All Fits (words text)
 numbers_fit t text is fine = go (nat_lt text_limit (length text)) (sym (text-agrees t text is) ∙ fine)
@@ -58,21 +44,17 @@ numbers_fit t text is fine = go (nat_lt text_limit (length text)) (sym (text-agr
     go true e = absurd cc
     go false e = all_fit 0 (words text) e
 
-later : (a b : List Word) → All Fits (a ++ b) → All Fits b
-later [] b each = each
-later (w ∷ a) b each = later a b (All-tail Fits w (a ++ b) each)
-
-pub size_fits : (size : Option ℕ) (n : ℕ) (before number after : List Word) → size ≡ Some n → IsSize size number → All Fits (before ++ (number ++ after)) → n < 2 ^ 32
-size_fits None n before number after is size each = absurd cc
-size_fits (Some m) n before number after is (w, shape, value) each =
+pub size_fits : (size : Option ℕ) (n : ℕ) (number after : List Word) → size ≡ Some n → IsSize size number → All Fits (number ++ after) → n < 2 ^ 32
+size_fits None n number after is size each = absurd cc
+size_fits (Some m) n number after is (w, shape, value) each =
     let same : m ≡ n = cc in
-    let here : All Fits (w ∷ after) = subst (λ (l : List Word). All Fits (l ++ after)) shape (later before (number ++ after) each) in
+    let here : All Fits (w ∷ after) = subst (λ (l : List Word). All Fits (l ++ after)) shape each in
     omega (arith, All-head Fits w after here m value, same)
 
-pub offset_fits : (offset : Option ℕ) (before place after : List Word) → IsOffset offset place → All Fits (before ++ (place ++ after)) → unwrap_or offset 0 < 2 ^ 32
-offset_fits None before place after is each = omega arith
-offset_fits (Some n) before place after (mark, w, shape, is_mark, value) each =
-    let here : All Fits (mark ∷ (w ∷ after)) = subst (λ (l : List Word). All Fits (l ++ after)) shape (later before (place ++ after) each) in
+pub offset_fits : (offset : Option ℕ) (place after : List Word) → IsOffset offset place → All Fits (place ++ after) → unwrap_or offset 0 < 2 ^ 32
+offset_fits None place after is each = omega arith
+offset_fits (Some n) place after (front, back, shape, (mark, first, is_mark), (w, second, value)) each =
+    let here : All Fits (mark ∷ (w ∷ after)) = subst (λ (l : List Word). All Fits (l ++ after)) (shape ∙ ap (λ f. f ++ back) first ∙ ap (λ b. mark ∷ b) second) each in
     All-head Fits w after (All-tail Fits mark (w ∷ after) here) n value
 
 -- ---- areas
@@ -95,9 +77,9 @@ pub few_areas : (t : Tree) (size : ℕ) (areas : List Area) → layout_fault t �
 unfolding layout_fault
 few_areas (section name flags offset given parts) size areas fine are =
     let t : Tree = section name flags offset given parts in
-    let by_names = both_none (names_fault (names t)) (places_fault t) fine in
-    let by_areas = both_none (option_map (λ n. faults.Duplicate n) (duplicate 0 [] (names t))) (areas_fault (drop 1 (names t))) by_names.0 in
-    let by_count = both_none (flag (not (list_any is_fmap (names_of parts))) faults.NoFmap) (flag (nat_lt area_limit (length (names_of parts))) faults.TooManyAreas) by_areas.1 in
+    let by_names = or-none (names_fault (names t)) (places_fault t) fine in
+    let by_areas = or-none (option_map (λ n. faults.Duplicate n) (duplicate 0 [] (names t))) (areas_fault (drop 1 (names t))) by_names.0 in
+    let by_count = or-none (flag (not (list_any is_fmap (names_of parts))) faults.NoFmap) (flag (nat_lt area_limit (length (names_of parts))) faults.TooManyAreas) by_areas.1 in
     go (nat_lt area_limit (length (names_of parts))) refl by_count.1 (count_below t 0 size areas are)
   where
     go : (b : Bool) → nat_lt area_limit (length (names_of parts)) ≡ b → flag b faults.TooManyAreas ≡ None → length areas ≡ length (names_of parts) → length areas < 2 ^ 16

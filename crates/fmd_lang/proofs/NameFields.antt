@@ -1,19 +1,27 @@
 -- The field of a name that a descriptor gives is a good name of a map.
-use Rattle.std.proofs.Common.{◌≡◌, ℕ, suc, ◌+◌, ◌-◌, ◌<◌, ◌&&◌, ◌||◌, not, Bool, true, false, cond, All, List, [], ◌∷◌, ◌++◌, length, take, replicate, Some, None, refl, sym, ◌∙◌, ap, subst, arith, length-append}
+use Rattle.std.proofs.Common.{◌≡◌, ◌≢◌, ℕ, suc, ◌+◌, ◌-◌, ◌<◌, ◌&&◌, ◌||◌, not, Bool, true, false, cond, All, List, [], ◌∷◌, ◌++◌, length, take, replicate, Some, None, refl, sym, ◌∙◌, ap, subst, arith, length-append}
 use Rattle.std.specs.List.{list_all, list_any, position_or_len, take_while}
 use Rattle.std.proofs.lemmas.List.{take_all, take_at, length-replicate}
 use Rattle.std.proofs.lemmas.List.Sums.{take_while-cons}
-use Rattle.std.proofs.lemmas.List.Elements.{All-nil, All-cons, All-head}
+use Rattle.std.proofs.lemmas.List.Elements.{All-nil, All-cons, All-head, All-tail}
 use Rattle.flash_format.specs.Entry.{is_nul}
 use Rattle.flash_format.specs.Flashmap.{is_named, is_printing, text_of}
-use Rattle.fmd_lang.specs.Words.{Word, first_byte, is_blank, is_name, is_plain, put, words, words_from, without_comments}
+use Rattle.fmd_lang.specs.Words.{Word, word, kind_of, kind_of_byte, is_blank, is_plain, put, words, words_from, without_comments}
 use Rattle.fmd_lang.specs.Names.{field_of}
+use Rattle.fmd_lang.specs.Grammar.{IsA}
+use Rattle.fmd_lang.specs.declared.word.Kind.TheVariants.{End, Name}
 
 -- ---- the bytes of a word
 
--- a word that begins with a plain byte has no other
+-- A word has a byte, and a name has plain ones alone.
 abbrev pub IsWhole : Word → Type 0
-IsWhole w = is_plain (first_byte w) ≡ true → list_all is_plain w.bytes ≡ true
+IsWhole w = (kind_of w.bytes ≢ End) × (kind_of w.bytes ≡ Name → list_all is_plain w.bytes ≡ true)
+
+name_plain : (b : ℕ) → kind_of_byte b ≡ Name → is_plain b ≡ true
+name_plain b h = grind arith
+
+no_end : (b : ℕ) (bs : List ℕ) → kind_of (b ∷ bs) ≢ End
+no_end b bs h = grind arith
 
 all_taken : (s : List ℕ) → list_all is_plain (take_while is_plain s) ≡ true
 all_taken [] = refl
@@ -23,33 +31,36 @@ all_taken (b ∷ s) = ap (λ (l : List ℕ). list_all is_plain l) (take_while-co
     go true e rest = ap (λ c. c && list_all is_plain (take_while is_plain s)) e ∙ rest
     go false e rest = refl
 
-words_whole : (place before : ℕ) (s : List ℕ) → All IsWhole (words_from place before s)
+pub words_whole : (place before : ℕ) (s : List ℕ) → All IsWhole (words_from place before s)
 words_whole place before [] = All-nil IsWhole
 words_whole place before (b ∷ s) = go (is_blank b) (is_plain b) refl (is_plain before) (words_whole (suc place) b s)
   where
     others : List Word
     others = words_from (suc place) b s
 
-    one_byte : (k : ℕ) → is_plain k ≡ false → IsWhole (record { place = place; bytes = k ∷ [] })
-    one_byte k e h = absurd (let f : true ≡ false = sym h ∙ e in cc)
-
     go : (blank plain : Bool) → is_plain b ≡ plain → (inside : Bool) → All IsWhole others
         → All IsWhole (put place (cond blank None (cond (not plain) (Some (b ∷ [])) (cond inside None (Some (take_while is_plain (b ∷ s)))))) others)
     go true plain e inside rest = rest
-    go false false e inside rest = All-cons IsWhole (record { place = place; bytes = b ∷ [] }) others (one_byte b e) rest
+    go false false e inside rest = All-cons IsWhole (word place (b ∷ [])) others (no_end b [], λ h. let f : true ≡ false = sym (name_plain b h) ∙ e in cc) rest
     go false true e true rest = rest
-    go false true e false rest = All-cons IsWhole (record { place = place; bytes = take_while is_plain (b ∷ s) }) others (λ h. all_taken (b ∷ s)) rest
+    go false true e false rest =
+        let some : take_while is_plain (b ∷ s) ≡ b ∷ take_while is_plain s = take_while-cons is_plain b s ∙ rw e refl in
+        All-cons IsWhole (word place (take_while is_plain (b ∷ s))) others (λ h. no_end b (take_while is_plain s) (sym (ap kind_of some) ∙ h), λ h. all_taken (b ∷ s)) rest
+
+pub all-behind : (P : Word → Type 0) (front behind : List Word) → All P (front ++ behind) → All P behind
+all-behind P [] behind each = each
+all-behind P (w ∷ front) behind each = all-behind P front behind (All-tail P w (front ++ behind) each)
 
 is_both : (a b : Bool) → (a && b) ≡ true → (a ≡ true) × (b ≡ true)
 is_both true b e = (refl, e)
 is_both false b e = absurd cc
 
 -- the first word of a text, where it is a name
-pub first_name : (text : List ℕ) (first : Word) (rest : List Word) → words text ≡ first ∷ rest → is_name first ≡ true → list_all is_plain first.bytes ≡ true
+pub first_name : (text : List ℕ) (first : Word) (rest : List Word) → words text ≡ first ∷ rest → IsA Name first → list_all is_plain first.bytes ≡ true
 unfolding words
 first_name text first rest is named =
     let whole : All IsWhole (first ∷ rest) = subst (λ (ws : List Word). All IsWhole ws) is (words_whole 0 32 (without_comments false text)) in
-    All-head IsWhole first rest whole (is_both _ _ named).0
+    (All-head IsWhole first rest whole).1 named
 
 -- ---- the field of a name
 

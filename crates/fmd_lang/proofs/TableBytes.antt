@@ -1,17 +1,20 @@
 -- The bytes of a table are read as a valid map.
-use Rattle.std.proofs.Common.{◌≡◌, inl, inr, ℕ, ◌+◌, ◌^◌, ◌<◌, Bool, true, false, cond, All, List, [], ◌∷◌, ◌++◌, length, refl, sym, ◌∙◌, ap, subst, arith, append_assoc}
-use Rattle.std.specs.Prelude.{None, unwrap_or}
-use Rattle.std.specs.List.{list_any}
-use Rattle.std.proofs.lemmas.List.Elements.{All-nil, All-cons, All-append}
+use Rattle.std.proofs.Common.{◌≡◌, inl, inr, ℕ, ◌+◌, ◌^◌, ◌<◌, Bool, true, false, cond, All, List, [], ◌∷◌, ◌++◌, length, refl, sym, ◌∙◌, ap, subst, arith}
+use Rattle.std.specs.Prelude.{Option, Some, None, unwrap_or, codes}
+use Rattle.std.specs.Int.Bits.{bit_or}
+use Rattle.std.specs.Str.{bytes_eq}
+use Rattle.std.proofs.lemmas.Nat.{or_lt}
+use Rattle.fmd_lang.specs.declared.word.Kind.TheVariants.{OpenBrace, CloseBrace}
+use Rattle.std.proofs.lemmas.List.Elements.{All-nil, All-cons, All-tail, All-append}
 use Rattle.flash_format.specs.declared.flashmap.Area.{Area}
 use Rattle.flash_format.specs.Flashmap.{is_named}
 use Rattle.flash_format.specs.Laws.{IsAreaInBytes, IsReadAsMap}
 use Rattle.flash_format.proofs.MapBytes.{maps_read_back}
-use Rattle.fmd_lang.specs.Words.{Word, is_name, words}
+use Rattle.fmd_lang.specs.Words.{Word, words}
 use Rattle.fmd_lang.specs.Faults.{first_fault}
 use Rattle.fmd_lang.specs.LayoutFaults.{layout_fault}
 use Rattle.fmd_lang.specs.Tree.{Tree, section, Forest, none, some}
-use Rattle.fmd_lang.specs.Grammar.{AreAnnotations, AreSections, IsSection, is_none, is_preserve, preserve_flag}
+use Rattle.fmd_lang.specs.Grammar.{AreAnnotations, AreSections, Between, Else, IsSection, annotation_flag, flags_with}
 use Rattle.fmd_lang.specs.Layout.{ArePlaced, IsPlaced, end_of, sibling, siblings}
 use Rattle.fmd_lang.specs.Names.{field_of}
 use Rattle.fmd_lang.specs.Table.{AreasBelow, AreasOf, IsTable, section_area}
@@ -19,21 +22,31 @@ use Rattle.fmd_lang.specs.Bytes.{table_bytes, table_head}
 use Rattle.fmd_lang.specs.declared.row.Place.{Place}
 use Rattle.fmd_lang.specs.declared.table.Table.{Table}
 use Rattle.fmd_lang.proofs.FaultlessTables.{Fits, few_areas, numbers_fit, offset_fits, size_fits}
-use Rattle.fmd_lang.proofs.NameFields.{field_long, field_named, first_name}
-use Rattle.fmd_lang.proofs.UniqueLemmas.{true_is}
+use Rattle.fmd_lang.proofs.NameFields.{all-behind, field_long, field_named, first_name}
+use Rattle.fmd_lang.proofs.TreeLemmas.{first-flag}
 
 -- ---- the areas
 
+few_flags : (bytes : List ℕ) (flag : ℕ) → annotation_flag bytes ≡ Some flag → flag < 2 ^ 16
+few_flags bytes flag h = go (bytes_eq bytes (codes "CBFS")) (bytes_eq bytes (codes "PRESERVE")) h
+  where
+    go : (c p : Bool) → (let o : Option ℕ = cond c (Some 0) (cond p (Some 8) None) in o) ≡ Some flag → flag < 2 ^ 16
+    go true p e = omega (arith, ap (λ o. unwrap_or o 0) e)
+    go false true e = omega (arith, ap (λ o. unwrap_or o 0) e)
+    go false false e = absurd cc
+
+joined_flags : (ws : List Word) (before flags : ℕ) → before < 2 ^ 16 → flags_with before ws ≡ Some flags → flags < 2 ^ 16
+joined_flags [] before flags few h = omega (arith, ap (λ o. unwrap_or o 0) h)
+joined_flags (w ∷ ws) before flags few h =
+    let (flag, known, rest) = first-flag (annotation_flag w.bytes) (λ f. flags_with (bit_or before f) ws) flags h in
+    joined_flags ws (bit_or before flag) flags (or_lt 16 before flag few (few_flags w.bytes flag known)) rest
+
 small_flags : (flags : ℕ) (ws : List Word) → AreAnnotations flags ws → flags < 2 ^ 16
 small_flags flags ws (inl nothing) = omega (arith, nothing.1)
-small_flags flags ws (inr (opening, annotations, closing, shape, first, last, positive, each, is)) = go (list_any is_preserve annotations) is
-  where
-    go : (b : Bool) → flags ≡ cond b preserve_flag 0 → flags < 2 ^ 16
-    go true e = omega (arith, e)
-    go false e = omega (arith, e)
+small_flags flags ws (inr (front, back, shape, opens, (listed, last, inner, (some_there, flagged), closes))) = joined_flags listed 0 flags (omega arith) flagged
 
 area_fits : (t : Tree) (ws : List Word) (at : ℕ) (q : Place) → IsSection t ws → at + end_of q < 2 ^ 32 → IsAreaInBytes (section_area at q t)
-area_fits (section name flags offset given parts) ws at q (first, annotations, place, number, body, shape, is_first, named, short, annotated, placed, sized, inside) small = record {
+area_fits (section name flags offset given parts) ws at q (front, back, shape, (w, one, (is, named, short)), (annotations, rest, more, annotated, others)) small = record {
   offset = omega (arith, small);
   size = omega (arith, small);
   name = field_long name short;
@@ -47,9 +60,12 @@ mutual
   -- where a section ends below 2^32, each area below it fits into its bytes
   areas_fit : (t : Tree) (ws : List Word) (at size : ℕ) (areas : List Area) → IsSection t ws → at + size < 2 ^ 32 → AreasBelow at size t areas → All IsAreaInBytes areas
   areas_fit (section name flags offset given none) ws at size areas is small (places, laid, are) = no_areas areas are
-  areas_fit (section name flags offset given (some t ts)) ws at size areas (first, annotations, place, number, body, shape, is_first, named, short, annotated, placed, sized, inl (empty, nothing)) small (places, laid, are) = absurd (let k : false ≡ true = true_is (is_none (some t ts)) nothing in cc)
-  areas_fit (section name flags offset given (some t ts)) ws at size areas (first, annotations, place, number, body, shape, is_first, named, short, annotated, placed, sized, inr (opening, within, closing, braced, opens, closes, sections)) small (places, laid, are) =
-      parts_fit (some t ts) within at size 0 places areas sections small laid.1 are
+  areas_fit (section name flags offset given (some t ts)) ws at size areas (front, back, shape, name_is, (f1, b1, s1, annotated, (f2, b2, s2, placed, (f3, b3, s3, sized, body)))) small (places, laid, are) =
+      parts_fit (some t ts) (inside_of body).0 at size 0 places areas (inside_of body).1 small laid.1 are
+    where
+      inside_of : Else (some t ts ≡ none) (Between OpenBrace CloseBrace (AreSections (some t ts))) b3 → (within : List Word) × AreSections (some t ts) within
+      inside_of (inl (empty, nothing)) = absurd cc
+      inside_of (inr (opening, rest, split, opens, (within, closing, inner, sections, closes))) = (within, sections)
 
   parts_fit : (ts : Forest) (ws : List Word) (at size from : ℕ) (qs : List Place) (areas : List Area) → AreSections ts ws → at + size < 2 ^ 32 → ArePlaced size from (siblings ts) qs → AreasOf at ts qs areas → All IsAreaInBytes areas
   parts_fit none ws at size from qs areas sections small placed are = no_areas areas are
@@ -67,12 +83,13 @@ mutual
 pub table_read : (t : Tree) (text more : List ℕ) (table : Table) → first_fault text ≡ None → IsSection t (words text) → layout_fault t ≡ None → IsTable t table → IsReadAsMap (table_head table) table.areas.items (table_bytes table ++ more)
 table_read (section name flags offset given parts) text more table fine is laid table_is =
     let t : Tree = section name flags offset given parts in
-    let (first, annotations, place, number, body, shape, is_first, named, short, annotated, placed, sized, inside) = is in
-    let plain = first_name text first (annotations ++ (place ++ (number ++ body))) shape (true_is (is_name first) is_first) in
-    let good : is_named (field_of name) ≡ true = field_named name short (rw named at plain) in
-    let each : All Fits (first ∷ (annotations ++ (place ++ (number ++ body)))) = subst (λ (ws : List Word). All Fits ws) shape (numbers_fit t text is fine) in
-    let size : table.size < 2 ^ 32 = size_fits given table.size (first ∷ (annotations ++ place)) number body table_is.1 sized (subst (λ (ws : List Word). All Fits (first ∷ ws)) (sym (append_assoc annotations place (number ++ body))) each) in
-    let base : unwrap_or offset 0 < 2 ^ 32 = offset_fits offset (first ∷ annotations) place (number ++ body) placed each in
+    let (first, rest, shape, (w, one, (kind, named, short)), (annotations, others, more_shape, annotated, (place, last, last_shape, placed, (number, body, body_shape, sized, inside)))) = is in
+    let split : words text ≡ w ∷ rest = shape ∙ ap (λ v. v ++ rest) one in
+    let good : is_named (field_of name) ≡ true = field_named name short (rw named at (first_name text w rest split kind)) in
+    let each : All Fits rest = All-tail Fits w rest (subst (λ (ws : List Word). All Fits ws) split (numbers_fit t text is fine)) in
+    let behind : All Fits others = all-behind Fits annotations others (subst (λ (ws : List Word). All Fits ws) more_shape each) in
+    let size : table.size < 2 ^ 32 = size_fits given table.size number body table_is.1 sized (subst (λ (ws : List Word). All Fits ws) body_shape (all-behind Fits place last (subst (λ (ws : List Word). All Fits ws) last_shape behind))) in
+    let base : unwrap_or offset 0 < 2 ^ 32 = offset_fits offset place last placed (subst (λ (ws : List Word). All Fits ws) last_shape behind) in
     maps_read_back (table_head table) table.areas.items more (record {
       major = refl;
       base = omega (arith, base, table_is.0);

@@ -5,7 +5,7 @@ use Rattle.std.proofs.lemmas.List.{drop_all, take_more}
 use Rattle.std.proofs.lemmas.Grind.{common_steps}
 use Rattle.std.proofs.lemmas.List.Sums.{take_while-cons}
 use Rattle.std.specs.List.{take_while}
-use Rattle.fmd_lang.specs.Words.{words_from, without_comments, words_after, plain_after, words_inside, is_blank, is_plain, is_comment}
+use Rattle.fmd_lang.specs.Words.{words_from, without_comments, words_after, plain_after, word, words_inside, is_blank, is_plain, is_comment}
 
 -- What stands before a byte matters only where it is plain.
 pub words_from-before : (p place : ℕ) (s : List ℕ) → is_plain p ≡ false → words_from place p s ≡ words_from place 32 s
@@ -136,3 +136,9 @@ pub range-one : (text : List ℕ) (at : ℕ) → at < length text → slice_rang
 range-one text at h =
     let none : slice_range text (at + 1) (at + 1) ≡ [] = grind (arith, common_steps) in
     rw (range-first text at (at + 1) (omega arith) (omega arith), none) refl
+
+-- the end of a text, as a word
+pub over-word : (text : List ℕ) (at : ℕ) → at ≡ length text → word at (slice_range text at (length text)) ≡ word (length text) []
+over-word text at e =
+    let none : slice_range text (length text) (length text) ≡ [] = grind (arith, common_steps) in
+    rw (e, none) refl

@@ -1,10 +1,12 @@
 -- The refusal of a descriptor's text: that it is too long, or else the one at the lowest place, where that of the
 -- word by itself comes before that of a word in a wrong place. The order, the texts and the limits are this project's own.
-use Rattle.std.specs.Prelude.{ℕ, suc, zero, ◌-◌, ◌^◌, nat_le, nat_lt, Bool, false, ◌&&◌, ◌||◌, if◌then◌else◌, List, [], ◌∷◌, length, Option, Some, None}
+use Rattle.std.specs.Prelude.{ℕ, suc, zero, ◌^◌, nat_lt, Bool, false, if◌then◌else◌, List, [], ◌∷◌, length, Option, Some, None, option_map}
 use Rattle.std.specs.Option.{option_or}
-use Rattle.fmd_lang.specs.Words.{Word, words, is_bad, is_the_mark, is_name, is_number, at_mark, close_brace, close_paren, open_brace, open_paren}
+use Rattle.fmd_lang.specs.Words.{Word, word, words, kind_of}
 use Rattle.fmd_lang.specs.Numbers.{number_value}
-use Rattle.fmd_lang.specs.Grammar.{is_annotation}
+use Rattle.fmd_lang.specs.Grammar.{annotation_flag}
+use Rattle.fmd_lang.specs.declared.word.Kind.{Kind}
+use Rattle.fmd_lang.specs.declared.word.Kind.TheVariants.{Name, Number, OpenParen, CloseParen, At, OpenBrace, CloseBrace, Bad, End}
 use Rattle.fmd_lang.specs.declared.fault.FmdFault.{FmdFault}
 use Rattle.fmd_lang.specs.declared.fault.FmdFault.TheVariants as faults
 use Rattle.fmd_lang.specs.declared.fault.Expected.{Expected}
@@ -13,37 +15,37 @@ use Rattle.fmd_lang.specs.declared.fault.Expected.TheVariants as wanted
 -- where a text stands, by the words before
 pub data Stage : Type 0 where
   start : Stage  -- before the first word
-  named : Stage  -- after a section's name
   in_annotations : Stage  -- after `(`
   annotated : Stage  -- after an annotation
-  closed_annotations : Stage  -- after `)`
   at_sign : Stage  -- after `@`
-  placed : Stage  -- after an offset
-  sized : Stage  -- after a size
-  whole : Stage  -- after `{` or `}`
+  past : ℕ → Stage  -- in a section or after it, past so many of what may follow its name
 
--- a name inside parentheses is an annotation, any other a section's
-abbrev pub after_name : Stage → Stage
-after_name in_annotations = annotated
-after_name annotated = annotated
-after_name s = named
+-- What may follow a section's name, in this order: annotations, an offset, a size, braces. Whether a word begins
+-- one of them, past so many.
+abbrev pub goes_on : ℕ → Kind → Bool
+goes_on passed OpenParen = nat_lt passed 1
+goes_on passed At = nat_lt passed 2
+goes_on passed Number = nat_lt passed 3
+goes_on passed OpenBrace = nat_lt passed 4
+goes_on passed k = false
 
--- a number after `@` is an offset, any other a size
-abbrev pub after_number : Stage → Stage
-after_number at_sign = placed
-after_number s = sized
-
-abbrev pub next_stage : Stage → Word → Stage
-next_stage s w =
-    if is_the_mark open_paren w then in_annotations
-    else (if is_the_mark close_paren w then closed_annotations
-    else (if is_the_mark at_mark w then at_sign
-    else (if is_number w then after_number s
-    else (if is_name w then after_name s else whole))))
+-- where a text stands after a word that is in its place
+abbrev pub next_stage : Stage → Kind → Stage
+next_stage in_annotations k = annotated
+next_stage annotated CloseParen = past 1
+next_stage annotated k = annotated
+next_stage at_sign k = past 2
+next_stage s OpenParen = in_annotations
+next_stage s At = at_sign
+next_stage s Number = past 3
+next_stage s Name = past 0
+next_stage s k = past 4
 
 -- how many `{` are open after a word
-abbrev pub next_depth : ℕ → Word → ℕ
-next_depth depth w = if is_the_mark open_brace w then suc depth else (if is_the_mark close_brace w then depth - 1 else depth)
+abbrev pub next_depth : Kind → ℕ → ℕ
+next_depth OpenBrace depth = suc depth
+next_depth CloseBrace (suc depth) = depth
+next_depth k depth = depth
 
 -- the refusal of a number at a place, by what it stands for
 abbrev pub number_fault : ℕ → Option ℕ → Option FmdFault
@@ -55,57 +57,49 @@ abbrev pub depth_limit : ℕ
 depth_limit = 32
 
 -- the refusal of a word by itself, while so many `{` are open
-abbrev pub own_fault : ℕ → Word → Option FmdFault
-own_fault depth w =
-    if is_bad w then Some (faults.BadByte w.place)
-    else (if is_number w then number_fault w.place (number_value w.bytes)
-    else (if is_name w then (if nat_lt (length w.bytes) 32 then None else Some (faults.NameTooLong w.place))
-    else (if is_the_mark open_brace w && nat_le depth_limit depth then Some faults.TooDeep else None)))
+abbrev pub own_fault_of : Kind → ℕ → Word → Option FmdFault
+own_fault_of Bad depth w = Some (faults.BadByte w.place)
+own_fault_of Number depth w = number_fault w.place (number_value w.bytes)
+own_fault_of Name depth w = if nat_lt (length w.bytes) 32 then None else Some (faults.NameTooLong w.place)
+own_fault_of OpenBrace depth w = if nat_lt depth depth_limit then None else Some faults.TooDeep
+own_fault_of k depth w = None
 
--- whether the word goes on with the section that the words before began
-abbrev pub goes_on : Stage → Word → Bool
-goes_on named w = is_the_mark open_paren w || (is_the_mark at_mark w || (is_number w || is_the_mark open_brace w))
-goes_on closed_annotations w = is_the_mark at_mark w || (is_number w || is_the_mark open_brace w)
-goes_on placed w = is_number w || is_the_mark open_brace w
-goes_on sized w = is_the_mark open_brace w
-goes_on s w = false
+abbrev pub own_fault : ℕ → Word → Option FmdFault
+own_fault depth w = own_fault_of (kind_of w.bytes) depth w
 
 -- what had to stand in place of a word that doesn't go on with the section: after the root nothing else may
 -- stand, inside braces another section or the closing brace
-abbrev pub expected_next : ℕ → Word → Option Expected
-expected_next zero w = Some wanted.End
-expected_next (suc depth) w = if is_name w || is_the_mark close_brace w then None else Some wanted.SectionOrClose
+abbrev pub expected_next : ℕ → Kind → Option Expected
+expected_next zero End = None
+expected_next zero k = Some wanted.End
+expected_next (suc depth) Name = None
+expected_next (suc depth) CloseBrace = None
+expected_next (suc depth) k = Some wanted.SectionOrClose
 
--- the table: what had to stand in the word's place
-abbrev pub expected_at : Stage → ℕ → Word → Option Expected
-expected_at start depth w = if is_name w then None else Some wanted.Section
-expected_at in_annotations depth w = if is_name w && is_annotation w then None else Some wanted.Annotation
-expected_at annotated depth w =
-    if is_the_mark close_paren w then None
-    else (if is_name w then (if is_annotation w then None else Some wanted.Annotation) else Some wanted.CloseParen)
-expected_at at_sign depth w = if is_number w then None else Some wanted.Number
-expected_at s depth w = if goes_on s w then None else expected_next depth w
-
--- the same where the text ends
-abbrev pub expected_at_end : Stage → ℕ → Option Expected
-expected_at_end start depth = Some wanted.Section
-expected_at_end in_annotations depth = Some wanted.Annotation
-expected_at_end annotated depth = Some wanted.CloseParen
-expected_at_end at_sign depth = Some wanted.Number
-expected_at_end s zero = None
-expected_at_end s (suc depth) = Some wanted.SectionOrClose
+-- the table: what had to stand in place of a word of this kind, with this flag as an annotation
+abbrev pub expected_of : Stage → ℕ → Kind → Option ℕ → Option Expected
+expected_of start depth Name flag = None
+expected_of start depth k flag = Some wanted.Section
+expected_of in_annotations depth k (Some flag) = None
+expected_of in_annotations depth k None = Some wanted.Annotation
+expected_of annotated depth CloseParen flag = None
+expected_of annotated depth k (Some flag) = None
+expected_of annotated depth Name None = Some wanted.Annotation
+expected_of annotated depth k None = Some wanted.CloseParen
+expected_of at_sign depth Number flag = None
+expected_of at_sign depth k flag = Some wanted.Number
+expected_of (past n) depth k flag = if goes_on n k then None else expected_next depth k
 
 -- the refusal of a word, or of the end, at a place where something else had to stand
-abbrev pub misplaced : ℕ → Option Expected → Option FmdFault
-misplaced at None = None
-misplaced at (Some what) = Some (faults.Expected at what)
+abbrev pub misplaced : Stage → ℕ → Word → Option FmdFault
+misplaced s depth w = option_map (faults.Expected w.place) (expected_of s depth (kind_of w.bytes) (annotation_flag w.bytes))
 
 -- the first refusal of the words left, the text's length being `end`
 abbrev pub fault_from : Stage → ℕ → ℕ → List Word → Option FmdFault
-fault_from s depth end [] = misplaced end (expected_at_end s depth)
+fault_from s depth end [] = misplaced s depth (word end [])
 fault_from s depth end (w ∷ ws) =
     option_or (own_fault depth w)
-    (option_or (misplaced w.place (expected_at s depth w)) (fault_from (next_stage s w) (next_depth depth w) end ws))
+    (option_or (misplaced s depth w) (fault_from (next_stage s (kind_of w.bytes)) (next_depth (kind_of w.bytes) depth) end ws))
 
 -- how many bytes a text may have
 abbrev pub text_limit : ℕ

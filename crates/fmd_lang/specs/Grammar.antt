@@ -2,75 +2,82 @@
 --   section = name [ "(" annotation+ ")" ] [ "@" number ] [ number ] [ "{" section* "}" ]
 -- (coreboot's Documentation/lib/flashmap.md; that the braces may be empty, and that the root is read as any other
 -- section, is this project's own).
-use Rattle.std.specs.Prelude.{◌≡◌, ℕ, ◌<◌, ◌⊎◌, ◌||◌, Bool, true, false, if◌then◌else◌, IsTrue, List, [], ◌∷◌, ◌++◌, length, Option, Some, None, codes}
-use Rattle.std.specs.List.{list_any, list_all}
+use Rattle.std.specs.Prelude.{◌≡◌, ℕ, ◌<◌, ◌⊎◌, if◌then◌else◌, List, [], ◌∷◌, ◌++◌, length, Option, Some, None, codes}
+use Rattle.std.specs.Int.Bits.{bit_or}
+use Rattle.std.specs.Option.{option_and_then}
 use Rattle.std.specs.Str.{bytes_eq}
-use Rattle.fmd_lang.specs.Words.{Word, is_the_mark, is_name, is_number, at_mark, close_brace, close_paren, open_brace, open_paren}
+use Rattle.fmd_lang.specs.Words.{Word, kind_of}
 use Rattle.fmd_lang.specs.Numbers.{number_value}
 use Rattle.fmd_lang.specs.Tree.{Tree, section, Forest, none, some}
+use Rattle.fmd_lang.specs.declared.word.Kind.{Kind}
+use Rattle.fmd_lang.specs.declared.word.Kind.TheVariants.{Name, Number, OpenParen, CloseParen, At, OpenBrace, CloseBrace}
 
--- one word that is this mark
-abbrev pub IsMark : ℕ → Word → Type 0
-IsMark m w = IsTrue (is_the_mark m w)
+-- one word, of this form
+abbrev pub One : (Word → Type 0) → List Word → Type 0
+One P ws = (w : Word) × (ws ≡ w ∷ []) × P w
 
-abbrev pub is_cbfs : Word → Bool
-is_cbfs w = bytes_eq w.bytes (codes "CBFS")
+-- words of one form, and then words of another
+abbrev pub Then : (List Word → Type 0) → (List Word → Type 0) → List Word → Type 0
+Then P Q ws = (front back : List Word) × (ws ≡ front ++ back) × P front × Q back
 
-abbrev pub is_preserve : Word → Bool
-is_preserve w = bytes_eq w.bytes (codes "PRESERVE")
+-- these words, or none where the fact holds
+abbrev pub Else : Type 0 → (List Word → Type 0) → List Word → Type 0
+Else Q P ws = ((ws ≡ []) × Q) ⊎ P ws
 
-abbrev pub is_annotation : Word → Bool
-is_annotation w = is_cbfs w || is_preserve w
+-- a word of this kind
+abbrev pub IsA : Kind → Word → Type 0
+IsA k w = kind_of w.bytes ≡ k
 
--- whether a word is an annotation, and then whether it is PRESERVE
-abbrev pub annotation_of : Word → Option Bool
-annotation_of w = if is_preserve w then Some true else (if is_cbfs w then Some false else None)
+-- words of one form between words of two kinds
+abbrev pub Between : Kind → Kind → (List Word → Type 0) → List Word → Type 0
+Between first last P = Then (One (IsA first)) (Then P (One (IsA last)))
 
--- the flag of an area that PRESERVE sets
-abbrev pub preserve_flag : ℕ
-preserve_flag = 8
+-- what an annotation adds to the flags of an area: the bit 8 is PRESERVE
+abbrev pub annotation_flag : List ℕ → Option ℕ
+annotation_flag bytes =
+    if bytes_eq bytes (codes "CBFS") then Some 0
+    else (if bytes_eq bytes (codes "PRESERVE") then Some 8
+    else None)
 
--- `(`, one or more annotations, `)`; or nothing
+-- the flags with those of these annotations; None where a word is none
+abbrev pub flags_with : ℕ → List Word → Option ℕ
+flags_with flags [] = Some flags
+flags_with flags (w ∷ ws) = option_and_then (λ flag. flags_with (bit_or flags flag) ws) (annotation_flag w.bytes)
+
+-- one or more annotations
+abbrev pub HaveFlags : ℕ → List Word → Type 0
+HaveFlags flags ws = (0 < length ws) × (flags_with 0 ws ≡ Some flags)
+
+-- annotations in parentheses, or none
 abbrev pub AreAnnotations : ℕ → List Word → Type 0
-AreAnnotations flags ws = ((ws ≡ []) × (flags ≡ 0))
-    ⊎ ((opening : Word) × (annotations : List Word) × (closing : Word) × (ws ≡ opening ∷ annotations ++ closing ∷ [])
-    × IsMark open_paren opening × IsMark close_paren closing × (0 < length annotations) × IsTrue (list_all is_annotation annotations)
-    × (flags ≡ (if list_any is_preserve annotations then preserve_flag else 0)))
+AreAnnotations flags = Else (flags ≡ 0) (Between OpenParen CloseParen (HaveFlags flags))
 
--- the word is a number of this value
+-- a number of this value
 abbrev pub HasValue : ℕ → Word → Type 0
-HasValue n w = IsTrue (is_number w) × (number_value w.bytes ≡ Some n)
+HasValue n w = IsA Number w × (number_value w.bytes ≡ Some n)
 
 -- `@` and a number; or nothing
 abbrev pub IsOffset : Option ℕ → List Word → Type 0
 IsOffset None ws = ws ≡ []
-IsOffset (Some n) ws = (mark : Word) × (number : Word) × (ws ≡ mark ∷ number ∷ []) × IsMark at_mark mark × HasValue n number
+IsOffset (Some n) ws = Then (One (IsA At)) (One (HasValue n)) ws
 
 -- a number; or nothing
 abbrev pub IsSize : Option ℕ → List Word → Type 0
 IsSize None ws = ws ≡ []
-IsSize (Some n) ws = (number : Word) × (ws ≡ number ∷ []) × HasValue n number
+IsSize (Some n) ws = One (HasValue n) ws
 
--- `{`, words of this form, `}`
-abbrev pub Braced : (List Word → Type 0) → List Word → Type 0
-Braced P ws = (opening : Word) × (inside : List Word) × (closing : Word) × (ws ≡ opening ∷ inside ++ closing ∷ [])
-    × IsMark open_brace opening × IsMark close_brace closing × P inside
-
--- there are no sections
-abbrev pub is_none : Forest → Bool
-is_none none = true
-is_none (some t ts) = false
+-- a section's name
+abbrev pub IsName : List ℕ → Word → Type 0
+IsName name w = IsA Name w × (w.bytes ≡ name) × (length name < 32)
 
 abbrev mutual
   -- these words are the section
   pub IsSection : Tree → List Word → Type 0
   IsSection (section name flags offset size parts) ws =
-      (first : Word) × (annotations at number body : List Word) × (ws ≡ first ∷ annotations ++ (at ++ (number ++ body)))
-      × IsTrue (is_name first) × (first.bytes ≡ name) × (length name < 32)
-      × AreAnnotations flags annotations × IsOffset offset at × IsSize size number
-      × (((body ≡ []) × IsTrue (is_none parts)) ⊎ Braced (AreSections parts) body)
+      Then (One (IsName name)) (Then (AreAnnotations flags) (Then (IsOffset offset) (Then (IsSize size)
+      (Else (parts ≡ none) (Between OpenBrace CloseBrace (AreSections parts)))))) ws
 
   -- these words are the sections, one after another
   pub AreSections : Forest → List Word → Type 0
   AreSections none ws = ws ≡ []
-  AreSections (some t ts) ws = (first rest : List Word) × (ws ≡ first ++ rest) × IsSection t first × AreSections ts rest
+  AreSections (some t ts) ws = Then (IsSection t) (AreSections ts) ws

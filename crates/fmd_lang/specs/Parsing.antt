@@ -1,12 +1,14 @@
 -- What a part of the parser answers.
-use Rattle.std.specs.Prelude.{◌≡◌, ℕ, ◌⊎◌, List, ◌++◌, Option, Some, Result, Ok, Err, length}
-use Rattle.fmd_lang.specs.Words.{Word, words_after, close_brace, close_paren}
-use Rattle.fmd_lang.specs.Faults.{Stage, fault_from}
-use Rattle.std.specs.Prelude.{[], ◌∷◌, ◌<◌, IsTrue, Bool, ◌||◌}
-use Rattle.std.specs.List.{list_any, list_all}
-use Rattle.fmd_lang.specs.Grammar.{Braced, AreSections, is_none, IsMark, HasValue, is_annotation, is_preserve}
+use Rattle.std.specs.Prelude.{◌≡◌, ◌≢◌, ℕ, ◌≤◌, ◌⊎◌, List, ◌++◌, Option, Some, None, Result, Ok, Err, MatchOption, length}
+use Rattle.fmd_lang.specs.Words.{Word, words_after, kind_of}
+use Rattle.fmd_lang.specs.Faults.{Stage, fault_from, own_fault}
+use Rattle.fmd_lang.specs.Grammar.{Between, Else, One, Then, AreSections, HasValue, IsA, flags_with}
+use Rattle.fmd_lang.specs.Lexing.{word_of, IsFirst}
+use Rattle.fmd_lang.specs.Tree.{none}
 use Rattle.fmd_lang.specs.View.{views}
+use Rattle.fmd_lang.specs.declared.parser.Token.{Token}
 use Rattle.fmd_lang.specs.declared.section.Section.{Section}
+use Rattle.fmd_lang.specs.declared.word.Kind.TheVariants.{Number, OpenBrace, CloseBrace, CloseParen}
 use Rattle.fmd_lang.specs.declared.fault.FmdFault.{FmdFault}
 use Rattle.fmd_lang.specs.declared.fault.FmdFault.TheVariants as faults
 
@@ -22,11 +24,19 @@ stand stage depth = record { stage = stage; depth = depth }
 abbrev pub fault_at : Standing → List ℕ → ℕ → Option FmdFault
 fault_at there text at = fault_from there.stage there.depth (length text) (words_after text at)
 
--- It took the words up to a place, which are of the form P of its value, and leaves the text's first refusal as it
--- was; or it met that refusal. The text stands so before the words, and so after them.
+-- The words in front are of this form, and those behind them have the first refusal of all. The text stands so before
+-- the words in front, and so after them.
+pub record Reads (P : List Word → Type 0) (before after : Standing) (end : ℕ) (ws behind : List Word) : Type 0 where
+  pub front : List Word
+  pub split : ws ≡ front ++ behind
+  pub form : P front
+  pub same : fault_from before.stage before.depth end ws ≡ fault_from after.stage after.depth end behind
+
+-- It took the words up to a place, which are of the form P of its value, and left the text's first refusal as it was;
+-- or it met that refusal.
 abbrev pub Parses : {X : Type 0} → (X → List Word → Type 0) → Standing → Standing → List ℕ → ℕ → Result (X × ℕ) FmdFault → Type 0
-Parses P before after text from (Ok (x, to)) = (taken : List Word)
-    × (words_after text from ≡ taken ++ words_after text to) × P x taken × (fault_at before text from ≡ fault_at after text to)
+Parses P before after text from (Ok (x, to)) =
+    (from ≤ to) × Reads (P x) before after (length text) (words_after text from) (words_after text to)
 Parses P before after text from (Err fault) = fault_at before text from ≡ Some fault
 
 -- the same of a part that takes memory, which may also run out
@@ -34,22 +44,21 @@ abbrev pub ParsesInMemory : {X : Type 0} → (X → List Word → Type 0) → St
 ParsesInMemory P before after text from (Ok answer) = Parses P before after text from (Ok answer)
 ParsesInMemory P before after text from (Err fault) = (fault ≡ faults.Memory) ⊎ Parses P before after text from (Err fault)
 
--- the sections in braces, or none
+-- what is known of the token at a place, while so many `{` are open
+pub record IsNext (text : List ℕ) (from depth : ℕ) (token : Token) : Type 0 where
+  pub first : IsFirst text from token.word
+  pub kind : kind_of token.word.bytes.now ≡ token.kind
+  pub clear : own_fault depth (word_of token.word) ≡ None
+  pub value : MatchOption token.value (token.kind ≢ Number) (λ n. HasValue n (word_of token.word))
+
+-- sections in braces, or none
 abbrev pub IsBody : List Section → List Word → Type 0
-IsBody parts ws = ((ws ≡ []) × IsTrue (is_none (views parts))) ⊎ Braced (AreSections (views parts)) ws
+IsBody parts = Else (views parts ≡ none) (Between OpenBrace CloseBrace (AreSections (views parts)))
 
 -- sections and the `}` after them
 abbrev pub AreClosed : List Section → List Word → Type 0
-AreClosed parts ws = (inside : List Word) × (closing : Word) × (ws ≡ inside ++ closing ∷ []) × IsMark close_brace closing × AreSections (views parts) inside
+AreClosed parts = Then (AreSections (views parts)) (One (IsA CloseBrace))
 
-abbrev pub IsNumber : ℕ → List Word → Type 0
-IsNumber n ws = (number : Word) × (ws ≡ number ∷ []) × HasValue n number
-
--- annotations and the `)` after them: one or more; or more after the first. The flag says whether one is PRESERVE.
-abbrev pub EndsAnnotations : Bool → List Word → Type 0
-EndsAnnotations preserve ws = (annotations : List Word) × (closing : Word) × (ws ≡ annotations ++ closing ∷ []) × IsMark close_paren closing
-    × (0 < length annotations) × IsTrue (list_all is_annotation annotations) × (preserve ≡ list_any is_preserve annotations)
-
-abbrev pub EndsMoreAnnotations : Bool → Bool → List Word → Type 0
-EndsMoreAnnotations first preserve ws = (annotations : List Word) × (closing : Word) × (ws ≡ annotations ++ closing ∷ []) × IsMark close_paren closing
-    × IsTrue (list_all is_annotation annotations) × (preserve ≡ (first || list_any is_preserve annotations))
+-- annotations after others, of these flags, and the `)` after them
+abbrev pub EndAnnotations : ℕ → ℕ → List Word → Type 0
+EndAnnotations before flags = Then (λ ws. flags_with before ws ≡ Some flags) (One (IsA CloseParen))

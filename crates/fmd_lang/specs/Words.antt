@@ -1,31 +1,13 @@
 -- The words of a descriptor's text, with their places. The language is that of coreboot's flashmap descriptors
 -- (Documentation/lib/flashmap.md); which bytes make a word, a blank and a comment is this project's own.
 use Rattle.std.specs.Prelude.{ℕ, suc, nat_le, nat_eq, Bool, true, false, ◌&&◌, not, if◌then◌else◌, drop, List, [], ◌∷◌, Option, Some, None, codes}
-use Rattle.std.specs.List.{list_any, slice_index, take_while}
+use Rattle.std.specs.List.{list_any, take_while}
+use Rattle.fmd_lang.specs.declared.word.Kind.{Kind}
+use Rattle.fmd_lang.specs.declared.word.Kind.TheVariants.{Name, Number, OpenParen, CloseParen, At, OpenBrace, CloseBrace, Bad, End}
 
 -- space, tab, line feed, carriage return
 abbrev pub is_blank : ℕ → Bool
 is_blank b = list_any (nat_eq b) (32 ∷ 9 ∷ 10 ∷ 13 ∷ [])
-
--- the marks
-abbrev pub open_paren : ℕ
-open_paren = 40
-
-abbrev pub close_paren : ℕ
-close_paren = 41
-
-abbrev pub at_mark : ℕ
-at_mark = 64
-
-abbrev pub open_brace : ℕ
-open_brace = 123
-
-abbrev pub close_brace : ℕ
-close_brace = 125
-
--- one of `(`, `)`, `@`, `{`, `}`
-abbrev pub is_mark : ℕ → Bool
-is_mark b = list_any (nat_eq b) (codes "@{}()")
 
 abbrev pub is_digit : ℕ → Bool
 is_digit b = nat_le 48 b && nat_le b 57
@@ -71,25 +53,21 @@ words_from place before (b ∷ bs) = put place (word_at before (b ∷ bs)) (word
 unfoldable pub words : List ℕ → List Word
 words text = words_from 0 32 (without_comments false text)
 
--- a word's first byte says what it is
-abbrev pub first_byte : Word → ℕ
-first_byte w = slice_index w.bytes 0
+-- what begins with a byte
+abbrev pub kind_of_byte : ℕ → Kind
+kind_of_byte b =
+    if nat_eq b 40 then OpenParen
+    else (if nat_eq b 41 then CloseParen
+    else (if nat_eq b 64 then At
+    else (if nat_eq b 123 then OpenBrace
+    else (if nat_eq b 125 then CloseBrace
+    else (if is_digit b then Number
+    else (if is_plain b then Name else Bad))))))
 
--- a byte that no word may have
-abbrev pub is_bad : Word → Bool
-is_bad w = not (is_mark (first_byte w)) && not (is_plain (first_byte w))
-
--- this mark
-abbrev pub is_the_mark : ℕ → Word → Bool
-is_the_mark m w = nat_eq (first_byte w) m
-
--- a plain word that begins with a digit
-abbrev pub is_number : Word → Bool
-is_number w = is_digit (first_byte w)
-
--- a plain word that begins with no digit
-abbrev pub is_name : Word → Bool
-is_name w = is_plain (first_byte w) && not (is_digit (first_byte w))
+-- What a word of these bytes is, by the first. The end of a text counts as a word of no bytes.
+abbrev pub kind_of : List ℕ → Kind
+kind_of [] = End
+kind_of (b ∷ bs) = kind_of_byte b
 
 -- the words from a place of the text on, where neither a word nor a comment goes on
 unfoldable pub words_after : List ℕ → ℕ → List Word

@@ -1,19 +1,19 @@
 //! The parser: each function reads from a place of the text, and answers a value and the place after it.
 
-ghost use Rattle.std.specs.Prelude.{◌≡◌, ◌≤◌, ◌<◌, ◌+◌, ◌⊎◌, ◌∷◌, [], ℕ, length, true, Some, None, Err, IfOk, OnOk, IfErr, IfSome, IfNone, false};
-ghost use Rattle.fmd_lang.specs.Words.{words_after, is_number, is_name};
-ghost use Rattle.fmd_lang.specs.Words as spec;
-ghost use Rattle.fmd_lang.specs.Lexing.{word_of};
-ghost use Rattle.fmd_lang.specs.Faults.{Stage, depth_limit, own_fault, placed, sized, closed_annotations, named, at_sign, in_annotations, annotated, whole, start, first_fault};
-ghost use Rattle.fmd_lang.specs.Grammar.{HasValue, IsOffset, IsSize, AreAnnotations, IsSection};
-ghost use Rattle.fmd_lang.specs.Parsing.{Parses, ParsesInMemory, fault_at, stand, IsBody, AreClosed, IsNumber, EndsAnnotations, EndsMoreAnnotations};
+ghost use Rattle.std.specs.Prelude.{◌≡◌, ◌≢◌, ◌≤◌, ◌<◌, ◌+◌, ◌⊎◌, ◌∷◌, ℕ, suc, length, Some, None, Err, IfOk, OnOk, IfErr, MatchOption};
+ghost use Rattle.fmd_lang.specs.Words.{words, words_after, kind_of};
+ghost use Rattle.fmd_lang.specs.Lexing.{word_of, end_of};
+ghost use Rattle.fmd_lang.specs.Faults.{Stage, depth_limit, own_fault, start, past, at_sign, in_annotations, annotated, expected_of, first_fault};
+ghost use Rattle.fmd_lang.specs.Grammar.{One, HasValue, HaveFlags, IsA, IsOffset, IsSize, AreAnnotations, IsSection, Then};
+ghost use Rattle.fmd_lang.specs.Parsing.{Parses, ParsesInMemory, fault_at, stand, IsNext, IsBody, AreClosed, EndAnnotations};
 ghost use Rattle.fmd_lang.specs.View.{view};
 ghost use Rattle.fmd_lang.specs.Grammar as grammar;
+ghost use Rattle.fmd_lang.specs.declared.word.Kind.TheVariants.{CloseParen, Name, Number};
 
 use crate::fault::{Expected, FmdFault};
 use crate::number::{NumberFault, read_number};
 use crate::section::Section;
-use crate::word::{Word, next_word};
+use crate::word::{Kind, Word, next_word};
 use std::alloc::Global;
 
 /// How many bytes a text may have.
@@ -25,17 +25,18 @@ const DEPTH_LIMIT: u32 = 32;
 /// The longest name.
 const NAME_LIMIT: usize = 31;
 
-/// A word that isn't refused by itself, and its value where it is a number.
+/// The next word, which isn't refused by itself, and its value where it is a number.
 #[derive(Clone, Copy, Debug)]
 struct Token<'t> {
     word: Word<'t>,
+    kind: Kind,
     value: Option<u32>,
 }
 
 /// The tree of a descriptor.
 pub fn parse(alloc: Global, text: &[u8]) -> Result<Section, FmdFault>
     // A tree is the text's, and the text then has no fault.
-    ensures tree { IfOk result (λ t. IsSection (view t) (spec.words text.now)) }
+    ensures tree { IfOk result (λ t. IsSection (view t) (words text.now)) }
     ensures faultless { IfOk result (λ t. first_fault text.now ≡ None) }
     // A refusal is the text's first, unless memory ran out.
     ensures refused { IfErr result (λ fault. (fault ≡ FmdFault.Memory) ⊎ (first_fault text.now ≡ Some fault)) }
@@ -53,24 +54,22 @@ fn tree(alloc: Global, text: &[u8]) -> Result<Section, FmdFault>
     ensures refused { IfErr result (λ fault. (fault ≡ FmdFault.Memory) ⊎ (fault_at (stand start 0) text.now 0 ≡ Some fault)) }
 {
     let (tree, to) = root(alloc, text)?;
-    match peek(text, to, 0)? {
-        None => Ok(tree),
-        Some(token) => expected(token.word.place, Expected::End),
+    let token = peek(text, to, 0)?;
+    match token.kind {
+        Kind::End => Ok(tree),
+        _ => expected(token.word.place, Expected::End),
     }
 }
 
 /// The root, at the text's start, and the place after it.
 fn root(alloc: Global, text: &[u8]) -> Result<(Section, usize), FmdFault>
-    ensures inside { IfOk result (λ r. r.1 ≤ length text.now) }
-    ensures root { ParsesInMemory (λ t ws. IsSection (view t) ws) (stand start 0) (stand whole 0) text.now 0 result }
+    ensures { ParsesInMemory (λ t ws. IsSection (view t) ws) (stand start 0) (stand (past 4) 0) text.now 0 result }
 {
-    let Some(token) = peek(text, 0, 0)? else {
-        return expected(text.len(), Expected::Section);
-    };
-    if !token.word.is_name() {
-        return expected(token.word.place, Expected::Section);
+    let token = peek(text, 0, 0)?;
+    match token.kind {
+        Kind::Name => section(alloc, text, &token.word, 0),
+        _ => expected(token.word.place, Expected::Section),
     }
-    section(alloc, text, &token.word, 0)
 }
 
 /// The rest of a section, after its name.
@@ -81,12 +80,11 @@ fn section(
     name: &Word<'_>,
     depth: u32,
 ) -> Result<(Section, usize), FmdFault>
-    requires inside { name.now.place + length name.now.bytes.now ≤ length text.now }
-    requires name { is_name (word_of name.now) ≡ true }
+    requires inside { end_of name.now ≤ length text.now }
+    requires name { IsA Name (word_of name.now) }
     requires clear { own_fault depth (word_of name.now) ≡ None }
     requires depth { depth ≤ depth_limit }
-    ensures inside { IfOk result (λ r. (name.now.place + length name.now.bytes.now ≤ r.1) × (r.1 ≤ length text.now)) }
-    ensures section { ParsesInMemory (λ t ws. IsSection (view t) (word_of name.now ∷ ws)) (stand named depth) (stand whole depth) text.now (name.now.place + length name.now.bytes.now) result }
+    ensures { ParsesInMemory (λ t ws. IsSection (view t) (word_of name.now ∷ ws)) (stand (past 0) depth) (stand (past 4) depth) text.now (end_of name.now) result }
 {
     let (flags, at) = annotations(text, name.end(), depth)?;
     let (offset, at) = offset(text, at, depth)?;
@@ -110,13 +108,12 @@ fn body(
     from: usize,
     depth: u32,
 ) -> Result<(Vec<Section>, usize), FmdFault>
-    requires inside { from ≤ length text.now }
     requires depth { depth ≤ depth_limit }
-    ensures inside { IfOk result (λ r. (from ≤ r.1) × (r.1 ≤ length text.now)) }
-    ensures body { ParsesInMemory (λ v ws. IsBody v.items ws) (stand sized depth) (stand whole depth) text.now from result }
+    ensures { ParsesInMemory (λ v. IsBody v.items) (stand (past 3) depth) (stand (past 4) depth) text.now from result }
 {
-    match peek(text, from, depth)? {
-        Some(mark) if mark.word.is_mark(b'{') => sections(alloc, text, mark.word.end(), depth),
+    let token = peek(text, from, depth)?;
+    match token.kind {
+        Kind::OpenBrace => sections(alloc, text, token.word.end(), depth),
         _ => Ok((Vec::new(alloc), from)),
     }
 }
@@ -129,58 +126,45 @@ fn sections(
     from: usize,
     depth: u32,
 ) -> Result<(Vec<Section>, usize), FmdFault>
-    requires inside { from ≤ length text.now }
     requires depth { depth < depth_limit }
-    ensures inside { IfOk result (λ r. (from ≤ r.1) × (r.1 ≤ length text.now)) }
-    ensures sections { ParsesInMemory (λ v ws. AreClosed v.items ws) (stand whole (depth + 1)) (stand whole depth) text.now from result }
+    ensures { ParsesInMemory (λ v. AreClosed v.items) (stand (past 4) (suc depth)) (stand (past 4) depth) text.now from result }
 {
     let mut parts = Vec::new(alloc);
     let mut at = from;
-    while let Some(token) = peek(text, at, depth + 1)? {
-        if token.word.is_mark(b'}') {
-            return Ok((parts, token.word.end()));
+    loop {
+        let token = peek(text, at, depth + 1)?;
+        match token.kind {
+            Kind::CloseBrace => return Ok((parts, token.word.end())),
+            Kind::Name => {
+                let (part, to) = section(alloc, text, &token.word, depth + 1)?;
+                if parts.push(part).is_err() {
+                    return Err(FmdFault::Memory);
+                }
+                at = to;
+            }
+            _ => return expected(token.word.place, Expected::SectionOrClose),
         }
-        if !token.word.is_name() {
-            return expected(token.word.place, Expected::SectionOrClose);
-        }
-        let (part, to) = section(alloc, text, &token.word, depth + 1)?;
-        if parts.push(part).is_err() {
-            return Err(FmdFault::Memory);
-        }
-        at = to;
     }
-    expected(text.len(), Expected::SectionOrClose)
 }
 
 /// A section's annotations.
 fn annotations(text: &[u8], from: usize, depth: u32) -> Result<(u16, usize), FmdFault>
-    requires { from ≤ length text.now }
-    ensures inside { IfOk result (λ r. (from ≤ r.1) × (r.1 ≤ length text.now)) }
-    ensures annotations { Parses AreAnnotations (stand named depth) (stand closed_annotations depth) text.now from result }
+    ensures { Parses AreAnnotations (stand (past 0) depth) (stand (past 1) depth) text.now from result }
 {
-    match peek(text, from, depth)? {
-        Some(mark) if mark.word.is_mark(b'(') => {
-            let (preserve, to) = first_annotation(text, mark.word.end(), depth)?;
-            Ok((if preserve { 8 } else { 0 }, to))
-        }
+    let token = peek(text, from, depth)?;
+    match token.kind {
+        Kind::OpenParen => first_annotation(text, token.word.end(), depth),
         _ => Ok((0, from)),
     }
 }
 
 /// One annotation, which has to stand here, and more.
-fn first_annotation(text: &[u8], from: usize, depth: u32) -> Result<(bool, usize), FmdFault>
-    requires { from ≤ length text.now }
-    ensures inside { IfOk result (λ r. (from ≤ r.1) × (r.1 ≤ length text.now)) }
-    ensures annotations { Parses EndsAnnotations (stand in_annotations depth) (stand closed_annotations depth) text.now from result }
+fn first_annotation(text: &[u8], from: usize, depth: u32) -> Result<(u16, usize), FmdFault>
+    ensures { Parses (λ flags. Then (HaveFlags flags) (One (IsA CloseParen))) (stand in_annotations depth) (stand (past 1) depth) text.now from result }
 {
-    let Some(token) = peek(text, from, depth)? else {
-        return expected(text.len(), Expected::Annotation);
-    };
-    if !token.word.is_name() {
-        return expected(token.word.place, Expected::Annotation);
-    }
-    match annotation_of(&token.word) {
-        Some(preserve) => more_annotations(text, token.word.end(), depth, preserve),
+    let token = peek(text, from, depth)?;
+    match annotation_flag(token.word.bytes) {
+        Some(flag) => more_annotations(text, token.word.end(), depth, flag),
         None => expected(token.word.place, Expected::Annotation),
     }
 }
@@ -190,40 +174,43 @@ fn more_annotations(
     text: &[u8],
     from: usize,
     depth: u32,
-    first: bool,
-) -> Result<(bool, usize), FmdFault>
-    requires { from ≤ length text.now }
-    ensures inside { IfOk result (λ r. (from ≤ r.1) × (r.1 ≤ length text.now)) }
-    ensures annotations { Parses (EndsMoreAnnotations first) (stand annotated depth) (stand closed_annotations depth) text.now from result }
+    first: u16,
+) -> Result<(u16, usize), FmdFault>
+    ensures { Parses (EndAnnotations first) (stand annotated depth) (stand (past 1) depth) text.now from result }
 {
-    let mut preserve = first;
+    let mut flags = first;
     let mut at = from;
     loop {
-        let Some(token) = peek(text, at, depth)? else {
-            return expected(text.len(), Expected::CloseParen);
-        };
-        if token.word.is_mark(b')') {
-            return Ok((preserve, token.word.end()));
+        let token = peek(text, at, depth)?;
+        if let Kind::CloseParen = token.kind {
+            return Ok((flags, token.word.end()));
         }
-        if !token.word.is_name() {
-            return expected(token.word.place, Expected::CloseParen);
-        }
-        match annotation_of(&token.word) {
-            Some(is_preserve) => preserve = preserve || is_preserve,
-            None => return expected(token.word.place, Expected::Annotation),
+        match annotation_flag(token.word.bytes) {
+            Some(flag) => flags |= flag,
+            None => return expected(token.word.place, after_annotation(token.kind)),
         }
         at = token.word.end();
     }
 }
 
-/// Whether an annotation is PRESERVE.
-fn annotation_of(word: &Word<'_>) -> Option<bool>
-    ensures { result ≡ grammar.annotation_of (word_of word.now) }
+/// What has to stand after an annotation, in place of a word of this kind.
+fn after_annotation(kind: Kind) -> Expected
+    ensures { (depth : ℕ) → kind ≢ CloseParen → expected_of annotated depth kind None ≡ Some result }
 {
-    if word.bytes == b"PRESERVE".as_slice() {
-        Some(true)
-    } else if word.bytes == b"CBFS".as_slice() {
-        Some(false)
+    match kind {
+        Kind::Name => Expected::Annotation,
+        _ => Expected::CloseParen,
+    }
+}
+
+/// What an annotation adds to the flags.
+fn annotation_flag(bytes: &[u8]) -> Option<u16>
+    ensures { result ≡ grammar.annotation_flag bytes.now }
+{
+    if bytes == b"CBFS".as_slice() {
+        Some(0)
+    } else if bytes == b"PRESERVE".as_slice() {
+        Some(8)
     } else {
         None
     }
@@ -231,13 +218,12 @@ fn annotation_of(word: &Word<'_>) -> Option<bool>
 
 /// A section's offset.
 fn offset(text: &[u8], from: usize, depth: u32) -> Result<(Option<u32>, usize), FmdFault>
-    requires { from ≤ length text.now }
-    ensures inside { IfOk result (λ r. (from ≤ r.1) × (r.1 ≤ length text.now)) }
-    ensures offset { Parses IsOffset (stand closed_annotations depth) (stand placed depth) text.now from result }
+    ensures { Parses IsOffset (stand (past 1) depth) (stand (past 2) depth) text.now from result }
 {
-    match peek(text, from, depth)? {
-        Some(mark) if mark.word.is_mark(b'@') => {
-            let (value, to) = number(text, mark.word.end(), depth)?;
+    let token = peek(text, from, depth)?;
+    match token.kind {
+        Kind::At => {
+            let (value, to) = number(text, token.word.end(), depth)?;
             Ok((Some(value), to))
         }
         _ => Ok((None, from)),
@@ -246,80 +232,58 @@ fn offset(text: &[u8], from: usize, depth: u32) -> Result<(Option<u32>, usize), 
 
 /// A number that has to stand here.
 fn number(text: &[u8], from: usize, depth: u32) -> Result<(u32, usize), FmdFault>
-    requires { from ≤ length text.now }
-    ensures inside { IfOk result (λ r. (from ≤ r.1) × (r.1 ≤ length text.now)) }
-    ensures number { Parses IsNumber (stand at_sign depth) (stand placed depth) text.now from result }
+    ensures { Parses (λ n. One (HasValue n)) (stand at_sign depth) (stand (past 2) depth) text.now from result }
 {
-    match peek(text, from, depth)? {
-        Some(token) => match token.value {
-            Some(number) => Ok((number, token.word.end())),
-            None => expected(token.word.place, Expected::Number),
-        },
-        None => expected(text.len(), Expected::Number),
+    let token = peek(text, from, depth)?;
+    match token.value {
+        Some(number) => Ok((number, token.word.end())),
+        None => expected(token.word.place, Expected::Number),
     }
 }
 
 /// A section's size.
 fn size(text: &[u8], from: usize, depth: u32) -> Result<(Option<u32>, usize), FmdFault>
-    requires { from ≤ length text.now }
-    ensures inside { IfOk result (λ r. (from ≤ r.1) × (r.1 ≤ length text.now)) }
-    ensures size { Parses IsSize (stand placed depth) (stand sized depth) text.now from result }
+    ensures { Parses IsSize (stand (past 2) depth) (stand (past 3) depth) text.now from result }
 {
-    match peek(text, from, depth)? {
-        Some(token) => match token.value {
-            Some(size) => Ok((Some(size), token.word.end())),
-            None => Ok((None, from)),
-        },
+    let token = peek(text, from, depth)?;
+    match token.value {
+        Some(size) => Ok((Some(size), token.word.end())),
         None => Ok((None, from)),
     }
 }
 
 /// The next word.
-fn peek<'t>(text: &'t [u8], from: usize, depth: u32) -> Result<Option<Token<'t>>, FmdFault>
-    requires { from ≤ length text.now }
-    ensures some { IfOk result (λ found. IfSome found (λ t. words_after text.now from ≡ word_of t.word ∷ words_after text.now (t.word.place + length t.word.bytes.now))) }
-    ensures clear { IfOk result (λ found. IfSome found (λ t. own_fault depth (word_of t.word) ≡ None)) }
-    ensures value { IfOk result (λ found. IfSome found (λ t. IfSome t.value (λ n. HasValue n (word_of t.word)))) }
-    ensures other { IfOk result (λ found. IfSome found (λ t. IfNone t.value (is_number (word_of t.word) ≡ false))) }
-    ensures inside { IfOk result (λ found. IfSome found (λ t. t.word.place + length t.word.bytes.now ≤ length text.now)) }
-    ensures ahead { IfOk result (λ found. IfSome found (λ t. from < t.word.place + length t.word.bytes.now)) }
-    ensures none { IfOk result (λ found. IfNone found (words_after text.now from ≡ [])) }
+fn peek<'t>(text: &'t [u8], from: usize, depth: u32) -> Result<Token<'t>, FmdFault>
+    ensures next { IfOk result (λ token. IsNext text.now from depth token) }
     ensures refused { IfErr result (λ fault. (s : Stage) → fault_at (stand s depth) text.now from ≡ Some fault) }
 {
-    let Some(word) = next_word(text, from) else {
-        return Ok(None);
-    };
-    match value_of(&word, depth) {
-        Ok(value) => Ok(Some(Token { word, value })),
+    let word = next_word(text, from);
+    let kind = word.kind();
+    match value_of(&word, kind, depth) {
+        Ok(value) => Ok(Token { word, kind, value }),
         Err(fault) => Err(fault),
     }
 }
 
-/// The value of a word, which numbers alone have; or its refusal by itself, while `depth` braces are open.
-fn value_of(word: &Word<'_>, depth: u32) -> Result<Option<u32>, FmdFault>
+/// The value of a word of this kind, which numbers alone have; or its refusal by itself, while `depth` braces are open.
+fn value_of(word: &Word<'_>, kind: Kind, depth: u32) -> Result<Option<u32>, FmdFault>
+    requires { IsA kind (word_of word.now) }
     ensures clear { OnOk result (own_fault depth (word_of word.now) ≡ None) }
-    ensures value { IfOk result (λ value. IfSome value (λ n. HasValue n (word_of word.now))) }
-    ensures other { IfOk result (λ value. IfNone value (is_number (word_of word.now) ≡ false)) }
+    ensures value { IfOk result (λ value. MatchOption value (kind ≢ Number) (λ n. HasValue n (word_of word.now))) }
     ensures refused { IfErr result (λ fault. own_fault depth (word_of word.now) ≡ Some fault) }
 {
     let at = word.place;
-    if word.is_bad() {
-        return Err(FmdFault::BadByte { at });
-    }
-    if word.is_number() {
-        return match read_number(word.bytes) {
+    match kind {
+        Kind::Bad => Err(FmdFault::BadByte { at }),
+        Kind::Number => match read_number(word.bytes) {
             Ok(value) => Ok(Some(value)),
             Err(NumberFault::Bad) => Err(FmdFault::BadNumber { at }),
             Err(NumberFault::TooLarge) => Err(FmdFault::NumberTooLarge { at }),
-        };
+        },
+        Kind::Name if word.bytes.len() > NAME_LIMIT => Err(FmdFault::NameTooLong { at }),
+        Kind::OpenBrace if depth >= DEPTH_LIMIT => Err(FmdFault::TooDeep),
+        _ => Ok(None),
     }
-    if word.is_name() && word.bytes.len() > NAME_LIMIT {
-        return Err(FmdFault::NameTooLong { at });
-    }
-    if word.is_mark(b'{') && depth >= DEPTH_LIMIT {
-        return Err(FmdFault::TooDeep);
-    }
-    Ok(None)
 }
 
 /// The refusal of what stands at a place, where something else has to.

@@ -1,9 +1,27 @@
 //! The words of a descriptor's text.
 
-ghost use Rattle.std.specs.Prelude.{◌≡◌, ◌≤◌, ◌<◌, ◌+◌, ◌^◌, ◌∷◌, [], length, false, true, drop, slice_index, slice_range, IfSome, IfNone};
-ghost use Rattle.fmd_lang.specs.Words.{words_after};
+ghost use Rattle.std.specs.Prelude.{◌≡◌, ◌≤◌, ◌<◌, ◌+◌, ◌^◌, ◌∷◌, length, true, drop, slice_range};
+ghost use Rattle.fmd_lang.specs.Words.{words_after, words_from, words_inside, without_comments, plain_after, word};
 ghost use Rattle.fmd_lang.specs.Words as spec;
-ghost use Rattle.fmd_lang.specs.Lexing.{word_of};
+ghost use Rattle.fmd_lang.specs.Lexing.{BeginsWord, IsFirst, end_of};
+
+/// What a word is, by its first byte.
+#[derive(Clone, Copy, Debug, PartialEq, Eq)]
+pub enum Kind {
+    /// Plain bytes, of which the first is no digit.
+    Name,
+    /// Plain bytes, of which the first is a digit.
+    Number,
+    OpenParen,
+    CloseParen,
+    At,
+    OpenBrace,
+    CloseBrace,
+    /// A byte that no word may have.
+    Bad,
+    /// The text's end, as a word of no bytes.
+    End,
+}
 
 /// A word, with the place of its first byte in the text.
 #[derive(Clone, Copy, Debug)]
@@ -12,33 +30,29 @@ pub struct Word<'t> {
     pub bytes: &'t [u8],
 }
 
-/// The first word from `from` on, where neither a word nor a comment goes on.
-pub fn next_word<'t>(text: &'t [u8], from: usize) -> Option<Word<'t>>
-    requires { from ≤ length text.now }
-    ensures some { IfSome result (λ w. words_after text.now from ≡ word_of w ∷ words_after text.now (w.place + length w.bytes.now)) }
-    ensures inside { IfSome result (λ w. w.place + length w.bytes.now ≤ length text.now) }
-    ensures ahead { IfSome result (λ w. from < w.place + length w.bytes.now) }
-    ensures none { IfNone result (words_after text.now from ≡ []) }
+/// The first word from `from` on, where neither a word nor a comment goes on; at the text's end one of no bytes.
+pub fn next_word<'t>(text: &'t [u8], from: usize) -> Word<'t>
+    ensures { IsFirst text.now from result }
 {
     let place = skip_blanks(text, from);
     if place == text.len() {
-        return None;
+        return Word {
+            place,
+            bytes: &text[place..],
+        };
     }
     let end = word_end(text, place);
-    Some(Word {
+    Word {
         place,
         bytes: &text[place..end],
-    })
+    }
 }
 
 /// Where the next word begins, or the text's end.
 fn skip_blanks(text: &[u8], from: usize) -> usize
-    requires { from ≤ length text.now }
     ensures inside { result ≤ length text.now }
-    ensures ahead { from ≤ result }
     ensures same { words_after text.now from ≡ words_after text.now result }
-    ensures word { result < length text.now → spec.is_blank (slice_index text.now result) ≡ false }
-    ensures no_comment { result < length text.now → spec.is_comment (slice_index text.now result) ≡ false }
+    ensures word { result < length text.now → (from ≤ result) × BeginsWord text.now result }
 {
     let mut at = from;
     while at < text.len() {
@@ -51,15 +65,13 @@ fn skip_blanks(text: &[u8], from: usize) -> usize
             return at;
         }
     }
-    at
+    text.len()
 }
 
 /// Where the comment ends that goes on at `from`: at its line feed, or at the text's end.
 fn comment_end(text: &[u8], from: usize) -> usize
-    requires { from ≤ length text.now }
-    ensures inside { result ≤ length text.now }
     ensures ahead { from ≤ result }
-    ensures same { spec.words_from from 32 (spec.without_comments true (drop from text.now)) ≡ words_after text.now result }
+    ensures same { words_from from 32 (without_comments true (drop from text.now)) ≡ words_after text.now result }
 {
     let mut at = from;
     while at < text.len() && text[at] != b'\n' {
@@ -70,12 +82,9 @@ fn comment_end(text: &[u8], from: usize) -> usize
 
 /// Where the word ends that begins at `place`.
 fn word_end(text: &[u8], place: usize) -> usize
-    requires inside { place < length text.now }
-    requires no_blank { spec.is_blank (slice_index text.now place) ≡ false }
-    requires no_comment { spec.is_comment (slice_index text.now place) ≡ false }
-    ensures inside { result ≤ length text.now }
-    ensures ahead { place < result }
-    ensures word { words_after text.now place ≡ spec.word place (slice_range text.now place result) ∷ words_after text.now result }
+    requires { BeginsWord text.now place }
+    ensures inside { (place < result) × (result ≤ length text.now) }
+    ensures word { words_after text.now place ≡ word place (slice_range text.now place result) ∷ words_after text.now result }
 {
     if is_plain(text[place]) {
         plain_end(text, place + 1)
@@ -87,10 +96,9 @@ fn word_end(text: &[u8], place: usize) -> usize
 /// Where the row of plain bytes ends that goes on at `from`.
 fn plain_end(text: &[u8], from: usize) -> usize
     requires { from ≤ length text.now }
-    ensures inside { result ≤ length text.now }
-    ensures ahead { from ≤ result }
-    ensures row { spec.plain_after text.now from ≡ slice_range text.now from result }
-    ensures same { spec.words_inside text.now from ≡ words_after text.now result }
+    ensures inside { (from ≤ result) × (result ≤ length text.now) }
+    ensures row { plain_after text.now from ≡ slice_range text.now from result }
+    ensures same { words_inside text.now from ≡ words_after text.now result }
 {
     let mut at = from;
     while at < text.len() && is_plain(text[at]) {
@@ -105,57 +113,35 @@ fn is_blank(byte: u8) -> bool
     matches!(byte, b' ' | b'\t' | b'\n' | b'\r')
 }
 
-fn is_mark(byte: u8) -> bool
-    ensures { result ≡ spec.is_mark byte }
-{
-    matches!(byte, b'@' | b'{' | b'}' | b'(' | b')')
-}
-
 fn is_plain(byte: u8) -> bool
     ensures { result ≡ spec.is_plain byte }
 {
-    matches!(byte, 0x21..=0x7e) && !is_mark(byte) && byte != b'#'
+    matches!(byte, 0x21..=0x7e) && !matches!(byte, b'#' | b'@' | b'{' | b'}' | b'(' | b')')
 }
 
 impl Word<'_> {
-    fn first_byte(&self) -> u8
-        ensures { result ≡ spec.first_byte (word_of self.now) }
+    pub fn kind(&self) -> Kind
+        ensures { result ≡ spec.kind_of self.now.bytes.now }
     {
-        match self.bytes {
-            [first, ..] => *first,
-            [] => 0,
+        let Some(first) = self.bytes.first() else {
+            return Kind::End;
+        };
+        match *first {
+            b'(' => Kind::OpenParen,
+            b')' => Kind::CloseParen,
+            b'@' => Kind::At,
+            b'{' => Kind::OpenBrace,
+            b'}' => Kind::CloseBrace,
+            b'0'..=b'9' => Kind::Number,
+            byte if is_plain(byte) => Kind::Name,
+            _ => Kind::Bad,
         }
-    }
-
-    pub fn is_bad(&self) -> bool
-        ensures { result ≡ spec.is_bad (word_of self.now) }
-    {
-        let first = self.first_byte();
-        !is_mark(first) && !is_plain(first)
-    }
-
-    pub fn is_mark(&self, mark: u8) -> bool
-        ensures { result ≡ spec.is_the_mark mark (word_of self.now) }
-    {
-        self.first_byte() == mark
-    }
-
-    pub fn is_number(&self) -> bool
-        ensures { result ≡ spec.is_number (word_of self.now) }
-    {
-        matches!(self.first_byte(), b'0'..=b'9')
-    }
-
-    pub fn is_name(&self) -> bool
-        ensures { result ≡ spec.is_name (word_of self.now) }
-    {
-        is_plain(self.first_byte()) && !self.is_number()
     }
 
     /// The place after the word.
     pub fn end(&self) -> usize
-        requires { self.now.place + length self.now.bytes.now < 2 ^ 64 }
-        ensures { result ≡ self.now.place + length self.now.bytes.now }
+        requires { end_of self.now < 2 ^ 64 }
+        ensures { result ≡ end_of self.now }
     {
         self.place + self.bytes.len()
     }

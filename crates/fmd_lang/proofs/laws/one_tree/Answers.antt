@@ -1,5 +1,5 @@
 use Rattle.fmd_lang.specs.Words.{words}
-use Rattle.fmd_lang.proofs.UniqueLemmas.{one-tree}
+use Rattle.fmd_lang.proofs.TreeLemmas.{one-tree}
 use Rattle.fmd_lang.proofs.laws.one_tree.Goals as goal
 
 pub returns : goal.returns

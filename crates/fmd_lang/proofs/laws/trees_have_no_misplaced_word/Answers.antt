@@ -1,4 +1,4 @@
-use Rattle.fmd_lang.proofs.AgreeLemmas.{text-agrees}
+use Rattle.fmd_lang.proofs.TreeLemmas.{text-agrees}
 use Rattle.fmd_lang.proofs.laws.trees_have_no_misplaced_word.Goals as goal
 
 pub returns : goal.returns

@@ -1,23 +1,11 @@
-use Rattle.std.proofs.Common.{◌∙◌, ◌∷◌, sym, ap, true, false}
-use Rattle.fmd_lang.specs.Words.{words_after}
-use Rattle.fmd_lang.specs.Lexing.{word_of}
-use Rattle.fmd_lang.proofs.AnnotationLemmas.{annotations-parses}
+use Rattle.std.proofs.Common.{refl, inr}
+use Rattle.fmd_lang.specs.Faults.{past}
+use Rattle.fmd_lang.specs.Grammar.{AreAnnotations, HaveFlags, IsA, One, Then}
+use Rattle.fmd_lang.specs.declared.word.Kind.TheVariants.{CloseParen, OpenParen}
+use Rattle.fmd_lang.proofs.StepLemmas.{parses-after, token-mark}
 use Rattle.fmd_lang.proofs.parser.annotations.Goals as goal
 
-pub returns-then-preserve-clause-annotations : goal.returns-then-preserve-clause-annotations
-returns-then-preserve-clause-annotations c =
-    let text = c.args.text.now in
-    let w = word_of c.in-Some.mark.word in
-    let some = rw c.in-Some.is at c.in_ok-mark.ensures.some in
-    let clear = rw c.in-Some.is at c.in_ok-mark.ensures.clear in
-    annotations-parses text c.args.from c.end.result c.in_ok-preserve-in-Some.to c.args.depth w true
-    (some ∙ ap (λ to. w ∷ words_after text to) (sym c.end.ensures)) (sym c.is_mark.ensures ∙ c.if-is_mark.true) clear (rw c.if-preserve.true at c.in_ok-preserve-in-Some.ensures.annotations)
-
-pub returns-else-preserve-clause-annotations : goal.returns-else-preserve-clause-annotations
-returns-else-preserve-clause-annotations c =
-    let text = c.args.text.now in
-    let w = word_of c.in-Some.mark.word in
-    let some = rw c.in-Some.is at c.in_ok-mark.ensures.some in
-    let clear = rw c.in-Some.is at c.in_ok-mark.ensures.clear in
-    annotations-parses text c.args.from c.end.result c.in_ok-preserve-in-Some.to c.args.depth w false
-    (some ∙ ap (λ to. w ∷ words_after text to) (sym c.end.ensures)) (sym c.is_mark.ensures ∙ c.if-is_mark.true) clear (rw c.if-preserve.false at c.in_ok-preserve-in-Some.ensures.annotations)
+pub returns-in-OpenParen : goal.returns-in-OpenParen
+returns-in-OpenParen c =
+    let word = token-mark c.args.text.now c.args.from c.args.depth c.end.result c.in_ok-token.token (past 0) OpenParen c.in_ok-token.ensures.next c.end.ensures c.in-OpenParen.is (λ e. cc) refl in
+    parses-after (λ flags. Then (HaveFlags flags) (One (IsA CloseParen))) AreAnnotations _ c.args.text.now c.args.from c.end.result c.first_annotation.result (λ flags v h. inr h) word c.first_annotation.ensures

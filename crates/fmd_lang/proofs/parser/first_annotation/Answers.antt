@@ -1,14 +1,18 @@
-use Rattle.std.proofs.Common.{◌∙◌, ◌∷◌, sym, ap, rules}
-use Rattle.fmd_lang.specs.Words.{words_after}
-use Rattle.fmd_lang.specs.Lexing.{word_of}
-use Rattle.fmd_lang.proofs.AnnotationLemmas.{first-parses}
+use Rattle.std.proofs.Common.{refl, sym, ◌∙◌}
+use Rattle.fmd_lang.specs.Faults.{in_annotations}
+use Rattle.fmd_lang.specs.Grammar.{HaveFlags, IsA, One, Then}
+use Rattle.fmd_lang.specs.Parsing.{EndAnnotations}
+use Rattle.fmd_lang.specs.declared.word.Kind.TheVariants.{CloseParen, Name}
+use Rattle.fmd_lang.proofs.FormLemmas.{IsAnnotation, annotation-name, flags-cons}
+use Rattle.fmd_lang.proofs.StepLemmas.{parses-after, token-takes}
 use Rattle.fmd_lang.proofs.parser.first_annotation.Goals as goal
 
-pub returns-in-Some-annotation_of-clause-annotations : goal.returns-in-Some-annotation_of-clause-annotations
-returns-in-Some-annotation_of-clause-annotations c =
-    let text = c.args.text.now in
-    let w = word_of c.in-Some.token.word in
-    let some = rw c.in-Some.is at c.in_ok-token.ensures.some in
-    let clear = rw c.in-Some.is at c.in_ok-token.ensures.clear in
-    first-parses text c.args.from c.end.result c.args.depth w c.in-Some-annotation_of.preserve c.more_annotations.result
-    (some ∙ ap (λ to. w ∷ words_after text to) (sym c.end.ensures)) (search rules) (sym c.annotation_of.ensures ∙ c.in-Some-annotation_of.is) clear c.more_annotations.ensures.annotations
+pub returns-in-Some : goal.returns-in-Some
+returns-in-Some c =
+    let flag = c.in-Some.flag in
+    let token = c.in_ok-token.token in
+    let next = c.in_ok-token.ensures.next in
+    let known = sym c.annotation_flag.ensures ∙ c.in-Some.is in
+    let name = sym next.kind ∙ annotation-name token.word.bytes.now flag known in
+    let word = token-takes (IsAnnotation flag) c.args.text.now c.args.from c.args.depth c.end.result token in_annotations Name next c.end.ensures name (λ e. cc) (rw known refl) known in
+    parses-after (EndAnnotations flag) (λ flags. Then (HaveFlags flags) (One (IsA CloseParen))) _ c.args.text.now c.args.from c.end.result c.more_annotations.result (flags-cons 0 flag) word c.more_annotations.ensures

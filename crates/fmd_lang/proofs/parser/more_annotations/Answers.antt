@@ -1,50 +1,27 @@
-use Rattle.std.proofs.Common.{◌≡◌, ◌∙◌, ◌∷◌, ◌++◌, ◌||◌, [], sym, ap, refl, rules, arith, length, true, append_assoc}
-use Rattle.std.specs.List.{list_all, list_any}
-use Rattle.fmd_lang.specs.Words.{words_after, is_name}
-use Rattle.fmd_lang.specs.Lexing.{word_of}
-use Rattle.fmd_lang.specs.Faults.{fault_from, annotated}
-use Rattle.fmd_lang.specs.Grammar.{is_annotation, is_preserve}
-use Rattle.fmd_lang.proofs.AnnotationLemmas.{end-take, more-take, annotation-told, all-more, any-more}
+use Rattle.std.proofs.Common.{refl, sym, ◌∙◌, arith}
+use Rattle.fmd_lang.specs.Faults.{annotated}
+use Rattle.fmd_lang.specs.declared.word.Kind.TheVariants.{CloseParen, Name}
+use Rattle.fmd_lang.proofs.FormLemmas.{IsAnnotation, annotation-name, flags-snoc}
+use Rattle.fmd_lang.proofs.StepLemmas.{reads-as, reads-then, token-mark, token-refuses, token-takes}
 use Rattle.fmd_lang.proofs.parser.more_annotations.Goals as goal
 
-pub returns-then-is_mark-clause-annotations : goal.returns-then-is_mark-clause-annotations
-returns-then-is_mark-clause-annotations c =
-    let text = c.args.text.now in
-    let w = word_of c.in-Some.token.word in
-    let some = rw c.in-Some.is at c.in_ok-token.ensures.some in
-    let clear = rw c.in-Some.is at c.in_ok-token.ensures.clear in
-    let mark = sym c.is_mark.ensures ∙ c.if-is_mark.true in
-    let before = c.loop-token.invariant.2 in
-    let here : words_after text c.loop-token.at ≡ w ∷ words_after text c.end.result = some ∙ ap (λ to. w ∷ words_after text to) (sym c.end.ensures) in (
-      before.0 ++ w ∷ [],
-      before.1 ∙ ap (λ ws. before.0 ++ ws) here ∙ sym (append_assoc before.0 (w ∷ []) (words_after text c.end.result)),
-      (before.0, w, refl, search (rules, mark), before.2, before.3),
-      c.loop-token.invariant.3 ∙ ap (fault_from annotated c.args.depth (length text)) here ∙ end-take c.args.depth (length text) w (words_after text c.end.result) mark clear,
-    )
+pub returns-in-CloseParen : goal.returns-in-CloseParen
+returns-in-CloseParen c =
+    let word = token-mark c.args.text.now c.loop-token.at c.args.depth c.end.result c.in_ok-token.token annotated CloseParen c.in_ok-token.ensures.next c.end.ensures c.in-CloseParen.is (λ e. cc) refl in
+    (omega (arith, c.loop-token.invariant.0, word.ahead), reads-then c.loop-token.invariant.1 word.reads)
+
+pub returns-in-None : goal.returns-in-None
+returns-in-None c =
+    let known = sym c.annotation_flag.ensures ∙ c.in-None.is in
+    rw c.expected.ensures (c.loop-token.invariant.1.same ∙ token-refuses c.args.text.now c.loop-token.at c.args.depth c.in_ok-token.token annotated c.after_annotation.result c.in_ok-token.ensures.next
+    (rw known (c.after_annotation.ensures c.args.depth c.in_default.not-CloseParen)))
 
 pub loop-token-preserved : goal.loop-token-preserved
 loop-token-preserved c =
-    let text = c.args.text.now in
-    let w = word_of c.in-Some.token.word in
-    let some = rw c.in-Some.is at c.in_ok-token.ensures.some in
-    let clear = rw c.in-Some.is at c.in_ok-token.ensures.clear in
-    let ahead = rw c.in-Some.is at c.in_ok-token.ensures.ahead in
-    let inside = rw c.in-Some.is at c.in_ok-token.ensures.inside in
-    let facts = annotation-told w c.in-Some-annotation_of.is_preserve (sym c.annotation_of.ensures ∙ c.in-Some-annotation_of.is) in
-    let before = c.loop-token.invariant.2 in
-    let name : is_name w ≡ true = search rules in
-    let known : list_all is_annotation before.0 ≡ true = search (rules, before.2) in
-    let all = all-more before.0 w known facts.0 in
-    let joined : c.if-preserve.preserve ≡ (c.loop-token.preserve || c.in-Some-annotation_of.is_preserve) = search rules in
-    let here : words_after text c.loop-token.at ≡ w ∷ words_after text c.end-at.result = some ∙ ap (λ to. w ∷ words_after text to) (sym c.end-at.ensures) in (
-      omega (arith, c.loop-token.invariant.0, ahead, c.end-at.ensures),
-      omega (arith, inside, c.end-at.ensures),
-      (
-        before.0 ++ w ∷ [],
-        before.1 ∙ ap (λ ws. before.0 ++ ws) here ∙ sym (append_assoc before.0 (w ∷ []) (words_after text c.end-at.result)),
-        search (rules, all),
-        joined ∙ ap (λ v. v || c.in-Some-annotation_of.is_preserve) before.3 ∙ ap (λ v. (c.args.first || list_any is_preserve before.0) || v) (sym facts.1) ∙ any-more c.args.first before.0 w,
-      ),
-      c.loop-token.invariant.3 ∙ ap (fault_from annotated c.args.depth (length text)) here
-          ∙ more-take c.args.depth (length text) w (words_after text c.end-at.result) name facts.0 clear,
-    )
+    let flag = c.in-Some.flag in
+    let token = c.in_ok-token.token in
+    let next = c.in_ok-token.ensures.next in
+    let known = sym c.annotation_flag.ensures ∙ c.in-Some.is in
+    let name = sym next.kind ∙ annotation-name token.word.bytes.now flag known in
+    let word = token-takes (IsAnnotation flag) c.args.text.now c.loop-token.at c.args.depth c.end-at.result token annotated Name next c.end-at.ensures name (λ e. cc) (rw known refl) known in
+    (omega (arith, c.loop-token.invariant.0, word.ahead), reads-as (flags-snoc c.args.first c.loop-token.flags flag) (reads-then c.loop-token.invariant.1 word.reads))

@@ -9,7 +9,7 @@ returns-then-is_plain-clause-word c =
     let place = c.args.place in
     let bytes : slice_index text place ∷ spec.plain_after text (place + 1) ≡ slice_range text place c.plain_end.result =
     ap (λ row. slice_index text place ∷ row) c.plain_end.ensures.row
-    ∙ sym (range-first text place c.plain_end.result (omega (arith, c.plain_end.ensures.ahead)) c.plain_end.ensures.inside) in
+    ∙ sym (range-first text place c.plain_end.result (omega (arith, c.plain_end.ensures.inside.0)) c.plain_end.ensures.inside.1) in
     words_after-plain text place c.requires.inside (sym c.is_plain.ensures ∙ c.if-is_plain.true)
     ∙ ap (λ row. spec.word place row ∷ spec.words_inside text (place + 1)) bytes
     ∙ ap (λ rest. spec.word place (slice_range text place c.plain_end.result) ∷ rest) c.plain_end.ensures.same

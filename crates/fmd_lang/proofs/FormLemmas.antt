@@ -1,0 +1,77 @@
+-- Annotations and sections, one word or one section at a time.
+use Rattle.std.proofs.Common.{◌≡◌, ℕ, ◌<◌, Bool, cond, nat_lt, true, false, List, [], ◌∷◌, ◌++◌, length, map, codes, Option, Some, None, option_map, refl, sym, ◌∙◌, ap, subst, arith, append_assoc}
+use Rattle.std.proofs.lemmas.List.{append-nil}
+use Rattle.std.proofs.lemmas.Slice.Eq.{bytes_eq-Decides}
+use Rattle.std.proofs.lemmas.Bool.Decides.{nat_tests}
+use Rattle.fmd_lang.specs.Faults.{own_fault}
+use Rattle.fmd_lang.specs.declared.fault.FmdFault.{FmdFault}
+use Rattle.fmd_lang.specs.declared.fault.FmdFault.TheVariants as faults
+use Rattle.std.specs.Int.Bits.{bit_or}
+use Rattle.std.specs.Option.{option_and_then}
+use Rattle.std.specs.Str.{bytes_eq}
+use Rattle.fmd_lang.specs.Words.{Word, kind_of}
+use Rattle.fmd_lang.specs.Grammar.{One, Then, IsA, IsSection, AreSections, annotation_flag, flags_with}
+use Rattle.fmd_lang.specs.Tree.{Tree, forest_of, some}
+use Rattle.fmd_lang.specs.View.{view, views}
+use Rattle.fmd_lang.specs.declared.section.Section.{Section}
+use Rattle.fmd_lang.specs.declared.word.Kind.TheVariants.{Name, CloseParen}
+
+-- a word that is an annotation of this flag
+abbrev pub IsAnnotation : ℕ → Word → Type 0
+IsAnnotation flag w = annotation_flag w.bytes ≡ Some flag
+
+-- one more annotation in front
+pub flags-cons : (before flag flags : ℕ) (v : List Word) →
+    Then (One (IsAnnotation flag)) (Then (λ ws. flags_with (bit_or before flag) ws ≡ Some flags) (One (IsA CloseParen))) v →
+    Then (λ ws. (0 < length ws) × (flags_with before ws ≡ Some flags)) (One (IsA CloseParen)) v
+flags-cons before flag flags v (front, back, split, (w, one, is), (annotations, close, inner, all, end)) =
+    (w ∷ annotations, close, split ∙ ap (λ f. f ++ back) one ∙ ap (λ b. w ∷ b) inner, (omega arith, rw is all), end)
+
+flags-push : (ws : List Word) (before flags flag : ℕ) (w : Word) → flags_with before ws ≡ Some flags → IsAnnotation flag w → flags_with before (ws ++ w ∷ []) ≡ Some (bit_or flags flag)
+flags-push [] before flags flag w h is = rw is (ap (option_map (λ n. bit_or n flag)) h)
+flags-push (v ∷ ws) before flags flag w h is = go (annotation_flag v.bytes) (λ joined e. flags-push ws joined flags flag w e is) h
+  where
+    go : (o : Option ℕ) → ((joined : ℕ) → flags_with joined ws ≡ Some flags → flags_with joined (ws ++ w ∷ []) ≡ Some (bit_or flags flag)) →
+        option_and_then (λ f. flags_with (bit_or before f) ws) o ≡ Some flags → option_and_then (λ f. flags_with (bit_or before f) (ws ++ w ∷ [])) o ≡ Some (bit_or flags flag)
+    go None further e = cc
+    go (Some f) further e = further (bit_or before f) e
+
+-- one more annotation at the end
+pub flags-snoc : (before flags flag : ℕ) (v : List Word) → Then (λ ws. flags_with before ws ≡ Some flags) (One (IsAnnotation flag)) v → flags_with before v ≡ Some (bit_or flags flag)
+flags-snoc before flags flag v (front, back, split, all, (w, one, is)) = rw (split, one) (flags-push front before flags flag w all is)
+
+-- An annotation is a name.
+pub annotation-name : (bytes : List ℕ) (flag : ℕ) → annotation_flag bytes ≡ Some flag → kind_of bytes ≡ Name
+annotation-name bytes flag h =
+    go (bytes_eq bytes (codes "CBFS")) (bytes_eq bytes (codes "PRESERVE")) (bytes_eq-Decides bytes (codes "CBFS")).0 (bytes_eq-Decides bytes (codes "PRESERVE")).0 h
+  where
+    go : (c p : Bool) → (c ≡ true → bytes ≡ codes "CBFS") → (p ≡ true → bytes ≡ codes "PRESERVE") →
+        (let o : Option ℕ = cond c (Some 0) (cond p (Some 8) None) in o) ≡ Some flag → kind_of bytes ≡ Name
+    go true p cbfs preserve e = ap kind_of (cbfs refl)
+    go false true cbfs preserve e = ap kind_of (preserve refl)
+    go false false cbfs preserve e = cc
+
+-- a section from its first word on
+pub section-opens : (w : Word) (t : Tree) (v : List Word) → Then (One (λ x. x ≡ w)) (λ ws. IsSection t (w ∷ ws)) v → IsSection t v
+section-opens w t v (front, back, split, (x, one, same), is) = subst (IsSection t) (sym (split ∙ ap (λ f. f ++ back) one ∙ ap (λ y. y ∷ back) same)) is
+
+sections-push : (ts : List Tree) (t : Tree) (ws more : List Word) → AreSections (forest_of ts) ws → IsSection t more → AreSections (forest_of (ts ++ t ∷ [])) (ws ++ more)
+sections-push [] t ws more none one = (more, [], rw (none) (sym (append-nil more)), one, refl)
+sections-push (u ∷ ts) t ws more (first, rest, split, head, tail) one =
+    (first, rest ++ more, rw split (append_assoc first rest more), head, sections-push ts t rest more tail one)
+
+views-push : (parts : List Section) (part : Section) → views (parts ++ part ∷ []) ≡ forest_of (map view parts ++ view part ∷ [])
+views-push [] part = refl
+views-push (p ∷ parts) part = ap (λ ts. some (view p) ts) (views-push parts part)
+
+-- one more section at the end
+pub sections-snoc : (parts : List Section) (part : Section) (v : List Word) → Then (AreSections (views parts)) (IsSection (view part)) v → AreSections (views (parts ++ part ∷ [])) v
+sections-snoc parts part v (front, back, split, all, one) =
+    rw (views-push parts part, split) (sections-push (map view parts) (view part) front back all one)
+
+pub name-short : (depth : ℕ) (w : Word) → IsA Name w → own_fault depth w ≡ None → length w.bytes < 32
+name-short depth w is own = go (nat_lt (length w.bytes) 32) refl (rw is at own)
+  where
+    go : (b : Bool) → nat_lt (length w.bytes) 32 ≡ b → (let o : Option FmdFault = cond b None (Some (faults.NameTooLong w.place)) in o) ≡ None → length w.bytes < 32
+    go true e h = grind (arith, nat_tests)
+    go false e h = absurd cc

@@ -1,0 +1,11 @@
+-- Refusals that aren't there.
+use Rattle.std.proofs.Common.{◌≡◌, Option, Some, None, option_map, refl}
+use Rattle.std.specs.Option.{option_or}
+
+pub or-none : {A : Type 0} (a b : Option A) → option_or a b ≡ None → (a ≡ None) × (b ≡ None)
+or-none None b h = (refl, h)
+or-none (Some x) b h = cc
+
+pub map-none : {A B : Type 0} (f : A → B) (o : Option A) → option_map f o ≡ None → o ≡ None
+map-none f None h = refl
+map-none f (Some x) h = cc
