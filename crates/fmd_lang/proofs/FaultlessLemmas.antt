@@ -1,12 +1,13 @@
 -- Words without a fault are those of a tree.
 use Rattle.std.proofs.Common.{◌≡◌, ℕ, zero, suc, ◌<◌, ◌≤◌, nat_lt, Bool, true, false, cond, List, [], ◌∷◌, ◌++◌, length, Option, Some, None, refl, sym, ◌∙◌, ap, arith, inl, inr, length-append, append_assoc, subst, All}
 use Rattle.std.specs.Int.Bits.{bit_or}
+use Rattle.std.specs.Result.{result_err}
 use Rattle.fmd_lang.specs.Words.{Word, words, kind_of, without_comments}
-use Rattle.fmd_lang.specs.Numbers.{number_value}
+use Rattle.fmd_lang.specs.Numbers.{number_at, number_value}
 use Rattle.fmd_lang.specs.Tree.{Tree, section, Forest, none, some}
 use Rattle.fmd_lang.specs.Grammar.{Then, One, Else, Between, IsA, IsSection, AreSections, AreAnnotations, HaveFlags, flags_with, IsOffset, IsSize, HasValue, annotation_flag}
-use Rattle.fmd_lang.specs.Faults.{Stage, start, in_annotations, annotated, at_sign, past, own_fault, number_fault, expected_of, fault_from, first_fault, misplaced}
-use Rattle.fmd_lang.specs.Parsing.{Standing, stand, Reads, EndAnnotations}
+use Rattle.fmd_lang.specs.Faults.{Stage, start, in_annotations, annotated, at_sign, past, own_fault, expected_of, fault_from, first_fault, misplaced}
+use Rattle.fmd_lang.specs.Parsing.{Standing, Reads, EndAnnotations}
 use Rattle.fmd_lang.specs.declared.word.Kind.{Kind}
 use Rattle.fmd_lang.specs.declared.word.Kind.TheVariants.{Name, Number, OpenParen, CloseParen, At, OpenBrace, CloseBrace, End}
 use Rattle.fmd_lang.specs.declared.fault.FmdFault.TheVariants as faults
@@ -46,14 +47,14 @@ only_name depth Name flag h = refl
 only_name depth k flag h = cc
 
 -- A number without a fault has a value.
-has-value : (at : ℕ) (value : Option ℕ) → number_fault at value ≡ None → (n : ℕ) × (value ≡ Some n)
+has-value : (at : ℕ) (value : Option ℕ) → result_err (number_at at value) ≡ None → (n : ℕ) × (value ≡ Some n)
 has-value at None h = cc
 has-value at (Some n) h = (n, refl)
 
-reads-size : (depth end : ℕ) (ws : List Word) → fault_from (past 2) depth end ws ≡ None → Finds IsSize (stand (past 2) depth) (stand (past 3) depth) end ws
+reads-size : (depth end : ℕ) (ws : List Word) → fault_from (past 2) depth end ws ≡ None → Finds IsSize (past 2, depth) (past 3, depth) end ws
 reads-size depth end ws h = go (front_kind ws) ws refl h
   where
-    go : (k : Kind) (ws : List Word) → front_kind ws ≡ k → fault_from (past 2) depth end ws ≡ None → Finds IsSize (stand (past 2) depth) (stand (past 3) depth) end ws
+    go : (k : Kind) (ws : List Word) → front_kind ws ≡ k → fault_from (past 2) depth end ws ≡ None → Finds IsSize (past 2, depth) (past 3, depth) end ws
     go Number [] is h = cc
     go Number (w ∷ ws) is h =
         let own = (clear (past 2) depth end w ws h).0 in
@@ -62,7 +63,7 @@ reads-size depth end ws h = go (front_kind ws) ws refl h
     go k ws is h = record { value = None; behind = ws; reads = reads-none (IsSize None) _ _ end ws refl (pass 2 3 depth end ws (rw is refl)) }
 
 -- the number after an `@`
-reads-number : (depth end : ℕ) (ws : List Word) → fault_from at_sign depth end ws ≡ None → Finds (λ n. One (HasValue n)) (stand at_sign depth) (stand (past 2) depth) end ws
+reads-number : (depth end : ℕ) (ws : List Word) → fault_from at_sign depth end ws ≡ None → Finds (λ n. One (HasValue n)) (at_sign, depth) (past 2, depth) end ws
 reads-number depth end [] h = cc
 reads-number depth end (w ∷ ws) h =
     let (own, stands) = clear at_sign depth end w ws h in
@@ -70,10 +71,10 @@ reads-number depth end (w ∷ ws) h =
     let (n, value) = has-value w.place (number_value w.bytes) (rw is at own) in
     record { value = n; behind = ws; reads = reads-word (HasValue n) at_sign depth end w ws Number is own refl (is, value) }
 
-reads-offset : (depth end : ℕ) (ws : List Word) → fault_from (past 1) depth end ws ≡ None → Finds IsOffset (stand (past 1) depth) (stand (past 2) depth) end ws
+reads-offset : (depth end : ℕ) (ws : List Word) → fault_from (past 1) depth end ws ≡ None → Finds IsOffset (past 1, depth) (past 2, depth) end ws
 reads-offset depth end ws h = go (front_kind ws) ws refl h
   where
-    go : (k : Kind) (ws : List Word) → front_kind ws ≡ k → fault_from (past 1) depth end ws ≡ None → Finds IsOffset (stand (past 1) depth) (stand (past 2) depth) end ws
+    go : (k : Kind) (ws : List Word) → front_kind ws ≡ k → fault_from (past 1) depth end ws ≡ None → Finds IsOffset (past 1, depth) (past 2, depth) end ws
     go At [] is h = cc
     go At (w ∷ ws) is h =
         let word = reads-word (IsA At) (past 1) depth end w ws At is (clear (past 1) depth end w ws h).0 refl is in
@@ -82,16 +83,16 @@ reads-offset depth end ws h = go (front_kind ws) ws refl h
     go k ws is h = record { value = None; behind = ws; reads = reads-none (IsOffset None) _ _ end ws refl (pass 1 2 depth end ws (rw is refl)) }
 
 -- annotations after others, and the `)` after them
-reads-more : (flags depth end : ℕ) (ws : List Word) → fault_from annotated depth end ws ≡ None → Finds (EndAnnotations flags) (stand annotated depth) (stand (past 1) depth) end ws
+reads-more : (flags depth end : ℕ) (ws : List Word) → fault_from annotated depth end ws ≡ None → Finds (EndAnnotations flags) (annotated, depth) (past 1, depth) end ws
 reads-more flags depth end [] h = cc
 reads-more flags depth end (w ∷ ws) h = go (annotation_flag w.bytes) refl (λ joined e. reads-more joined depth end ws e)
   where
-    go : (o : Option ℕ) → annotation_flag w.bytes ≡ o → ((joined : ℕ) → fault_from annotated depth end ws ≡ None → Finds (EndAnnotations joined) (stand annotated depth) (stand (past 1) depth) end ws) →
-        Finds (EndAnnotations flags) (stand annotated depth) (stand (past 1) depth) end (w ∷ ws)
+    go : (o : Option ℕ) → annotation_flag w.bytes ≡ o → ((joined : ℕ) → fault_from annotated depth end ws ≡ None → Finds (EndAnnotations joined) (annotated, depth) (past 1, depth) end ws) →
+        Finds (EndAnnotations flags) (annotated, depth) (past 1, depth) end (w ∷ ws)
     go None unknown further =
         let (own, stands) = clear annotated depth end w ws h in
         let close = only_close depth (kind_of w.bytes) (rw unknown at stands) in
-        let nothing = reads-none (λ vs. flags_with flags vs ≡ Some flags) (stand annotated depth) (stand annotated depth) end (w ∷ ws) refl refl in
+        let nothing = reads-none (λ vs. flags_with flags vs ≡ Some flags) (annotated, depth) (annotated, depth) end (w ∷ ws) refl refl in
         record { value = flags; behind = ws; reads = reads-then nothing (reads-word (IsA CloseParen) annotated depth end w ws CloseParen close own refl close) }
     go (Some flag) known further =
         let word = reads-word (IsAnnotation flag) annotated depth end w ws Name (annotation-name w.bytes flag known) (clear annotated depth end w ws h).0 (rw known refl) known in
@@ -104,21 +105,21 @@ reads-more flags depth end (w ∷ ws) h = go (annotation_flag w.bytes) refl (λ 
 
 -- one annotation, and others
 reads-first : (depth end : ℕ) (ws : List Word) → fault_from in_annotations depth end ws ≡ None →
-    Finds (λ flags. Then (HaveFlags flags) (One (IsA CloseParen))) (stand in_annotations depth) (stand (past 1) depth) end ws
+    Finds (λ flags. Then (HaveFlags flags) (One (IsA CloseParen))) (in_annotations, depth) (past 1, depth) end ws
 reads-first depth end [] h = cc
 reads-first depth end (w ∷ ws) h = go (annotation_flag w.bytes) refl
   where
-    go : (o : Option ℕ) → annotation_flag w.bytes ≡ o → Finds (λ flags. Then (HaveFlags flags) (One (IsA CloseParen))) (stand in_annotations depth) (stand (past 1) depth) end (w ∷ ws)
+    go : (o : Option ℕ) → annotation_flag w.bytes ≡ o → Finds (λ flags. Then (HaveFlags flags) (One (IsA CloseParen))) (in_annotations, depth) (past 1, depth) end (w ∷ ws)
     go None unknown = let wrong = rw unknown at (clear in_annotations depth end w ws h).1 in cc
     go (Some flag) known =
         let word = reads-word (IsAnnotation flag) in_annotations depth end w ws Name (annotation-name w.bytes flag known) (clear in_annotations depth end w ws h).0 (rw known refl) known in
         let more = reads-more flag depth end ws (sym word.same ∙ h) in
         record { value = more.value; behind = more.behind; reads = reads-as (flags-cons 0 flag more.value) (reads-then word more.reads) }
 
-reads-annotations : (depth end : ℕ) (ws : List Word) → fault_from (past 0) depth end ws ≡ None → Finds AreAnnotations (stand (past 0) depth) (stand (past 1) depth) end ws
+reads-annotations : (depth end : ℕ) (ws : List Word) → fault_from (past 0) depth end ws ≡ None → Finds AreAnnotations (past 0, depth) (past 1, depth) end ws
 reads-annotations depth end ws h = go (front_kind ws) ws refl h
   where
-    go : (k : Kind) (ws : List Word) → front_kind ws ≡ k → fault_from (past 0) depth end ws ≡ None → Finds AreAnnotations (stand (past 0) depth) (stand (past 1) depth) end ws
+    go : (k : Kind) (ws : List Word) → front_kind ws ≡ k → fault_from (past 0) depth end ws ≡ None → Finds AreAnnotations (past 0, depth) (past 1, depth) end ws
     go OpenParen [] is h = cc
     go OpenParen (w ∷ ws) is h =
         let word = reads-word (IsA OpenParen) (past 0) depth end w ws OpenParen is (clear (past 0) depth end w ws h).0 refl is in
@@ -131,15 +132,15 @@ abbrev Closed : Forest → List Word → Type 0
 Closed parts = Then (AreSections parts) (One (IsA CloseBrace))
 
 abbrev Further : ℕ → ℕ → ℕ → Type 0
-Further fuel depth end = (ws : List Word) → length ws < fuel → fault_from (past 4) (suc depth) end ws ≡ None → Finds Closed (stand (past 4) (suc depth)) (stand (past 4) depth) end ws
+Further fuel depth end = (ws : List Word) → length ws < fuel → fault_from (past 4) (suc depth) end ws ≡ None → Finds Closed (past 4, suc depth) (past 4, depth) end ws
 
 abbrev Body : Forest → List Word → Type 0
 Body parts = Else (parts ≡ none) (Between OpenBrace CloseBrace (AreSections parts))
 
-reads-body : (fuel depth end : ℕ) (ws : List Word) → Further fuel depth end → length ws ≤ fuel → fault_from (past 3) depth end ws ≡ None → Finds Body (stand (past 3) depth) (stand (past 4) depth) end ws
+reads-body : (fuel depth end : ℕ) (ws : List Word) → Further fuel depth end → length ws ≤ fuel → fault_from (past 3) depth end ws ≡ None → Finds Body (past 3, depth) (past 4, depth) end ws
 reads-body fuel depth end ws further few h = go (front_kind ws) ws refl few h
   where
-    go : (k : Kind) (ws : List Word) → front_kind ws ≡ k → length ws ≤ fuel → fault_from (past 3) depth end ws ≡ None → Finds Body (stand (past 3) depth) (stand (past 4) depth) end ws
+    go : (k : Kind) (ws : List Word) → front_kind ws ≡ k → length ws ≤ fuel → fault_from (past 3) depth end ws ≡ None → Finds Body (past 3, depth) (past 4, depth) end ws
     go OpenBrace [] is few h = cc
     go OpenBrace (w ∷ ws) is few h =
         let word = reads-word (IsA OpenBrace) (past 3) depth end w ws OpenBrace is (clear (past 3) depth end w ws h).0 refl is in
@@ -153,7 +154,7 @@ shorter {ws = ws} {behind = behind} p = omega (arith, ap length p.split, length-
 
 -- a section after its name
 reads-section : (fuel depth end : ℕ) (w : Word) (ws : List Word) → IsA Name w → own_fault depth w ≡ None → Further fuel depth end → length ws ≤ fuel → fault_from (past 0) depth end ws ≡ None →
-    Finds (λ t vs. IsSection t (w ∷ vs)) (stand (past 0) depth) (stand (past 4) depth) end ws
+    Finds (λ t vs. IsSection t (w ∷ vs)) (past 0, depth) (past 4, depth) end ws
 reads-section fuel depth end w ws is own further few h =
     let annotations = reads-annotations depth end ws h in
     let offset = reads-offset depth end annotations.behind (sym annotations.reads.same ∙ h) in
@@ -172,7 +173,7 @@ one-more t ts v (front, rest, split, one, (inside, close, inner, all, end)) =
     (front ++ inside, close, split ∙ ap (λ u. front ++ u) inner ∙ sym (append_assoc front inside close), (front, inside, refl, one, all), end)
 
 -- words inside braces, fewer than so many
-reads-closed : (fuel depth end : ℕ) (ws : List Word) → length ws < fuel → fault_from (past 4) (suc depth) end ws ≡ None → Finds Closed (stand (past 4) (suc depth)) (stand (past 4) depth) end ws
+reads-closed : (fuel depth end : ℕ) (ws : List Word) → length ws < fuel → fault_from (past 4) (suc depth) end ws ≡ None → Finds Closed (past 4, suc depth) (past 4, depth) end ws
 reads-closed zero depth end ws few h = absurd (omega arith)
 reads-closed (suc fuel) depth end [] few h = cc
 reads-closed (suc fuel) depth end (w ∷ ws) few h = go (kind_of w.bytes) refl (clear (past 4) (suc depth) end w ws h).1 (λ d vs fewer g. reads-closed fuel d end vs fewer g)
@@ -181,9 +182,9 @@ reads-closed (suc fuel) depth end (w ∷ ws) few h = go (kind_of w.bytes) refl (
     own = (clear (past 4) (suc depth) end w ws h).0
 
     go : (k : Kind) → kind_of w.bytes ≡ k → expected_of (past 4) (suc depth) k (annotation_flag w.bytes) ≡ None → ((d : ℕ) → Further fuel d end) →
-        Finds Closed (stand (past 4) (suc depth)) (stand (past 4) depth) end (w ∷ ws)
+        Finds Closed (past 4, suc depth) (past 4, depth) end (w ∷ ws)
     go CloseBrace is stands further =
-        let nothing = reads-none (AreSections none) (stand (past 4) (suc depth)) (stand (past 4) (suc depth)) end (w ∷ ws) refl refl in
+        let nothing = reads-none (AreSections none) (past 4, suc depth) (past 4, suc depth) end (w ∷ ws) refl refl in
         record { value = none; behind = ws; reads = reads-then nothing (reads-word (IsA CloseBrace) (past 4) (suc depth) end w ws CloseBrace is own refl is) }
     go Name is stands further =
         let word = reads-word (λ x. x ≡ w) (past 4) (suc depth) end w ws Name is own refl refl in

@@ -1,6 +1,8 @@
 -- The numbers and the areas of the table of a text without a fault fit into its bytes.
 use Rattle.std.proofs.Common.{◌≡◌, ℕ, suc, ◌+◌, ◌^◌, ◌<◌, Bool, true, false, cond, not, All, List, [], ◌∷◌, ◌++◌, length, drop, Option, Some, None, refl, sym, ◌∙◌, ap, subst, arith, length-append}
-use Rattle.std.specs.Prelude.{nat_lt, option_map, unwrap_or}
+use Rattle.std.specs.Prelude.{Result, Ok, Err, nat_lt, option_map, unwrap_or}
+use Rattle.std.specs.Result.{result_err}
+use Rattle.fmd_lang.specs.Numbers.{number_at}
 use Rattle.std.specs.List.{list_any}
 use Rattle.std.proofs.lemmas.Bool.Decides.{nat_tests}
 use Rattle.std.proofs.lemmas.List.Elements.{All-nil, All-cons, All-head, All-tail}
@@ -8,7 +10,7 @@ use Rattle.flash_format.specs.declared.flashmap.Area.{Area}
 use Rattle.fmd_lang.specs.Words.{Word, kind_of, words}
 use Rattle.fmd_lang.specs.Tree.{Tree, section, Forest, none, some, names, names_of, parts_of}
 use Rattle.fmd_lang.specs.Grammar.{HasValue, IsOffset, IsSection, IsSize}
-use Rattle.fmd_lang.specs.Faults.{first_fault, next_depth, number_fault, own_fault, text_limit}
+use Rattle.fmd_lang.specs.Faults.{first_fault, next_depth, own_fault, text_limit}
 use Rattle.fmd_lang.specs.WordFaults.{first_own_fault}
 use Rattle.fmd_lang.specs.LayoutFaults.{areas_fault, flag, is_fmap, layout_fault, names_fault, places_fault}
 use Rattle.fmd_lang.specs.Names.{duplicate}
@@ -25,9 +27,9 @@ abbrev pub Fits : Word → Type 0
 Fits w = (n : ℕ) → HasValue n w → n < 2 ^ 32
 
 number_fits : (depth : ℕ) (w : Word) → own_fault depth w ≡ None → Fits w
-number_fits depth w fine n (is, value) = go (nat_lt n (2 ^ 32)) refl (ap (number_fault w.place) (sym value) ∙ rw is at fine)
+number_fits depth w fine n (is, value) = go (nat_lt n (2 ^ 32)) refl (ap (λ o. result_err (number_at w.place o)) (sym value) ∙ rw is at fine)
   where
-    go : (b : Bool) → nat_lt n (2 ^ 32) ≡ b → (let o : Option FmdFault = cond b None (Some (faults.NumberTooLarge w.place)) in o) ≡ None → n < 2 ^ 32
+    go : (b : Bool) → nat_lt n (2 ^ 32) ≡ b → result_err (cond b (Ok n) (Err (faults.NumberTooLarge w.place))) ≡ None → n < 2 ^ 32
     go true e f = grind (arith, nat_tests)
     go false e f = absurd cc
 

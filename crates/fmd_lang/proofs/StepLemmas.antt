@@ -5,7 +5,7 @@ use Rattle.fmd_lang.specs.Words.{Word, words_after, kind_of}
 use Rattle.fmd_lang.specs.Grammar.{One, Then, IsA, HasValue, annotation_flag}
 use Rattle.fmd_lang.specs.Faults.{Stage, past, own_fault, expected_of, misplaced, goes_on, next_stage, next_depth, fault_from}
 use Rattle.fmd_lang.specs.Lexing.{word_of, end_of}
-use Rattle.fmd_lang.specs.Parsing.{Standing, stand, Reads, Parses, ParsesInMemory, IsNext, fault_at}
+use Rattle.fmd_lang.specs.Parsing.{Standing, Reads, Parses, ParsesInMemory, IsNext, fault_at}
 use Rattle.fmd_lang.specs.declared.parser.Token.{Token}
 use Rattle.fmd_lang.specs.declared.word.Kind.{Kind}
 use Rattle.fmd_lang.specs.declared.word.Kind.TheVariants.{End, Number}
@@ -17,12 +17,12 @@ use Rattle.fmd_lang.specs.declared.fault.Expected.{Expected}
 
 -- a word in its place
 pub reads-word : (F : Word → Type 0) (s : Stage) (depth end : ℕ) (w : Word) (ws : List Word) (k : Kind) → IsA k w → own_fault depth w ≡ None →
-    expected_of s depth k (annotation_flag w.bytes) ≡ None → F w → Reads (One F) (stand s depth) (stand (next_stage s k) (next_depth k depth)) end (w ∷ ws) ws
+    expected_of s depth k (annotation_flag w.bytes) ≡ None → F w → Reads (One F) (s, depth) (next_stage s k, next_depth k depth) end (w ∷ ws) ws
 reads-word F s depth end w ws k is own stands form = record { front = w ∷ []; split = refl; form = (w, refl, form); same = rw (own, is, stands) refl }
 
 -- no word
 pub reads-none : (P : List Word → Type 0) (before after : Standing) (end : ℕ) (ws : List Word) → P [] →
-    fault_from before.stage before.depth end ws ≡ fault_from after.stage after.depth end ws → Reads P before after end ws ws
+    fault_from before.0 before.1 end ws ≡ fault_from after.0 after.1 end ws → Reads P before after end ws ws
 reads-none P before after end ws form same = record { front = []; split = refl; form = form; same = same }
 
 -- words of one form, and then words of another
@@ -63,7 +63,7 @@ pub record Takes (F : Word → Type 0) (before after : Standing) (text : List �
 
 pub token-takes : (F : Word → Type 0) (text : List ℕ) (from depth to : ℕ) (token : Token) (s : Stage) (k : Kind) → IsNext text from depth token → to ≡ end_of token.word →
     token.kind ≡ k → k ≢ End → expected_of s depth k (annotation_flag token.word.bytes.now) ≡ None → F (word_of token.word) →
-    Takes F (stand s depth) (stand (next_stage s k) (next_depth k depth)) text from to
+    Takes F (s, depth) (next_stage s k, next_depth k depth) text from to
 token-takes F text from depth to token s k next end kind some stands form =
     let w = word_of token.word in
     let is : IsA k w = next.kind ∙ kind in
@@ -77,18 +77,18 @@ token-takes F text from depth to token s k next end kind some stands form =
     ]
 
 pub token-mark : (text : List ℕ) (from depth to : ℕ) (token : Token) (s : Stage) (k : Kind) → IsNext text from depth token → to ≡ end_of token.word →
-    token.kind ≡ k → k ≢ End → expected_of s depth k (annotation_flag token.word.bytes.now) ≡ None → Takes (IsA k) (stand s depth) (stand (next_stage s k) (next_depth k depth)) text from to
+    token.kind ≡ k → k ≢ End → expected_of s depth k (annotation_flag token.word.bytes.now) ≡ None → Takes (IsA k) (s, depth) (next_stage s k, next_depth k depth) text from to
 token-mark text from depth to token s k next end kind some stands = token-takes (IsA k) text from depth to token s k next end kind some stands (next.kind ∙ kind)
 
 pub token-number : (text : List ℕ) (from depth to : ℕ) (token : Token) (s : Stage) (n : ℕ) → IsNext text from depth token → to ≡ end_of token.word →
-    token.value ≡ Some n → expected_of s depth Number (annotation_flag token.word.bytes.now) ≡ None → Takes (HasValue n) (stand s depth) (stand (next_stage s Number) depth) text from to
+    token.value ≡ Some n → expected_of s depth Number (annotation_flag token.word.bytes.now) ≡ None → Takes (HasValue n) (s, depth) (next_stage s Number, depth) text from to
 token-number text from depth to token s n next end number stands =
     let value : HasValue n (word_of token.word) = rw number at next.value in
     token-takes (HasValue n) text from depth to token s Number next end (sym next.kind ∙ value.0) (λ e. cc) stands value
 
 -- a token in a wrong place
 pub token-refuses : (text : List ℕ) (from depth : ℕ) (token : Token) (s : Stage) (what : Expected) → IsNext text from depth token →
-    expected_of s depth token.kind (annotation_flag token.word.bytes.now) ≡ Some what → fault_at (stand s depth) text from ≡ Some (faults.Expected token.word.place what)
+    expected_of s depth token.kind (annotation_flag token.word.bytes.now) ≡ Some what → fault_at (s, depth) text from ≡ Some (faults.Expected token.word.place what)
 token-refuses text from depth token s what next wanted =
     let w = word_of token.word in
     let here : misplaced s depth w ≡ Some (faults.Expected w.place what) = rw (next.kind, wanted) refl in
@@ -115,10 +115,10 @@ token-over text from depth token next end = elim next.first [
 
 -- no part of a section here
 pub token-passes : (P : List Word → Type 0) (text : List ℕ) (from depth n m : ℕ) (token : Token) → IsNext text from depth token → goes_on n token.kind ≡ goes_on m token.kind → P [] →
-    Reads P (stand (past n) depth) (stand (past m) depth) (length text) (words_after text from) (words_after text from)
+    Reads P (past n, depth) (past m, depth) (length text) (words_after text from) (words_after text from)
 token-passes P text from depth n m token next same form =
     let kind = token-kind text from depth token next in
-    reads-none P (stand (past n) depth) (stand (past m) depth) (length text) (words_after text from) form
+    reads-none P (past n, depth) (past m, depth) (length text) (words_after text from) form
     (pass n m depth (length text) (words_after text from) (ap (goes_on n) kind ∙ same ∙ ap (goes_on m) (sym kind)))
 
 -- a word before what a part of the parser takes

@@ -1,9 +1,10 @@
 -- The refusal of a descriptor's text: that it is too long, or else the one at the lowest place, where that of the
 -- word by itself comes before that of a word in a wrong place. The order, the texts and the limits are this project's own.
-use Rattle.std.specs.Prelude.{ℕ, suc, zero, ◌^◌, nat_lt, Bool, false, if◌then◌else◌, List, [], ◌∷◌, length, Option, Some, None, option_map}
+use Rattle.std.specs.Prelude.{ℕ, suc, zero, nat_lt, Bool, false, if◌then◌else◌, List, [], ◌∷◌, length, Option, Some, None, option_map}
 use Rattle.std.specs.Option.{option_or}
+use Rattle.std.specs.Result.{result_err}
 use Rattle.fmd_lang.specs.Words.{Word, word, words, kind_of}
-use Rattle.fmd_lang.specs.Numbers.{number_value}
+use Rattle.fmd_lang.specs.Numbers.{number_at, number_value}
 use Rattle.fmd_lang.specs.Grammar.{annotation_flag}
 use Rattle.fmd_lang.specs.declared.word.Kind.{Kind}
 use Rattle.fmd_lang.specs.declared.word.Kind.TheVariants.{Name, Number, OpenParen, CloseParen, At, OpenBrace, CloseBrace, Bad, End}
@@ -47,11 +48,6 @@ next_depth OpenBrace depth = suc depth
 next_depth CloseBrace (suc depth) = depth
 next_depth k depth = depth
 
--- the refusal of a number at a place, by what it stands for
-abbrev pub number_fault : ℕ → Option ℕ → Option FmdFault
-number_fault at None = Some (faults.BadNumber at)
-number_fault at (Some n) = if nat_lt n (2 ^ 32) then None else Some (faults.NumberTooLarge at)
-
 -- how many `{` may be open
 abbrev pub depth_limit : ℕ
 depth_limit = 32
@@ -59,7 +55,7 @@ depth_limit = 32
 -- the refusal of a word by itself, while so many `{` are open
 abbrev pub own_fault_of : Kind → ℕ → Word → Option FmdFault
 own_fault_of Bad depth w = Some (faults.BadByte w.place)
-own_fault_of Number depth w = number_fault w.place (number_value w.bytes)
+own_fault_of Number depth w = result_err (number_at w.place (number_value w.bytes))
 own_fault_of Name depth w = if nat_lt (length w.bytes) 32 then None else Some (faults.NameTooLong w.place)
 own_fault_of OpenBrace depth w = if nat_lt depth depth_limit then None else Some faults.TooDeep
 own_fault_of k depth w = None

@@ -9,7 +9,6 @@ pub mod Table
 pub mod Bytes
 pub mod Lexing
 pub mod Parsing
-pub mod Reading
 pub mod Row
 pub mod Names
 pub mod WordFaults

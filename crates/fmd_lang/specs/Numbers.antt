@@ -1,6 +1,8 @@
 -- What a number of the text stands for (the suffixes of coreboot's Documentation/lib/flashmap.md; the rest is own).
-use Rattle.std.specs.Prelude.{ℕ, ◌-◌, ◌*◌, nat_eq, if◌then◌else◌, List, [], ◌∷◌, length, take, slice_index, Option, Some, None, option_map}
+use Rattle.std.specs.Prelude.{ℕ, ◌-◌, ◌*◌, ◌^◌, nat_eq, nat_lt, if◌then◌else◌, List, [], ◌∷◌, length, take, slice_index, Option, Some, None, Result, Ok, Err, option_map}
 use Rattle.flash_format.specs.Numbers.{digits_value}
+use Rattle.fmd_lang.specs.declared.fault.FmdFault.{FmdFault}
+use Rattle.fmd_lang.specs.declared.fault.FmdFault.TheVariants as faults
 
 -- what may stand after a `0`: nothing, or `x` and at least one hexadecimal digit
 abbrev pub value_after_zero : List ℕ → Option ℕ
@@ -26,3 +28,8 @@ front_of bytes = if nat_eq (unit_value (last_byte bytes)) 1 then bytes else take
 -- The value of a number, or None where the bytes are none: a plain one, then at most one unit.
 unfoldable pub number_value : List ℕ → Option ℕ
 number_value bytes = option_map (λ n. n * unit_value (last_byte bytes)) (plain_value (front_of bytes))
+
+-- the value of a number at a place, where 32 bits hold it; or its refusal
+abbrev pub number_at : ℕ → Option ℕ → Result ℕ FmdFault
+number_at at None = Err (faults.BadNumber at)
+number_at at (Some n) = if nat_lt n (2 ^ 32) then Ok n else Err (faults.NumberTooLarge at)

@@ -13,16 +13,12 @@ use Rattle.fmd_lang.specs.declared.fault.FmdFault.{FmdFault}
 use Rattle.fmd_lang.specs.declared.fault.FmdFault.TheVariants as faults
 
 -- where a text stands: the stage by the words before, and how many `{` are open
-pub record Standing : Type 0 where
-  pub stage : Stage
-  pub depth : ℕ
-
-abbrev pub stand : Stage → ℕ → Standing
-stand stage depth = record { stage = stage; depth = depth }
+abbrev pub Standing : Type 0
+Standing = Stage × ℕ
 
 -- the first refusal of a text from a place on, where it stands there so
 abbrev pub fault_at : Standing → List ℕ → ℕ → Option FmdFault
-fault_at there text at = fault_from there.stage there.depth (length text) (words_after text at)
+fault_at there text at = fault_from there.0 there.1 (length text) (words_after text at)
 
 -- The words in front are of this form, and those behind them have the first refusal of all. The text stands so before
 -- the words in front, and so after them.
@@ -30,7 +26,7 @@ pub record Reads (P : List Word → Type 0) (before after : Standing) (end : ℕ
   pub front : List Word
   pub split : ws ≡ front ++ behind
   pub form : P front
-  pub same : fault_from before.stage before.depth end ws ≡ fault_from after.stage after.depth end behind
+  pub same : fault_from before.0 before.1 end ws ≡ fault_from after.0 after.1 end behind
 
 -- It took the words up to a place, which are of the form P of its value, and left the text's first refusal as it was;
 -- or it met that refusal.

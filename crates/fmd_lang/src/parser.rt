@@ -5,13 +5,13 @@ ghost use Rattle.fmd_lang.specs.Words.{words, words_after, kind_of};
 ghost use Rattle.fmd_lang.specs.Lexing.{word_of, end_of};
 ghost use Rattle.fmd_lang.specs.Faults.{Stage, depth_limit, own_fault, start, past, at_sign, in_annotations, annotated, expected_of, first_fault};
 ghost use Rattle.fmd_lang.specs.Grammar.{One, HasValue, HaveFlags, IsA, IsOffset, IsSize, AreAnnotations, IsSection, Then};
-ghost use Rattle.fmd_lang.specs.Parsing.{Parses, ParsesInMemory, fault_at, stand, IsNext, IsBody, AreClosed, EndAnnotations};
+ghost use Rattle.fmd_lang.specs.Parsing.{Parses, ParsesInMemory, fault_at, IsNext, IsBody, AreClosed, EndAnnotations};
 ghost use Rattle.fmd_lang.specs.View.{view};
 ghost use Rattle.fmd_lang.specs.Grammar as grammar;
 ghost use Rattle.fmd_lang.specs.declared.word.Kind.TheVariants.{CloseParen, Name, Number};
 
 use crate::fault::{Expected, FmdFault};
-use crate::number::{NumberFault, read_number};
+use crate::number::read_number;
 use crate::section::Section;
 use crate::word::{Kind, Word, next_word};
 use std::alloc::Global;
@@ -50,8 +50,8 @@ pub fn parse(alloc: Global, text: &[u8]) -> Result<Section, FmdFault>
 /// The tree of a text, whatever its length.
 fn tree(alloc: Global, text: &[u8]) -> Result<Section, FmdFault>
     ensures tree { IfOk result (λ t. IsSection (view t) (words_after text.now 0)) }
-    ensures faultless { IfOk result (λ t. fault_at (stand start 0) text.now 0 ≡ None) }
-    ensures refused { IfErr result (λ fault. (fault ≡ FmdFault.Memory) ⊎ (fault_at (stand start 0) text.now 0 ≡ Some fault)) }
+    ensures faultless { IfOk result (λ t. fault_at (start, 0) text.now 0 ≡ None) }
+    ensures refused { IfErr result (λ fault. (fault ≡ FmdFault.Memory) ⊎ (fault_at (start, 0) text.now 0 ≡ Some fault)) }
 {
     let (tree, to) = root(alloc, text)?;
     let token = peek(text, to, 0)?;
@@ -63,7 +63,7 @@ fn tree(alloc: Global, text: &[u8]) -> Result<Section, FmdFault>
 
 /// The root, at the text's start, and the place after it.
 fn root(alloc: Global, text: &[u8]) -> Result<(Section, usize), FmdFault>
-    ensures { ParsesInMemory (λ t ws. IsSection (view t) ws) (stand start 0) (stand (past 4) 0) text.now 0 result }
+    ensures { ParsesInMemory (λ t ws. IsSection (view t) ws) (start, 0) (past 4, 0) text.now 0 result }
 {
     let token = peek(text, 0, 0)?;
     match token.kind {
@@ -84,7 +84,7 @@ fn section(
     requires name { IsA Name (word_of name.now) }
     requires clear { own_fault depth (word_of name.now) ≡ None }
     requires depth { depth ≤ depth_limit }
-    ensures { ParsesInMemory (λ t ws. IsSection (view t) (word_of name.now ∷ ws)) (stand (past 0) depth) (stand (past 4) depth) text.now (end_of name.now) result }
+    ensures { ParsesInMemory (λ t ws. IsSection (view t) (word_of name.now ∷ ws)) (past 0, depth) (past 4, depth) text.now (end_of name.now) result }
 {
     let (flags, at) = annotations(text, name.end(), depth)?;
     let (offset, at) = offset(text, at, depth)?;
@@ -109,7 +109,7 @@ fn body(
     depth: u32,
 ) -> Result<(Vec<Section>, usize), FmdFault>
     requires depth { depth ≤ depth_limit }
-    ensures { ParsesInMemory (λ v. IsBody v.items) (stand (past 3) depth) (stand (past 4) depth) text.now from result }
+    ensures { ParsesInMemory (λ v. IsBody v.items) (past 3, depth) (past 4, depth) text.now from result }
 {
     let token = peek(text, from, depth)?;
     match token.kind {
@@ -127,7 +127,7 @@ fn sections(
     depth: u32,
 ) -> Result<(Vec<Section>, usize), FmdFault>
     requires depth { depth < depth_limit }
-    ensures { ParsesInMemory (λ v. AreClosed v.items) (stand (past 4) (suc depth)) (stand (past 4) depth) text.now from result }
+    ensures { ParsesInMemory (λ v. AreClosed v.items) (past 4, suc depth) (past 4, depth) text.now from result }
 {
     let mut parts = Vec::new(alloc);
     let mut at = from;
@@ -149,7 +149,7 @@ fn sections(
 
 /// A section's annotations.
 fn annotations(text: &[u8], from: usize, depth: u32) -> Result<(u16, usize), FmdFault>
-    ensures { Parses AreAnnotations (stand (past 0) depth) (stand (past 1) depth) text.now from result }
+    ensures { Parses AreAnnotations (past 0, depth) (past 1, depth) text.now from result }
 {
     let token = peek(text, from, depth)?;
     match token.kind {
@@ -160,7 +160,7 @@ fn annotations(text: &[u8], from: usize, depth: u32) -> Result<(u16, usize), Fmd
 
 /// One annotation, which has to stand here, and more.
 fn first_annotation(text: &[u8], from: usize, depth: u32) -> Result<(u16, usize), FmdFault>
-    ensures { Parses (λ flags. Then (HaveFlags flags) (One (IsA CloseParen))) (stand in_annotations depth) (stand (past 1) depth) text.now from result }
+    ensures { Parses (λ flags. Then (HaveFlags flags) (One (IsA CloseParen))) (in_annotations, depth) (past 1, depth) text.now from result }
 {
     let token = peek(text, from, depth)?;
     match annotation_flag(token.word.bytes) {
@@ -176,7 +176,7 @@ fn more_annotations(
     depth: u32,
     first: u16,
 ) -> Result<(u16, usize), FmdFault>
-    ensures { Parses (EndAnnotations first) (stand annotated depth) (stand (past 1) depth) text.now from result }
+    ensures { Parses (EndAnnotations first) (annotated, depth) (past 1, depth) text.now from result }
 {
     let mut flags = first;
     let mut at = from;
@@ -218,7 +218,7 @@ fn annotation_flag(bytes: &[u8]) -> Option<u16>
 
 /// A section's offset.
 fn offset(text: &[u8], from: usize, depth: u32) -> Result<(Option<u32>, usize), FmdFault>
-    ensures { Parses IsOffset (stand (past 1) depth) (stand (past 2) depth) text.now from result }
+    ensures { Parses IsOffset (past 1, depth) (past 2, depth) text.now from result }
 {
     let token = peek(text, from, depth)?;
     match token.kind {
@@ -232,7 +232,7 @@ fn offset(text: &[u8], from: usize, depth: u32) -> Result<(Option<u32>, usize), 
 
 /// A number that has to stand here.
 fn number(text: &[u8], from: usize, depth: u32) -> Result<(u32, usize), FmdFault>
-    ensures { Parses (λ n. One (HasValue n)) (stand at_sign depth) (stand (past 2) depth) text.now from result }
+    ensures { Parses (λ n. One (HasValue n)) (at_sign, depth) (past 2, depth) text.now from result }
 {
     let token = peek(text, from, depth)?;
     match token.value {
@@ -243,7 +243,7 @@ fn number(text: &[u8], from: usize, depth: u32) -> Result<(u32, usize), FmdFault
 
 /// A section's size.
 fn size(text: &[u8], from: usize, depth: u32) -> Result<(Option<u32>, usize), FmdFault>
-    ensures { Parses IsSize (stand (past 2) depth) (stand (past 3) depth) text.now from result }
+    ensures { Parses IsSize (past 2, depth) (past 3, depth) text.now from result }
 {
     let token = peek(text, from, depth)?;
     match token.value {
@@ -255,7 +255,7 @@ fn size(text: &[u8], from: usize, depth: u32) -> Result<(Option<u32>, usize), Fm
 /// The next word.
 fn peek<'t>(text: &'t [u8], from: usize, depth: u32) -> Result<Token<'t>, FmdFault>
     ensures next { IfOk result (λ token. IsNext text.now from depth token) }
-    ensures refused { IfErr result (λ fault. (s : Stage) → fault_at (stand s depth) text.now from ≡ Some fault) }
+    ensures refused { IfErr result (λ fault. (s : Stage) → fault_at (s, depth) text.now from ≡ Some fault) }
 {
     let word = next_word(text, from);
     let kind = word.kind();
@@ -275,10 +275,9 @@ fn value_of(word: &Word<'_>, kind: Kind, depth: u32) -> Result<Option<u32>, FmdF
     let at = word.place;
     match kind {
         Kind::Bad => Err(FmdFault::BadByte { at }),
-        Kind::Number => match read_number(word.bytes) {
+        Kind::Number => match read_number(at, word.bytes) {
             Ok(value) => Ok(Some(value)),
-            Err(NumberFault::Bad) => Err(FmdFault::BadNumber { at }),
-            Err(NumberFault::TooLarge) => Err(FmdFault::NumberTooLarge { at }),
+            Err(fault) => Err(fault),
         },
         Kind::Name if word.bytes.len() > NAME_LIMIT => Err(FmdFault::NameTooLong { at }),
         Kind::OpenBrace if depth >= DEPTH_LIMIT => Err(FmdFault::TooDeep),
