@@ -8,12 +8,12 @@ use Rattle.std.proofs.lemmas.Bool.Decides.{nat_tests}
 use Rattle.std.proofs.lemmas.List.Elements.{All-nil, All-cons, All-head, All-tail}
 use Rattle.flash_format.specs.declared.flashmap.Area.{Area}
 use Rattle.fmd_lang.specs.Words.{Word, kind_of, words}
-use Rattle.fmd_lang.specs.Tree.{Tree, section, Forest, none, some, names, names_of, parts_of}
+use Rattle.fmd_lang.specs.Tree.{Tree, section, Forest, none, some, names, section_count, sections_count}
 use Rattle.fmd_lang.specs.Grammar.{HasValue, IsOffset, IsSection, IsSize}
 use Rattle.fmd_lang.specs.Faults.{first_fault, next_depth, own_fault, text_limit}
 use Rattle.fmd_lang.specs.WordFaults.{first_own_fault}
-use Rattle.fmd_lang.specs.LayoutFaults.{areas_fault, flag, is_fmap, layout_fault, names_fault, places_fault}
-use Rattle.fmd_lang.specs.Names.{duplicate}
+use Rattle.fmd_lang.specs.LayoutFaults.{layout_fault, names_fault, places_fault}
+use Rattle.fmd_lang.proofs.LayoutLemmas.{few-sections}
 use Rattle.fmd_lang.specs.Table.{AreasBelow, AreasOf, area_limit}
 use Rattle.fmd_lang.specs.declared.row.Place.{Place}
 use Rattle.fmd_lang.specs.declared.fault.FmdFault.{FmdFault}
@@ -62,28 +62,15 @@ offset_fits (Some n) place after (front, back, shape, (mark, first, is_mark), (w
 -- ---- areas
 
 mutual
-  count_below : (t : Tree) (at size : ℕ) (areas : List Area) → AreasBelow at size t areas → length areas ≡ length (names_of (parts_of t))
-  count_below (section name flags offset given parts) at size areas (places, laid, are) = count_of parts at places areas are
+  count_below : (t : Tree) (n at size : ℕ) (areas : List Area) → AreasBelow n at size t areas → suc (length areas) ≡ section_count t
+  count_below (section name flags offset given parts) n at size areas (places, laid, are) = ap suc (count_of parts (suc n) at places areas are)
 
-  count_of : (ts : Forest) (at : ℕ) (qs : List Place) (areas : List Area) → AreasOf at ts qs areas → length areas ≡ length (names_of ts)
-  count_of none at qs areas is = ap length is
-  count_of (some t ts) at [] areas is = absurd is
-  count_of (some t ts) at (q ∷ qs) areas (below, after, is, inner, outer) =
-      let first : length (names t) ≡ suc (length (names_of (parts_of t))) = one_name t in
-      omega (arith, ap length is, length-append below after, length-append (names t) (names_of ts), first, count_below t (at + q.start) q.size below inner, count_of ts at qs after outer)
+  count_of : (ts : Forest) (n at : ℕ) (qs : List Place) (areas : List Area) → AreasOf n at ts qs areas → length areas ≡ sections_count ts
+  count_of none n at qs areas is = ap length is
+  count_of (some t ts) n at [] areas is = absurd is
+  count_of (some t ts) n at (q ∷ qs) areas (below, after, is, inner, outer) =
+      omega (arith, ap length is, length-append below after, count_below t n (at + q.start) q.size below inner, count_of ts (n + section_count t) at qs after outer)
 
-  one_name : (t : Tree) → length (names t) ≡ suc (length (names_of (parts_of t)))
-  one_name (section name flags offset given parts) = refl
-
-pub few_areas : (t : Tree) (size : ℕ) (areas : List Area) → layout_fault t ≡ None → AreasBelow 0 size t areas → length areas < 2 ^ 16
+pub few_areas : (t : Tree) (size : ℕ) (areas : List Area) → layout_fault t ≡ None → AreasBelow 0 0 size t areas → length areas < 2 ^ 16
 unfolding layout_fault
-few_areas (section name flags offset given parts) size areas fine are =
-    let t : Tree = section name flags offset given parts in
-    let by_names = or-none (names_fault (names t)) (places_fault t) fine in
-    let by_areas = or-none (option_map (λ n. faults.Duplicate n) (duplicate 0 [] (names t))) (areas_fault (drop 1 (names t))) by_names.0 in
-    let by_count = or-none (flag (not (list_any is_fmap (names_of parts))) faults.NoFmap) (flag (nat_lt area_limit (length (names_of parts))) faults.TooManyAreas) by_areas.1 in
-    go (nat_lt area_limit (length (names_of parts))) refl by_count.1 (count_below t 0 size areas are)
-  where
-    go : (b : Bool) → nat_lt area_limit (length (names_of parts)) ≡ b → flag b faults.TooManyAreas ≡ None → length areas ≡ length (names_of parts) → length areas < 2 ^ 16
-    go true e f same = absurd cc
-    go false e f same = grind (arith, nat_tests)
+few_areas t size areas fine are = omega (arith, few-sections t (or-none (names_fault (names t)) (places_fault t) fine).0, count_below t 0 0 size areas are)

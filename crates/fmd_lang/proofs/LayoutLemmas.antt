@@ -1,5 +1,5 @@
 -- The layout of a tree, one section at a time.
-use Rattle.std.proofs.Common.{◌≡◌, ℕ, suc, ◌+◌, ◌<◌, ◌≤◌, nat_le, true, false, List, [], ◌∷◌, ◌++◌, length, drop, take, min, replicate, get_or, Option, Some, None, option_map, unwrap_or, length-append, refl, ◌∙◌, ap, arith, add-one, append_assoc, rules}
+use Rattle.std.proofs.Common.{◌≡◌, ℕ, suc, ◌+◌, ◌<◌, ◌≤◌, nat_le, nat_lt, Bool, not, true, false, List, [], ◌∷◌, ◌++◌, length, drop, take, min, replicate, get_or, Option, Some, None, option_map, unwrap_or, length-append, refl, ◌∙◌, ap, arith, add-one, append_assoc, rules}
 use Rattle.std.specs.Option.{option_or}
 use Rattle.std.proofs.Math.Nat.{min_comm}
 use Rattle.std.proofs.Math.Seq.{drop-cons}
@@ -10,12 +10,16 @@ use Rattle.fmd_lang.specs.Tree.{Tree, section, Forest, none, some, section_count
 use Rattle.fmd_lang.specs.View.{view, views, view_step}
 use Rattle.fmd_lang.specs.declared.section.Section.TheFolds.{fold_out-Section}
 use Rattle.fmd_lang.specs.Names.{field_of}
-use Rattle.fmd_lang.specs.Layout.{siblings, filled, ArePlaced, Laid, end_of}
-use Rattle.fmd_lang.specs.Table.{section_area, areas_below, areas_of, AreasBelow, AreasOf, IsTable}
-use Rattle.fmd_lang.specs.LayoutFaults.{parent_fault, parts_fault, row_fault_of, numbered, layout_fault, names_fault, size_fault, table_fault}
-use Rattle.fmd_lang.specs.Row.{row_fault, is_ambiguous, ambiguous_sibling, misfit_sibling}
-use Rattle.fmd_lang.proofs.RowLemmas.{clear_row, filled-placed}
-use Rattle.fmd_lang.specs.declared.row.RowFault.{RowFault}
+use Rattle.fmd_lang.specs.Layout.{ambiguous_sibling, siblings, filled, ArePlaced, Laid, end_of}
+use Rattle.fmd_lang.specs.Table.{area_limit, section_area, areas_below, areas_of, AreasBelow, AreasOf, IsTable}
+use Rattle.fmd_lang.specs.LayoutFaults.{areas_fault, flag, is_fmap, parent_fault, parts_fault, layout_fault, names_fault, size_fault, table_fault}
+use Rattle.fmd_lang.specs.declared.fault.FmdFault.TheVariants as faults
+use Rattle.fmd_lang.specs.Names.{duplicate}
+use Rattle.std.specs.List.{list_any}
+use Rattle.std.proofs.lemmas.Bool.Decides.{nat_tests}
+use Rattle.fmd_lang.specs.Row.{row_fault, misfit_sibling}
+use Rattle.fmd_lang.proofs.OptionLemmas.{map-none, or-none}
+use Rattle.fmd_lang.proofs.RowLemmas.{filled-placed}
 use Rattle.fmd_lang.specs.declared.table.Table.{Table}
 use Rattle.fmd_lang.specs.declared.row.Sibling.{Sibling}
 use Rattle.fmd_lang.specs.declared.row.Place.{Place}
@@ -29,9 +33,9 @@ view-is s = fold_out-Section Tree view_step s
 pub count-parts : (t : Tree) → section_count t ≡ suc (sections_count (parts_of t))
 count-parts (section name flags offset size parts) = refl
 
-pub length-siblings : (ss : List Section) → length (siblings (views ss)) ≡ length ss
-length-siblings [] = refl
-length-siblings (s ∷ ss) = ap suc (length-siblings ss)
+pub length-siblings : (n : ℕ) (ss : List Section) → length (siblings n (views ss)) ≡ length ss
+length-siblings n [] = refl
+length-siblings n (s ∷ ss) = ap suc (length-siblings (n + section_count (view s)) ss)
 
 pub length-le-count : (ss : List Section) → length ss ≤ sections_count (views ss)
 length-le-count [] = omega arith
@@ -44,8 +48,8 @@ length-filled (p ∷ ps) parent from = ap suc (length-filled ps parent _)
 pub view-count : (s : Section) → section_count (view s) ≡ suc (sections_count (views (out-Section s).parts.items))
 view-count s = rw (view-is s) refl
 
-pub row_fault_of-is : (n size : ℕ) (s : Section) → row_fault_of n size (view s) ≡ option_map (numbered (suc n) (views (out-Section s).parts.items)) (row_fault size (siblings (views (out-Section s).parts.items)))
-row_fault_of-is n size s = rw (view-is s) refl
+pub view-parts : (s : Section) → parts_of (view s) ≡ views (out-Section s).parts.items
+view-parts s = rw (view-is s) refl
 
 -- every place lies in the parent
 pub placed-inside : (ps : List Sibling) (qs : List Place) (parent from : ℕ) → ArePlaced parent from ps qs → list_all (λ q. nat_le (end_of q) parent) qs ≡ true
@@ -57,9 +61,12 @@ placed-inside (p ∷ ps) (q ∷ qs) parent from h =
     rw here (placed-inside ps qs parent (end_of q) h.2)
 
 -- the areas and the faults, one part at a time
-pub areas-more : (at k : ℕ) (qs : List Place) (ss : List Section) (q : Place) (s : Section) → k < length qs → k < length ss → q ≡ get_or qs k q → s ≡ get_or ss k s →
-    areas_of at (drop k qs) (views (drop k ss)) ≡ section_area at q (view s) ∷ areas_below (at + q.start) q.size (view s) ++ areas_of at (drop (k + 1) qs) (views (drop (k + 1) ss))
-areas-more at k qs ss q s hq hs eq es = rw (drop-cons qs k q hq, drop-cons ss k s hs, ← eq, ← es, add-one) refl
+-- a part whose area and the areas below it stand before those of the parts behind it
+pub areas-left : (n m j at k : ℕ) (qs : List Place) (ss : List Section) (q : Place) (s : Section) → k < length qs → k < length ss → q ≡ get_or qs k q → s ≡ get_or ss k s →
+    j ≡ n → n + section_count (view s) ≡ m →
+    section_area at q (view s) ∷ areas_below j (at + q.start) q.size (view s) ++ areas_of m at (drop (k + 1) qs) (views (drop (k + 1) ss))
+    ≡ areas_of n at (drop k qs) (views (drop k ss))
+areas-left n m j at k qs ss q s hq hs eq es numbered behind = rw (numbered, ← behind, drop-cons qs k q hq, drop-cons ss k s hs, ← eq, ← es, add-one) refl
 
 pub faults-more : (n k : ℕ) (qs : List Place) (ss : List Section) (q : Place) (s : Section) → k < length qs → k < length ss → q ≡ get_or qs k q → s ≡ get_or ss k s →
     parts_fault n (drop k qs) (views (drop k ss)) ≡ option_or (parent_fault n q.size (view s)) (parts_fault (n + section_count (view s)) (drop (k + 1) qs) (views (drop (k + 1) ss)))
@@ -100,6 +107,19 @@ mutual
   names_of-length none = refl
   names_of-length (some t ts) = length-append (names t) (names_of ts) ∙ ap (λ n. n + length (names_of ts)) (names-length t) ∙ ap (λ n. section_count t + n) (names_of-length ts)
 
+-- names without a refusal are few
+few_below : (ns : List (List ℕ)) → areas_fault ns ≡ None → length ns ≤ area_limit
+few_below ns h = go (nat_lt area_limit (length ns)) refl (or-none (flag (not (list_any is_fmap ns)) faults.NoFmap) _ h).1
+  where
+    go : (b : Bool) → nat_lt area_limit (length ns) ≡ b → flag b faults.TooManyAreas ≡ None → length ns ≤ area_limit
+    go true e f = absurd cc
+    go false e f = grind (arith, nat_tests)
+
+pub few-sections : (t : Tree) → names_fault (names t) ≡ None → section_count t ≤ area_limit + 1
+few-sections (section name flags offset size parts) h =
+    let ns = names (section name flags offset size parts) in
+    omega (arith, few_below (names_of parts) (or-none (option_map faults.Duplicate (duplicate 0 [] ns)) _ h).1, names_of-length parts)
+
 -- a whole tree
 pub fault-names : (t : Tree) (fault : FmdFault) → names_fault (names t) ≡ Some fault → layout_fault t ≡ Some fault
 unfolding layout_fault
@@ -118,49 +138,32 @@ pub fault-table : (t : Tree) (n : ℕ) (fault : Option FmdFault) → names_fault
 unfolding layout_fault
 fault-table t n fault h clear size parents table = rw (h, clear, size, parents) table
 
-or_else-none : (a b : Option FmdFault) → option_or a b ≡ None → (a ≡ None) × (b ≡ None)
-or_else-none None b h = (refl, h)
-or_else-none (Some fault) b h = cc
-
-option_map-none : {A B : Type 0} (f : A → B) (o : Option A) → option_map f o ≡ None → o ≡ None
-option_map-none f None h = refl
-option_map-none f (Some x) h = cc
-
-or_later-none : (a b : Option RowFault) → option_or a b ≡ None → (a ≡ None) × (b ≡ None)
-or_later-none None b h = (refl, h)
-or_later-none (Some fault) b h = cc
-
-is_ambiguous-none : (o : Option ℕ) → is_ambiguous o ≡ None → o ≡ None
-is_ambiguous-none None h = refl
-is_ambiguous-none (Some n) h = cc
-
 -- a row without a fault is laid where it is filled
 pub row-laid : (parent : ℕ) (ps : List Sibling) → row_fault parent ps ≡ None → Laid parent ps (filled parent 0 ps)
 row-laid parent ps h =
-    let both = or_later-none (is_ambiguous (ambiguous_sibling 0 false ps)) (misfit_sibling 0 parent 0 ps) h in
-    let clear = clear_row 0 false ps (is_ambiguous-none (ambiguous_sibling 0 false ps) both.0) in
-    (search (rules, clear), filled-placed 0 parent 0 false ps clear both.1)
+    let both = or-none (option_map faults.Ambiguous (ambiguous_sibling false ps)) (misfit_sibling parent 0 ps) h in
+    let clear = map-none faults.Ambiguous (ambiguous_sibling false ps) both.0 in
+    (clear, filled-placed parent 0 false ps clear both.1)
 
 mutual
   -- the areas of a tree without a fault obey the equations
-  pub areas-laid : (t : Tree) (n at size : ℕ) → parent_fault n size t ≡ None → AreasBelow at size t (areas_below at size t)
+  pub areas-laid : (t : Tree) (n at size : ℕ) → parent_fault n size t ≡ None → AreasBelow n at size t (areas_below n at size t)
   areas-laid (section name flags offset given parts) n at size h =
-      let both = or_else-none (option_map (numbered (suc n) parts) (row_fault size (siblings parts))) (parts_fault (suc n) (filled size 0 (siblings parts)) parts) h in (
-        filled size 0 (siblings parts),
-        row-laid size (siblings parts) (option_map-none (numbered (suc n) parts) (row_fault size (siblings parts)) both.0),
-        parts-laid parts (suc n) at (filled size 0 (siblings parts)) (length-filled (siblings parts) size 0) both.1,
-      )
+      let row = siblings (suc n) parts in
+      let both = or-none (row_fault size row) (parts_fault (suc n) (filled size 0 row) parts) h in
+      (filled size 0 row, row-laid size row both.0, parts-laid parts (suc n) at (filled size 0 row) (length-filled row size 0) both.1)
 
-  pub parts-laid : (ts : Forest) (n at : ℕ) (qs : List Place) → length qs ≡ length (siblings ts) → parts_fault n qs ts ≡ None → AreasOf at ts qs (areas_of at qs ts)
+  parts-laid : (ts : Forest) (n at : ℕ) (qs : List Place) → length qs ≡ length (siblings n ts) → parts_fault n qs ts ≡ None → AreasOf n at ts qs (areas_of n at qs ts)
   parts-laid none n at qs len h = refl
   parts-laid (some t ts) n at [] len h = cc
   parts-laid (some t ts) n at (q ∷ qs) len h =
-      let both = or_else-none (parent_fault n q.size t) (parts_fault (n + section_count t) qs ts) h in
-      let fewer : length qs ≡ length (siblings ts) = cc in
-      (areas_below (at + q.start) q.size t, areas_of at qs ts, refl, areas-laid t n (at + q.start) q.size both.0, parts-laid ts (n + section_count t) at qs fewer both.1)
+      let m = n + section_count t in
+      let both = or-none (parent_fault n q.size t) (parts_fault m qs ts) h in
+      let fewer : length qs ≡ length (siblings m ts) = cc in
+      (areas_below n (at + q.start) q.size t, areas_of m at qs ts, refl, areas-laid t n (at + q.start) q.size both.0, parts-laid ts m at qs fewer both.1)
 
 pub table-is : (s : Section) (table : Table) → table.base ≡ unwrap_or (out-Section s).offset 0 → (out-Section s).size ≡ Some table.size → table.name ≡ field_of (out-Section s).name.items →
-    AreasBelow 0 table.size (view s) table.areas.items → IsTable (view s) table
+    AreasBelow 0 0 table.size (view s) table.areas.items → IsTable (view s) table
 table-is s table base size name areas = rw (view-is s) (base, size, name, rw (view-is s) at areas)
 
 pub view-size : (s : Section) → size_of (view s) ≡ (out-Section s).size

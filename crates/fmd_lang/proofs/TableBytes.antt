@@ -1,5 +1,5 @@
 -- The bytes of a table are read as a valid map.
-use Rattle.std.proofs.Common.{◌≡◌, inl, inr, ℕ, ◌+◌, ◌^◌, ◌<◌, Bool, true, false, cond, All, List, [], ◌∷◌, ◌++◌, length, refl, sym, ◌∙◌, ap, subst, arith}
+use Rattle.std.proofs.Common.{suc, ◌≡◌, inl, inr, ℕ, ◌+◌, ◌^◌, ◌<◌, Bool, true, false, cond, All, List, [], ◌∷◌, ◌++◌, length, refl, sym, ◌∙◌, ap, subst, arith}
 use Rattle.std.specs.Prelude.{Option, Some, None, unwrap_or, codes}
 use Rattle.std.specs.Int.Bits.{bit_or}
 use Rattle.std.specs.Str.{bytes_eq}
@@ -13,7 +13,7 @@ use Rattle.flash_format.proofs.MapBytes.{maps_read_back}
 use Rattle.fmd_lang.specs.Words.{Word, words}
 use Rattle.fmd_lang.specs.Faults.{first_fault}
 use Rattle.fmd_lang.specs.LayoutFaults.{layout_fault}
-use Rattle.fmd_lang.specs.Tree.{Tree, section, Forest, none, some}
+use Rattle.fmd_lang.specs.Tree.{Tree, section, Forest, none, some, section_count}
 use Rattle.fmd_lang.specs.Grammar.{AreAnnotations, AreSections, Between, Else, IsSection, annotation_flag, flags_with}
 use Rattle.fmd_lang.specs.Layout.{ArePlaced, IsPlaced, end_of, sibling, siblings}
 use Rattle.fmd_lang.specs.Names.{field_of}
@@ -58,25 +58,25 @@ no_areas areas none_there = subst (λ (l : List Area). All IsAreaInBytes l) (sym
 
 mutual
   -- where a section ends below 2^32, each area below it fits into its bytes
-  areas_fit : (t : Tree) (ws : List Word) (at size : ℕ) (areas : List Area) → IsSection t ws → at + size < 2 ^ 32 → AreasBelow at size t areas → All IsAreaInBytes areas
-  areas_fit (section name flags offset given none) ws at size areas is small (places, laid, are) = no_areas areas are
-  areas_fit (section name flags offset given (some t ts)) ws at size areas (front, back, shape, name_is, (f1, b1, s1, annotated, (f2, b2, s2, placed, (f3, b3, s3, sized, body)))) small (places, laid, are) =
-      parts_fit (some t ts) (inside_of body).0 at size 0 places areas (inside_of body).1 small laid.1 are
+  areas_fit : (t : Tree) (ws : List Word) (n at size : ℕ) (areas : List Area) → IsSection t ws → at + size < 2 ^ 32 → AreasBelow n at size t areas → All IsAreaInBytes areas
+  areas_fit (section name flags offset given none) ws n at size areas is small (places, laid, are) = no_areas areas are
+  areas_fit (section name flags offset given (some t ts)) ws n at size areas (front, back, shape, name_is, (f1, b1, s1, annotated, (f2, b2, s2, placed, (f3, b3, s3, sized, body)))) small (places, laid, are) =
+      parts_fit (some t ts) (inside_of body).0 (suc n) at size 0 places areas (inside_of body).1 small laid.1 are
     where
       inside_of : Else (some t ts ≡ none) (Between OpenBrace CloseBrace (AreSections (some t ts))) b3 → (within : List Word) × AreSections (some t ts) within
       inside_of (inl (empty, nothing)) = absurd cc
       inside_of (inr (opening, rest, split, opens, (within, closing, inner, sections, closes))) = (within, sections)
 
-  parts_fit : (ts : Forest) (ws : List Word) (at size from : ℕ) (qs : List Place) (areas : List Area) → AreSections ts ws → at + size < 2 ^ 32 → ArePlaced size from (siblings ts) qs → AreasOf at ts qs areas → All IsAreaInBytes areas
-  parts_fit none ws at size from qs areas sections small placed are = no_areas areas are
-  parts_fit (some t ts) ws at size from [] areas sections small placed are = absurd are
-  parts_fit (some t ts) ws at size from (q ∷ qs) areas (front, rest, shape, one, others) small (place, last, later) (below, after, is, inner, outer) =
-      let here : IsPlaced size from (sibling t) q = place in
+  parts_fit : (ts : Forest) (ws : List Word) (n at size from : ℕ) (qs : List Place) (areas : List Area) → AreSections ts ws → at + size < 2 ^ 32 → ArePlaced size from (siblings n ts) qs → AreasOf n at ts qs areas → All IsAreaInBytes areas
+  parts_fit none ws n at size from qs areas sections small placed are = no_areas areas are
+  parts_fit (some t ts) ws n at size from [] areas sections small placed are = absurd are
+  parts_fit (some t ts) ws n at size from (q ∷ qs) areas (front, rest, shape, one, others) small (place, last, later) (below, after, is, inner, outer) =
+      let here : IsPlaced size from (sibling n t) q = place in
       subst (λ (l : List Area). All IsAreaInBytes l) (sym is)
       (All-cons IsAreaInBytes (section_area at q t) (below ++ after) (area_fits t front at q one (omega (arith, here.inside, small)))
       (All-append IsAreaInBytes below after
-      (areas_fit t front (at + q.start) q.size below one (omega (arith, here.inside, small)) inner)
-      (parts_fit ts rest at size (end_of q) qs after others small later outer)))
+      (areas_fit t front n (at + q.start) q.size below one (omega (arith, here.inside, small)) inner)
+      (parts_fit ts rest (n + section_count t) at size (end_of q) qs after others small later outer)))
 
 -- ---- the table
 
@@ -98,5 +98,5 @@ table_read (section name flags offset given parts) text more table fine is laid 
       named = ap is_named table_is.2 ∙ good;
       counted = refl;
       few = few_areas t table.size table.areas.items laid table_is.3;
-      each = areas_fit t (words text) 0 table.size table.areas.items is (omega (arith, size)) table_is.3;
+      each = areas_fit t (words text) 0 0 table.size table.areas.items is (omega (arith, size)) table_is.3;
     })

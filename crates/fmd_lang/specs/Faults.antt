@@ -1,6 +1,6 @@
 -- The refusal of a descriptor's text: that it is too long, or else the one at the lowest place, where that of the
 -- word by itself comes before that of a word in a wrong place. The order, the texts and the limits are this project's own.
-use Rattle.std.specs.Prelude.{ℕ, suc, zero, nat_lt, Bool, false, if◌then◌else◌, List, [], ◌∷◌, length, Option, Some, None, option_map}
+use Rattle.std.specs.Prelude.{◌≡◌, ◌⊎◌, Result, Ok, Err, ℕ, suc, zero, nat_lt, Bool, false, if◌then◌else◌, List, [], ◌∷◌, length, Option, Some, None, option_map}
 use Rattle.std.specs.Option.{option_or}
 use Rattle.std.specs.Result.{result_err}
 use Rattle.fmd_lang.specs.Words.{Word, word, words, kind_of}
@@ -106,3 +106,8 @@ unfoldable pub first_fault : List ℕ → Option FmdFault
 first_fault text =
     if nat_lt text_limit (length text) then Some faults.TextTooLong
     else fault_from start 0 (length text) (words text)
+
+-- it is done where there is no refusal; or this refusal comes, unless memory ran out
+abbrev pub Refuses : {X : Type 0} → Option FmdFault → Result X FmdFault → Type 0
+Refuses refusal (Ok x) = refusal ≡ None
+Refuses refusal (Err fault) = (fault ≡ faults.Memory) ⊎ (refusal ≡ Some fault)

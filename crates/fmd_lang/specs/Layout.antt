@@ -1,8 +1,8 @@
 -- Where the sections of a descriptor lie: each row of siblings as equations over their places. That an offset counts
 -- from the parent's start, and that a size may be omitted, is coreboot's (Documentation/lib/flashmap.md); which
 -- sizes may be, and what they then are, is this project's own.
-use Rattle.std.specs.Prelude.{◌≡◌, ℕ, ◌+◌, ◌-◌, ◌<◌, ◌≤◌, Bool, true, false, ◌&&◌, ◌||◌, not, if◌then◌else◌, IsTrue, List, [], ◌∷◌, unwrap_or, is_some, IfSome, IfNone}
-use Rattle.fmd_lang.specs.Tree.{Tree, section, Forest, none, some}
+use Rattle.std.specs.Prelude.{◌≡◌, ℕ, ◌+◌, ◌-◌, ◌<◌, ◌≤◌, Bool, true, false, ◌&&◌, not, if◌then◌else◌, List, [], ◌∷◌, Option, Some, None, unwrap_or, is_some, IfSome, IfNone}
+use Rattle.fmd_lang.specs.Tree.{Tree, section, Forest, none, some, section_count}
 use Rattle.fmd_lang.specs.declared.row.Sibling.{Sibling}
 use Rattle.fmd_lang.specs.declared.row.Place.{Place}
 
@@ -37,16 +37,18 @@ ArePlaced parent from (p ∷ ps) (q ∷ qs) = IsPlaced parent from p q
     × IfNone p.size (run_end (end_of q) ps qs ≡ bound parent ps)
     × ArePlaced parent (end_of q) ps qs
 
--- Each run omits at most one size. The flag says that the run has omitted one before.
-abbrev pub is_clear : Bool → List Sibling → Bool
-is_clear omitted [] = true
-is_clear omitted (p ∷ ps) =
+-- the number of the first sibling that is the second in its run to omit its size; the flag says that its run has
+-- omitted one before
+abbrev pub ambiguous_sibling : Bool → List Sibling → Option ℕ
+ambiguous_sibling omitted [] = None
+ambiguous_sibling omitted (p ∷ ps) =
     let before = omitted && not (is_some p.offset) in
-    (is_some p.size || not before) && is_clear (before || not (is_some p.size)) ps
+    if is_some p.size then ambiguous_sibling before ps
+    else (if before then Some p.number else ambiguous_sibling true ps)
 
 -- the places of all siblings of a parent of this size
 abbrev pub Laid : ℕ → List Sibling → List Place → Type 0
-Laid parent ps qs = IsTrue (is_clear false ps) × ArePlaced parent 0 ps qs
+Laid parent ps qs = (ambiguous_sibling false ps ≡ None) × ArePlaced parent 0 ps qs
 
 -- The refusals also speak of rows that can't be laid. An omitted size is what the bound leaves, and 0
 -- where that is negative.
@@ -54,18 +56,20 @@ abbrev pub sizes_ahead : List Sibling → ℕ
 sizes_ahead [] = 0
 sizes_ahead (p ∷ ps) = if is_some p.offset then 0 else unwrap_or p.size 0 + sizes_ahead ps
 
-abbrev pub size_at : ℕ → ℕ → Sibling → List Sibling → ℕ
-size_at parent start p ps = unwrap_or p.size (bound parent ps - (start + sizes_ahead ps))
+-- the place of a sibling, where the one before it ends at `from`
+abbrev pub place_of : ℕ → ℕ → Sibling → List Sibling → Place
+place_of parent from p ps =
+    let start = unwrap_or p.offset from in
+    record { start = start; size = unwrap_or p.size (bound parent ps - (start + sizes_ahead ps)) }
 
 abbrev pub filled : ℕ → ℕ → List Sibling → List Place
 filled parent from [] = []
-filled parent from (p ∷ ps) =
-    let start = unwrap_or p.offset from in
-    record { start = start; size = size_at parent start p ps } ∷ filled parent (start + size_at parent start p ps) ps
+filled parent from (p ∷ ps) = place_of parent from p ps ∷ filled parent (end_of (place_of parent from p ps)) ps
 
-abbrev pub sibling : Tree → Sibling
-sibling (section name flags offset size parts) = record { offset = offset; size = size }
+-- a section with this number as one of a row, and the sections of which the first has this number
+abbrev pub sibling : ℕ → Tree → Sibling
+sibling n (section name flags offset size parts) = record { number = n; offset = offset; size = size }
 
-abbrev pub siblings : Forest → List Sibling
-siblings none = []
-siblings (some t ts) = sibling t ∷ siblings ts
+abbrev pub siblings : ℕ → Forest → List Sibling
+siblings n none = []
+siblings n (some t ts) = sibling n t ∷ siblings (n + section_count t) ts

@@ -1,5 +1,5 @@
 -- What is refused of the layout of a descriptor, and in which order (this project's own).
-use Rattle.std.specs.Prelude.{ℕ, zero, suc, ◌+◌, nat_lt, nat_eq, Bool, not, if◌then◌else◌, List, [], ◌∷◌, length, ◌-◌, Option, Some, None, unwrap_or, option_map, codes, drop}
+use Rattle.std.specs.Prelude.{ℕ, suc, ◌+◌, nat_lt, nat_eq, Bool, not, if◌then◌else◌, List, [], ◌∷◌, length, ◌-◌, Option, Some, None, unwrap_or, option_map, codes, drop}
 use Rattle.std.specs.Option.{option_or}
 use Rattle.std.specs.List.{list_any}
 use Rattle.std.specs.Str.{bytes_eq}
@@ -7,37 +7,17 @@ use Rattle.fmd_lang.specs.Tree.{Tree, section, Forest, none, some, section_count
 use Rattle.fmd_lang.specs.Layout.{filled, siblings}
 use Rattle.fmd_lang.specs.Names.{duplicate}
 use Rattle.fmd_lang.specs.Row.{row_fault}
-use Rattle.fmd_lang.specs.Table.{area_limit, fmap_size, table_len}
+use Rattle.fmd_lang.specs.Table.{area_limit, areas_below, size_named, table_len}
 use Rattle.fmd_lang.specs.declared.row.Place.{Place}
-use Rattle.fmd_lang.specs.declared.row.RowFault.{RowFault}
-use Rattle.fmd_lang.specs.declared.row.RowFault.TheVariants as row
 use Rattle.fmd_lang.specs.declared.fault.FmdFault.{FmdFault}
 use Rattle.fmd_lang.specs.declared.fault.FmdFault.TheVariants as faults
 
--- the number of the part with this index, where that of the first is `n`
-abbrev pub number_of : ℕ → Forest → ℕ → ℕ
-number_of n none i = n
-number_of n (some t ts) zero = n
-number_of n (some t ts) (suc i) = number_of (n + section_count t) ts i
-
--- a row's refusal, by the section's number
-abbrev pub numbered : ℕ → Forest → RowFault → FmdFault
-numbered n ts row.Memory = faults.Memory
-numbered n ts (row.Ambiguous i) = faults.Ambiguous (number_of n ts i)
-numbered n ts (row.EmptySection i) = faults.EmptySection (number_of n ts i)
-numbered n ts (row.Overlap i) = faults.Overlap (number_of n ts i)
-numbered n ts (row.Outside i) = faults.Outside (number_of n ts i)
-
--- what is refused of the row of a section's parts, the section being numbered `n`
-abbrev pub row_fault_of : ℕ → ℕ → Tree → Option FmdFault
-row_fault_of n size (section name flags offset given parts) = option_map (numbered (suc n) parts) (row_fault size (siblings parts))
-
--- what is refused of the parts of a parent, and below them, each parent in preorder
+-- what is refused of the parts of a parent with this number, and below them, each parent in preorder
 abbrev mutual
   pub parent_fault : ℕ → ℕ → Tree → Option FmdFault
   parent_fault n size (section name flags offset given parts) =
-      option_or (option_map (numbered (suc n) parts) (row_fault size (siblings parts)))
-      (parts_fault (suc n) (filled size 0 (siblings parts)) parts)
+      let row = siblings (suc n) parts in
+      option_or (row_fault size row) (parts_fault (suc n) (filled size 0 row) parts)
 
   pub parts_fault : ℕ → List Place → Forest → Option FmdFault
   parts_fault n qs none = None
@@ -65,7 +45,7 @@ size_fault (Some n) = flag (nat_eq n 0) (faults.EmptySection 0)
 
 -- the section FMAP holds fewer bytes than the table
 abbrev pub table_fault : ℕ → Tree → Option FmdFault
-table_fault size t = flag (nat_lt (fmap_size size t) (table_len (section_count t - 1))) faults.FmapTooSmall
+table_fault size t = flag (nat_lt (size_named (codes "FMAP") (areas_below 0 0 size t)) (table_len (section_count t - 1))) faults.FmapTooSmall
 
 -- what is refused of the places: the root's size, then the parents, then the table
 abbrev pub places_fault : Tree → Option FmdFault

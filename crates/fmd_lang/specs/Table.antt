@@ -1,8 +1,9 @@
 -- The table of a descriptor: all sections but the root in preorder, with offsets from the root's start.
-use Rattle.std.specs.Prelude.{◌≡◌, ℕ, ◌+◌, ◌*◌, List, [], ◌∷◌, ◌++◌, Option, Some, None, unwrap_or, codes}
+use Rattle.std.specs.Prelude.{◌≡◌, ℕ, suc, ◌+◌, ◌*◌, List, [], ◌∷◌, ◌++◌, Option, Some, unwrap_or}
 use Rattle.std.specs.List.{find}
+use Rattle.std.specs.Option.{option_map_or}
 use Rattle.flash_format.specs.Flashmap.{fmap_head_len, area_len, is_area}
-use Rattle.fmd_lang.specs.Tree.{Tree, section, Forest, none, some}
+use Rattle.fmd_lang.specs.Tree.{Tree, section, Forest, none, some, section_count}
 use Rattle.fmd_lang.specs.Names.{field_of}
 use Rattle.fmd_lang.specs.Layout.{Laid, siblings, filled}
 use Rattle.fmd_lang.specs.declared.row.Place.{Place}
@@ -22,44 +23,35 @@ abbrev pub section_area : ℕ → Place → Tree → Area
 section_area at q (section name flags offset size parts) = record { offset = at + q.start; size = q.size; name = field_of name; flags = flags }
 
 abbrev mutual
-  -- these are the areas below a section of this size that begins at `at`, in preorder
-  pub AreasBelow : ℕ → ℕ → Tree → List Area → Type 0
-  AreasBelow at size (section name flags offset given parts) areas =
-      (places : List Place) × Laid size (siblings parts) places × AreasOf at parts places areas
+  -- these are the areas below the section with this number, of this size, which begins at `at`: in preorder
+  pub AreasBelow : ℕ → ℕ → ℕ → Tree → List Area → Type 0
+  AreasBelow n at size (section name flags offset given parts) areas =
+      (places : List Place) × Laid size (siblings (suc n) parts) places × AreasOf (suc n) at parts places areas
 
   -- these are the areas of sections at these places, and below them
-  pub AreasOf : ℕ → Forest → List Place → List Area → Type 0
-  AreasOf at none qs areas = areas ≡ []
-  AreasOf at (some t ts) [] areas = ⊥
-  AreasOf at (some t ts) (q ∷ qs) areas =
+  pub AreasOf : ℕ → ℕ → Forest → List Place → List Area → Type 0
+  AreasOf n at none qs areas = areas ≡ []
+  AreasOf n at (some t ts) [] areas = ⊥
+  AreasOf n at (some t ts) (q ∷ qs) areas =
       (below after : List Area) × (areas ≡ section_area at q t ∷ below ++ after)
-      × AreasBelow (at + q.start) q.size t below × AreasOf at ts qs after
+      × AreasBelow n (at + q.start) q.size t below × AreasOf (n + section_count t) at ts qs after
 
 -- The refusals also speak of descriptors that can't be laid: the same, where every row is filled.
 abbrev mutual
-  pub areas_below : ℕ → ℕ → Tree → List Area
-  areas_below at size (section name flags offset given parts) = areas_of at (filled size 0 (siblings parts)) parts
+  pub areas_below : ℕ → ℕ → ℕ → Tree → List Area
+  areas_below n at size (section name flags offset given parts) = areas_of (suc n) at (filled size 0 (siblings (suc n) parts)) parts
 
-  pub areas_of : ℕ → List Place → Forest → List Area
-  areas_of at qs none = []
-  areas_of at [] (some t ts) = []
-  areas_of at (q ∷ qs) (some t ts) = section_area at q t ∷ areas_below (at + q.start) q.size t ++ areas_of at qs ts
+  pub areas_of : ℕ → ℕ → List Place → Forest → List Area
+  areas_of n at qs none = []
+  areas_of n at [] (some t ts) = []
+  areas_of n at (q ∷ qs) (some t ts) = section_area at q t ∷ areas_below n (at + q.start) q.size t ++ areas_of (n + section_count t) at qs ts
 
--- 0 without an area
-abbrev pub option_size : Option Area → ℕ
-option_size None = 0
-option_size (Some a) = a.size
-
--- the size of the first area of this name
+-- the size of the first area of this name, and 0 without one
 abbrev pub size_named : List ℕ → List Area → ℕ
-size_named name areas = option_size (find (is_area name) areas)
-
--- the size of the area FMAP, in a root of this size
-abbrev pub fmap_size : ℕ → Tree → ℕ
-fmap_size size t = size_named (codes "FMAP") (areas_below 0 size t)
+size_named name areas = option_map_or (λ a. a.size) (find (is_area name) areas) 0
 
 -- the table of a descriptor
 abbrev pub IsTable : Tree → Table → Type 0
 IsTable (section name flags offset size parts) table =
     (table.base ≡ unwrap_or offset 0) × (size ≡ Some table.size) × (table.name ≡ field_of name)
-    × AreasBelow 0 table.size (section name flags offset size parts) table.areas.items
+    × AreasBelow 0 0 table.size (section name flags offset size parts) table.areas.items

@@ -2,7 +2,9 @@
 
 ghost use Rattle.std.specs.Prelude.{◌≡◌, ◌≤◌, ◌<◌, ◌+◌, ◌*◌, ◌^◌, ◌⊎◌, ◌++◌, [], ℕ, length, map, vec_len, Some, None, suc, codes, OnOk, IfOk, IfErr, IsTrue, nat_le};
 ghost use Rattle.std.specs.List.{list_all, list_any};
+ghost use Rattle.fmd_lang.specs.Faults.{Refuses};
 ghost use Rattle.fmd_lang.specs.Layout.{end_of};
+ghost use Rattle.fmd_lang.specs.Row.{row_fault};
 ghost use Rattle.fmd_lang.specs.declared.section.Section.{out-Section};
 ghost use Rattle.fmd_lang.specs.Tree.{section_count, sections_count, parts_of, size_of, names};
 ghost use Rattle.fmd_lang.specs.View.{view, views};
@@ -13,7 +15,7 @@ ghost use Rattle.fmd_lang.specs.LayoutFaults.{layout_fault};
 
 use crate::fault::FmdFault;
 use crate::names::{check_names_of, name_field};
-use crate::row::{Place, RowFault, Sibling, lay_row};
+use crate::row::{Place, Sibling, lay_row};
 use crate::section::Section;
 use crate::table::Table;
 use flash_format::{Area, FmapHead};
@@ -65,10 +67,9 @@ fn push_areas(
 ) -> Result<(), FmdFault>
     requires count { length areas.old.items + section_count (view section.now) ≤ area_limit + 1 }
     requires inside { at + size < 2 ^ 32 }
-    ensures ok { OnOk result (areas.new.items ≡ areas.old.items ++ areas_below at size (view section.now)) }
+    ensures ok { OnOk result (areas.new.items ≡ areas.old.items ++ areas_below (length areas.old.items) at size (view section.now)) }
     ensures count { OnOk result (length areas.new.items + 1 ≡ length areas.old.items + section_count (view section.now)) }
-    ensures clear { OnOk result (faults.parent_fault (length areas.old.items) size (view section.now) ≡ None) }
-    ensures refused { IfErr result (λ fault. (fault ≡ FmdFault.Memory) ⊎ (faults.parent_fault (length areas.old.items) size (view section.now) ≡ Some fault)) }
+    ensures refused { Refuses (faults.parent_fault (length areas.old.items) size (view section.now)) result }
 {
     let places = places(alloc, section, areas.len(), size)?;
     for (index, part) in section.parts.iter().enumerate() {
@@ -87,7 +88,7 @@ fn push_areas(
     Ok(())
 }
 
-/// The places of a section's parts.
+/// The places of the parts of the section with this number.
 fn places(
     alloc: Global,
     section: &Section,
@@ -95,72 +96,38 @@ fn places(
     size: u32,
 ) -> Result<Vec<Place>, FmdFault>
     requires { number + section_count (view section.now) ≤ area_limit + 1 }
-    ensures ok { IfOk result (λ row. row.items ≡ spec.filled size 0 (spec.siblings (parts_of (view section.now)))) }
+    ensures ok { IfOk result (λ row. row.items ≡ spec.filled size 0 (spec.siblings (suc number) (parts_of (view section.now)))) }
     ensures len { IfOk result (λ row. length row.items ≡ length (out-Section section.now).parts.items) }
     ensures inside { IfOk result (λ row. IsTrue (list_all (λ q. nat_le (end_of q) size) row.items)) }
-    ensures clear { OnOk result (faults.row_fault_of number size (view section.now) ≡ None) }
-    ensures refused { IfErr result (λ fault. (fault ≡ FmdFault.Memory) ⊎ (faults.row_fault_of number size (view section.now) ≡ Some fault)) }
+    ensures refused { Refuses (row_fault size (spec.siblings (suc number) (parts_of (view section.now)))) result }
 {
-    let row = siblings(alloc, &section.parts)?;
+    let row = siblings(alloc, number + 1, &section.parts)?;
     match lay_row(alloc, size, &row) {
         Ok(places) => Ok(places),
-        Err(fault) => Err(numbered(number + 1, &section.parts, fault)),
+        Err(fault) => Err(fault),
     }
 }
 
-/// What the parts' text says of their places.
-fn siblings(alloc: Global, parts: &[Section]) -> Result<Vec<Sibling>, FmdFault>
-    ensures ok { IfOk result (λ row. row.items ≡ spec.siblings (views parts.now)) }
+/// The parts as a row of siblings, the first having this number.
+fn siblings(alloc: Global, first: usize, parts: &[Section]) -> Result<Vec<Sibling>, FmdFault>
+    requires { first + sections_count (views parts.now) < 2 ^ 64 }
+    ensures ok { IfOk result (λ row. row.items ≡ spec.siblings first (views parts.now)) }
     ensures err { IfErr result (λ fault. fault ≡ FmdFault.Memory) }
 {
     let mut row = Vec::new(alloc);
+    let mut number = first;
     for part in parts {
         let sibling = Sibling {
+            number,
             offset: part.offset,
             size: part.size,
         };
         if row.push(sibling).is_err() {
             return Err(FmdFault::Memory);
         }
-    }
-    Ok(row)
-}
-
-/// A row's refusal, by the section's number.
-fn numbered(first: usize, parts: &[Section], fault: RowFault) -> FmdFault
-    requires { first + sections_count (views parts.now) < 2 ^ 64 }
-    ensures { result ≡ faults.numbered first (views parts.now) fault }
-{
-    match fault {
-        RowFault::Memory => FmdFault::Memory,
-        RowFault::Ambiguous(index) => FmdFault::Ambiguous {
-            section: number_of(first, parts, index),
-        },
-        RowFault::EmptySection(index) => FmdFault::EmptySection {
-            section: number_of(first, parts, index),
-        },
-        RowFault::Overlap(index) => FmdFault::Overlap {
-            section: number_of(first, parts, index),
-        },
-        RowFault::Outside(index) => FmdFault::Outside {
-            section: number_of(first, parts, index),
-        },
-    }
-}
-
-/// The number of a part, where that of the first is `first`.
-fn number_of(first: usize, parts: &[Section], index: usize) -> usize
-    requires { first + sections_count (views parts.now) < 2 ^ 64 }
-    ensures { result ≡ faults.number_of first (views parts.now) index }
-{
-    let mut number = first;
-    for (at, part) in parts.iter().enumerate() {
-        if at == index {
-            return number;
-        }
         number += count(part);
     }
-    number
+    Ok(row)
 }
 
 /// How many sections there are, this one included.

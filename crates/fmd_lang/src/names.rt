@@ -2,11 +2,11 @@
 
 ghost use Rattle.std.specs.Prelude.{◌≡◌, ◌≤◌, ◌+◌, ◌⊎◌, ◌++◌, [], None, Some, map, length, OnOk, IfOk, IfErr};
 ghost use Rattle.std.specs.List.{list_any};
-ghost use Rattle.fmd_lang.specs.Tree.{names, section_count};
+ghost use Rattle.fmd_lang.specs.Tree.{names};
 ghost use Rattle.fmd_lang.specs.View.{view};
 ghost use Rattle.fmd_lang.specs.LayoutFaults.{is_fmap, areas_fault, names_fault};
 ghost use Rattle.fmd_lang.specs.Names.{duplicate, field_of};
-ghost use Rattle.fmd_lang.specs.Table.{area_limit};
+ghost use Rattle.fmd_lang.specs.Faults.{Refuses};
 
 use crate::fault::FmdFault;
 use crate::section::Section;
@@ -16,9 +16,7 @@ use std::collections::BTreeSet;
 
 /// Refuses a tree by its names: one that stands twice, no FMAP, too many.
 pub fn check_names_of(alloc: Global, root: &Section) -> Result<(), FmdFault>
-    ensures clear { OnOk result (names_fault (names (view root.now)) ≡ None) }
-    ensures few { OnOk result (section_count (view root.now) ≤ area_limit + 1) }
-    ensures refused { IfErr result (λ fault. (fault ≡ FmdFault.Memory) ⊎ (names_fault (names (view root.now)) ≡ Some fault)) }
+    ensures { Refuses (names_fault (names (view root.now))) result }
 {
     let mut all = Vec::new(alloc);
     push_names(root, &mut all)?;
@@ -39,24 +37,11 @@ fn push_names<'s>(section: &'s Section, all: &mut Vec<&'s [u8]>) -> Result<(), F
     Ok(())
 }
 
-/// Refuses a name that stands twice, and what `check_found` refuses.
+/// Refuses a name that stands twice, and what `check_parts` refuses.
 fn check_names(alloc: Global, names: &[&[u8]]) -> Result<(), FmdFault>
-    ensures clear { OnOk result (names_fault (map (λ r. r.now) names.now) ≡ None) }
-    ensures few { OnOk result (length names.now ≤ area_limit + 1) }
-    ensures refused { IfErr result (λ fault. (fault ≡ FmdFault.Memory) ⊎ (names_fault (map (λ r. r.now) names.now) ≡ Some fault)) }
+    ensures { Refuses (names_fault (map (λ r. r.now) names.now)) result }
 {
-    let found = first_duplicate(alloc, names)?;
-    check_found(names, found)
-}
-
-/// Refuses the name that stands twice, whose number is given, and what `check_parts` refuses. It takes no memory.
-fn check_found(names: &[&[u8]], found: Option<usize>) -> Result<(), FmdFault>
-    requires { found ≡ duplicate 0 [] (map (λ r. r.now) names.now) }
-    ensures clear { OnOk result (names_fault (map (λ r. r.now) names.now) ≡ None) }
-    ensures few { OnOk result (length names.now ≤ area_limit + 1) }
-    ensures refused { IfErr result (λ fault. names_fault (map (λ r. r.now) names.now) ≡ Some fault) }
-{
-    if let Some(section) = found {
+    if let Some(section) = first_duplicate(alloc, names)? {
         return Err(FmdFault::Duplicate { section });
     }
     match names {
@@ -84,7 +69,6 @@ fn first_duplicate(alloc: Global, names: &[&[u8]]) -> Result<Option<usize>, FmdF
 /// Refuses parts none of which is named FMAP, and too many of them.
 fn check_parts(parts: &[&[u8]]) -> Result<(), FmdFault>
     ensures clear { OnOk result (areas_fault (map (λ r. r.now) parts.now) ≡ None) }
-    ensures few { OnOk result (length parts.now ≤ area_limit) }
     ensures refused { IfErr result (λ fault. areas_fault (map (λ r. r.now) parts.now) ≡ Some fault) }
 {
     if !has_fmap(parts) {

@@ -5,7 +5,7 @@ use Rattle.fmd_lang.specs.View.{view, views}
 use Rattle.fmd_lang.specs.Table.{section_area, areas_of, areas_below}
 use Rattle.fmd_lang.specs.Tree.{section_count}
 use Rattle.fmd_lang.specs.LayoutFaults.{parent_fault}
-use Rattle.fmd_lang.proofs.LayoutLemmas.{areas-more, count-more, faults-left, faults-first, area-is, joined}
+use Rattle.fmd_lang.proofs.LayoutLemmas.{areas-left, count-more, faults-left, faults-first, area-is, joined}
 use Rattle.fmd_lang.proofs.layout.+push_areas.Goals as goal
 
 pub returns-in_err-push_areas-clause-refused : goal.returns-in_err-push_areas-clause-refused
@@ -41,16 +41,18 @@ loop-index-preserved t c =
     let es : s ≡ get_or parts k s = rw c.deref-part-items.ensures.value at c.part-item.is in
     let hs : k < length parts = rw c.deref-part-items.ensures.value at c.loop-index-test.true in
     let hq : k < length qs = omega (arith, hs, c.in_ok-places.ensures.len) in
-    let rest = areas_of c.args.at (drop (k + 1) qs) (views (drop (k + 1) parts)) in
-    let below = areas_below (c.args.at + q.start) q.size (view s) in
+    let n = suc (length before) in
+    let m = suc (length c.push_areas.new.areas.items) in
+    let rest = areas_of m c.args.at (drop (k + 1) qs) (views (drop (k + 1) parts)) in
+    let below = areas_below (length c.push.new.self.items) (c.args.at + q.start) q.size (view s) in
     let count : length c.push_areas.new.areas.items + 1 ≡ length c.push.new.self.items + section_count (view s) = c.in_ok-push_areas.ensures.count in
-    let further : suc (length before) + section_count (view s) ≡ suc (length c.push_areas.new.areas.items) = omega (arith, len, count) in (
+    let further : n + section_count (view s) ≡ m = omega (arith, len, count) in (
       omega (arith, c.loop-index.invariant.0, count-more k parts s hs es, count, len),
       ap (λ xs. xs ++ rest) (c.in_ok-push_areas.ensures.ok ∙ ap (λ xs. xs ++ below) items)
           ∙ joined before below rest (section_area c.args.at q (view s))
-          ∙ ap (λ xs. before ++ xs) (sym (areas-more c.args.at k qs parts q s hq hs c.index-place.ensures es))
+          ∙ ap (λ xs. before ++ xs) (areas-left n m (length c.push.new.self.items) c.args.at k qs parts q s hq hs c.index-place.ensures es len further)
           ∙ c.loop-index.invariant.1,
       c.loop-index.invariant.2
-          ∙ faults-left (suc (length before)) (suc (length c.push_areas.new.areas.items)) k qs parts q s hq hs c.index-place.ensures es
-          (ap (λ n. parent_fault n q.size (view s)) (sym len) ∙ c.in_ok-push_areas.ensures.clear) further,
+          ∙ faults-left n m k qs parts q s hq hs c.index-place.ensures es
+          (ap (λ j. parent_fault j q.size (view s)) (sym len) ∙ c.in_ok-push_areas.ensures.refused) further,
     )

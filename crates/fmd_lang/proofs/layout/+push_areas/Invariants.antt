@@ -11,5 +11,5 @@ invariant-loop-index l =
     let left = views (drop l.index (out-Section l.section).parts.items) in
     let room = drop l.index l.places.items in
     (length l.areas.items + 1 + sections_count left ≡ length l.fn.areas.items + section_count (view l.section))
-    × (l.areas.items ++ areas_of l.at room left ≡ l.fn.areas.items ++ areas_below l.at l.size (view l.section))
+    × (l.areas.items ++ areas_of (suc (length l.areas.items)) l.at room left ≡ l.fn.areas.items ++ areas_below (length l.fn.areas.items) l.at l.size (view l.section))
     × (parent_fault (length l.fn.areas.items) l.size (view l.section) ≡ parts_fault (suc (length l.areas.items)) room left)
