@@ -12,7 +12,7 @@ use Rattle.fmd_lang.specs.Tree.{Tree, section, Forest, none, some, names, sectio
 use Rattle.fmd_lang.specs.Grammar.{HasValue, IsOffset, IsSection, IsSize}
 use Rattle.fmd_lang.specs.Faults.{first_fault, next_depth, own_fault, text_limit}
 use Rattle.fmd_lang.specs.WordFaults.{first_own_fault}
-use Rattle.fmd_lang.specs.LayoutFaults.{layout_fault, names_fault, places_fault}
+use Rattle.fmd_lang.specs.LayoutFaults.{layout_fault, names_fault}
 use Rattle.fmd_lang.proofs.LayoutLemmas.{few-sections}
 use Rattle.fmd_lang.specs.Table.{AreasBelow, AreasOf, area_limit}
 use Rattle.fmd_lang.specs.declared.row.Place.{Place}
@@ -73,4 +73,4 @@ mutual
 
 pub few_areas : (t : Tree) (size : ℕ) (areas : List Area) → layout_fault t ≡ None → AreasBelow 0 0 size t areas → length areas < 2 ^ 16
 unfolding layout_fault
-few_areas t size areas fine are = omega (arith, few-sections t (or-none (names_fault (names t)) (places_fault t) fine).0, count_below t 0 0 size areas are)
+few_areas t size areas fine are = omega (arith, few-sections t (or-none (names_fault (names t)) _ fine).0, count_below t 0 0 size areas are)

@@ -40,16 +40,23 @@ flags-push (v ∷ ws) before flags flag w h is = go (annotation_flag v.bytes) (�
 pub flags-snoc : (before flags flag : ℕ) (v : List Word) → Then (λ ws. flags_with before ws ≡ Some flags) (One (IsAnnotation flag)) v → flags_with before v ≡ Some (bit_or flags flag)
 flags-snoc before flags flag v (front, back, split, all, (w, one, is)) = rw (split, one) (flags-push front before flags flag w all is)
 
--- An annotation is a name.
-pub annotation-name : (bytes : List ℕ) (flag : ℕ) → annotation_flag bytes ≡ Some flag → kind_of bytes ≡ Name
-annotation-name bytes flag h =
+-- what holds of each annotation
+pub each-annotation : (P : List ℕ → ℕ → Type 0) → P (codes "CBFS") 0 → P (codes "PRESERVE") 8 → (bytes : List ℕ) (flag : ℕ) → annotation_flag bytes ≡ Some flag → P bytes flag
+each-annotation P cbfs preserve bytes flag h =
     go (bytes_eq bytes (codes "CBFS")) (bytes_eq bytes (codes "PRESERVE")) (bytes_eq-Decides bytes (codes "CBFS")).0 (bytes_eq-Decides bytes (codes "PRESERVE")).0 h
   where
+    known : (name : List ℕ) (value : ℕ) → P name value → bytes ≡ name → Some value ≡ Some flag → P bytes flag
+    known name value holds same e = let n : value ≡ flag = cc in subst (λ v. P bytes v) n (subst (λ v. P v value) (sym same) holds)
+
     go : (c p : Bool) → (c ≡ true → bytes ≡ codes "CBFS") → (p ≡ true → bytes ≡ codes "PRESERVE") →
-        (let o : Option ℕ = cond c (Some 0) (cond p (Some 8) None) in o) ≡ Some flag → kind_of bytes ≡ Name
-    go true p cbfs preserve e = ap kind_of (cbfs refl)
-    go false true cbfs preserve e = ap kind_of (preserve refl)
-    go false false cbfs preserve e = cc
+        (let o : Option ℕ = cond c (Some 0) (cond p (Some 8) None) in o) ≡ Some flag → P bytes flag
+    go true p is_cbfs is_preserve e = known (codes "CBFS") 0 cbfs (is_cbfs refl) e
+    go false true is_cbfs is_preserve e = known (codes "PRESERVE") 8 preserve (is_preserve refl) e
+    go false false is_cbfs is_preserve e = absurd cc
+
+-- An annotation is a name.
+pub annotation-name : (bytes : List ℕ) (flag : ℕ) → annotation_flag bytes ≡ Some flag → kind_of bytes ≡ Name
+annotation-name = each-annotation (λ bytes flag. kind_of bytes ≡ Name) refl refl
 
 -- a section from its first word on
 pub section-opens : (w : Word) (t : Tree) (v : List Word) → Then (One (λ x. x ≡ w)) (λ ws. IsSection t (w ∷ ws)) v → IsSection t v

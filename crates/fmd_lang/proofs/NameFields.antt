@@ -6,7 +6,7 @@ use Rattle.std.proofs.lemmas.List.Sums.{take_while-cons}
 use Rattle.std.proofs.lemmas.List.Elements.{All-nil, All-cons, All-head, All-tail}
 use Rattle.flash_format.specs.Entry.{is_nul}
 use Rattle.flash_format.specs.Flashmap.{is_named, is_printing, text_of}
-use Rattle.fmd_lang.specs.Words.{Word, word, kind_of, kind_of_byte, is_blank, is_plain, put, words, words_from, without_comments}
+use Rattle.fmd_lang.specs.Words.{Word, word, kind_of, kind_of_byte, is_blank, is_plain, words, words_from, without_comments}
 use Rattle.fmd_lang.specs.Names.{field_of}
 use Rattle.fmd_lang.specs.Grammar.{IsA}
 use Rattle.fmd_lang.specs.declared.word.Kind.TheVariants.{End, Name}
@@ -39,7 +39,7 @@ words_whole place before (b ∷ s) = go (is_blank b) (is_plain b) refl (is_plain
     others = words_from (suc place) b s
 
     go : (blank plain : Bool) → is_plain b ≡ plain → (inside : Bool) → All IsWhole others
-        → All IsWhole (put place (cond blank None (cond (not plain) (Some (b ∷ [])) (cond inside None (Some (take_while is_plain (b ∷ s)))))) others)
+        → All IsWhole (cond blank others (cond (not plain) (word place (b ∷ []) ∷ others) (cond inside others (word place (take_while is_plain (b ∷ s)) ∷ others))))
     go true plain e inside rest = rest
     go false false e inside rest = All-cons IsWhole (word place (b ∷ [])) others (no_end b [], λ h. let f : true ≡ false = sym (name_plain b h) ∙ e in cc) rest
     go false true e true rest = rest

@@ -23,17 +23,13 @@ use Rattle.fmd_lang.specs.declared.row.Place.{Place}
 use Rattle.fmd_lang.specs.declared.table.Table.{Table}
 use Rattle.fmd_lang.proofs.FaultlessTables.{Fits, few_areas, numbers_fit, offset_fits, size_fits}
 use Rattle.fmd_lang.proofs.NameFields.{all-behind, field_long, field_named, first_name}
+use Rattle.fmd_lang.proofs.FormLemmas.{each-annotation}
 use Rattle.fmd_lang.proofs.TreeLemmas.{first-flag}
 
 -- ---- the areas
 
 few_flags : (bytes : List ℕ) (flag : ℕ) → annotation_flag bytes ≡ Some flag → flag < 2 ^ 16
-few_flags bytes flag h = go (bytes_eq bytes (codes "CBFS")) (bytes_eq bytes (codes "PRESERVE")) h
-  where
-    go : (c p : Bool) → (let o : Option ℕ = cond c (Some 0) (cond p (Some 8) None) in o) ≡ Some flag → flag < 2 ^ 16
-    go true p e = omega (arith, ap (λ o. unwrap_or o 0) e)
-    go false true e = omega (arith, ap (λ o. unwrap_or o 0) e)
-    go false false e = absurd cc
+few_flags = each-annotation (λ bytes flag. flag < 2 ^ 16) (omega arith) (omega arith)
 
 joined_flags : (ws : List Word) (before flags : ℕ) → before < 2 ^ 16 → flags_with before ws ≡ Some flags → flags < 2 ^ 16
 joined_flags [] before flags few h = omega (arith, ap (λ o. unwrap_or o 0) h)

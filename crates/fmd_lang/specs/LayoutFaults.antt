@@ -47,13 +47,10 @@ size_fault (Some n) = flag (nat_eq n 0) (faults.EmptySection 0)
 abbrev pub table_fault : ℕ → Tree → Option FmdFault
 table_fault size t = flag (nat_lt (size_named (codes "FMAP") (areas_below 0 0 size t)) (table_len (section_count t - 1))) faults.FmapTooSmall
 
--- what is refused of the places: the root's size, then the parents, then the table
-abbrev pub places_fault : Tree → Option FmdFault
-places_fault t =
-    option_or (size_fault (size_of t))
-    (option_or (parent_fault 0 (unwrap_or (size_of t) 0) t)
-    (table_fault (unwrap_or (size_of t) 0) t))
-
--- the refusal of a layout
+-- the refusal of a layout: by the names, then by the root's size, the parents and the table
 unfoldable pub layout_fault : Tree → Option FmdFault
-layout_fault t = option_or (names_fault (names t)) (places_fault t)
+layout_fault t =
+    option_or (names_fault (names t))
+    (option_or (size_fault (size_of t))
+    (option_or (parent_fault 0 (unwrap_or (size_of t) 0) t)
+    (table_fault (unwrap_or (size_of t) 0) t)))

@@ -1,6 +1,6 @@
 -- The words of a descriptor's text, with their places. The language is that of coreboot's flashmap descriptors
 -- (Documentation/lib/flashmap.md); which bytes make a word, a blank and a comment is this project's own.
-use Rattle.std.specs.Prelude.{ℕ, suc, nat_le, nat_eq, Bool, true, false, ◌&&◌, not, if◌then◌else◌, drop, List, [], ◌∷◌, Option, Some, None, codes}
+use Rattle.std.specs.Prelude.{ℕ, suc, nat_le, nat_eq, Bool, true, false, ◌&&◌, not, if◌then◌else◌, drop, List, [], ◌∷◌, codes}
 use Rattle.std.specs.List.{list_any, take_while}
 use Rattle.fmd_lang.specs.declared.word.Kind.{Kind}
 use Rattle.fmd_lang.specs.declared.word.Kind.TheVariants.{Name, Number, OpenParen, CloseParen, At, OpenBrace, CloseBrace, Bad, End}
@@ -8,9 +8,6 @@ use Rattle.fmd_lang.specs.declared.word.Kind.TheVariants.{Name, Number, OpenPare
 -- space, tab, line feed, carriage return
 abbrev pub is_blank : ℕ → Bool
 is_blank b = list_any (nat_eq b) (32 ∷ 9 ∷ 10 ∷ 13 ∷ [])
-
-abbrev pub is_digit : ℕ → Bool
-is_digit b = nat_le 48 b && nat_le b 57
 
 -- what names and numbers are made of: the printable bytes but for the marks and `#`
 abbrev pub is_plain : ℕ → Bool
@@ -31,23 +28,15 @@ pub record Word : Type 0 where
 abbrev pub word : ℕ → List ℕ → Word
 word place bytes = record { place = place; bytes = bytes }
 
--- The word that begins with these bytes, after the byte before them: a mark; a longest row of plain
+-- The words that begin in these bytes, which stand at a place, after a byte. A word is a mark; a longest row of plain
 -- bytes; or one byte that no word may have.
-abbrev pub word_at : ℕ → List ℕ → Option (List ℕ)
-word_at before [] = None
-word_at before (b ∷ bs) =
-    if is_blank b then None
-    else (if not (is_plain b) then Some (b ∷ [])
-    else (if is_plain before then None else Some (take_while is_plain (b ∷ bs))))
-
-abbrev pub put : ℕ → Option (List ℕ) → List Word → List Word
-put place None ws = ws
-put place (Some bytes) ws = record { place = place; bytes = bytes } ∷ ws
-
--- the words that begin in these bytes, which stand at a place, after a byte
 abbrev pub words_from : ℕ → ℕ → List ℕ → List Word
 words_from place before [] = []
-words_from place before (b ∷ bs) = put place (word_at before (b ∷ bs)) (words_from (suc place) b bs)
+words_from place before (b ∷ bs) =
+    let others = words_from (suc place) b bs in
+    if is_blank b then others
+    else (if not (is_plain b) then word place (b ∷ []) ∷ others
+    else (if is_plain before then others else word place (take_while is_plain (b ∷ bs)) ∷ others))
 
 -- the words of a text
 unfoldable pub words : List ℕ → List Word
@@ -61,7 +50,7 @@ kind_of_byte b =
     else (if nat_eq b 64 then At
     else (if nat_eq b 123 then OpenBrace
     else (if nat_eq b 125 then CloseBrace
-    else (if is_digit b then Number
+    else (if nat_le 48 b && nat_le b 57 then Number
     else (if is_plain b then Name else Bad))))))
 
 -- What a word of these bytes is, by the first. The end of a text counts as a word of no bytes.
