@@ -51,10 +51,12 @@ has-value : (at : ℕ) (value : Option ℕ) → result_err (number_at at value) 
 has-value at None h = cc
 has-value at (Some n) h = (n, refl)
 
-reads-size : (depth end : ℕ) (ws : List Word) → fault_from (past 2) depth end ws ≡ None → Finds IsSize (past 2, depth) (past 3, depth) end ws
+reads-size : (depth end : ℕ) (ws : List Word) → fault_from (past 2) depth end ws ≡ None →
+    Finds IsSize (past 2, depth) (past 3, depth) end ws
 reads-size depth end ws h = go (front_kind ws) ws refl h
   where
-    go : (k : Kind) (ws : List Word) → front_kind ws ≡ k → fault_from (past 2) depth end ws ≡ None → Finds IsSize (past 2, depth) (past 3, depth) end ws
+    go : (k : Kind) (ws : List Word) → front_kind ws ≡ k → fault_from (past 2) depth end ws ≡ None →
+        Finds IsSize (past 2, depth) (past 3, depth) end ws
     go Number [] is h = cc
     go Number (w ∷ ws) is h =
         let own = (clear (past 2) depth end w ws h).0 in
@@ -63,7 +65,8 @@ reads-size depth end ws h = go (front_kind ws) ws refl h
     go k ws is h = record { value = None; behind = ws; reads = reads-none (IsSize None) _ _ end ws refl (pass 2 3 depth end ws (rw is refl)) }
 
 -- the number after an `@`
-reads-number : (depth end : ℕ) (ws : List Word) → fault_from at_sign depth end ws ≡ None → Finds (λ n. One (HasValue n)) (at_sign, depth) (past 2, depth) end ws
+reads-number : (depth end : ℕ) (ws : List Word) → fault_from at_sign depth end ws ≡ None →
+    Finds (λ n. One (HasValue n)) (at_sign, depth) (past 2, depth) end ws
 reads-number depth end [] h = cc
 reads-number depth end (w ∷ ws) h =
     let (own, stands) = clear at_sign depth end w ws h in
@@ -71,10 +74,12 @@ reads-number depth end (w ∷ ws) h =
     let (n, value) = has-value w.place (number_value w.bytes) (rw is at own) in
     record { value = n; behind = ws; reads = reads-word (HasValue n) at_sign depth end w ws Number is own refl (is, value) }
 
-reads-offset : (depth end : ℕ) (ws : List Word) → fault_from (past 1) depth end ws ≡ None → Finds IsOffset (past 1, depth) (past 2, depth) end ws
+reads-offset : (depth end : ℕ) (ws : List Word) → fault_from (past 1) depth end ws ≡ None →
+    Finds IsOffset (past 1, depth) (past 2, depth) end ws
 reads-offset depth end ws h = go (front_kind ws) ws refl h
   where
-    go : (k : Kind) (ws : List Word) → front_kind ws ≡ k → fault_from (past 1) depth end ws ≡ None → Finds IsOffset (past 1, depth) (past 2, depth) end ws
+    go : (k : Kind) (ws : List Word) → front_kind ws ≡ k → fault_from (past 1) depth end ws ≡ None →
+        Finds IsOffset (past 1, depth) (past 2, depth) end ws
     go At [] is h = cc
     go At (w ∷ ws) is h =
         let word = reads-word (IsA At) (past 1) depth end w ws At is (clear (past 1) depth end w ws h).0 refl is in
@@ -83,11 +88,13 @@ reads-offset depth end ws h = go (front_kind ws) ws refl h
     go k ws is h = record { value = None; behind = ws; reads = reads-none (IsOffset None) _ _ end ws refl (pass 1 2 depth end ws (rw is refl)) }
 
 -- annotations after others, and the `)` after them
-reads-more : (flags depth end : ℕ) (ws : List Word) → fault_from annotated depth end ws ≡ None → Finds (EndAnnotations flags) (annotated, depth) (past 1, depth) end ws
+reads-more : (flags depth end : ℕ) (ws : List Word) → fault_from annotated depth end ws ≡ None →
+    Finds (EndAnnotations flags) (annotated, depth) (past 1, depth) end ws
 reads-more flags depth end [] h = cc
 reads-more flags depth end (w ∷ ws) h = go (annotation_flag w.bytes) refl (λ joined e. reads-more joined depth end ws e)
   where
-    go : (o : Option ℕ) → annotation_flag w.bytes ≡ o → ((joined : ℕ) → fault_from annotated depth end ws ≡ None → Finds (EndAnnotations joined) (annotated, depth) (past 1, depth) end ws) →
+    go : (o : Option ℕ) → annotation_flag w.bytes ≡ o →
+        ((joined : ℕ) → fault_from annotated depth end ws ≡ None → Finds (EndAnnotations joined) (annotated, depth) (past 1, depth) end ws) →
         Finds (EndAnnotations flags) (annotated, depth) (past 1, depth) end (w ∷ ws)
     go None unknown further =
         let (own, stands) = clear annotated depth end w ws h in
@@ -109,17 +116,20 @@ reads-first : (depth end : ℕ) (ws : List Word) → fault_from in_annotations d
 reads-first depth end [] h = cc
 reads-first depth end (w ∷ ws) h = go (annotation_flag w.bytes) refl
   where
-    go : (o : Option ℕ) → annotation_flag w.bytes ≡ o → Finds (λ flags. Then (HaveFlags flags) (One (IsA CloseParen))) (in_annotations, depth) (past 1, depth) end (w ∷ ws)
+    go : (o : Option ℕ) → annotation_flag w.bytes ≡ o →
+        Finds (λ flags. Then (HaveFlags flags) (One (IsA CloseParen))) (in_annotations, depth) (past 1, depth) end (w ∷ ws)
     go None unknown = let wrong = rw unknown at (clear in_annotations depth end w ws h).1 in cc
     go (Some flag) known =
         let word = reads-word (IsAnnotation flag) in_annotations depth end w ws Name (annotation-name w.bytes flag known) (clear in_annotations depth end w ws h).0 (rw known refl) known in
         let more = reads-more flag depth end ws (sym word.same ∙ h) in
         record { value = more.value; behind = more.behind; reads = reads-as (flags-cons 0 flag more.value) (reads-then word more.reads) }
 
-reads-annotations : (depth end : ℕ) (ws : List Word) → fault_from (past 0) depth end ws ≡ None → Finds AreAnnotations (past 0, depth) (past 1, depth) end ws
+reads-annotations : (depth end : ℕ) (ws : List Word) → fault_from (past 0) depth end ws ≡ None →
+    Finds AreAnnotations (past 0, depth) (past 1, depth) end ws
 reads-annotations depth end ws h = go (front_kind ws) ws refl h
   where
-    go : (k : Kind) (ws : List Word) → front_kind ws ≡ k → fault_from (past 0) depth end ws ≡ None → Finds AreAnnotations (past 0, depth) (past 1, depth) end ws
+    go : (k : Kind) (ws : List Word) → front_kind ws ≡ k → fault_from (past 0) depth end ws ≡ None →
+        Finds AreAnnotations (past 0, depth) (past 1, depth) end ws
     go OpenParen [] is h = cc
     go OpenParen (w ∷ ws) is h =
         let word = reads-word (IsA OpenParen) (past 0) depth end w ws OpenParen is (clear (past 0) depth end w ws h).0 refl is in
@@ -132,15 +142,18 @@ abbrev Closed : Forest → List Word → Type 0
 Closed parts = Then (AreSections parts) (One (IsA CloseBrace))
 
 abbrev Further : ℕ → ℕ → ℕ → Type 0
-Further fuel depth end = (ws : List Word) → length ws < fuel → fault_from (past 4) (suc depth) end ws ≡ None → Finds Closed (past 4, suc depth) (past 4, depth) end ws
+Further fuel depth end = (ws : List Word) → length ws < fuel → fault_from (past 4) (suc depth) end ws ≡ None →
+    Finds Closed (past 4, suc depth) (past 4, depth) end ws
 
 abbrev Body : Forest → List Word → Type 0
 Body parts = Else (parts ≡ none) (Between OpenBrace CloseBrace (AreSections parts))
 
-reads-body : (fuel depth end : ℕ) (ws : List Word) → Further fuel depth end → length ws ≤ fuel → fault_from (past 3) depth end ws ≡ None → Finds Body (past 3, depth) (past 4, depth) end ws
+reads-body : (fuel depth end : ℕ) (ws : List Word) → Further fuel depth end → length ws ≤ fuel →
+    fault_from (past 3) depth end ws ≡ None → Finds Body (past 3, depth) (past 4, depth) end ws
 reads-body fuel depth end ws further few h = go (front_kind ws) ws refl few h
   where
-    go : (k : Kind) (ws : List Word) → front_kind ws ≡ k → length ws ≤ fuel → fault_from (past 3) depth end ws ≡ None → Finds Body (past 3, depth) (past 4, depth) end ws
+    go : (k : Kind) (ws : List Word) → front_kind ws ≡ k → length ws ≤ fuel → fault_from (past 3) depth end ws ≡ None →
+        Finds Body (past 3, depth) (past 4, depth) end ws
     go OpenBrace [] is few h = cc
     go OpenBrace (w ∷ ws) is few h =
         let word = reads-word (IsA OpenBrace) (past 3) depth end w ws OpenBrace is (clear (past 3) depth end w ws h).0 refl is in
@@ -149,17 +162,20 @@ reads-body fuel depth end ws further few h = go (front_kind ws) ws refl few h
     go k ws is few h = record { value = none; behind = ws; reads = reads-none (Body none) _ _ end ws (inl (refl, refl)) (pass 3 4 depth end ws (rw is refl)) }
 
 -- What is behind is no longer.
-shorter : {P : List Word → Type 0} {before after : Standing} {end : ℕ} {ws behind : List Word} → Reads P before after end ws behind → length behind ≤ length ws
+shorter : {P : List Word → Type 0} {before after : Standing} {end : ℕ} {ws behind : List Word} →
+    Reads P before after end ws behind → length behind ≤ length ws
 shorter {ws = ws} {behind = behind} p = omega (arith, ap length p.split, length-append p.front behind)
 
 -- a section after its name
-reads-section : (fuel depth end : ℕ) (w : Word) (ws : List Word) → IsA Name w → own_fault depth w ≡ None → Further fuel depth end → length ws ≤ fuel → fault_from (past 0) depth end ws ≡ None →
+reads-section : (fuel depth end : ℕ) (w : Word) (ws : List Word) → IsA Name w → own_fault depth w ≡ None →
+    Further fuel depth end → length ws ≤ fuel → fault_from (past 0) depth end ws ≡ None →
     Finds (λ t vs. IsSection t (w ∷ vs)) (past 0, depth) (past 4, depth) end ws
 reads-section fuel depth end w ws is own further few h =
     let annotations = reads-annotations depth end ws h in
     let offset = reads-offset depth end annotations.behind (sym annotations.reads.same ∙ h) in
     let size = reads-size depth end offset.behind (sym offset.reads.same ∙ sym annotations.reads.same ∙ h) in
-    let fewer : length size.behind ≤ fuel = omega (arith, few, shorter annotations.reads, shorter offset.reads, shorter size.reads) in
+    let fewer : length size.behind ≤ fuel =
+    omega (arith, few, shorter annotations.reads, shorter offset.reads, shorter size.reads) in
     let body = reads-body fuel depth end size.behind further fewer (sym size.reads.same ∙ sym offset.reads.same ∙ sym annotations.reads.same ∙ h) in
     record {
       value = section w.bytes annotations.value offset.value size.value body.value;
@@ -173,15 +189,18 @@ one-more t ts v (front, rest, split, one, (inside, close, inner, all, end)) =
     (front ++ inside, close, split ∙ ap (λ u. front ++ u) inner ∙ sym (append_assoc front inside close), (front, inside, refl, one, all), end)
 
 -- words inside braces, fewer than so many
-reads-closed : (fuel depth end : ℕ) (ws : List Word) → length ws < fuel → fault_from (past 4) (suc depth) end ws ≡ None → Finds Closed (past 4, suc depth) (past 4, depth) end ws
+reads-closed : (fuel depth end : ℕ) (ws : List Word) → length ws < fuel → fault_from (past 4) (suc depth) end ws ≡ None →
+    Finds Closed (past 4, suc depth) (past 4, depth) end ws
 reads-closed zero depth end ws few h = absurd (omega arith)
 reads-closed (suc fuel) depth end [] few h = cc
-reads-closed (suc fuel) depth end (w ∷ ws) few h = go (kind_of w.bytes) refl (clear (past 4) (suc depth) end w ws h).1 (λ d vs fewer g. reads-closed fuel d end vs fewer g)
+reads-closed (suc fuel) depth end (w ∷ ws) few h =
+    go (kind_of w.bytes) refl (clear (past 4) (suc depth) end w ws h).1 (λ d vs fewer g. reads-closed fuel d end vs fewer g)
   where
     own : own_fault (suc depth) w ≡ None
     own = (clear (past 4) (suc depth) end w ws h).0
 
-    go : (k : Kind) → kind_of w.bytes ≡ k → expected_of (past 4) (suc depth) k (annotation_flag w.bytes) ≡ None → ((d : ℕ) → Further fuel d end) →
+    go : (k : Kind) → kind_of w.bytes ≡ k → expected_of (past 4) (suc depth) k (annotation_flag w.bytes) ≡ None →
+        ((d : ℕ) → Further fuel d end) →
         Finds Closed (past 4, suc depth) (past 4, depth) end (w ∷ ws)
     go CloseBrace is stands further =
         let nothing = reads-none (AreSections none) (past 4, suc depth) (past 4, suc depth) end (w ∷ ws) refl refl in
@@ -218,6 +237,7 @@ pub faultless-tree : (text : List ℕ) → first_fault text ≡ None → (t : Tr
 unfolding first_fault words
 faultless-tree text h = go (nat_lt 1048576 (length text)) h
   where
-    go : (b : Bool) → cond b (Some faults.TextTooLong) (fault_from start 0 (length text) (words text)) ≡ None → (t : Tree) × IsSection t (words text)
+    go : (b : Bool) → cond b (Some faults.TextTooLong) (fault_from start 0 (length text) (words text)) ≡ None →
+        (t : Tree) × IsSection t (words text)
     go true e = cc
     go false e = root-tree (length text) (words text) (words_whole 0 32 (without_comments false text)) e

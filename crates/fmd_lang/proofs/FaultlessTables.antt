@@ -27,7 +27,8 @@ abbrev pub Fits : Word → Type 0
 Fits w = (n : ℕ) → HasValue n w → n < 2 ^ 32
 
 number_fits : (depth : ℕ) (w : Word) → own_fault depth w ≡ None → Fits w
-number_fits depth w fine n (is, value) = go (nat_lt n (2 ^ 32)) refl (ap (λ o. result_err (number_at w.place o)) (sym value) ∙ rw is at fine)
+number_fits depth w fine n (is, value) =
+    go (nat_lt n (2 ^ 32)) refl (ap (λ o. result_err (number_at w.place o)) (sym value) ∙ rw is at fine)
   where
     go : (b : Bool) → nat_lt n (2 ^ 32) ≡ b → result_err (cond b (Ok n) (Err (faults.NumberTooLarge w.place))) ≡ None → n < 2 ^ 32
     go true e f = grind (arith, nat_tests)
@@ -46,31 +47,39 @@ numbers_fit t text is fine = go (nat_lt text_limit (length text)) (sym (text-agr
     go true e = absurd cc
     go false e = all_fit 0 (words text) e
 
-pub size_fits : (size : Option ℕ) (n : ℕ) (number after : List Word) → size ≡ Some n → IsSize size number → All Fits (number ++ after) → n < 2 ^ 32
+pub size_fits : (size : Option ℕ) (n : ℕ) (number after : List Word) → size ≡ Some n → IsSize size number →
+    All Fits (number ++ after) → n < 2 ^ 32
 size_fits None n number after is size each = absurd cc
 size_fits (Some m) n number after is (w, shape, value) each =
     let same : m ≡ n = cc in
     let here : All Fits (w ∷ after) = subst (λ (l : List Word). All Fits (l ++ after)) shape each in
     omega (arith, All-head Fits w after here m value, same)
 
-pub offset_fits : (offset : Option ℕ) (place after : List Word) → IsOffset offset place → All Fits (place ++ after) → unwrap_or offset 0 < 2 ^ 32
+pub offset_fits : (offset : Option ℕ) (place after : List Word) → IsOffset offset place → All Fits (place ++ after) →
+    unwrap_or offset 0 < 2 ^ 32
 offset_fits None place after is each = omega arith
 offset_fits (Some n) place after (front, back, shape, (mark, first, is_mark), (w, second, value)) each =
-    let here : All Fits (mark ∷ (w ∷ after)) = subst (λ (l : List Word). All Fits (l ++ after)) (shape ∙ ap (λ f. f ++ back) first ∙ ap (λ b. mark ∷ b) second) each in
+    let here : All Fits (mark ∷ (w ∷ after)) =
+    subst (λ (l : List Word). All Fits (l ++ after)) (shape ∙ ap (λ f. f ++ back) first ∙ ap (λ b. mark ∷ b) second) each in
     All-head Fits w after (All-tail Fits mark (w ∷ after) here) n value
 
 -- ---- areas
 
 mutual
-  count_below : (t : Tree) (n at size : ℕ) (areas : List Area) → AreasBelow n at size t areas → suc (length areas) ≡ section_count t
-  count_below (section name flags offset given parts) n at size areas (places, laid, are) = ap suc (count_of parts (suc n) at places areas are)
+  count_below : (t : Tree) (n at size : ℕ) (areas : List Area) → AreasBelow n at size t areas →
+      suc (length areas) ≡ section_count t
+  count_below (section name flags offset given parts) n at size areas (places, laid, are) =
+      ap suc (count_of parts (suc n) at places areas are)
 
-  count_of : (ts : Forest) (n at : ℕ) (qs : List Place) (areas : List Area) → AreasOf n at ts qs areas → length areas ≡ sections_count ts
+  count_of : (ts : Forest) (n at : ℕ) (qs : List Place) (areas : List Area) → AreasOf n at ts qs areas →
+      length areas ≡ sections_count ts
   count_of none n at qs areas is = ap length is
   count_of (some t ts) n at [] areas is = absurd is
   count_of (some t ts) n at (q ∷ qs) areas (below, after, is, inner, outer) =
       omega (arith, ap length is, length-append below after, count_below t n (at + q.start) q.size below inner, count_of ts (n + section_count t) at qs after outer)
 
-pub few_areas : (t : Tree) (size : ℕ) (areas : List Area) → layout_fault t ≡ None → AreasBelow 0 0 size t areas → length areas < 2 ^ 16
+pub few_areas : (t : Tree) (size : ℕ) (areas : List Area) → layout_fault t ≡ None → AreasBelow 0 0 size t areas →
+    length areas < 2 ^ 16
 unfolding layout_fault
-few_areas t size areas fine are = omega (arith, few-sections t (or-none (names_fault (names t)) _ fine).0, count_below t 0 0 size areas are)
+few_areas t size areas fine are =
+    omega (arith, few-sections t (or-none (names_fault (names t)) _ fine).0, count_below t 0 0 size areas are)

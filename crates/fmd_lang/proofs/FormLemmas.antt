@@ -27,26 +27,32 @@ pub flags-cons : (before flag flags : ℕ) (v : List Word) →
 flags-cons before flag flags v (front, back, split, (w, one, is), (annotations, close, inner, all, end)) =
     (w ∷ annotations, close, split ∙ ap (λ f. f ++ back) one ∙ ap (λ b. w ∷ b) inner, (omega arith, rw is all), end)
 
-flags-push : (ws : List Word) (before flags flag : ℕ) (w : Word) → flags_with before ws ≡ Some flags → IsAnnotation flag w → flags_with before (ws ++ w ∷ []) ≡ Some (bit_or flags flag)
+flags-push : (ws : List Word) (before flags flag : ℕ) (w : Word) → flags_with before ws ≡ Some flags → IsAnnotation flag w →
+    flags_with before (ws ++ w ∷ []) ≡ Some (bit_or flags flag)
 flags-push [] before flags flag w h is = rw is (ap (option_map (λ n. bit_or n flag)) h)
 flags-push (v ∷ ws) before flags flag w h is = go (annotation_flag v.bytes) (λ joined e. flags-push ws joined flags flag w e is) h
   where
     go : (o : Option ℕ) → ((joined : ℕ) → flags_with joined ws ≡ Some flags → flags_with joined (ws ++ w ∷ []) ≡ Some (bit_or flags flag)) →
-        option_and_then (λ f. flags_with (bit_or before f) ws) o ≡ Some flags → option_and_then (λ f. flags_with (bit_or before f) (ws ++ w ∷ [])) o ≡ Some (bit_or flags flag)
+        option_and_then (λ f. flags_with (bit_or before f) ws) o ≡ Some flags →
+        option_and_then (λ f. flags_with (bit_or before f) (ws ++ w ∷ [])) o ≡ Some (bit_or flags flag)
     go None further e = cc
     go (Some f) further e = further (bit_or before f) e
 
 -- one more annotation at the end
-pub flags-snoc : (before flags flag : ℕ) (v : List Word) → Then (λ ws. flags_with before ws ≡ Some flags) (One (IsAnnotation flag)) v → flags_with before v ≡ Some (bit_or flags flag)
-flags-snoc before flags flag v (front, back, split, all, (w, one, is)) = rw (split, one) (flags-push front before flags flag w all is)
+pub flags-snoc : (before flags flag : ℕ) (v : List Word) →
+    Then (λ ws. flags_with before ws ≡ Some flags) (One (IsAnnotation flag)) v → flags_with before v ≡ Some (bit_or flags flag)
+flags-snoc before flags flag v (front, back, split, all, (w, one, is)) =
+    rw (split, one) (flags-push front before flags flag w all is)
 
 -- what holds of each annotation
-pub each-annotation : (P : List ℕ → ℕ → Type 0) → P (codes "CBFS") 0 → P (codes "PRESERVE") 8 → (bytes : List ℕ) (flag : ℕ) → annotation_flag bytes ≡ Some flag → P bytes flag
+pub each-annotation : (P : List ℕ → ℕ → Type 0) → P (codes "CBFS") 0 → P (codes "PRESERVE") 8 → (bytes : List ℕ) (flag : ℕ) →
+    annotation_flag bytes ≡ Some flag → P bytes flag
 each-annotation P cbfs preserve bytes flag h =
     go (bytes_eq bytes (codes "CBFS")) (bytes_eq bytes (codes "PRESERVE")) (bytes_eq-Decides bytes (codes "CBFS")).0 (bytes_eq-Decides bytes (codes "PRESERVE")).0 h
   where
     known : (name : List ℕ) (value : ℕ) → P name value → bytes ≡ name → Some value ≡ Some flag → P bytes flag
-    known name value holds same e = let n : value ≡ flag = cc in subst (λ v. P bytes v) n (subst (λ v. P v value) (sym same) holds)
+    known name value holds same e = let n : value ≡ flag =
+        cc in subst (λ v. P bytes v) n (subst (λ v. P v value) (sym same) holds)
 
     go : (c p : Bool) → (c ≡ true → bytes ≡ codes "CBFS") → (p ≡ true → bytes ≡ codes "PRESERVE") →
         (let o : Option ℕ = cond c (Some 0) (cond p (Some 8) None) in o) ≡ Some flag → P bytes flag
@@ -60,9 +66,11 @@ annotation-name = each-annotation (λ bytes flag. kind_of bytes ≡ Name) refl r
 
 -- a section from its first word on
 pub section-opens : (w : Word) (t : Tree) (v : List Word) → Then (One (λ x. x ≡ w)) (λ ws. IsSection t (w ∷ ws)) v → IsSection t v
-section-opens w t v (front, back, split, (x, one, same), is) = subst (IsSection t) (sym (split ∙ ap (λ f. f ++ back) one ∙ ap (λ y. y ∷ back) same)) is
+section-opens w t v (front, back, split, (x, one, same), is) =
+    subst (IsSection t) (sym (split ∙ ap (λ f. f ++ back) one ∙ ap (λ y. y ∷ back) same)) is
 
-sections-push : (ts : List Tree) (t : Tree) (ws more : List Word) → AreSections (forest_of ts) ws → IsSection t more → AreSections (forest_of (ts ++ t ∷ [])) (ws ++ more)
+sections-push : (ts : List Tree) (t : Tree) (ws more : List Word) → AreSections (forest_of ts) ws → IsSection t more →
+    AreSections (forest_of (ts ++ t ∷ [])) (ws ++ more)
 sections-push [] t ws more none one = (more, [], rw (none) (sym (append-nil more)), one, refl)
 sections-push (u ∷ ts) t ws more (first, rest, split, head, tail) one =
     (first, rest ++ more, rw split (append_assoc first rest more), head, sections-push ts t rest more tail one)
@@ -72,13 +80,15 @@ views-push [] part = refl
 views-push (p ∷ parts) part = ap (λ ts. some (view p) ts) (views-push parts part)
 
 -- one more section at the end
-pub sections-snoc : (parts : List Section) (part : Section) (v : List Word) → Then (AreSections (views parts)) (IsSection (view part)) v → AreSections (views (parts ++ part ∷ [])) v
+pub sections-snoc : (parts : List Section) (part : Section) (v : List Word) →
+    Then (AreSections (views parts)) (IsSection (view part)) v → AreSections (views (parts ++ part ∷ [])) v
 sections-snoc parts part v (front, back, split, all, one) =
     rw (views-push parts part, split) (sections-push (map view parts) (view part) front back all one)
 
 pub name-short : (depth : ℕ) (w : Word) → IsA Name w → own_fault depth w ≡ None → length w.bytes < 32
 name-short depth w is own = go (nat_lt (length w.bytes) 32) refl (rw is at own)
   where
-    go : (b : Bool) → nat_lt (length w.bytes) 32 ≡ b → (let o : Option FmdFault = cond b None (Some (faults.NameTooLong w.place)) in o) ≡ None → length w.bytes < 32
+    go : (b : Bool) → nat_lt (length w.bytes) 32 ≡ b →
+        (let o : Option FmdFault = cond b None (Some (faults.NameTooLong w.place)) in o) ≡ None → length w.bytes < 32
     go true e h = grind (arith, nat_tests)
     go false e h = absurd cc

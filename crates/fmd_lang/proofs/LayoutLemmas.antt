@@ -52,7 +52,8 @@ pub view-parts : (s : Section) → parts_of (view s) ≡ views (out-Section s).p
 view-parts s = rw (view-is s) refl
 
 -- every place lies in the parent
-pub placed-inside : (ps : List Sibling) (qs : List Place) (parent from : ℕ) → ArePlaced parent from ps qs → list_all (λ q. nat_le (end_of q) parent) qs ≡ true
+pub placed-inside : (ps : List Sibling) (qs : List Place) (parent from : ℕ) → ArePlaced parent from ps qs →
+    list_all (λ q. nat_le (end_of q) parent) qs ≡ true
 placed-inside [] [] parent from h = refl
 placed-inside [] (q ∷ qs) parent from h = cc
 placed-inside (p ∷ ps) [] parent from h = absurd h
@@ -62,13 +63,16 @@ placed-inside (p ∷ ps) (q ∷ qs) parent from h =
 
 -- the areas and the faults, one part at a time
 -- a part whose area and the areas below it stand before those of the parts behind it
-pub areas-left : (n m j at k : ℕ) (qs : List Place) (ss : List Section) (q : Place) (s : Section) → k < length qs → k < length ss → q ≡ get_or qs k q → s ≡ get_or ss k s →
+pub areas-left : (n m j at k : ℕ) (qs : List Place) (ss : List Section) (q : Place) (s : Section) → k < length qs →
+    k < length ss → q ≡ get_or qs k q → s ≡ get_or ss k s →
     j ≡ n → n + section_count (view s) ≡ m →
     section_area at q (view s) ∷ areas_below j (at + q.start) q.size (view s) ++ areas_of m at (drop (k + 1) qs) (views (drop (k + 1) ss))
     ≡ areas_of n at (drop k qs) (views (drop k ss))
-areas-left n m j at k qs ss q s hq hs eq es numbered behind = rw (numbered, ← behind, drop-cons qs k q hq, drop-cons ss k s hs, ← eq, ← es, add-one) refl
+areas-left n m j at k qs ss q s hq hs eq es numbered behind =
+    rw (numbered, ← behind, drop-cons qs k q hq, drop-cons ss k s hs, ← eq, ← es, add-one) refl
 
-pub faults-more : (n k : ℕ) (qs : List Place) (ss : List Section) (q : Place) (s : Section) → k < length qs → k < length ss → q ≡ get_or qs k q → s ≡ get_or ss k s →
+pub faults-more : (n k : ℕ) (qs : List Place) (ss : List Section) (q : Place) (s : Section) → k < length qs → k < length ss →
+    q ≡ get_or qs k q → s ≡ get_or ss k s →
     parts_fault n (drop k qs) (views (drop k ss)) ≡ option_or (parent_fault n q.size (view s)) (parts_fault (n + section_count (view s)) (drop (k + 1) qs) (views (drop (k + 1) ss)))
 faults-more n k qs ss q s hq hs eq es = rw (drop-cons qs k q hq, drop-cons ss k s hs, ← eq, ← es, add-one) refl
 
@@ -81,20 +85,23 @@ field-is name =
     let front : take (min (length name) 32) name ≡ take 32 name = rw (min_comm) (take_min 32 name) in
     rw (front, drop-replicate) (ap (λ k. take 32 name ++ replicate k 0) (omega arith))
 
-pub area-is : (at : ℕ) (q : Place) (s : Section) → section_area at q (view s) ≡ record { offset = at + q.start; size = q.size; name = field_of (out-Section s).name.items; flags = (out-Section s).flags }
+pub area-is : (at : ℕ) (q : Place) (s : Section) →
+    section_area at q (view s) ≡ record { offset = at + q.start; size = q.size; name = field_of (out-Section s).name.items; flags = (out-Section s).flags }
 area-is at q s = rw (view-is s) refl
 
 pub joined : (areas below rest : List Area) (a : Area) → ((areas ++ a ∷ []) ++ below) ++ rest ≡ areas ++ (a ∷ below ++ rest)
 joined areas below rest a = simp append_assoc
 
 -- a part that is laid: what is left of the faults
-pub faults-left : (n m k : ℕ) (qs : List Place) (ss : List Section) (q : Place) (s : Section) → k < length qs → k < length ss → q ≡ get_or qs k q → s ≡ get_or ss k s →
+pub faults-left : (n m k : ℕ) (qs : List Place) (ss : List Section) (q : Place) (s : Section) → k < length qs →
+    k < length ss → q ≡ get_or qs k q → s ≡ get_or ss k s →
     parent_fault n q.size (view s) ≡ None → n + section_count (view s) ≡ m →
     parts_fault n (drop k qs) (views (drop k ss)) ≡ parts_fault m (drop (k + 1) qs) (views (drop (k + 1) ss))
 faults-left n m k qs ss q s hq hs eq es clear same =
     faults-more n k qs ss q s hq hs eq es ∙ rw clear (ap (λ j. parts_fault j (drop (k + 1) qs) (views (drop (k + 1) ss))) same)
 
-pub faults-first : (n k : ℕ) (qs : List Place) (ss : List Section) (q : Place) (s : Section) (fault : FmdFault) → k < length qs → k < length ss → q ≡ get_or qs k q → s ≡ get_or ss k s →
+pub faults-first : (n k : ℕ) (qs : List Place) (ss : List Section) (q : Place) (s : Section) (fault : FmdFault) →
+    k < length qs → k < length ss → q ≡ get_or qs k q → s ≡ get_or ss k s →
     parent_fault n q.size (view s) ≡ Some fault → parts_fault n (drop k qs) (views (drop k ss)) ≡ Some fault
 faults-first n k qs ss q s fault hq hs eq es first = faults-more n k qs ss q s hq hs eq es ∙ rw first refl
 
@@ -105,7 +112,8 @@ mutual
 
   pub names_of-length : (ts : Forest) → length (names_of ts) ≡ sections_count ts
   names_of-length none = refl
-  names_of-length (some t ts) = length-append (names t) (names_of ts) ∙ ap (λ n. n + length (names_of ts)) (names-length t) ∙ ap (λ n. section_count t + n) (names_of-length ts)
+  names_of-length (some t ts) = length-append (names t) (names_of ts) ∙ ap (λ n. n + length (names_of ts)) (names-length t)
+      ∙ ap (λ n. section_count t + n) (names_of-length ts)
 
 -- names without a refusal are few
 few_below : (ns : List (List ℕ)) → areas_fault ns ≡ None → length ns ≤ area_limit
@@ -125,15 +133,18 @@ pub fault-names : (t : Tree) (fault : FmdFault) → names_fault (names t) ≡ So
 unfolding layout_fault
 fault-names t fault h = rw h refl
 
-pub fault-size : (t : Tree) (fault : FmdFault) → names_fault (names t) ≡ None → size_fault (size_of t) ≡ Some fault → layout_fault t ≡ Some fault
+pub fault-size : (t : Tree) (fault : FmdFault) → names_fault (names t) ≡ None → size_fault (size_of t) ≡ Some fault →
+    layout_fault t ≡ Some fault
 unfolding layout_fault
 fault-size t fault h size = rw (h, size) refl
 
-pub fault-parents : (t : Tree) (n : ℕ) (fault : FmdFault) → names_fault (names t) ≡ None → size_fault (size_of t) ≡ None → size_of t ≡ Some n → parent_fault 0 n t ≡ Some fault → layout_fault t ≡ Some fault
+pub fault-parents : (t : Tree) (n : ℕ) (fault : FmdFault) → names_fault (names t) ≡ None → size_fault (size_of t) ≡ None →
+    size_of t ≡ Some n → parent_fault 0 n t ≡ Some fault → layout_fault t ≡ Some fault
 unfolding layout_fault
 fault-parents t n fault h clear size parents = rw (h, clear, size, parents) refl
 
-pub fault-table : (t : Tree) (n : ℕ) (fault : Option FmdFault) → names_fault (names t) ≡ None → size_fault (size_of t) ≡ None → size_of t ≡ Some n → parent_fault 0 n t ≡ None →
+pub fault-table : (t : Tree) (n : ℕ) (fault : Option FmdFault) → names_fault (names t) ≡ None →
+    size_fault (size_of t) ≡ None → size_of t ≡ Some n → parent_fault 0 n t ≡ None →
     table_fault n t ≡ fault → layout_fault t ≡ fault
 unfolding layout_fault
 fault-table t n fault h clear size parents table = rw (h, clear, size, parents) table
@@ -153,7 +164,8 @@ mutual
       let both = or-none (row_fault size row) (parts_fault (suc n) (filled size 0 row) parts) h in
       (filled size 0 row, row-laid size row both.0, parts-laid parts (suc n) at (filled size 0 row) (length-filled row size 0) both.1)
 
-  parts-laid : (ts : Forest) (n at : ℕ) (qs : List Place) → length qs ≡ length (siblings n ts) → parts_fault n qs ts ≡ None → AreasOf n at ts qs (areas_of n at qs ts)
+  parts-laid : (ts : Forest) (n at : ℕ) (qs : List Place) → length qs ≡ length (siblings n ts) → parts_fault n qs ts ≡ None →
+      AreasOf n at ts qs (areas_of n at qs ts)
   parts-laid none n at qs len h = refl
   parts-laid (some t ts) n at [] len h = cc
   parts-laid (some t ts) n at (q ∷ qs) len h =
@@ -162,7 +174,8 @@ mutual
       let fewer : length qs ≡ length (siblings m ts) = cc in
       (areas_below n (at + q.start) q.size t, areas_of m at qs ts, refl, areas-laid t n (at + q.start) q.size both.0, parts-laid ts m at qs fewer both.1)
 
-pub table-is : (s : Section) (table : Table) → table.base ≡ unwrap_or (out-Section s).offset 0 → (out-Section s).size ≡ Some table.size → table.name ≡ field_of (out-Section s).name.items →
+pub table-is : (s : Section) (table : Table) → table.base ≡ unwrap_or (out-Section s).offset 0 →
+    (out-Section s).size ≡ Some table.size → table.name ≡ field_of (out-Section s).name.items →
     AreasBelow 0 0 table.size (view s) table.areas.items → IsTable (view s) table
 table-is s table base size name areas = rw (view-is s) (base, size, name, rw (view-is s) at areas)
 

@@ -27,7 +27,8 @@ all_taken : (s : List ℕ) → list_all is_plain (take_while is_plain s) ≡ tru
 all_taken [] = refl
 all_taken (b ∷ s) = ap (λ (l : List ℕ). list_all is_plain l) (take_while-cons is_plain b s) ∙ go (is_plain b) refl (all_taken s)
   where
-    go : (p : Bool) → is_plain b ≡ p → list_all is_plain (take_while is_plain s) ≡ true → list_all is_plain (cond p (b ∷ take_while is_plain s) []) ≡ true
+    go : (p : Bool) → is_plain b ≡ p → list_all is_plain (take_while is_plain s) ≡ true →
+        list_all is_plain (cond p (b ∷ take_while is_plain s) []) ≡ true
     go true e rest = ap (λ c. c && list_all is_plain (take_while is_plain s)) e ∙ rest
     go false e rest = refl
 
@@ -56,10 +57,12 @@ is_both true b e = (refl, e)
 is_both false b e = absurd cc
 
 -- the first word of a text, where it is a name
-pub first_name : (text : List ℕ) (first : Word) (rest : List Word) → words text ≡ first ∷ rest → IsA Name first → list_all is_plain first.bytes ≡ true
+pub first_name : (text : List ℕ) (first : Word) (rest : List Word) → words text ≡ first ∷ rest → IsA Name first →
+    list_all is_plain first.bytes ≡ true
 unfolding words
 first_name text first rest is named =
-    let whole : All IsWhole (first ∷ rest) = subst (λ (ws : List Word). All IsWhole ws) is (words_whole 0 32 (without_comments false text)) in
+    let whole : All IsWhole (first ∷ rest) =
+    subst (λ (ws : List Word). All IsWhole ws) is (words_whole 0 32 (without_comments false text)) in
     (All-head IsWhole first rest whole).1 named
 
 -- ---- the field of a name
@@ -82,11 +85,13 @@ some_nul (b ∷ name) k = or_later (is_nul b) _ (some_nul name k)
 one_more : (n : ℕ) → 1 + n ≡ suc n
 one_more n = omega arith
 
-before_nul : (name : List ℕ) (k : ℕ) → list_all is_plain name ≡ true → position_or_len is_nul (name ++ replicate (suc k) 0) ≡ length name
+before_nul : (name : List ℕ) (k : ℕ) → list_all is_plain name ≡ true →
+    position_or_len is_nul (name ++ replicate (suc k) 0) ≡ length name
 before_nul [] k plain = refl
 before_nul (b ∷ name) k plain =
     let parts = is_both (is_plain b) (list_all is_plain name) plain in
-    ap (λ c. cond (not c) (1 + position_or_len is_nul (name ++ replicate (suc k) 0)) 0) (plain_no_nul b parts.0) ∙ ap (λ n. 1 + n) (before_nul name k parts.1) ∙ one_more (length name)
+    ap (λ c. cond (not c) (1 + position_or_len is_nul (name ++ replicate (suc k) 0)) 0) (plain_no_nul b parts.0)
+    ∙ ap (λ n. 1 + n) (before_nul name k parts.1) ∙ one_more (length name)
 
 all_printing : (name : List ℕ) → list_all is_plain name ≡ true → list_all is_printing name ≡ true
 all_printing [] plain = refl
@@ -98,8 +103,12 @@ pub field_named : (name : List ℕ) → length name < 32 → list_all is_plain n
 field_named name short plain =
     let k : ℕ = 31 - length name in
     let left : 32 - length name ≡ suc k = omega arith in
-    let shape : field_of name ≡ name ++ replicate (suc k) 0 = ap (λ (l : List ℕ). l ++ replicate (32 - length name) 0) (take_all 32 name (omega arith)) ∙ ap (λ n. name ++ replicate n 0) left in
-    let text : text_of (name ++ replicate (suc k) 0) ≡ name = ap (λ n. take n (name ++ replicate (suc k) 0)) (before_nul name k plain) ∙ take_at name (replicate (suc k) 0) (length name) refl in
+    let shape : field_of name ≡ name ++ replicate (suc k) 0 =
+    ap (λ (l : List ℕ). l ++ replicate (32 - length name) 0) (take_all 32 name (omega arith))
+    ∙ ap (λ n. name ++ replicate n 0) left in
+    let text : text_of (name ++ replicate (suc k) 0) ≡ name =
+    ap (λ n. take n (name ++ replicate (suc k) 0)) (before_nul name k plain)
+    ∙ take_at name (replicate (suc k) 0) (length name) refl in
     ap is_named shape
     ∙ ap (λ c. c && list_all is_printing (text_of (name ++ replicate (suc k) 0))) (some_nul name k)
     ∙ ap (λ (l : List ℕ). list_all is_printing l) text

@@ -25,13 +25,15 @@ or-swap true false c = refl
 or-swap false true c = refl
 or-swap false false c = refl
 
-insert-case : (q : List ℕ) (x y : Bor (List ℕ)) (ks : List (Bor (List ℕ))) (o : Ordering) → name_cmp x y ≡ o → has x.now (y ∷ ks) ≡ false →
+insert-case : (q : List ℕ) (x y : Bor (List ℕ)) (ks : List (Bor (List ℕ))) (o : Ordering) → name_cmp x y ≡ o →
+    has x.now (y ∷ ks) ≡ false →
     (has x.now ks ≡ false → has q (insert_key name_cmp ks x) ≡ (is_eq (slice_cmp nat_cmp q x.now) || has q ks)) →
     has q (match_ordering o (x ∷ y ∷ ks) (y ∷ ks) (y ∷ insert_key name_cmp ks x)) ≡ (is_eq (slice_cmp nat_cmp q x.now) || has q (y ∷ ks))
 insert-case q x y ks Less e none further = refl
 insert-case q x y ks Equal e none further = absurd (false≢true (sym (rw e at none)))
 insert-case q x y ks Greater e none further =
-    ap (λ b. is_eq (slice_cmp nat_cmp q y.now) || b) (further (rw e at none)) ∙ or-swap (is_eq (slice_cmp nat_cmp q y.now)) (is_eq (slice_cmp nat_cmp q x.now)) (has q ks)
+    ap (λ b. is_eq (slice_cmp nat_cmp q y.now) || b) (further (rw e at none))
+    ∙ or-swap (is_eq (slice_cmp nat_cmp q y.now)) (is_eq (slice_cmp nat_cmp q x.now)) (has q ks)
 
 -- a new key
 pub has-insert : (q : List ℕ) (x : Bor (List ℕ)) (ks : List (Bor (List ℕ))) → has x.now ks ≡ false →
@@ -49,15 +51,18 @@ texts-push (y ∷ xs) x = ap (λ ts. y.now ∷ ts) (texts-push xs x)
 abbrev pub no_name : Bor (List ℕ)
 no_name = record { ref_ptr = (0, 0); now = [] }
 
-take-more : (names : List (Bor (List ℕ))) (n : ℕ) → n < length names → texts (take (n + 1) names) ≡ texts (take n names) ++ (get_or names n no_name).now ∷ []
+take-more : (names : List (Bor (List ℕ))) (n : ℕ) → n < length names →
+    texts (take (n + 1) names) ≡ texts (take n names) ++ (get_or names n no_name).now ∷ []
 take-more names n h = rw (add-one, take-suc names n no_name h) (texts-push (take n names) (get_or names n no_name))
 
 -- a name that no earlier one equals
-pub duplicate-more : (names : List (Bor (List ℕ))) (n : ℕ) → n < length names → list_any (bytes_eq (get_or names n no_name).now) (texts (take n names)) ≡ false →
+pub duplicate-more : (names : List (Bor (List ℕ))) (n : ℕ) → n < length names →
+    list_any (bytes_eq (get_or names n no_name).now) (texts (take n names)) ≡ false →
     duplicate n (texts (take n names)) (texts (drop n names)) ≡ duplicate (n + 1) (texts (take (n + 1) names)) (texts (drop (n + 1) names))
 duplicate-more names n h other = rw (take-more names n h, drop-cons names n no_name h, other, add-one) refl
 
-pub duplicate-found : (names : List (Bor (List ℕ))) (n : ℕ) → n < length names → list_any (bytes_eq (get_or names n no_name).now) (texts (take n names)) ≡ true →
+pub duplicate-found : (names : List (Bor (List ℕ))) (n : ℕ) → n < length names →
+    list_any (bytes_eq (get_or names n no_name).now) (texts (take n names)) ≡ true →
     duplicate n (texts (take n names)) (texts (drop n names)) ≡ Some n
 duplicate-found names n h same = rw (drop-cons names n no_name h, same) refl
 
@@ -68,7 +73,8 @@ or-end false true = refl
 or-end false false = refl
 
 -- the set with one more name
-pub has-more : (names ks : List (Bor (List ℕ))) (n : ℕ) (q : List ℕ) → n < length names → has (get_or names n no_name).now ks ≡ false → has q ks ≡ list_any (bytes_eq q) (texts (take n names)) →
+pub has-more : (names ks : List (Bor (List ℕ))) (n : ℕ) (q : List ℕ) → n < length names →
+    has (get_or names n no_name).now ks ≡ false → has q ks ≡ list_any (bytes_eq q) (texts (take n names)) →
     has q (insert_key name_cmp ks (get_or names n no_name)) ≡ list_any (bytes_eq q) (texts (take (n + 1) names))
 has-more names ks n q h new before =
     let x = get_or names n no_name in

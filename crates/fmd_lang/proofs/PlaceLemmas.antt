@@ -19,23 +19,28 @@ same_place : (q r : Place) → q.start ≡ r.start → q.size ≡ r.size → q �
 same_place q r start size = ap (λ n. place n q.size) start ∙ ap (place r.start) size
 
 -- A place is the filled one: the run after an omitted size has given sizes, and ends at the bound.
-place-is : (parent from n : ℕ) (o z : Option ℕ) (q : Place) (ps : List Sibling) (qs : List Place) (flag : Bool) → ambiguous_sibling flag ps ≡ None → (z ≡ None → flag ≡ true) →
-    IsPlaced parent from (make n o z) q → IfNone z (run_end (end_of q) ps qs ≡ bound parent ps) → ArePlaced parent (end_of q) ps qs →
+place-is : (parent from n : ℕ) (o z : Option ℕ) (q : Place) (ps : List Sibling) (qs : List Place) (flag : Bool) →
+    ambiguous_sibling flag ps ≡ None → (z ≡ None → flag ≡ true) →
+    IsPlaced parent from (make n o z) q → IfNone z (run_end (end_of q) ps qs ≡ bound parent ps) →
+    ArePlaced parent (end_of q) ps qs →
     q ≡ place_of parent from (make n o z) ps
 place-is parent from n o None q ps qs flag clear omitted placed ends rest =
     let behind = run_end-placed parent (end_of q) ps qs (subst (λ v. ambiguous_sibling v ps ≡ None) (omitted refl) clear) rest in
     same_place q (place_of parent from (make n o None) ps) placed.offset (omega arith)
-place-is parent from n o (Some s) q ps qs flag clear omitted placed ends rest = same_place q (place_of parent from (make n o (Some s)) ps) placed.offset placed.size
+place-is parent from n o (Some s) q ps qs flag clear omitted placed ends rest =
+    same_place q (place_of parent from (make n o (Some s)) ps) placed.offset placed.size
 
 -- The first place of a clear row is the filled one.
-first_place : (parent from : ℕ) (omitted : Bool) (p : Sibling) (q : Place) (ps : List Sibling) (qs : List Place) → ambiguous_sibling omitted (p ∷ ps) ≡ None →
+first_place : (parent from : ℕ) (omitted : Bool) (p : Sibling) (q : Place) (ps : List Sibling) (qs : List Place) →
+    ambiguous_sibling omitted (p ∷ ps) ≡ None →
     ArePlaced parent from (p ∷ ps) (q ∷ qs) → q ≡ place_of parent from p ps
 first_place parent from omitted p q ps qs clear h =
     let rest = clear_rest omitted p.number p.offset p.size ps clear in
     place-is parent from p.number p.offset p.size q ps qs rest.0 rest.1 rest.2 h.0 h.1 h.2
 
 -- The places of a clear row are the filled ones.
-placed-filled : (parent from : ℕ) (omitted : Bool) (ps : List Sibling) (qs : List Place) → ambiguous_sibling omitted ps ≡ None → ArePlaced parent from ps qs → qs ≡ filled parent from ps
+placed-filled : (parent from : ℕ) (omitted : Bool) (ps : List Sibling) (qs : List Place) →
+    ambiguous_sibling omitted ps ≡ None → ArePlaced parent from ps qs → qs ≡ filled parent from ps
 placed-filled parent from omitted [] qs clear h = h
 placed-filled parent from omitted (p ∷ ps) [] clear h = absurd h
 placed-filled parent from omitted (p ∷ ps) (q ∷ qs) clear h =
@@ -47,7 +52,8 @@ fitting : (parent from : ℕ) (p : Sibling) (q : Place) → IsPlaced parent from
 fitting parent from p q h = grind (arith, h.in_order, h.non_empty, h.inside)
 
 -- None of the places of a clear row is refused.
-no_misfit : (parent from : ℕ) (omitted : Bool) (ps : List Sibling) (qs : List Place) → ambiguous_sibling omitted ps ≡ None → ArePlaced parent from ps qs →
+no_misfit : (parent from : ℕ) (omitted : Bool) (ps : List Sibling) (qs : List Place) → ambiguous_sibling omitted ps ≡ None →
+    ArePlaced parent from ps qs →
     misfit_sibling parent from ps ≡ None
 no_misfit parent from omitted [] qs clear h = refl
 no_misfit parent from omitted (p ∷ ps) [] clear h = absurd h
@@ -69,9 +75,11 @@ mutual
   -- The areas of a tree are those of its filled rows.
   areas-filled : (t : Tree) (n at size : ℕ) (areas : List Area) → AreasBelow n at size t areas → areas ≡ areas_below n at size t
   areas-filled (section name flags offset given parts) n at size areas (places, laid, are) =
-      parts-filled parts (suc n) at places areas are ∙ ap (λ qs. areas_of (suc n) at qs parts) (laid-filled size (siblings (suc n) parts) places laid)
+      parts-filled parts (suc n) at places areas are
+      ∙ ap (λ qs. areas_of (suc n) at qs parts) (laid-filled size (siblings (suc n) parts) places laid)
 
-  parts-filled : (ts : Forest) (n at : ℕ) (qs : List Place) (areas : List Area) → AreasOf n at ts qs areas → areas ≡ areas_of n at qs ts
+  parts-filled : (ts : Forest) (n at : ℕ) (qs : List Place) (areas : List Area) → AreasOf n at ts qs areas →
+      areas ≡ areas_of n at qs ts
   parts-filled none n at qs areas h = h
   parts-filled (some t ts) n at [] areas h = absurd h
   parts-filled (some t ts) n at (q ∷ qs) areas (below, after, shape, first, others) =
@@ -84,7 +92,8 @@ mutual
   areas-faultless (section name flags offset given parts) n at size areas (places, laid, are) =
       rw (laid-faultless size (siblings (suc n) parts) places laid, ← laid-filled size (siblings (suc n) parts) places laid) (parts-faultless parts (suc n) at places areas are)
 
-  parts-faultless : (ts : Forest) (n at : ℕ) (qs : List Place) (areas : List Area) → AreasOf n at ts qs areas → parts_fault n qs ts ≡ None
+  parts-faultless : (ts : Forest) (n at : ℕ) (qs : List Place) (areas : List Area) → AreasOf n at ts qs areas →
+      parts_fault n qs ts ≡ None
   parts-faultless none n at qs areas h = refl
   parts-faultless (some t ts) n at [] areas h = absurd h
   parts-faultless (some t ts) n at (q ∷ qs) areas (below, after, shape, first, others) =
@@ -92,7 +101,8 @@ mutual
 
 -- Sections that have a table have no fault of their places.
 pub table-faultless : (t : Tree) (table : Table) → IsTable t table → parent_fault 0 table.size t ≡ None
-table-faultless (section name flags offset size parts) table h = areas-faultless (section name flags offset size parts) 0 0 table.size table.areas.items h.3
+table-faultless (section name flags offset size parts) table h =
+    areas-faultless (section name flags offset size parts) 0 0 table.size table.areas.items h.3
 
 -- Two tables of a tree have the same fields.
 pub one-table : (t : Tree) (one other : Table) → IsTable t one → IsTable t other →
@@ -103,5 +113,6 @@ one-table (section name flags offset size parts) one other h k =
       h.0 ∙ sym k.0,
       same,
       h.2 ∙ sym k.2,
-      areas-filled t 0 0 one.size one.areas.items h.3 ∙ ap (λ n. areas_below 0 0 n t) same ∙ sym (areas-filled t 0 0 other.size other.areas.items k.3),
+      areas-filled t 0 0 one.size one.areas.items h.3 ∙ ap (λ n. areas_below 0 0 n t) same
+          ∙ sym (areas-filled t 0 0 other.size other.areas.items k.3),
     )

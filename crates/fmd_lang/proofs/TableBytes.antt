@@ -39,9 +39,11 @@ joined_flags (w ∷ ws) before flags few h =
 
 small_flags : (flags : ℕ) (ws : List Word) → AreAnnotations flags ws → flags < 2 ^ 16
 small_flags flags ws (inl nothing) = omega (arith, nothing.1)
-small_flags flags ws (inr (front, back, shape, opens, (listed, last, inner, (some_there, flagged), closes))) = joined_flags listed 0 flags (omega arith) flagged
+small_flags flags ws (inr (front, back, shape, opens, (listed, last, inner, (some_there, flagged), closes))) =
+    joined_flags listed 0 flags (omega arith) flagged
 
-area_fits : (t : Tree) (ws : List Word) (at : ℕ) (q : Place) → IsSection t ws → at + end_of q < 2 ^ 32 → IsAreaInBytes (section_area at q t)
+area_fits : (t : Tree) (ws : List Word) (at : ℕ) (q : Place) → IsSection t ws → at + end_of q < 2 ^ 32 →
+    IsAreaInBytes (section_area at q t)
 area_fits (section name flags offset given parts) ws at q (front, back, shape, (w, one, (is, named, short)), (annotations, rest, more, annotated, others)) small = record {
   offset = omega (arith, small);
   size = omega (arith, small);
@@ -54,16 +56,19 @@ no_areas areas none_there = subst (λ (l : List Area). All IsAreaInBytes l) (sym
 
 mutual
   -- where a section ends below 2^32, each area below it fits into its bytes
-  areas_fit : (t : Tree) (ws : List Word) (n at size : ℕ) (areas : List Area) → IsSection t ws → at + size < 2 ^ 32 → AreasBelow n at size t areas → All IsAreaInBytes areas
+  areas_fit : (t : Tree) (ws : List Word) (n at size : ℕ) (areas : List Area) → IsSection t ws → at + size < 2 ^ 32 →
+      AreasBelow n at size t areas → All IsAreaInBytes areas
   areas_fit (section name flags offset given none) ws n at size areas is small (places, laid, are) = no_areas areas are
   areas_fit (section name flags offset given (some t ts)) ws n at size areas (front, back, shape, name_is, (f1, b1, s1, annotated, (f2, b2, s2, placed, (f3, b3, s3, sized, body)))) small (places, laid, are) =
       parts_fit (some t ts) (inside_of body).0 (suc n) at size 0 places areas (inside_of body).1 small laid.1 are
     where
-      inside_of : Else (some t ts ≡ none) (Between OpenBrace CloseBrace (AreSections (some t ts))) b3 → (within : List Word) × AreSections (some t ts) within
+      inside_of : Else (some t ts ≡ none) (Between OpenBrace CloseBrace (AreSections (some t ts))) b3 →
+          (within : List Word) × AreSections (some t ts) within
       inside_of (inl (empty, nothing)) = absurd cc
       inside_of (inr (opening, rest, split, opens, (within, closing, inner, sections, closes))) = (within, sections)
 
-  parts_fit : (ts : Forest) (ws : List Word) (n at size from : ℕ) (qs : List Place) (areas : List Area) → AreSections ts ws → at + size < 2 ^ 32 → ArePlaced size from (siblings n ts) qs → AreasOf n at ts qs areas → All IsAreaInBytes areas
+  parts_fit : (ts : Forest) (ws : List Word) (n at size from : ℕ) (qs : List Place) (areas : List Area) → AreSections ts ws →
+      at + size < 2 ^ 32 → ArePlaced size from (siblings n ts) qs → AreasOf n at ts qs areas → All IsAreaInBytes areas
   parts_fit none ws n at size from qs areas sections small placed are = no_areas areas are
   parts_fit (some t ts) ws n at size from [] areas sections small placed are = absurd are
   parts_fit (some t ts) ws n at size from (q ∷ qs) areas (front, rest, shape, one, others) small (place, last, later) (below, after, is, inner, outer) =
@@ -76,7 +81,8 @@ mutual
 
 -- ---- the table
 
-pub table_read : (t : Tree) (text more : List ℕ) (table : Table) → first_fault text ≡ None → IsSection t (words text) → layout_fault t ≡ None → IsTable t table → IsReadAsMap (table_head table) table.areas.items (table_bytes table ++ more)
+pub table_read : (t : Tree) (text more : List ℕ) (table : Table) → first_fault text ≡ None → IsSection t (words text) →
+    layout_fault t ≡ None → IsTable t table → IsReadAsMap (table_head table) table.areas.items (table_bytes table ++ more)
 table_read (section name flags offset given parts) text more table fine is laid table_is =
     let t : Tree = section name flags offset given parts in
     let (first, rest, shape, (w, one, (kind, named, short)), (annotations, others, more_shape, annotated, (place, last, last_shape, placed, (number, body, body_shape, sized, inside)))) = is in
@@ -84,8 +90,10 @@ table_read (section name flags offset given parts) text more table fine is laid 
     let good : is_named (field_of name) ≡ true = field_named name short (rw named at (first_name text w rest split kind)) in
     let each : All Fits rest = All-tail Fits w rest (subst (λ (ws : List Word). All Fits ws) split (numbers_fit t text is fine)) in
     let behind : All Fits others = all-behind Fits annotations others (subst (λ (ws : List Word). All Fits ws) more_shape each) in
-    let size : table.size < 2 ^ 32 = size_fits given table.size number body table_is.1 sized (subst (λ (ws : List Word). All Fits ws) body_shape (all-behind Fits place last (subst (λ (ws : List Word). All Fits ws) last_shape behind))) in
-    let base : unwrap_or offset 0 < 2 ^ 32 = offset_fits offset place last placed (subst (λ (ws : List Word). All Fits ws) last_shape behind) in
+    let size : table.size < 2 ^ 32 =
+    size_fits given table.size number body table_is.1 sized (subst (λ (ws : List Word). All Fits ws) body_shape (all-behind Fits place last (subst (λ (ws : List Word). All Fits ws) last_shape behind))) in
+    let base : unwrap_or offset 0 < 2 ^ 32 =
+    offset_fits offset place last placed (subst (λ (ws : List Word). All Fits ws) last_shape behind) in
     maps_read_back (table_head table) table.areas.items more (record {
       major = refl;
       base = omega (arith, base, table_is.0);

@@ -71,7 +71,8 @@ abbrev MakesAfter : ℕ → ℕ → List Word → Built → Type 0
 MakesAfter depth end ws b = (n : ℕ) → Makes (past n) depth end ws b
 
 -- a word in its place
-makes-word : (s : Stage) (depth end : ℕ) (w : Word) (ws : List Word) (b : Built) (k : Kind) → IsA k w → expected_of s depth k (annotation_flag w.bytes) ≡ None →
+makes-word : (s : Stage) (depth end : ℕ) (w : Word) (ws : List Word) (b : Built) (k : Kind) → IsA k w →
+    expected_of s depth k (annotation_flag w.bytes) ≡ None →
     Makes (next_stage s k) (next_depth k depth) end ws b → Makes s depth end (w ∷ ws) (put_word k w b)
 makes-word s depth end w ws b k is stands more = record {
   agrees = rw (is, stands) (ap (option_or (own_fault_of k depth w)) more.agrees);
@@ -79,10 +80,13 @@ makes-word s depth end w ws b k is stands more = record {
 }
 
 -- words of one form, and others, before more
-then-makes : (G : List Word → Type 0) (P Q : List Word → Type 0) (ws r : List Word) → Then P Q ws → ((front back : List Word) → P front → Q back → G (front ++ (back ++ r))) → G (ws ++ r)
-then-makes G P Q ws r (front, back, split, p, q) further = subst G (sym (ap (λ v. v ++ r) split ∙ append_assoc front back r)) (further front back p q)
+then-makes : (G : List Word → Type 0) (P Q : List Word → Type 0) (ws r : List Word) → Then P Q ws →
+    ((front back : List Word) → P front → Q back → G (front ++ (back ++ r))) → G (ws ++ r)
+then-makes G P Q ws r (front, back, split, p, q) further =
+    subst G (sym (ap (λ v. v ++ r) split ∙ append_assoc front back r)) (further front back p q)
 
-one-makes : (G : List Word → Type 0) (F : Word → Type 0) (ws r : List Word) → One F ws → ((w : Word) → F w → G (w ∷ r)) → G (ws ++ r)
+one-makes : (G : List Word → Type 0) (F : Word → Type 0) (ws r : List Word) → One F ws → ((w : Word) → F w → G (w ∷ r)) →
+    G (ws ++ r)
 one-makes G F ws r (w, one, f) further = subst G (sym (ap (λ v. v ++ r) one)) (further w f)
 
 none-makes : (G : List Word → Type 0) (ws r : List Word) → ws ≡ [] → G r → G (ws ++ r)
@@ -95,23 +99,30 @@ between-makes G j k P ws r is further =
     then-makes (λ v. G (m ∷ v)) P (One (IsA k)) back r rest (λ v last inner closes. one-makes (λ u. G (m ∷ (v ++ u))) (IsA k) last r closes (λ c close.
     further m v c mark inner close))))
 
-size-makes : (o : Option ℕ) (parts : Forest) (ls : List Forest) (depth end : ℕ) (ws r : List Word) → IsSize o ws → MakesPast 4 depth end r (has 0 None None parts ls) → MakesPast 3 depth end (ws ++ r) (has 0 None o parts ls)
-size-makes None parts ls depth end ws r is more n few = none-makes (λ v. Makes (past n) depth end v (has 0 None None parts ls)) ws r is (more n (omega arith))
-size-makes (Some z) parts ls depth end ws r is more n few = one-makes (λ v. Makes (past n) depth end v (has 0 None (Some z) parts ls)) (HasValue z) ws r is (λ w value.
+size-makes : (o : Option ℕ) (parts : Forest) (ls : List Forest) (depth end : ℕ) (ws r : List Word) → IsSize o ws →
+    MakesPast 4 depth end r (has 0 None None parts ls) → MakesPast 3 depth end (ws ++ r) (has 0 None o parts ls)
+size-makes None parts ls depth end ws r is more n few =
+    none-makes (λ v. Makes (past n) depth end v (has 0 None None parts ls)) ws r is (more n (omega arith))
+size-makes (Some z) parts ls depth end ws r is more n few =
+    one-makes (λ v. Makes (past n) depth end v (has 0 None (Some z) parts ls)) (HasValue z) ws r is (λ w value.
     subst (λ o. Makes (past n) depth end (w ∷ r) (has 0 None o parts ls)) value.1
     (makes-word (past n) depth end w r (has 0 None None parts ls) Number value.0 (rw (lt-ltb n 3 few) refl) (more 3 (omega arith))))
 
-offset-makes : (o z : Option ℕ) (parts : Forest) (ls : List Forest) (depth end : ℕ) (ws r : List Word) → IsOffset o ws → MakesPast 3 depth end r (has 0 None z parts ls) → MakesPast 2 depth end (ws ++ r) (has 0 o z parts ls)
-offset-makes None z parts ls depth end ws r is more n few = none-makes (λ v. Makes (past n) depth end v (has 0 None z parts ls)) ws r is (more n (omega arith))
+offset-makes : (o z : Option ℕ) (parts : Forest) (ls : List Forest) (depth end : ℕ) (ws r : List Word) → IsOffset o ws →
+    MakesPast 3 depth end r (has 0 None z parts ls) → MakesPast 2 depth end (ws ++ r) (has 0 o z parts ls)
+offset-makes None z parts ls depth end ws r is more n few =
+    none-makes (λ v. Makes (past n) depth end v (has 0 None z parts ls)) ws r is (more n (omega arith))
 offset-makes (Some a) z parts ls depth end ws r is more n few =
     let G : List Word → Type 0 = λ v. Makes (past n) depth end v (has 0 (Some a) z parts ls) in
     then-makes G (One (IsA At)) (One (HasValue a)) ws r is (λ front back at number. one-makes G (IsA At) front (back ++ r) at (λ m mark.
     one-makes (λ v. G (m ∷ v)) (HasValue a) back r number (λ w value.
-    let after : Makes at_sign depth end (w ∷ r) (put_word Number w (has 0 None z parts ls)) = makes-word at_sign depth end w r (has 0 None z parts ls) Number value.0 refl (more 2 (omega arith)) in
+    let after : Makes at_sign depth end (w ∷ r) (put_word Number w (has 0 None z parts ls)) =
+    makes-word at_sign depth end w r (has 0 None z parts ls) Number value.0 refl (more 2 (omega arith)) in
     subst (λ o. Makes (past n) depth end (m ∷ w ∷ r) (has 0 o z parts ls)) value.1
     (makes-word (past n) depth end m (w ∷ r) (put_word Number w (has 0 None z parts ls)) At mark (rw (lt-ltb n 2 few) refl) after))))
 
-pub first-flag : (o : Option ℕ) (f : ℕ → Option ℕ) (flags : ℕ) → option_and_then f o ≡ Some flags → (flag : ℕ) × (o ≡ Some flag) × (f flag ≡ Some flags)
+pub first-flag : (o : Option ℕ) (f : ℕ → Option ℕ) (flags : ℕ) → option_and_then f o ≡ Some flags →
+    (flag : ℕ) × (o ≡ Some flag) × (f flag ≡ Some flags)
 first-flag None f flags h = cc
 first-flag (Some flag) f flags h = (flag, refl, h)
 
@@ -121,7 +132,8 @@ listed ws o z parts ls = record (has 0 o z parts ls) { inside = true; annotation
 
 more-make : (before flags depth end : ℕ) (ws : List Word) (c : Word) (r : List Word) (o z : Option ℕ) (parts : Forest) (ls : List Forest) → flags_with before ws ≡ Some flags → IsA CloseParen c →
     MakesPast 2 depth end r (has 0 o z parts ls) → Makes annotated depth end (ws ++ c ∷ r) (listed ws o z parts ls)
-more-make before flags depth end [] c r o z parts ls h close more = makes-word annotated depth end c r (has 0 o z parts ls) CloseParen close refl (more 1 (omega arith))
+more-make before flags depth end [] c r o z parts ls h close more =
+    makes-word annotated depth end c r (has 0 o z parts ls) CloseParen close refl (more 1 (omega arith))
 more-make before flags depth end (w ∷ ws) c r o z parts ls h close more =
     let (flag, known, rest) = first-flag (annotation_flag w.bytes) (λ f. flags_with (bit_or before f) ws) flags h in
     makes-word annotated depth end w (ws ++ c ∷ r) (listed ws o z parts ls) Name (annotation-name w.bytes flag known) (rw known refl)
@@ -135,7 +147,9 @@ some-make flags depth end (w ∷ ws) c r o z parts ls h close more =
     makes-word in_annotations depth end w (ws ++ c ∷ r) (listed ws o z parts ls) Name (annotation-name w.bytes flag known) (rw known refl)
     (more-make flag flags depth end ws c r o z parts ls rest close more)
 
-annotations-make : (flags : ℕ) (o z : Option ℕ) (parts : Forest) (ls : List Forest) (depth end : ℕ) (ws r : List Word) → AreAnnotations flags ws → MakesPast 2 depth end r (has 0 o z parts ls) → MakesPast 1 depth end (ws ++ r) (has flags o z parts ls)
+annotations-make : (flags : ℕ) (o z : Option ℕ) (parts : Forest) (ls : List Forest) (depth end : ℕ) (ws r : List Word) →
+    AreAnnotations flags ws → MakesPast 2 depth end r (has 0 o z parts ls) →
+    MakesPast 1 depth end (ws ++ r) (has flags o z parts ls)
 annotations-make flags o z parts ls depth end ws r (inl (empty, unset)) more n few =
     none-makes (λ v. Makes (past n) depth end v (has flags o z parts ls)) ws r empty
     (subst (λ f. Makes (past n) depth end r (has f o z parts ls)) (sym unset) (more n (omega arith)))
@@ -170,7 +184,8 @@ body-makes parts ls depth end ws r (inr is) further more n few =
 
 mutual
   -- a section, where a name may stand
-  section-makes : (t : Tree) (s : Stage) (depth end : ℕ) (ws r : List Word) (l : Forest) (ls : List Forest) → IsSection t ws → ((flag : Option ℕ) → expected_of s depth Name flag ≡ None) → next_stage s Name ≡ past 0 →
+  section-makes : (t : Tree) (s : Stage) (depth end : ℕ) (ws r : List Word) (l : Forest) (ls : List Forest) →
+      IsSection t ws → ((flag : Option ℕ) → expected_of s depth Name flag ≡ None) → next_stage s Name ≡ past 0 →
       MakesAfter depth end r (nothing (l ∷ ls)) → Makes s depth end (ws ++ r) (nothing (some t l ∷ ls))
   section-makes (section name flags offset size parts) s depth end ws r l ls is stands stage more =
       let Sized : List Word → Type 0 = Then (IsSize size) (Body parts) in
@@ -189,9 +204,11 @@ mutual
       k fewer)) n few)) 0 (omega arith)))))))
 
   -- sections inside braces
-  sections-make : (ts : Forest) (depth end : ℕ) (ws r : List Word) (l : Forest) (ls : List Forest) → AreSections ts ws → MakesAfter (suc depth) end r (nothing (l ∷ ls)) →
+  sections-make : (ts : Forest) (depth end : ℕ) (ws r : List Word) (l : Forest) (ls : List Forest) → AreSections ts ws →
+      MakesAfter (suc depth) end r (nothing (l ∷ ls)) →
       MakesAfter (suc depth) end (ws ++ r) (nothing (join ts l ∷ ls))
-  sections-make none depth end ws r l ls is more n = none-makes (λ v. Makes (past n) (suc depth) end v (nothing (l ∷ ls))) ws r is (more n)
+  sections-make none depth end ws r l ls is more n =
+      none-makes (λ v. Makes (past n) (suc depth) end v (nothing (l ∷ ls))) ws r is (more n)
   sections-make (some t ts) depth end ws r l ls is more n =
       then-makes (λ v. Makes (past n) (suc depth) end v (nothing (some t (join ts l) ∷ ls))) (IsSection t) (AreSections ts) ws r is (λ front back one others.
       section-makes t (past n) (suc depth) end front (back ++ r) (join ts l) ls one (λ flag. refl) refl (sections-make ts depth end back r l ls others more))
@@ -208,5 +225,6 @@ text-agrees t text is = ap (cond (nat_lt 1048576 (length text)) (Some faults.Tex
 -- two trees of the same words
 pub one-tree : (t u : Tree) (ws : List Word) → IsSection t ws → IsSection u ws → t ≡ u
 one-tree t u ws one other =
-    let same : some t none ≡ some u none = ap (λ b. first_level b.levels) (sym (root-makes t 0 ws one).made ∙ (root-makes u 0 ws other).made) in
+    let same : some t none ≡ some u none =
+    ap (λ b. first_level b.levels) (sym (root-makes t 0 ws one).made ∙ (root-makes u 0 ws other).made) in
     cc

@@ -16,7 +16,8 @@ pub words_from-inside : (p place : ℕ) (s : List ℕ) → is_plain p ≡ true �
 words_from-inside p place [] h = refl
 words_from-inside p place (b ∷ bs) h = rw h refl
 
-pub words_from-starts : (place b : ℕ) (s : List ℕ) → is_plain b ≡ false → words_from place 65 (b ∷ s) ≡ words_from place 32 (b ∷ s)
+pub words_from-starts : (place b : ℕ) (s : List ℕ) → is_plain b ≡ false →
+    words_from place 65 (b ∷ s) ≡ words_from place 32 (b ∷ s)
 words_from-starts place b s h = rw h refl
 
 -- the text at a place: its byte, and the rest
@@ -29,14 +30,16 @@ blank-plain b h = grind arith
 pub blank-comment : (b : ℕ) → is_blank b ≡ true → is_comment b ≡ false
 blank-comment b h = grind arith
 
-pub words_after-blank : (text : List ℕ) (at : ℕ) → at < length text → is_blank (slice_index text at) ≡ true → words_after text at ≡ words_after text (at + 1)
+pub words_after-blank : (text : List ℕ) (at : ℕ) → at < length text → is_blank (slice_index text at) ≡ true →
+    words_after text at ≡ words_after text (at + 1)
 unfolding words_after
 words_after-blank text at h blank =
     let no_comment = blank-comment (slice_index text at) blank in
     let no_plain = blank-plain (slice_index text at) blank in
     rw (here text at h, no_comment, blank, add-one) (words_from-before (slice_index text at) (suc at) (without_comments false (drop (suc at) text)) no_plain)
 
-pub words_after-comment : (text : List ℕ) (at : ℕ) → at < length text → is_comment (slice_index text at) ≡ true → words_after text at ≡ words_from (at + 1) 32 (without_comments true (drop (at + 1) text))
+pub words_after-comment : (text : List ℕ) (at : ℕ) → at < length text → is_comment (slice_index text at) ≡ true →
+    words_after text at ≡ words_from (at + 1) 32 (without_comments true (drop (at + 1) text))
 unfolding words_after
 words_after-comment text at h comment = rw (here text at h, comment, add-one) refl
 
@@ -45,7 +48,8 @@ pub comment-feed : (text : List ℕ) (at : ℕ) → at < length text → slice_i
 unfolding words_after
 comment-feed text at h feed = rw (here text at h, feed) refl
 
-pub comment-over : (text : List ℕ) (at : ℕ) → length text ≤ at → words_from at 32 (without_comments true (drop at text)) ≡ words_after text at
+pub comment-over : (text : List ℕ) (at : ℕ) → length text ≤ at →
+    words_from at 32 (without_comments true (drop at text)) ≡ words_after text at
 unfolding words_after
 comment-over text at h = rw (drop_all at text h) refl
 
@@ -59,16 +63,20 @@ plain-comment b h = grind arith
 pub plain-blank : (b : ℕ) → is_plain b ≡ true → is_blank b ≡ false
 plain-blank b h = grind arith
 
-pub plain_after-plain : (text : List ℕ) (at : ℕ) → at < length text → is_plain (slice_index text at) ≡ true → plain_after text at ≡ slice_index text at ∷ plain_after text (at + 1)
+pub plain_after-plain : (text : List ℕ) (at : ℕ) → at < length text → is_plain (slice_index text at) ≡ true →
+    plain_after text at ≡ slice_index text at ∷ plain_after text (at + 1)
 unfolding plain_after
 plain_after-plain text at h plain =
     rw (here text at h, plain-comment (slice_index text at) plain, take_while-cons is_plain (slice_index text at) (without_comments false (drop (at + 1) text)), plain) refl
 
 -- a text outside a comment begins with a space, for `#`, or with its byte
-pub head-cases : (P : List ℕ → Type 0) (b : ℕ) (bs : List ℕ) → P (32 ∷ without_comments true bs) → P (b ∷ without_comments false bs) → P (without_comments false (b ∷ bs))
-head-cases P b bs comment byte = elim (is_comment b) as (λ v. P (cond v (32 ∷ without_comments true bs) (b ∷ without_comments false bs))) [ true ↦ comment | false ↦ byte ]
+pub head-cases : (P : List ℕ → Type 0) (b : ℕ) (bs : List ℕ) → P (32 ∷ without_comments true bs) →
+    P (b ∷ without_comments false bs) → P (without_comments false (b ∷ bs))
+head-cases P b bs comment byte =
+    elim (is_comment b) as (λ v. P (cond v (32 ∷ without_comments true bs) (b ∷ without_comments false bs))) [ true ↦ comment | false ↦ byte ]
 
-pub plain_after-other : (text : List ℕ) (at : ℕ) → at < length text → is_plain (slice_index text at) ≡ false → plain_after text at ≡ []
+pub plain_after-other : (text : List ℕ) (at : ℕ) → at < length text → is_plain (slice_index text at) ≡ false →
+    plain_after text at ≡ []
 unfolding plain_after
 plain_after-other text at h plain =
     let goal : List ℕ → Type 0 = λ s. take_while is_plain s ≡ [] in
@@ -78,13 +86,15 @@ pub plain_after-over : (text : List ℕ) (at : ℕ) → length text ≤ at → p
 unfolding plain_after
 plain_after-over text at h = rw (drop_all at text h) refl
 
-pub words_inside-plain : (text : List ℕ) (at : ℕ) → at < length text → is_plain (slice_index text at) ≡ true → words_inside text at ≡ words_inside text (at + 1)
+pub words_inside-plain : (text : List ℕ) (at : ℕ) → at < length text → is_plain (slice_index text at) ≡ true →
+    words_inside text at ≡ words_inside text (at + 1)
 unfolding words_inside
 words_inside-plain text at h plain =
     rw (here text at h, plain-comment (slice_index text at) plain, plain-blank (slice_index text at) plain, plain, add-one)
     (words_from-inside (slice_index text at) (suc at) (without_comments false (drop (suc at) text)) plain)
 
-pub words_inside-other : (text : List ℕ) (at : ℕ) → at < length text → is_plain (slice_index text at) ≡ false → words_inside text at ≡ words_after text at
+pub words_inside-other : (text : List ℕ) (at : ℕ) → at < length text → is_plain (slice_index text at) ≡ false →
+    words_inside text at ≡ words_after text at
 unfolding words_inside words_after
 words_inside-other text at h plain =
     let goal : List ℕ → Type 0 = λ s. words_from at 65 s ≡ words_from at 32 s in
@@ -106,7 +116,8 @@ words_after-plain text at h plain =
     (rw (plain-blank b plain, take_while-cons is_plain b rest, plain)
     (ap (λ ws. record { place = at; bytes = b ∷ take_while is_plain rest } ∷ ws) (words_from-inside b (suc at) rest plain)))
 
-pub words_after-single : (text : List ℕ) (at : ℕ) → at < length text → is_plain (slice_index text at) ≡ false → is_blank (slice_index text at) ≡ false → is_comment (slice_index text at) ≡ false →
+pub words_after-single : (text : List ℕ) (at : ℕ) → at < length text → is_plain (slice_index text at) ≡ false →
+    is_blank (slice_index text at) ≡ false → is_comment (slice_index text at) ≡ false →
     words_after text at ≡ record { place = at; bytes = slice_index text at ∷ [] } ∷ words_after text (at + 1)
 unfolding words_after
 words_after-single text at h plain blank comment =
@@ -122,7 +133,8 @@ pub range-more : (text : List ℕ) (from at : ℕ) (rest : List ℕ) → from �
 range-more text from at rest low high =
     let k = at - from in
     let there : get_or (drop from text) k 0 ≡ get_or text at 0 = grind (arith, common_steps) in
-    let more : take (at + 1 - from) (drop from text) ≡ take k (drop from text) ++ get_or text at 0 ∷ [] = grind (arith, common_steps, take_more (drop from text) k 0, there) in
+    let more : take (at + 1 - from) (drop from text) ≡ take k (drop from text) ++ get_or text at 0 ∷ [] =
+    grind (arith, common_steps, take_more (drop from text) k 0, there) in
     rw more (sym (append_assoc (take k (drop from text)) (get_or text at 0 ∷ []) rest))
 
 pub range-first : (text : List ℕ) (from to : ℕ) → from < to → to ≤ length text →

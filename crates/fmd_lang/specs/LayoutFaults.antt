@@ -32,7 +32,9 @@ is_fmap name = bytes_eq name (codes "FMAP")
 
 -- of the names of the sections but the root: none is FMAP; they are too many
 abbrev pub areas_fault : List (List ℕ) → Option FmdFault
-areas_fault ns = option_or (flag (not (list_any is_fmap ns)) faults.NoFmap) (flag (nat_lt area_limit (length ns)) faults.TooManyAreas)
+areas_fault ns =
+    option_or (flag (not (list_any is_fmap ns)) faults.NoFmap)
+    (flag (nat_lt area_limit (length ns)) faults.TooManyAreas)
 
 -- of all names in preorder: the lowest that an earlier one equals comes first
 abbrev pub names_fault : List (List ℕ) → Option FmdFault
@@ -45,7 +47,9 @@ size_fault (Some n) = flag (nat_eq n 0) (faults.EmptySection 0)
 
 -- the section FMAP holds fewer bytes than the table
 abbrev pub table_fault : ℕ → Tree → Option FmdFault
-table_fault size t = flag (nat_lt (size_named (codes "FMAP") (areas_below 0 0 size t)) (table_len (section_count t - 1))) faults.FmapTooSmall
+table_fault size t =
+    let given = size_named (codes "FMAP") (areas_below 0 0 size t) in
+    flag (nat_lt given (table_len (section_count t - 1))) faults.FmapTooSmall
 
 -- the refusal of a layout: by the names, then by the root's size, the parents and the table
 unfoldable pub layout_fault : Tree → Option FmdFault

@@ -36,7 +36,8 @@ Parses P before after text from (Ok (x, to)) =
 Parses P before after text from (Err fault) = fault_at before text from ≡ Some fault
 
 -- the same of a part that takes memory, which may also run out
-abbrev pub ParsesInMemory : {X : Type 0} → (X → List Word → Type 0) → Standing → Standing → List ℕ → ℕ → Result (X × ℕ) FmdFault → Type 0
+abbrev pub ParsesInMemory : {X : Type 0} → (X → List Word → Type 0) → Standing → Standing → List ℕ → ℕ →
+    Result (X × ℕ) FmdFault → Type 0
 ParsesInMemory P before after text from (Ok answer) = Parses P before after text from (Ok answer)
 ParsesInMemory P before after text from (Err fault) = (fault ≡ faults.Memory) ⊎ Parses P before after text from (Err fault)
 

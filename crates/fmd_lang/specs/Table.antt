@@ -20,7 +20,8 @@ table_len areas = fmap_head_len + area_len * areas
 
 -- the area of a section at this place of a parent that begins at `at`
 abbrev pub section_area : ℕ → Place → Tree → Area
-section_area at q (section name flags offset size parts) = record { offset = at + q.start; size = q.size; name = field_of name; flags = flags }
+section_area at q (section name flags offset size parts) =
+    record { offset = at + q.start; size = q.size; name = field_of name; flags = flags }
 
 abbrev mutual
   -- these are the areas below the section with this number, of this size, which begins at `at`: in preorder
@@ -39,12 +40,14 @@ abbrev mutual
 -- The refusals also speak of descriptors that can't be laid: the same, where every row is filled.
 abbrev mutual
   pub areas_below : ℕ → ℕ → ℕ → Tree → List Area
-  areas_below n at size (section name flags offset given parts) = areas_of (suc n) at (filled size 0 (siblings (suc n) parts)) parts
+  areas_below n at size (section name flags offset given parts) =
+      areas_of (suc n) at (filled size 0 (siblings (suc n) parts)) parts
 
   pub areas_of : ℕ → ℕ → List Place → Forest → List Area
   areas_of n at qs none = []
   areas_of n at [] (some t ts) = []
-  areas_of n at (q ∷ qs) (some t ts) = section_area at q t ∷ areas_below n (at + q.start) q.size t ++ areas_of (n + section_count t) at qs ts
+  areas_of n at (q ∷ qs) (some t ts) =
+      section_area at q t ∷ areas_below n (at + q.start) q.size t ++ areas_of (n + section_count t) at qs ts
 
 -- the size of the first area of this name, and 0 without one
 abbrev pub size_named : List ℕ → List Area → ℕ

@@ -47,7 +47,8 @@ pub fn lay_out(alloc: Global, root: &Section) -> Result<Table, FmdFault>
 
 /// The root's size.
 fn root_size(root: &Section) -> Result<u32, FmdFault>
-    ensures ok { IfOk result (λ size. (size_of (view root.now) ≡ Some size) × (faults.size_fault (size_of (view root.now)) ≡ None)) }
+    ensures ok { IfOk result (λ size. (size_of (view root.now) ≡ Some size)
+        × (faults.size_fault (size_of (view root.now)) ≡ None)) }
     ensures err { IfErr result (λ fault. faults.size_fault (size_of (view root.now)) ≡ Some fault) }
 {
     match root.size {
@@ -67,7 +68,8 @@ fn push_areas(
 ) -> Result<(), FmdFault>
     requires count { length areas.old.items + section_count (view section.now) ≤ area_limit + 1 }
     requires inside { at + size < 2 ^ 32 }
-    ensures ok { OnOk result (areas.new.items ≡ areas.old.items ++ areas_below (length areas.old.items) at size (view section.now)) }
+    ensures ok { OnOk result (areas.new.items ≡ areas.old.items
+        ++ areas_below (length areas.old.items) at size (view section.now)) }
     ensures count { OnOk result (length areas.new.items + 1 ≡ length areas.old.items + section_count (view section.now)) }
     ensures refused { Refuses (faults.parent_fault (length areas.old.items) size (view section.now)) result }
 {

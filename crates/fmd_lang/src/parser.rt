@@ -84,7 +84,8 @@ fn section(
     requires name { IsA Name (word_of name.now) }
     requires clear { own_fault depth (word_of name.now) ≡ None }
     requires depth { depth ≤ depth_limit }
-    ensures { ParsesInMemory (λ t ws. IsSection (view t) (word_of name.now ∷ ws)) (past 0, depth) (past 4, depth) text.now (end_of name.now) result }
+    ensures { ParsesInMemory (λ t ws. IsSection (view t) (word_of name.now ∷ ws)) (past 0, depth) (past 4, depth)
+        text.now (end_of name.now) result }
 {
     let (flags, at) = annotations(text, name.end(), depth)?;
     let (offset, at) = offset(text, at, depth)?;
@@ -160,7 +161,8 @@ fn annotations(text: &[u8], from: usize, depth: u32) -> Result<(u16, usize), Fmd
 
 /// One annotation, which has to stand here, and more.
 fn first_annotation(text: &[u8], from: usize, depth: u32) -> Result<(u16, usize), FmdFault>
-    ensures { Parses (λ flags. Then (HaveFlags flags) (One (IsA CloseParen))) (in_annotations, depth) (past 1, depth) text.now from result }
+    ensures { Parses (λ flags. Then (HaveFlags flags) (One (IsA CloseParen))) (in_annotations, depth) (past 1, depth)
+        text.now from result }
 {
     let token = peek(text, from, depth)?;
     match annotation_flag(token.word.bytes) {

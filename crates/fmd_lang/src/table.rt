@@ -30,7 +30,8 @@ pub struct Table {
 pub fn encode(alloc: Global, table: &Table) -> Result<Vec<u8>, FmdFault>
     ensures bytes { IfOk result (λ bytes. bytes.items ≡ table_bytes table.now) }
     ensures few { OnOk result (length table.now.areas.items ≤ area_limit) }
-    ensures refused { IfErr result (λ fault. (fault ≡ FmdFault.Memory) ⊎ ((fault ≡ FmdFault.TooManyAreas) × (area_limit < length table.now.areas.items))) }
+    ensures refused { IfErr result (λ fault. (fault ≡ FmdFault.Memory)
+        ⊎ ((fault ≡ FmdFault.TooManyAreas) × (area_limit < length table.now.areas.items))) }
 {
     let Ok(nareas) = u16::try_from(table.areas.len()) else {
         return Err(FmdFault::TooManyAreas);

@@ -17,8 +17,10 @@ returns-in_err-push_areas-clause-refused t c =
     let q = c.index-place.result.now in
     let s = c.part-item.result in
     let fault = c.in_err-push_areas.field-0.0 in
-    let items : c.push.new.self.items ≡ c.loop-index.areas.items ++ section_area c.args.at q (view s) ∷ [] = rw (area-is c.args.at q s) (search rules) in
-    let len : length c.push.new.self.items ≡ suc (length c.loop-index.areas.items) = ap length items ∙ omega (arith, length-append c.loop-index.areas.items (section_area c.args.at q (view s) ∷ [])) in
+    let items : c.push.new.self.items ≡ c.loop-index.areas.items ++ section_area c.args.at q (view s) ∷ [] =
+    rw (area-is c.args.at q s) (search rules) in
+    let len : length c.push.new.self.items ≡ suc (length c.loop-index.areas.items) = ap length items
+    ∙ omega (arith, length-append c.loop-index.areas.items (section_area c.args.at q (view s) ∷ [])) in
     let es : s ≡ get_or parts k s = rw c.deref-part-items.ensures.value at c.part-item.is in
     let hs : k < length parts = rw c.deref-part-items.ensures.value at c.loop-index-test.true in
     let hq : k < length qs = omega (arith, hs, c.in_ok-places.ensures.len) in
@@ -36,8 +38,10 @@ loop-index-preserved t c =
     let q = c.index-place.result.now in
     let s = c.part-item.result in
     let before = c.loop-index.areas.items in
-    let items : c.push.new.self.items ≡ before ++ section_area c.args.at q (view s) ∷ [] = rw (area-is c.args.at q s) (search rules) in
-    let len : length c.push.new.self.items ≡ suc (length before) = ap length items ∙ omega (arith, length-append before (section_area c.args.at q (view s) ∷ [])) in
+    let items : c.push.new.self.items ≡ before ++ section_area c.args.at q (view s) ∷ [] =
+    rw (area-is c.args.at q s) (search rules) in
+    let len : length c.push.new.self.items ≡ suc (length before) = ap length items
+    ∙ omega (arith, length-append before (section_area c.args.at q (view s) ∷ [])) in
     let es : s ≡ get_or parts k s = rw c.deref-part-items.ensures.value at c.part-item.is in
     let hs : k < length parts = rw c.deref-part-items.ensures.value at c.loop-index-test.true in
     let hq : k < length qs = omega (arith, hs, c.in_ok-places.ensures.len) in
@@ -45,7 +49,8 @@ loop-index-preserved t c =
     let m = suc (length c.push_areas.new.areas.items) in
     let rest = areas_of m c.args.at (drop (k + 1) qs) (views (drop (k + 1) parts)) in
     let below = areas_below (length c.push.new.self.items) (c.args.at + q.start) q.size (view s) in
-    let count : length c.push_areas.new.areas.items + 1 ≡ length c.push.new.self.items + section_count (view s) = c.in_ok-push_areas.ensures.count in
+    let count : length c.push_areas.new.areas.items + 1 ≡ length c.push.new.self.items + section_count (view s) =
+    c.in_ok-push_areas.ensures.count in
     let further : n + section_count (view s) ≡ m = omega (arith, len, count) in (
       omega (arith, c.loop-index.invariant.0, count-more k parts s hs es, count, len),
       ap (λ xs. xs ++ rest) (c.in_ok-push_areas.ensures.ok ∙ ap (λ xs. xs ++ below) items)

@@ -38,10 +38,14 @@ returns-then-fmap_size-len-clause-refused c =
     let t = view c.args.root.now in
     let n = c.in_ok-size.size in
     let none = ap length c.new-areas.ensures.items in
-    let items : c.push_areas.new.areas.items ≡ areas_below 0 0 n t = c.in_ok-push_areas.ensures.ok ∙ ap (λ xs. xs ++ areas_below (length xs) 0 n t) c.new-areas.ensures.items in
-    let found : c.fmap_size.result ≡ size_named (codes "FMAP") (areas_below 0 0 n t) = c.fmap_size.ensures ∙ ap (size_named (codes "FMAP")) (c.deref.ensures.value ∙ items) in
-    let count : length c.push_areas.new.areas.items ≡ section_count t - 1 = omega (arith, none, c.in_ok-push_areas.ensures.count) in
-    let small : nat_lt (size_named (codes "FMAP") (areas_below 0 0 n t)) (table_len (section_count t - 1)) ≡ true = lt-ltb _ _ (omega (arith, found, count, c.if-fmap_size-len.true, c.len.ensures, c.push_areas.new.areas.ok)) in
+    let items : c.push_areas.new.areas.items ≡ areas_below 0 0 n t = c.in_ok-push_areas.ensures.ok
+    ∙ ap (λ xs. xs ++ areas_below (length xs) 0 n t) c.new-areas.ensures.items in
+    let found : c.fmap_size.result ≡ size_named (codes "FMAP") (areas_below 0 0 n t) = c.fmap_size.ensures
+    ∙ ap (size_named (codes "FMAP")) (c.deref.ensures.value ∙ items) in
+    let count : length c.push_areas.new.areas.items ≡ section_count t - 1 =
+    omega (arith, none, c.in_ok-push_areas.ensures.count) in
+    let small : nat_lt (size_named (codes "FMAP") (areas_below 0 0 n t)) (table_len (section_count t - 1)) ≡ true =
+    lt-ltb _ _ (omega (arith, found, count, c.if-fmap_size-len.true, c.len.ensures, c.push_areas.new.areas.ok)) in
     let clear = ap (λ m. parent_fault m n t) (sym none) ∙ c.in_ok-push_areas.ensures.refused in
     inr (fault-table t n (Some faults.FmapTooSmall) c.in_ok-check_names_of.ensures c.in_ok-size.ensures.ok.1 c.in_ok-size.ensures.ok.0 clear (rw small refl))
 
@@ -50,7 +54,8 @@ returns-clause-table c =
     let t = view c.args.root.now in
     let n = c.in_ok-size.size in
     let none = ap length c.new-areas.ensures.items in
-    let items : c.push_areas.new.areas.items ≡ areas_below 0 0 n t = c.in_ok-push_areas.ensures.ok ∙ ap (λ xs. xs ++ areas_below (length xs) 0 n t) c.new-areas.ensures.items in
+    let items : c.push_areas.new.areas.items ≡ areas_below 0 0 n t = c.in_ok-push_areas.ensures.ok
+    ∙ ap (λ xs. xs ++ areas_below (length xs) 0 n t) c.new-areas.ensures.items in
     let clear = ap (λ m. parent_fault m n t) (sym none) ∙ c.in_ok-push_areas.ensures.refused in
     table-is c.args.root.now _ (search rules) (sym (view-size c.args.root.now) ∙ c.in_ok-size.ensures.ok.0) (search rules) (subst (AreasBelow 0 0 n t) (sym items) (areas-laid t 0 0 n clear))
 
@@ -59,15 +64,20 @@ returns-clause-faultless c =
     let t = view c.args.root.now in
     let n = c.in_ok-size.size in
     let none = ap length c.new-areas.ensures.items in
-    let items : c.push_areas.new.areas.items ≡ areas_below 0 0 n t = c.in_ok-push_areas.ensures.ok ∙ ap (λ xs. xs ++ areas_below (length xs) 0 n t) c.new-areas.ensures.items in
-    let found : c.fmap_size.result ≡ size_named (codes "FMAP") (areas_below 0 0 n t) = c.fmap_size.ensures ∙ ap (size_named (codes "FMAP")) (c.deref.ensures.value ∙ items) in
-    let count : length c.push_areas.new.areas.items ≡ section_count t - 1 = omega (arith, none, c.in_ok-push_areas.ensures.count) in
-    let enough : nat_lt (size_named (codes "FMAP") (areas_below 0 0 n t)) (table_len (section_count t - 1)) ≡ false = le-ltb _ _ (omega (arith, found, count, c.if-fmap_size-len.false, c.len.ensures, c.push_areas.new.areas.ok)) in
+    let items : c.push_areas.new.areas.items ≡ areas_below 0 0 n t = c.in_ok-push_areas.ensures.ok
+    ∙ ap (λ xs. xs ++ areas_below (length xs) 0 n t) c.new-areas.ensures.items in
+    let found : c.fmap_size.result ≡ size_named (codes "FMAP") (areas_below 0 0 n t) = c.fmap_size.ensures
+    ∙ ap (size_named (codes "FMAP")) (c.deref.ensures.value ∙ items) in
+    let count : length c.push_areas.new.areas.items ≡ section_count t - 1 =
+    omega (arith, none, c.in_ok-push_areas.ensures.count) in
+    let enough : nat_lt (size_named (codes "FMAP") (areas_below 0 0 n t)) (table_len (section_count t - 1)) ≡ false =
+    le-ltb _ _ (omega (arith, found, count, c.if-fmap_size-len.false, c.len.ensures, c.push_areas.new.areas.ok)) in
     let clear = ap (λ m. parent_fault m n t) (sym none) ∙ c.in_ok-push_areas.ensures.refused in
     fault-table t n None c.in_ok-check_names_of.ensures c.in_ok-size.ensures.ok.1 c.in_ok-size.ensures.ok.0 clear (rw enough refl)
 
 pub push_areas-requires-clause-count : goal.push_areas-requires-clause-count
-push_areas-requires-clause-count c = omega (arith, ap length c.new-areas.ensures.items, few-sections (view c.args.root.now) c.in_ok-check_names_of.ensures)
+push_areas-requires-clause-count c =
+    omega (arith, ap length c.new-areas.ensures.items, few-sections (view c.args.root.now) c.in_ok-check_names_of.ensures)
 
 pub returns-clause-few : goal.returns-clause-few
 returns-clause-few c =

@@ -18,7 +18,8 @@ pub returns-in-Ok-clause-len : goal.returns-in-Ok-clause-len
 returns-in-Ok-clause-len c =
     let parts = (out-Section c.args.section.now).parts.items in
     let row : c.deref-2.result.now ≡ siblings (suc c.args.number) (views parts) = search rules in
-    ap length c.in-Ok.ensures.filled ∙ length-filled c.deref-2.result.now c.args.size 0 ∙ ap length row ∙ length-siblings (suc c.args.number) parts
+    ap length c.in-Ok.ensures.filled ∙ length-filled c.deref-2.result.now c.args.size 0 ∙ ap length row
+    ∙ length-siblings (suc c.args.number) parts
 
 pub returns-in-Ok-clause-inside : goal.returns-in-Ok-clause-inside
 returns-in-Ok-clause-inside c =
@@ -28,5 +29,6 @@ returns-in-Ok-clause-inside c =
 
 pub returns-clause-refused : goal.returns-clause-refused
 returns-clause-refused c =
-    let row : c.deref-2.result.now ≡ siblings (suc c.args.number) (parts_of (view c.args.section.now)) = rw (view-parts c.args.section.now) (search rules) in
+    let row : c.deref-2.result.now ≡ siblings (suc c.args.number) (parts_of (view c.args.section.now)) =
+    rw (view-parts c.args.section.now) (search rules) in
     subst (λ r. (c.in-Err.fault ≡ faults.Memory) ⊎ (row_fault c.args.size r ≡ Some c.in-Err.fault)) row c.in-Err.ensures.refused

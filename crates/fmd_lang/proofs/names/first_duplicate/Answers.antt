@@ -16,6 +16,7 @@ loop-number-preserved c =
     let n = c.loop-number.number in
     let x = (get_or names n no_name).now in
     let new : has x c.loop-number.seen.keys ≡ false = not-true _ _ c.in-Ok-true.ensures.added c.in-Ok-true.field-0-test in (
-      λ q. ap (has q) c.in-Ok-true.ensures.keys ∙ has-more names c.loop-number.seen.keys n q c.loop-number-test.true new (c.loop-number.invariant.0 q),
+      λ q. ap (has q) c.in-Ok-true.ensures.keys
+          ∙ has-more names c.loop-number.seen.keys n q c.loop-number-test.true new (c.loop-number.invariant.0 q),
       c.loop-number.invariant.1 ∙ duplicate-more names n c.loop-number-test.true (sym (c.loop-number.invariant.0 x) ∙ new),
     )
