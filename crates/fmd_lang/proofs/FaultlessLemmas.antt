@@ -5,9 +5,9 @@ use Rattle.std.specs.Result.{result_err}
 use Rattle.fmd_lang.specs.Words.{Word, words, kind_of, without_comments}
 use Rattle.fmd_lang.specs.Numbers.{number_at, number_value}
 use Rattle.fmd_lang.specs.Tree.{Tree, section, Forest, none, some}
-use Rattle.fmd_lang.specs.Grammar.{Then, One, Else, Between, IsA, IsSection, AreSections, AreAnnotations, HaveFlags, flags_with, IsOffset, IsSize, HasValue, annotation_flag}
+use Rattle.fmd_lang.specs.Grammar.{Then, One, IsA, IsSection, AreSections, AreAnnotations, HaveFlags, flags_with, IsOffset, IsSize, HasValue, annotation_flag}
 use Rattle.fmd_lang.specs.Faults.{Stage, start, in_annotations, annotated, at_sign, past, own_fault, expected_of, fault_from, first_fault, misplaced}
-use Rattle.fmd_lang.specs.Parsing.{Standing, Reads, EndAnnotations}
+use Rattle.fmd_lang.specs.Parsing.{Standing, Reads, AreClosed, EndAnnotations, IsBody}
 use Rattle.fmd_lang.specs.declared.word.Kind.{Kind}
 use Rattle.fmd_lang.specs.declared.word.Kind.TheVariants.{Name, Number, OpenParen, CloseParen, At, OpenBrace, CloseBrace, End}
 use Rattle.fmd_lang.specs.declared.fault.FmdFault.TheVariants as faults
@@ -137,29 +137,23 @@ reads-annotations depth end ws h = go (front_kind ws) ws refl h
         record { value = inner.value; behind = inner.behind; reads = reads-as (λ v f. inr f) (reads-then word inner.reads) }
     go k ws is h = record { value = 0; behind = ws; reads = reads-none (AreAnnotations 0) _ _ end ws (inl (refl, refl)) (pass 0 1 depth end ws (rw is refl)) }
 
--- sections and the `}` after them, and what is to be read so inside braces of fewer than so many words
-abbrev Closed : Forest → List Word → Type 0
-Closed parts = Then (AreSections parts) (One (IsA CloseBrace))
-
+-- what is to be read inside braces of fewer than so many words
 abbrev Further : ℕ → ℕ → ℕ → Type 0
 Further fuel depth end = (ws : List Word) → length ws < fuel → fault_from (past 4) (suc depth) end ws ≡ None →
-    Finds Closed (past 4, suc depth) (past 4, depth) end ws
-
-abbrev Body : Forest → List Word → Type 0
-Body parts = Else (parts ≡ none) (Between OpenBrace CloseBrace (AreSections parts))
+    Finds AreClosed (past 4, suc depth) (past 4, depth) end ws
 
 reads-body : (fuel depth end : ℕ) (ws : List Word) → Further fuel depth end → length ws ≤ fuel →
-    fault_from (past 3) depth end ws ≡ None → Finds Body (past 3, depth) (past 4, depth) end ws
+    fault_from (past 3) depth end ws ≡ None → Finds IsBody (past 3, depth) (past 4, depth) end ws
 reads-body fuel depth end ws further few h = go (front_kind ws) ws refl few h
   where
     go : (k : Kind) (ws : List Word) → front_kind ws ≡ k → length ws ≤ fuel → fault_from (past 3) depth end ws ≡ None →
-        Finds Body (past 3, depth) (past 4, depth) end ws
+        Finds IsBody (past 3, depth) (past 4, depth) end ws
     go OpenBrace [] is few h = cc
     go OpenBrace (w ∷ ws) is few h =
         let word = reads-word (IsA OpenBrace) (past 3) depth end w ws OpenBrace is (clear (past 3) depth end w ws h).0 refl is in
         let inner = further ws (omega arith) (sym word.same ∙ h) in
         record { value = inner.value; behind = inner.behind; reads = reads-as (λ v f. inr f) (reads-then word inner.reads) }
-    go k ws is few h = record { value = none; behind = ws; reads = reads-none (Body none) _ _ end ws (inl (refl, refl)) (pass 3 4 depth end ws (rw is refl)) }
+    go k ws is few h = record { value = none; behind = ws; reads = reads-none (IsBody none) _ _ end ws (inl (refl, refl)) (pass 3 4 depth end ws (rw is refl)) }
 
 -- What is behind is no longer.
 shorter : {P : List Word → Type 0} {before after : Standing} {end : ℕ} {ws behind : List Word} →
@@ -184,13 +178,13 @@ reads-section fuel depth end w ws is own further few h =
           (reads-then annotations.reads (reads-then offset.reads (reads-then size.reads body.reads)));
     }
 
-one-more : (t : Tree) (ts : Forest) (v : List Word) → Then (IsSection t) (Closed ts) v → Closed (some t ts) v
+one-more : (t : Tree) (ts : Forest) (v : List Word) → Then (IsSection t) (AreClosed ts) v → AreClosed (some t ts) v
 one-more t ts v (front, rest, split, one, (inside, close, inner, all, end)) =
     (front ++ inside, close, split ∙ ap (λ u. front ++ u) inner ∙ sym (append_assoc front inside close), (front, inside, refl, one, all), end)
 
 -- words inside braces, fewer than so many
 reads-closed : (fuel depth end : ℕ) (ws : List Word) → length ws < fuel → fault_from (past 4) (suc depth) end ws ≡ None →
-    Finds Closed (past 4, suc depth) (past 4, depth) end ws
+    Finds AreClosed (past 4, suc depth) (past 4, depth) end ws
 reads-closed zero depth end ws few h = absurd (omega arith)
 reads-closed (suc fuel) depth end [] few h = cc
 reads-closed (suc fuel) depth end (w ∷ ws) few h =
@@ -201,7 +195,7 @@ reads-closed (suc fuel) depth end (w ∷ ws) few h =
 
     go : (k : Kind) → kind_of w.bytes ≡ k → expected_of (past 4) (suc depth) k (annotation_flag w.bytes) ≡ None →
         ((d : ℕ) → Further fuel d end) →
-        Finds Closed (past 4, suc depth) (past 4, depth) end (w ∷ ws)
+        Finds AreClosed (past 4, suc depth) (past 4, depth) end (w ∷ ws)
     go CloseBrace is stands further =
         let nothing = reads-none (AreSections none) (past 4, suc depth) (past 4, suc depth) end (w ∷ ws) refl refl in
         record { value = none; behind = ws; reads = reads-then nothing (reads-word (IsA CloseBrace) (past 4) (suc depth) end w ws CloseBrace is own refl is) }

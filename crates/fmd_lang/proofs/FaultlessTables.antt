@@ -1,9 +1,8 @@
 -- The numbers and the areas of the table of a text without a fault fit into its bytes.
-use Rattle.std.proofs.Common.{◌≡◌, ℕ, suc, ◌+◌, ◌^◌, ◌<◌, Bool, true, false, cond, not, All, List, [], ◌∷◌, ◌++◌, length, drop, Option, Some, None, refl, sym, ◌∙◌, ap, subst, arith, length-append}
-use Rattle.std.specs.Prelude.{Result, Ok, Err, nat_lt, option_map, unwrap_or}
+use Rattle.std.proofs.Common.{◌≡◌, ℕ, suc, ◌+◌, ◌^◌, ◌<◌, Bool, true, false, cond, All, List, [], ◌∷◌, ◌++◌, length, Option, Some, None, refl, sym, ◌∙◌, ap, subst, arith, length-append}
+use Rattle.std.specs.Prelude.{Ok, Err, nat_lt, unwrap_or}
 use Rattle.std.specs.Result.{result_err}
 use Rattle.fmd_lang.specs.Numbers.{number_at}
-use Rattle.std.specs.List.{list_any}
 use Rattle.std.proofs.lemmas.Bool.Decides.{nat_tests}
 use Rattle.std.proofs.lemmas.List.Elements.{All-nil, All-cons, All-head, All-tail}
 use Rattle.flash_format.specs.declared.flashmap.Area.{Area}
@@ -14,9 +13,8 @@ use Rattle.fmd_lang.specs.Faults.{first_fault, next_depth, own_fault, text_limit
 use Rattle.fmd_lang.specs.WordFaults.{first_own_fault}
 use Rattle.fmd_lang.specs.LayoutFaults.{layout_fault, names_fault}
 use Rattle.fmd_lang.proofs.LayoutLemmas.{few-sections}
-use Rattle.fmd_lang.specs.Table.{AreasBelow, AreasOf, area_limit}
+use Rattle.fmd_lang.specs.Table.{AreasBelow, AreasOf}
 use Rattle.fmd_lang.specs.declared.row.Place.{Place}
-use Rattle.fmd_lang.specs.declared.fault.FmdFault.{FmdFault}
 use Rattle.fmd_lang.specs.declared.fault.FmdFault.TheVariants as faults
 use Rattle.fmd_lang.proofs.TreeLemmas.{text-agrees}
 use Rattle.fmd_lang.proofs.OptionLemmas.{or-none}

@@ -1,5 +1,5 @@
 -- The layout of a tree, one section at a time.
-use Rattle.std.proofs.Common.{◌≡◌, ℕ, suc, ◌+◌, ◌<◌, ◌≤◌, nat_le, nat_lt, Bool, not, true, false, List, [], ◌∷◌, ◌++◌, length, drop, take, min, replicate, get_or, Option, Some, None, option_map, unwrap_or, length-append, refl, ◌∙◌, ap, arith, add-one, append_assoc, rules}
+use Rattle.std.proofs.Common.{◌≡◌, ℕ, suc, ◌+◌, ◌<◌, ◌≤◌, nat_le, nat_lt, Bool, not, true, false, List, [], ◌∷◌, ◌++◌, length, drop, take, min, replicate, get_or, Option, Some, None, option_map, unwrap_or, length-append, refl, ◌∙◌, ap, arith, add-one, append_assoc}
 use Rattle.std.specs.Option.{option_or}
 use Rattle.std.proofs.Math.Nat.{min_comm}
 use Rattle.std.proofs.Math.Seq.{drop-cons}

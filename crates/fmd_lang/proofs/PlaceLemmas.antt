@@ -1,5 +1,5 @@
 -- The places of a row that is laid are the filled ones, and a tree that is laid has no fault.
-use Rattle.std.proofs.Common.{◌≡◌, ℕ, suc, ◌+◌, Bool, true, false, List, [], ◌∷◌, ◌++◌, Option, Some, None, refl, sym, subst, ◌∙◌, ap, arith, rules, IfNone}
+use Rattle.std.proofs.Common.{◌≡◌, ℕ, suc, ◌+◌, Bool, true, false, List, [], ◌∷◌, ◌++◌, Option, Some, None, refl, sym, subst, ◌∙◌, ap, arith, IfNone}
 use Rattle.std.specs.Option.{option_or}
 use Rattle.fmd_lang.specs.Tree.{Tree, section, Forest, none, some, section_count}
 use Rattle.fmd_lang.specs.Layout.{ambiguous_sibling, bound, run_end, place_of, filled, end_of, IsPlaced, ArePlaced, Laid, siblings}

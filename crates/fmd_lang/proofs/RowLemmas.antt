@@ -1,5 +1,5 @@
 -- Filled places obey the equations, where none is refused.
-use Rattle.std.proofs.Common.{◌≡◌, ℕ, suc, ◌+◌, ◌<◌, ◌≤◌, Bool, true, false, List, [], ◌∷◌, Option, Some, None, refl, subst, arith, IfNone}
+use Rattle.std.proofs.Common.{◌≡◌, ℕ, ◌+◌, ◌<◌, ◌≤◌, Bool, true, false, List, [], ◌∷◌, Option, Some, None, refl, subst, arith, IfNone}
 use Rattle.fmd_lang.specs.Layout.{ambiguous_sibling, bound, run_end, sizes_ahead, place_of, filled, end_of, IsPlaced, ArePlaced}
 use Rattle.fmd_lang.specs.Row.{misfit_sibling, misfit_of}
 use Rattle.fmd_lang.proofs.OptionLemmas.{or-none}

@@ -7,8 +7,9 @@ use Rattle.std.specs.Option.{option_or, option_and_then}
 use Rattle.fmd_lang.specs.Words.{Word, words, kind_of}
 use Rattle.fmd_lang.specs.Numbers.{number_value}
 use Rattle.fmd_lang.specs.Tree.{Tree, section, Forest, none, some}
-use Rattle.fmd_lang.specs.Grammar.{Then, One, Else, Between, IsA, IsSection, AreSections, AreAnnotations, HaveFlags, HasValue, IsName, IsOffset, IsSize, annotation_flag, flags_with}
+use Rattle.fmd_lang.specs.Grammar.{Then, One, Between, IsA, IsSection, AreSections, AreAnnotations, HaveFlags, HasValue, IsName, IsOffset, IsSize, annotation_flag, flags_with}
 use Rattle.fmd_lang.specs.Faults.{Stage, start, in_annotations, annotated, at_sign, past, own_fault_of, expected_of, next_stage, next_depth, fault_from, first_fault}
+use Rattle.fmd_lang.specs.Parsing.{IsBody}
 use Rattle.fmd_lang.specs.WordFaults.{first_own_fault, first_word_fault}
 use Rattle.fmd_lang.specs.declared.word.Kind.{Kind}
 use Rattle.fmd_lang.specs.declared.word.Kind.TheVariants.{Name, Number, OpenParen, CloseParen, At, OpenBrace, CloseBrace}
@@ -167,10 +168,7 @@ join-none : (ts : Forest) → join ts none ≡ ts
 join-none none = refl
 join-none (some t ts) = ap (some t) (join-none ts)
 
-abbrev Body : Forest → List Word → Type 0
-Body parts = Else (parts ≡ none) (Between OpenBrace CloseBrace (AreSections parts))
-
-body-makes : (parts : Forest) (ls : List Forest) (depth end : ℕ) (ws r : List Word) → Body parts ws →
+body-makes : (parts : Forest) (ls : List Forest) (depth end : ℕ) (ws r : List Word) → IsBody parts ws →
     ((v q : List Word) → AreSections parts v → MakesAfter (suc depth) end q (nothing (none ∷ ls)) → MakesAfter (suc depth) end (v ++ q) (nothing (join parts none ∷ ls))) →
     MakesAfter depth end r (nothing ls) → MakesPast 4 depth end (ws ++ r) (has 0 None None parts ls)
 body-makes parts ls depth end ws r (inl (empty, unset)) further more n few =
@@ -188,7 +186,7 @@ mutual
       IsSection t ws → ((flag : Option ℕ) → expected_of s depth Name flag ≡ None) → next_stage s Name ≡ past 0 →
       MakesAfter depth end r (nothing (l ∷ ls)) → Makes s depth end (ws ++ r) (nothing (some t l ∷ ls))
   section-makes (section name flags offset size parts) s depth end ws r l ls is stands stage more =
-      let Sized : List Word → Type 0 = Then (IsSize size) (Body parts) in
+      let Sized : List Word → Type 0 = Then (IsSize size) (IsBody parts) in
       let Placed : List Word → Type 0 = Then (IsOffset offset) Sized in
       let made : Built = has flags offset size parts (l ∷ ls) in
       let G : List Word → Type 0 = λ v. Makes s depth end v (nothing (some (section name flags offset size parts) l ∷ ls)) in
@@ -199,7 +197,7 @@ mutual
       annotations-make flags offset size parts (l ∷ ls) depth end a (b ++ r) annotations (λ n few.
       then-makes (λ v. Makes (past n) depth end v (has 0 offset size parts (l ∷ ls))) (IsOffset offset) Sized b r placed (λ c d at sized.
       offset-makes offset size parts (l ∷ ls) depth end c (d ++ r) at (λ k fewer.
-      then-makes (λ v. Makes (past k) depth end v (has 0 None size parts (l ∷ ls))) (IsSize size) (Body parts) d r sized (λ e f number body.
+      then-makes (λ v. Makes (past k) depth end v (has 0 None size parts (l ∷ ls))) (IsSize size) (IsBody parts) d r sized (λ e f number body.
       size-makes size parts (l ∷ ls) depth end e (f ++ r) number (body-makes parts (l ∷ ls) depth end f r body (λ v q inner after. sections-make parts depth end v q none (l ∷ ls) inner after) more)
       k fewer)) n few)) 0 (omega arith)))))))
 

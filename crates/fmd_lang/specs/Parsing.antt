@@ -4,10 +4,8 @@ use Rattle.fmd_lang.specs.Words.{Word, words_after, kind_of}
 use Rattle.fmd_lang.specs.Faults.{Stage, fault_from, own_fault}
 use Rattle.fmd_lang.specs.Grammar.{Between, Else, One, Then, AreSections, HasValue, IsA, flags_with}
 use Rattle.fmd_lang.specs.Lexing.{word_of, IsFirst}
-use Rattle.fmd_lang.specs.Tree.{none}
-use Rattle.fmd_lang.specs.View.{views}
+use Rattle.fmd_lang.specs.Tree.{Forest, none}
 use Rattle.fmd_lang.specs.declared.parser.Token.{Token}
-use Rattle.fmd_lang.specs.declared.section.Section.{Section}
 use Rattle.fmd_lang.specs.declared.word.Kind.TheVariants.{Number, OpenBrace, CloseBrace, CloseParen}
 use Rattle.fmd_lang.specs.declared.fault.FmdFault.{FmdFault}
 use Rattle.fmd_lang.specs.declared.fault.FmdFault.TheVariants as faults
@@ -49,12 +47,12 @@ pub record IsNext (text : List ℕ) (from depth : ℕ) (token : Token) : Type 0 
   pub value : MatchOption token.value (token.kind ≢ Number) (λ n. HasValue n (word_of token.word))
 
 -- sections in braces, or none
-abbrev pub IsBody : List Section → List Word → Type 0
-IsBody parts = Else (views parts ≡ none) (Between OpenBrace CloseBrace (AreSections (views parts)))
+abbrev pub IsBody : Forest → List Word → Type 0
+IsBody parts = Else (parts ≡ none) (Between OpenBrace CloseBrace (AreSections parts))
 
 -- sections and the `}` after them
-abbrev pub AreClosed : List Section → List Word → Type 0
-AreClosed parts = Then (AreSections (views parts)) (One (IsA CloseBrace))
+abbrev pub AreClosed : Forest → List Word → Type 0
+AreClosed parts = Then (AreSections parts) (One (IsA CloseBrace))
 
 -- annotations after others, of these flags, and the `)` after them
 abbrev pub EndAnnotations : ℕ → ℕ → List Word → Type 0

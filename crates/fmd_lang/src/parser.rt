@@ -6,7 +6,7 @@ ghost use Rattle.fmd_lang.specs.Lexing.{word_of, end_of};
 ghost use Rattle.fmd_lang.specs.Faults.{Stage, depth_limit, own_fault, start, past, at_sign, in_annotations, annotated, expected_of, first_fault};
 ghost use Rattle.fmd_lang.specs.Grammar.{One, HasValue, HaveFlags, IsA, IsOffset, IsSize, AreAnnotations, IsSection, Then};
 ghost use Rattle.fmd_lang.specs.Parsing.{Parses, ParsesInMemory, fault_at, IsNext, IsBody, AreClosed, EndAnnotations};
-ghost use Rattle.fmd_lang.specs.View.{view};
+ghost use Rattle.fmd_lang.specs.View.{view, views};
 ghost use Rattle.fmd_lang.specs.Grammar as grammar;
 ghost use Rattle.fmd_lang.specs.declared.word.Kind.TheVariants.{CloseParen, Name, Number};
 
@@ -110,7 +110,7 @@ fn body(
     depth: u32,
 ) -> Result<(Vec<Section>, usize), FmdFault>
     requires depth { depth ≤ depth_limit }
-    ensures { ParsesInMemory (λ v. IsBody v.items) (past 3, depth) (past 4, depth) text.now from result }
+    ensures { ParsesInMemory (λ v. IsBody (views v.items)) (past 3, depth) (past 4, depth) text.now from result }
 {
     let token = peek(text, from, depth)?;
     match token.kind {
@@ -128,7 +128,7 @@ fn sections(
     depth: u32,
 ) -> Result<(Vec<Section>, usize), FmdFault>
     requires depth { depth < depth_limit }
-    ensures { ParsesInMemory (λ v. AreClosed v.items) (past 4, suc depth) (past 4, depth) text.now from result }
+    ensures { ParsesInMemory (λ v. AreClosed (views v.items)) (past 4, suc depth) (past 4, depth) text.now from result }
 {
     let mut parts = Vec::new(alloc);
     let mut at = from;

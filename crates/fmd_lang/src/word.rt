@@ -6,7 +6,7 @@ ghost use Rattle.fmd_lang.specs.Words as spec;
 ghost use Rattle.fmd_lang.specs.Lexing.{BeginsWord, IsFirst, end_of};
 
 /// What a word is, by its first byte.
-#[derive(Clone, Copy, Debug, PartialEq, Eq)]
+#[derive(Clone, Copy, Debug)]
 pub enum Kind {
     /// Plain bytes, of which the first is no digit.
     Name,

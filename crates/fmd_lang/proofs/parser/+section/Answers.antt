@@ -3,7 +3,7 @@ use Rattle.fmd_lang.specs.Faults.{past}
 use Rattle.fmd_lang.specs.Lexing.{word_of, end_of}
 use Rattle.fmd_lang.specs.Parsing.{AreClosed, IsBody}
 use Rattle.fmd_lang.specs.Tree.{Tree}
-use Rattle.fmd_lang.specs.View.{view, view_step}
+use Rattle.fmd_lang.specs.View.{view, views, view_step}
 use Rattle.fmd_lang.specs.declared.section.Section.TheFolds.{fold-roll-Section}
 use Rattle.fmd_lang.specs.declared.word.Kind.TheVariants.{CloseBrace, Name, OpenBrace}
 use Rattle.fmd_lang.proofs.FormLemmas.{name-short, section-opens, sections-snoc}
@@ -13,7 +13,7 @@ use Rattle.fmd_lang.proofs.parser.+section.Goals as goal
 pub body-returns-in-OpenBrace : goal.body-returns-in-OpenBrace
 body-returns-in-OpenBrace t c =
     let word = token-mark c.args.text.now c.args.from c.args.depth c.end.result c.in_ok-token.token (past 3) OpenBrace c.in_ok-token.ensures.next c.end.ensures c.in-OpenBrace.is (λ e. cc) refl in
-    memory-after (λ v. AreClosed v.items) (λ v. IsBody v.items) _ c.args.text.now c.args.from c.end.result c.sections.result (λ v ws h. inr h) word c.sections.ensures
+    memory-after (λ v. AreClosed (views v.items)) (λ v. IsBody (views v.items)) _ c.args.text.now c.args.from c.end.result c.sections.result (λ v ws h. inr h) word c.sections.ensures
 
 pub section-returns : goal.section-returns
 section-returns t c =
