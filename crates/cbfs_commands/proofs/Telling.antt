@@ -1,76 +1,66 @@
 -- What is told piece by piece: a text that was written, and then what the rest of a call does.
-use Rattle.std.proofs.Common.{◌≡◌, ℕ, ◌+◌, inl, inr, List, [], ◌++◌, length, take, Option, Ok, Err, refl, sym, ap, ◌∙◌, subst, arith, length-append, append_assoc}
+use Rattle.std.proofs.Common.{◌≡◌, ℕ, ◌+◌, ◌<◌, ◌≤◌, IsTrue, inl, inr, List, [], ◌++◌, length, take, Option, Ok, Err, refl, sym, ap, ◌∙◌, subst, arith, length-append, append_assoc}
+use Rattle.std.specs.Prelude.{OnErr}
 use Rattle.std.proofs.lemmas.List.{take-append-le}
 use Rattle.std.proofs.Math.Seq.{take-append-add}
 use Rattle.std.specs.Io.KnownBytes.{Appends}
 use Rattle.std.specs.Result.{IsErrAnd}
 use Rattle.std.proofs.KnownBytes.{Appends-nil, Appends-trans}
+use Rattle.flash_store.specs.Device.{Device}
+use Rattle.flash_store.specs.Pages.{Pages, HasRead, OnHonest}
+use Rattle.flash_store.specs.Regions.{Range, bytes_in}
+use Rattle.flash_store.proofs.DeviceLemmas.{honest_still}
+use Rattle.flash_store.proofs.WindowLemmas.{HasRead-none, HasRead-then, HasRead-within}
+use Rattle.cbfs_walk.specs.Walks.{StandsIn}
+use Rattle.cbfs_walk.specs.declared.cell.Cell.{Cell}
 use Rattle.cbfs_commands.specs.declared.refusal.Refusal.{Refusal}
 use Rattle.cbfs_commands.specs.declared.refusal.Refusal.TheVariants as refusals
-use Rattle.cbfs_commands.specs.Told.{Answer, Told, shows, text_then, Tells}
+use Rattle.cbfs_commands.specs.Told.{Answer, HasTold, IsCellOf, Told, shows, text_then, Tells}
 
--- a prefix of two texts that goes past the first
-prefix_then : (a b : List ℕ) (n : ℕ) → take (length a + n) (a ++ b) ≡ a ++ take n b
-prefix_then a b n = take-append-add a b n
+-- a text was written, and then some of the first of another
+first_of_both : (old mid new : Option (List ℕ)) (text rest : List ℕ) (n : ℕ) → Appends old mid text → Appends mid new (take n rest)
+    → Appends old new (take (length text + n) (text ++ rest))
+first_of_both old mid new text rest n wrote more = rw (take-append-add text rest n) (Appends-trans old mid new text (take n rest) wrote more)
 
 -- a text was written, and then the rest was told
-pub tells-then : (old mid new : Option (List ℕ)) (answer : Answer) (text : List ℕ) (t : Told) → Appends old mid text → Tells mid new answer t → Tells old new answer (text_then text t)
+tells-then : (old mid new : Option (List ℕ)) (answer : Answer) (text : List ℕ) (t : Told) → Appends old mid text → Tells mid new answer t
+    → Tells old new answer (text_then text t)
 tells-then old mid new answer text t wrote (inl done) = inl (done.0, Appends-trans old mid new text t.written wrote done.1)
 tells-then old mid new answer text t wrote (inr (inl stopped)) =
     let n = stopped.1.0 in
-    inr (inl (
-      stopped.0,
-      (
-        length text + n,
-        omega (arith, length-append text t.written, stopped.1.1),
-        rw (prefix_then text t.written n) (Appends-trans old mid new text (take n t.written) wrote stopped.1.2),
-      ),
-    ))
+    let more = first_of_both old mid new text t.written n wrote stopped.1.2 in
+    inr (inl (stopped.0, (length text + n, omega (arith, length-append text t.written, stopped.1.1), more)))
 tells-then old mid new answer text t wrote (inr (inr failed)) =
     let n = failed.1.0 in
-    inr (inr (
-      failed.0,
-      (
-        length text + n,
-        omega (arith, length-append text t.written, failed.1.1),
-        rw (prefix_then text t.written n) (Appends-trans old mid new text (take n t.written) wrote failed.1.2),
-      ),
-    ))
+    let more = first_of_both old mid new text t.written n wrote failed.1.2 in
+    inr (inr (failed.0, (length text + n, omega (arith, length-append text t.written, failed.1.1), more)))
 
--- a text that wasn't written whole stands before anything
-pub tells-stopped : (old new : Option (List ℕ)) (refusal : Refusal) (text : List ℕ) (t : Told) → Tells old new (Err refusal) (shows text) → Tells old new (Err refusal) (text_then text t)
+-- some of a text that wasn't written whole is some of any text that begins with it
+first_of_longer : (old new : Option (List ℕ)) (text rest : List ℕ) (n : ℕ) → n ≤ length text → Appends old new (take n text) → Appends old new (take n (text ++ rest))
+first_of_longer old new text rest n short wrote = rw (take-append-le n text rest short) wrote
+
+tells-stopped : (old new : Option (List ℕ)) (refusal : Refusal) (text : List ℕ) (t : Told) → Tells old new (Err refusal) (shows text)
+    → Tells old new (Err refusal) (text_then text t)
 tells-stopped old new refusal text t (inl done) = absurd (let bad : (let a : Answer = Err refusal in a) ≡ Ok tt = done.0 in cc)
 tells-stopped old new refusal text t (inr (inl stopped)) =
-    inr (inl (
-      stopped.0,
-      (
-        stopped.1.0,
-        omega (arith, length-append text t.written, stopped.1.1),
-        rw (take-append-le stopped.1.0 text t.written (omega (arith, stopped.1.1))) stopped.1.2,
-      ),
-    ))
+    let some = first_of_longer old new text t.written stopped.1.0 (omega (arith, stopped.1.1)) stopped.1.2 in
+    inr (inl (stopped.0, (stopped.1.0, omega (arith, length-append text t.written, stopped.1.1), some)))
 tells-stopped old new refusal text t (inr (inr failed)) =
-    inr (inr (
-      failed.0,
-      (
-        failed.1.0,
-        omega (arith, length-append text t.written, failed.1.1),
-        rw (take-append-le failed.1.0 text t.written failed.1.1) failed.1.2,
-      ),
-    ))
+    let some = first_of_longer old new text t.written failed.1.0 failed.1.1 failed.1.2 in
+    inr (inr (failed.0, (failed.1.0, omega (arith, length-append text t.written, failed.1.1), some)))
 
 -- an answer that hands a refusal on
-pub handed : (answer : Answer) (refusal : Refusal) → IsErrAnd answer (λ r. r ≡ refusal) → answer ≡ Err refusal
+handed : (answer : Answer) (refusal : Refusal) → IsErrAnd answer (λ r. r ≡ refusal) → (let a : Answer = Err refusal in a) ≡ answer
 handed (Ok done) refusal is = absurd is
-handed (Err other) refusal is = ap (λ (r : Refusal). (let a : Answer = Err r in a)) is
+handed (Err other) refusal is = ap (λ (r : Refusal). (let a : Answer = Err r in a)) (sym is)
 
 -- a text that was told whole was written
-pub told-text : (old new : Option (List ℕ)) (text : List ℕ) → Tells old new (Ok tt) (shows text) → Appends old new text
+told-text : (old new : Option (List ℕ)) (text : List ℕ) → Tells old new (Ok tt) (shows text) → Appends old new text
 told-text old new text (inl done) = done.1
 told-text old new text (inr (inl stopped)) = absurd (let bad : (let a : Answer = Ok tt in a) ≡ Err refusals.Output = stopped.0 in cc)
 told-text old new text (inr (inr failed)) = absurd (let bad : (let a : Answer = Ok tt in a) ≡ Err refusals.Device = failed.0 in cc)
 
--- ---- a loop that tells a text piece by piece
+-- ---- what is told so far
 
 -- a text is written, and then the rest is what is left of the whole
 pub record Telling (whole rest : Told) (before after : Option (List ℕ)) : Type 0 where
@@ -78,28 +68,131 @@ pub record Telling (whole rest : Told) (before after : Option (List ℕ)) : Type
   pub written : Appends before after text
   pub is : whole ≡ text_then text rest
 
-pub telling-none : (t : Told) (out : Option (List ℕ)) → Telling t t out out
-telling-none t out = record { text = []; written = Appends-nil out; is = refl }
+-- the same of what is told of a device's bytes, after at most n reads
+pub record ToldSoFar {F W : Type 0} (facts : F → Device) (contents : W → Option (List ℕ)) (faults : W → ℕ) (n : ℕ) (whole rest : List ℕ → Told) (old now : Pages F) (before after : W) : Type 0 where
+  pub reads : HasRead facts n 0 old now
+  pub sink : faults before ≤ faults after
+  pub told : OnHonest facts old.device (λ image. Telling (whole image) (rest image) (contents before) (contents after))
 
--- one more piece is written
-pub telling-more : (whole rest next : Told) (before after last : Option (List ℕ)) (piece : List ℕ) → Telling whole rest before after → rest ≡ text_then piece next → Appends after last piece → Telling whole next before last
-telling-more whole rest next before after last piece p e wrote = record {
-  text = p.text ++ piece;
-  written = Appends-trans before after last p.text piece p.written wrote;
-  is = p.is ∙ ap (λ (t : Told). text_then p.text t) e ∙ ap (λ (l : List ℕ). (let t : Told = record { written = l; answer = next.answer } in t)) (sym (append_assoc p.text piece next.written));
+module _ {F W : Type 0} {facts : F → Device} {contents : W → Option (List ℕ)} {faults : W → ℕ} where
+  -- nothing yet
+  pub so_far-none : (n : ℕ) (whole rest : List ℕ → Told) (p : Pages F) (out : W) → ((image : List ℕ) → whole image ≡ rest image)
+      → ToldSoFar facts contents faults n whole rest p p out out
+  so_far-none n whole rest p out is = record {
+    reads = HasRead-within facts 0 n 0 p p (omega arith) (HasRead-none facts p);
+    sink = omega arith;
+    told = λ h. record { text = []; written = Appends-nil (contents out); is = is (facts p.device).content };
+  }
+
+  module _ {n : ℕ} {whole rest : List ℕ → Told} {old mid : Pages F} {a b : W} (p : ToldSoFar facts contents faults n whole rest old mid a b) where
+    -- what is told of the rest is told of the whole
+    pub so_far-told : (c : W) (answer : Answer) → OnHonest facts mid.device (λ image. Tells (contents b) (contents c) answer (rest image))
+        → OnHonest facts old.device (λ image. Tells (contents a) (contents c) answer (whole image))
+    so_far-told c answer told h =
+        let so_far = p.told h in
+        let here = subst (λ (l : List ℕ). Tells (contents b) (contents c) answer (rest l)) (p.reads.device.unchanged h) (told (honest_still p.reads.device.calls.same_honesty h)) in
+        subst (λ (u : Told). Tells (contents a) (contents c) answer u) (sym so_far.is) (tells-then _ _ _ answer so_far.text _ so_far.written here)
+
+    module _ {k : ℕ} {new : Pages F} {c : W} where
+      -- one text more
+      pub so_far-more : {text : List ℕ → List ℕ} (m : ℕ) (next : List ℕ → Told) → HasTold facts contents faults k mid new b c (Ok tt) (λ image. shows (text image))
+          → OnHonest facts mid.device (λ image. rest image ≡ text_then (text image) (next image)) → n + k ≤ m → ToldSoFar facts contents faults m whole next old new a c
+      so_far-more {text} m next step is few = record {
+        reads = HasRead-within facts (n + k) m 0 old new few (HasRead-then facts n k 0 old mid new p.reads step.read);
+        sink = omega (arith, p.sink, step.sink);
+        told = λ h.
+            let so_far = p.told h in
+            let still = honest_still p.reads.device.calls.same_honesty h in
+            let image : List ℕ = (facts old.device).content in
+            let piece = subst (λ (l : List ℕ). Appends (contents b) (contents c) (text l)) (p.reads.device.unchanged h) (told-text _ _ _ (step.told still)) in
+            let left = subst (λ (l : List ℕ). rest l ≡ text_then (text l) (next l)) (p.reads.device.unchanged h) (is still) in
+            record {
+              text = so_far.text ++ text image;
+              written = Appends-trans (contents a) (contents b) (contents c) so_far.text (text image) so_far.written piece;
+              is = so_far.is ∙ ap (λ (t : Told). text_then so_far.text t) left
+                  ∙ ap (λ (l : List ℕ). (let t : Told = record { written = l; answer = (next image).answer } in t)) (sym (append_assoc so_far.text (text image) (next image).written));
+            };
+      }
+
+      -- the rest is told
+      pub so_far-ends : {answer : Answer} {t : List ℕ → Told} (m : ℕ) → HasTold facts contents faults k mid new b c answer t
+          → OnHonest facts mid.device (λ image. rest image ≡ t image) → n + k ≤ m → HasTold facts contents faults m old new a c answer whole
+      so_far-ends {answer} {t} m last is few = record {
+        read = HasRead-within facts (n + k) m _ old new few (HasRead-then facts n k _ old mid new p.reads last.read);
+        sink = omega (arith, p.sink, last.sink);
+        output = λ failed. omega (arith, p.sink, last.output failed);
+        no_source = last.no_source;
+        told = so_far-told c answer (λ h. subst (λ (u : Told). Tells (contents b) (contents c) answer u) (sym (is h)) (last.told h));
+      }
+
+  module _ {k : ℕ} {old mid new : Pages F} {a b : W} {answer : Answer} {t : List ℕ → Told} (told : HasTold facts contents faults k mid new a b answer t) where
+    -- what is told after reads
+    pub told-after : {n : ℕ} (m : ℕ) → HasRead facts n 0 old mid → n + k ≤ m → HasTold facts contents faults m old new a b answer t
+    told-after {n} m first few = record {
+      read = HasRead-within facts (n + k) m _ old new few (HasRead-then facts n k _ old mid new first told.read);
+      sink = told.sink;
+      output = told.output;
+      no_source = told.no_source;
+      told = λ h. subst (λ (l : List ℕ). Tells (contents a) (contents b) answer (t l)) (first.device.unchanged h) (told.told (honest_still first.device.calls.same_honesty h));
+    }
+
+  module _ {k : ℕ} {old new : Pages F} {a b : W} {text : List ℕ → List ℕ} where
+    -- a text that wasn't written whole stands before anything
+    pub told-stopped : {refusal : Refusal} {answer : Answer} (t : List ℕ → Told) → HasTold facts contents faults k old new a b (Err refusal) (λ image. shows (text image)) → IsErrAnd answer (λ r. r ≡ refusal)
+        → HasTold facts contents faults k old new a b answer (λ image. text_then (text image) (t image))
+    told-stopped {refusal} {answer} t told is = subst (λ (r : Answer). HasTold facts contents faults k old new a b r (λ image. text_then (text image) (t image))) (handed answer refusal is) (record {
+      read = told.read;
+      sink = told.sink;
+      output = told.output;
+      no_source = told.no_source;
+      told = λ h. tells-stopped _ _ refusal (text (facts old.device).content) (t (facts old.device).content) (told.told h);
+    })
+
+    -- what was told whole stands before what is told next
+    pub so_far-of : (next : List ℕ → Told) → HasTold facts contents faults k old new a b (Ok tt) (λ image. shows (text image))
+        → ToldSoFar facts contents faults k (λ image. text_then (text image) (next image)) next old new a b
+    so_far-of next told = record { reads = told.read; sink = told.sink; told = λ h. record { text = text (facts old.device).content; written = told-text _ _ _ (told.told h); is = refl } }
+
+  -- by more calls
+  pub told-within : {k : ℕ} {old new : Pages F} {a b : W} {answer : Answer} {t : List ℕ → Told} (m : ℕ) → k ≤ m → HasTold facts contents faults k old new a b answer t
+      → HasTold facts contents faults m old new a b answer t
+  told-within m few told = told-after told m (HasRead-none facts _) (omega (arith, few))
+
+  -- a row is put after reads
+  pub told-row : {k : ℕ} {old new : Pages F} {a b : W} {answer : Answer} {text : List ℕ} → HasRead facts k 0 old new → faults a ≤ faults b → OnErr answer (faults a < faults b) → OnErr answer (answer ≡ Err refusals.Output)
+      → Tells (contents a) (contents b) answer (shows text) → HasTold facts contents faults k old new a b answer (λ image. shows text)
+  told-row {answer = Ok done} read sink output only told = record { read = read; sink = sink; output = λ failed. absurd cc; no_source = λ failed. absurd cc; told = λ h. told }
+  told-row {answer = Err refusal} read sink output only told =
+      let is : refusal ≡ refusals.Output = cc in
+      record { read = rw is read; sink = sink; output = λ failed. output; no_source = λ failed. absurd cc; told = λ h. told }
+
+  -- nothing more is told
+  pub told-none : (p : Pages F) (out : W) → HasTold facts contents faults 0 p p out out (Ok tt) (λ image. shows [])
+  told-none p out = record {
+    read = HasRead-none facts p;
+    sink = omega arith;
+    output = λ failed. absurd cc;
+    no_source = λ failed. absurd cc;
+    told = λ h. inl (refl, Appends-nil (contents out));
+  }
+
+  -- the device has failed
+  pub told-failed : {k : ℕ} {old new : Pages F} (out : W) (t : List ℕ → Told) → HasRead facts k 1 old new → HasTold facts contents faults k old new out out (Err refusals.Device) t
+  told-failed out t read = record {
+    read = read;
+    sink = omega arith;
+    output = λ failed. absurd cc;
+    no_source = λ failed. absurd cc;
+    told = λ h. inr (inr (refl, (0, omega arith, Appends-nil (contents out))));
+  }
+
+-- a cell stands where it stood before reads
+pub still_cell : {F : Type 0} {facts : F → Device} {region : Range} {cell : Cell} {n refused : ℕ} {old new : Pages F} → HasRead facts n refused old new
+    → IsCellOf facts region cell old.device → IsCellOf facts region cell new.device
+still_cell {region = region} {cell = cell} read is = record {
+  region = omega (arith, is.region, read.device.calls.same_length);
+  cell = is.cell;
+  stands = λ h.
+      let before = subst (λ b. IsTrue b) read.device.calls.same_honesty h in
+      subst (λ (l : List ℕ). StandsIn (bytes_in region l) cell) (sym (read.device.unchanged before)) (is.stands before);
 }
-
--- the rest is told
-pub telling-ends : (whole rest : Told) (before after last : Option (List ℕ)) (answer : Answer) → Telling whole rest before after → Tells after last answer rest → Tells before last answer whole
-telling-ends whole rest before after last answer p told =
-    subst (λ (t : Told). Tells before last answer t) (sym p.is) (tells-then before after last answer p.text rest p.written told)
-
--- a piece is not written whole
-pub telling-stops : (whole rest next : Told) (before after last : Option (List ℕ)) (refusal : Refusal) (piece : List ℕ) → Telling whole rest before after → rest ≡ text_then piece next
-    → Tells after last (Err refusal) (shows piece) → Tells before last (Err refusal) whole
-telling-stops whole rest next before after last refusal piece p e told =
-    telling-ends whole rest before after last (Err refusal) p (subst (λ (t : Told). Tells after last (Err refusal) t) (sym e) (tells-stopped after last refusal piece next told))
-
--- a fault of the device leaves what is written
-pub telling-fails : (whole rest : Told) (before after : Option (List ℕ)) → Telling whole rest before after → Tells before after (Err refusals.Device) whole
-telling-fails whole rest before after p = telling-ends whole rest before after after (Err refusals.Device) p (inr (inr (refl, (0, omega arith, Appends-nil after))))

@@ -41,9 +41,13 @@ hash_line (Valid d) = digest_line d (codes "valid")
 hash_line (Invalid d) = digest_line d (codes "invalid")
 hash_line Unsupported = codes "\thash\tunsupported\n"
 
+-- the line of a component's digest
+abbrev pub hash_text : List ℕ → List ℕ
+hash_text x = hash_line (hash_state (cell_attributes x) (cell_content x))
+
 -- all lines of a component
 abbrev pub details : List ℕ → List ℕ
-details x = flat_map attribute_line (cell_attributes x) ++ hash_line (hash_state (cell_attributes x) (cell_content x))
+details x = flat_map attribute_line (cell_attributes x) ++ hash_text x
 
 -- the row of a cell of these bytes at a place, with the lines after it
 abbrev pub shown_cell : Bool → ℕ → List ℕ → List ℕ

@@ -4,7 +4,7 @@ use Rattle.std.specs.Io.KnownBytes.{Appends}
 use Rattle.flash_store.specs.Device.{Device, faults_told}
 use Rattle.flash_store.specs.Pages.{Pages, HasRead, OnHonest, OnHonestIn}
 use Rattle.flash_store.specs.Output.{AppendsPart}
-use Rattle.flash_store.specs.Regions.{Range, LiesIn}
+use Rattle.flash_store.specs.Regions.{Range, LiesIn, bytes_in}
 use Rattle.cbfs_walk.specs.Cells.{IsCellIn, cell_in}
 use Rattle.cbfs_walk.specs.Walks.{StandsIn}
 use Rattle.cbfs_walk.specs.declared.cell.Cell.{Cell}
@@ -48,23 +48,21 @@ Tells old new answer t =
     ⊎ ((answer ≡ Err refusals.Output) × AppendsPart old new t.written)
     ⊎ ((answer ≡ Err refusals.Device) × AppendsPrefix old new t.written)
 
--- that is told of the device's bytes, where it is honest
-abbrev pub TellsOn : {F W : Type 0} → (F → Device) → (W → Option (List ℕ)) → F → W → W → Answer → (List ℕ → Told) → Type 0
-TellsOn facts contents device old new answer t = OnHonest facts device (λ image. Tells (contents old) (contents new) answer (t image))
-
--- that is told of the bytes of a cell of a region, where the cell stands there
-abbrev pub TellsOfCell : {F W : Type 0} → (F → Device) → (W → Option (List ℕ)) → F → Range → Cell → W → W → Answer → (List ℕ → Told) → Type 0
-TellsOfCell facts contents device region cell old new answer t = OnHonestIn facts device region (λ x. StandsIn x cell → Tells (contents old) (contents new) answer (t (cell_in x cell)))
-
--- a cell of a region of an image: both lie where they have to
-pub record IsCellOf (r : Range) (c : Cell) (image : List ℕ) : Type 0 where
-  pub region : LiesIn r image
+-- A cell of a region of a device: both lie where they have to, and the cell stands there where the device is honest.
+pub record IsCellOf {F : Type 0} (facts : F → Device) (r : Range) (c : Cell) (device : F) : Type 0 where
+  pub region : LiesIn r (facts device).content
   pub cell : IsCellIn r.size c
+  pub stands : OnHonestIn facts device r (λ x. StandsIn x c)
+
+-- the bytes of a cell of a region, of all those of an image
+abbrev pub cell_of : Range → Cell → List ℕ → List ℕ
+cell_of region cell image = cell_in (bytes_in region image) cell
 
 -- What a call leaves that only reads the device, by at most n calls, and writes to a sink: each fault is told only where
--- that side failed.
-pub record HasTold {F W : Type 0} (facts : F → Device) (faults : W → ℕ) (n : ℕ) (old new : Pages F) (out_old out_new : W) (answer : Answer) : Type 0 where
+-- that side failed, and this is told of the bytes of an honest device.
+pub record HasTold {F W : Type 0} (facts : F → Device) (contents : W → Option (List ℕ)) (faults : W → ℕ) (n : ℕ) (old new : Pages F) (out_old out_new : W) (answer : Answer) (t : List ℕ → Told) : Type 0 where
   pub read : HasRead facts n (faults_told by_device answer) old new
   pub sink : faults out_old ≤ faults out_new
   pub output : IsErrOf answer refusals.Output → faults out_old < faults out_new
   pub no_source : IsErrOf answer refusals.Source → ⊥
+  pub told : OnHonest facts old.device (λ image. Tells (contents out_old) (contents out_new) answer (t image))

@@ -10,8 +10,8 @@ ghost use Rattle.flash_format.specs.Made.{digest_bytes};
 ghost use Rattle.flash_format.specs.Components.{cell_attributes, cell_content};
 ghost use Rattle.printed_fields.specs.Printed.{Pushes};
 ghost use Rattle.cbfs_walk.specs.Hashes.{hash_state};
-ghost use Rattle.cbfs_commands.specs.Details.{algorithm_name, attribute_line, attribute_text, details, digest_line, hash_line};
-ghost use Rattle.cbfs_commands.specs.Told.{HasTold, IsCellOf, TellsOfCell, shows};
+ghost use Rattle.cbfs_commands.specs.Details.{algorithm_name, attribute_line, attribute_text, details, digest_line, hash_line, hash_text};
+ghost use Rattle.cbfs_commands.specs.Told.{HasTold, IsCellOf, cell_of, shows};
 
 use crate::refusal::Refusal;
 use crate::row::{ROW_LEN, Row, push_decimal, put_row};
@@ -106,12 +106,11 @@ fn print_attributes<F: Flash, W: Sink>(
     row: &mut Row,
     out: &mut W,
 ) -> Result<(), Refusal>
-    requires cell { IsCellOf region cell.now (F.facts paged.old.device).content }
+    requires cell { IsCellOf F.facts region cell.now paged.old.device }
     requires component { is_free cell.now.head ≡ false }
 
-    ensures after { HasTold F.facts W.faults (cell.now.head.offset / 8) paged.old paged.new out.old out.new result }
-    ensures told { TellsOfCell F.facts W.contents paged.old.device region cell.now out.old out.new result
-        (λ x. shows (flat_map attribute_line (cell_attributes x))) }
+    ensures { HasTold F.facts W.contents W.faults (cell.now.head.offset / 8) paged.old paged.new out.old out.new result
+        (λ image. shows (flat_map attribute_line (cell_attributes (cell_of region cell.now image)))) }
 {
     let mut walk = attributes(cell);
     loop {
@@ -133,12 +132,11 @@ fn print_hash<F: Flash, W: Sink>(
     row: &mut Row,
     out: &mut W,
 ) -> Result<(), Refusal>
-    requires cell { IsCellOf region cell.now (F.facts paged.old.device).content }
+    requires cell { IsCellOf F.facts region cell.now paged.old.device }
     requires component { is_free cell.now.head ≡ false }
 
-    ensures after { HasTold F.facts W.faults (1 + cell.now.span / 3840) paged.old paged.new out.old out.new result }
-    ensures told { TellsOfCell F.facts W.contents paged.old.device region cell.now out.old out.new result
-        (λ x. shows (hash_line (hash_state (cell_attributes x) (cell_content x)))) }
+    ensures { HasTold F.facts W.contents W.faults (1 + cell.now.span / 3840) paged.old paged.new out.old out.new result
+        (λ image. shows (hash_text (cell_of region cell.now image))) }
 {
     let state = check_hash(paged, region, cell)?;
     set_hash_row(row, &state);
@@ -153,13 +151,11 @@ pub fn print_details<F: Flash, W: Sink>(
     row: &mut Row,
     out: &mut W,
 ) -> Result<(), Refusal>
-    requires cell { IsCellOf region cell.now (F.facts paged.old.device).content }
+    requires cell { IsCellOf F.facts region cell.now paged.old.device }
     requires component { is_free cell.now.head ≡ false }
 
-    ensures after { HasTold F.facts W.faults (cell.now.head.offset / 8 + (1 + cell.now.span / 3840)) paged.old paged.new
-        out.old out.new result }
-    ensures told { TellsOfCell F.facts W.contents paged.old.device region cell.now out.old out.new result
-        (λ x. shows (details x)) }
+    ensures { HasTold F.facts W.contents W.faults (cell.now.head.offset / 8 + (1 + cell.now.span / 3840))
+        paged.old paged.new out.old out.new result (λ image. shows (details (cell_of region cell.now image))) }
 {
     print_attributes(paged, region, cell, row, out)?;
     print_hash(paged, region, cell, row, out)

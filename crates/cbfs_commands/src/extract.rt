@@ -5,7 +5,7 @@ ghost use Rattle.flash_format.specs.Components.{component_at};
 ghost use Rattle.flash_format.specs.Head.{is_free};
 ghost use Rattle.flash_store.specs.Regions.{LiesIn, bytes_in};
 ghost use Rattle.cbfs_commands.specs.Outcomes.{extract, extract_region, told_component};
-ghost use Rattle.cbfs_commands.specs.Told.{HasTold, IsCellOf, TellsOfCell, TellsOn};
+ghost use Rattle.cbfs_commands.specs.Told.{HasTold, IsCellOf, cell_of};
 
 use crate::read::copy_out;
 use crate::refusal::Refusal;
@@ -19,12 +19,11 @@ fn extract_component<F: Flash, W: Sink>(
     cell: &Cell,
     out: &mut W,
 ) -> Result<(), Refusal>
-    requires cell { IsCellOf region cell.now (F.facts paged.old.device).content }
+    requires cell { IsCellOf F.facts region cell.now paged.old.device }
     requires component { is_free cell.now.head ≡ false }
 
-    ensures after { HasTold F.facts W.faults (cell.now.span / 3840 + 2) paged.old paged.new out.old out.new result }
-    ensures told { TellsOfCell F.facts W.contents paged.old.device region cell.now out.old out.new result
-        (λ x. told_component (component_at cell.now.at x)) }
+    ensures { HasTold F.facts W.contents W.faults (cell.now.span / 3840 + 2) paged.old paged.new out.old out.new result
+        (λ image. told_component (component_at cell.now.at (cell_of region cell.now image))) }
 {
     cells_stand_in_their_image();
     paged.places_fit();
@@ -44,9 +43,8 @@ fn extract_region<F: Flash, W: Sink>(
 ) -> Result<(), Refusal>
     requires { LiesIn region (F.facts paged.old.device).content }
 
-    ensures after { HasTold F.facts W.faults (region.size / 16 + region.size / 3840 + 2) paged.old paged.new out.old out.new result }
-    ensures told { TellsOn F.facts W.contents paged.old.device out.old out.new result
-        (λ image. extract_region (bytes_in region image) name.now) }
+    ensures { HasTold F.facts W.contents W.faults (region.size / 16 + region.size / 3840 + 2)
+        paged.old paged.new out.old out.new result (λ image. extract_region (bytes_in region image) name.now) }
 {
     match find(paged, region, name)? {
         Some(cell) => extract_component(paged, region, &cell, out),
@@ -62,9 +60,8 @@ pub fn extract<F: Flash, W: Sink>(
     name: &[u8],
     out: &mut W,
 ) -> Result<(), Refusal>
-    ensures after { HasTold F.facts W.faults (2 * length (F.facts paged.old.device).content + 64) paged.old paged.new out.old out.new result }
-    ensures told { TellsOn F.facts W.contents paged.old.device out.old out.new result
-        (λ image. extract image region.now name.now) }
+    ensures { HasTold F.facts W.contents W.faults (2 * length (F.facts paged.old.device).content + 64)
+        paged.old paged.new out.old out.new result (λ image. extract image region.now name.now) }
 {
     let region = flash_store::region(paged, region)?;
     extract_region(paged, region, name, out)

@@ -4,7 +4,7 @@ ghost use Rattle.std.specs.Prelude.{◌≡◌, ◌+◌, ◌*◌, ◌/◌, ◌<�
 ghost use Rattle.std.specs.List.{flat_map};
 ghost use Rattle.flash_format.specs.Flashmap.{fmap_head_len, area_len, map_len, area_of, areas_from};
 ghost use Rattle.cbfs_commands.specs.Layouts.{layout, map_row, area_row};
-ghost use Rattle.cbfs_commands.specs.Told.{HasTold, TellsOn, shows};
+ghost use Rattle.cbfs_commands.specs.Told.{HasTold, shows};
 
 use crate::refusal::Refusal;
 use crate::row::{Row, push_decimal, push_hexadecimal, push_name, put_row};
@@ -56,8 +56,7 @@ fn list_area<F: Flash, W: Sink>(
     requires inside { map.now.at + map_len map.now.head ≤ length (F.facts paged.old.device).content }
     requires number { i < map.now.head.nareas }
 
-    ensures after { HasTold F.facts W.faults 1 paged.old paged.new out.old out.new result }
-    ensures told { TellsOn F.facts W.contents paged.old.device out.old out.new result
+    ensures { HasTold F.facts W.contents W.faults 1 paged.old paged.new out.old out.new result
         (λ image. shows (area_row (area_of (drop (map.now.at + fmap_head_len + area_len * i) image)))) }
 {
     let listed = area(paged, map, i)?;
@@ -74,8 +73,7 @@ fn list_areas<F: Flash, W: Sink>(
 ) -> Result<(), Refusal>
     requires { map.now.at + map_len map.now.head ≤ length (F.facts paged.old.device).content }
 
-    ensures after { HasTold F.facts W.faults map.now.head.nareas paged.old paged.new out.old out.new result }
-    ensures told { TellsOn F.facts W.contents paged.old.device out.old out.new result
+    ensures { HasTold F.facts W.contents W.faults map.now.head.nareas paged.old paged.new out.old out.new result
         (λ image. shows (flat_map area_row (areas_from map.now.head.nareas (drop (map.now.at + fmap_head_len) image)))) }
 {
     for i in 0..map.head.nareas {
@@ -87,9 +85,8 @@ fn list_areas<F: Flash, W: Sink>(
 /// Writes the place of the image's map, and its areas.
 #[tactic(auto, unfolding(crate::specs::Layouts::layout))]
 pub fn layout<F: Flash, W: Sink>(paged: &mut Paged<F>, out: &mut W) -> Result<(), Refusal>
-    ensures after { HasTold F.facts W.faults (length (F.facts paged.old.device).content / 2
-        + length (F.facts paged.old.device).content / area_len + 8) paged.old paged.new out.old out.new result }
-    ensures told { TellsOn F.facts W.contents paged.old.device out.old out.new result (λ image. layout image) }
+    ensures { HasTold F.facts W.contents W.faults (length (F.facts paged.old.device).content / 2
+        + length (F.facts paged.old.device).content / area_len + 8) paged.old paged.new out.old out.new result layout }
 {
     let Some(map) = find_fmap(paged)? else {
         return Err(Refusal::NoFmap);

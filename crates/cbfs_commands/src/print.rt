@@ -1,14 +1,12 @@
 //! The command `print`.
 
 ghost use Rattle.std.specs.Prelude.{◌≡◌, ◌+◌, ◌*◌, ◌/◌, ◌<◌, ◌≤◌, length, OnOk};
-ghost use Rattle.flash_store.specs.Pages.{HasAnswered, OnHonestIn};
+ghost use Rattle.flash_store.specs.Pages.{HasAnswered, OnHonest};
 ghost use Rattle.flash_store.specs.Regions.{LiesIn, bytes_in};
-ghost use Rattle.cbfs_walk.specs.Cells.{cell_in};
-ghost use Rattle.cbfs_walk.specs.Walks.{StandsIn};
 ghost use Rattle.cbfs_commands.specs.Outcomes.{print, print_region};
 ghost use Rattle.cbfs_commands.specs.Details.{cell_reads, region_reads, shown_cell};
 ghost use Rattle.cbfs_commands.specs.Rows.{row};
-ghost use Rattle.cbfs_commands.specs.Told.{HasTold, IsCellOf, TellsOfCell, TellsOn, shows};
+ghost use Rattle.cbfs_commands.specs.Told.{HasTold, IsCellOf, cell_of, shows};
 
 use crate::detail::print_details;
 use crate::refusal::Refusal;
@@ -24,11 +22,11 @@ fn set_cell_row<F: Flash>(
     cell: &Cell,
     buffer: &mut Row,
 ) -> Result<(), FlashFault>
-    requires { IsCellOf region cell.now (F.facts paged.old.device).content }
+    requires { IsCellOf F.facts region cell.now paged.old.device }
 
     ensures after { HasAnswered F.facts (2 + cell.now.span / 3840) paged.old paged.new result }
-    ensures row { OnHonestIn F.facts paged.old.device region (λ x. StandsIn x cell.now → OnOk result (buffer.new.items
-        ≡ row cell.now.at (cell_in x cell.now))) }
+    ensures row { OnHonest F.facts paged.old.device (λ image.
+        OnOk result (buffer.new.items ≡ row cell.now.at (cell_of region cell.now image))) }
 {
     cells_stand_in_their_image();
     if cell.head.is_free() {
@@ -50,11 +48,10 @@ fn print_row<F: Flash, W: Sink>(
     buffer: &mut Row,
     out: &mut W,
 ) -> Result<(), Refusal>
-    requires { IsCellOf region cell.now (F.facts paged.old.device).content }
+    requires { IsCellOf F.facts region cell.now paged.old.device }
 
-    ensures after { HasTold F.facts W.faults (2 + cell.now.span / 3840) paged.old paged.new out.old out.new result }
-    ensures told { TellsOfCell F.facts W.contents paged.old.device region cell.now out.old out.new result
-        (λ x. shows (row cell.now.at x)) }
+    ensures { HasTold F.facts W.contents W.faults (2 + cell.now.span / 3840) paged.old paged.new out.old out.new result
+        (λ image. shows (row cell.now.at (cell_of region cell.now image))) }
 {
     set_cell_row(paged, region, cell, buffer)?;
     put_row(out, buffer)
@@ -69,11 +66,10 @@ fn print_cell<F: Flash, W: Sink>(
     buffer: &mut Row,
     out: &mut W,
 ) -> Result<(), Refusal>
-    requires { IsCellOf region cell.now (F.facts paged.old.device).content }
+    requires { IsCellOf F.facts region cell.now paged.old.device }
 
-    ensures after { HasTold F.facts W.faults (cell_reads verbose cell.now.span) paged.old paged.new out.old out.new result }
-    ensures told { TellsOfCell F.facts W.contents paged.old.device region cell.now out.old out.new result
-        (λ x. shows (shown_cell verbose cell.now.at x)) }
+    ensures { HasTold F.facts W.contents W.faults (cell_reads verbose cell.now.span) paged.old paged.new out.old out.new result
+        (λ image. shows (shown_cell verbose cell.now.at (cell_of region cell.now image))) }
 {
     cells_stand_in_their_image();
     print_row(paged, region, cell, buffer, out)?;
@@ -92,8 +88,7 @@ fn print_region<F: Flash, W: Sink>(
 ) -> Result<(), Refusal>
     requires { LiesIn region (F.facts paged.old.device).content }
 
-    ensures after { HasTold F.facts W.faults (region_reads verbose region.size + 2) paged.old paged.new out.old out.new result }
-    ensures told { TellsOn F.facts W.contents paged.old.device out.old out.new result
+    ensures { HasTold F.facts W.contents W.faults (region_reads verbose region.size + 2) paged.old paged.new out.old out.new result
         (λ image. print_region (bytes_in region image) verbose) }
 {
     let mut buffer = ArrayVec::new();
@@ -115,9 +110,8 @@ pub fn print<F: Flash, W: Sink>(
     verbose: bool,
     out: &mut W,
 ) -> Result<(), Refusal>
-    ensures after { HasTold F.facts W.faults (2 * length (F.facts paged.old.device).content + 64) paged.old paged.new out.old out.new result }
-    ensures told { TellsOn F.facts W.contents paged.old.device out.old out.new result
-        (λ image. print image name.now verbose) }
+    ensures { HasTold F.facts W.contents W.faults (2 * length (F.facts paged.old.device).content + 64)
+        paged.old paged.new out.old out.new result (λ image. print image name.now verbose) }
 {
     let region = flash_store::region(paged, name)?;
     print_region(paged, region, verbose, out)

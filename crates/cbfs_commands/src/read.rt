@@ -2,7 +2,7 @@
 
 ghost use Rattle.std.specs.Prelude.{◌≡◌, ◌+◌, ◌*◌, ◌/◌, ◌<◌, ◌≤◌, length, slice_range};
 ghost use Rattle.cbfs_commands.specs.Outcomes.{read};
-ghost use Rattle.cbfs_commands.specs.Told.{HasTold, TellsOn, shows};
+ghost use Rattle.cbfs_commands.specs.Told.{HasTold, shows};
 
 use crate::refusal::Refusal;
 use flash_store::{Flash, Paged, Sink};
@@ -16,8 +16,7 @@ pub fn copy_out<F: Flash, W: Sink>(
 ) -> Result<(), Refusal>
     requires { start + size ≤ length (F.facts paged.old.device).content }
 
-    ensures after { HasTold F.facts W.faults ((size + 4095) / 4096) paged.old paged.new out.old out.new result }
-    ensures told { TellsOn F.facts W.contents paged.old.device out.old out.new result
+    ensures { HasTold F.facts W.contents W.faults ((size + 4095) / 4096) paged.old paged.new out.old out.new result
         (λ image. shows (slice_range image start (start + size))) }
 {
     paged.copy_out(start, size, out)?;
@@ -31,8 +30,8 @@ pub fn read<F: Flash, W: Sink>(
     name: &[u8],
     out: &mut W,
 ) -> Result<(), Refusal>
-    ensures after { HasTold F.facts W.faults (2 * length (F.facts paged.old.device).content + 64) paged.old paged.new out.old out.new result }
-    ensures told { TellsOn F.facts W.contents paged.old.device out.old out.new result (λ image. read image name.now) }
+    ensures { HasTold F.facts W.contents W.faults (2 * length (F.facts paged.old.device).content + 64)
+        paged.old paged.new out.old out.new result (λ image. read image name.now) }
 {
     let region = flash_store::region(paged, name)?;
     copy_out(paged, region.start(), region.size(), out)

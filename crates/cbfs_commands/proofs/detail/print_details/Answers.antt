@@ -1,29 +1,17 @@
-use Rattle.std.proofs.Common.{List, ℕ, subst, sym}
-use Rattle.flash_format.specs.Components.{cell_attributes, cell_content}
-use Rattle.flash_store.specs.Regions.{bytes_in}
-use Rattle.cbfs_walk.specs.Cells.{cell_in}
-use Rattle.cbfs_walk.specs.Hashes.{hash_state}
-use Rattle.cbfs_walk.specs.Walks.{StandsIn}
-use Rattle.cbfs_commands.specs.Details.{hash_line}
-use Rattle.cbfs_commands.specs.Told.{shows, Tells}
-use Rattle.flash_store.proofs.DeviceLemmas.{honest_still}
-use Rattle.cbfs_commands.proofs.Telling.{handed, told-text, tells-then, tells-stopped}
+use Rattle.std.proofs.Common.{◌+◌, ◌/◌, arith, refl}
+use Rattle.cbfs_commands.specs.Details.{hash_text}
+use Rattle.cbfs_commands.specs.Told.{cell_of, shows}
+use Rattle.cbfs_commands.proofs.Telling.{so_far-ends, so_far-of, still_cell, told-stopped, told-within}
 use Rattle.cbfs_commands.proofs.detail.print_details.Goals as goal
 
-pub returns-clause-told : goal.returns-clause-told
-returns-clause-told g c = λ h stands.
-    let r = c.args.region in
-    let cell = c.args.cell.now in
-    let old : List ℕ = (g.F.Flash.facts c.args.paged.now.device).content in
-    let mid : List ℕ = (g.F.Flash.facts c.print_attributes.new.paged.device).content in
-    let same = c.print_attributes.ensures.after.read.device.unchanged h in
-    let there : StandsIn (bytes_in r mid) cell = subst (λ (l : List ℕ). StandsIn (bytes_in r l) cell) (sym same) stands in
-    let hash = subst (λ (l : List ℕ). Tells (g.W.Sink.contents c.print_attributes.new.out) (g.W.Sink.contents c.print_hash.new.out) c.print_hash.result
-    (shows (hash_line (hash_state (cell_attributes (cell_in (bytes_in r l) cell)) (cell_content (cell_in (bytes_in r l) cell)))))) same
-    (c.print_hash.ensures.told (honest_still c.print_attributes.ensures.after.read.device.calls.same_honesty h) there) in
-    tells-then _ _ _ _ _ _ (told-text _ _ _ (c.in_ok-print_attributes.ensures.told h stands)) hash
+pub print_hash-requires-clause-cell : goal.print_hash-requires-clause-cell
+print_hash-requires-clause-cell g c = still_cell c.print_attributes.ensures.read c.requires.cell
 
-pub returns-in_err-print_attributes-clause-told : goal.returns-in_err-print_attributes-clause-told
-returns-in_err-print_attributes-clause-told g c = λ h stands.
-    let x : List ℕ = cell_in (bytes_in c.args.region (g.F.Flash.facts c.args.paged.now.device).content) c.args.cell.now in
-    rw (handed _ c.in_err-print_attributes.field-0.0 c.from_residual.ensures.1) (tells-stopped _ _ _ _ (shows (hash_line (hash_state (cell_attributes x) (cell_content x)))) (c.in_err-print_attributes.ensures.told h stands))
+pub returns-in_err-print_attributes : goal.returns-in_err-print_attributes
+returns-in_err-print_attributes g c =
+    told-within _ (omega arith) (told-stopped (λ image. shows (hash_text (cell_of c.args.region c.args.cell.now image))) c.in_err-print_attributes.ensures c.from_residual.ensures.1)
+
+pub returns : goal.returns
+returns g c =
+    let rest = so_far-of (λ image. shows (hash_text (cell_of c.args.region c.args.cell.now image))) c.in_ok-print_attributes.ensures in
+    so_far-ends rest _ c.print_hash.ensures (λ h. refl) (omega arith)

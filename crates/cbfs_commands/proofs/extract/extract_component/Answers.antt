@@ -2,5 +2,5 @@
 use Rattle.std.proofs.Common.{rules}
 use Rattle.cbfs_commands.proofs.extract.extract_component.Goals as goal
 
-pub returns-clause-told : goal.returns-clause-told
-returns-clause-told g c = search rules
+pub returns : goal.returns
+returns g c = search rules

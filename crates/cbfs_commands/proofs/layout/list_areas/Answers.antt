@@ -1,20 +1,24 @@
-use Rattle.std.proofs.Common.{◌+◌}
-use Rattle.cbfs_commands.proofs.Areas.{listing_more, listing_stops, listing_ends}
-use Rattle.cbfs_commands.proofs.Telling.{handed, told-text}
+use Rattle.std.proofs.Common.{◌+◌, List, ℕ, arith}
+use Rattle.cbfs_commands.proofs.Areas.{every, none_left, one_less, rows_left}
+use Rattle.cbfs_commands.proofs.Telling.{so_far-ends, so_far-more, so_far-none, told-none, told-stopped}
 use Rattle.cbfs_commands.proofs.layout.list_areas.Goals as goal
+
+pub loop-i-init : goal.loop-i-init
+loop-i-init g c = let map = c.args.map.now in so_far-none 0 _ _ _ _ (λ image. every image (map.at + 56) map.head.nareas)
 
 pub loop-i-preserved : goal.loop-i-preserved
 loop-i-preserved g c =
     let map = c.args.map.now in
-    listing_more g.F.Flash.facts (map.at + 56) map.head.nareas c.loop-i.i _ _ _ _ _ _ _ _ _ c.loop-i-test.true c.loop-i.invariant c.in_ok-list_area.ensures.after.read c.list_area.ensures.after.sink
-    (λ h. told-text _ _ _ (c.in_ok-list_area.ensures.told h))
+    so_far-more c.loop-i.invariant _ _ c.in_ok-list_area.ensures (λ h. one_less _ (map.at + 56) map.head.nareas c.loop-i.i c.loop-i-test.true) (omega arith)
 
-pub returns-in_err-list_area-clause-told : goal.returns-in_err-list_area-clause-told
-returns-in_err-list_area-clause-told g c = λ h.
+pub returns-in_err-list_area : goal.returns-in_err-list_area
+returns-in_err-list_area g c =
     let map = c.args.map.now in
-    rw (handed _ c.in_err-list_area.field-0.0 c.from_residual.ensures.1) (listing_stops g.F.Flash.facts (map.at + 56) map.head.nareas c.loop-i.i _ _ _ _ _ _ _ c.in_err-list_area.field-0.0 c.loop-i-test.true c.loop-i.invariant c.in_err-list_area.ensures.told h)
+    let rest = λ (image : List ℕ). rows_left image (map.at + 56) map.head.nareas (c.loop-i.i + 1) in
+    let stopped = told-stopped rest c.in_err-list_area.ensures c.from_residual.ensures.1 in
+    so_far-ends c.loop-i.invariant _ stopped (λ h. one_less _ (map.at + 56) map.head.nareas c.loop-i.i c.loop-i-test.true) (omega (arith, c.loop-i-test.true))
 
-pub returns-clause-told : goal.returns-clause-told
-returns-clause-told g c = λ h.
+pub returns : goal.returns
+returns g c =
     let map = c.args.map.now in
-    listing_ends g.F.Flash.facts (map.at + 56) map.head.nareas c.loop-i.i _ _ _ _ _ _ c.loop-i-test.false c.loop-i.invariant h
+    so_far-ends c.loop-i.invariant _ (told-none _ _) (λ h. none_left _ (map.at + 56) map.head.nareas c.loop-i.i c.loop-i-test.false) (omega arith)

@@ -1,6 +1,9 @@
 use Rattle.std.proofs.Common.{◌+◌}
-use Rattle.cbfs_commands.proofs.Areas.{ListingAreas}
+use Rattle.cbfs_commands.specs.Told.{shows}
+use Rattle.cbfs_commands.proofs.Areas.{rows_left, rows_of}
+use Rattle.cbfs_commands.proofs.Telling.{ToldSoFar}
 use Rattle.cbfs_commands.proofs.layout.list_areas.Given as goal
 
 abbrev pub invariant-loop-i : goal.invariant-loop-i
-invariant-loop-i g l = ListingAreas g.F.Flash.facts (l.map.at + 56) l.map.head.nareas l.i l.initial.paged l.paged (g.W.Sink.contents l.initial.out) (g.W.Sink.contents l.out) (g.W.Sink.faults l.initial.out) (g.W.Sink.faults l.out)
+invariant-loop-i g l = ToldSoFar g.F.Flash.facts g.W.Sink.contents g.W.Sink.faults l.i (λ image. shows (rows_of image l.map.head.nareas (l.map.at + 56)))
+    (λ image. rows_left image (l.map.at + 56) l.map.head.nareas l.i) l.initial.paged l.paged l.initial.out l.out

@@ -1,34 +1,30 @@
-use Rattle.std.proofs.Common.{◌≡◌, ◌&&◌, not, Bool, true, false, cond, List, ℕ, [], ◌++◌, refl, subst, sym, ap, ◌∙◌}
+use Rattle.std.proofs.Common.{◌≡◌, ◌∙◌, ◌&&◌, not, Bool, true, false, cond, List, ℕ, [], refl, sym, ap, arith}
 use Rattle.flash_format.specs.Head.{head_of, is_free}
 use Rattle.flash_format.specs.declared.head.Head.{Head}
-use Rattle.flash_store.specs.Regions.{bytes_in}
-use Rattle.cbfs_walk.specs.Cells.{cell_in}
-use Rattle.cbfs_walk.specs.Walks.{StandsIn}
-use Rattle.cbfs_commands.specs.Rows.{row}
 use Rattle.cbfs_commands.specs.Details.{details}
-use Rattle.cbfs_commands.specs.Told.{shows, Tells}
-use Rattle.flash_store.proofs.DeviceLemmas.{honest_still}
-use Rattle.cbfs_commands.proofs.Telling.{handed, told-text, tells-then, tells-stopped}
+use Rattle.cbfs_commands.specs.Told.{Told, cell_of, shows}
+use Rattle.cbfs_commands.proofs.Telling.{so_far-ends, so_far-of, still_cell, told-stopped, told-within}
 use Rattle.cbfs_commands.proofs.print.print_cell.Goals as goal
 
-pub returns-in_err-print_row-clause-told : goal.returns-in_err-print_row-clause-told
-returns-in_err-print_row-clause-told g c = λ h stands.
-    let x : List ℕ = cell_in (bytes_in c.args.region (g.F.Flash.facts c.args.paged.now.device).content) c.args.cell.now in
-    rw (handed _ c.in_err-print_row.field-0.0 c.from_residual.ensures.1) (tells-stopped _ _ _ _ (shows (cond (c.args.verbose && not (is_free (head_of x))) (details x) [])) (c.in_err-print_row.ensures.told h stands))
+-- the lines after a cell's row
+abbrev lines : Bool → List ℕ → Told
+lines verbose x = shows (cond (verbose && not (is_free (head_of x))) (details x) [])
 
-pub returns-then-not-is_free-clause-told : goal.returns-then-not-is_free-clause-told
-returns-then-not-is_free-clause-told g c = λ h stands.
+pub print_details-requires-clause-cell : goal.print_details-requires-clause-cell
+print_details-requires-clause-cell g c = still_cell c.print_row.ensures.read c.requires
+
+pub returns-in_err-print_row : goal.returns-in_err-print_row
+returns-in_err-print_row g c =
+    told-within _ (omega arith) (told-stopped (λ image. lines c.args.verbose (cell_of c.args.region c.args.cell.now image)) c.in_err-print_row.ensures c.from_residual.ensures.1)
+
+pub returns-then-not-is_free : goal.returns-then-not-is_free
+returns-then-not-is_free g c =
     let r = c.args.region in
     let cell = c.args.cell.now in
-    let old : List ℕ = (g.F.Flash.facts c.args.paged.now.device).content in
-    let mid : List ℕ = (g.F.Flash.facts c.print_row.new.paged.device).content in
-    let x : List ℕ = cell_in (bytes_in r old) cell in
-    let known = c.cells_stand_in_their_image.ensures r old cell c.requires.region c.requires.cell stands in
-    let used : is_free (head_of x) ≡ false = ap (λ (head : Head). is_free head) known.head ∙ sym c.if-not-is_free.ensures in
-    let both : (c.args.verbose && not (is_free (head_of x))) ≡ true = rw (c.if-verbose.true, used) refl in
-    let same = c.print_row.ensures.after.read.device.unchanged h in
-    let there : StandsIn (bytes_in r mid) cell = subst (λ (l : List ℕ). StandsIn (bytes_in r l) cell) (sym same) stands in
-    let lines = subst (λ (l : List ℕ). Tells (g.W.Sink.contents c.print_row.new.out) (g.W.Sink.contents c.print_details.new.out) c.print_details.result (shows (details (cell_in (bytes_in r l) cell)))) same
-    (c.print_details.ensures.told (honest_still c.print_row.ensures.after.read.device.calls.same_honesty h) there) in
-    subst (λ (b : Bool). Tells (g.W.Sink.contents c.args.out.now) (g.W.Sink.contents c.print_details.new.out) c.print_details.result (shows (row cell.at x ++ cond b (details x) []))) (sym both)
-    (tells-then _ _ _ _ (row cell.at x) (shows (details x)) (told-text _ _ _ (c.in_ok-print_row.ensures.told h stands)) lines)
+    let mid = (g.F.Flash.facts c.print_row.new.paged.device).content in
+    let here = still_cell c.print_row.ensures.read c.requires in
+    let rest = so_far-of (λ image. lines c.args.verbose (cell_of r cell image)) c.in_ok-print_row.ensures in
+    so_far-ends rest _ c.print_details.ensures (λ h.
+    let known = c.cells_stand_in_their_image.ensures r mid cell here.region here.cell (here.stands h) in
+    let used : is_free (head_of (cell_of r cell mid)) ≡ false = ap (λ (head : Head). is_free head) known.head ∙ sym c.if-not-is_free.ensures in
+    rw (c.if-verbose.true, used) refl) (rw c.if-verbose.true (omega (arith, c.requires.cell.content)))
