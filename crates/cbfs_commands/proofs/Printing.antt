@@ -1,12 +1,11 @@
 -- What is printed of a region from a place on, cell by cell.
-use Rattle.std.proofs.Common.{◌≡◌, ℕ, ◌+◌, ◌/◌, ◌%◌, ◌-◌, ◌≤◌, ◌⊎◌, inl, inr, Bool, true, false, IsTrue, List, [], length, Option, None, Ok, Err, refl, sym, ap, ◌∙◌, arith, subst}
+use Rattle.std.proofs.Common.{◌≡◌, ℕ, ◌+◌, ◌/◌, ◌%◌, ◌-◌, ◌≤◌, ◌⊎◌, inl, inr, Bool, true, false, List, [], Option, Ok, Err, refl, sym, ap, ◌∙◌, arith, subst}
 use Rattle.std.specs.Prelude.{IsErrOf}
 use Rattle.std.proofs.KnownBytes.{Appends-nil}
-use Rattle.flash_format.specs.Cut.{ends}
 use Rattle.flash_store.specs.Device.{Device}
 use Rattle.flash_store.specs.Pages.{Pages, HasRead, OnHonest}
 use Rattle.flash_store.specs.Regions.{Range, LiesIn, bytes_in}
-use Rattle.cbfs_walk.specs.Cells.{IsCellIn, cell_in}
+use Rattle.cbfs_walk.specs.Cells.{cell_in}
 use Rattle.cbfs_walk.specs.Shaped.{shaped, ReadsCells, by_answer}
 use Rattle.cbfs_walk.specs.Walks.{Walking, walk_of, answer_at, StandsIn}
 use Rattle.cbfs_walk.specs.Walks as walks

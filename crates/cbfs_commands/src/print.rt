@@ -88,8 +88,8 @@ fn print_region<F: Flash, W: Sink>(
 ) -> Result<(), Refusal>
     requires { LiesIn region (F.facts paged.old.device).content }
 
-    ensures { HasTold F.facts W.contents W.faults (region_reads verbose region.size + 2) paged.old paged.new out.old out.new result
-        (λ image. print_region (bytes_in region image) verbose) }
+    ensures { HasTold F.facts W.contents W.faults (region_reads verbose region.size + 2)
+        paged.old paged.new out.old out.new result (λ image. print_region (bytes_in region image) verbose) }
 {
     let mut buffer = ArrayVec::new();
     let mut walk = Walk::new(region);

@@ -1,11 +1,10 @@
-use Rattle.std.proofs.Common.{◌≡◌, ◌+◌, ◌/◌, ◌∙◌, IsTrue, List, ℕ, Option, Some, None, ap, inr, refl, subst, sym, arith}
+use Rattle.std.proofs.Common.{◌≡◌, ◌+◌, ◌∙◌, IsTrue, List, ℕ, ap, refl, subst, sym, arith}
 use Rattle.std.proofs.lemmas.Result.{err_from_is_err_and}
-use Rattle.std.proofs.KnownBytes.{Appends-nil}
 use Rattle.flash_store.specs.Regions.{bytes_in}
 use Rattle.cbfs_walk.specs.AttrWalks.{AttrWalking, after_first, attr_reads, attributes_left}
 use Rattle.cbfs_walk.specs.declared.cell.Cell.{Cell}
 use Rattle.cbfs_commands.proofs.Listing.{lines-first, lines-none, lines_left}
-use Rattle.cbfs_commands.proofs.Telling.{so_far-ends, so_far-more, so_far-none, told-after, told-failed, told-none, told-row, told-stopped}
+use Rattle.cbfs_commands.proofs.Telling.{so_far-ends, so_far-more, told-after, told-failed, told-none, told-row, told-stopped}
 use Rattle.cbfs_commands.proofs.detail.print_attributes.Goals as goal
 
 pub loop-head-preserved : goal.loop-head-preserved

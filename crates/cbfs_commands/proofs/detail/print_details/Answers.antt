@@ -1,4 +1,4 @@
-use Rattle.std.proofs.Common.{◌+◌, ◌/◌, arith, refl}
+use Rattle.std.proofs.Common.{arith, refl}
 use Rattle.cbfs_commands.specs.Details.{hash_text}
 use Rattle.cbfs_commands.specs.Told.{cell_of, shows}
 use Rattle.cbfs_commands.proofs.Telling.{so_far-ends, so_far-of, still_cell, told-stopped, told-within}

@@ -1,5 +1,4 @@
-use Rattle.std.proofs.Common.{◌+◌, ◌/◌, List, ℕ, arith, length, refl}
-use Rattle.flash_format.specs.Flashmap.{map_len}
+use Rattle.std.proofs.Common.{◌+◌, ◌/◌, arith, length, refl}
 use Rattle.cbfs_commands.specs.Layouts.{layout}
 use Rattle.cbfs_commands.specs.Told.{shows}
 use Rattle.cbfs_commands.proofs.Areas.{layout-is, rows_of}
