@@ -1,0 +1,127 @@
+//! Rows as JSON.
+
+ghost use Rattle.std.specs.Prelude.{◌≡◌, ◌++◌, [], ◌∷◌, Some, OnOk, map, option_map};
+ghost use Rattle.std.specs.Fmt.{decimal};
+ghost use Rattle.std.specs.Option.{option_copied};
+ghost use Rattle.json.specs.Json.{string};
+ghost use Rattle.json.specs.Print.{IsPrintable};
+ghost use Rattle.json.specs.Reads.{token_of};
+ghost use Rattle.json.specs.Token.{number};
+ghost use Rattle.json.specs.Tree.{json_tokens};
+ghost use Rattle.check_rows.specs.Documents.{bytes_json, closing_tokens, member_tokens, name_json, number_json, number_token, row_tokens};
+ghost use Rattle.check_rows.specs.Rows.{seen_row};
+
+use crate::row::{Counts, Row};
+use json::{Token, Writer};
+use std::alloc::AllocError;
+
+fn put(writer: &mut Writer, token: Token<'_>) -> Result<(), AllocError>
+    requires { IsPrintable (token_of token) }
+    ensures tokens { OnOk result (writer.new.tokens ≡ writer.old.tokens ++ token_of token.entry ∷ []) }
+    ensures before { writer.new.before ≡ writer.old.before }
+{
+    writer.token(token)
+}
+
+fn put_number(writer: &mut Writer, n: u64) -> Result<(), AllocError>
+    ensures tokens { OnOk result (writer.new.tokens ≡ writer.old.tokens ++ number (decimal n) ∷ []) }
+    ensures before { writer.new.before ≡ writer.old.before }
+{
+    writer.u64(n)
+}
+
+#[tactic(auto, unfolding(crate::specs::Documents::member_tokens))]
+fn put_text(writer: &mut Writer, key: &str, text: &str) -> Result<(), AllocError>
+    ensures tokens { OnOk result (writer.new.tokens ≡ writer.old.tokens ++ member_tokens key.now (Some (string text.now))) }
+    ensures before { writer.new.before ≡ writer.old.before }
+{
+    put(writer, Token::Key(key))?;
+    put(writer, Token::String(text))
+}
+
+#[tactic(auto, unfolding(crate::specs::Documents::member_tokens))]
+fn put_count(writer: &mut Writer, key: &str, count: Option<u64>) -> Result<(), AllocError>
+    ensures tokens { OnOk result (writer.new.tokens ≡ writer.old.tokens ++ member_tokens key.now (option_map number_json count)) }
+    ensures before { writer.new.before ≡ writer.old.before }
+{
+    match count {
+        Some(count) => {
+            put(writer, Token::Key(key))?;
+            put_number(writer, count)
+        }
+        None => Ok(()),
+    }
+}
+
+fn put_numbers(writer: &mut Writer, bytes: &[u8]) -> Result<(), AllocError>
+    ensures tokens { OnOk result (writer.new.tokens ≡ writer.old.tokens ++ map number_token bytes.now) }
+    ensures before { writer.new.before ≡ writer.old.before }
+{
+    for byte in bytes {
+        put_number(writer, u64::from(*byte))?;
+    }
+    Ok(())
+}
+
+/// An array of the bytes.
+fn put_bytes(writer: &mut Writer, bytes: &[u8]) -> Result<(), AllocError>
+    ensures tokens { OnOk result (writer.new.tokens ≡ writer.old.tokens ++ json_tokens (bytes_json bytes.now)) }
+    ensures before { writer.new.before ≡ writer.old.before }
+{
+    put(writer, Token::BeginArray)?;
+    put_numbers(writer, bytes)?;
+    put(writer, Token::EndArray)
+}
+
+fn put_name_value(writer: &mut Writer, name: &[u8]) -> Result<(), AllocError>
+    ensures tokens { OnOk result (writer.new.tokens ≡ writer.old.tokens ++ json_tokens (name_json name.now)) }
+    ensures before { writer.new.before ≡ writer.old.before }
+{
+    match str::from_utf8(name) {
+        Ok(text) => put(writer, Token::String(text)),
+        Err(_) => put_bytes(writer, name),
+    }
+}
+
+#[tactic(auto, unfolding(crate::specs::Documents::member_tokens))]
+fn put_name(writer: &mut Writer, key: &str, name: Option<&[u8]>) -> Result<(), AllocError>
+    ensures tokens { OnOk result (writer.new.tokens ≡ writer.old.tokens
+        ++ member_tokens key.now (option_map name_json (option_copied name.entry))) }
+    ensures before { writer.new.before ≡ writer.old.before }
+{
+    match name {
+        Some(name) => {
+            put(writer, Token::Key(key))?;
+            put_name_value(writer, name)
+        }
+        None => Ok(()),
+    }
+}
+
+/// Writes a row, as an item of an array.
+pub fn write_row(writer: &mut Writer, row: &Row) -> Result<(), AllocError>
+    ensures tokens { OnOk result (writer.new.tokens ≡ writer.old.tokens ++ row_tokens (seen_row row.now)) }
+    ensures before { writer.new.before ≡ writer.old.before }
+{
+    put(writer, Token::BeginObject)?;
+    put_text(writer, "verdict", row.verdict.word())?;
+    put_name(writer, "area", row.area)?;
+    put_name(writer, "component", row.component)?;
+    put_count(writer, "position", row.position)?;
+    put_text(writer, "what", row.what)?;
+    put_count(writer, "value", row.detail.number())?;
+    put(writer, Token::EndObject)
+}
+
+/// Writes what follows the rows.
+#[tactic(auto, unfolding(crate::specs::Documents::closing_tokens))]
+pub fn write_end(writer: &mut Writer, counts: Counts) -> Result<(), AllocError>
+    ensures tokens { OnOk result (writer.new.tokens ≡ writer.old.tokens ++ closing_tokens counts) }
+    ensures before { writer.new.before ≡ writer.old.before }
+{
+    put(writer, Token::EndArray)?;
+    put_count(writer, "bad", Some(counts.bad))?;
+    put_count(writer, "remarks", Some(counts.remarks))?;
+    put_count(writer, "changes", Some(counts.changes))?;
+    put(writer, Token::EndObject)
+}
