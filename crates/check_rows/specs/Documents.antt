@@ -49,6 +49,10 @@ document rows counts = object (members (
     ∷ (codes "changes", Some (number_json counts.changes))
     ∷ []))
 
+-- what stands before the rows
+abbrev pub opening : List ℕ
+opening = codes "{\"rows\":["
+
 -- ---- the tokens that a writer has of these
 
 abbrev pub number_token : ℕ → Token

@@ -1,10 +1,10 @@
 //! A report.
 
-ghost use Rattle.std.specs.Prelude.{◌≡◌, ◌++◌, [], ◌∷◌, List, OnOk, IfOk, codes};
+ghost use Rattle.std.specs.Prelude.{◌≡◌, ◌++◌, [], ◌∷◌, List, OnOk, IfOk};
 ghost use Rattle.json.specs.Print.{print};
 ghost use Rattle.printed_fields.specs.Printed.{line_feed};
-ghost use Rattle.check_rows.specs.Rows.{SeenRow, seen_row, summary};
-ghost use Rattle.check_rows.specs.Documents.{closing_tokens};
+ghost use Rattle.check_rows.specs.Rows.{SeenRow, seen_row};
+ghost use Rattle.check_rows.specs.Documents.{closing_tokens, opening};
 
 use crate::document::{write_end, write_row};
 use crate::row::{Counts, Row, Verdict};
@@ -23,7 +23,7 @@ pub enum Form {
 
 /// The document of which a writer has the rows.
 fn document(alloc: Global, writer: Writer, counts: Counts) -> Result<Vec<u8>, AllocError>
-    ensures { IfOk result (λ text. text.items ≡ codes "{\"rows\":[" ++ writer.before
+    ensures { IfOk result (λ text. text.items ≡ opening ++ writer.before
         ++ print (writer.tokens ++ closing_tokens counts) ++ line_feed) }
 {
     let mut writer = writer;
