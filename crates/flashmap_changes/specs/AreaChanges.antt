@@ -10,7 +10,10 @@ use Rattle.flashmap_changes.specs.declared.change.AreaChange.{AreaChange}
 use Rattle.flashmap_changes.specs.declared.change.AreaChange.TheVariants.{Added, Gone, Moved, Resized, Differs, NotCompared}
 use Rattle.flashmap_changes.specs.declared.pairs.Pair.{Pair}
 use Rattle.flashmap_changes.specs.Blocks.{different_blocks}
-use Rattle.flashmap_changes.specs.Changes.{told_if}
+
+-- this change, or none
+abbrev pub told_if : Bool → AreaChange → List AreaChange
+told_if told change = if told then change ∷ [] else []
 
 -- the first of these areas with the area's name
 abbrev pub namesake : NumberedArea → List NumberedArea → Option NumberedArea

@@ -1,4 +1,3 @@
-pub mod Changes
 pub mod AreaChanges
 pub mod Blocks
 pub mod Images

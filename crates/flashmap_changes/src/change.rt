@@ -1,6 +1,6 @@
 //! What is told of two flashmaps, and why nothing is told.
 ghost use Rattle.std.specs.Prelude.{◌≡◌, ◌++◌, OnOk};
-ghost use Rattle.flashmap_changes.specs.Changes.{told_if};
+ghost use Rattle.flashmap_changes.specs.AreaChanges.{told_if};
 
 use flashmap_check::NumberedArea;
 use std::alloc::AllocError;
