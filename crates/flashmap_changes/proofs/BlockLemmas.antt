@@ -1,13 +1,16 @@
 -- The blocks of a region's bytes, and how many differ.
-use Rattle.std.proofs.Common.{◌≡◌, ◌∙◌, ℕ, zero, suc, ◌+◌, ◌-◌, ◌*◌, ◌<◌, ◌≤◌, Bool, true, List, length, take, drop, min, max, refl, sym, ap, arith, ⊎_elim, length-take, length-drop, slice_range}
+use Rattle.std.proofs.Common.{◌≡◌, ◌∙◌, ℕ, zero, suc, ◌+◌, ◌-◌, ◌*◌, ◌/◌, ◌%◌, ◌<◌, ◌≤◌, Bool, true, false, Some, List, [], ◌∷◌, ◌++◌, length, take, drop, min, max, refl, sym, ap, subst, arith, ⊎_elim, length-take, length-drop, length-append, get_or, slice_range}
 use Rattle.std.specs.Prelude.{not, if◌then◌else◌}
 use Rattle.std.specs.Str.{bytes_eq}
 use Rattle.std.proofs.lemmas.Bool.{cases_lt, false_from_ne_true}
 use Rattle.std.proofs.lemmas.List.{drop-drop, drop-take, take-take, take_all}
+use Rattle.std.proofs.lemmas.Option.{get_or_from_slice_get, slice_get-get_or}
+use Rattle.std.proofs.Math.ListN.{get_or-append}
+use Rattle.std.proofs.Math.Seq.{get_or-append_seam}
 use Rattle.std.proofs.lemmas.Slice.Eq.{bytes_eq-Decides}
 use Rattle.flash_store.specs.Regions.{Range, bytes_in}
 use Rattle.flash_store.proofs.BytesLemmas.{slice_range_is}
-use Rattle.flashmap_changes.specs.Blocks.{blocks_of, block, differs, different_among, different_blocks}
+use Rattle.flashmap_changes.specs.Blocks.{blocks_of, block, differs, different_among, different_blocks, KnowsBlocks}
 
 -- two limits on a length are the lower one
 take-both : (m n : ℕ) (x : List ℕ) → take m (take n x) ≡ take (min n m) x
@@ -78,3 +81,38 @@ bytes_in-whole r x n is long = ap (λ (r : Range). bytes_in r x) is ∙ slice_ra
 pub different_blocks-whole : (r s : Range) (x y : List ℕ) (m n : ℕ) → r ≡ record { start = 0; size = m } → s ≡ record { start = 0; size = n } → m ≡ length x → n ≡ length y → different_blocks (bytes_in r x) (bytes_in s y) ≡ different_blocks x y
 different_blocks-whole r s x y m n r_is s_is old_len new_len =
     ap (λ (l : List ℕ). different_blocks l (bytes_in s y)) (bytes_in-whole r x m r_is old_len) ∙ ap (different_blocks x) (bytes_in-whole s y n s_is new_len)
+
+-- ---- blocks of which it is known
+
+-- a whole block of a region that begins at a block is one of the image
+block-shift : (r : Range) (x : List ℕ) (number : ℕ) → r.start % 4096 ≡ 0 → 4096 * (number + 1) ≤ r.size → block number (bytes_in r x) ≡ block (r.start / 4096 + number) x
+block-shift r x number aligned whole =
+    let place : r.start + 4096 * number ≡ 4096 * (r.start / 4096 + number) = omega arith in
+    sym (block-bytes_in r x number (4096 * number) 4096 refl (omega (arith, whole)) (omega (arith, whole)))
+    ∙ slice_range_is x (r.start + 4096 * number) 4096
+    ∙ ap (λ n. take 4096 (drop n x)) place
+
+pub differs-known : (known : List Bool) (x y : List ℕ) (r s : Range) (number i : ℕ) (different d : Bool) → KnowsBlocks x y known → r.start ≡ s.start → r.start % 4096 ≡ 0 → 4096 * (number + 1) ≤ r.size → 4096 * (number + 1) ≤ s.size → i ≡ r.start / 4096 + number
+    → i < length known → different ≡ get_or known i d → different ≡ differs (bytes_in r x) (bytes_in s y) number
+differs-known known x y r s number i different d knows same aligned old_whole new_whole place within is =
+    let aligned' : s.start % 4096 ≡ 0 = omega (arith, same, aligned) in
+    let place' : s.start / 4096 + number ≡ i = omega (arith, same, place) in
+    let first = ap (λ (l : List ℕ). not (bytes_eq l (block number (bytes_in s y)))) (block-shift r x number aligned old_whole ∙ ap (λ k. block k x) (sym place)) in
+    let second = ap (λ (l : List ℕ). not (bytes_eq (block i x) l)) (block-shift s y number aligned' new_whole ∙ ap (λ k. block k y) place') in
+    is ∙ get_or_from_slice_get known i (differs x y i) d (knows i within) ∙ sym (first ∙ second)
+
+-- one block more is known
+pub KnowsBlocks-more : (known after : List Bool) (x y : List ℕ) (n : ℕ) (different : Bool) → length known ≡ n → different ≡ differs x y n → after ≡ known ++ different ∷ [] → KnowsBlocks x y known → KnowsBlocks x y after
+KnowsBlocks-more known after x y n different long is pushed knows = subst (λ (l : List Bool). KnowsBlocks x y l) (sym pushed) (λ number within.
+    slice_get-get_or (known ++ different ∷ []) number false within
+    ∙ ap Some (⊎_elim
+    (λ before. get_or-append known (different ∷ []) false number before ∙ get_or_from_slice_get known number (differs x y number) false (knows number before))
+    (λ here.
+    let last : number ≡ n = omega (arith, here, within, long, length-append known (different ∷ [])) in
+    ap (λ k. get_or (known ++ different ∷ []) k false) (last ∙ sym long) ∙ get_or-append_seam known different [] false ∙ is ∙ ap (differs x y) (sym last))
+    (cases_lt number (length known))))
+
+-- whole images are the regions of their lengths
+pub differs-whole : (r s : Range) (x y : List ℕ) (m n number : ℕ) (different : Bool) → r ≡ record { start = 0; size = m } → s ≡ record { start = 0; size = n } → m ≡ length x → n ≡ length y → different ≡ differs (bytes_in r x) (bytes_in s y) number → different ≡ differs x y number
+differs-whole r s x y m n number different r_is s_is old_len new_len is =
+    is ∙ ap (λ (l : List ℕ). differs l (bytes_in s y) number) (bytes_in-whole r x m r_is old_len) ∙ ap (λ (l : List ℕ). differs x l number) (bytes_in-whole s y n s_is new_len)

@@ -1,10 +1,10 @@
 //! What changes between the areas of two images.
 ghost use Rattle.std.specs.Prelude.{◌≡◌, ◌+◌, ◌-◌, ◌*◌, ◌/◌, ◌≤◌, ◌++◌, length, false, true, MatchOption, IfOk, OnOk};
 ghost use Rattle.flashmap_changes.specs.AreaChanges.{range_of, is_compared, left_after, content_changes, left_after_pair, changes_of, changes_in, area_changes};
-ghost use Rattle.flashmap_changes.specs.Blocks.{blocks_of};
+ghost use Rattle.flashmap_changes.specs.Blocks.{blocks_of, KnowsBlocks};
 ghost use Rattle.flashmap_changes.specs.Images.{HasCompared, OnBoth};
 
-use crate::blocks::different_in;
+use crate::blocks::{different_in, known_blocks};
 use crate::change::{AreaChange, ChangeFault, push_if};
 use crate::pairs::{Pair, pairs, push_gone};
 use flash_store::{Flash, Paged, Region};
@@ -44,11 +44,14 @@ fn compared_regions(
 fn push_content_changes<F: Flash, G: Flash>(
     changes: &mut Vec<AreaChange>,
     left: &mut u64,
+    known: &[bool],
     old_image: &mut Paged<F>,
     old: NumberedArea,
     new_image: &mut Paged<G>,
     new: NumberedArea,
 ) -> Result<(), ChangeFault>
+    requires { OnBoth F.facts old_image.old.device G.facts new_image.old.device (λ x y. KnowsBlocks x y known.now) }
+
     ensures after { HasCompared F.facts G.facts (blocks_of (left.old - left.new))
         old_image.old old_image.new new_image.old new_image.new result }
     ensures left { left.new ≡ left_after left.old (length (F.facts old_image.old.device).content)
@@ -63,7 +66,7 @@ fn push_content_changes<F: Flash, G: Flash>(
         return Ok(());
     };
     *left -= u64::from(new.area.size);
-    let blocks = different_in(old_image, old_region, new_image, new_region)?;
+    let blocks = different_in(known, old_image, old_region, new_image, new_region)?;
     push_if(
         changes,
         blocks > 0,
@@ -76,10 +79,13 @@ fn push_content_changes<F: Flash, G: Flash>(
 fn push_changes_of<F: Flash, G: Flash>(
     changes: &mut Vec<AreaChange>,
     left: &mut u64,
+    known: &[bool],
     old_image: &mut Paged<F>,
     new_image: &mut Paged<G>,
     pair: Pair,
 ) -> Result<(), ChangeFault>
+    requires { OnBoth F.facts old_image.old.device G.facts new_image.old.device (λ x y. KnowsBlocks x y known.now) }
+
     ensures after { HasCompared F.facts G.facts (blocks_of (left.old - left.new))
         old_image.old old_image.new new_image.old new_image.new result }
     ensures left { OnOk result (left.new ≡ left_after_pair left.old (length (F.facts old_image.old.device).content)
@@ -99,16 +105,19 @@ fn push_changes_of<F: Flash, G: Flash>(
         push_if(changes, true, AreaChange::Resized { old, new })?;
         return Ok(());
     }
-    push_content_changes(changes, left, old_image, old, new_image, new)
+    push_content_changes(changes, left, known, old_image, old, new_image, new)
 }
 
-/// Tells of the areas of the new map.
+/// Tells of the areas of the new map, of whose blocks some are known.
 fn push_changes<F: Flash, G: Flash>(
     changes: &mut Vec<AreaChange>,
+    known: &[bool],
     old_image: &mut Paged<F>,
     new_image: &mut Paged<G>,
     pairs: &[Pair],
 ) -> Result<(), ChangeFault>
+    requires { OnBoth F.facts old_image.old.device G.facts new_image.old.device (λ x y. KnowsBlocks x y known.now) }
+
     ensures after { HasCompared F.facts G.facts (8 * length (G.facts new_image.old.device).content / 4096 + length pairs.now)
         old_image.old old_image.new new_image.old new_image.new result }
     ensures changes { OnBoth F.facts old_image.old.device G.facts new_image.old.device (λ x y.
@@ -116,7 +125,7 @@ fn push_changes<F: Flash, G: Flash>(
 {
     let mut left = MOST_TIMES * new_image.len();
     for pair in pairs {
-        push_changes_of(changes, &mut left, old_image, new_image, *pair)?;
+        push_changes_of(changes, &mut left, known, old_image, new_image, *pair)?;
     }
     Ok(())
 }
@@ -134,7 +143,7 @@ pub fn area_changes<'a, F: Flash, G: Flash>(
     new_areas: &'a [NumberedArea],
 ) -> Result<Vec<AreaChange>, ChangeFault>
     // On any devices.
-    ensures after { HasCompared F.facts G.facts (8 * length (G.facts new_image.old.device).content / 4096 + length new_areas.now)
+    ensures after { HasCompared F.facts G.facts (9 * length (G.facts new_image.old.device).content / 4096 + length new_areas.now)
         old_image.old old_image.new new_image.old new_image.new result }
 
     // On honest devices.
@@ -145,7 +154,8 @@ pub fn area_changes<'a, F: Flash, G: Flash>(
     let new_names = AreaNames::of(alloc, new_areas)?;
     let pairs = pairs(alloc, &old_names, &new_names, new_areas)?;
     let mut changes = Vec::new(alloc);
-    push_changes(&mut changes, old_image, new_image, &pairs)?;
+    let known = known_blocks(alloc, old_image, new_image)?;
+    push_changes(&mut changes, &known, old_image, new_image, &pairs)?;
     push_gone(&mut changes, &old_names, &new_names, old_areas)?;
     Ok(changes)
 }

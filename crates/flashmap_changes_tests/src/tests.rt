@@ -240,6 +240,18 @@ fn blocks_from_the_start_of_an_area(rt: HostRuntime) {
 }
 
 #[test]
+fn the_last_block_of_an_area_may_be_short(rt: HostRuntime) {
+    tells(
+        &rt,
+        &[A_SHORT],
+        image(&rt, 8192, &[2047]),
+        &[A_SHORT],
+        "differs 0 1, ",
+    );
+    tells(&rt, &[A_SHORT], image(&rt, 8192, &[2048]), &[A_SHORT], "");
+}
+
+#[test]
 fn areas_without_bytes_and_outside(rt: HostRuntime) {
     tells(&rt, &[EMPTY], image(&rt, 8192, &[100]), &[EMPTY], "");
     tells(
@@ -313,26 +325,32 @@ fn images_with_maps(rt: HostRuntime) {
     assert_eq!(rt; text.as_str(), "differs 0 1, ");
 }
 
-/// Devices that refuse all calls behind the first ones tell this fault.
-fn refused_at(
+/// Devices that refuse all calls behind the first ones tell this of areas that hold both blocks, and each of them.
+fn told_after(
     rt: &(impl Abort + AllocGlobal),
     old_calls: u64,
     new_calls: u64,
-    expected: ChangeFault,
+    expected: Option<ChangeFault>,
 ) {
     let old = MemFlash::new(image(rt, 8192, &[])).expect(rt, "a device");
     let new = MemFlash::new(image(rt, 8192, &[])).expect(rt, "a device");
     let mut old_image = Paged::new(FailAt::new(old, old_calls, 0));
     let mut new_image = Paged::new(FailAt::new(new, new_calls, 0));
-    let areas = numbered(rt, &[A, B]);
+    let areas = numbered(rt, &[WHOLE[0], A, B]);
     let told = area_changes(rt.alloc(), &mut old_image, &areas, &mut new_image, &areas);
-    assert!(rt; matches!(told, Err(fault) if fault == expected));
+    assert!(rt; told.err() == expected);
 }
 
 #[test]
 fn devices_that_refuse_a_read(rt: HostRuntime) {
-    refused_at(&rt, 0, 2, ChangeFault::OldDevice);
-    refused_at(&rt, 1, 2, ChangeFault::OldDevice);
-    refused_at(&rt, 2, 0, ChangeFault::NewDevice);
-    refused_at(&rt, 2, 1, ChangeFault::NewDevice);
+    told_after(&rt, 0, 2, Some(ChangeFault::OldDevice));
+    told_after(&rt, 1, 2, Some(ChangeFault::OldDevice));
+    told_after(&rt, 2, 0, Some(ChangeFault::NewDevice));
+    told_after(&rt, 2, 1, Some(ChangeFault::NewDevice));
+}
+
+// Each block is read once, though two areas hold it.
+#[test]
+fn areas_that_stay_take_one_pass(rt: HostRuntime) {
+    told_after(&rt, 2, 2, None);
 }

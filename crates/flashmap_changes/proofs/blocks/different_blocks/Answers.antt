@@ -8,5 +8,5 @@ returns-clause-different g c = λ old new.
     let x = (g.F.Flash.facts c.args.old_image.now.device).content in
     let y = (g.G.Flash.facts c.args.new_image.now.device).content in
     subst (λ k. IfOk c.different_in.result (λ n. n ≡ k))
-    (different_blocks-whole c.in-Some-Some.old_region c.in-Some-Some.new_region x y c.len-old_len.result c.len-new_len.result c.in-Some-Some.ensures.0 c.in-Some-Some.ensures'.0 c.len-old_len.ensures.length c.len-new_len.ensures.length)
+    (different_blocks-whole c.whole-old_region.result c.whole-new_region.result x y c.len.result c.len-2.result c.whole-old_region.ensures c.whole-new_region.ensures c.len.ensures.length c.len-2.ensures.length)
     (c.different_in.ensures.different old new)
