@@ -16,38 +16,7 @@ fn blocks_of(len: u64) -> u64
     len.div_ceil(PIECE as u64)
 }
 
-/// Whether the blocks of this number differ, which begin inside the regions or at their ends.
-fn read_difference<F: Flash, G: Flash>(
-    old_image: &mut Paged<F>,
-    old_region: Region,
-    new_image: &mut Paged<G>,
-    new_region: Region,
-    number: u64,
-) -> Result<bool, ChangeFault>
-    requires old_inside { LiesIn old_region (F.facts old_image.old.device).content }
-    requires new_inside { LiesIn new_region (G.facts new_image.old.device).content }
-    requires old_begins { 4096 * number ≤ old_region.size }
-    requires new_begins { 4096 * number ≤ new_region.size }
-
-    ensures after { HasCompared F.facts G.facts 1 old_image.old old_image.new new_image.old new_image.new result }
-    ensures different { OnBoth F.facts old_image.old.device G.facts new_image.old.device (λ x y.
-        IfOk result (λ different. different ≡ differs (bytes_in old_region x) (bytes_in new_region y) number)) }
-{
-    old_image.places_fit();
-    new_image.places_fit();
-    let start = number * PIECE as u64;
-    let old_size = (old_region.size() - start).min(PIECE as u64) as usize;
-    let new_size = (new_region.size() - start).min(PIECE as u64) as usize;
-    let Ok(old_block) = old_image.piece(old_region.start() + start, old_size) else {
-        return Err(ChangeFault::OldDevice);
-    };
-    let Ok(new_block) = new_image.piece(new_region.start() + start, new_size) else {
-        return Err(ChangeFault::NewDevice);
-    };
-    Ok(old_block != new_block)
-}
-
-/// The same, where the two are whole blocks of the images, of one number there, of which it is known.
+/// Whether the blocks of this number differ, where they are whole and one block of both images, of which it is known.
 fn known_difference(
     known: &[bool],
     old_region: Region,
@@ -67,14 +36,14 @@ fn known_difference(
     {
         return None;
     }
-    let number_there = (start / PIECE as u64 + number) as usize;
-    if number_there >= known.len() {
+    let number_in_image = (start / PIECE as u64 + number) as usize;
+    if number_in_image >= known.len() {
         return None;
     }
-    Some(known[number_there])
+    Some(known[number_in_image])
 }
 
-/// The same, without a read where it is known.
+/// Whether the blocks of this number differ, which begin inside the regions or at their ends. They are read where it isn't known.
 fn is_different<F: Flash, G: Flash>(
     known: &[bool],
     old_image: &mut Paged<F>,
@@ -94,10 +63,20 @@ fn is_different<F: Flash, G: Flash>(
         IfOk result (λ different. different ≡ differs (bytes_in old_region x) (bytes_in new_region y) number)) }
 {
     old_image.places_fit();
-    match known_difference(known, old_region, new_region, number) {
-        Some(different) => Ok(different),
-        None => read_difference(old_image, old_region, new_image, new_region, number),
+    new_image.places_fit();
+    if let Some(different) = known_difference(known, old_region, new_region, number) {
+        return Ok(different);
     }
+    let start = number * PIECE as u64;
+    let old_size = (old_region.size() - start).min(PIECE as u64) as usize;
+    let new_size = (new_region.size() - start).min(PIECE as u64) as usize;
+    let Ok(old_block) = old_image.piece(old_region.start() + start, old_size) else {
+        return Err(ChangeFault::OldDevice);
+    };
+    let Ok(new_block) = new_image.piece(new_region.start() + start, new_size) else {
+        return Err(ChangeFault::NewDevice);
+    };
+    Ok(old_block != new_block)
 }
 
 /// Which of the blocks differ that both images have whole.
@@ -116,7 +95,7 @@ pub fn known_blocks<F: Flash, G: Flash>(
     let count = old_region.size().min(new_region.size()) / PIECE as u64;
     let mut known = Vec::new(alloc);
     for number in 0..count {
-        let different = read_difference(old_image, old_region, new_image, new_region, number)?;
+        let different = is_different(&[], old_image, old_region, new_image, new_region, number)?;
         push_known(&mut known, different)?;
     }
     Ok(known)

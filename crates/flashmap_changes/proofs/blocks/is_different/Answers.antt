@@ -1,6 +1,6 @@
 use Rattle.std.proofs.Common.{◌+◌, ◌*◌, arith}
 use Rattle.flashmap_changes.proofs.BlockLemmas.{differs-bytes_in}
-use Rattle.flashmap_changes.proofs.blocks.read_difference.Goals as goal
+use Rattle.flashmap_changes.proofs.blocks.is_different.Goals as goal
 
 pub returns-clause-different : goal.returns-clause-different
 returns-clause-different g c = λ old new.
