@@ -40,9 +40,9 @@ range_of a = record { start = a.area.offset; size = a.area.size }
 abbrev pub is_compared : ℕ → ℕ → ℕ → NumberedArea → NumberedArea → Bool
 is_compared left m n a b = (a.area.size == b.area.size) && (nat_le (area_end a.area) m && (nat_le (area_end b.area) n && nat_le b.area.size left))
 
--- how many bytes are left to compare behind them
-abbrev pub left_after : ℕ → ℕ → ℕ → NumberedArea → NumberedArea → ℕ
-left_after left m n a b = if is_compared left m n a b then left - b.area.size else left
+-- how many bytes are left to compare then
+abbrev pub left_after_both : ℕ → ℕ → ℕ → NumberedArea → NumberedArea → ℕ
+left_after_both left m n a b = if is_compared left m n a b then left - b.area.size else left
 
 -- in how many blocks their bytes differ
 abbrev pub blocks_between : List ℕ → List ℕ → NumberedArea → NumberedArea → ℕ
@@ -62,24 +62,19 @@ changes_between left x y a b =
     ++ (if a.area.size == b.area.size then content_changes left x y a b else Resized a b ∷ [])
 
 -- the same where the old map may have none of its name
-abbrev pub changes_from : ℕ → List ℕ → List ℕ → Option NumberedArea → NumberedArea → List AreaChange
-changes_from left x y None b = Added b ∷ []
-changes_from left x y (Some a) b = changes_between left x y a b
+abbrev pub changes_of : ℕ → List ℕ → List ℕ → Option NumberedArea → NumberedArea → List AreaChange
+changes_of left x y None b = Added b ∷ []
+changes_of left x y (Some a) b = changes_between left x y a b
 
-abbrev pub left_from : ℕ → ℕ → ℕ → Option NumberedArea → NumberedArea → ℕ
-left_from left m n None b = left
-left_from left m n (Some a) b = left_after left m n a b
+-- and how many bytes are left to compare then
+abbrev pub left_after : ℕ → ℕ → ℕ → Option NumberedArea → NumberedArea → ℕ
+left_after left m n None b = left
+left_after left m n (Some a) b = left_after_both left m n a b
 
-abbrev pub changes_of : ℕ → List ℕ → List ℕ → Pair → List AreaChange
-changes_of left x y pair = changes_from left x y pair.old pair.new
-
-abbrev pub left_after_pair : ℕ → ℕ → ℕ → Pair → ℕ
-left_after_pair left m n pair = left_from left m n pair.old pair.new
-
--- of these areas of the new map, where so many bytes are left to compare
+-- of these areas of the new map, one after the other, where so many bytes are left to compare
 abbrev pub changes_in : ℕ → List ℕ → List ℕ → List Pair → List AreaChange
 changes_in left x y [] = []
-changes_in left x y (pair ∷ pairs) = changes_of left x y pair ++ changes_in (left_after_pair left (length x) (length y) pair) x y pairs
+changes_in left x y (p ∷ pairs) = changes_of left x y p.old p.new ++ changes_in (left_after left (length x) (length y) p.old p.new) x y pairs
 
 -- of an area of the old map that its name reaches, where the new map has none of the name
 abbrev pub gone_of : List NumberedArea → List NumberedArea → NumberedArea → List AreaChange

@@ -1,6 +1,6 @@
 //! What changes between the areas of two images.
 ghost use Rattle.std.specs.Prelude.{◌≡◌, ◌+◌, ◌-◌, ◌*◌, ◌/◌, ◌≤◌, ◌++◌, length, false, true, MatchOption, IfOk, OnOk};
-ghost use Rattle.flashmap_changes.specs.AreaChanges.{range_of, is_compared, left_after, content_changes, left_after_pair, changes_of, changes_in, area_changes};
+ghost use Rattle.flashmap_changes.specs.AreaChanges.{range_of, is_compared, left_after_both, left_after, content_changes, changes_of, changes_in, area_changes};
 ghost use Rattle.flashmap_changes.specs.Blocks.{blocks_of, KnowsBlocks};
 ghost use Rattle.flashmap_changes.specs.Images.{HasCompared, OnBoth};
 
@@ -54,7 +54,7 @@ fn push_content_changes<F: Flash, G: Flash>(
 
     ensures after { HasCompared F.facts G.facts (blocks_of (left.old - left.new))
         old_image.old old_image.new new_image.old new_image.new result }
-    ensures left { left.new ≡ left_after left.old (length (F.facts old_image.old.device).content)
+    ensures left { left.new ≡ left_after_both left.old (length (F.facts old_image.old.device).content)
         (length (G.facts new_image.old.device).content) old new }
     ensures fewer { left.new ≤ left.old }
     ensures changes { OnBoth F.facts old_image.old.device G.facts new_image.old.device (λ x y.
@@ -88,11 +88,11 @@ fn push_changes_of<F: Flash, G: Flash>(
 
     ensures after { HasCompared F.facts G.facts (blocks_of (left.old - left.new))
         old_image.old old_image.new new_image.old new_image.new result }
-    ensures left { OnOk result (left.new ≡ left_after_pair left.old (length (F.facts old_image.old.device).content)
-        (length (G.facts new_image.old.device).content) pair) }
+    ensures left { OnOk result (left.new ≡ left_after left.old (length (F.facts old_image.old.device).content)
+        (length (G.facts new_image.old.device).content) pair.old pair.new) }
     ensures fewer { left.new ≤ left.old }
     ensures changes { OnBoth F.facts old_image.old.device G.facts new_image.old.device (λ x y.
-        OnOk result (changes.new.items ≡ changes.old.items ++ changes_of left.old x y pair)) }
+        OnOk result (changes.new.items ≡ changes.old.items ++ changes_of left.old x y pair.old pair.new)) }
 {
     let new = pair.new;
     let Some(old) = pair.old else {
