@@ -1,0 +1,4 @@
+pub mod FirstLemmas
+pub mod Reading
+pub mod ListingLemmas
+pub mod ChangeLemmas

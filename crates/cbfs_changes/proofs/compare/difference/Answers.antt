@@ -1,0 +1,15 @@
+use Rattle.std.proofs.Common.{arith}
+use Rattle.cbfs_changes.proofs.ChangeLemmas.{name_first}
+use Rattle.cbfs_changes.proofs.compare.difference.Goals as goal
+
+pub attributes-a-requires-clause-order : goal.attributes-a-requires-clause-order
+attributes-a-requires-clause-order g c = name_first _ _ c.requires.before
+
+pub attributes-b-requires-clause-order : goal.attributes-b-requires-clause-order
+attributes-b-requires-clause-order g c = name_first _ _ c.requires.after
+
+pub same_stretch-requires-2-clause-old_order : goal.same_stretch-requires-2-clause-old_order
+same_stretch-requires-2-clause-old_order g c = rw c.attributes-a.ensures (omega (arith, name_first _ _ c.requires.before))
+
+pub same_stretch-requires-2-clause-new_order : goal.same_stretch-requires-2-clause-new_order
+same_stretch-requires-2-clause-new_order g c = rw c.attributes-b.ensures (omega (arith, name_first _ _ c.requires.after))

@@ -1,0 +1,4 @@
+pub mod Sides
+pub mod ComponentChanges
+pub mod Listings
+pub mod Firsts

@@ -1,0 +1,327 @@
+//! What changes between two regions.
+ghost use Rattle.std.specs.Prelude.{◌≡◌, ℕ, List, [], ◌∷◌, ◌++◌, ◌+◌, ◌/◌, All, map, IfOk, OnOk};
+ghost use Rattle.std.specs.List.{flat_map};
+ghost use Rattle.std.specs.Option.{ForSome};
+ghost use Rattle.flash_store.specs.Device.{faults_told};
+ghost use Rattle.flash_store.specs.Pages.{HasRead, OnHonest, OnHonestIn};
+ghost use Rattle.flash_store.specs.Regions.{LiesIn};
+ghost use Rattle.cbfs_changes.specs.ComponentChanges.{changes_between, component_changes, pair_change, region_bytes, region_size};
+ghost use Rattle.cbfs_changes.specs.Firsts.{IsListing};
+ghost use Rattle.cbfs_changes.specs.Listings.{IsListedIn, Lists, listed_change, listed_removal, spans, state_in, states_in};
+ghost use Rattle.cbfs_changes.specs.Sides.{HasCompared, by_new, by_old};
+
+use crate::change::{ComponentChange, Difference};
+use crate::compare::difference;
+use crate::fault::ChangeFault;
+use crate::first::{Listing, with_firsts};
+use crate::listing::{Listed, components};
+use cbfs_check::Name;
+use flash_store::{Flash, Paged, Region};
+use std::alloc::{AllocError, Global};
+
+/// What is told so far.
+#[derive(Drop)]
+struct Changes {
+    alloc: Global,
+    told: Vec<ComponentChange>,
+}
+
+impl Changes {
+    /// Nothing is told yet.
+    fn new(alloc: Global) -> Changes
+        ensures { result.told.items ≡ [] }
+    {
+        Changes {
+            alloc,
+            told: Vec::new(alloc),
+        }
+    }
+
+    /// Tells one thing more.
+    fn tell(&mut self, change: ComponentChange) -> Result<(), AllocError>
+        ensures { OnOk result (self.new.told.items ≡ self.old.told.items ++ change ∷ []) }
+    {
+        self.told.push(change)?;
+        Ok(())
+    }
+
+    /// Tells a component that only the new region has.
+    fn tell_added(&mut self, listed: &Listed) -> Result<(), AllocError>
+        ensures { OnOk result (self.new.told.items ≡ self.old.told.items
+            ++ ComponentChange.Added listed.now.cell.at listed.now.name ∷ []) }
+    {
+        let name = Name::copied(self.alloc, listed.name.as_slice())?;
+        self.tell(ComponentChange::Added {
+            at: listed.cell.at,
+            name,
+        })
+    }
+
+    /// Tells a component that only the old region has.
+    fn tell_removed(&mut self, listed: &Listed) -> Result<(), AllocError>
+        ensures { OnOk result (self.new.told.items ≡ self.old.told.items
+            ++ ComponentChange.Removed listed.now.cell.at listed.now.name ∷ []) }
+    {
+        let name = Name::copied(self.alloc, listed.name.as_slice())?;
+        self.tell(ComponentChange::Removed {
+            at: listed.cell.at,
+            name,
+        })
+    }
+
+    /// Tells what becomes of a component that both regions have, the old one at this place.
+    fn tell_pair(
+        &mut self,
+        old: u64,
+        listed: &Listed,
+        what: Option<Difference>,
+    ) -> Result<(), AllocError>
+        ensures { OnOk result (self.new.told.items ≡ self.old.told.items
+            ++ pair_change what old listed.now.cell.at listed.now.name) }
+    {
+        let new = listed.cell.at;
+        if what.is_none() && old == new {
+            return Ok(());
+        }
+        let name = Name::copied(self.alloc, listed.name.as_slice())?;
+        self.tell(match what {
+            Some(what) => ComponentChange::Changed {
+                old,
+                new,
+                name,
+                what,
+            },
+            None => ComponentChange::Moved { old, new, name },
+        })
+    }
+}
+
+/// Tells what a component of the new region is to the old one.
+fn tell_change<'a, F: Flash, G: Flash>(
+    old: &mut Paged<F>,
+    before: &Listing<'a>,
+    new: &mut Paged<G>,
+    after: &Listing<'a>,
+    listed: &'a Listed,
+    changes: &mut Changes,
+) -> Result<(), ChangeFault>
+    requires old_region { LiesIn before.now.region (F.facts old.old.device).content }
+    requires new_region { LiesIn after.now.region (G.facts new.old.device).content }
+    requires before { IsListing before.now }
+    requires after { IsListing after.now }
+    requires listed { IsListedIn after.now.region.size listed.now }
+
+    ensures after { HasCompared F.facts G.facts (2 + listed.now.cell.span / 4096) result old.old old.new new.old new.new }
+    ensures told { OnHonestIn F.facts old.old.device before.now.region (λ x. OnHonestIn G.facts new.old.device after.now.region (λ y.
+        OnOk result (changes.new.told.items ≡ changes.old.told.items
+        ++ listed_change x before.now y after.now listed.now))) }
+{
+    if !after.is_first(listed) {
+        return Ok(());
+    }
+    let Some(cell) = before.first(listed.name.as_slice()) else {
+        changes.tell_added(listed)?;
+        return Ok(());
+    };
+    let what = difference(old, before.region, &cell, new, after.region, &listed.cell)?;
+    changes.tell_pair(cell.at, listed, what)?;
+    Ok(())
+}
+
+/// Tells what the new region's components are to the old one.
+fn tell_changes<'a, F: Flash, G: Flash>(
+    old: &mut Paged<F>,
+    before: &Listing<'a>,
+    new: &mut Paged<G>,
+    after: &Listing<'a>,
+    changes: &mut Changes,
+) -> Result<(), ChangeFault>
+    requires old_region { LiesIn before.now.region (F.facts old.old.device).content }
+    requires new_region { LiesIn after.now.region (G.facts new.old.device).content }
+    requires before { IsListing before.now }
+    requires after { IsListing after.now }
+
+    ensures after { HasCompared F.facts G.facts (spans after.now.all.now / 16) result old.old old.new new.old new.new }
+    ensures told { OnHonestIn F.facts old.old.device before.now.region (λ x. OnHonestIn G.facts new.old.device after.now.region (λ y.
+        OnOk result (changes.new.told.items ≡ changes.old.told.items
+        ++ flat_map (listed_change x before.now y after.now) after.now.all.now))) }
+{
+    for listed in after.all {
+        tell_change(old, before, new, after, listed, changes)?;
+    }
+    Ok(())
+}
+
+/// Tells a component of the old region, where the new one has none of its name.
+fn tell_removal<'a>(
+    before: &Listing<'a>,
+    after: &Listing<'a>,
+    listed: &'a Listed,
+    changes: &mut Changes,
+) -> Result<(), AllocError>
+    requires before { IsListing before.now }
+    requires after { IsListing after.now }
+
+    ensures { (x y : List ℕ) → OnOk result (changes.new.told.items ≡ changes.old.told.items
+        ++ listed_removal x before.now y after.now listed.now) }
+{
+    if !before.is_first(listed) {
+        return Ok(());
+    }
+    match after.first(listed.name.as_slice()) {
+        Some(_) => Ok(()),
+        None => changes.tell_removed(listed),
+    }
+}
+
+/// Tells the components that only the old region has.
+fn tell_removals<'a>(
+    before: &Listing<'a>,
+    after: &Listing<'a>,
+    changes: &mut Changes,
+) -> Result<(), AllocError>
+    requires before { IsListing before.now }
+    requires after { IsListing after.now }
+
+    ensures { (x y : List ℕ) → OnOk result (changes.new.told.items ≡ changes.old.told.items
+        ++ flat_map (listed_removal x before.now y after.now) before.now.all.now) }
+{
+    for listed in before.all {
+        tell_removal(before, after, listed, changes)?;
+    }
+    Ok(())
+}
+
+/// What changes between two regions whose components are listed.
+fn listing_changes<'a, F: Flash, G: Flash>(
+    alloc: Global,
+    old: &mut Paged<F>,
+    before: &Listing<'a>,
+    new: &mut Paged<G>,
+    after: &Listing<'a>,
+) -> Result<Vec<ComponentChange>, ChangeFault>
+    requires old_region { LiesIn before.now.region (F.facts old.old.device).content }
+    requires new_region { LiesIn after.now.region (G.facts new.old.device).content }
+    requires before { IsListing before.now }
+    requires after { IsListing after.now }
+
+    ensures after { HasCompared F.facts G.facts (spans after.now.all.now / 16) result old.old old.new new.old new.new }
+    ensures changes { OnHonestIn F.facts old.old.device before.now.region (λ x. OnHonestIn G.facts new.old.device after.now.region (λ y.
+        IfOk result (λ changes. changes.items ≡ changes_between (states_in x before.now) (states_in y after.now)))) }
+{
+    let mut changes = Changes::new(alloc);
+    tell_changes(old, before, new, after, &mut changes)?;
+    tell_removals(before, after, &mut changes)?;
+    Ok(changes.told)
+}
+
+/// What changes between two regions that have these components.
+fn list_changes<'a, F: Flash, G: Flash>(
+    alloc: Global,
+    old: &mut Paged<F>,
+    old_region: Region,
+    old_list: &'a [Listed],
+    new: &mut Paged<G>,
+    new_region: Region,
+    new_list: &'a [Listed],
+) -> Result<Vec<ComponentChange>, ChangeFault>
+    requires old_region { LiesIn old_region (F.facts old.old.device).content }
+    requires new_region { LiesIn new_region (G.facts new.old.device).content }
+    requires old_list { All (IsListedIn old_region.size) old_list.now }
+    requires new_list { All (IsListedIn new_region.size) new_list.now }
+
+    ensures after { HasCompared F.facts G.facts (spans new_list.now / 16) result old.old old.new new.old new.new }
+    ensures changes { OnHonestIn F.facts old.old.device old_region (λ x. OnHonestIn G.facts new.old.device new_region (λ y.
+        IfOk result (λ changes. changes.items ≡ changes_between (map (state_in x) old_list.now) (map (state_in y) new_list.now)))) }
+{
+    let before = with_firsts(alloc, old_region, old_list)?;
+    let after = with_firsts(alloc, new_region, new_list)?;
+    listing_changes(alloc, old, &before, new, &after)
+}
+
+/// The components of the old region.
+fn old_components<F: Flash>(
+    alloc: Global,
+    old: &mut Paged<F>,
+    region: Region,
+) -> Result<Vec<Listed>, ChangeFault>
+    requires { LiesIn region (F.facts old.old.device).content }
+
+    ensures after { HasRead F.facts (region.size / 16 + 2) (faults_told by_old result) old.old old.new }
+    ensures side { faults_told by_new result ≡ 0 }
+    ensures lists { IfOk result (Lists F.facts region old.old) }
+{
+    match components(alloc, old, region) {
+        Ok(all) => Ok(all),
+        Err(fault) => Err(fault.of_old()),
+    }
+}
+
+/// The components of the new region.
+fn new_components<F: Flash>(
+    alloc: Global,
+    new: &mut Paged<F>,
+    region: Region,
+) -> Result<Vec<Listed>, ChangeFault>
+    requires { LiesIn region (F.facts new.old.device).content }
+
+    ensures after { HasRead F.facts (region.size / 16 + 2) (faults_told by_new result) new.old new.new }
+    ensures side { faults_told by_old result ≡ 0 }
+    ensures lists { IfOk result (Lists F.facts region new.old) }
+{
+    match components(alloc, new, region) {
+        Ok(all) => Ok(all),
+        Err(fault) => Err(fault.of_new()),
+    }
+}
+
+/// What changes between two regions.
+fn region_changes<F: Flash, G: Flash>(
+    alloc: Global,
+    old: &mut Paged<F>,
+    old_region: Region,
+    new: &mut Paged<G>,
+    new_region: Region,
+) -> Result<Vec<ComponentChange>, ChangeFault>
+    requires old { LiesIn old_region (F.facts old.old.device).content }
+    requires new { LiesIn new_region (G.facts new.old.device).content }
+
+    ensures old { HasRead F.facts ((old_region.size + new_region.size) / 16 + 2) (faults_told by_old result) old.old old.new }
+    ensures new { HasRead G.facts (new_region.size / 8 + 2) (faults_told by_new result) new.old new.new }
+    ensures changes { OnHonestIn F.facts old.old.device old_region (λ x. OnHonestIn G.facts new.old.device new_region (λ y.
+        IfOk result (λ changes. changes.items ≡ component_changes x y))) }
+{
+    let old_list = old_components(alloc, old, old_region)?;
+    let new_list = new_components(alloc, new, new_region)?;
+    list_changes(
+        alloc, old, old_region, &old_list, new, new_region, &new_list,
+    )
+}
+
+/// What changes between the components of a region of the old device and one of the new; `None` stands for a region
+/// without components. `OldDevice` and `NewDevice` come exactly where that device refused a read, and `Memory` where an
+/// allocation was refused; then nothing is told.
+pub fn component_changes<F: Flash, G: Flash>(
+    alloc: Global,
+    old: &mut Paged<F>,
+    old_region: Option<Region>,
+    new: &mut Paged<G>,
+    new_region: Option<Region>,
+) -> Result<Vec<ComponentChange>, ChangeFault>
+    requires old { ForSome old_region (λ region. LiesIn region (F.facts old.old.device).content) }
+    requires new { ForSome new_region (λ region. LiesIn region (G.facts new.old.device).content) }
+
+    // On any device.
+    ensures old { HasRead F.facts ((region_size old_region + region_size new_region) / 16 + 2)
+        (faults_told by_old result) old.old old.new }
+    ensures new { HasRead G.facts (region_size new_region / 8 + 2) (faults_told by_new result) new.old new.new }
+
+    // On two honest devices.
+    ensures changes { OnHonest F.facts old.old.device (λ a. OnHonest G.facts new.old.device (λ b.
+        IfOk result (λ changes. changes.items ≡
+        component_changes (region_bytes old_region a) (region_bytes new_region b)))) }
+{
+    let old_region = old_region.unwrap_or_default();
+    let new_region = new_region.unwrap_or_default();
+    region_changes(alloc, old, old_region, new, new_region)
+}

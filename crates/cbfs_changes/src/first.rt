@@ -1,0 +1,68 @@
+//! The first component of each name.
+ghost use Rattle.std.specs.Prelude.{◌≡◌, [], ◌∷◌, ◌++◌, List, IfOk, OnOk};
+ghost use Rattle.cbfs_changes.specs.Firsts.{Notes, first_cell, is_first};
+ghost use Rattle.cbfs_changes.specs.declared.listing.Listed.{Listed};
+
+use crate::listing::Listed;
+use cbfs_walk::Cell;
+use flash_store::Region;
+use std::alloc::{AllocError, Global};
+use std::collections::BTreeMap;
+
+/// The components of a region, and of each name the cell of the first.
+#[derive(Drop)]
+pub struct Listing<'a> {
+    pub region: Region,
+    pub all: &'a [Listed],
+    pub first: BTreeMap<&'a [u8], Cell>,
+}
+
+impl<'a> Listing<'a> {
+    /// The cell of the first component of a name.
+    pub fn first(&self, name: &'a [u8]) -> Option<Cell>
+        requires { Notes self.now.first self.now.all.now }
+        ensures { result ≡ first_cell name.now self.now.all.now }
+    {
+        self.first.get(&name).copied()
+    }
+
+    /// Whether no component in front of this one has its name.
+    pub fn is_first(&self, listed: &'a Listed) -> bool
+        requires { Notes self.now.first self.now.all.now }
+        ensures { result ≡ is_first self.now.all.now listed.now }
+    {
+        match self.first(listed.name.as_slice()) {
+            Some(cell) => cell.at == listed.cell.at,
+            None => false,
+        }
+    }
+}
+
+/// The same of these components.
+pub fn with_firsts<'a>(
+    alloc: Global,
+    region: Region,
+    all: &'a [Listed],
+) -> Result<Listing<'a>, AllocError>
+    ensures region { IfOk result (λ l. l.region ≡ region) }
+    ensures all { IfOk result (λ l. l.all.now ≡ all.now) }
+    ensures notes { IfOk result (λ l. Notes l.first all.now) }
+{
+    let mut first = BTreeMap::new(alloc);
+    for listed in all {
+        note(&mut first, listed)?;
+    }
+    Ok(Listing { region, all, first })
+}
+
+/// Notes a component's cell, where none is noted for its name.
+fn note<'a>(first: &mut BTreeMap<&'a [u8], Cell>, listed: &'a Listed) -> Result<(), AllocError>
+    ensures { (before : List Listed) → Notes first.old before → OnOk result (Notes first.new (before ++ listed.now ∷ [])) }
+{
+    let name = listed.name.as_slice();
+    if first.contains_key(&name) {
+        return Ok(());
+    }
+    first.insert(name, listed.cell)?;
+    Ok(())
+}
