@@ -1,4 +1,4 @@
-use Rattle.std.proofs.Common.{arith}
+use Rattle.std.proofs.Common.{arith, rules}
 use Rattle.cbfs_changes.proofs.ChangeLemmas.{name_first}
 use Rattle.cbfs_changes.proofs.compare.difference.Goals as goal
 
@@ -13,3 +13,6 @@ same_stretch-requires-2-clause-old_order g c = rw c.attributes-a.ensures (omega 
 
 pub same_stretch-requires-2-clause-new_order : goal.same_stretch-requires-2-clause-new_order
 same_stretch-requires-2-clause-new_order g c = rw c.attributes-b.ensures (omega (arith, name_first _ _ c.requires.after))
+
+pub returns-then-not-branch-2-clause-difference : goal.returns-then-not-branch-2-clause-difference
+returns-then-not-branch-2-clause-difference g c = search rules

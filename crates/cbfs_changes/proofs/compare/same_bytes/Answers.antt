@@ -1,4 +1,4 @@
-use Rattle.std.proofs.Common.{◌+◌, ◌/◌, arith}
+use Rattle.std.proofs.Common.{◌+◌, ◌/◌, ◌<◌, arith, rules}
 use Rattle.flash_store.proofs.DeviceLemmas.{honest_still}
 use Rattle.cbfs_changes.proofs.Reading.{both-then, both-within, differ-all, same-more}
 use Rattle.cbfs_changes.proofs.compare.same_bytes.Goals as goal
@@ -14,7 +14,7 @@ pub loop-done-preserved : goal.loop-done-preserved
 loop-done-preserved g c =
     let had = c.loop-done.invariant in
     let size = c.min-size.ensures in
-    let left = c.loop-done-test.true in
+    let left : c.loop-done.done < c.args.n = omega (arith, c.loop-done-test.true) in
     record {
       within = omega (arith, size, left);
       whole_pieces = λ more. omega (arith, size, had.whole_pieces left, more);
@@ -24,3 +24,6 @@ loop-done-preserved g c =
           same-more _ _ c.args.before c.args.after c.loop-done.done c.min-size.result c.in_ok-same_piece.field-0 (had.same h k) c.if-not-branch.false
           (rw (had.read.of_new.device.unchanged k) at (rw (had.read.of_old.device.unchanged h) at piece));
     }
+
+pub returns-clause-same : goal.returns-clause-same
+returns-clause-same g c = search rules
