@@ -43,7 +43,14 @@ fn an_image_alone(rt: HostRuntime) {
 #[test]
 fn two_images_with_every_option_behind_them(rt: HostRuntime) {
     let words = [
-        "old", "new", "-r", "FW_A,FW_B", "-v", "--json", "--keep", "GBB,RO",
+        "old",
+        "new",
+        "-r",
+        "FW_A,FW_B",
+        "-v",
+        "--json",
+        "--keep",
+        "GBB,RO",
     ];
     let line = read(&rt, &words);
     has_images(&rt, &line, "old", Some("new"));
@@ -108,7 +115,8 @@ fn empty_names_are_refused(rt: HostRuntime) {
 
 #[test]
 fn a_hundred_names_are_taken(rt: HostRuntime) {
-    let list = "A,B,C,D,E,F,G,H,I,J,K,L,M,N,O,P,Q,R,S,T,U,V,W,X,Y,Z,A,B,C,D,E,F,G,H,I,J,K,L,M,N,O,P,Q,R,S,T,U,V,W,X,Y,Z,\
+    let list =
+        "A,B,C,D,E,F,G,H,I,J,K,L,M,N,O,P,Q,R,S,T,U,V,W,X,Y,Z,A,B,C,D,E,F,G,H,I,J,K,L,M,N,O,P,Q,R,S,T,U,V,W,X,Y,Z,\
 A,B,C,D,E,F,G,H,I,J,K,L,M,N,O,P,Q,R,S,T,U,V,W,X,Y,Z,A,B,C,D,E,F,G,H,I,J,K,L,M,N,O,P,Q,R,S,T,U,V";
     let words = ["img", "-r", list];
     let line = read(&rt, &words);
