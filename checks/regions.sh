@@ -35,9 +35,9 @@ cells() {
     names+=("") places+=("$length")
 }
 
-# blank FROM TO: puts an empty entry there, or nothing where both are one place, and prints its row; the region's last
+# empty_entry FROM TO: puts an empty entry there, or nothing where both are one place, and prints its row; the region's last
 # four bytes stay
-blank() {
+empty_entry() {
     local size=$(($2 - $1 - 28))
     [ "$1" != "$2" ] || return 0
     [ "$2" != "$length" ] || size=$((size - 4))
@@ -66,7 +66,7 @@ without() {
     mv rows before
     {
         head -n "$first" before
-        blank "$from" "$to"
+        empty_entry "$from" "$to"
         tail -n +$((behind + 1)) before
     } > rows
 }
@@ -118,9 +118,9 @@ with() {
     mv rows before
     {
         head -n "$first" before
-        blank "$from" "$at"
+        empty_entry "$from" "$at"
         printf '%s\t0x%x\t%s\t%d\tnone\n' "$1" "$at" "$2" "$size"
-        blank "$end" "$to"
+        empty_entry "$end" "$to"
         tail -n +$((behind + 1)) before
     } > rows
     {

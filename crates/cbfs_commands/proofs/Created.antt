@@ -3,7 +3,7 @@ use Rattle.std.proofs.Common.{◌≡◌, ◌⊎◌, inl, inr, ℕ, zero, suc, �
 use Rattle.std.specs.List.{list_any}
 use Rattle.std.proofs.lemmas.List.{length-replicate}
 use Rattle.std.proofs.lemmas.List.Elements.{All-nil, All-cons, All-head, All-tail}
-use Rattle.flash_format.proofs.Placed.{blank_is_space}
+use Rattle.flash_format.proofs.Placed.{empty_is_space}
 use Rattle.flash_store.specs.Bytes.{overwritten}
 use Rattle.flash_store.specs.Laws.{LieApart}
 use Rattle.flash_store.specs.Regions.{Range, LiesIn, bytes_in}
@@ -44,7 +44,7 @@ module _ (n : ℕ) (image : List ℕ) (long : length image ≡ n) (place : Range
   formatted_long =
       let size = sized n place is in
       let four : length (last_four (bytes_in place image)) ≡ 4 = omega (arith, length-drop (length (bytes_in place image) - 4) (bytes_in place image), region_long, size.some) in
-      (blank_is_space (length (bytes_in place image)) (Some (last_four (bytes_in place image))) (omega (arith, region_long, size.some)) four).long ∙ region_long
+      (empty_is_space (length (bytes_in place image)) (Some (last_four (bytes_in place image))) (omega (arith, region_long, size.some)) four).long ∙ region_long
 
   image_long : length (formatted_at image place) ≡ n
   image_long = length-overwritten image place.start (formatted (bytes_in place image)) (omega (arith, formatted_long, is.inside, long)) ∙ long
@@ -90,9 +90,9 @@ all_free n image (place ∷ places) small long each none =
 pub created_free : CreatedRegionsAreFree
 created_free n names source plan small is =
     let k = planned n names source plan is in
-    let blank : List ℕ = replicate n 0xff in
+    let erased : List ℕ = replicate n 0xff in
     let table : List ℕ = take plan.map_len source in
-    let long_blank : length blank ≡ n = length-replicate {A = ℕ} n 0xff in
-    let long : length (overwritten blank plan.map.start table) ≡ n = length-overwritten blank plan.map.start table (omega (arith, length-take plan.map_len source, k.fits.room, k.fits.map, long_blank)) ∙ long_blank in
+    let long_erased : length erased ≡ n = length-replicate {A = ℕ} n 0xff in
+    let long : length (overwritten erased plan.map.start table) ≡ n = length-overwritten erased plan.map.start table (omega (arith, length-take plan.map_len source, k.fits.room, k.fits.map, long_erased)) ∙ long_erased in
     let parts = both_false (list_any (overlap plan.map) plan.regions.items) (some_overlap plan.regions.items) k.none in
-    all_free n (overwritten blank plan.map.start table) plan.regions.items small long k.fits.regions parts.1
+    all_free n (overwritten erased plan.map.start table) plan.regions.items small long k.fits.regions parts.1

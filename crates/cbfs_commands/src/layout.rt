@@ -7,11 +7,11 @@ ghost use Rattle.cbfs_commands.specs.Layouts.{layout, map_row, area_row};
 ghost use Rattle.cbfs_commands.specs.Told.{HasTold, shows};
 
 use crate::refusal::Refusal;
-use crate::row::{Row, push_decimal, push_hexadecimal, push_name, put_row};
+use crate::row::{Row, push_decimal, put_row};
 use arrayvec::ArrayVec;
 use flash_format::Area;
 use flash_store::{Flash, FoundMap, Paged, Sink, area, find_fmap};
-use printed_fields::push_text;
+use printed_fields::{push_hexadecimal, push_name, push_text};
 
 #[tactic(auto, unfolding(crate::specs::Layouts::map_row))]
 fn set_map_row(row: &mut Row, map: &FoundMap)

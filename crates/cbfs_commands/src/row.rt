@@ -1,9 +1,9 @@
 //! The printed row of a cell.
 
-ghost use Rattle.std.specs.Prelude.{◌≡◌, ◌+◌, ◌*◌, ◌<◌, ◌≤◌, length, Err, OnErr};
+ghost use Rattle.std.specs.Prelude.{◌≡◌, ◌+◌, ◌<◌, ◌≤◌, length, Err, OnErr};
 ghost use Rattle.std.specs.Fmt.{decimal};
 ghost use Rattle.arrayvec.specs.ArrayVec.{array_vec_len};
-ghost use Rattle.printed_fields.specs.Printed.{Pushes, hexadecimal, printed_name};
+ghost use Rattle.printed_fields.specs.Printed.{Pushes};
 ghost use Rattle.cbfs_commands.specs.Rows.{printed_type, printed_packing, label, compression, row_text};
 ghost use Rattle.cbfs_commands.specs.Told.{Tells, shows};
 
@@ -12,29 +12,13 @@ use arrayvec::ArrayVec;
 use flash_format::{Head, type_name};
 use flash_store::{Sink, put_all};
 use itoa::Buffer;
-use printed_fields::{hexadecimal, printed_byte, push_text};
+use printed_fields::{push_hexadecimal, push_name, push_text};
 
 /// Room for the longest row: a name of 255 bytes, each escaped, and the other fields.
 pub const ROW_LEN: usize = 1152;
 
 /// The buffer of a row. A listing has one for all its rows, since a new one would be filled with zeros each time.
 pub type Row = ArrayVec<u8, ROW_LEN>;
-
-pub fn push_name(row: &mut Row, name: &[u8])
-    requires { array_vec_len row.old + 4 * length name.now ≤ ROW_LEN }
-    ensures { Pushes row.old (printed_name name.now) (4 * length name.now) row.new }
-{
-    for byte in name {
-        push_text(row, printed_byte(*byte).as_slice());
-    }
-}
-
-pub fn push_hexadecimal(row: &mut Row, n: u64)
-    requires { array_vec_len row.old + 18 ≤ ROW_LEN }
-    ensures { Pushes row.old (hexadecimal n) 18 row.new }
-{
-    push_text(row, hexadecimal(n).as_slice());
-}
 
 pub fn push_decimal(row: &mut Row, n: u32)
     requires { array_vec_len row.old + 40 ≤ ROW_LEN }

@@ -5,23 +5,23 @@ use Rattle.std.specs.List.{list_any}
 use Rattle.std.proofs.lemmas.Bool.{cond_both, eqb-false, eqb-true, ltb-false, or_parts}
 use Rattle.flash_format.specs.Head.{round64}
 use Rattle.flash_format.specs.Entry.{is_nul}
-use Rattle.flash_format.specs.Blanks.{blank, padding}
+use Rattle.flash_format.specs.EmptyEntries.{empty_entry, padding}
 use Rattle.flash_format.specs.Cut.{cut}
 use Rattle.flash_format.specs.Components.{components}
 use Rattle.flash_format.specs.Splices.{spliced}
-use Rattle.flash_format.specs.Made.{IsDigest, IsMade, hash_len, meta_length, made_front}
+use Rattle.flash_format.specs.Made.{IsDigest, IsMade, hash_len, meta_length, made_metadata}
 use Rattle.flash_format.specs.Placings.{HasOneMore, IsSpace, IsPlacing, made_component, space_cells}
 use Rattle.flash_format.specs.declared.digest.Digest.{Digest}
 use Rattle.flash_format.specs.declared.digest.Digest.TheVariants as digests
-use Rattle.flash_format.proofs.MadeLaws.{length-front, hash_as_long, made_as_long, made_alone}
-use Rattle.flash_format.proofs.Placed.{blank_is_space, components_placed}
+use Rattle.flash_format.proofs.MadeLaws.{length-metadata, hash_as_long, made_as_long, made_alone}
+use Rattle.flash_format.proofs.Placed.{empty_is_space, components_placed}
 use Rattle.cbfs_edit.specs.Groups.{IsCellRange}
 use Rattle.cbfs_edit.specs.Runs.{runs}
 use Rattle.cbfs_edit.specs.Removals.{kept_at}
 use Rattle.cbfs_edit.specs.Places.{IsWanted, IsFirstPlace, IsPlaceAmong, limit_of, placing_in}
 use Rattle.cbfs_edit.specs.Placings.{Fits}
-use Rattle.cbfs_edit.specs.Stops.{AddLeavesWhole, AddLeavesBefore, IsOldOrBlanked}
-use Rattle.cbfs_edit.specs.Additions.{NewComponent, AddsOne, added, addition_in, blank_between, cell_end, header_of, is_bad_align, is_bad_name, is_bad_type, kept_from, made_at, own_fault, unless_faulty, wanted_for}
+use Rattle.cbfs_edit.specs.Stops.{AddLeavesWhole, AddLeavesBefore, IsOldOrEmptied}
+use Rattle.cbfs_edit.specs.Additions.{NewComponent, AddsOne, added, addition_in, empty_between, cell_end, header_of, is_bad_align, is_bad_name, is_bad_type, kept_from, made_at, own_fault, unless_faulty, wanted_for}
 use Rattle.cbfs_edit.specs.Laws.{AdditionsAddOneComponent}
 use Rattle.cbfs_edit.specs.declared.fault.EditFault.{EditFault}
 use Rattle.cbfs_edit.specs.declared.fault.EditFault.TheVariants as faults
@@ -31,8 +31,8 @@ use Rattle.cbfs_edit.specs.declared.place.Wanted.{Wanted}
 use Rattle.cbfs_edit.specs.declared.place.Place.{Place}
 use Rattle.cbfs_edit.proofs.AnsweredPlaces.{IsAnsweredPlace, answered_place}
 use Rattle.cbfs_edit.proofs.ContentPlaces.{content_at}
-use Rattle.cbfs_edit.proofs.FreeRuns.{IsRun, run_of, blanked_runs}
-use Rattle.cbfs_edit.proofs.Groups.{as_splice, blanked-written, over-range}
+use Rattle.cbfs_edit.proofs.FreeRuns.{IsRun, run_of, emptied_runs}
+use Rattle.cbfs_edit.proofs.Groups.{as_splice, emptied-written, over-range}
 use Rattle.cbfs_edit.proofs.Kept.{keeps}
 use Rattle.cbfs_edit.proofs.Leasts.{place_among-right}
 
@@ -77,11 +77,11 @@ pub accepted_size : (x : List ℕ) (new : NewComponent) (spot : Spot) (place : P
 accepted_size x new spot place is = (answered_place x new.name (wanted_for new spot) place (accepted x new spot place is).placed).sound.whole
 
 -- the space between two places
-space : (x : List ℕ) (start end : ℕ) → start ≤ end → start % 64 ≡ 0 → end % 64 ≡ 0 → 4 ≤ length x → IsSpace (end - start) (blank_between x start end)
+space : (x : List ℕ) (start end : ℕ) → start ≤ end → start % 64 ≡ 0 → end % 64 ≡ 0 → 4 ≤ length x → IsSpace (end - start) (empty_between x start end)
 space x start end order start_aligned end_aligned some =
-    cond_both (start == end) [] (blank (end - start) (kept_at x end)) (λ (l : List ℕ). IsSpace (end - start) l)
+    cond_both (start == end) [] (empty_entry (end - start) (kept_at x end)) (λ (l : List ℕ). IsSpace (end - start) l)
     (λ e. let same : start ≡ end = eqb-true start end e in record { long = omega arith; header = λ positive. absurd (omega (arith, positive, same)) })
-    (λ e. blank_is_space (end - start) (kept_at x end) (omega (arith, eqb-false start end e, order, start_aligned, end_aligned)) (keeps x end some))
+    (λ e. empty_is_space (end - start) (kept_at x end) (omega (arith, eqb-false start end e, order, start_aligned, end_aligned)) (keeps x end some))
 
 hash_short : (d : Option Digest) → hash_len d ≤ 76
 hash_short None = omega arith
@@ -132,17 +132,17 @@ module _ (x : List ℕ) (new : NewComponent) (spot : Spot) (place : Place) (smal
   cell_long : length (made_at x new place) ≡ end - place.header
   cell_long = made_as_long new.name new.kind new.digest (place.content - place.header - header_of new) new.content (kept_at x end) digest (keeps x end some) ∙ omega (arith, fits.header.aligned, fits.header.room)
 
-  front_long : length (made_front new.name new.kind new.digest (place.content - place.header - header_of new) (length new.content)) ≡ place.content - place.header
-  front_long =
-      length-front new.name new.kind new.digest (place.content - place.header - header_of new) (length new.content)
+  metadata_long : length (made_metadata new.name new.kind new.digest (place.content - place.header - header_of new) (length new.content)) ≡ place.content - place.header
+  metadata_long =
+      length-metadata new.name new.kind new.digest (place.content - place.header - header_of new) (length new.content)
       ∙ ap (λ n. meta_length (length new.name) n + (place.content - place.header - header_of new)) (hash_as_long new.digest digest)
       ∙ omega (arith, fits.header.room)
 
-  abbrev front : List ℕ
-  front = made_front new.name new.kind new.digest (place.content - place.header - header_of new) (length new.content)
+  abbrev metadata : List ℕ
+  metadata = made_metadata new.name new.kind new.digest (place.content - place.header - header_of new) (length new.content)
 
   abbrev pad : List ℕ
-  pad = padding (round64 (length (front ++ new.content)) - length (front ++ new.content)) (kept_at x end)
+  pad = padding (round64 (length (metadata ++ new.content)) - length (metadata ++ new.content)) (kept_at x end)
 
   is_made : IsMade new.name new.kind new.digest (place.content - place.header - header_of new) new.content
   is_made = record {
@@ -151,14 +151,14 @@ module _ (x : List ℕ) (new : NewComponent) (spot : Spot) (place : Place) (smal
     kind_small = kind_small;
     kind_used = fine.kind_good;
     digest_long = digest;
-    small = omega (arith, front_long, fits.inside, range.inside, small, fits.header.room);
+    small = omega (arith, metadata_long, fits.inside, range.inside, small, fits.header.room);
   }
 
   abbrev before : List ℕ
-  before = blank_between x place.run.start place.header
+  before = empty_between x place.run.start place.header
 
   abbrev after : List ℕ
-  after = blank_between x end place.run.end
+  after = empty_between x end place.run.end
 
   end_below : end ≤ place.run.end
   end_below = omega (arith, fits.inside, range.end_aligned)
@@ -197,15 +197,15 @@ module _ (x : List ℕ) (new : NewComponent) (spot : Spot) (place : Place) (smal
         cells = the_run.cells;
         free = the_run.free;
         more = subst (λ (l : List ℕ). HasOneMore x place.run.start place.run.end the_run.cells (space_cells before ++ (made_at x new place ∷ []) ++ space_cells after) (made_component place.header new.name new.kind new.digest new.content (made_at x new place)) l) (sym as_spliced) more;
-        content = content_at x before front new.content pad after place.run.start place.content (omega (arith, range.some, range.inside)) (omega (arith, placing.space_before.long, front_long, fits.start_below, fits.header.room));
+        content = content_at x before metadata new.content pad after place.run.start place.content (omega (arith, range.some, range.inside)) (omega (arith, placing.space_before.long, metadata_long, fits.start_below, fits.header.room));
       }
 
   -- a stop before the last commit
-  pub add_leaves_before : (y : List ℕ) → IsOldOrBlanked x place.run y → drop (kept_from x new place) y ≡ drop (kept_from x new place) x → AddLeavesBefore x new spot y
+  pub add_leaves_before : (y : List ℕ) → IsOldOrEmptied x place.run y → drop (kept_from x new place) y ≡ drop (kept_from x new place) x → AddLeavesBefore x new spot y
   add_leaves_before y (inl same) last = (inl same, ap (λ (l : List ℕ). components l) same)
-  add_leaves_before y (inr blanked) last =
-      let kept = blanked_runs x place.run y there.sound.whole small there.is_run blanked in
-      let written = blanked-written x place.run range y blanked in
+  add_leaves_before y (inr emptied) last =
+      let kept = emptied_runs x place.run y there.sound.whole small there.is_run emptied in
+      let written = emptied-written x place.run range y emptied in
       (inr (place, is, record { components = inl kept.components; end = kept.end; same_length = written.same_length; outside = written.outside; last = last }), kept.components)
 
   -- and after it

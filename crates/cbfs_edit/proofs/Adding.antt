@@ -12,7 +12,7 @@ use Rattle.sha2.proofs.Facts256.{length-sha256}
 use Rattle.sha2.proofs.Facts512.{length-sha512}
 use Rattle.cbfs_walk.specs.Hashes.{sha256_of, sha512_of}
 use Rattle.cbfs_edit.specs.Places.{placing_in}
-use Rattle.cbfs_edit.specs.Stops.{AddLeavesBefore, AddLeavesWhole, IsInsertStop, IsOldOrBlanked}
+use Rattle.cbfs_edit.specs.Stops.{AddLeavesBefore, AddLeavesWhole, IsInsertStop, IsOldOrEmptied}
 use Rattle.cbfs_edit.specs.Additions.{NewComponent, added, added_to, addition_in, attribute_len, digest_of, header_of, new_component, own_fault}
 use Rattle.cbfs_edit.specs.declared.addition.HashChoice.{HashChoice}
 use Rattle.cbfs_edit.specs.declared.addition.HashChoice.TheVariants.{Plain, Sha256, Sha512}
@@ -92,7 +92,7 @@ module _ (r : Range) (new : NewComponent) (spot : Spot) (place : Place) (old mid
       let whole : r.size % 64 ≡ 0 = omega (arith, size, accepted_size x new spot place is) in
       subst (λ (l : List ℕ). IsInsertStop (bytes_in r l) new place ((IsErrOf result copies.Source → ⊥) × (honest → y ≡ added (bytes_in r l) new place)) y) same (stopped whole)
 
-  left_before : IsOldOrBlanked x place.run y → AddLeavesBefore x new spot y
+  left_before : IsOldOrEmptied x place.run y → AddLeavesBefore x new spot y
   left_before before = add_leaves_before x new spot place x_small kind_small content_small digest is y before stop.last
 
   -- after a fault of the source

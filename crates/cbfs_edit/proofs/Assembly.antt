@@ -1,8 +1,8 @@
--- Writes over parts of what was just written, and the padding of a blank in parts.
+-- Writes over parts of what was just written, and the padding of an empty entry in parts.
 use Rattle.std.proofs.Common.{◌≡◌, inl, inr, ℕ, ◌+◌, ◌-◌, ◌≤◌, List, ◌++◌, length, take, drop, replicate, Option, Some, None, sym, ◌∙◌, ap, refl, arith, append_assoc, take-append-drop, length-append}
 use Rattle.std.proofs.lemmas.Bool.{cases_lt}
 use Rattle.std.proofs.lemmas.List.{take_at, drop_at, drop-drop, drop-append-le, length-replicate, length-take-le, drop-replicate, replicate-append-replicate}
-use Rattle.flash_format.specs.Blanks.{padding}
+use Rattle.flash_format.specs.EmptyEntries.{padding}
 use Rattle.flash_format.specs.Made.{KeepsFour}
 use Rattle.flash_store.specs.Bytes.{overwritten}
 

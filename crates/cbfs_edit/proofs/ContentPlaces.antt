@@ -13,14 +13,14 @@ part_at x before part after at is long =
     ∙ ap (λ (l : List ℕ). take (length part) l) (drop_at before (part ++ after) at long)
     ∙ take_at part after (length part) (omega arith)
 
--- content behind a front, in bytes that are written over others
-pub content_at : (x before front content pad after : List ℕ) (start at : ℕ) → start ≤ length x → start + length before + length front ≡ at
-    → slice_range (overwritten x start (before ++ (((front ++ content) ++ pad) ++ after))) at (at + length content) ≡ content
-content_at x before front content pad after start at inside there =
-    let all : List ℕ = before ++ (((front ++ content) ++ pad) ++ after) in
+-- content behind metadata, in bytes that are written over others
+pub content_at : (x before metadata content pad after : List ℕ) (start at : ℕ) → start ≤ length x → start + length before + length metadata ≡ at
+    → slice_range (overwritten x start (before ++ (((metadata ++ content) ++ pad) ++ after))) at (at + length content) ≡ content
+content_at x before metadata content pad after start at inside there =
+    let all : List ℕ = before ++ (((metadata ++ content) ++ pad) ++ after) in
     let rest : List ℕ = drop (start + length all) x in
-    part_at (overwritten x start all) (take start x ++ (before ++ front)) content (pad ++ (after ++ rest)) at (parted (take start x) rest)
-    (omega (arith, length-append (take start x) (before ++ front), length-append before front, length-take-le start x inside))
+    part_at (overwritten x start all) (take start x ++ (before ++ metadata)) content (pad ++ (after ++ rest)) at (parted (take start x) rest)
+    (omega (arith, length-append (take start x) (before ++ metadata), length-append before metadata, length-take-le start x inside))
   where
-    parted : (p r : List ℕ) → p ++ ((before ++ (((front ++ content) ++ pad) ++ after)) ++ r) ≡ (p ++ (before ++ front)) ++ (content ++ (pad ++ (after ++ r)))
+    parted : (p r : List ℕ) → p ++ ((before ++ (((metadata ++ content) ++ pad) ++ after)) ++ r) ≡ (p ++ (before ++ metadata)) ++ (content ++ (pad ++ (after ++ r)))
     parted p r = simp append_assoc

@@ -1,19 +1,19 @@
--- A region that becomes one blank.
+-- A region that becomes one empty entry.
 use Rattle.std.proofs.Common.{◌≡◌, ◌⊎◌, inl, inr, ℕ, ◌+◌, ◌-◌, ◌%◌, ◌^◌, ◌<◌, ◌≤◌, Bool, true, cond, Some, None, List, [], ◌∷◌, ◌++◌, length, sym, ◌∙◌, ap, refl, arith, length-append}
 use Rattle.std.specs.Prelude.{◌==◌}
 use Rattle.std.proofs.lemmas.List.{append-nil, drop_all}
 use Rattle.std.proofs.lemmas.Bool.{eq-eqb}
 use Rattle.std.proofs.lemmas.List.Elements.{All-nil, All-cons}
 use Rattle.flash_format.specs.Head.{header_length, head_of, is_free}
-use Rattle.flash_format.specs.Blanks.{blank_header, blank, padding}
+use Rattle.flash_format.specs.EmptyEntries.{empty_header, empty_entry, padding}
 use Rattle.flash_format.specs.Entry.{entry, cell}
 use Rattle.flash_format.specs.Cut.{complete, IsCell}
 use Rattle.flash_format.proofs.CutLaws.{cut_unique}
-use Rattle.flash_format.proofs.BlankLaws.{blank_header-cell, length-blank_header}
+use Rattle.flash_format.proofs.EmptyEntryLaws.{empty_header-cell, length-empty_header}
 use Rattle.flash_format.proofs.MadeLaws.{length-padding}
 use Rattle.flash_store.specs.Bytes.{overwritten}
 use Rattle.cbfs_edit.specs.Removals.{removed, last_four, kept_at}
-use Rattle.cbfs_edit.specs.Stops.{IsBlankStop, IsOldOrBlanked}
+use Rattle.cbfs_edit.specs.Stops.{IsEmptyStop, IsOldOrEmptied}
 use Rattle.cbfs_edit.specs.Formats.{formatted, IsOneFreeCell, IsFormatStop}
 use Rattle.cbfs_edit.specs.Laws.{FormattedIsOneFreeCell}
 use Rattle.cbfs_edit.specs.declared.group.Freed.{Freed}
@@ -24,11 +24,11 @@ overwritten-whole : (x u : List ℕ) → length u ≡ length x → overwritten x
 overwritten-whole x u size =
     ap (λ (l : List ℕ). u ++ l) (drop_all (0 + length u) x (omega arith)) ∙ append-nil u
 
--- a blank's header at the start of a region, whatever is after it
-one_free_cell : (y more : List ℕ) (size : ℕ) (kept : Bool) → 64 ≤ size → size % 64 ≡ 0 → size < 2 ^ 32 → header_length + length more ≡ size → y ≡ blank_header size kept ++ more → IsOneFreeCell y
+-- an empty entry's header at the start of a region, whatever is after it
+one_free_cell : (y more : List ℕ) (size : ℕ) (kept : Bool) → 64 ≤ size → size % 64 ≡ 0 → size < 2 ^ 32 → header_length + length more ≡ size → y ≡ empty_header size kept ++ more → IsOneFreeCell y
 one_free_cell y more size kept some whole small room is =
-    let made = blank_header-cell size kept more some whole small room in
-    let len : length y ≡ size = ap length is ∙ omega (arith, length-append (blank_header size kept) more, length-blank_header size kept) in
+    let made = empty_header-cell size kept more some whole small room in
+    let len : length y ≡ size = ap length is ∙ omega (arith, length-append (empty_header size kept) more, length-empty_header size kept) in
     let is_cell : IsCell y = ap (λ (l : List ℕ). entry l) is ∙ made.0 ∙ ap (λ (n : ℕ). cell n) (sym len) in
     record {
       cells = cut_unique y (y ∷ []) [] complete (record {
@@ -53,23 +53,23 @@ pub format_done : (x y : List ℕ) (size : ℕ) → length x ≡ size → 64 ≤
 format_done x y size long some is =
     let space : List ℕ = padding (length x - header_length) (Some (last_four x)) in
     let wide : length (formatted x) ≡ length x =
-    omega (arith, length-append (blank_header (length x) true) space, length-blank_header (length x) true, length-padding (length x - header_length) (Some (last_four x)) (length-last_four x (omega arith))) in
+    omega (arith, length-append (empty_header (length x) true) space, length-empty_header (length x) true, length-padding (length x - header_length) (Some (last_four x)) (length-last_four x (omega arith))) in
     is
     ∙ ap (λ n. removed x (whole_range n)) (sym long)
-    ∙ ap (λ n. overwritten x 0 (blank n (kept_at x (length x)))) (let e : length x - 0 ≡ length x = omega arith in e)
-    ∙ ap (λ b. overwritten x 0 (blank (length x) (cond b (Some (last_four x)) None))) (eq-eqb (length x) (length x) refl)
+    ∙ ap (λ n. overwritten x 0 (empty_entry n (kept_at x (length x)))) (let e : length x - 0 ≡ length x = omega arith in e)
+    ∙ ap (λ b. overwritten x 0 (empty_entry (length x) (cond b (Some (last_four x)) None))) (eq-eqb (length x) (length x) refl)
     ∙ overwritten-whole x (formatted x) wide
 
 -- a stop at one of the writes
-pub format_stopped : (x y : List ℕ) (size : ℕ) → length x ≡ size → 64 ≤ size → size % 64 ≡ 0 → size < 2 ^ 32 → IsBlankStop x (whole_range size) y → IsFormatStop x y
+pub format_stopped : (x y : List ℕ) (size : ℕ) → length x ≡ size → 64 ≤ size → size % 64 ≡ 0 → size < 2 ^ 32 → IsEmptyStop x (whole_range size) y → IsFormatStop x y
 format_stopped x y size long some whole small stop = record { cells = cells stop.bytes; last_four = stop.last_four }
   where
-    cells : IsOldOrBlanked x (whole_range size) y → (y ≡ x) ⊎ IsOneFreeCell y
+    cells : IsOldOrEmptied x (whole_range size) y → (y ≡ x) ⊎ IsOneFreeCell y
     cells (inl same) = inl same
     cells (inr is) =
         let room : header_length + length is.more ≡ size = omega (arith, is.room) in
-        let header : List ℕ = blank_header (size - 0) (size == length x) in
-        let wide : length (header ++ is.more) ≡ length x = omega (arith, length-append header is.more, length-blank_header (size - 0) (size == length x)) in
-        let bytes : y ≡ blank_header size (size == length x) ++ is.more =
-        is.bytes ∙ overwritten-whole x (header ++ is.more) wide ∙ ap (λ n. blank_header n (size == length x) ++ is.more) (let e : size - 0 ≡ size = omega arith in e) in
+        let header : List ℕ = empty_header (size - 0) (size == length x) in
+        let wide : length (header ++ is.more) ≡ length x = omega (arith, length-append header is.more, length-empty_header (size - 0) (size == length x)) in
+        let bytes : y ≡ empty_header size (size == length x) ++ is.more =
+        is.bytes ∙ overwritten-whole x (header ++ is.more) wide ∙ ap (λ n. empty_header n (size == length x) ++ is.more) (let e : size - 0 ≡ size = omega arith in e) in
         inr (one_free_cell y is.more size (size == length x) some whole small room bytes)

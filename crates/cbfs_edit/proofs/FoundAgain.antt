@@ -12,7 +12,7 @@ use Rattle.flash_format.proofs.CutLaws.{cut_unique}
 use Rattle.cbfs_walk.specs.Finding.{IsFirstOf, first_named}
 use Rattle.cbfs_walk.specs.Shapes.{has_bad_size, is_absent, shape}
 use Rattle.cbfs_walk.proofs.FirstNamed.{first_found, none_named, same_name}
-use Rattle.cbfs_edit.specs.Additions.{NewComponent, AddsOne, added, blank_between, cell_end, made_at}
+use Rattle.cbfs_edit.specs.Additions.{NewComponent, AddsOne, added, empty_between, cell_end, made_at}
 use Rattle.cbfs_edit.specs.Laws.{IsAdded, AdditionsAreFound, added_component}
 use Rattle.cbfs_edit.specs.declared.place.Spot.{Spot}
 use Rattle.cbfs_edit.specs.declared.place.Place.{Place}
@@ -47,10 +47,10 @@ module _ (x : List ℕ) (new : NewComponent) (spot : Spot) (place : Place) (is :
   one_more = additions_add_one x new spot place is.region is.kind is.content is.digest is.placed
 
   abbrev space_before : List (List ℕ)
-  space_before = space_cells (blank_between x place.run.start place.header)
+  space_before = space_cells (empty_between x place.run.start place.header)
 
   abbrev space_after : List (List ℕ)
-  space_after = space_cells (blank_between x (cell_end place (length new.content)) place.run.end)
+  space_after = space_cells (empty_between x (cell_end place (length new.content)) place.run.end)
 
   cells_after : (cut (added x new place)).cells ≡ (one_more.cells.before ++ space_before) ++ (made_at x new place ∷ (space_after ++ one_more.cells.after))
   cells_after =

@@ -1,4 +1,4 @@
--- Each run is a group of free cells of its region, and a blank's header over it keeps the components.
+-- Each run is a group of free cells of its region, and an empty entry's header over it keeps the components.
 use Rattle.std.proofs.Common.{◌≡◌, ℕ, ◌%◌, List, ◌++◌, length, sym, ◌∙◌, ap, Contains}
 use Rattle.std.proofs.lemmas.List.{append-nil}
 use Rattle.flash_format.specs.Components.{Component, components_from}
@@ -6,11 +6,11 @@ use Rattle.flash_format.specs.Splices.{CellsBetween}
 use Rattle.flash_format.proofs.Splices.{AllFree, components-free, group-components}
 use Rattle.cbfs_edit.specs.Groups.{IsCellRange}
 use Rattle.cbfs_edit.specs.Runs.{runs}
-use Rattle.cbfs_edit.specs.Laws.{BlankedRunsKeepTheComponents}
+use Rattle.cbfs_edit.specs.Laws.{EmptiedRunsKeepTheComponents}
 use Rattle.cbfs_edit.specs.declared.group.Freed.{Freed}
 use Rattle.cbfs_edit.proofs.Parts.{between}
 use Rattle.cbfs_edit.proofs.ExactRuns.{run_maximal}
-use Rattle.cbfs_edit.proofs.Groups.{group_range, blanked-components, blanked-end}
+use Rattle.cbfs_edit.proofs.Groups.{group_range, emptied-components, emptied-end}
 
 pub record IsRun (x : List ℕ) (run : Freed) : Type 0 where
   pub cells : CellsBetween x run.start run.end
@@ -23,17 +23,17 @@ run_of x run aligned has =
     let cells : CellsBetween x run.start run.end = between x run r.before r.row r.after aligned r.whole r.start_is r.end_is in
     record { cells = cells; free = r.free; range = group_range x run cells r.some }
 
-pub blanked_runs : BlankedRunsKeepTheComponents
-blanked_runs x run y aligned small has is =
+pub emptied_runs : EmptiedRunsKeepTheComponents
+emptied_runs x run y aligned small has is =
     let r = run_of x run aligned has in
     let g = r.cells in
     record {
       components =
-          blanked-components x run r.range y is g small
+          emptied-components x run r.range y is g small
           ∙ sym (
           group-components x run.start run.end g
           ∙ ap (λ (l : List Component). components_from 0 g.before ++ l ++ components_from run.end g.after) (components-free run.start g.group r.free)
           ∙ ap (λ (l : List Component). l ++ components_from run.end g.after) (append-nil (components_from 0 g.before))
           );
-      end = blanked-end x run r.range y is g small;
+      end = emptied-end x run r.range y is g small;
     }

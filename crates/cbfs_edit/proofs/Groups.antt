@@ -4,11 +4,11 @@ use Rattle.std.proofs.Common.{◌≡◌, ℕ, ◌+◌, ◌-◌, ◌%◌, ◌^◌
 use Rattle.std.specs.Prelude.{◌==◌}
 use Rattle.std.specs.List.{concat}
 use Rattle.flash_format.specs.Head.{header_length}
-use Rattle.flash_format.specs.Blanks.{blank_header, padding}
+use Rattle.flash_format.specs.EmptyEntries.{empty_header, padding}
 use Rattle.flash_format.specs.Cut.{cut}
 use Rattle.flash_format.specs.Components.{components_from, components}
 use Rattle.flash_format.specs.Splices.{CellsBetween, spliced}
-use Rattle.flash_format.proofs.BlankLaws.{length-blank_header}
+use Rattle.flash_format.proofs.EmptyEntryLaws.{length-empty_header}
 use Rattle.flash_format.proofs.MadeLaws.{length-padding}
 use Rattle.flash_format.proofs.Splices.{length-concat-cells, group-whole, cells-before, cells-group}
 use Rattle.flash_format.proofs.Splices as splices
@@ -16,7 +16,7 @@ use Rattle.flash_store.specs.Bytes.{overwritten, SameOutside}
 use Rattle.flash_store.proofs.BytesLemmas.{SameOutside-overwritten, length-overwritten}
 use Rattle.cbfs_edit.specs.Groups.{IsCellRange}
 use Rattle.cbfs_edit.specs.Removals.{last_four, kept_at, removed}
-use Rattle.cbfs_edit.specs.Stops.{IsBlanked, SameCells}
+use Rattle.cbfs_edit.specs.Stops.{IsEmptied, SameCells}
 use Rattle.cbfs_edit.specs.declared.group.Freed.{Freed}
 use Rattle.cbfs_edit.proofs.Kept.{is_some-cond, keeps}
 
@@ -35,7 +35,7 @@ group_range x group g some =
       inside = omega (arith, whole, length-append (concat g.before) (concat g.group ++ (concat g.after ++ g.rest)), length-append (concat g.group) (concat g.after ++ g.rest), g.start_is, g.end_is);
     }
 
--- ---- the cells of a blanked region
+-- ---- the cells of an emptied region
 
 -- bytes written over a group are a splice
 pub as_splice : (x : List ℕ) (start end : ℕ) (u : List ℕ) → start + length u ≡ end → overwritten x start u ≡ spliced x start end u
@@ -58,43 +58,43 @@ module _ (x : List ℕ) (group : Freed) (range : IsCellRange group (length x)) w
   abbrev size : ℕ
   size = group.end - group.start
 
-  -- a finished removal is a blank of which the header stands
-  pub removed-blanked : IsBlanked x group (removed x group)
-  removed-blanked =
+  -- a finished removal is an empty entry of which the header stands
+  pub removed-emptied : IsEmptied x group (removed x group)
+  removed-emptied =
       let space : List ℕ = padding (size - header_length) (kept_at x group.end) in
       record {
         more = space;
         room = omega (arith, length-padding (size - header_length) (kept_at x group.end) (keeps x group.end (omega (arith, range.some, range.inside))), range.some);
-        bytes = ap (λ b. overwritten x group.start (blank_header size b ++ space)) (is_some-cond (group.end == length x) (last_four x));
+        bytes = ap (λ b. overwritten x group.start (empty_header size b ++ space)) (is_some-cond (group.end == length x) (last_four x));
       }
 
-  module _ (y : List ℕ) (is : IsBlanked x group y) where
+  module _ (y : List ℕ) (is : IsEmptied x group y) where
     abbrev cell_bytes : List ℕ
-    cell_bytes = blank_header size (group.end == length x) ++ is.more
+    cell_bytes = empty_header size (group.end == length x) ++ is.more
 
     cell_length : length cell_bytes ≡ size
-    cell_length = omega (arith, length-append (blank_header size (group.end == length x)) is.more, length-blank_header size (group.end == length x), is.room)
+    cell_length = omega (arith, length-append (empty_header size (group.end == length x)) is.more, length-empty_header size (group.end == length x), is.room)
 
-    pub blanked-written : IsWritten x group y
-    blanked-written = over-range x group cell_bytes y range cell_length is.bytes
+    pub emptied-written : IsWritten x group y
+    emptied-written = over-range x group cell_bytes y range cell_length is.bytes
 
     is_splice : y ≡ spliced x group.start group.end cell_bytes
     is_splice = is.bytes ∙ as_splice x group.start group.end cell_bytes (omega (arith, cell_length, range.some))
 
     module _ (g : CellsBetween x group.start group.end) (small : length x < 2 ^ 32) where
-      pub blanked-components : components y ≡ components_from 0 g.before ++ components_from group.end g.after
-      blanked-components =
+      pub emptied-components : components y ≡ components_from 0 g.before ++ components_from group.end g.after
+      emptied-components =
           ap (λ (l : List ℕ). components l) is_splice
-          ∙ splices.blanked-components x group.start group.end g (group.end == length x) is.more (omega (arith, range.some)) (omega (arith, range.some, range.inside, small)) (omega (arith, is.room, range.some))
+          ∙ splices.emptied-components x group.start group.end g (group.end == length x) is.more (omega (arith, range.some)) (omega (arith, range.some, range.inside, small)) (omega (arith, is.room, range.some))
 
-      pub blanked-end : (cut y).end ≡ (cut x).end
-      blanked-end =
+      pub emptied-end : (cut y).end ≡ (cut x).end
+      emptied-end =
           ap (λ (l : List ℕ). (cut l).end) is_splice
-          ∙ splices.blanked-end x group.start group.end g (group.end == length x) is.more (omega (arith, range.some)) (omega (arith, range.some, range.inside, small)) (omega (arith, is.room, range.some))
+          ∙ splices.emptied-end x group.start group.end g (group.end == length x) is.more (omega (arith, range.some)) (omega (arith, range.some, range.inside, small)) (omega (arith, is.room, range.some))
 
   -- after the commit the cells are those of the finished removal
-  pub blanked-same : (y : List ℕ) → IsBlanked x group y → CellsBetween x group.start group.end → length x < 2 ^ 32 → SameCells y (removed x group)
-  blanked-same y is g small = record {
-    components = blanked-components y is g small ∙ sym (blanked-components (removed x group) removed-blanked g small);
-    end = blanked-end y is g small ∙ sym (blanked-end (removed x group) removed-blanked g small);
+  pub emptied-same : (y : List ℕ) → IsEmptied x group y → CellsBetween x group.start group.end → length x < 2 ^ 32 → SameCells y (removed x group)
+  emptied-same y is g small = record {
+    components = emptied-components y is g small ∙ sym (emptied-components (removed x group) removed-emptied g small);
+    end = emptied-end y is g small ∙ sym (emptied-end (removed x group) removed-emptied g small);
   }

@@ -1,4 +1,4 @@
--- The last four bytes of a region, where a blank keeps them.
+-- The last four bytes of a region, where an empty entry keeps them.
 use Rattle.std.proofs.Common.{◌≡◌, ℕ, ◌-◌, ◌<◌, ◌≤◌, Bool, true, false, cond, List, length, Option, Some, None, ap, refl, arith, length-drop}
 use Rattle.std.specs.Prelude.{◌==◌, is_some}
 use Rattle.std.proofs.lemmas.Bool.{cond_both, ne_eqb}

@@ -2,8 +2,8 @@ pub mod Parts
 pub mod Splits
 pub mod Kept
 pub mod Groups
-pub mod Blanked
-pub mod Blanks
+pub mod Emptied
+pub mod EmptyEntries
 pub mod Exact
 pub mod Sound
 pub mod Removals

@@ -13,7 +13,7 @@ use Rattle.cbfs_edit.specs.Groups.{IsComponent, IsNot}
 use Rattle.cbfs_edit.specs.Laws.{RemovalsTakeOneComponent}
 use Rattle.cbfs_edit.specs.Removals.{removed}
 use Rattle.cbfs_edit.proofs.Exact.{cells_of}
-use Rattle.cbfs_edit.proofs.Groups.{blanked-components, blanked-end, removed-blanked}
+use Rattle.cbfs_edit.proofs.Groups.{emptied-components, emptied-end, removed-emptied}
 use Rattle.cbfs_edit.proofs.Removals.{accepted}
 
 abbrev IsOther : List ℕ → Component → Type 0
@@ -62,8 +62,8 @@ removal_takes_one x name group small is =
           ∙ components-append 0 g.before (g.row_before ++ (g.component ∷ (g.row_after ++ g.after)))
           ∙ ap (λ n. components_from 0 g.before ++ components_from n (g.row_before ++ (g.component ∷ (g.row_after ++ g.after)))) first
           ∙ ap (λ (l : List Component). components_from 0 g.before ++ l) (row_of_one group.start group.end g.row_before g.row_after g.after g.component g.row_before_free g.row_after_free g.is_component g.end_is);
-      is = blanked-components x group a.range (removed x group) (removed-blanked x group a.range) cells small;
+      is = emptied-components x group a.range (removed x group) (removed-emptied x group a.range) cells small;
       named = g.named;
       first = others_have_not name 0 g.before g.first;
-      same_end = blanked-end x group a.range (removed x group) (removed-blanked x group a.range) cells small;
+      same_end = emptied-end x group a.range (removed x group) (removed-emptied x group a.range) cells small;
     }

@@ -5,7 +5,7 @@ use Rattle.std.specs.Result.{result_ok}
 use Rattle.std.specs.Prelude.{◌≡◌, ℕ, ◌+◌, ◌-◌, ◌==◌, ◌||◌, max, Bool, false, List, [], ◌∷◌, ◌++◌, length, slice_range, nat_lt, Option, Some, None, Result, Ok, Err, if◌then◌else◌}
 use Rattle.flash_format.specs.Head.{round64}
 use Rattle.flash_format.specs.Entry.{is_nul}
-use Rattle.flash_format.specs.Blanks.{blank}
+use Rattle.flash_format.specs.EmptyEntries.{empty_entry}
 use Rattle.flash_format.specs.Made.{hash_len, meta_length, made}
 use Rattle.flash_format.specs.Placings.{HasOneMore, made_component, space_cells}
 use Rattle.flash_format.specs.Splices.{AllFree, CellsBetween}
@@ -63,27 +63,27 @@ wanted_for new spot = record { header = header_of new; len = length new.content;
 abbrev pub cell_end : Place → ℕ → ℕ
 cell_end place n = round64 (place.content + n)
 
--- the blank from one place to another, or nothing where they are one
-abbrev pub blank_between : List ℕ → ℕ → ℕ → List ℕ
-blank_between x start end = if start == end then [] else blank (end - start) (kept_at x end)
+-- the empty entry from one place to another, or nothing where they are one
+abbrev pub empty_between : List ℕ → ℕ → ℕ → List ℕ
+empty_between x start end = if start == end then [] else empty_entry (end - start) (kept_at x end)
 
 -- the cell of the component at a place
 abbrev pub made_at : List ℕ → NewComponent → Place → List ℕ
 made_at x new place =
     made new.name new.kind new.digest (place.content - place.header - header_of new) new.content (kept_at x (cell_end place (length new.content)))
 
--- a region with the component in place of a run, between a blank before and a blank after it
+-- a region with the component in place of a run, between an empty entry before and one after it
 abbrev pub added : List ℕ → NewComponent → Place → List ℕ
 added x new place =
     overwritten x place.run.start
-    (blank_between x place.run.start place.header ++ (made_at x new place ++ blank_between x (cell_end place (length new.content)) place.run.end))
+    (empty_between x place.run.start place.header ++ (made_at x new place ++ empty_between x (cell_end place (length new.content)) place.run.end))
 
 -- the region has one component more: the new one, in place of free cells, with its content where the caller is told
 pub record AddsOne (x : List ℕ) (new : NewComponent) (place : Place) : Type 0 where
   pub cells : CellsBetween x place.run.start place.run.end
   pub free : AllFree cells.group
   pub more : HasOneMore x place.run.start place.run.end cells
-      (space_cells (blank_between x place.run.start place.header) ++ (made_at x new place ∷ []) ++ space_cells (blank_between x (cell_end place (length new.content)) place.run.end))
+      (space_cells (empty_between x place.run.start place.header) ++ (made_at x new place ∷ []) ++ space_cells (empty_between x (cell_end place (length new.content)) place.run.end))
       (made_component place.header new.name new.kind new.digest new.content (made_at x new place)) (added x new place)
   pub content : slice_range (added x new place) place.content (place.content + length new.content) ≡ new.content
 

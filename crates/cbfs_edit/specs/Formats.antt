@@ -1,7 +1,7 @@
 -- What the formatting of a region leaves, and how it is refused.
 use Rattle.std.specs.Prelude.{◌≡◌, ◌⊎◌, ℕ, true, List, [], ◌∷◌, length, Some, Result, Ok, Err, if◌then◌else◌}
 use Rattle.flash_format.specs.Head.{head_of, is_free}
-use Rattle.flash_format.specs.Blanks.{blank}
+use Rattle.flash_format.specs.EmptyEntries.{empty_entry}
 use Rattle.flash_format.specs.Cut.{cut, complete}
 use Rattle.cbfs_walk.specs.Shapes.{has_bad_size}
 use Rattle.cbfs_edit.specs.Removals.{last_four}
@@ -12,9 +12,9 @@ use Rattle.cbfs_edit.specs.declared.fault.EditFault.TheVariants.{RegionShape}
 abbrev pub format_of : ℕ → Result (Unit {0}) EditFault
 format_of size = if has_bad_size size then Err RegionShape else Ok tt
 
--- one blank, which keeps the last four bytes
+-- one empty entry, which keeps the last four bytes
 abbrev pub formatted : List ℕ → List ℕ
-formatted x = blank (length x) (Some (last_four x))
+formatted x = empty_entry (length x) (Some (last_four x))
 
 -- one free cell over the whole region
 pub record IsOneFreeCell (x : List ℕ) : Type 0 where

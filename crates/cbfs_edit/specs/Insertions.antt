@@ -1,45 +1,45 @@
--- The writes that put a component into a run of free cells, once a blank over the whole run stands there.
+-- The writes that put a component into a run of free cells, once an empty entry over the whole run stands there.
 use Rattle.std.specs.Prelude.{◌≡◌, ℕ, ◌+◌, ◌-◌, ◌%◌, ◌^◌, ◌<◌, ◌≤◌, ◌==◌, if◌then◌else◌, max, false, List, length, take, drop}
 use Rattle.flash_format.specs.Head.{header_length}
-use Rattle.flash_format.specs.Blanks.{blank_header}
+use Rattle.flash_format.specs.EmptyEntries.{empty_header}
 use Rattle.flash_store.specs.Bytes.{overwritten, SameOutside}
 use Rattle.cbfs_edit.specs.Groups.{IsCellRange}
 use Rattle.cbfs_edit.specs.declared.place.Place.{Place}
 
 -- a component with so many bytes before its content fits there, with a cell that ends at `end`
-pub record HasRoom (size : ℕ) (place : Place) (end front : ℕ) : Type 0 where
+pub record HasRoom (size : ℕ) (place : Place) (end metadata : ℕ) : Type 0 where
   pub run : IsCellRange place.run size
   pub small : size < 2 ^ 32
   pub start_below : place.run.start ≤ place.header
   pub header_aligned : place.header % 64 ≡ 0
-  pub front_is : place.header + front ≡ place.content
-  pub front_long : header_length ≤ front
-  pub front_short : front ≤ 4096
+  pub metadata_is : place.header + metadata ≡ place.content
+  pub metadata_long : header_length ≤ metadata
+  pub metadata_short : metadata ≤ 4096
   pub content_below : place.content ≤ end
   pub end_aligned : end % 64 ≡ 0
   pub end_below : end ≤ place.run.end
 
--- how many bytes of a component's front the last commit writes, which shows the component: those at the run's start
+-- how many bytes of a component's metadata the last commit writes, which shows the component: those at the run's start
 abbrev pub held_back : Place → ℕ
 held_back place = if place.header == place.run.start then header_length else 0
 
--- the rest of the front
-abbrev pub fronted : List ℕ → Place → List ℕ → List ℕ
-fronted y place front = overwritten y (place.header + held_back place) (drop (held_back place) front)
+-- the rest of the metadata
+abbrev pub with_metadata : List ℕ → Place → List ℕ → List ℕ
+with_metadata y place metadata = overwritten y (place.header + held_back place) (drop (held_back place) metadata)
 
--- the header of the blank after the component, where there is one
+-- the header of the empty entry after the component, where there is one
 abbrev pub bounded : List ℕ → ℕ → ℕ → List ℕ
-bounded y end run_end = if end == run_end then y else overwritten y end (blank_header (run_end - end) (run_end == length y))
+bounded y end run_end = if end == run_end then y else overwritten y end (empty_header (run_end - end) (run_end == length y))
 
--- what the last commit writes: the begin of the front, or the header of the blank before the component
+-- what the last commit writes: the begin of the metadata, or the header of the empty entry before the component
 abbrev pub shown_by : Place → List ℕ → List ℕ
-shown_by place front = if place.header == place.run.start then take header_length front else blank_header (place.header - place.run.start) false
+shown_by place metadata = if place.header == place.run.start then take header_length metadata else empty_header (place.header - place.run.start) false
 
 -- all that is written after the content
 abbrev pub finished : List ℕ → Place → ℕ → List ℕ → List ℕ
-finished y place end front = overwritten (bounded (fronted y place front) end place.run.end) place.run.start (shown_by place front)
+finished y place end metadata = overwritten (bounded (with_metadata y place metadata) end place.run.end) place.run.start (shown_by place metadata)
 
--- before the last commit nothing has changed but bytes of the run behind the header of its blank, and of the run's last four
+-- before the last commit nothing has changed but bytes of the run behind the header of its empty entry, and of the run's last four
 -- only those before the content
 abbrev pub IsUnfinished : Place → List ℕ → List ℕ → Type 0
 IsUnfinished place y z = SameOutside (place.run.start + header_length) (max place.content (place.run.end - 4) - (place.run.start + header_length)) y z

@@ -10,7 +10,7 @@ use Rattle.cbfs_walk.specs.Finding.{component_in}
 use Rattle.cbfs_edit.specs.Additions.{NewComponent, AddsOne, added, addition_in, made_at}
 use Rattle.cbfs_edit.specs.Groups.{group_of, IsNot, IsGroupOf}
 use Rattle.cbfs_edit.specs.Removals.{LosesOne, removed, removal_in}
-use Rattle.cbfs_edit.specs.Stops.{IsBlanked, SameCells}
+use Rattle.cbfs_edit.specs.Stops.{IsEmptied, SameCells}
 use Rattle.cbfs_edit.specs.Formats.{formatted, IsOneFreeCell}
 use Rattle.cbfs_edit.specs.Runs.{runs, IsRunOf}
 use Rattle.cbfs_edit.specs.Places.{IsWanted, IsPlace, place_of}
@@ -21,8 +21,8 @@ use Rattle.cbfs_edit.specs.declared.place.Spot.{Spot}
 
 -- once the header of an empty entry stands over the group of a removal, whatever the rest of the group holds, the
 -- components are those of the finished removal
-abbrev pub BlankedGroupsLackTheComponent : Type 0
-BlankedGroupsLackTheComponent = (x name : List ℕ) (group : Freed) (y : List ℕ) → length x < 2 ^ 32 → removal_in x name ≡ Ok group → IsBlanked x group y → SameCells y (removed x group)
+abbrev pub EmptiedGroupsLackTheComponent : Type 0
+EmptiedGroupsLackTheComponent = (x name : List ℕ) (group : Freed) (y : List ℕ) → length x < 2 ^ 32 → removal_in x name ≡ Ok group → IsEmptied x group y → SameCells y (removed x group)
 
 -- a removal takes the first component of the name, and all others stay, with their places and bytes
 abbrev pub RemovalsTakeOneComponent : Type 0
@@ -37,8 +37,8 @@ abbrev pub NoGroupNoComponent : Type 0
 NoGroupNoComponent = (x name : List ℕ) → group_of x name ≡ None → All (IsNot name) (cut x).cells
 
 -- between the commits of an edit that fills a run the components are those of before
-abbrev pub BlankedRunsKeepTheComponents : Type 0
-BlankedRunsKeepTheComponents = (x : List ℕ) (run : Freed) (y : List ℕ) → length x % 64 ≡ 0 → length x < 2 ^ 32 → Contains (runs x) run → IsBlanked x run y → SameCells y x
+abbrev pub EmptiedRunsKeepTheComponents : Type 0
+EmptiedRunsKeepTheComponents = (x : List ℕ) (run : Freed) (y : List ℕ) → length x % 64 ≡ 0 → length x < 2 ^ 32 → Contains (runs x) run → IsEmptied x run y → SameCells y x
 
 -- the runs are the maximal rows of neighbouring free cells, all of them
 abbrev pub RunsAreExact : Type 0

@@ -1,7 +1,7 @@
 -- What a removal leaves, and how it is refused.
 use Rattle.std.specs.Str.{bytes_eq}
 use Rattle.std.specs.Prelude.{◌≡◌, ℕ, ◌-◌, true, false, All, List, ◌∷◌, ◌++◌, length, drop, Option, Some, None, Result, Err, ok_or, ◌==◌, if◌then◌else◌}
-use Rattle.flash_format.specs.Blanks.{blank}
+use Rattle.flash_format.specs.EmptyEntries.{empty_entry}
 use Rattle.flash_format.specs.Components.{Component, components}
 use Rattle.flash_format.specs.Cut.{End, complete, tail, damage, cut}
 use Rattle.flash_store.specs.Bytes.{overwritten}
@@ -20,9 +20,9 @@ last_four x = drop (length x - 4) x
 abbrev pub kept_at : List ℕ → ℕ → Option (List ℕ)
 kept_at x end = if end == length x then Some (last_four x) else None
 
--- a region with one blank in place of a group
+-- a region with one empty entry in place of a group
 abbrev pub removed : List ℕ → Freed → List ℕ
-removed x group = overwritten x group.start (blank (group.end - group.start) (kept_at x group.end))
+removed x group = overwritten x group.start (empty_entry (group.end - group.start) (kept_at x group.end))
 
 -- one component is gone, the first of a name, and all others are as they were, and so is the end of the cells
 pub record LosesOne (name x y : List ℕ) : Type 0 where

@@ -14,7 +14,7 @@ ghost use Rattle.cbfs_edit.specs.Placings.{Fits};
 ghost use Rattle.cbfs_edit.specs.Refusals.{by_device, by_source};
 ghost use Rattle.cbfs_edit.specs.Stops.{AddLeavesBefore, AddLeavesWhole, IsInsertStop};
 
-use crate::blank::write_blank;
+use crate::empty_entry::write_empty_entry;
 use crate::fault::EditFault;
 use crate::hashing::Hashing;
 use crate::insertion::describe;
@@ -151,7 +151,7 @@ fn insert<F: Flash, S: Source>(
 {
     paged.places_fit();
     let end = (place.content + wanted.len + 63) / 64 * 64;
-    write_blank(paged, region, place.run)?;
+    write_empty_entry(paged, region, place.run)?;
     let digest = copy_content(paged, region, place.content, label.hash, source)?;
     let gap = (place.content - place.header - wanted.header) as u32;
     let meta = meta_of(label.name, label.kind, wanted.len as u32, gap, &digest);

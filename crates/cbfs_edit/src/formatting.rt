@@ -7,7 +7,7 @@ ghost use Rattle.cbfs_edit.specs.Changes.{OnHonestChange};
 ghost use Rattle.cbfs_edit.specs.Formats.{format_of, formatted, IsFormatStop};
 ghost use Rattle.cbfs_edit.specs.Refusals.{by_device};
 
-use crate::blank::write_blank;
+use crate::empty_entry::write_empty_entry;
 use crate::fault::EditFault;
 use crate::group::Freed;
 use flash_store::{Flash, Paged, Region};
@@ -35,7 +35,7 @@ pub fn format<F: Flash>(paged: &mut Paged<F>, region: Region) -> Result<(), Edit
     if end == 0 || end % 64 != 0 {
         return Err(EditFault::RegionShape);
     }
-    match write_blank(paged, region, Freed { start: 0, end }) {
+    match write_empty_entry(paged, region, Freed { start: 0, end }) {
         Ok(()) => Ok(()),
         Err(_) => Err(EditFault::Device),
     }

@@ -1,6 +1,6 @@
 //! The writes that put a component into a run of free cells.
 //!
-//! The header of a blank over the whole run is committed first, and what shows the component last, so that whatever is
+//! The header of an empty entry over the whole run is committed first, and what shows the component last, so that whatever is
 //! written between the two commits is free space.
 ghost use Rattle.std.specs.Prelude.{◌≡◌, ◌⊎◌, ◌+◌, ◌-◌, ◌%◌, ◌^◌, ◌<◌, ◌≤◌, length, OnOk, OnErr};
 ghost use Rattle.flash_format.specs.Head.{header_length};
@@ -9,14 +9,14 @@ ghost use Rattle.flash_store.specs.Device.{refusals};
 ghost use Rattle.flash_store.specs.Pages.{HasChanged};
 ghost use Rattle.flash_store.specs.Regions.{LiesIn};
 ghost use Rattle.cbfs_edit.specs.Changes.{OnHonestChange};
-ghost use Rattle.cbfs_edit.specs.Insertions.{HasRoom, IsUnfinished, bounded, finished, fronted, held_back, shown_by};
+ghost use Rattle.cbfs_edit.specs.Insertions.{HasRoom, IsUnfinished, bounded, finished, with_metadata, held_back, shown_by};
 
 use crate::place::Place;
 use crate::write::{commit_in, write_in};
-use flash_format::{HEADER_LENGTH, LONGEST_FRONT, Meta, empty_header, write_meta};
+use flash_format::{HEADER_LENGTH, LONGEST_METADATA, Meta, empty_header, write_meta};
 use flash_store::{Flash, FlashFault, Paged, Region};
 
-/// How many bytes of the component's front the last commit writes.
+/// How many bytes of the component's metadata the last commit writes.
 fn held_back(place: Place) -> usize
     ensures { result ≡ held_back place }
 {
@@ -28,28 +28,28 @@ fn held_back(place: Place) -> usize
 }
 
 /// Writes what stands before the content, but for the bytes that the last commit writes.
-fn write_front<F: Flash>(
+fn write_metadata<F: Flash>(
     paged: &mut Paged<F>,
     region: Region,
     place: Place,
     end: u64,
-    front: &[u8],
+    metadata: &[u8],
 ) -> Result<(), FlashFault>
     requires region { LiesIn region (F.facts paged.old.device).content }
-    requires room { HasRoom region.size place end (length front.now) }
+    requires room { HasRoom region.size place end (length metadata.now) }
 
     ensures after { HasChanged F.facts region 1 (refusals result) paged.old paged.new }
 
     // On an honest device.
     ensures written { OnHonestChange F.facts region paged.old paged.new (λ x y.
-        OnOk result (y ≡ fronted x place front.now)) }
+        OnOk result (y ≡ with_metadata x place metadata.now)) }
     ensures torn { OnHonestChange F.facts region paged.old paged.new (IsUnfinished place) }
 {
     let skip = held_back(place);
-    write_in(paged, region, place.header + skip as u64, &front[skip..])
+    write_in(paged, region, place.header + skip as u64, &metadata[skip..])
 }
 
-/// Writes the header of the blank after the component, where there is one.
+/// Writes the header of the empty entry after the component, where there is one.
 fn write_bound<F: Flash>(
     paged: &mut Paged<F>,
     region: Region,
@@ -74,46 +74,46 @@ fn write_bound<F: Flash>(
     write_in(paged, region, end, &header)
 }
 
-/// What the last commit writes: the begin of the component, or the header of the blank before it.
-fn shown_by(place: Place, front: &[u8]) -> [u8; HEADER_LENGTH]
-    requires front { header_length ≤ length front.now }
+/// What the last commit writes: the begin of the component, or the header of the empty entry before it.
+fn shown_by(place: Place, metadata: &[u8]) -> [u8; HEADER_LENGTH]
+    requires metadata { header_length ≤ length metadata.now }
     requires start_aligned { place.run.start % 64 ≡ 0 }
     requires header_aligned { place.header % 64 ≡ 0 }
     requires order { place.run.start ≤ place.header }
     requires small { place.header < 2 ^ 32 }
-    ensures { result ≡ shown_by place front.now }
+    ensures { result ≡ shown_by place metadata.now }
 {
     if place.header == place.run.start {
         let mut begin = [0; HEADER_LENGTH];
-        begin.copy_from_slice(&front[..HEADER_LENGTH]);
+        begin.copy_from_slice(&metadata[..HEADER_LENGTH]);
         return begin;
     }
     empty_header((place.header - place.run.start) as u32, false)
 }
 
-/// Writes the front of the component whose content stands already and the header of the blank after it, and commits at
+/// Writes the metadata of the component whose content stands already and the header of the empty entry after it, and commits at
 /// last what shows the component.
 fn show<F: Flash>(
     paged: &mut Paged<F>,
     region: Region,
     place: Place,
     end: u64,
-    front: &[u8],
+    metadata: &[u8],
 ) -> Result<(), FlashFault>
     requires region { LiesIn region (F.facts paged.old.device).content }
-    requires room { HasRoom region.size place end (length front.now) }
+    requires room { HasRoom region.size place end (length metadata.now) }
 
     ensures after { HasChanged F.facts region 3 (refusals result) paged.old paged.new }
 
     // On an honest device.
     ensures shown { OnHonestChange F.facts region paged.old paged.new (λ x y.
-        OnOk result (y ≡ finished x place end front.now)) }
+        OnOk result (y ≡ finished x place end metadata.now)) }
     ensures stopped { OnHonestChange F.facts region paged.old paged.new (λ x y.
-        (y ≡ finished x place end front.now) ⊎ IsUnfinished place x y) }
+        (y ≡ finished x place end metadata.now) ⊎ IsUnfinished place x y) }
 {
-    write_front(paged, region, place, end, front)?;
+    write_metadata(paged, region, place, end, metadata)?;
     write_bound(paged, region, place, end)?;
-    let begin = shown_by(place, front);
+    let begin = shown_by(place, metadata);
     commit_in(paged, region, place.run.start, &begin)
 }
 
@@ -131,7 +131,7 @@ pub fn describe<F: Flash>(
     requires gap { meta.now.gap < 64 }
 
     ensures after { HasChanged F.facts region 3 (refusals result) paged.old paged.new }
-    ensures front { length (described meta.now) ≡ described_len meta.now }
+    ensures metadata { length (described meta.now) ≡ described_len meta.now }
 
     // On an honest device.
     ensures shown { OnHonestChange F.facts region paged.old paged.new (λ x y.
@@ -139,7 +139,7 @@ pub fn describe<F: Flash>(
     ensures stopped { OnHonestChange F.facts region paged.old paged.new (λ x y.
         (y ≡ finished x place end (described meta.now)) ⊎ IsUnfinished place x y) }
 {
-    let mut front = [0; LONGEST_FRONT];
-    let n = write_meta(meta, &mut front);
-    show(paged, region, place, end, &front[..n])
+    let mut metadata = [0; LONGEST_METADATA];
+    let n = write_meta(meta, &mut metadata);
+    show(paged, region, place, end, &metadata[..n])
 }

@@ -6,8 +6,8 @@
 #![tactic(auto)]
 
 mod addition;
-mod blank;
 mod edit;
+mod empty_entry;
 mod fault;
 mod formatting;
 mod group;
@@ -24,8 +24,8 @@ pub use fault::EditFault;
 pub use formatting::format;
 pub use group::Freed;
 pub use laws::{
-    additions_add_one_component, additions_are_found, additions_are_undone,
-    blanked_groups_lack_the_component, blanked_runs_keep_the_components, edits_keep_the_others,
+    additions_add_one_component, additions_are_found, additions_are_undone, edits_keep_the_others,
+    emptied_groups_lack_the_component, emptied_runs_keep_the_components,
     formatted_regions_are_free, groups_are_exact, places_are_exact, removals_take_one_component,
     runs_are_exact,
 };

@@ -10,7 +10,7 @@ ghost use Rattle.cbfs_edit.specs.Refusals.{by_device};
 ghost use Rattle.cbfs_edit.specs.Places.{IsWanted, IsLeast, HasNoRoom, limit_of, least_from, least_in, place_in, placing_in};
 ghost use Rattle.cbfs_edit.specs.Placings.{closed, surveyed, answer_of, Fits, IsSurvey};
 
-use crate::blank::space_end;
+use crate::empty_entry::space_end;
 use crate::fault::{EditFault, refusal_of};
 use crate::group::Freed;
 use cbfs_walk::{Cell, Step, Walk, cells_stand_in_their_image, name_is};

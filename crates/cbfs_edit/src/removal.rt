@@ -9,7 +9,7 @@ ghost use Rattle.cbfs_edit.specs.Refusals.{by_device};
 ghost use Rattle.cbfs_edit.specs.Removals.{removed, removal_in};
 ghost use Rattle.cbfs_edit.specs.Stops.{LeavesWhole};
 
-use crate::blank::write_blank;
+use crate::empty_entry::write_empty_entry;
 use crate::fault::EditFault;
 use crate::group::{Freed, find_group};
 use flash_store::{Flash, Paged, Region};
@@ -48,7 +48,7 @@ pub fn remove<F: Flash>(
 {
     paged.places_fit();
     let group = find_group(paged, region, name)?;
-    match write_blank(paged, region, group) {
+    match write_empty_entry(paged, region, group) {
         Ok(()) => Ok(group),
         Err(_) => Err(EditFault::Device),
     }

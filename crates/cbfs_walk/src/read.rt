@@ -10,6 +10,7 @@ ghost use Rattle.cbfs_walk.specs.Passing.{HasPassed};
 use flash_store::{Flash, FlashFault, Paged, Region};
 
 /// Reads the bytes of the region from `at` on.
+#[inline]
 pub fn read_in<F: Flash>(
     paged: &mut Paged<F>,
     region: Region,
@@ -29,6 +30,7 @@ pub fn read_in<F: Flash>(
 }
 
 /// The n bytes of the region from `at` on.
+#[inline]
 pub fn piece_in<F: Flash>(
     paged: &mut Paged<F>,
     region: Region,

@@ -5,7 +5,7 @@ pub mod AttributeSteps
 pub mod EntryLaws
 pub mod CutLaws
 pub mod CellLists
-pub mod BlankLaws
+pub mod EmptyEntryLaws
 pub mod Splices
 pub mod MapLaws
 pub mod Writing

@@ -18,10 +18,10 @@ use Rattle.flash_format.specs.declared.attribute.AttrHead.{AttrHead}
 use Rattle.flash_format.specs.Head.{name_padding, head_of, head_at, head_bytes, is_free, attributes_misplaced, checked, round64, be32}
 use Rattle.flash_format.specs.Attributes.{Attribute, attr_head_of, attributes, attributes_after, attribute, ends_list, is_malformed, is_unused, has_bad_len, HASH}
 use Rattle.flash_format.specs.Entry.{damaged, cell, present, component, is_nul, name_end, name_field, has_name, attribute_field}
-use Rattle.flash_format.specs.Blanks.{padding}
-use Rattle.flash_format.specs.Made.{IsDigest, IsMade, IsReadAs, KeepsFour, name_room, meta_length, algorithm_number, algorithm, digest_bytes, digest_len, hash_attribute, hash_bytes, hash_len, made_head, padded_name, made_front, made, made_attributes}
+use Rattle.flash_format.specs.EmptyEntries.{padding}
+use Rattle.flash_format.specs.Made.{IsDigest, IsMade, IsReadAs, KeepsFour, name_room, meta_length, algorithm_number, algorithm, digest_bytes, digest_len, hash_attribute, hash_bytes, hash_len, made_head, padded_name, made_metadata, made, made_attributes}
 use Rattle.flash_format.proofs.AttributeSteps.{attributes_end, attributes_more}
-use Rattle.flash_format.proofs.BlankLaws.{length-head_bytes, head_in_front, head_is}
+use Rattle.flash_format.proofs.EmptyEntryLaws.{length-head_bytes, head_in_front, head_is}
 use Rattle.flash_format.proofs.EntryLaws.{from_head, present_by, up}
 
 pub room_is_least : (k : ℕ) → (k < name_room k) × (name_room k % name_padding ≡ 0) × (name_room k ≤ k + name_padding)
@@ -118,13 +118,13 @@ few_bytes : (digest : Digest) → length (digest_bytes digest) ≡ digest_len di
 few_bytes (digests.Sha256 bytes) is = omega (arith, is)
 few_bytes (digests.Sha512 bytes) is = omega (arith, is)
 
--- ---- the parts of a front
+-- ---- the parts of metadata
 
 length-padded : (name : List ℕ) → length (padded_name name) ≡ name_room (length name)
 length-padded name = omega (arith, length-append name (replicate (name_room (length name) - length name) 0), length-replicate {A = ℕ} (name_room (length name) - length name) 0)
 
-pub length-front : (name : List ℕ) (kind : ℕ) (digest : Option Digest) (gap n : ℕ) → length (made_front name kind digest gap n) ≡ (made_head name kind digest gap n).offset
-length-front name kind digest gap n = simp (length-append, length-head_bytes, length-padded, length-replicate) (omega arith)
+pub length-metadata : (name : List ℕ) (kind : ℕ) (digest : Option Digest) (gap n : ℕ) → length (made_metadata name kind digest gap n) ≡ (made_head name kind digest gap n).offset
+length-metadata name kind digest gap n = simp (length-append, length-head_bytes, length-padded, length-replicate) (omega arith)
 
 padded_is : (name : List ℕ) → padded_name name ≡ name ++ (0 ∷ replicate (name_room (length name) - length name - 1) 0)
 padded_is name = ap (λ (l : List ℕ). name ++ l) (zeros_begin (name_room (length name) - length name) (omega arith))
@@ -151,7 +151,7 @@ range_of a b c from to begins ends =
     ap (λ (l : List ℕ). take (to - from) l) (drop_at a (b ++ c) from begins) ∙ take_at b c (to - from) (omega (arith, ends))
 
 attributes_read : (name : List ℕ) (kind : ℕ) (digest : Option Digest) (gap n : ℕ) (more : List ℕ) → IsDigest digest
-    → attributes (attribute_field (made_head name kind digest gap n) (made_front name kind digest gap n ++ more)) ≡ Some (made_attributes digest)
+    → attributes (attribute_field (made_head name kind digest gap n) (made_metadata name kind digest gap n ++ more)) ≡ Some (made_attributes digest)
 unfolding attributes_after
 attributes_read name kind None gap n more is = refl
 attributes_read name kind (Some d) gap n more is =
@@ -160,7 +160,7 @@ attributes_read name kind (Some d) gap n more is =
     let hash : List ℕ = hash_bytes (Some d) in
     let before : List ℕ = head_bytes h ++ padded_name name in
     let list : List ℕ = hash ++ replicate gap 255 in
-    let x : List ℕ = made_front name kind (Some d) gap n ++ more in
+    let x : List ℕ = made_metadata name kind (Some d) gap n ++ more in
     let shape : x ≡ before ++ (list ++ more) = ap (λ (l : List ℕ). l ++ more) (append_assoc before hash (replicate gap 255)) ∙ append_assoc before list more in
     let field : attribute_field h x ≡ list =
     ap (λ (b : Bool). cond b [] (slice_range x at h.offset)) (ne_eqb at 0 (λ z. omega (arith, z)))
@@ -189,22 +189,22 @@ attributes_inside : (name : List ℕ) (kind : ℕ) (digest : Option Digest) (gap
 attributes_inside name kind None gap n = omega arith
 attributes_inside name kind (Some d) gap n = omega arith
 
-pub front_is_read : (name : List ℕ) (kind : ℕ) (digest : Option Digest) (gap : ℕ) (content more : List ℕ) → IsMade name kind digest gap content
-    → let whole = made_front name kind digest gap (length content) ++ content in
+pub metadata_is_read : (name : List ℕ) (kind : ℕ) (digest : Option Digest) (gap : ℕ) (content more : List ℕ) → IsMade name kind digest gap content
+    → let whole = made_metadata name kind digest gap (length content) ++ content in
     IsReadAs name kind digest content (whole ++ more) (round64 (length whole))
-front_is_read name kind digest gap content more is =
+metadata_is_read name kind digest gap content more is =
     let n = length content in
     let h : Head = made_head name kind digest gap n in
-    let front : List ℕ = made_front name kind digest gap n in
-    let x : List ℕ = front ++ content ++ more in
-    let size : length front ≡ h.offset = length-front name kind digest gap n in
+    let metadata : List ℕ = made_metadata name kind digest gap n in
+    let x : List ℕ = metadata ++ content ++ more in
+    let size : length metadata ≡ h.offset = length-metadata name kind digest gap n in
     let small : h.offset + n < 2 ^ 32 = omega (arith, is.small, size) in
     let hash : List ℕ = hash_bytes digest in
     let spare : List ℕ = replicate gap 255 in
     let nuls : List ℕ = replicate (name_room (length name) - length name - 1) 0 in
     let rest : List ℕ = nuls ++ (hash ++ (spare ++ (content ++ more))) in
     let later : List ℕ = name ++ (0 ∷ rest) in
-    let long : length x ≡ h.offset + n + length more = omega (arith, length-append (front ++ content) more, length-append front content, size) in
+    let long : length x ≡ h.offset + n + length more = omega (arith, length-append (metadata ++ content) more, length-append metadata content, size) in
     let shape : x ≡ head_bytes h ++ later =
     ap (λ (l : List ℕ). head_bytes h ++ l ++ hash ++ spare ++ content ++ more) (padded_is name) ∙ regroup (head_bytes h) name (0 ∷ nuls) hash spare content more in
     let attributes_small : h.attributes_offset ≤ h.offset = attributes_inside name kind digest gap n in
@@ -217,9 +217,9 @@ front_is_read name kind digest gap content more is =
     let room : length name < name_end h - 24 = omega (arith, fits) in
     let named : has_name (name_field h x) ≡ true = ap (λ (l : List ℕ). has_name l) field ∙ some_nul name rest (name_end h - 24) is.name_short room in
     let list : attributes (attribute_field h x) ≡ Some (made_attributes digest) =
-    ap (λ (l : List ℕ). attributes (attribute_field h l)) (append_assoc front content more) ∙ attributes_read name kind digest gap n (content ++ more) is.digest_long in
+    ap (λ (l : List ℕ). attributes (attribute_field h l)) (append_assoc metadata content more) ∙ attributes_read name kind digest gap n (content ++ more) is.digest_long in
     let e : Extent = record { content = h.offset; span = round64 (h.offset + h.len) } in
-    let span : round64 (h.offset + h.len) ≡ round64 (length (front ++ content)) = ap (λ (k : ℕ). round64 k) (omega (arith, length-append front content, size)) in
+    let span : round64 (h.offset + h.len) ≡ round64 (length (metadata ++ content)) = ap (λ (k : ℕ). round64 k) (omega (arith, length-append metadata content, size)) in
     record {
       is_cell =
           from_head x h (omega (arith, long)) head
@@ -236,8 +236,8 @@ front_is_read name kind digest gap content more is =
       has_attributes = ap (λ (k : Head). attributes (attribute_field k x)) head_there ∙ list;
       has_content =
           ap (λ (k : Head). slice_range x k.offset (k.offset + k.len)) head_there
-          ∙ ap (λ (l : List ℕ). slice_range l h.offset (h.offset + n)) (append_assoc front content more)
-          ∙ range_of front content more h.offset (h.offset + n) size refl;
+          ∙ ap (λ (l : List ℕ). slice_range l h.offset (h.offset + n)) (append_assoc metadata content more)
+          ∙ range_of metadata content more h.offset (h.offset + n) size refl;
     }
 
 -- ---- the whole cell
@@ -247,18 +247,18 @@ length-padding n None is = length-replicate n 255
 length-padding n (Some last) is = omega (arith, is, length-append (replicate (n - 4) 255) (drop (4 - n) last), length-replicate {A = ℕ} (n - 4) 255, length-drop (4 - n) last)
 
 pub length-made : (name : List ℕ) (kind : ℕ) (digest : Option Digest) (gap : ℕ) (content : List ℕ) (last : Option (List ℕ)) → KeepsFour last
-    → length (made name kind digest gap content last) ≡ round64 (length (made_front name kind digest gap (length content) ++ content))
+    → length (made name kind digest gap content last) ≡ round64 (length (made_metadata name kind digest gap (length content) ++ content))
 length-made name kind digest gap content last four =
-    let whole : List ℕ = made_front name kind digest gap (length content) ++ content in
+    let whole : List ℕ = made_metadata name kind digest gap (length content) ++ content in
     let left = round64 (length whole) - length whole in
     omega (arith, length-append whole (padding left last), length-padding left last four, up (length whole))
 
 pub made_is_read : (name : List ℕ) (kind : ℕ) (digest : Option Digest) (gap : ℕ) (content : List ℕ) (last : Option (List ℕ)) (more : List ℕ) → IsMade name kind digest gap content → KeepsFour last
     → IsReadAs name kind digest content (made name kind digest gap content last ++ more) (length (made name kind digest gap content last))
 made_is_read name kind digest gap content last more is four =
-    let whole : List ℕ = made_front name kind digest gap (length content) ++ content in
+    let whole : List ℕ = made_metadata name kind digest gap (length content) ++ content in
     let pad : List ℕ = padding (round64 (length whole) - length whole) last in
-    let read = front_is_read name kind digest gap content (pad ++ more) is in
+    let read = metadata_is_read name kind digest gap content (pad ++ more) is in
     let same : whole ++ (pad ++ more) ≡ made name kind digest gap content last ++ more = sym (append_assoc whole pad more) in
     let moved : IsReadAs name kind digest content (made name kind digest gap content last ++ more) (round64 (length whole)) =
     subst (λ (l : List ℕ). IsReadAs name kind digest content l (round64 (length whole))) same read in
@@ -277,7 +277,7 @@ hash_as_long (Some d) is = length-hash (algorithm_number (algorithm d)) (digest_
 pub made_as_long : (name : List ℕ) (kind : ℕ) (digest : Option Digest) (gap : ℕ) (content : List ℕ) (last : Option (List ℕ)) → IsDigest digest → KeepsFour last
     → length (made name kind digest gap content last) ≡ round64 (meta_length (length name) (hash_len digest) + gap + length content)
 made_as_long name kind digest gap content last is four =
-    let front : List ℕ = made_front name kind digest gap (length content) in
-    let total : length (front ++ content) ≡ meta_length (length name) (hash_len digest) + gap + length content =
-    omega (arith, length-append front content, length-front name kind digest gap (length content), hash_as_long digest is) in
+    let metadata : List ℕ = made_metadata name kind digest gap (length content) in
+    let total : length (metadata ++ content) ≡ meta_length (length name) (hash_len digest) + gap + length content =
+    omega (arith, length-append metadata content, length-metadata name kind digest gap (length content), hash_as_long digest is) in
     length-made name kind digest gap content last four ∙ ap (λ (k : ℕ). round64 k) total

@@ -7,7 +7,7 @@ use Rattle.std.proofs.lemmas.List.Elements.{All-nil, All-cons, All-append}
 use Rattle.flash_format.specs.declared.digest.Digest.{Digest}
 use Rattle.flash_format.specs.Head.{header_length, head_of, is_free}
 use Rattle.flash_format.specs.Attributes.{Attribute}
-use Rattle.flash_format.specs.Blanks.{blank_header, blank, padding}
+use Rattle.flash_format.specs.EmptyEntries.{empty_header, empty_entry, padding}
 use Rattle.flash_format.specs.Cut.{cut, IsCell, IsCut}
 use Rattle.flash_format.specs.Components.{Component, cell_content, cell_attributes, component_at, components_from, components}
 use Rattle.flash_format.specs.Splices.{AllFree, spliced}
@@ -16,17 +16,17 @@ use Rattle.flash_format.specs.Placings.{IsSpace, space_cells, made_component}
 use Rattle.flash_format.specs.Laws.{ComponentsArePlaced}
 use Rattle.flash_format.proofs.CutSteps.{cell_span}
 use Rattle.flash_format.proofs.CellLists.{components-append}
-use Rattle.flash_format.proofs.BlankLaws.{length-blank_header}
+use Rattle.flash_format.proofs.EmptyEntryLaws.{length-empty_header}
 use Rattle.flash_format.proofs.MadeLaws.{length-padding}
 use Rattle.flash_format.proofs.Splices.{concat-append, space_each, concat-space, components-free, length-concat-cells, cells-before, cells-group, splice-cut, splice-components, splice-end, group-components}
 
 -- ---- free space
 
-pub blank_is_space : (size : ℕ) (last : Option (List ℕ)) → 64 ≤ size → KeepsFour last → IsSpace size (blank size last)
-blank_is_space size last some four =
+pub empty_is_space : (size : ℕ) (last : Option (List ℕ)) → 64 ≤ size → KeepsFour last → IsSpace size (empty_entry size last)
+empty_is_space size last some four =
     let rest : List ℕ = padding (size - header_length) last in
     record {
-      long = omega (arith, length-append (blank_header size (is_some last)) rest, length-blank_header size (is_some last), length-padding (size - header_length) last four);
+      long = omega (arith, length-append (empty_header size (is_some last)) rest, length-empty_header size (is_some last), length-padding (size - header_length) last four);
       header = λ _. (is_some last, rest, refl);
     }
 

@@ -4,11 +4,11 @@ use Rattle.std.specs.List.{concat}
 use Rattle.std.proofs.lemmas.List.{take_at, drop_at, append-nil}
 use Rattle.std.proofs.lemmas.List.Elements.{All-nil, All-cons, All-head, All-tail, All-append}
 use Rattle.flash_format.specs.Head.{header_length, head_of, is_free}
-use Rattle.flash_format.specs.Blanks.{blank_header}
+use Rattle.flash_format.specs.EmptyEntries.{empty_header}
 use Rattle.flash_format.specs.Entry.{cell, entry}
 use Rattle.flash_format.specs.Placings.{IsSpace, space_cells}
-use Rattle.flash_format.specs.Laws.{BlanksHaveNoComponent}
-use Rattle.flash_format.proofs.BlankLaws.{blank_header-cell, length-blank_header}
+use Rattle.flash_format.specs.Laws.{EmptyEntriesHaveNoComponent}
+use Rattle.flash_format.proofs.EmptyEntryLaws.{empty_header-cell, length-empty_header}
 use Rattle.flash_format.specs.Cut.{Cut, cut, IsCell, IsCut}
 use Rattle.flash_format.specs.Components.{Component, component_at, components_from, components}
 use Rattle.flash_format.specs.Splices.{CellsBetween, spliced}
@@ -60,8 +60,8 @@ components-three a b c =
 space_cell : (size : ℕ) (bytes : List ℕ) → IsSpace size bytes → 0 < size → size % 64 ≡ 0 → size < 2 ^ 32 → IsCell bytes × (is_free (head_of bytes) ≡ true)
 space_cell size bytes is some whole small =
     let (kept, more, shape) = is.header some in
-    let room : header_length + length more ≡ size = omega (arith, is.long, ap length shape, length-append (blank_header size kept) more, length-blank_header size kept) in
-    let read = blank_header-cell size kept more (omega arith) whole small room in (
+    let room : header_length + length more ≡ size = omega (arith, is.long, ap length shape, length-append (empty_header size kept) more, length-empty_header size kept) in
+    let read = empty_header-cell size kept more (omega arith) whole small room in (
       ap (λ (l : List ℕ). entry l) shape ∙ read.0 ∙ ap (λ (n : ℕ). cell n) (sym is.long),
       ap (λ (l : List ℕ). is_free (head_of l)) shape ∙ read.1,
     )
@@ -134,30 +134,30 @@ module _ (x : List ℕ) (start end : ℕ) (g : CellsBetween x start end) where
       ap (λ (c : Cut). c.end) (splice-is new each size)
       ∙ sym (ap (λ (c : Cut). c.end) (cut_unique x (g.before ++ g.group ++ g.after) g.rest g.ending g.is))
 
-  -- ---- a blank's header in the group's place, with anything after it
+  -- ---- an empty entry's header in the group's place, with anything after it
 
   module _ (kept : Bool) (more : List ℕ) (some : start < end) (small : end - start < 2 ^ 32) (room : start + header_length + length more ≡ end) where
-    abbrev blank_bytes : List ℕ
-    blank_bytes = blank_header (end - start) kept ++ more
+    abbrev empty_bytes : List ℕ
+    empty_bytes = empty_header (end - start) kept ++ more
 
-    blank-length : length blank_bytes ≡ end - start
-    blank-length = omega (arith, length-append (blank_header (end - start) kept) more, length-blank_header (end - start) kept, room)
+    empty_entry-length : length empty_bytes ≡ end - start
+    empty_entry-length = omega (arith, length-append (empty_header (end - start) kept) more, length-empty_header (end - start) kept, room)
 
-    blank-space : All IsCell (space_cells blank_bytes) × AllFree (space_cells blank_bytes)
-    blank-space = space_each (end - start) blank_bytes (record { long = blank-length; header = λ _. (kept, more, refl) }) (omega (arith, length-concat-cells g.group cells-group, g.end_is)) small
+    empty_entry-space : All IsCell (space_cells empty_bytes) × AllFree (space_cells empty_bytes)
+    empty_entry-space = space_each (end - start) empty_bytes (record { long = empty_entry-length; header = λ _. (kept, more, refl) }) (omega (arith, length-concat-cells g.group cells-group, g.end_is)) small
 
-    blank-size : start + length (concat (space_cells blank_bytes)) ≡ end
-    blank-size = omega (arith, ap length (concat-space blank_bytes), blank-length, some)
+    empty_entry-size : start + length (concat (space_cells empty_bytes)) ≡ end
+    empty_entry-size = omega (arith, ap length (concat-space empty_bytes), empty_entry-length, some)
 
-    pub blanked-components : components (spliced x start end blank_bytes) ≡ components_from 0 g.before ++ components_from end g.after
-    blanked-components =
-        ap (λ (l : List ℕ). components (spliced x start end l)) (sym (concat-space blank_bytes))
-        ∙ splice-components (space_cells blank_bytes) blank-space.0 blank-size
-        ∙ ap (λ (l : List Component). components_from 0 g.before ++ l ++ components_from end g.after) (components-free start (space_cells blank_bytes) blank-space.1)
+    pub emptied-components : components (spliced x start end empty_bytes) ≡ components_from 0 g.before ++ components_from end g.after
+    emptied-components =
+        ap (λ (l : List ℕ). components (spliced x start end l)) (sym (concat-space empty_bytes))
+        ∙ splice-components (space_cells empty_bytes) empty_entry-space.0 empty_entry-size
+        ∙ ap (λ (l : List Component). components_from 0 g.before ++ l ++ components_from end g.after) (components-free start (space_cells empty_bytes) empty_entry-space.1)
         ∙ ap (λ (l : List Component). l ++ components_from end g.after) (append-nil (components_from 0 g.before))
 
-    pub blanked-end : (cut (spliced x start end blank_bytes)).end ≡ (cut x).end
-    blanked-end = ap (λ (l : List ℕ). (cut (spliced x start end l)).end) (sym (concat-space blank_bytes)) ∙ splice-end (space_cells blank_bytes) blank-space.0 blank-size
+    pub emptied-end : (cut (spliced x start end empty_bytes)).end ≡ (cut x).end
+    emptied-end = ap (λ (l : List ℕ). (cut (spliced x start end l)).end) (sym (concat-space empty_bytes)) ∙ splice-end (space_cells empty_bytes) empty_entry-space.0 empty_entry-size
 
-pub blanks_have_none : BlanksHaveNoComponent
-blanks_have_none x start end g kept more some small room = blanked-components x start end g kept more some small room
+pub empty_entries_have_none : EmptyEntriesHaveNoComponent
+empty_entries_have_none x start end g kept more some small room = emptied-components x start end g kept more some small room

@@ -3,12 +3,12 @@ use Rattle.std.specs.Prelude.{◌≡◌, ◌≢◌, ℕ, ◌+◌, ◌-◌, ◌%�
 use Rattle.std.specs.List.{concat, flat_map, sum_by}
 use Rattle.flash_format.specs.declared.digest.Digest.{Digest}
 use Rattle.flash_format.specs.Head.{name_padding, header_length, head_of, is_free, round64}
-use Rattle.flash_format.specs.Blanks.{blank_header, blank}
+use Rattle.flash_format.specs.EmptyEntries.{empty_header, empty_entry}
 use Rattle.flash_format.specs.Entry.{entry, cell}
 use Rattle.flash_format.specs.Cut.{End, cut, after_all, IsCell, IsCut}
 use Rattle.flash_format.specs.Components.{components, components_from, moved}
 use Rattle.flash_format.specs.Splices.{AllFree, CellsBetween, spliced}
-use Rattle.flash_format.specs.Made.{IsDigest, IsMade, IsReadAs, KeepsFour, name_room, meta_length, hash_len, made_front, made}
+use Rattle.flash_format.specs.Made.{IsDigest, IsMade, IsReadAs, KeepsFour, name_room, meta_length, hash_len, made_metadata, made}
 use Rattle.flash_format.specs.Placings.{IsSpace, IsPlacing, HasOneMore, space_cells, made_component}
 use Rattle.flash_format.specs.Flashmap.{area_bytes, areas_from, fmap_head_bytes, fmap_head_len, fmap_head_of, is_map, is_named, map_of}
 use Rattle.flash_format.specs.declared.flashmap.Area.{Area}
@@ -55,10 +55,10 @@ ComponentsJoin = (at : ℕ) (cells more : List (List ℕ)) → components_from a
 abbrev pub PlacesAreSums : Type 0
 PlacesAreSums = (x : List ℕ) (at : ℕ) (cells : List (List ℕ)) → take at x ≡ concat cells → at ≤ length x → at ≡ sum_by length cells
 
--- a blank's header is a free cell, whatever bytes stand after it
-abbrev pub BlankHeadersAreFreeCells : Type 0
-BlankHeadersAreFreeCells = (size : ℕ) (kept : Bool) (more : List ℕ) → 64 ≤ size → size % 64 ≡ 0 → size < 2 ^ 32 → header_length + length more ≡ size
-    → (entry (blank_header size kept ++ more) ≡ cell size) × (is_free (head_of (blank_header size kept ++ more)) ≡ true)
+-- an empty entry's header is a free cell, whatever bytes stand after it
+abbrev pub EmptyHeadersAreFreeCells : Type 0
+EmptyHeadersAreFreeCells = (size : ℕ) (kept : Bool) (more : List ℕ) → 64 ≤ size → size % 64 ≡ 0 → size < 2 ^ 32 → header_length + length more ≡ size
+    → (entry (empty_header size kept ++ more) ≡ cell size) × (is_free (head_of (empty_header size kept ++ more)) ≡ true)
 
 -- cells of as many bytes in place of a group: the others stay, and what is left after them
 abbrev pub CellsAreReplaced : Type 0
@@ -70,15 +70,15 @@ abbrev pub ComponentsStay : Type 0
 ComponentsStay = (x : List ℕ) (start end : ℕ) (g : CellsBetween x start end) (new : List (List ℕ)) → All IsCell new → start + length (concat new) ≡ end
     → components (spliced x start end (concat new)) ≡ components_from 0 g.before ++ components_from start new ++ components_from end g.after
 
--- a blank's header in place of the group, with anything after it up to the group's end: the other components alone
-abbrev pub BlanksHaveNoComponent : Type 0
-BlanksHaveNoComponent = (x : List ℕ) (start end : ℕ) (g : CellsBetween x start end) (kept : Bool) (more : List ℕ) → start < end → end - start < 2 ^ 32 → start + header_length + length more ≡ end
-    → components (spliced x start end (blank_header (end - start) kept ++ more)) ≡ components_from 0 g.before ++ components_from end g.after
+-- an empty entry's header in place of the group, with anything after it up to the group's end: the other components alone
+abbrev pub EmptyEntriesHaveNoComponent : Type 0
+EmptyEntriesHaveNoComponent = (x : List ℕ) (start end : ℕ) (g : CellsBetween x start end) (kept : Bool) (more : List ℕ) → start < end → end - start < 2 ^ 32 → start + header_length + length more ≡ end
+    → components (spliced x start end (empty_header (end - start) kept ++ more)) ≡ components_from 0 g.before ++ components_from end g.after
 
--- a front and its content are read as a cell of that component, whatever bytes follow
-abbrev pub FrontsAreReadAsMade : Type 0
-FrontsAreReadAsMade = (name : List ℕ) (kind : ℕ) (digest : Option Digest) (gap : ℕ) (content more : List ℕ) → IsMade name kind digest gap content
-    → let component = made_front name kind digest gap (length content) ++ content in
+-- metadata and its content are read as a cell of that component, whatever bytes follow
+abbrev pub MetadataIsReadAsMade : Type 0
+MetadataIsReadAsMade = (name : List ℕ) (kind : ℕ) (digest : Option Digest) (gap : ℕ) (content more : List ℕ) → IsMade name kind digest gap content
+    → let component = made_metadata name kind digest gap (length content) ++ content in
     IsReadAs name kind digest content (component ++ more) (round64 (length component))
 
 -- a made cell is read as a cell of its length, whatever bytes follow
@@ -102,9 +102,9 @@ MadeCellsAreAsLong = (name : List ℕ) (kind : ℕ) (digest : Option Digest) (ga
 abbrev pub RoomsAreLeast : Type 0
 RoomsAreLeast = (k : ℕ) → (k < name_room k) × (name_room k % name_padding ≡ 0) × (name_room k ≤ k + name_padding)
 
--- a blank is free space
-abbrev pub BlanksAreSpace : Type 0
-BlanksAreSpace = (size : ℕ) (last : Option (List ℕ)) → 64 ≤ size → KeepsFour last → IsSpace size (blank size last)
+-- an empty entry is free space
+abbrev pub EmptyEntriesAreSpace : Type 0
+EmptyEntriesAreSpace = (size : ℕ) (last : Option (List ℕ)) → 64 ≤ size → KeepsFour last → IsSpace size (empty_entry size last)
 
 -- a component's cell with free space before and after it, in place of free cells: one component more, and all others stay
 abbrev pub ComponentsArePlaced : Type 0

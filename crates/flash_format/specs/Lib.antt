@@ -1,5 +1,5 @@
 pub mod Head
-pub mod Blanks
+pub mod EmptyEntries
 pub mod Attributes
 pub mod Entry
 pub mod Cut

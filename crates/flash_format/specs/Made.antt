@@ -15,7 +15,7 @@ use Rattle.flash_format.specs.Head.{name_padding, head_of, head_bytes, is_free, 
 use Rattle.flash_format.specs.Attributes.{Attribute, attributes, HASH}
 use Rattle.flash_format.specs.Entry.{cell, entry, is_nul, attribute_field}
 use Rattle.flash_format.specs.Components.{cell_name, cell_content}
-use Rattle.flash_format.specs.Blanks.{padding}
+use Rattle.flash_format.specs.EmptyEntries.{padding}
 
 -- how long the field of a name of k bytes is: the least multiple of the padding that holds the name and a NUL
 abbrev pub name_room : ℕ → ℕ
@@ -81,14 +81,14 @@ made_head name kind digest gap n = record {
 abbrev pub padded_name : List ℕ → List ℕ
 padded_name name = name ++ replicate (name_room (length name) - length name) 0
 
--- the front of a component with n bytes of content: its head, its name, its hash attribute and a gap
-abbrev pub made_front : List ℕ → ℕ → Option Digest → ℕ → ℕ → List ℕ
-made_front name kind digest gap n = head_bytes (made_head name kind digest gap n) ++ padded_name name ++ hash_bytes digest ++ replicate gap 0xff
+-- the metadata of a component with n bytes of content: its head, its name, its hash attribute and a gap
+abbrev pub made_metadata : List ℕ → ℕ → Option Digest → ℕ → ℕ → List ℕ
+made_metadata name kind digest gap n = head_bytes (made_head name kind digest gap n) ++ padded_name name ++ hash_bytes digest ++ replicate gap 0xff
 
 -- the cell of a component, up to a multiple of 64, which may keep these four bytes at its end
 abbrev pub made : List ℕ → ℕ → Option Digest → ℕ → List ℕ → Option (List ℕ) → List ℕ
 made name kind digest gap content last =
-    let component = made_front name kind digest gap (length content) ++ content in
+    let component = made_metadata name kind digest gap (length content) ++ content in
     component ++ padding (round64 (length component) - length component) last
 
 -- the attributes of a made component
@@ -115,7 +115,7 @@ pub record IsMade (name : List ℕ) (kind : ℕ) (digest : Option Digest) (gap :
   pub kind_small : kind < 2 ^ 32
   pub kind_used : (kind == 0 || kind == 0xffffffff) ≡ false
   pub digest_long : IsDigest digest
-  pub small : length (made_front name kind digest gap (length content)) + length content < 2 ^ 32
+  pub small : length (made_metadata name kind digest gap (length content)) + length content < 2 ^ 32
 
 -- these bytes begin with a cell of so many bytes, which is read as this component
 pub record IsReadAs (name : List ℕ) (kind : ℕ) (digest : Option Digest) (content : List ℕ) (x : List ℕ) (span : ℕ) : Type 0 where
@@ -139,6 +139,6 @@ described_head m = made_head m.name.now m.kind (pointed m.digest) m.gap m.len
 abbrev pub described_len : Meta → ℕ
 described_len m = meta_length (length m.name.now) (hash_len (pointed m.digest)) + m.gap
 
--- the front that it describes
+-- the metadata that it describes
 abbrev pub described : Meta → List ℕ
-described m = made_front m.name.now m.kind (pointed m.digest) m.gap m.len
+described m = made_metadata m.name.now m.kind (pointed m.digest) m.gap m.len

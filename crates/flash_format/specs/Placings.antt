@@ -1,16 +1,16 @@
 -- A component in place of free cells.
 use Rattle.std.specs.Prelude.{◌≡◌, ℕ, ◌+◌, ◌-◌, ◌%◌, ◌^◌, ◌<◌, ◌≤◌, Bool, List, [], ◌∷◌, ◌++◌, length, Option}
 use Rattle.flash_format.specs.declared.digest.Digest.{Digest}
-use Rattle.flash_format.specs.Blanks.{blank_header}
+use Rattle.flash_format.specs.EmptyEntries.{empty_header}
 use Rattle.flash_format.specs.Cut.{cut, IsCut}
 use Rattle.flash_format.specs.Components.{Component, components_from, components}
 use Rattle.flash_format.specs.Made.{made_attributes}
 use Rattle.flash_format.specs.Splices.{CellsBetween}
 
--- free space of so many bytes: none, or a blank's header and then anything
+-- free space of so many bytes: none, or an empty entry's header and then anything
 pub record IsSpace (size : ℕ) (bytes : List ℕ) : Type 0 where
   pub long : length bytes ≡ size
-  pub header : 0 < size → (kept : Bool) × (more : List ℕ) × (bytes ≡ blank_header size kept ++ more)
+  pub header : 0 < size → (kept : Bool) × (more : List ℕ) × (bytes ≡ empty_header size kept ++ more)
 
 -- its cells: none, or one
 abbrev pub space_cells : List ℕ → List (List ℕ)

@@ -1,6 +1,6 @@
 //! Laws of the definitions, which the crates above rest on. These functions do nothing: their contracts are the laws.
 
-ghost use Rattle.flash_format.specs.Laws.{CellsAreLarge, CellsFit, CellsAreReadAlike, FreeCellsAreReadByTheirHead, EveryRegionHasACut, CutsAreUnique, CutsGoOn, ComponentsGoOn, ComponentsJoin, PlacesAreSums, BlankHeadersAreFreeCells, CellsAreReplaced, ComponentsStay, BlanksHaveNoComponent, FrontsAreReadAsMade, MadeCellsAreReadAsMade, MadeCellsStandAlone, MadeCellsAreAsLong, RoomsAreLeast, BlanksAreSpace, ComponentsArePlaced, MapsAreTheLowest, LowestMapsAreFound, MapsAreReadBack, NamesAreReadBack};
+ghost use Rattle.flash_format.specs.Laws.{CellsAreLarge, CellsFit, CellsAreReadAlike, FreeCellsAreReadByTheirHead, EveryRegionHasACut, CutsAreUnique, CutsGoOn, ComponentsGoOn, ComponentsJoin, PlacesAreSums, EmptyHeadersAreFreeCells, CellsAreReplaced, ComponentsStay, EmptyEntriesHaveNoComponent, MetadataIsReadAsMade, MadeCellsAreReadAsMade, MadeCellsStandAlone, MadeCellsAreAsLong, RoomsAreLeast, EmptyEntriesAreSpace, ComponentsArePlaced, MapsAreTheLowest, LowestMapsAreFound, MapsAreReadBack, NamesAreReadBack};
 ghost use Rattle.std.specs.Prelude.{◌≡◌};
 ghost use Rattle.flash_format.specs.Head.{header_length};
 ghost use Rattle.flash_format.specs.Flashmap.{fmap_head_len, area_len};
@@ -39,23 +39,23 @@ pub fn cuts_go_on()
     ensures places { PlacesAreSums }
 {}
 
-/// A blank is read by its header alone: whatever bytes follow it, up to its size, it is one cell of free space.
-pub fn blank_headers_are_free_cells()
-    ensures { BlankHeadersAreFreeCells }
+/// An empty entry is read by its header alone: whatever bytes follow it, up to its size, it is one cell of free space.
+pub fn empty_headers_are_free_cells()
+    ensures { EmptyHeadersAreFreeCells }
 {}
 
 /// Other cells in place of a group of neighbouring ones. The other components stay, with their places and bytes, and so
-/// do the end of the cells and what is left after them. A blank's header in place of the group leaves no component there.
+/// do the end of the cells and what is left after them. An empty entry's header in place of the group leaves no component there.
 pub fn groups_are_replaced()
     ensures cut { CellsAreReplaced }
     ensures components { ComponentsStay }
-    ensures blank { BlanksHaveNoComponent }
+    ensures empty_entry { EmptyEntriesHaveNoComponent }
 {}
 
 /// A made cell is read as the component that it was made of: its name, type, attributes and content. That needs only what
 /// stands up to the content's end; the cell may hold anything after it.
 pub fn made_cells_are_read_as_made()
-    ensures front { FrontsAreReadAsMade }
+    ensures metadata { MetadataIsReadAsMade }
     ensures whole { MadeCellsAreReadAsMade }
     ensures alone { MadeCellsStandAlone }
     ensures len { MadeCellsAreAsLong }
@@ -67,7 +67,7 @@ pub fn made_cells_are_read_as_made()
 /// left after them.
 pub fn components_are_placed()
     ensures placed { ComponentsArePlaced }
-    ensures blanks { BlanksAreSpace }
+    ensures empty_entries { EmptyEntriesAreSpace }
 {}
 
 /// An image's map is the lowest valid one, and the lowest valid one is the image's map.

@@ -1,4 +1,4 @@
-//! The bytes of CBFS entries and of flashmaps: heads, attributes, areas, fronts of components, digests, and types and
+//! The bytes of CBFS entries and of flashmaps: heads, attributes, areas, metadata of components, digests, and types and
 //! numbers as text.
 //!
 //! No call takes memory. The definitions of the formats, which every other crate's contracts speak of, lie in
@@ -6,8 +6,8 @@
 #![tactic(auto)]
 
 mod attribute;
-mod blank;
 mod digest;
+mod empty_entry;
 mod flashmap;
 mod head;
 mod laws;
@@ -16,15 +16,15 @@ mod number;
 mod type_names;
 
 pub use attribute::AttrHead;
-pub use blank::empty_header;
 pub use digest::{Algorithm, Digest, digest_text};
+pub use empty_entry::empty_header;
 pub use flashmap::{Area, FmapHead};
 pub use head::{DamageKind, Extent, HEADER_LENGTH, Head};
 pub use laws::{
-    blank_headers_are_free_cells, components_are_placed, cuts_are_made_of_cells, cuts_go_on,
+    components_are_placed, cuts_are_made_of_cells, cuts_go_on, empty_headers_are_free_cells,
     entries_are_read_alike, groups_are_replaced, lengths_are_defined, made_cells_are_read_as_made,
     maps_are_read_back, maps_are_the_lowest, type_names_are_read_back,
 };
-pub use meta::{LONGEST_FRONT, Meta, attr_len, meta_len, write_meta};
+pub use meta::{LONGEST_METADATA, Meta, attr_len, meta_len, write_meta};
 pub use number::{digits_value, read_number};
 pub use type_names::{type_name, type_number};

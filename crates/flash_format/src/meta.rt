@@ -1,4 +1,4 @@
-//! The front of a component, which stands before its content: its head, its name, the hash attribute and a gap.
+//! The metadata of a component, which stands before its content: its head, its name, the hash attribute and a gap.
 
 ghost use Rattle.std.specs.Prelude.{◌≡◌, ◌≤◌, ◌<◌, ◌+◌, ◌++◌, length, take, drop, replicate};
 ghost use Rattle.byteorder.specs.Endian.{big_bytes};
@@ -11,9 +11,9 @@ use crate::digest::Digest;
 use crate::head::{Head, NAME_PADDING};
 use byteorder::{BigEndian, ByteOrder};
 
-/// How many bytes the longest front has: a head, the field of a name with 127 bytes, a hash attribute with SHA-512, and a
+/// How many bytes the longest metadata has: a head, the field of a name with 127 bytes, a hash attribute with SHA-512, and a
 /// gap of 63 bytes.
-pub const LONGEST_FRONT: usize = 24 + 128 + 76 + 63;
+pub const LONGEST_METADATA: usize = 24 + 128 + 76 + 63;
 
 /// A component, but for its content.
 #[derive(Clone, Copy, Debug, PartialEq, Eq)]
@@ -44,7 +44,7 @@ pub fn attr_len(digest: Option<&Digest>) -> usize
     }
 }
 
-/// How many bytes the front of a component has, besides the gap: the head's 24, the field of a name with so many bytes,
+/// How many bytes the metadata of a component has, besides the gap: the head's 24, the field of a name with so many bytes,
 /// and a hash attribute with so many: 0 for none, 44 with SHA-256 and 76 with SHA-512, as `attr_len` says.
 pub fn meta_len(name_len: usize, attr_len: usize) -> usize
     requires name { name_len ≤ 127 }
@@ -54,7 +54,7 @@ pub fn meta_len(name_len: usize, attr_len: usize) -> usize
     24 + name_room(name_len) + attr_len
 }
 
-/// Writes the front of a component, from `out`'s first byte on, and answers how many bytes it has. It is coreboot's
+/// Writes the metadata of a component, from `out`'s first byte on, and answers how many bytes it has. It is coreboot's
 /// `struct cbfs_file` with the name, then `struct cbfs_file_attr_hash` where there is a digest, then the gap.
 pub fn write_meta(meta: &Meta<'_>, out: &mut [u8]) -> usize
     requires name { length meta.now.name.now ≤ 127 }

@@ -1,6 +1,6 @@
 //! Bytes from outside through each public function, on both sides of each limit, and the names of all types.
 use flash_format::{
-    Algorithm, Area, AttrHead, DamageKind, Digest, Extent, FmapHead, Head, LONGEST_FRONT, Meta,
+    Algorithm, Area, AttrHead, DamageKind, Digest, Extent, FmapHead, Head, LONGEST_METADATA, Meta,
     attr_len, digest_text, digits_value, empty_header, meta_len, read_number, type_name,
     type_number, write_meta,
 };
@@ -276,12 +276,12 @@ fn described<'a>(name: &'a [u8], len: u32, digest: Option<&'a Digest>) -> Meta<'
     }
 }
 
-fn has_front(rt: &impl Abort, meta: &Meta<'_>, front: &[u8]) {
+fn has_metadata(rt: &impl Abort, meta: &Meta<'_>, metadata: &[u8]) {
     assert!(rt; meta.name.len() <= 127 && meta.gap < 64);
     let attr_len = attr_len(meta.digest);
-    let mut out = [0xaa; LONGEST_FRONT];
+    let mut out = [0xaa; LONGEST_METADATA];
     let len = write_meta(meta, &mut out);
-    same_bytes(rt, &out[..len], front);
+    same_bytes(rt, &out[..len], metadata);
     equal(
         rt,
         &meta_len(meta.name.len(), attr_len),
@@ -290,14 +290,14 @@ fn has_front(rt: &impl Abort, meta: &Meta<'_>, front: &[u8]) {
 }
 
 #[test]
-fn a_component_has_a_front(rt: HostRuntime) {
+fn a_component_has_metadata(rt: HostRuntime) {
     let meta = described(b"a", 10, None);
-    has_front(
+    has_metadata(
         &rt,
         &meta,
         b"LARCHIVE\0\0\0\x0a\0\0\0\x50\0\0\0\0\0\0\0\x1ca\0\0\0",
     );
-    has_front(
+    has_metadata(
         &rt,
         &Meta {
             name: b"abc",
@@ -305,7 +305,7 @@ fn a_component_has_a_front(rt: HostRuntime) {
         },
         b"LARCHIVE\0\0\0\x0a\0\0\0\x50\0\0\0\0\0\0\0\x1cabc\0",
     );
-    has_front(
+    has_metadata(
         &rt,
         &Meta {
             name: b"abcd",
@@ -317,11 +317,11 @@ fn a_component_has_a_front(rt: HostRuntime) {
 }
 
 #[test]
-fn a_front_has_a_hash(rt: HostRuntime) {
+fn metadata_has_a_hash(rt: HostRuntime) {
     let digest = Digest::Sha512(
         *b"0123456789abcdef0123456789abcdef0123456789abcdef0123456789abcdef",
     );
-    has_front(
+    has_metadata(
         &rt,
         &described(b"g", 0, Some(&digest)),
         b"LARCHIVE\0\0\0\0\0\0\0\x50\0\0\0\x1c\0\0\0\x68g\0\0\0hsaH\0\0\0\x4c\0\0\0\x03\
@@ -329,7 +329,7 @@ fn a_front_has_a_hash(rt: HostRuntime) {
     );
 }
 
-/// A name of 127 bytes, and the front with it.
+/// A name of 127 bytes, and the metadata with it.
 const LONG_NAME: [u8; 127] = [b'n'; 127];
 
 const LONG_NAMED: [u8; 152] = *b"LARCHIVE\0\0\0\0\0\0\0\x50\0\0\0\0\0\0\0\x98\
@@ -338,8 +338,8 @@ nnnnnnnnnnnnnnnnnnnnnnnnnnnnnnnnnnnnnnnnnnnnnnnnnnnnnnnnnnnnnnn\0";
 
 #[test]
 fn the_longest_front_has_291_bytes(rt: HostRuntime) {
-    equal(&rt, &LONGEST_FRONT, &291);
-    has_front(&rt, &described(&LONG_NAME, 0, None), &LONG_NAMED);
+    equal(&rt, &LONGEST_METADATA, &291);
+    has_metadata(&rt, &described(&LONG_NAME, 0, None), &LONG_NAMED);
     let digest = Digest::Sha512([0x61; 64]);
     let meta = described(&LONG_NAME, 0, Some(&digest));
     has_length(&rt, &Meta { gap: 63, ..meta }, 291);
@@ -347,13 +347,13 @@ fn the_longest_front_has_291_bytes(rt: HostRuntime) {
 
 fn has_length(rt: &impl Abort, meta: &Meta<'_>, len: usize) {
     assert!(rt; meta.name.len() <= 127 && meta.gap < 64);
-    equal(rt, &write_meta(meta, &mut [0; LONGEST_FRONT]), &len);
+    equal(rt, &write_meta(meta, &mut [0; LONGEST_METADATA]), &len);
 }
 
 #[test]
-fn a_front_has_a_hash_of_sha_256(rt: HostRuntime) {
+fn metadata_has_a_hash_of_sha_256(rt: HostRuntime) {
     let digest = Digest::Sha256(*b"0123456789abcdef0123456789abcdef");
-    has_front(
+    has_metadata(
         &rt,
         &described(b"f", 3, Some(&digest)),
         b"LARCHIVE\0\0\0\x03\0\0\0\x50\0\0\0\x1c\0\0\0\x48f\0\0\0hsaH\0\0\0\x2c\0\0\0\x02\

@@ -7,6 +7,7 @@ ghost use Rattle.printed_fields.specs.Printed.{Pushes};
 use arrayvec::ArrayVec;
 
 /// Puts a text after what a buffer has.
+#[inline]
 pub fn push_text<const N: usize>(buffer: &mut ArrayVec<u8, N>, text: &[u8])
     requires { array_vec_len buffer.old + length text.now ≤ N }
     ensures { Pushes buffer.old text.now (length text.now) buffer.new }

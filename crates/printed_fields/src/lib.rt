@@ -8,5 +8,5 @@ mod name;
 mod number;
 
 pub use buffer::push_text;
-pub use name::printed_byte;
-pub use number::hexadecimal;
+pub use name::{printed_byte, push_name};
+pub use number::{hexadecimal, push_hexadecimal};

@@ -1,8 +1,9 @@
 //! Numbers in hexadecimal.
 
-ghost use Rattle.std.specs.Prelude.{◌≡◌, ◌<◌, false, drop};
+ghost use Rattle.std.specs.Prelude.{◌≡◌, ◌+◌, ◌<◌, ◌≤◌, false, drop};
 ghost use Rattle.std.specs.Fmt.{digit_glyph, digits};
-ghost use Rattle.printed_fields.specs.Printed.{hexadecimal};
+ghost use Rattle.arrayvec.specs.ArrayVec.{array_vec_len};
+ghost use Rattle.printed_fields.specs.Printed.{Pushes, hexadecimal};
 
 use crate::buffer::push_text;
 use arrayvec::ArrayVec;
@@ -35,15 +36,23 @@ fn write_digits(n: u64, text: &mut [u8; 16]) -> usize
     at
 }
 
-/// `0x` and the digits of a number, in lower case and without leading zeros.
+/// Puts `0x` and the digits of a number, in lower case and without leading zeros, after what a buffer has.
 #[tactic(auto, unfolding(crate::specs::Printed::hexadecimal))]
-pub fn hexadecimal(n: u64) -> ArrayVec<u8, 18>
-    ensures { result.items ≡ hexadecimal n }
+pub fn push_hexadecimal<const N: usize>(buffer: &mut ArrayVec<u8, N>, n: u64)
+    requires { array_vec_len buffer.old + 18 ≤ N }
+    ensures { Pushes buffer.old (hexadecimal n) 18 buffer.new }
 {
     let mut digits = [b'0'; 16];
     let start = write_digits(n, &mut digits);
+    push_text(buffer, b"0x");
+    push_text(buffer, &digits[start..]);
+}
+
+/// The same text by itself.
+pub fn hexadecimal(n: u64) -> ArrayVec<u8, 18>
+    ensures { result.items ≡ hexadecimal n }
+{
     let mut text = ArrayVec::new();
-    push_text(&mut text, b"0x");
-    push_text(&mut text, &digits[start..]);
+    push_hexadecimal(&mut text, n);
     text
 }

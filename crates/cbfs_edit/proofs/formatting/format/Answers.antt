@@ -22,4 +22,4 @@ returns-in-Err-clause-stopped g c honest = λ is.
     format_stopped (bytes_in c.args.region content) _ c.size-end.result
     (omega (arith, length-bytes_in c.args.region content c.requires, c.size-end.ensures)) (omega arith) (omega arith)
     (omega (arith, c.requires, c.places_fit.ensures, c.size-end.ensures))
-    (c.write_blank.ensures.stopped honest (omega (arith, c.size-end.ensures)))
+    (c.write_empty_entry.ensures.stopped honest (omega (arith, c.size-end.ensures)))

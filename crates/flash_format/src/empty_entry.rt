@@ -1,16 +1,16 @@
-//! Blanks: the empty entries that describe free space.
+//! Empty entries, which describe free space.
 
 ghost use Rattle.std.specs.Prelude.{◌≡◌, ◌≤◌};
-ghost use Rattle.flash_format.specs.Blanks.{blank_header};
+ghost use Rattle.flash_format.specs.EmptyEntries.{empty_header};
 
 use crate::head::{HEADER_LENGTH, Head, NULL};
 
 /// The header of an empty entry whose cell has `cell_len` bytes. Where `kept`, as at a region's end, the space that it
 /// describes ends four bytes before the cell does. The bytes after the header are the caller's to write.
-#[tactic(auto, unfolding(crate::specs::Blanks::blank_header, crate::specs::Head::head_bytes))]
+#[tactic(auto, unfolding(crate::specs::EmptyEntries::empty_header, crate::specs::Head::head_bytes))]
 pub fn empty_header(cell_len: u32, kept: bool) -> [u8; HEADER_LENGTH]
     requires { 64 ≤ cell_len }
-    ensures { result ≡ blank_header cell_len kept }
+    ensures { result ≡ empty_header cell_len kept }
 {
     let spared = if kept { 4 } else { 0 };
     let head = Head {

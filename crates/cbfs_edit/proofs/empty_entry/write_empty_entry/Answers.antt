@@ -2,8 +2,8 @@ use Rattle.std.proofs.Common.{◌-◌, ◌+◌, ap}
 use Rattle.std.proofs.lemmas.Result.{on_ok_weaker}
 use Rattle.flash_format.specs.Head.{header_length}
 use Rattle.flash_store.proofs.DeviceLemmas.{honest_still}
-use Rattle.cbfs_edit.proofs.Blanks.{commit_stop, filled, filled_stop}
-use Rattle.cbfs_edit.proofs.blank.write_blank.Goals as goal
+use Rattle.cbfs_edit.proofs.EmptyEntries.{commit_stop, filled, filled_stop}
+use Rattle.cbfs_edit.proofs.empty_entry.write_empty_entry.Goals as goal
 
 pub returns-in_err-commit_in-clause-stopped : goal.returns-in_err-commit_in-clause-stopped
 returns-in_err-commit_in-clause-stopped g c honest whole =

@@ -1,21 +1,21 @@
--- The writes of a blank over a group: its header, then the rest.
+-- The writes of an empty entry over a group: its header, then the rest.
 use Rattle.std.proofs.Common.{◌≡◌, ◌⊎◌, inl, inr, ℕ, ◌+◌, ◌-◌, ◌%◌, ◌<◌, ◌≤◌, Bool, true, false, cond, List, ◌++◌, length, take, drop, replicate, Some, None, sym, ◌∙◌, ap, subst, refl, arith, append_assoc, length-append, length-drop}
 use Rattle.std.specs.Prelude.{slice_range, ◌==◌}
 use Rattle.std.proofs.lemmas.List.{length-replicate, take_all}
 use Rattle.std.proofs.lemmas.Bool.{eqb-false, eqb-true}
 use Rattle.flash_format.specs.Head.{header_length}
-use Rattle.flash_format.specs.Blanks.{blank_header, padding}
-use Rattle.flash_format.proofs.BlankLaws.{length-blank_header}
+use Rattle.flash_format.specs.EmptyEntries.{empty_header, padding}
+use Rattle.flash_format.proofs.EmptyEntryLaws.{length-empty_header}
 use Rattle.flash_store.specs.Bytes.{overwritten, SameOutside}
 use Rattle.flash_store.proofs.BytesLemmas.{SameOutside-overwritten, SameOutside-wider, overwritten-more_at, overwritten-front, slice_range_is}
 use Rattle.flash_store.specs.Regions.{Range, LiesIn, bytes_in}
 use Rattle.flash_store.proofs.DeviceLemmas.{length-bytes_in}
 use Rattle.cbfs_edit.specs.Groups.{IsCellRange}
 use Rattle.cbfs_edit.specs.Removals.{last_four, kept_at, removed}
-use Rattle.cbfs_edit.specs.Stops.{IsBlankStop, IsBlanked}
+use Rattle.cbfs_edit.specs.Stops.{IsEmptyStop, IsEmptied}
 use Rattle.cbfs_edit.specs.declared.group.Freed.{Freed}
-use Rattle.cbfs_edit.proofs.Blanked.{blanked-commit, blanked-write}
-use Rattle.cbfs_edit.proofs.Groups.{blanked-written}
+use Rattle.cbfs_edit.proofs.Emptied.{emptied-commit, emptied-write}
+use Rattle.cbfs_edit.proofs.Groups.{emptied-written}
 use Rattle.cbfs_edit.proofs.Kept.{is_some-cond}
 
 -- the region keeps its length where the image does
@@ -33,12 +33,12 @@ last_four-same x y at n below size same =
     let after : drop (at + m) y ≡ drop (at + m) x = (SameOutside-wider x y at n m (omega arith) same).after in
     ap (λ k. drop (k - 4) y) size ∙ rw end at after
 
--- where the space of a blank ends
+-- where the space of an empty entry ends
 abbrev pub space_end : ℕ → Bool → ℕ
 space_end end kept = cond kept (end - 4) end
 
 module _ (r : Range) (group : Freed) (old mid : List ℕ) (told : ℕ) (header : List ℕ) (lies : LiesIn r old) (in_region : IsCellRange group r.size) (is_told : told ≡ r.size)
-    (is_header : header ≡ blank_header (group.end - group.start) (group.end == told)) where
+    (is_header : header ≡ empty_header (group.end - group.start) (group.end == told)) where
   abbrev x : List ℕ
   x = bytes_in r old
 
@@ -58,25 +58,25 @@ module _ (r : Range) (group : Freed) (old mid : List ℕ) (told : ℕ) (header :
   range = subst (λ n. IsCellRange group n) (sym long) in_region
 
   header-length : length header ≡ header_length
-  header-length = ap length is_header ∙ length-blank_header (end - start) (end == told)
+  header-length = ap length is_header ∙ length-empty_header (end - start) (end == told)
 
   told_length : told ≡ length x
   told_length = is_told ∙ sym long
 
-  a_header : header ≡ blank_header (end - start) (end == length x)
-  a_header = is_header ∙ ap (λ n. blank_header (end - start) (end == n)) told_length
+  a_header : header ≡ empty_header (end - start) (end == length x)
+  a_header = is_header ∙ ap (λ n. empty_header (end - start) (end == n)) told_length
 
   after_header : start + header_length ≤ end
   after_header = omega (arith, range.some)
 
   module _ (is : y ≡ overwritten x start header) where
-    committed : IsBlanked x group y
-    committed = subst (λ (l : List ℕ). IsBlanked x group l) (sym (is ∙ ap (λ (h : List ℕ). overwritten x start h) a_header)) (blanked-commit x group after_header range.inside)
+    committed : IsEmptied x group y
+    committed = subst (λ (l : List ℕ). IsEmptied x group l) (sym (is ∙ ap (λ (h : List ℕ). overwritten x start h) a_header)) (emptied-commit x group after_header range.inside)
 
     committed_size : length y ≡ length x
-    committed_size = (blanked-written x group range y committed).same_length
+    committed_size = (emptied-written x group range y committed).same_length
 
-    pub committed_stop : IsBlankStop x group y
+    pub committed_stop : IsEmptyStop x group y
     committed_stop =
         let same : SameOutside start header_length x y =
         subst (λ (l : List ℕ). SameOutside start header_length x l) (sym is) (SameOutside-overwritten x start header_length header (omega (arith, header-length)) (omega (arith, range.some, range.inside))) in
@@ -95,12 +95,12 @@ module _ (r : Range) (group : Freed) (old mid : List ℕ) (told : ℕ) (header :
               let other : end < length x = omega (arith, range.inside, eqb-false end told e, told_length) in
               (omega (arith, range.some), omega (arith, range.some, range.end_aligned, long))
 
-      -- any change of the space that the blank describes
-      pub filled_stop : length mid ≡ length old → length now ≡ length mid → SameOutside (start + header_length) n y z → r.size % 64 ≡ 0 → IsBlankStop x group z
+      -- any change of the space that the empty entry describes
+      pub filled_stop : length mid ≡ length old → length now ≡ length mid → SameOutside (start + header_length) n y z → r.size % 64 ≡ 0 → IsEmptyStop x group z
       filled_stop mid_size now_size same whole =
           let size : length z ≡ length y = same_region_length r old mid now lies mid_size now_size in
           record {
-            bytes = inr (blanked-write x group after_header range.inside y z n committed (fits whole).0 (size ∙ committed_size) same);
+            bytes = inr (emptied-write x group after_header range.inside y z n committed (fits whole).0 (size ∙ committed_size) same);
             last_four = last_four-same y z (start + header_length) n (omega (arith, (fits whole).1, committed_size)) size same ∙ committed_stop.last_four;
           }
 
@@ -126,10 +126,10 @@ module _ (r : Range) (group : Freed) (old mid : List ℕ) (told : ℕ) (header :
           ∙ ap (λ p. overwritten x start (header ++ (replicate p 0xff ++ last_four x))) is_n
           ∙ ap (λ p. overwritten x start (header ++ (replicate (m - 4) 0xff ++ drop p (last_four x)))) (sym four)
 
-      as_blank : (b : Bool) → (end == length x) ≡ b → n ≡ space_end end b - (start + header_length) → overwritten x start (header ++ replicate n 0xff) ≡ overwritten x start (header ++ padding (end - start - header_length) (cond b (Some (last_four x)) None))
-      as_blank true e is_n =
+      as_empty : (b : Bool) → (end == length x) ≡ b → n ≡ space_end end b - (start + header_length) → overwritten x start (header ++ replicate n 0xff) ≡ overwritten x start (header ++ padding (end - start - header_length) (cond b (Some (last_four x)) None))
+      as_empty true e is_n =
           kept_bytes (end - start - header_length) (omega (arith, is_n)) refl (eqb-true end (length x) e)
-      as_blank false e is_n =
+      as_empty false e is_n =
           let all : n ≡ end - start - header_length = omega (arith, is_n) in
           ap (λ p. overwritten x start (header ++ replicate p 0xff)) all
 
@@ -137,11 +137,11 @@ module _ (r : Range) (group : Freed) (old mid : List ℕ) (told : ℕ) (header :
       pub filled : z ≡ overwritten y (start + header_length) (replicate n 0xff) → z ≡ removed x group
       filled at =
           filled_bytes at
-          ∙ as_blank (end == length x) refl (to ∙ ap (λ p. space_end end (end == p) - (start + header_length)) told_length)
+          ∙ as_empty (end == length x) refl (to ∙ ap (λ p. space_end end (end == p) - (start + header_length)) told_length)
           ∙ ap (λ (h : List ℕ). overwritten x start (h ++ padding (end - start - header_length) (kept_at x end))) a_header
-          ∙ ap (λ b. overwritten x start (blank_header (end - start) b ++ padding (end - start - header_length) (kept_at x end))) (sym (is_some-cond (end == length x) (last_four x)))
+          ∙ ap (λ b. overwritten x start (empty_header (end - start) b ++ padding (end - start - header_length) (kept_at x end))) (sym (is_some-cond (end == length x) (last_four x)))
 
   -- a commit that was refused is whole or absent
-  pub commit_stop : (y ≡ x) ⊎ (y ≡ overwritten x start header) → IsBlankStop x group y
+  pub commit_stop : (y ≡ x) ⊎ (y ≡ overwritten x start header) → IsEmptyStop x group y
   commit_stop (inl same) = record { bytes = inl same; last_four = ap (λ (l : List ℕ). last_four l) same }
   commit_stop (inr is) = committed_stop is

@@ -1,4 +1,4 @@
--- A blank's header in front of anything is a free cell.
+-- An empty entry's header in front of anything is a free cell.
 use Rattle.std.proofs.Common.{◌≡◌, ℕ, ◌+◌, ◌-◌, ◌%◌, ◌^◌, ◌<◌, ◌≤◌, Bool, true, false, cond, List, ◌++◌, length, replicate, Some, None, Result, Ok, refl, sym, ap, ◌∙◌, arith, append_assoc, length-append, lit<}
 use Rattle.std.proofs.lemmas.Bool.{le-ltb}
 use Rattle.std.proofs.lemmas.List.{take_at}
@@ -6,7 +6,7 @@ use Rattle.flash_format.specs.declared.head.Head.{Head}
 use Rattle.flash_format.specs.declared.head.Extent.{Extent}
 use Rattle.flash_format.specs.declared.head.DamageKind.{DamageKind}
 use Rattle.flash_format.specs.Head.{header_length, head_of, head_at, head_bytes, has_magic, is_free, checked, round64}
-use Rattle.flash_format.specs.Blanks.{blank_header}
+use Rattle.flash_format.specs.EmptyEntries.{empty_header}
 use Rattle.flash_format.specs.Entry.{cell, entry, present}
 use Rattle.flash_format.proofs.Fronts.{head_at-take}
 use Rattle.flash_format.proofs.EntryLaws.{from_head, present_by}
@@ -52,10 +52,10 @@ free_entry h more size free offset fits full whole small kind_fits attributes_fi
       ap (λ (k : Head). is_free k) (head_is x h head) ∙ free,
     )
 
-pub blank_header-cell : (size : ℕ) (kept : Bool) (more : List ℕ) → 64 ≤ size → size % 64 ≡ 0 → size < 2 ^ 32 → header_length + length more ≡ size
-    → (entry (blank_header size kept ++ more) ≡ cell size) × (is_free (head_of (blank_header size kept ++ more)) ≡ true)
-unfolding blank_header
-blank_header-cell size kept more some whole small long = by_kept kept
+pub empty_header-cell : (size : ℕ) (kept : Bool) (more : List ℕ) → 64 ≤ size → size % 64 ≡ 0 → size < 2 ^ 32 → header_length + length more ≡ size
+    → (entry (empty_header size kept ++ more) ≡ cell size) × (is_free (head_of (empty_header size kept ++ more)) ≡ true)
+unfolding empty_header
+empty_header-cell size kept more some whole small long = by_kept kept
   where
     at_most : (n : ℕ) → n ≤ 4 → let h : Head = record { len = size - header_length - n; kind = 0xffffffff; attributes_offset = 0; offset = header_length } in
         let x : List ℕ = head_bytes h ++ replicate (header_length - 24) 0 ++ more in
@@ -72,6 +72,6 @@ blank_header-cell size kept more some whole small long = by_kept kept
     by_kept true = at_most 4 (omega arith)
     by_kept false = at_most 0 (omega arith)
 
-pub length-blank_header : (size : ℕ) (kept : Bool) → length (blank_header size kept) ≡ header_length
-unfolding blank_header head_bytes
-length-blank_header size kept = refl
+pub length-empty_header : (size : ℕ) (kept : Bool) → length (empty_header size kept) ≡ header_length
+unfolding empty_header head_bytes
+length-empty_header size kept = refl

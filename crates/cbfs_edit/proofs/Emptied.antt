@@ -2,11 +2,11 @@
 use Rattle.std.proofs.Common.{◌≡◌, ℕ, ◌+◌, ◌-◌, ◌≤◌, List, length, sym, ◌∙◌, subst, arith}
 use Rattle.std.specs.Prelude.{slice_range, ◌==◌}
 use Rattle.flash_format.specs.Head.{header_length}
-use Rattle.flash_format.specs.Blanks.{blank_header}
-use Rattle.flash_format.proofs.BlankLaws.{length-blank_header}
+use Rattle.flash_format.specs.EmptyEntries.{empty_header}
+use Rattle.flash_format.proofs.EmptyEntryLaws.{length-empty_header}
 use Rattle.flash_store.specs.Bytes.{overwritten, SameOutside}
 use Rattle.flash_store.proofs.BytesLemmas.{SameOutside-overwritten, SameOutside-wider, overwritten-more_at, length-overwritten, length-slice_range, overwritten-front, changed-overwritten}
-use Rattle.cbfs_edit.specs.Stops.{IsBlanked}
+use Rattle.cbfs_edit.specs.Stops.{IsEmptied}
 use Rattle.cbfs_edit.specs.declared.group.Freed.{Freed}
 
 module _ (x : List ℕ) (group : Freed) (some : group.start + header_length ≤ group.end) (inside : group.end ≤ length x) where
@@ -14,17 +14,17 @@ module _ (x : List ℕ) (group : Freed) (some : group.start + header_length ≤ 
   start = group.start
 
   abbrev header : List ℕ
-  header = blank_header (group.end - group.start) (group.end == length x)
+  header = empty_header (group.end - group.start) (group.end == length x)
 
   abbrev room : ℕ
   room = group.end - group.start - header_length
 
   header-length : length header ≡ header_length
-  header-length = length-blank_header (group.end - group.start) (group.end == length x)
+  header-length = length-empty_header (group.end - group.start) (group.end == length x)
 
   -- the commit of the header
-  pub blanked-commit : IsBlanked x group (overwritten x start header)
-  blanked-commit =
+  pub emptied-commit : IsEmptied x group (overwritten x start header)
+  emptied-commit =
       let old : List ℕ = slice_range x (start + header_length) (start + header_length + room) in
       record {
         more = old;
@@ -33,8 +33,8 @@ module _ (x : List ℕ) (group : Freed) (some : group.start + header_length ≤ 
       }
 
   -- one clause serves every write after it
-  pub blanked-write : (y z : List ℕ) (n : ℕ) → IsBlanked x group y → start + header_length + n ≤ group.end → length z ≡ length x → SameOutside (start + header_length) n y z → IsBlanked x group z
-  blanked-write y z n is fits size same =
+  pub emptied-write : (y z : List ℕ) (n : ℕ) → IsEmptied x group y → start + header_length + n ≤ group.end → length z ≡ length x → SameOutside (start + header_length) n y z → IsEmptied x group z
+  emptied-write y z n is fits size same =
       let bare : List ℕ = overwritten x start header in
       let bare_size : length bare ≡ length x = length-overwritten x start header (omega (arith, header-length, some, inside)) in
       let again : y ≡ overwritten bare (start + header_length) is.more = is.bytes ∙ sym (overwritten-more_at x start header_length header is.more header-length (omega (arith, some, inside))) in

@@ -1,4 +1,4 @@
-//! One blank in place of a group of cells.
+//! One empty entry in place of a group of cells.
 ghost use Rattle.std.specs.Prelude.{◌≡◌, ◌+◌, ◌-◌, ◌/◌, ◌%◌, ◌<◌, ◌≤◌, OnOk, OnErr, if◌then◌else◌};
 ghost use Rattle.flash_store.specs.Device.{refusals};
 ghost use Rattle.flash_store.specs.Pages.{HasChanged};
@@ -6,15 +6,15 @@ ghost use Rattle.flash_store.specs.Regions.{LiesIn};
 ghost use Rattle.cbfs_edit.specs.Changes.{OnHonestChange};
 ghost use Rattle.cbfs_edit.specs.Groups.{IsCellRange};
 ghost use Rattle.cbfs_edit.specs.Removals.{removed};
-ghost use Rattle.cbfs_edit.specs.Stops.{IsBlankStop};
+ghost use Rattle.cbfs_edit.specs.Stops.{IsEmptyStop};
 
 use crate::group::Freed;
 use crate::write::{commit_in, fill_in};
 use flash_format::{HEADER_LENGTH, empty_header};
 use flash_store::{Flash, FlashFault, Paged, Region};
 
-/// Puts one blank in place of a group. Its header is committed before anything else is written.
-pub fn write_blank<F: Flash>(
+/// Puts one empty entry in place of a group. Its header is committed before anything else is written.
+pub fn write_empty_entry<F: Flash>(
     paged: &mut Paged<F>,
     region: Region,
     group: Freed,
@@ -28,7 +28,7 @@ pub fn write_blank<F: Flash>(
     // On an honest device.
     ensures removed { OnHonestChange F.facts region paged.old paged.new (λ x y. OnOk result (y ≡ removed x group)) }
     ensures stopped { OnHonestChange F.facts region paged.old paged.new (λ x y.
-        region.size % 64 ≡ 0 → IsBlankStop x group y) }
+        region.size % 64 ≡ 0 → IsEmptyStop x group y) }
 {
     paged.places_fit();
     let kept = group.end == region.size();
