@@ -15,7 +15,7 @@ use Rattle.image_check.specs.declared.plan.Choice.{Choice}
 use Rattle.image_check.specs.declared.plan.Choice.TheVariants.{Look, Skip}
 use Rattle.image_check.specs.declared.plan.Plan.{Plan}
 use Rattle.image_check.specs.ImageFindings.{Looked, range_of, bytes_of, look, look_if_wanted, looked}
-use Rattle.image_check.specs.Plans.{told_of, told_before, IsPlanOf, Descend}
+use Rattle.image_check.specs.Plans.{told_of, told_before, looked_area, areas_before, IsPlanOf, Descend}
 
 -- ---- one choice more
 
@@ -23,19 +23,23 @@ pub told_before-more : (image : List ℕ) (choices : List Choice) (c : Choice) (
 told_before-more image [] c later = refl
 told_before-more image (d ∷ choices) c later = told_before-more image choices c (told_of image d ∷ later)
 
-pub Descend-more : (end : ℕ) (choices : List Choice) (a : NumberedArea) (r : Range) (at : ℕ) → r.start + r.size ≤ at → Descend end choices at → Descend end (choices ++ Look a r ∷ []) r.start
-Descend-more end [] a r at above d = let fits : r.start + r.size ≤ end = omega arith in let same : r.start ≤ r.start = omega arith in (fits, same)
-Descend-more end (Look b s ∷ choices) a r at above d = (d.0, Descend-more s.start choices a r at above d.1)
-Descend-more end (Skip b ∷ choices) a r at above d = Descend-more end choices a r at above d
+pub areas_before-more : (choices : List Choice) (c : Choice) (later : List NumberedArea) → areas_before (choices ++ c ∷ []) later ≡ looked_area c ++ areas_before choices later
+areas_before-more [] c later = refl
+areas_before-more (d ∷ choices) c later = areas_before-more choices c (looked_area d ++ later)
+
+pub Descend-more : (end : ℕ) (choices : List Choice) (a : NumberedArea) (r : Range) (at : ℕ) → r ≡ range_of a → r.start + r.size ≤ at → Descend end choices at → Descend end (choices ++ Look a r ∷ []) r.start
+Descend-more end [] a r at is above d = let fits : r.start + r.size ≤ end = omega arith in let same : r.start ≤ r.start = omega arith in (fits, same, is)
+Descend-more end (Look b s ∷ choices) a r at is above d = (d.0, Descend-more s.start choices a r at is above d.1, d.2)
+Descend-more end (Skip b ∷ choices) a r at is above d = Descend-more end choices a r at is above d
 
 pub Descend-skip : (end : ℕ) (choices : List Choice) (a : NumberedArea) (at : ℕ) → Descend end choices at → Descend end (choices ++ Skip a ∷ []) at
 Descend-skip end [] a at d = d
-Descend-skip end (Look b s ∷ choices) a at d = (d.0, Descend-skip s.start choices a at d.1)
+Descend-skip end (Look b s ∷ choices) a at d = (d.0, Descend-skip s.start choices a at d.1, d.2)
 Descend-skip end (Skip b ∷ choices) a at d = Descend-skip end choices a at d
 
 pub Descend-below : (end : ℕ) (choices : List Choice) (at low : ℕ) → low ≤ at → Descend end choices at → Descend end choices low
 Descend-below end [] at low le d = let fits : low ≤ end = omega arith in fits
-Descend-below end (Look b s ∷ choices) at low le d = (d.0, Descend-below s.start choices at low le d.1)
+Descend-below end (Look b s ∷ choices) at low le d = (d.0, Descend-below s.start choices at low le d.1, d.2)
 Descend-below end (Skip b ∷ choices) at low le d = Descend-below end choices at low le d
 
 -- ---- one area more
@@ -70,7 +74,7 @@ descend_look end choices next a r at start d pushed range is fits =
     let begin : r.start ≡ a.area.offset = ap (λ (k : Range). k.start) range in
     let size : r.size ≡ a.area.size = ap (λ (k : Range). k.size) range in
     let same : r.start ≡ start = omega arith in
-    rw pushed (subst (λ k. Descend end (choices ++ Look a r ∷ []) k) same (Descend-more end choices a r at (omega arith) d))
+    rw pushed (subst (λ k. Descend end (choices ++ Look a r ∷ []) k) same (Descend-more end choices a r at range (omega arith) d))
 
 -- ---- the loop
 

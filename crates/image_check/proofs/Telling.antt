@@ -1,8 +1,12 @@
 -- What is told by the choices of a plan, one taken after the other.
-use Rattle.std.proofs.Common.{◌≡◌, ◌∙◌, ℕ, ◌+◌, ◌-◌, ◌*◌, ◌/◌, ◌≤◌, List, [], ◌∷◌, ◌++◌, length, refl, sym, ap, subst, arith, append_assoc, append-nil, length-append}
+use Rattle.std.proofs.Common.{◌≡◌, ◌∙◌, ℕ, ◌+◌, ◌-◌, ◌*◌, ◌/◌, ◌≤◌, Bool, true, false, cond, List, [], ◌∷◌, ◌++◌, length, refl, sym, ap, subst, arith, append_assoc, append-nil, length-append}
 use Rattle.std.specs.Prelude.{map, Result, Ok, Err, IsErrAnd}
+use Rattle.std.specs.List.{list_any}
+use Rattle.std.proofs.lemmas.Grind.{flat_map-append}
+use Rattle.flash_format.specs.Flashmap.{is_area}
 use Rattle.flash_store.specs.Device.{Device, faults_told}
 use Rattle.flash_store.specs.Pages.{Pages, HasRead, OnHonest}
+use Rattle.flash_store.specs.Regions.{Range}
 use Rattle.flash_store.proofs.DeviceLemmas.{honest_still}
 use Rattle.flash_store.proofs.WindowLemmas.{HasRead-none, HasRead-then, HasRead-within}
 use Rattle.flashmap_check.specs.declared.finding.MapFinding.{MapFinding}
@@ -10,13 +14,14 @@ use Rattle.flashmap_check.specs.declared.finding.NumberedArea.{NumberedArea}
 use Rattle.flashmap_check.specs.MapFindings.{map_findings, image_areas}
 use Rattle.image_check.specs.declared.fault.ImageCheckFault.{ImageCheckFault}
 use Rattle.image_check.specs.declared.finding.ImageFinding.{ImageFinding}
-use Rattle.image_check.specs.declared.finding.ImageFinding.TheVariants.{Map}
+use Rattle.image_check.specs.declared.finding.ImageFinding.TheVariants.{Map, NoRegion}
 use Rattle.image_check.specs.declared.plan.Choice.{Choice}
 use Rattle.image_check.specs.declared.plan.Choice.TheVariants.{Look, Skip}
 use Rattle.image_check.specs.Faults.{by_device}
-use Rattle.image_check.specs.ImageFindings.{looked, names_findings, image_findings}
-use Rattle.image_check.specs.Plans.{told_of, told_before, Descend, LiesBelow, calls_of}
-use Rattle.image_check.proofs.Planning.{told_before-more}
+use Rattle.image_check.specs.ImageFindings.{looked, name_findings, names_findings, image_findings}
+use Rattle.image_check.specs.Plans.{told_of, told_before, looked_area, areas_before, Descend, LiesBelow, calls_of}
+use Rattle.image_check.specs.RegionAreas.{region_area, region_areas, LieInOrder}
+use Rattle.image_check.proofs.Planning.{told_before-more, areas_before-more}
 
 -- where what is left may begin, once this is looked at
 abbrev pub place_after : ℕ → Choice → ℕ
@@ -30,7 +35,7 @@ LiesBelow-within low end (Skip a) le lies = tt
 pub Descend-rest : (end : ℕ) (choices : List Choice) (c : Choice) (at : ℕ) → Descend end (choices ++ c ∷ []) at → Descend end choices (place_after at c)
 Descend-rest end [] (Look a r) at d = d.0
 Descend-rest end [] (Skip a) at d = d
-Descend-rest end (Look b s ∷ choices) c at d = (d.0, Descend-rest s.start choices c at d.1)
+Descend-rest end (Look b s ∷ choices) c at d = (d.0, Descend-rest s.start choices c at d.1, d.2)
 Descend-rest end (Skip b ∷ choices) c at d = Descend-rest end choices c at d
 
 pub Descend-lies : (end : ℕ) (choices : List Choice) (c : Choice) (at : ℕ) → Descend end (choices ++ c ∷ []) at → LiesBelow end c
@@ -55,6 +60,26 @@ pub handed : {T : Type 0} (answer : Result T ImageCheckFault) (fault : ImageChec
 handed (Ok done) fault is = absurd is
 handed (Err other) fault is = ap by_device is
 
+-- where what is looked at descends, its areas lie in order
+LieInOrder-from : (low at end : ℕ) (areas : List NumberedArea) → low ≤ at → LieInOrder at end areas → LieInOrder low end areas
+LieInOrder-from low at end [] le lie = let fits : low ≤ end = omega arith in fits
+LieInOrder-from low at end (a ∷ areas) le lie = let fits : low ≤ a.area.offset = omega (arith, lie.0) in (fits, lie.1)
+
+pub Descend-lie : (mid : ℕ) (choices : List Choice) (at end : ℕ) (later : List NumberedArea) → Descend mid choices at → LieInOrder mid end later → LieInOrder at end (areas_before choices later)
+Descend-lie mid [] at end later d lie = LieInOrder-from at mid end later d lie
+Descend-lie mid (Look a r ∷ choices) at end later d lie =
+    let begin : r.start ≡ a.area.offset = ap (λ (k : Range). k.start) d.2 in
+    let size : r.size ≡ a.area.size = ap (λ (k : Range). k.size) d.2 in
+    let starts : r.start ≤ a.area.offset = omega arith in
+    let ends : a.area.offset + a.area.size ≤ mid = omega (arith, d.0) in
+    Descend-lie r.start choices at end (a ∷ later) d.1 (starts, LieInOrder-from (a.area.offset + a.area.size) mid end later ends lie)
+Descend-lie mid (Skip a ∷ choices) at end later d lie = Descend-lie mid choices at end later d lie
+
+pub length-areas_before : (choices : List Choice) (later : List NumberedArea) → length (areas_before choices later) ≤ length choices + length later
+length-areas_before [] later = omega arith
+length-areas_before (Look a r ∷ choices) later = let rest = length-areas_before choices (a ∷ later) in omega (arith, rest)
+length-areas_before (Skip a ∷ choices) later = let rest = length-areas_before choices later in omega (arith, rest)
+
 -- ---- the loop
 
 -- these choices are left of all
@@ -63,6 +88,7 @@ pub record Checking {F : Type 0} (facts : F → Device) (all choices : List Choi
   pub descend : Descend (length (facts old.device).content) choices at
   pub fewer : length choices ≤ length all
   pub read : HasRead facts (at / 16 + 2 * (length all - length choices)) 0 old now
+  pub areas : region_areas findings ++ areas_before choices [] ≡ region_areas before ++ areas_before all []
   pub told : OnHonest facts old.device (λ image. findings ++ told_before image choices [] ≡ before ++ told_before image all [])
 
 pub checking_start : {F : Type 0} (facts : F → Device) (all : List Choice) (before : List ImageFinding) (old : Pages F) → Descend (length (facts old.device).content) all 0 → Checking facts all all before before old old
@@ -71,6 +97,7 @@ checking_start facts all before old descend = record {
   descend = descend;
   fewer = omega arith;
   read = HasRead-within facts 0 (0 / 16 + 2 * (length all - length all)) 0 old old (omega arith) (HasRead-none facts old);
+  areas = refl;
   told = λ h. refl;
 }
 
@@ -92,13 +119,19 @@ module _ {F : Type 0} (facts : F → Device) (all choices rest : List Choice) (c
       HasRead-within facts (i.at / 16 + 2 * (length all - length choices) + calls_of c) _ refused old new (omega (arith, few, ends, one, i.fewer)) (HasRead-then facts _ _ refused old now new i.read reads)
 
   pub checking_more : (finding : ImageFinding) (next : List ImageFinding) (new : Pages F) → HasRead facts (calls_of c) 0 now new
-      → OnHonest facts now.device (λ image. finding ≡ told_of image c) → next ≡ findings ++ finding ∷ []
+      → region_area finding ≡ looked_area c → OnHonest facts now.device (λ image. finding ≡ told_of image c) → next ≡ findings ++ finding ∷ []
       → Checking facts all rest before next old new
-  checking_more finding next new reads tells pushed = record {
+  checking_more finding next new reads looked tells pushed = record {
     at = place_after i.at c;
     descend = Descend-rest _ rest c i.at descend;
     fewer = omega (arith, one, i.fewer);
     read = HasRead-within facts (i.at / 16 + 2 * (length all - length choices) + calls_of c) _ 0 old new (omega (arith, Descend-calls _ rest c i.at descend, one, i.fewer)) (HasRead-then facts _ _ 0 old now new i.read reads);
+    areas =
+        let later = areas_before rest [] in
+        ap (λ (l : List NumberedArea). l ++ later) (ap region_areas pushed ∙ flat_map-append region_area findings (finding ∷ []) ∙ ap (λ (l : List NumberedArea). region_areas findings ++ l) (append-nil (region_area finding) ∙ looked))
+        ∙ append_assoc (region_areas findings) (looked_area c) later
+        ∙ ap (λ (l : List NumberedArea). region_areas findings ++ l) (sym (areas_before-more rest c []) ∙ ap (λ (l : List Choice). areas_before l []) (sym popped))
+        ∙ i.areas;
     told = λ h.
         let image = (facts old.device).content in
         let same = i.read.device.unchanged h in
@@ -116,6 +149,13 @@ module _ {F : Type 0} (facts : F → Device) (all choices : List Choice) (before
   pub checked_reads : HasRead facts (length (facts old.device).content / 16 + 2 * length all) 0 old now
   checked_reads = HasRead-within facts (i.at / 16 + 2 * (length all - length choices)) _ 0 old now (omega (arith, Descend-ends _ choices i.at i.descend)) i.read
 
+  pub checked_areas : region_areas findings ≡ region_areas before ++ areas_before all []
+  checked_areas = sym (append-nil (region_areas findings)) ∙ ap (λ (l : List NumberedArea). region_areas findings ++ l) (sym (empty choices none)) ∙ i.areas
+    where
+      empty : (l : List Choice) → length l ≡ 0 → areas_before l [] ≡ []
+      empty [] e = refl
+      empty (c ∷ l) e = absurd (omega arith)
+
   pub checked_all : OnHonest facts old.device (λ image. findings ≡ before ++ told_before image all [])
   checked_all = λ h. sym (append-nil findings) ∙ ap (λ (l : List ImageFinding). findings ++ l) (sym (empty choices none _)) ∙ i.told h
     where
@@ -124,6 +164,33 @@ module _ {F : Type 0} (facts : F → Device) (all choices : List Choice) (before
       empty (c ∷ l) e image = absurd (omega arith)
 
 -- ---- the whole
+
+no_map_areas : (told : List MapFinding) → region_areas (map Map told) ≡ []
+no_map_areas [] = refl
+no_map_areas (finding ∷ told) = no_map_areas told
+
+no_name_area : (number : ℕ) (b : Bool) → region_areas (cond b [] (NoRegion number ∷ [])) ≡ []
+no_name_area number true = refl
+no_name_area number false = refl
+
+no_name_areas : (areas : List NumberedArea) (number : ℕ) (names : List (List ℕ)) → region_areas (names_findings areas number names) ≡ []
+no_name_areas areas number [] = refl
+no_name_areas areas number (name ∷ names) =
+    flat_map-append region_area (name_findings areas number name) (names_findings areas (number + 1) names)
+    ∙ ap (λ (l : List NumberedArea). l ++ region_areas (names_findings areas (number + 1) names)) (no_name_area number (list_any (λ a. is_area name a.area) areas))
+    ∙ no_name_areas areas (number + 1) names
+
+-- the areas that are told as regions are those that were looked at
+pub region_areas-looked : (of_map : List MapFinding) (areas : List NumberedArea) (names : List (List ℕ)) (choices : List Choice) (first second all : List ImageFinding)
+    → first ≡ map Map of_map → region_areas second ≡ region_areas first ++ areas_before choices [] → all ≡ second ++ names_findings areas 0 names → region_areas all ≡ areas_before choices []
+region_areas-looked of_map areas names choices first second all is same last =
+    let looked = areas_before choices [] in
+    ap region_areas last
+    ∙ flat_map-append region_area second (names_findings areas 0 names)
+    ∙ ap (λ (l : List NumberedArea). region_areas second ++ l) (no_name_areas areas 0 names)
+    ∙ append-nil (region_areas second)
+    ∙ same
+    ∙ ap (λ (l : List NumberedArea). l ++ looked) (ap region_areas is ∙ no_map_areas of_map)
 
 pub told-image : (image : List ℕ) (names : List (List ℕ)) (of_map : List MapFinding) (areas again : List NumberedArea) (choices : List Choice) (first second all : List ImageFinding)
     → first ≡ map Map of_map → of_map ≡ map_findings image → told_before image choices [] ≡ (looked image names areas).findings → areas ≡ image_areas image → again ≡ image_areas image

@@ -1,13 +1,14 @@
 -- What a plan says of the last areas of a map.
-use Rattle.std.specs.Prelude.{◌≡◌, ℕ, ◌+◌, ◌/◌, ◌≤◌, List, [], ◌∷◌}
+use Rattle.std.specs.Prelude.{◌≡◌, ℕ, ◌+◌, ◌/◌, ◌≤◌, List, [], ◌∷◌, ◌++◌}
 use Rattle.flash_store.specs.Regions.{bytes_in}
+use Rattle.flashmap_check.specs.declared.finding.NumberedArea.{NumberedArea}
 use Rattle.cbfs_check.specs.RegionFindings.{region_findings}
 use Rattle.image_check.specs.declared.finding.ImageFinding.{ImageFinding}
 use Rattle.image_check.specs.declared.finding.ImageFinding.TheVariants.{Skipped, Region}
 use Rattle.image_check.specs.declared.plan.Choice.{Choice}
 use Rattle.image_check.specs.declared.plan.Choice.TheVariants.{Look, Skip}
 use Rattle.image_check.specs.declared.plan.Plan.{Plan}
-use Rattle.image_check.specs.ImageFindings.{Looked}
+use Rattle.image_check.specs.ImageFindings.{Looked, range_of}
 
 -- what an area tells of which so much is decided
 abbrev pub told_of : List ℕ → Choice → ImageFinding
@@ -24,10 +25,20 @@ pub record IsPlanOf (image : List ℕ) (plan : Plan) (later : Looked) : Type 0 w
   pub told : told_before image plan.choices.items [] ≡ later.findings
   pub lowest : plan.lowest ≡ later.lowest
 
--- what is looked at lies one before the other, below an end and not below a place
+-- the area that is looked at
+abbrev pub looked_area : Choice → List NumberedArea
+looked_area (Look a region) = a ∷ []
+looked_area (Skip a) = []
+
+-- those of these from the last one on, before others
+abbrev pub areas_before : List Choice → List NumberedArea → List NumberedArea
+areas_before [] later = later
+areas_before (c ∷ choices) later = areas_before choices (looked_area c ++ later)
+
+-- what is looked at lies one before the other, below an end and not below a place, and each region is its area
 abbrev pub Descend : ℕ → List Choice → ℕ → Type 0
 Descend end [] at = at ≤ end
-Descend end (Look a region ∷ choices) at = (region.start + region.size ≤ end) × Descend region.start choices at
+Descend end (Look a region ∷ choices) at = (region.start + region.size ≤ end) × Descend region.start choices at × (region ≡ range_of a)
 Descend end (Skip a ∷ choices) at = Descend end choices at
 
 -- it lies inside an image of so many bytes

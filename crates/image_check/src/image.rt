@@ -1,13 +1,16 @@
 //! The check of an image.
 ghost use Rattle.std.specs.Prelude.{◌≡◌, ℕ, ◌+◌, ◌*◌, ◌/◌, ◌≤◌, [], ◌∷◌, ◌++◌, length, map, ◌||◌, OnOk, IfOk};
+ghost use Rattle.flash_format.specs.Flashmap.{area_len};
 ghost use Rattle.flash_store.specs.Device.{faults_told};
 ghost use Rattle.flash_store.specs.Pages.{HasRead, HasAnswered, OnHonest, OnHonestIn};
 ghost use Rattle.flash_store.specs.Regions.{LiesIn};
+ghost use Rattle.flashmap_check.specs.MapFindings.{image_areas};
 ghost use Rattle.image_check.specs.declared.finding.ImageFinding.TheVariants.{Map};
 ghost use Rattle.image_check.specs.Faults.{by_device};
 ghost use Rattle.cbfs_check.specs.RegionFindings.{begins_with_entry};
 ghost use Rattle.image_check.specs.ImageFindings.{Looked, has_one_of, look_if_wanted, looked, image_findings};
-ghost use Rattle.image_check.specs.Plans.{IsPlanOf, Descend, LiesBelow, told_of, told_before, calls_of};
+ghost use Rattle.image_check.specs.Plans.{IsPlanOf, Descend, LiesBelow, told_of, told_before, looked_area, areas_before, calls_of};
+ghost use Rattle.image_check.specs.RegionAreas.{region_area, region_areas, LieInOrder};
 
 use crate::fault::ImageCheckFault;
 use crate::finding::{ImageFinding, RegionFindings};
@@ -93,6 +96,7 @@ fn check_choice<F: Flash>(
     requires { LiesBelow (length (F.facts paged.old.device).content) choice }
 
     ensures after { HasRead F.facts (calls_of choice) (faults_told by_device result) paged.old paged.new }
+    ensures area { IfOk result (λ finding. region_area finding ≡ looked_area choice) }
     ensures told { OnHonest F.facts paged.old.device (λ image. IfOk result (λ finding. finding ≡ told_of image choice)) }
 {
     match choice {
@@ -124,6 +128,8 @@ fn check_planned<F: Flash>(
 
     ensures after { HasRead F.facts (length (F.facts paged.old.device).content / 16 + 2 * length choices.items)
         (faults_told by_device result) paged.old paged.new }
+    ensures areas { OnOk result (region_areas findings.new.items
+        ≡ region_areas findings.old.items ++ areas_before choices.items []) }
     ensures told { OnHonest F.facts paged.old.device (λ image. OnOk result
         (findings.new.items ≡ findings.old.items ++ told_before image choices.items [])) }
 {
@@ -146,6 +152,45 @@ fn map_part(alloc: Global, told: &[MapFinding]) -> Result<Vec<ImageFinding>, All
     Ok(findings)
 }
 
+/// The areas of an image's map, and all that is told of the image.
+#[derive(Debug, Drop)]
+pub struct CheckedImage {
+    /// All areas of the map, in its order; none where the image has no map.
+    pub areas: Vec<NumberedArea>,
+    pub findings: Vec<ImageFinding>,
+}
+
+/// What `check_image` tells, and the areas with it, for which the map is read once.
+pub fn checked_image<F: Flash>(
+    alloc: Global,
+    paged: &mut Paged<F>,
+    names: &[&[u8]],
+) -> Result<CheckedImage, ImageCheckFault>
+    // On any device.
+    ensures after { HasRead F.facts (2 * length (F.facts paged.old.device).content + 64)
+        (faults_told by_device result) paged.old paged.new }
+    ensures order { IfOk result (λ checked.
+        LieInOrder 0 (length (F.facts paged.old.device).content) (region_areas checked.findings.items)) }
+    ensures fits { IfOk result (λ checked.
+        area_len * length (region_areas checked.findings.items) ≤ length (F.facts paged.old.device).content) }
+
+    // On an honest device.
+    ensures findings { OnHonest F.facts paged.old.device (λ image. IfOk result (λ checked.
+        checked.findings.items ≡ image_findings image (map (λ n. n.now) names.now))) }
+    ensures areas { OnHonest F.facts paged.old.device (λ image. IfOk result (λ checked.
+        checked.areas.items ≡ image_areas image)) }
+{
+    let map = checked_map(alloc, paged)?;
+    let mut findings = map_part(alloc, &map.findings)?;
+    let choices = planned(alloc, paged, names, &map.areas)?;
+    check_planned(alloc, paged, choices, &mut findings)?;
+    push_missing(&mut findings, names, &map.areas)?;
+    Ok(CheckedImage {
+        areas: map.areas,
+        findings,
+    })
+}
+
 /// All that is told of an image: of its flashmap, of each area in it that has one of the names or begins with an entry, in
 /// the map's order, and of each name that no area has.
 /// `Device` comes exactly where the device refused a read, and `Memory` where an allocation was refused; then nothing is
@@ -163,10 +208,6 @@ pub fn check_image<F: Flash>(
     ensures findings { OnHonest F.facts paged.old.device (λ image. IfOk result (λ findings.
         findings.items ≡ image_findings image (map (λ n. n.now) names.now))) }
 {
-    let map = checked_map(alloc, paged)?;
-    let mut findings = map_part(alloc, &map.findings)?;
-    let choices = planned(alloc, paged, names, &map.areas)?;
-    check_planned(alloc, paged, choices, &mut findings)?;
-    push_missing(&mut findings, names, &map.areas)?;
-    Ok(findings)
+    let checked = checked_image(alloc, paged, names)?;
+    Ok(checked.findings)
 }

@@ -13,6 +13,6 @@ mod verdict;
 
 pub use fault::ImageCheckFault;
 pub use finding::{ImageFinding, RegionFindings};
-pub use image::check_image;
+pub use image::{CheckedImage, check_image, checked_image};
 pub use laws::fit_regions_lose_nothing;
 pub use verdict::{has_bad, is_bad, is_bad_map, is_bad_region};

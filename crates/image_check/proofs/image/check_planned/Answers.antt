@@ -11,7 +11,7 @@ returns-in_err-finding-clause-after g c =
 
 pub loop-choice-preserved : goal.loop-choice-preserved
 loop-choice-preserved g c =
-    checking_more g.F.Flash.facts _ _ c.pop.new.self.items c.in-Some.choice _ _ _ _ c.loop-choice.invariant c.in-Some.ensures.items _ _ _ c.in_ok-finding.ensures.after c.in_ok-finding.ensures.told c.in_ok-push.ensures
+    checking_more g.F.Flash.facts _ _ c.pop.new.self.items c.in-Some.choice _ _ _ _ c.loop-choice.invariant c.in-Some.ensures.items _ _ _ c.in_ok-finding.ensures.after c.in_ok-finding.ensures.area c.in_ok-finding.ensures.told c.in_ok-push.ensures
 
 pub returns-in_err-push-clause-after : goal.returns-in_err-push-clause-after
 returns-in_err-push-clause-after g c =
