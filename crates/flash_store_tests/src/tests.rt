@@ -7,7 +7,8 @@ use flash_store::{
 };
 use std::alloc::{AllocError, Global};
 use std::fmt::Debug;
-use std::fs::{File, OpenOptions};
+use std::fs::{File, OpenOptions, Permissions};
+use std::os::unix::fs::PermissionsExt;
 use std::process::Abort;
 use std::rt::Files;
 use std::{fs, io};
@@ -609,14 +610,12 @@ fn first_and_last<F: Flash>(rt: &impl Abort, device: &mut F) -> [bool; 2] {
     [first, last]
 }
 
-fn opened(
-    rt: &impl Files<File = File>,
-    path: &str,
-) -> (Result<u64, OpenFault>, Result<u64, OpenFault>) {
-    (
+fn opened(rt: &impl Files<File = File>, path: &str) -> [Result<u64, OpenFault>; 3] {
+    [
         FileFlash::open(rt, path).map(|device| device.len()),
+        FileFlash::open_to_read(rt, path).map(|device| device.len()),
         FileSource::open(rt, path).map(|source| source.len()),
-    )
+    ]
 }
 
 #[test]
@@ -626,12 +625,12 @@ fn files_are_opened_by_their_length(rt: HostRuntime) {
     open_sparse(&rt, 1 << 32, Err(OpenFault::TooLarge));
     remove(&rt, "sparse.bin");
     let failed = Err(OpenFault::Failed);
-    equal(&rt, &opened(&rt, "absent.bin"), &(failed, failed));
+    equal(&rt, &opened(&rt, "absent.bin"), &[failed; 3]);
 }
 
 fn open_sparse(rt: &(impl Abort + Files<File = File>), len: u64, answer: Result<u64, OpenFault>) {
     make_sparse(rt, len).expect(rt, "a file");
-    equal(rt, &opened(rt, "sparse.bin"), &(answer, answer));
+    equal(rt, &opened(rt, "sparse.bin"), &[answer; 3]);
 }
 
 fn make_sparse(rt: &impl Files<File = File>, len: u64) -> io::Result<()> {
@@ -640,6 +639,49 @@ fn make_sparse(rt: &impl Files<File = File>, len: u64) -> io::Result<()> {
         .create(true)
         .open(rt, "sparse.bin")?;
     file.set_len(len)
+}
+
+/// A device that may only be read.
+fn open_to_read(rt: &(impl Abort + Files<File = File>), path: &str) -> FileFlash {
+    FileFlash::open_to_read(rt, path).expect(rt, "an image")
+}
+
+#[test]
+fn two_readers_share_a_file_that_may_only_be_read(rt: HostRuntime) {
+    write(&rt, "shared.bin", b"0123456789");
+    let only_read = Permissions::from_mode(0o444);
+    fs::set_permissions(&rt, "shared.bin", only_read).expect(&rt, "permissions");
+    let mut first = open_to_read(&rt, "shared.bin");
+    let mut second = open_to_read(&rt, "shared.bin");
+    reads_and_refuses_writes(&rt, &mut first);
+    reads_and_refuses_writes(&rt, &mut second);
+    equal(&rt, &locks_left(&rt, "shared.bin"), &[false, true]);
+    file_is_image(&rt, "shared.bin", 10, 0, b"0123456789");
+    remove(&rt, "shared.bin");
+}
+
+fn reads_and_refuses_writes<F: Flash>(rt: &impl Abort, device: &mut F) {
+    let mut out = [0; 4];
+    read_at(rt, device, 6, &mut out).expect(rt, "bytes");
+    same_bytes(rt, &out, b"6789");
+    let written = write_at(rt, device, 3, b"abc");
+    equal(rt, &written, &Err(FlashFault));
+    read_at(rt, device, 2, &mut out).expect(rt, "bytes");
+    same_bytes(rt, &out, b"2345");
+}
+
+/// Whether another opening of the file can have its lock alone, and whether it can share it.
+fn locks_left(rt: &(impl Abort + Files<File = File>), path: &str) -> [bool; 2] {
+    let file = File::open(rt, path).expect(rt, "a file");
+    [file.try_lock().is_ok(), file.try_lock_shared().is_ok()]
+}
+
+#[test]
+fn the_lock_of_a_reader_ends_with_its_device(rt: HostRuntime) {
+    write(&rt, "freed.bin", b"0123456789");
+    equal(&rt, &open_to_read(&rt, "freed.bin").len(), &10);
+    equal(&rt, &locks_left(&rt, "freed.bin"), &[true, true]);
+    remove(&rt, "freed.bin");
 }
 
 #[test]
