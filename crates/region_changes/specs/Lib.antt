@@ -1,0 +1,2 @@
+pub mod RegionChanges
+pub mod Sizes
