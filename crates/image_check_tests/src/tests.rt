@@ -2,7 +2,7 @@
 use cbfs_check::RegionFinding;
 use flash_store::{MemFlash, Paged};
 use flashmap_check::MapFinding;
-use image_check::{ImageFinding, check_image, has_bad};
+use image_check::{ImageFinding, check_image, checked_image, has_bad};
 use std::alloc::{AllocError, Global};
 use std::process::Abort;
 
@@ -152,4 +152,17 @@ fn areas_by_their_names(rt: HostRuntime) {
 fn an_image_without_a_map(rt: HostRuntime) {
     let bytes = Vec::from_elem(rt.alloc(), 0xff, 1024).expect(&rt, "memory");
     tells(&rt, bytes, &[], "no map, ", true);
+}
+
+#[test]
+fn an_image_with_its_areas(rt: HostRuntime) {
+    let device = MemFlash::new(image(&rt, &[FMAP, OUTER, A])).expect(&rt, "a device");
+    let checked = checked_image(rt.alloc(), &mut Paged::new(device), &[]).expect(&rt, "findings");
+    let text = text_of(rt.alloc(), &checked.findings).expect(&rt, "memory");
+    assert_eq!(&rt;
+        text.as_str(),
+        "map 0, skipped 1, region 2 complete 0 256, "
+    );
+    assert_eq!(&rt; checked.areas.len(), 3);
+    assert!(&rt; matches!(checked.areas.get(2), Some(a) if a.area.name_is(b"A")));
 }
