@@ -1,0 +1,30 @@
+-- Findings that are told one after the other.
+use Rattle.std.proofs.Common.{◌≡◌, ◌∙◌, ℕ, ◌+◌, ◌<◌, ◌≤◌, List, [], ◌∷◌, ◌++◌, length, get_or, take, ap, sym, subst, append_assoc}
+use Rattle.std.proofs.lemmas.List.{flat_map_more, take_all, take_more}
+use Rattle.std.specs.Prelude.{Bool, true, if◌then◌else◌}
+use Rattle.std.specs.List.{flat_map}
+use Rattle.check_rows.specs.declared.report.Form.{Form}
+use Rattle.check_rows.specs.declared.report.Report.{Report}
+use Rattle.check_rows.specs.Rows.{SeenRow}
+use Rattle.check_rows.specs.Reports.{HasTold}
+
+-- one finding more
+pub rows_more : {X : Type 0} (rows : X → List SeenRow) (xs : List X) (i : ℕ) (x : X) (form : Form) (told : List SeenRow) (report : Report) → i < length xs → x ≡ get_or xs i x
+    → HasTold form ((told ++ flat_map rows (take i xs)) ++ rows x) report → HasTold form (told ++ flat_map rows (take (i + 1) xs)) report
+rows_more rows xs i x form told report lt is has =
+    let more = ap (λ y. take i xs ++ y ∷ []) is ∙ sym (take_more xs i x lt) in
+    subst (λ l. HasTold form l report) (flat_map_more rows told (take i xs) x ∙ ap (λ l. told ++ flat_map rows l) more) has
+
+-- a row, where it is told at all
+pub row_if : (b : Bool) (form : Form) (told : List SeenRow) (row seen : SeenRow) (report : Report) → b ≡ true → row ≡ seen
+    → HasTold form (told ++ row ∷ []) report → HasTold form (told ++ (if b then seen ∷ [] else [])) report
+row_if b form told row seen report is same has = subst (λ t. HasTold form (told ++ (if t then seen ∷ [] else [])) report) (sym is) (subst (λ r. HasTold form (told ++ r ∷ []) report) same has)
+
+-- all of them
+pub rows_all : {X : Type 0} (rows : X → List SeenRow) (xs : List X) (i : ℕ) (form : Form) (told : List SeenRow) (report : Report) → length xs ≤ i
+    → HasTold form (told ++ flat_map rows (take i xs)) report → HasTold form (told ++ flat_map rows xs) report
+rows_all rows xs i form told report past has = subst (λ l. HasTold form (told ++ flat_map rows l) report) (take_all i xs past) has
+
+-- three rows more
+pub rows_three : (told : List SeenRow) (a b c : SeenRow) → ((told ++ a ∷ []) ++ b ∷ []) ++ c ∷ [] ≡ told ++ a ∷ b ∷ c ∷ []
+rows_three told a b c = simp append_assoc

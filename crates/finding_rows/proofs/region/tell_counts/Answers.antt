@@ -1,0 +1,12 @@
+use Rattle.std.proofs.Common.{List, subst}
+use Rattle.std.specs.Prelude.{OnOk}
+use Rattle.check_rows.specs.Rows.{SeenRow}
+use Rattle.check_rows.specs.Reports.{HasTold}
+use Rattle.finding_rows.proofs.Telling.{rows_three}
+use Rattle.finding_rows.proofs.region.tell_counts.Goals as goal
+
+pub returns : goal.returns
+returns c = λ form told has.
+    let first = c.in_ok-tell_row.ensures form told has in
+    let second = c.in_ok-tell_row-2.ensures form _ first in
+    subst (λ (l : List SeenRow). OnOk c.tell_row-3.result (HasTold form l c.tell_row-3.new.report)) (rows_three told _ _ _) (c.tell_row-3.ensures form _ second)

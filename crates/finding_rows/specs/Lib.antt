@@ -1,0 +1,2 @@
+pub mod FindingRows
+pub mod Laws

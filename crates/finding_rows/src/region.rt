@@ -1,0 +1,232 @@
+//! The rows of a region's findings.
+ghost use Rattle.std.specs.Prelude.{◌≡◌, ◌++◌, ◌∷◌, [], List, OnOk, if◌then◌else◌};
+ghost use Rattle.std.specs.List.{flat_map};
+ghost use Rattle.check_rows.specs.Rows.{SeenRow, seen_row};
+ghost use Rattle.check_rows.specs.Reports.{HasTold};
+ghost use Rattle.check_rows.specs.declared.report.Form.{Form};
+ghost use Rattle.finding_rows.specs.FindingRows as rows;
+
+use crate::map::verdict_of;
+use cbfs_check::{ComponentFinding, RegionCounts, RegionFinding};
+use cbfs_walk::HashState;
+use check_rows::{Detail, Report, Row, Verdict};
+use flash_format::{DamageKind, Digest};
+use image_check::is_bad_region;
+use std::alloc::AllocError;
+
+fn hash_text(state: HashState) -> &'static str
+    ensures { result.now ≡ rows.hash_text state }
+{
+    match state {
+        HashState::Absent => "no hash",
+        HashState::Valid(Digest::Sha256(_)) => "sha256 valid",
+        HashState::Valid(Digest::Sha512(_)) => "sha512 valid",
+        HashState::Invalid(Digest::Sha256(_)) => "sha256 invalid",
+        HashState::Invalid(Digest::Sha512(_)) => "sha512 invalid",
+        HashState::Unsupported => "hash unsupported",
+    }
+}
+
+fn component_text(finding: ComponentFinding) -> &'static str
+    ensures { result.now ≡ rows.component_text finding }
+{
+    match finding {
+        ComponentFinding::Shadowed => "has the name of an earlier component",
+        ComponentFinding::UnknownType(_) => "type without a name",
+        ComponentFinding::Hash(state) => hash_text(state),
+    }
+}
+
+fn component_detail(finding: ComponentFinding) -> Detail
+    ensures { result ≡ rows.component_detail finding }
+{
+    match finding {
+        ComponentFinding::UnknownType(kind) => Detail::Number(u64::from(kind)),
+        ComponentFinding::Shadowed => Detail::None,
+        ComponentFinding::Hash(_) => Detail::None,
+    }
+}
+
+/// Whether it has a row.
+fn is_told(is_verbose: bool, finding: ComponentFinding) -> bool
+    ensures { result ≡ rows.is_told is_verbose finding }
+{
+    match finding {
+        ComponentFinding::Hash(HashState::Absent) => is_verbose,
+        _ => true,
+    }
+}
+
+fn component_row<'a>(
+    verdict: Verdict,
+    region: &'a [u8],
+    at: u64,
+    name: &'a [u8],
+    finding: ComponentFinding,
+) -> Row<'a>
+    ensures { seen_row result ≡ rows.component_row verdict region.now at name.now finding }
+{
+    Row {
+        verdict,
+        area: Some(region),
+        component: Some(name),
+        position: Some(at),
+        what: component_text(finding),
+        detail: component_detail(finding),
+    }
+}
+
+fn damage_text(kind: DamageKind) -> &'static str
+    ensures { result.now ≡ rows.damage_text kind }
+{
+    match kind {
+        DamageKind::Offset => "damaged entry: offset",
+        DamageKind::AttrOffset => "damaged entry: attributes",
+        DamageKind::Extent => "damaged entry: extent",
+        DamageKind::Name => "damaged entry: name",
+        DamageKind::AttrLength => "damaged entry: attribute length",
+    }
+}
+
+/// Tells a row of the region as a whole.
+fn tell_row<'a>(
+    report: &mut Report,
+    verdict: Verdict,
+    region: &'a [u8],
+    position: Option<u64>,
+    what: &'a str,
+    detail: Detail,
+) -> Result<(), AllocError>
+    ensures { (form : Form) (told : List SeenRow) → HasTold form told report.old
+        → OnOk result (HasTold form (told ++ rows.region_row verdict region.now position what.now detail ∷ []) report.new) }
+{
+    let row = Row {
+        verdict,
+        area: Some(region),
+        component: None,
+        position,
+        what,
+        detail,
+    };
+    report.tell(&row)
+}
+
+/// Tells the three counts.
+fn tell_counts(
+    report: &mut Report,
+    verdict: Verdict,
+    region: &[u8],
+    counts: RegionCounts,
+) -> Result<(), AllocError>
+    ensures { (form : Form) (told : List SeenRow) → HasTold form told report.old
+        → OnOk result (HasTold form (told ++ rows.count_rows verdict region.now counts) report.new) }
+{
+    let components = Detail::Count(counts.components);
+    let free = Detail::Count(counts.free);
+    let longest_free = Detail::Count(counts.longest_free);
+    tell_row(report, verdict, region, None, "components", components)?;
+    tell_row(report, verdict, region, None, "free bytes", free)?;
+    tell_row(
+        report,
+        verdict,
+        region,
+        None,
+        "largest free run",
+        longest_free,
+    )
+}
+
+/// Tells what is found of a component, where that has a row.
+fn tell_component(
+    report: &mut Report,
+    verdict: Verdict,
+    is_verbose: bool,
+    region: &[u8],
+    at: u64,
+    name: &[u8],
+    finding: ComponentFinding,
+) -> Result<(), AllocError>
+    ensures { (form : Form) (told : List SeenRow) → HasTold form told report.old
+        → OnOk result (HasTold form (told ++ rows.component_rows verdict is_verbose region.now at name.now finding) report.new) }
+{
+    if is_told(is_verbose, finding) {
+        report.tell(&component_row(verdict, region, at, name, finding))?;
+    }
+    Ok(())
+}
+
+fn tell_with(
+    report: &mut Report,
+    verdict: Verdict,
+    is_verbose: bool,
+    region: &[u8],
+    finding: &RegionFinding,
+) -> Result<(), AllocError>
+    ensures { (form : Form) (told : List SeenRow) → HasTold form told report.old
+        → OnOk result (HasTold form (told ++ rows.region_rows_with verdict is_verbose region.now finding.now) report.new) }
+{
+    match finding {
+        RegionFinding::BadSize => {
+            let what = "size is 0 or no multiple of 64";
+            tell_row(report, verdict, region, None, what, Detail::None)
+        }
+        RegionFinding::NotCbfs => {
+            tell_row(report, verdict, region, None, "no CBFS", Detail::None)
+        }
+        RegionFinding::Component { at, name, what } => tell_component(
+            report,
+            verdict,
+            is_verbose,
+            region,
+            *at,
+            name.as_slice(),
+            *what,
+        ),
+        RegionFinding::Deleted { at } => {
+            let what = "deleted component";
+            tell_row(report, verdict, region, Some(*at), what, Detail::None)
+        }
+        RegionFinding::Complete => {
+            tell_row(report, verdict, region, None, "complete", Detail::None)
+        }
+        RegionFinding::Tail { at } => {
+            let what = "unused tail";
+            tell_row(report, verdict, region, Some(*at), what, Detail::None)
+        }
+        RegionFinding::Damaged { at, kind } => {
+            let what = damage_text(*kind);
+            tell_row(report, verdict, region, Some(*at), what, Detail::None)
+        }
+        RegionFinding::Counts(counts) => tell_counts(report, verdict, region, *counts),
+    }
+}
+
+/// Tells the rows of a finding.
+fn tell_finding(
+    report: &mut Report,
+    is_verbose: bool,
+    region: &[u8],
+    finding: &RegionFinding,
+) -> Result<(), AllocError>
+    ensures { (form : Form) (told : List SeenRow) → HasTold form told report.old
+        → OnOk result (HasTold form (told ++ rows.region_rows is_verbose region.now finding.now) report.new) }
+{
+    let verdict = verdict_of(is_bad_region(finding));
+    tell_with(report, verdict, is_verbose, region, finding)
+}
+
+/// Tells the rows of what was found in the region of this name.
+pub fn tell_region(
+    report: &mut Report,
+    is_verbose: bool,
+    region: &[u8],
+    findings: &[RegionFinding],
+) -> Result<(), AllocError>
+    ensures { (form : Form) (told : List SeenRow) → HasTold form told report.old
+        → OnOk result (HasTold form (told ++ flat_map (rows.region_rows is_verbose region.now) findings.now) report.new) }
+{
+    for finding in findings {
+        tell_finding(report, is_verbose, region, finding)?;
+    }
+    Ok(())
+}
