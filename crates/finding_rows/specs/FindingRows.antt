@@ -61,9 +61,13 @@ map_row finding = map_row_with (verdict_of (is_bad_map finding)) finding
 
 -- ---- a region; positions count from its start
 
--- of the region of this name as a whole
-abbrev pub region_row : Verdict → List ℕ → Option ℕ → List ℕ → Detail → SeenRow
-region_row verdict region position what detail = record { verdict = verdict; area = Some region; component = None; position = position; what = what; detail = detail }
+-- of the region of this name
+abbrev pub region_row : Verdict → List ℕ → Option ℕ → List ℕ → SeenRow
+region_row verdict region position what = record { verdict = verdict; area = Some region; component = None; position = position; what = what; detail = details.None }
+
+-- that it has so many of something
+abbrev pub count_row : Verdict → List ℕ → List ℕ → ℕ → SeenRow
+count_row verdict region what count = record { verdict = verdict; area = Some region; component = None; position = None; what = what; detail = details.Count count }
 
 -- what a state of a hash says
 abbrev pub hash_text : HashState → List ℕ
@@ -108,20 +112,20 @@ damage_text kinds.AttrLength = codes "damaged entry: attribute length"
 -- a row for each count
 abbrev pub count_rows : Verdict → List ℕ → RegionCounts → List SeenRow
 count_rows v region counts =
-    region_row v region None (codes "components") (details.Count counts.components)
-    ∷ region_row v region None (codes "free bytes") (details.Count counts.free)
-    ∷ region_row v region None (codes "largest free run") (details.Count counts.longest_free)
+    count_row v region (codes "components") counts.components
+    ∷ count_row v region (codes "free bytes") counts.free
+    ∷ count_row v region (codes "largest free run") counts.longest_free
     ∷ []
 
 -- what a finding of a region says, with a verdict
 abbrev pub region_rows_with : Verdict → Bool → List ℕ → RegionFinding → List SeenRow
-region_rows_with v is_verbose region of_region.BadSize = region_row v region None (codes "size is 0 or no multiple of 64") details.None ∷ []
-region_rows_with v is_verbose region of_region.NotCbfs = region_row v region None (codes "no CBFS") details.None ∷ []
+region_rows_with v is_verbose region of_region.BadSize = region_row v region None (codes "size is 0 or no multiple of 64") ∷ []
+region_rows_with v is_verbose region of_region.NotCbfs = region_row v region None (codes "no CBFS") ∷ []
 region_rows_with v is_verbose region (of_region.Component at name finding) = component_rows v is_verbose region at name finding
-region_rows_with v is_verbose region (of_region.Deleted at) = region_row v region (Some at) (codes "deleted component") details.None ∷ []
-region_rows_with v is_verbose region of_region.Complete = region_row v region None (codes "complete") details.None ∷ []
-region_rows_with v is_verbose region (of_region.Tail at) = region_row v region (Some at) (codes "unused tail") details.None ∷ []
-region_rows_with v is_verbose region (of_region.Damaged at kind) = region_row v region (Some at) (damage_text kind) details.None ∷ []
+region_rows_with v is_verbose region (of_region.Deleted at) = region_row v region (Some at) (codes "deleted component") ∷ []
+region_rows_with v is_verbose region of_region.Complete = region_row v region None (codes "complete") ∷ []
+region_rows_with v is_verbose region (of_region.Tail at) = region_row v region (Some at) (codes "unused tail") ∷ []
+region_rows_with v is_verbose region (of_region.Damaged at kind) = region_row v region (Some at) (damage_text kind) ∷ []
 region_rows_with v is_verbose region (of_region.Counts c) = count_rows v region c
 
 abbrev pub region_rows : Bool → List ℕ → RegionFinding → List SeenRow

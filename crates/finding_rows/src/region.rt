@@ -88,17 +88,16 @@ fn damage_text(kind: DamageKind) -> &'static str
     }
 }
 
-/// Tells a row of the region as a whole.
+/// Tells a row of the region.
 fn tell_row<'a>(
     report: &mut Report,
     verdict: Verdict,
     region: &'a [u8],
     position: Option<u64>,
     what: &'a str,
-    detail: Detail,
 ) -> Result<(), AllocError>
     ensures { (form : Form) (told : List SeenRow) → HasTold form told report.old
-        → OnOk result (HasTold form (told ++ rows.region_row verdict region.now position what.now detail ∷ []) report.new) }
+        → OnOk result (HasTold form (told ++ rows.region_row verdict region.now position what.now ∷ []) report.new) }
 {
     let row = Row {
         verdict,
@@ -106,7 +105,29 @@ fn tell_row<'a>(
         component: None,
         position,
         what,
-        detail,
+        detail: Detail::None,
+    };
+    report.tell(&row)
+}
+
+/// Tells that the region has so many of something.
+fn tell_count<'a>(
+    report: &mut Report,
+    verdict: Verdict,
+    region: &'a [u8],
+    what: &'a str,
+    count: u64,
+) -> Result<(), AllocError>
+    ensures { (form : Form) (told : List SeenRow) → HasTold form told report.old
+        → OnOk result (HasTold form (told ++ rows.count_row verdict region.now what.now count ∷ []) report.new) }
+{
+    let row = Row {
+        verdict,
+        area: Some(region),
+        component: None,
+        position: None,
+        what,
+        detail: Detail::Count(count),
     };
     report.tell(&row)
 }
@@ -121,18 +142,14 @@ fn tell_counts(
     ensures { (form : Form) (told : List SeenRow) → HasTold form told report.old
         → OnOk result (HasTold form (told ++ rows.count_rows verdict region.now counts) report.new) }
 {
-    let components = Detail::Count(counts.components);
-    let free = Detail::Count(counts.free);
-    let longest_free = Detail::Count(counts.longest_free);
-    tell_row(report, verdict, region, None, "components", components)?;
-    tell_row(report, verdict, region, None, "free bytes", free)?;
-    tell_row(
+    tell_count(report, verdict, region, "components", counts.components)?;
+    tell_count(report, verdict, region, "free bytes", counts.free)?;
+    tell_count(
         report,
         verdict,
         region,
-        None,
         "largest free run",
-        longest_free,
+        counts.longest_free,
     )
 }
 
@@ -168,34 +185,22 @@ fn tell_with(
     match finding {
         RegionFinding::BadSize => {
             let what = "size is 0 or no multiple of 64";
-            tell_row(report, verdict, region, None, what, Detail::None)
+            tell_row(report, verdict, region, None, what)
         }
-        RegionFinding::NotCbfs => {
-            tell_row(report, verdict, region, None, "no CBFS", Detail::None)
+        RegionFinding::NotCbfs => tell_row(report, verdict, region, None, "no CBFS"),
+        RegionFinding::Component { at, name, what } => {
+            let name = name.as_slice();
+            tell_component(report, verdict, is_verbose, region, *at, name, *what)
         }
-        RegionFinding::Component { at, name, what } => tell_component(
-            report,
-            verdict,
-            is_verbose,
-            region,
-            *at,
-            name.as_slice(),
-            *what,
-        ),
         RegionFinding::Deleted { at } => {
-            let what = "deleted component";
-            tell_row(report, verdict, region, Some(*at), what, Detail::None)
+            tell_row(report, verdict, region, Some(*at), "deleted component")
         }
-        RegionFinding::Complete => {
-            tell_row(report, verdict, region, None, "complete", Detail::None)
-        }
+        RegionFinding::Complete => tell_row(report, verdict, region, None, "complete"),
         RegionFinding::Tail { at } => {
-            let what = "unused tail";
-            tell_row(report, verdict, region, Some(*at), what, Detail::None)
+            tell_row(report, verdict, region, Some(*at), "unused tail")
         }
         RegionFinding::Damaged { at, kind } => {
-            let what = damage_text(*kind);
-            tell_row(report, verdict, region, Some(*at), what, Detail::None)
+            tell_row(report, verdict, region, Some(*at), damage_text(*kind))
         }
         RegionFinding::Counts(counts) => tell_counts(report, verdict, region, *counts),
     }

@@ -7,6 +7,6 @@ use Rattle.finding_rows.proofs.region.tell_counts.Goals as goal
 
 pub returns : goal.returns
 returns c = λ form told has.
-    let first = c.in_ok-tell_row.ensures form told has in
-    let second = c.in_ok-tell_row-2.ensures form _ first in
-    subst (λ (l : List SeenRow). OnOk c.tell_row-3.result (HasTold form l c.tell_row-3.new.report)) (rows_three told _ _ _) (c.tell_row-3.ensures form _ second)
+    let first = c.in_ok-tell_count.ensures form told has in
+    let second = c.in_ok-tell_count-2.ensures form _ first in
+    subst (λ (l : List SeenRow). OnOk c.tell_count-3.result (HasTold form l c.tell_count-3.new.report)) (rows_three told _ _ _) (c.tell_count-3.ensures form _ second)
