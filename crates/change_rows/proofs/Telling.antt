@@ -1,8 +1,9 @@
 -- Rows that are told one after the other.
-use Rattle.std.proofs.Common.{◌≡◌, ◌∙◌, ℕ, ◌+◌, ◌<◌, ◌≤◌, List, [], ◌∷◌, ◌++◌, length, map, filter, take, get_or, Bool, refl, ap, sym, subst, append_assoc, append-nil}
+use Rattle.std.proofs.Common.{◌≡◌, ◌∙◌, ℕ, suc, ◌+◌, ◌<◌, ◌≤◌, List, [], ◌∷◌, ◌++◌, length, map, filter, take, drop, get_or, Bool, true, refl, ap, sym, subst, append_assoc}
 use Rattle.std.specs.Prelude.{◌||◌, Result, OnOk}
 use Rattle.std.specs.List.{list_any}
 use Rattle.std.proofs.lemmas.List.{map-append, map_more, take_all}
+use Rattle.std.proofs.Math.Seq.{drop-cons}
 use Rattle.std.proofs.lemmas.List.Elements.{filter-append}
 use Rattle.std.specs.Borrow.{Bor}
 use Rattle.flashmap_check.specs.declared.finding.NumberedArea.{NumberedArea}
@@ -17,9 +18,10 @@ pub list_any-map : {X Y : Type 0} (p : Y → Bool) (f : X → Y) (xs : List X) �
 list_any-map p f [] = refl
 list_any-map p f (x ∷ xs) = ap (λ b. p (f x) || b) (list_any-map p f xs)
 
--- no rows more
-pub told_none : (form : Form) (rows : List SeenRow) (report : Report) → HasTold form rows report → HasTold form (rows ++ []) report
-told_none form rows report = subst (λ (all : List SeenRow). HasTold form all report) (sym (append-nil rows))
+-- one that passes a test
+pub any_here : {X : Type 0} (p : X → Bool) (xs : List X) (i : ℕ) (d : X) (b all : Bool) → i < length xs → b ≡ p (get_or xs i d) → b ≡ true → list_any p (drop i xs) ≡ all → true ≡ all
+any_here p xs i d b all lt is passes so_far =
+    sym (ap (list_any p) (drop-cons xs i d lt) ∙ ap (λ (c : Bool). c || list_any p (drop (suc i) xs)) (sym is ∙ passes)) ∙ so_far
 
 -- rows behind rows
 pub told_behind : (form : Form) (rows first second all : List SeenRow) (report : Report) → all ≡ first ++ second → HasTold form ((rows ++ first) ++ second) report → HasTold form (rows ++ all) report
