@@ -68,6 +68,9 @@ counts_of vs = record {
   changes = count_by (is_verdict verdicts.Change) vs;
 }
 
+abbrev pub is_bad_row : SeenRow → Bool
+is_bad_row row = is_verdict verdicts.Bad row.verdict
+
 -- the line after all rows
 unfoldable pub summary : Counts → List ℕ
 summary counts = decimal counts.bad ++ codes " bad, " ++ decimal counts.remarks ++ codes " remarks, " ++ decimal counts.changes ++ codes " changes\n"

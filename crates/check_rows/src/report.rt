@@ -1,9 +1,10 @@
 //! A report.
 
 ghost use Rattle.std.specs.Prelude.{◌≡◌, ◌++◌, [], ◌∷◌, List, OnOk, IfOk};
+ghost use Rattle.std.specs.List.{list_any};
 ghost use Rattle.json.specs.Print.{print};
 ghost use Rattle.printed_fields.specs.Printed.{line_feed};
-ghost use Rattle.check_rows.specs.Rows.{SeenRow, seen_row};
+ghost use Rattle.check_rows.specs.Rows.{SeenRow, is_bad_row, seen_row};
 ghost use Rattle.check_rows.specs.Documents.{closing_tokens, opening};
 
 use crate::document::{write_end, write_row};
@@ -111,6 +112,13 @@ impl Report {
         self.body.tell(row)?;
         self.verdicts.push(row.verdict)?;
         Ok(())
+    }
+
+    /// Whether one of the rows is bad.
+    pub fn has_bad(&self) -> bool
+        ensures { (form : Form) (rows : List SeenRow) → HasTold form rows self.now → result ≡ list_any is_bad_row rows }
+    {
+        Verdict::has_bad(&self.verdicts)
     }
 
     /// The whole text: the rows, and how many of them are bad, remarks and changes.

@@ -1,6 +1,7 @@
 //! What a row says.
 
 ghost use Rattle.std.specs.Prelude.{◌≡◌, count_by};
+ghost use Rattle.std.specs.List.{list_any};
 ghost use Rattle.check_rows.specs.Rows.{counts_of, detail_number, is_verdict, verdict_word};
 
 /// Whether a row is bad, a remark or a change.
@@ -21,6 +22,13 @@ impl Verdict {
             Verdict::Remark => "remark",
             Verdict::Change => "change",
         }
+    }
+
+    /// Whether one of these is bad.
+    pub fn has_bad(verdicts: &[Verdict]) -> bool
+        ensures { result ≡ list_any (is_verdict Verdict.Bad) verdicts.now }
+    {
+        verdicts.iter().any(|verdict| verdict.is(Verdict::Bad))
     }
 
     fn is(self, wanted: Verdict) -> bool

@@ -15,7 +15,7 @@ use Rattle.image_check.specs.declared.finding.ImageFinding.TheVariants.{Map, Ski
 use Rattle.image_check.specs.Verdicts.{is_bad, is_bad_map, is_bad_region}
 use Rattle.check_rows.specs.Rows.{SeenRow}
 use Rattle.finding_rows.specs.FindingRows.{area_name, map_row, region_rows, rows_of, finding_rows}
-use Rattle.finding_rows.specs.Laws.{is_bad_row}
+use Rattle.check_rows.specs.Rows.{is_bad_row}
 
 -- where that holds of each finding, it holds of all
 bad_rows : {X : Type 0} (rows : X → List SeenRow) (bad : X → Bool) → ((x : X) → list_any is_bad_row (rows x) ≡ bad x) → (xs : List X) → list_any is_bad_row (flat_map rows xs) ≡ list_any bad xs

@@ -3,12 +3,8 @@ use Rattle.std.specs.Prelude.{◌≡◌, ℕ, Bool, true, false, List}
 use Rattle.std.specs.List.{list_any}
 use Rattle.image_check.specs.declared.finding.ImageFinding.{ImageFinding}
 use Rattle.image_check.specs.Verdicts.{is_bad}
-use Rattle.check_rows.specs.declared.row.Verdict.TheVariants.{Bad}
-use Rattle.check_rows.specs.Rows.{SeenRow, is_verdict}
+use Rattle.check_rows.specs.Rows.{is_bad_row}
 use Rattle.finding_rows.specs.FindingRows.{finding_rows}
-
-abbrev pub is_bad_row : SeenRow → Bool
-is_bad_row row = is_verdict Bad row.verdict
 
 -- some row is bad exactly where some finding is
 abbrev pub RowsTellWhatIsBad : Type 0

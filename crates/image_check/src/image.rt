@@ -171,6 +171,7 @@ pub fn checked_image<F: Flash>(
         (faults_told by_device result) paged.old paged.new }
     ensures order { IfOk result (λ checked.
         LieInOrder 0 (length (F.facts paged.old.device).content) (region_areas checked.findings.items)) }
+    ensures count { IfOk result (λ checked. area_len * length checked.areas.items ≤ length (F.facts paged.old.device).content) }
     ensures fits { IfOk result (λ checked.
         area_len * length (region_areas checked.findings.items) ≤ length (F.facts paged.old.device).content) }
 

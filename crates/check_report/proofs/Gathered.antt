@@ -1,0 +1,15 @@
+-- The rows of what was gathered of two images.
+use Rattle.std.proofs.Common.{◌≡◌, ℕ, List, refl}
+use Rattle.flashmap_check.specs.declared.finding.NumberedArea.{NumberedArea}
+use Rattle.flashmap_check.specs.MapFindings.{image_areas}
+use Rattle.image_check.specs.declared.finding.ImageFinding.{ImageFinding}
+use Rattle.image_check.specs.ImageFindings.{image_findings}
+use Rattle.finding_rows.specs.FindingRows.{finding_rows}
+use Rattle.check_report.specs.declared.change.Changes.{Changes}
+use Rattle.check_report.specs.Reports.{Wish, change_rows, with_changes}
+use Rattle.check_report.specs.Changes.{AreChanges}
+
+pub gathered : (wish : Wish) (x y : List ℕ) (news : List NumberedArea) (findings : List ImageFinding) (c : Changes)
+    → news ≡ image_areas y → findings ≡ image_findings y wish.areas → AreChanges x y news findings c
+    → with_changes (finding_rows wish.is_verbose wish.areas findings) wish.kept c news ≡ change_rows wish x y
+gathered wish x y news findings c areas told k = rw (k.old_len, k.new_len, k.blocks, k.old_areas, k.areas, k.regions, areas, told) refl

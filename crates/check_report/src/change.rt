@@ -1,0 +1,114 @@
+//! The report on what a new image changes.
+ghost use Rattle.std.specs.Prelude.{◌≡◌, ◌+◌, ◌*◌, ◌++◌, ◌≤◌, List, length, map, IfOk, OnOk};
+ghost use Rattle.flash_format.specs.Flashmap.{area_len};
+ghost use Rattle.flash_store.specs.Device.{faults_told};
+ghost use Rattle.flash_store.specs.Pages.{HasRead, OnHonest};
+ghost use Rattle.image_check.specs.RegionAreas.{LieInOrder, region_areas};
+ghost use Rattle.check_rows.specs.declared.report.Form.{Form};
+ghost use Rattle.check_rows.specs.Rows.{SeenRow};
+ghost use Rattle.check_rows.specs.Reports.{HasTold};
+ghost use Rattle.check_report.specs.Faults.{by_new, by_old};
+ghost use Rattle.check_report.specs.Reports.{answer_of, change_rows, wish_of, with_changes};
+ghost use Rattle.check_report.specs.Changes.{AreChanges};
+
+use crate::answer::{Answer, Request};
+use crate::fault::ReportFault;
+use crate::tell::tell_region_changes;
+use change_rows::{tell_area_changes, tell_image_changes, tell_missing};
+use check_rows::Report;
+use finding_rows::tell_findings;
+use flash_store::{Flash, Paged};
+use flashmap_changes::{AreaChange, area_changes, different_blocks};
+use flashmap_check::{NumberedArea, checked_map};
+use image_check::{CheckedImage, checked_image};
+use region_changes::{RegionChange, region_changes};
+use std::alloc::{AllocError, Global};
+
+/// What changes from an old image to a new one.
+#[derive(Drop)]
+struct Changes {
+    old_len: u64,
+    new_len: u64,
+    blocks: u32,
+    old_areas: Vec<NumberedArea>,
+    areas: Vec<AreaChange>,
+    regions: Vec<RegionChange>,
+}
+
+/// What changes to a new image of which so much is told.
+fn changes_to<F: Flash, G: Flash>(
+    alloc: Global,
+    old: &mut Paged<F>,
+    new: &mut Paged<G>,
+    checked: &CheckedImage,
+) -> Result<Changes, ReportFault>
+    requires order { LieInOrder 0 (length (G.facts new.old.device).content) (region_areas checked.now.findings.items) }
+    requires regions { area_len * length (region_areas checked.now.findings.items) ≤ length (G.facts new.old.device).content }
+    requires areas { area_len * length checked.now.areas.items ≤ length (G.facts new.old.device).content }
+
+    ensures old { HasRead F.facts (2 * length (F.facts old.old.device).content + length (G.facts new.old.device).content + 64)
+        (faults_told by_old result) old.old old.new }
+    ensures new { HasRead G.facts (length (G.facts new.old.device).content + 8) (faults_told by_new result) new.old new.new }
+    ensures changes { OnHonest F.facts old.old.device (λ x. OnHonest G.facts new.old.device (λ y.
+        IfOk result (AreChanges x y checked.now.areas.items checked.now.findings.items))) }
+{
+    let map = checked_map(alloc, old)?;
+    let blocks = different_blocks(old, new)?;
+    let areas = area_changes(alloc, old, &map.areas, new, &checked.areas)?;
+    let regions = region_changes(alloc, old, &map.areas, new, &checked.findings)?;
+    Ok(Changes {
+        old_len: old.len(),
+        new_len: new.len(),
+        blocks,
+        old_areas: map.areas,
+        areas,
+        regions,
+    })
+}
+
+/// Tells these changes.
+fn tell_changes(
+    report: &mut Report,
+    kept: &[&[u8]],
+    changes: &Changes,
+    new_areas: &[NumberedArea],
+) -> Result<(), AllocError>
+    ensures { (form : Form) (rows : List SeenRow) → HasTold form rows report.old
+        → OnOk result (HasTold form (with_changes rows (map (λ n. n.now) kept.now) changes.now new_areas.now) report.new) }
+{
+    tell_image_changes(report, changes.old_len, changes.new_len, changes.blocks)?;
+    tell_area_changes(report, kept, &changes.areas)?;
+    tell_region_changes(report, kept, &changes.regions)?;
+    tell_missing(report, kept, &changes.old_areas, new_areas)
+}
+
+/// The report on a new image and on what it changes of an old one: a row for each finding of the new image, and then one
+/// for each change. A difference in one of the kept areas is bad. `OldDevice` comes exactly where the device with the old
+/// image refused a read, and `NewDevice` where the other one did.
+pub fn report_change<F: Flash, G: Flash>(
+    alloc: Global,
+    old: &mut Paged<F>,
+    new: &mut Paged<G>,
+    request: Request<'_>,
+) -> Result<Answer, ReportFault>
+    // On any devices.
+    ensures old { HasRead F.facts (2 * length (F.facts old.old.device).content + length (G.facts new.old.device).content + 64)
+        (faults_told by_old result) old.old old.new }
+    ensures new { HasRead G.facts (3 * length (G.facts new.old.device).content + 72) (faults_told by_new result) new.old new.new }
+
+    // On honest devices.
+    ensures answer { OnHonest F.facts old.old.device (λ x. OnHonest G.facts new.old.device (λ y.
+        IfOk result (λ answer. answer ≡ answer_of request.entry.form (change_rows (wish_of request.entry) x y)))) }
+{
+    let checked = checked_image(alloc, new, request.areas)?;
+    let changes = changes_to(alloc, old, new, &checked)?;
+    let mut report = Report::new(alloc, request.form);
+    tell_findings(
+        &mut report,
+        &checked.findings,
+        request.areas,
+        request.is_verbose,
+    )?;
+    tell_changes(&mut report, request.kept, &changes, &checked.areas)?;
+    Ok(Answer::of(report)?)
+}

@@ -1,0 +1,35 @@
+//! The report on one image.
+ghost use Rattle.std.specs.Prelude.{◌≡◌, ◌+◌, ◌*◌, length, IfOk};
+ghost use Rattle.flash_store.specs.Device.{faults_told};
+ghost use Rattle.flash_store.specs.Pages.{HasRead, OnHonest};
+ghost use Rattle.check_report.specs.Faults.{by_new, by_old};
+ghost use Rattle.check_report.specs.Reports.{answer_of, image_rows, wish_of};
+
+use crate::answer::{Answer, Request};
+use crate::fault::ReportFault;
+use check_rows::Report;
+use finding_rows::tell_findings;
+use flash_store::{Flash, Paged};
+use image_check::check_image;
+use std::alloc::Global;
+
+/// The report on an image: a row for each of its findings. `NewDevice` comes exactly where the device refused a read.
+pub fn report_image<F: Flash>(
+    alloc: Global,
+    paged: &mut Paged<F>,
+    request: Request<'_>,
+) -> Result<Answer, ReportFault>
+    // On any device.
+    ensures after { HasRead F.facts (2 * length (F.facts paged.old.device).content + 64)
+        (faults_told by_new result) paged.old paged.new }
+    ensures side { faults_told by_old result ≡ 0 }
+
+    // On an honest device.
+    ensures answer { OnHonest F.facts paged.old.device (λ image.
+        IfOk result (λ answer. answer ≡ answer_of request.entry.form (image_rows (wish_of request.entry) image))) }
+{
+    let findings = check_image(alloc, paged, request.areas)?;
+    let mut report = Report::new(alloc, request.form);
+    tell_findings(&mut report, &findings, request.areas, request.is_verbose)?;
+    Ok(Answer::of(report)?)
+}
