@@ -1,0 +1,192 @@
+//! Says whether a flash image is fit to be flashed, and what a new one changes.
+#![tactic(auto)]
+
+pub use check_line::{CheckLine, LineFault, read_check};
+pub use check_report::{Answer, ReportFault, Request, report_change, report_image};
+use check_rows::Form;
+use flash_store::{FileFlash, OpenFault, Paged};
+use std::env;
+use std::io::{self, ErrorKind, Write};
+use std::process::ExitCode;
+use thiserror::Error;
+
+const USAGE: &str = "\
+usage: cbfscheck [OPTIONS] IMAGE
+       cbfscheck [OPTIONS] [--keep AREA[,AREA..]] OLD NEW
+options: -r AREA[,AREA..] -v --json
+";
+
+/// Why an image can't be read; the text is what the program prints of it.
+#[derive(Clone, Copy, Debug, PartialEq, Eq, Error)]
+enum ImageFault {
+    #[error("device fault")]
+    Device,
+    #[error("image too large")]
+    TooLarge,
+}
+
+/// Why no report is printed; the text is what the program prints of it.
+#[derive(Clone, Copy, Debug, PartialEq, Eq, Error)]
+enum Refusal<'a> {
+    #[error("bad command line")]
+    Usage,
+    #[error("out of memory")]
+    Memory,
+    #[error("output fault")]
+    Output,
+    #[error("{path}: {fault}")]
+    Image { path: &'a str, fault: ImageFault },
+}
+
+impl<'a> Refusal<'a> {
+    /// The refusal of words.
+    fn of_words(fault: LineFault) -> Refusal<'a> {
+        match fault {
+            LineFault::Usage => Refusal::Usage,
+            LineFault::Memory => Refusal::Memory,
+        }
+    }
+
+    /// The refusal of an image that can't be opened.
+    fn of_opening(path: &'a str, fault: OpenFault) -> Refusal<'a> {
+        let fault = match fault {
+            OpenFault::Memory => return Refusal::Memory,
+            OpenFault::Failed => ImageFault::Device,
+            OpenFault::TooLarge => ImageFault::TooLarge,
+        };
+        Refusal::Image { path, fault }
+    }
+
+    /// The refusal of a report on the image at `new`, or on what it changes of the one at `old`.
+    fn of_report(old: &'a str, new: &'a str, fault: ReportFault) -> Refusal<'a> {
+        let path = match fault {
+            ReportFault::Memory => return Refusal::Memory,
+            ReportFault::OldDevice => old,
+            ReportFault::NewDevice => new,
+        };
+        Refusal::Image {
+            path,
+            fault: ImageFault::Device,
+        }
+    }
+}
+
+/// Opens an image for reading alone.
+fn open<'a>(rt: &HostRuntime, path: &'a str) -> Result<Paged<FileFlash>, Refusal<'a>> {
+    match FileFlash::open_to_read(rt, path) {
+        Ok(image) => Ok(Paged::new(image)),
+        Err(fault) => Err(Refusal::of_opening(path, fault)),
+    }
+}
+
+/// What a line asks for.
+fn request_of<'l>(line: &'l CheckLine<'_>) -> Request<'l> {
+    Request {
+        areas: line.areas(),
+        kept: line.kept(),
+        is_verbose: line.is_verbose(),
+        form: if line.is_json() {
+            Form::Json
+        } else {
+            Form::Text
+        },
+    }
+}
+
+/// A report on the image at `new`, or on what it changes of the one at `old`, or its refusal.
+fn answered<'a>(
+    old: &'a str,
+    new: &'a str,
+    report: Result<Answer, ReportFault>,
+) -> Result<Answer, Refusal<'a>> {
+    match report {
+        Ok(answer) => Ok(answer),
+        Err(fault) => Err(Refusal::of_report(old, new, fault)),
+    }
+}
+
+/// Checks the image of a line, or the new one against the old.
+fn check<'a>(rt: &HostRuntime, line: &CheckLine<'a>) -> Result<Answer, Refusal<'a>> {
+    let request = request_of(line);
+    let path = line.image();
+    let mut image = open(rt, path)?;
+    let Some(new_path) = line.new_image() else {
+        let report = report_image(rt.alloc(), &mut image, request);
+        return answered(path, path, report);
+    };
+    let mut new_image = open(rt, new_path)?;
+    let report = report_change(rt.alloc(), &mut image, &mut new_image, request);
+    answered(path, new_path, report)
+}
+
+/// Prints a report, which is whole by now.
+fn print<'a>(rt: &HostRuntime, text: &[u8]) -> Result<(), Refusal<'a>> {
+    io::writer(rt).write_all(text).map_err(|_| Refusal::Output)
+}
+
+/// The words after the program's name.
+fn read_words<'a>(rt: &HostRuntime) -> Result<Vec<String>, Refusal<'a>> {
+    let words = match env::args(rt) {
+        Ok(words) => words,
+        Err(fault) if fault.kind() == ErrorKind::OutOfMemory => return Err(Refusal::Memory),
+        Err(_) => return Err(Refusal::Usage),
+    };
+    let mut all = Vec::new(rt.alloc());
+    for word in words.skip(1) {
+        if all.push(word).is_err() {
+            return Err(Refusal::Memory);
+        }
+    }
+    Ok(all)
+}
+
+/// The words as texts.
+fn texts_of<'a>(rt: &HostRuntime, words: &'a [String]) -> Result<Vec<&'a str>, Refusal<'a>> {
+    let mut texts = Vec::new(rt.alloc());
+    for word in words {
+        if texts.push(word.as_str()).is_err() {
+            return Err(Refusal::Memory);
+        }
+    }
+    Ok(texts)
+}
+
+/// Does what the words say, and answers whether something is bad; without words prints the usage.
+fn obey<'a>(rt: &HostRuntime, words: &'a [&'a str]) -> Result<bool, Refusal<'a>> {
+    if words.is_empty() {
+        print(rt, USAGE.as_bytes())?;
+        return Ok(false);
+    }
+    let line = match read_check(rt.alloc(), words) {
+        Ok(line) => line,
+        Err(fault) => return Err(Refusal::of_words(fault)),
+    };
+    let answer = check(rt, &line)?;
+    print(rt, answer.text())?;
+    Ok(answer.is_bad())
+}
+
+/// Tells a refusal.
+fn refuse(rt: &HostRuntime, refusal: Refusal<'_>) -> ExitCode {
+    let _told = eprintln!(rt; "cbfscheck: {refusal}");
+    ExitCode::from(2)
+}
+
+/// Does what the words say; the status says how that went.
+fn answer_to(rt: &HostRuntime, words: &[String]) -> ExitCode {
+    let texts = match texts_of(rt, words) {
+        Ok(texts) => texts,
+        Err(refusal) => return refuse(rt, refusal),
+    };
+    match obey(rt, texts.as_slice()) {
+        Ok(is_bad) => ExitCode::from(if is_bad { 1 } else { 0 }),
+        Err(refusal) => refuse(rt, refusal),
+    }
+}
+
+fn main(rt: HostRuntime) -> ExitCode {
+    match read_words(&rt) {
+        Ok(words) => answer_to(&rt, words.as_slice()),
+        Err(refusal) => refuse(&rt, refusal),
+    }
+}
