@@ -1,4 +1,4 @@
-# make: proves and builds both programs, as the README says.
+# make: proves and builds the programs, as the README says.
 # make install: puts the programs, the manual pages, the completions and the documents in place; PREFIX and DESTDIR say
 # where. With SUFFIX=-proved, or another one, programs, pages and completions have names with this end, and leave coreboot's
 # alone. It takes the programs as they lie, and builds those that aren't there.
@@ -23,14 +23,14 @@ DOC = $(PREFIX)/share/doc/cbfstool$(SUFFIX)
 DOC_SHOWN = $(DOC)
 FOLDERS = $(BIN) $(MAN1) $(MAN5) $(BASH_FILES) $(ZSH_FILES) $(FISH_FILES) $(DOC)/docs $(DOC)/bench $(DOC)
 DOCUMENTS = bench.svg growth.svg layers.svg DECISIONS.md DEVELOPING.md FORMAT.md MISTAKES.md MOVING.md PROMISES.md
-FILES = $(BIN)/cbfstool$(SUFFIX) $(BIN)/fmaptool$(SUFFIX) \
-	$(MAN1)/cbfstool$(SUFFIX).1 $(MAN1)/fmaptool$(SUFFIX).1 $(MAN5)/fmd$(SUFFIX).5 \
-	$(BASH_FILES)/cbfstool$(SUFFIX) $(BASH_FILES)/fmaptool$(SUFFIX) \
-	$(ZSH_FILES)/_cbfstool$(SUFFIX) $(ZSH_FILES)/_fmaptool$(SUFFIX) \
-	$(FISH_FILES)/cbfstool$(SUFFIX).fish $(FISH_FILES)/fmaptool$(SUFFIX).fish \
+PROGRAMS = cbfstool fmaptool cbfscheck
+FILES = $(foreach program,$(PROGRAMS),$(BIN)/$(program)$(SUFFIX) $(MAN1)/$(program)$(SUFFIX).1 \
+	$(BASH_FILES)/$(program)$(SUFFIX) $(ZSH_FILES)/_$(program)$(SUFFIX) $(FISH_FILES)/$(program)$(SUFFIX).fish) \
+	$(MAN5)/fmd$(SUFFIX).5 \
 	$(DOC)/README.md $(DOC)/CHANGELOG.md $(DOC)/LICENSE $(DOC)/bench/RESULTS.md $(addprefix $(DOC)/docs/,$(DOCUMENTS))
 CBFSTOOL = crates/cbfstool/out/cbfstool
 FMAPTOOL = crates/fmaptool/out/fmaptool
+CBFSCHECK = crates/cbfscheck/out/cbfscheck
 INSTALL = install
 INSTALL_DATA = $(INSTALL) -m 644
 
@@ -44,11 +44,11 @@ GIT_AUTHOR = $(shell git log -1 --format='%an <%ae>' 2> /dev/null)
 MAINTAINER = $(if $(and $(GIT_NAME),$(GIT_ADDRESS)),$(GIT_NAME) <$(GIT_ADDRESS)>,$(or $(GIT_AUTHOR),nobody <nobody@localhost>))
 ARCHIVE = cbfstool$(SUFFIX)-$(VERSION)-$(shell uname -m)
 # (the oldest C library that has all that the programs call)
-LIBC = $(shell objdump -T $(CBFSTOOL) $(FMAPTOOL) | sed -n 's/.*GLIBC_\([0-9.]*\).*/\1/p' | sort -Vu | tail -n 1)
+LIBC = $(shell objdump -T $(CBFSTOOL) $(FMAPTOOL) $(CBFSCHECK) | sed -n 's/.*GLIBC_\([0-9.]*\).*/\1/p' | sort -Vu | tail -n 1)
 
 # A page with the names of the programs and pages as they are installed: in macros as they are, in examples with dashes that
 # stay dashes. What the programs print begins with their plain names and a colon.
-NAMES = \(cbfstool\|fmaptool\)\>\([^:]\|$$\)
+NAMES = \(cbfstool\|fmaptool\|cbfscheck\)\>\([^:]\|$$\)
 ESCAPED = $(subst -,\\-,$(SUFFIX))
 CAPITALS = $(shell printf %s '$(SUFFIX)' | tr a-z A-Z)
 PAGE = sed -e '/^\./s/$(NAMES)/\1$(SUFFIX)\2/g' -e '/^[^.]/s/$(NAMES)/\1$(ESCAPED)\2/g' \
@@ -59,6 +59,7 @@ PAGE = sed -e '/^\./s/$(NAMES)/\1$(SUFFIX)\2/g' -e '/^[^.]/s/$(NAMES)/\1$(ESCAPE
 all:
 	cd crates/cbfstool && rt run > /dev/null
 	cd crates/fmaptool && rt run > /dev/null
+	cd crates/cbfscheck && rt run > /dev/null
 
 $(CBFSTOOL):
 	cd crates/cbfstool && rt run > /dev/null
@@ -66,28 +67,32 @@ $(CBFSTOOL):
 $(FMAPTOOL):
 	cd crates/fmaptool && rt run > /dev/null
 
+$(CBFSCHECK):
+	cd crates/cbfscheck && rt run > /dev/null
+
 check:
 	checks/check
 
 install: put
 	@[ -n "$(SUFFIX)" ] || { \
 		same=; \
-		for program in cbfstool fmaptool; do \
+		for program in $(PROGRAMS); do \
 			found=$$(IFS=:; for folder in $$PATH; do \
 				[ "$$folder" = "$(BIN)" ] || [ ! -x "$$folder/$$program" ] || { echo "$$folder/$$program"; break; }; done); \
 			same="$$same$${found:+ $$found}"; \
 		done; \
 		[ -z "$$same" ] || echo "install: programs of the same names:$$same; PATH says which ones run, and SUFFIX=-proved gives other names"; }
 
-put: $(CBFSTOOL) $(FMAPTOOL)
+put: $(CBFSTOOL) $(FMAPTOOL) $(CBFSCHECK)
 	case "$(SUFFIX)" in *[!A-Za-z0-9._+-]*) echo "SUFFIX has other marks than . _ + -" >&2; exit 1 ;; esac
 	for folder in $(FOLDERS); do $(INSTALL) -d "$(DESTDIR)$$folder" || exit; done
 	$(INSTALL) -m 755 $(CBFSTOOL) "$(DESTDIR)$(BIN)/cbfstool$(SUFFIX)"
 	$(INSTALL) -m 755 $(FMAPTOOL) "$(DESTDIR)$(BIN)/fmaptool$(SUFFIX)"
-	$(PAGE) man/cbfstool.1 > "$(DESTDIR)$(MAN1)/cbfstool$(SUFFIX).1"
-	$(PAGE) man/fmaptool.1 > "$(DESTDIR)$(MAN1)/fmaptool$(SUFFIX).1"
+	$(INSTALL) -m 755 $(CBFSCHECK) "$(DESTDIR)$(BIN)/cbfscheck$(SUFFIX)"
+	for program in $(PROGRAMS); do \
+		$(PAGE) man/$$program.1 > "$(DESTDIR)$(MAN1)/$$program$(SUFFIX).1" || exit; done
 	$(PAGE) man/fmd.5 > "$(DESTDIR)$(MAN5)/fmd$(SUFFIX).5"
-	for program in cbfstool fmaptool; do \
+	for program in $(PROGRAMS); do \
 		name=$$program$(SUFFIX); \
 		sed "s/$$program/$$name/g" completion/$$program.bash > "$(DESTDIR)$(BASH_FILES)/$$name" && \
 		sed "s/$$program/$$name/g" completion/_$$program > "$(DESTDIR)$(ZSH_FILES)/_$$name" && \
@@ -105,10 +110,10 @@ uninstall:
 	else rmdir "$(DOC)/docs" "$(DOC)/bench" "$(DOC)" 2> /dev/null; fi; :
 
 # What is unpacked has a README of its own, with the names of the programs as they are there, and the sample that it uses.
-OWN_README = sed -e 's/\<\(cbfstool\|fmaptool\|man fmd\)\>/&$(SUFFIX)/g'
+OWN_README = sed -e 's/\<\(cbfstool\|fmaptool\|cbfscheck\|man fmd\)\>/&$(SUFFIX)/g'
 
 # (the pages name the documents from the archive's own folder)
-dist: $(CBFSTOOL) $(FMAPTOOL)
+dist: $(CBFSTOOL) $(FMAPTOOL) $(CBFSCHECK)
 	rm -rf "$(OUT)/dist"
 	mkdir -p "$(OUT)/dist"
 	$(MAKE) put DESTDIR="$$(cd "$(OUT)/dist" && pwd)" PREFIX=/$(ARCHIVE) DOC_SHOWN=share/doc/cbfstool$(SUFFIX)
@@ -119,7 +124,7 @@ dist: $(CBFSTOOL) $(FMAPTOOL)
 	rm -rf "$(OUT)/dist"
 	@echo "$(OUT)/$(ARCHIVE).tar.gz"
 
-deb: $(CBFSTOOL) $(FMAPTOOL)
+deb: $(CBFSTOOL) $(FMAPTOOL) $(CBFSCHECK)
 	rm -rf "$(OUT)/deb"
 	mkdir -p "$(OUT)/deb"
 	$(MAKE) package SUFFIX="$(or $(SUFFIX),-proved)" PREFIX=/usr ZSH_FILES=/usr/share/zsh/vendor-completions \
@@ -136,9 +141,10 @@ package: put
 	$(INSTALL) -d "$(DESTDIR)/DEBIAN"
 	printf '%s\n' "Package: cbfstool$(SUFFIX)" "Version: $(VERSION)" "Architecture: $$(dpkg --print-architecture)" \
 		'Maintainer: $(subst ','\'',$(MAINTAINER))' "Section: utils" "Priority: optional" "Depends: libc6 (>= $(LIBC))" \
-		"Description: proved cbfstool and fmaptool for coreboot flash images" \
-		" cbfstool$(SUFFIX) lists, reads and changes the regions of a flash image, and" \
-		" fmaptool$(SUFFIX) compiles a flashmap descriptor. Their names leave those of" \
+		"Description: proved cbfstool, fmaptool and cbfscheck for coreboot flash images" \
+		" cbfstool$(SUFFIX) lists, reads and changes the regions of a flash image," \
+		" fmaptool$(SUFFIX) compiles a flashmap descriptor, and cbfscheck$(SUFFIX) tells" \
+		" whether an image is fit to be flashed. Their names leave those of" \
 		" coreboot-utils alone." > "$(DESTDIR)/DEBIAN/control"
 	cd "$(DESTDIR)" && find usr -type f -exec md5sum {} + | sort -k 2 > DEBIAN/md5sums
 	chmod -R u=rwX,go=rX "$(DESTDIR)"

@@ -1,24 +1,25 @@
-# What the scripts share that run both programs by their names; for any shell of POSIX.
+# What the scripts share that run the programs by their names; for any shell of POSIX.
 
-# programs [--built | CBFSTOOL FMAPTOOL]: goes to a new folder, with copies of both programs first on PATH: those that it
-# builds, those that lie in out/, or those given. Needs the repository as the current folder, which is `top` then.
+# programs [--built | CBFSTOOL FMAPTOOL CBFSCHECK]: goes to a new folder, with copies of the programs first on PATH: those
+# that it builds, those that lie in out/, or those given. Needs the repository as the current folder, which is `top` then.
 programs() {
     top=$PWD
     case ${1:-} in
         "" | --built)
-            for program in cbfstool fmaptool; do
+            for program in cbfstool fmaptool cbfscheck; do
                 [ "${1:-}" = --built ] || (cd "crates/$program" && rt run > /dev/null)
             done
-            set -- "crates/cbfstool/out/cbfstool" "crates/fmaptool/out/fmaptool"
+            set -- crates/cbfstool/out/cbfstool crates/fmaptool/out/fmaptool crates/cbfscheck/out/cbfscheck
             ;;
     esac
-    [ $# = 2 ] || fail "wanted: nothing, --built, or two programs"
+    [ $# = 3 ] || fail "wanted: nothing, --built, or three programs"
     work=$(mktemp -d)
     trap 'rm -rf "$work"' EXIT
     mkdir "$work/bin" "$work/scratch"
     cp "$1" "$work/bin/cbfstool"
     cp "$2" "$work/bin/fmaptool"
-    chmod 755 "$work" "$work/bin/cbfstool" "$work/bin/fmaptool"
+    cp "$3" "$work/bin/cbfscheck"
+    chmod 755 "$work" "$work"/bin/*
     PATH=$work/bin:$PATH
     cd "$work/scratch"
 }
