@@ -1,4 +1,4 @@
-# What the checks of both programs share.
+# What the checks of the programs share.
 
 # prepare NAME [PROGRAM]: takes the program, or builds the one of this name, and goes to a new folder.
 prepare() {
@@ -73,8 +73,9 @@ refuses() {
 }
 
 # each_growth LEAST FILE WORDS..: with each growth of memory refused in turn, until a run has none of the number, the
-# program tells the want of memory and leaves no byte in the file; there are more growths than the least. What it prints
-# goes to the file printed, and only where that is the file it may print anything once none is refused
+# program tells the want of memory, with status 1 or $memory_status, and leaves no byte in the file; there are more growths
+# than the least. What it prints goes to the file printed, and only where that is the file it may print anything once none
+# is refused
 each_growth() {
     local least=$1 file=$2 growths=0 status
     shift 2
@@ -84,7 +85,7 @@ each_growth() {
         rm -f "$file" was_refused
         REFUSED=was_refused REFUSE_AT=$growths LD_PRELOAD=./refuse_memory.so "$tool" "$@" > printed 2> told || status=$?
         [ -e was_refused ] || break
-        [ "$status" = 1 ] || fail "growth $growths of memory refused: status $status"
+        [ "$status" = "${memory_status:-1}" ] || fail "growth $growths of memory refused: status $status"
         has told "$name: out of memory"
         empty printed
         [ ! -s "$file" ] || fail "growth $growths of memory refused: $file has bytes"
