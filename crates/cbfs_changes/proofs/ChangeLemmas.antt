@@ -129,14 +129,14 @@ spans_more : (all : List Listed) (i : ℕ) (l : Listed) → i < length all → l
 spans_more all i l lt is = rw (add-one, take-suc all i l lt, sym is) (omega (arith, sum_by-append (λ (l : Listed). l.cell.span) (take i all) (l ∷ [])))
 
 module _ {F G : Type 0} (f : F → Device) (g : G → Device) (all : List Listed) (i a b : ℕ) (l : Listed) (old mid new : Pages F) (other between later : Pages G) where
-  pub reads_more : i < length all → l ≡ get_or all i l → 64 ≤ l.cell.span → HasReadBoth f g (spans (take i all) / 16) 0 0 old mid other between → HasReadBoth f g (2 + l.cell.span / 4096) a b mid new between later
-      → HasReadBoth f g (spans (take (i + 1) all) / 16) a b old new other later
-  reads_more lt is some first second = both-within f g _ _ a b old new other later (omega (arith, some, spans_more all i l lt is)) (both-then f g (spans (take i all) / 16) (2 + l.cell.span / 4096) a b old mid new other between later first second)
+  pub reads_more : i < length all → l ≡ get_or all i l → 64 ≤ l.cell.span → HasReadBoth f g (spans (take i all) / 24) 0 0 old mid other between → HasReadBoth f g (2 + l.cell.span / 4096) a b mid new between later
+      → HasReadBoth f g (spans (take (i + 1) all) / 24) a b old new other later
+  reads_more lt is some first second = both-within f g _ _ a b old new other later (omega (arith, some, spans_more all i l lt is)) (both-then f g (spans (take i all) / 24) (2 + l.cell.span / 4096) a b old mid new other between later first second)
 
   -- of all of them
-  pub reads_all : i < length all → l ≡ get_or all i l → 64 ≤ l.cell.span → HasReadBoth f g (spans (take i all) / 16) 0 0 old mid other between → HasReadBoth f g (2 + l.cell.span / 4096) a b mid new between later
-      → HasReadBoth f g (spans all / 16) a b old new other later
-  reads_all lt is some first second = both-within f g (spans (take (i + 1) all) / 16) (spans all / 16) a b old new other later (omega (arith, sum_by-take-le (λ (l : Listed). l.cell.span) all (i + 1))) (reads_more lt is some first second)
+  pub reads_all : i < length all → l ≡ get_or all i l → 64 ≤ l.cell.span → HasReadBoth f g (spans (take i all) / 24) 0 0 old mid other between → HasReadBoth f g (2 + l.cell.span / 4096) a b mid new between later
+      → HasReadBoth f g (spans all / 24) a b old new other later
+  reads_all lt is some first second = both-within f g (spans (take (i + 1) all) / 24) (spans all / 24) a b old new other later (omega (arith, sum_by-take-le (λ (l : Listed). l.cell.span) all (i + 1))) (reads_more lt is some first second)
 
 -- all that is told
 pub all_told : (x y : List ℕ) (before after : Listing) (start mid end : List ComponentChange) → start ≡ [] → mid ≡ start ++ flat_map (listed_change x before y after) after.all.now

@@ -2,3 +2,4 @@ pub mod FirstLemmas
 pub mod Reading
 pub mod ListingLemmas
 pub mod ChangeLemmas
+mod SameLemmas

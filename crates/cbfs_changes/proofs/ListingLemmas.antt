@@ -119,7 +119,7 @@ pub record ListedSoFar {F : Type 0} (facts : F → Device) (r : Range) (w : Walk
   pub going : w.ended ≡ None
   pub inside : w.at ≤ r.size
   pub aligned : w.at % 64 ≡ 0
-  pub read : HasRead facts (w.at / 16) 0 old now
+  pub read : HasRead facts (w.at / 24) 0 old now
   pub cells : All (IsListedIn r.size) all
   pub room : spans all ≤ w.at
   pub so_far : IsTrue (facts old.device).honest → map (state_in (bytes_in r (facts old.device).content)) all ++ states_from (bytes_in r (facts old.device).content) w.at ≡ states (bytes_in r (facts old.device).content)
@@ -130,7 +130,7 @@ listing_start facts r all old none = rw none (record {
   going = refl;
   inside = omega arith;
   aligned = refl;
-  read = HasRead-within facts 0 (0 / 16) 0 old old (omega arith) (HasRead-none facts old);
+  read = HasRead-within facts 0 (0 / 24) 0 old old (omega arith) (HasRead-none facts old);
   cells = All-nil (IsListedIn r.size);
   room = omega arith;
   so_far = λ h. sym (states_whole (bytes_in r (facts old.device).content));
@@ -178,7 +178,7 @@ module _ {F : Type 0} (facts : F → Device) (r : Range) (w : Walking) (all : Li
     going = i.going;
     inside = omega (arith, cell_of_region.inside, given.1);
     aligned = omega (arith, i.aligned, given.0.whole);
-    read = HasRead-within facts (w.at / 16 + (n + 1)) ((w.at + c.span) / 16) 0 old new (omega (arith, few, given.0.positive, given.0.whole, i.aligned)) (HasRead-then facts (w.at / 16) (n + 1) 0 old now new i.read (HasRead-then facts n 1 0 now mid new reads more));
+    read = HasRead-within facts (w.at / 24 + (n + 1)) ((w.at + c.span) / 24) 0 old new (omega (arith, few, given.0.positive, given.0.whole, i.aligned)) (HasRead-then facts (w.at / 24) (n + 1) 0 old now new i.read (HasRead-then facts n 1 0 now mid new reads more));
     cells = cells_more r.size c all next cell_of_region adds i.cells;
     room = room_more c all next w.at adds i.room;
     so_far = λ h.

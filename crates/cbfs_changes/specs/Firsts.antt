@@ -3,10 +3,8 @@ use Rattle.std.specs.Prelude.{◌≡◌, ℕ, Bool, false, List, Option, Some, N
 use Rattle.std.specs.Borrow.{Bor}
 use Rattle.std.specs.List.{find}
 use Rattle.std.specs.Option.{option_map}
-use Rattle.std.specs.Ordering.{nat_cmp}
 use Rattle.std.specs.Str.{bytes_eq}
-use Rattle.std.specs.Cmp.Lexicographic.{slice_cmp}
-use Rattle.std.specs.BTreeMap.{BTreeMap, get_by}
+use Rattle.std.specs.HashMap.{HashMap, get_by}
 use Rattle.cbfs_walk.specs.declared.cell.Cell.{Cell}
 use Rattle.cbfs_changes.specs.Listings.{IsListedIn}
 use Rattle.cbfs_changes.specs.declared.first.Listing.{Listing}
@@ -29,11 +27,11 @@ abbrev pub is_first : List Listed → Listed → Bool
 is_first all l = is_at l.cell.at (first_cell l.name all)
 
 -- the cell that is kept for a name
-abbrev pub noted : BTreeMap (Bor (List ℕ)) Cell → List ℕ → Option Cell
-noted first name = get_by (λ k. slice_cmp nat_cmp name k.now) first
+abbrev pub noted : {S : Type 0} → HashMap (Bor (List ℕ)) Cell S → List ℕ → Option Cell
+noted first name = get_by (λ k. bytes_eq name k.now) first
 
 -- the map keeps those of these components, and no more
-abbrev pub Notes : BTreeMap (Bor (List ℕ)) Cell → List Listed → Type 0
+abbrev pub Notes : {S : Type 0} → HashMap (Bor (List ℕ)) Cell S → List Listed → Type 0
 Notes first all = (name : List ℕ) → noted first name ≡ first_cell name all
 
 -- the map is that of the components, and each lies in the region

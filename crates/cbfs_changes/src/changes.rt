@@ -11,7 +11,7 @@ ghost use Rattle.cbfs_changes.specs.Listings.{IsListedIn, Lists, listed_change, 
 ghost use Rattle.cbfs_changes.specs.Sides.{HasCompared, by_new, by_old};
 
 use crate::change::{ComponentChange, Difference};
-use crate::compare::difference;
+use crate::compare::{are_same, difference};
 use crate::fault::ChangeFault;
 use crate::first::{Listing, with_firsts};
 use crate::listing::{Listed, components};
@@ -141,7 +141,7 @@ fn tell_changes<'a, F: Flash, G: Flash>(
     requires before { IsListing before.now }
     requires after { IsListing after.now }
 
-    ensures after { HasCompared F.facts G.facts (spans after.now.all.now / 16) result old.old old.new new.old new.new }
+    ensures after { HasCompared F.facts G.facts (spans after.now.all.now / 24) result old.old old.new new.old new.new }
     ensures told { OnHonestIn F.facts old.old.device before.now.region (λ x. OnHonestIn G.facts new.old.device after.now.region (λ y.
         OnOk result (changes.new.told.items ≡ changes.old.told.items
         ++ flat_map (listed_change x before.now y after.now) after.now.all.now))) }
@@ -205,7 +205,7 @@ fn listing_changes<'a, F: Flash, G: Flash>(
     requires before { IsListing before.now }
     requires after { IsListing after.now }
 
-    ensures after { HasCompared F.facts G.facts (spans after.now.all.now / 16) result old.old old.new new.old new.new }
+    ensures after { HasCompared F.facts G.facts (spans after.now.all.now / 24) result old.old old.new new.old new.new }
     ensures changes { OnHonestIn F.facts old.old.device before.now.region (λ x. OnHonestIn G.facts new.old.device after.now.region (λ y.
         IfOk result (λ changes. changes.items ≡ changes_between (states_in x before.now) (states_in y after.now)))) }
 {
@@ -230,7 +230,7 @@ fn list_changes<'a, F: Flash, G: Flash>(
     requires old_list { All (IsListedIn old_region.size) old_list.now }
     requires new_list { All (IsListedIn new_region.size) new_list.now }
 
-    ensures after { HasCompared F.facts G.facts (spans new_list.now / 16) result old.old old.new new.old new.new }
+    ensures after { HasCompared F.facts G.facts (spans new_list.now / 24) result old.old old.new new.old new.new }
     ensures changes { OnHonestIn F.facts old.old.device old_region (λ x. OnHonestIn G.facts new.old.device new_region (λ y.
         IfOk result (λ changes. changes.items ≡ changes_between (map (state_in x) old_list.now) (map (state_in y) new_list.now)))) }
 {
@@ -247,7 +247,7 @@ fn old_components<F: Flash>(
 ) -> Result<Vec<Listed>, ChangeFault>
     requires { LiesIn region (F.facts old.old.device).content }
 
-    ensures after { HasRead F.facts (region.size / 16 + 2) (faults_told by_old result) old.old old.new }
+    ensures after { HasRead F.facts (region.size / 24 + 2) (faults_told by_old result) old.old old.new }
     ensures side { faults_told by_new result ≡ 0 }
     ensures lists { IfOk result (Lists F.facts region old.old) }
 {
@@ -265,7 +265,7 @@ fn new_components<F: Flash>(
 ) -> Result<Vec<Listed>, ChangeFault>
     requires { LiesIn region (F.facts new.old.device).content }
 
-    ensures after { HasRead F.facts (region.size / 16 + 2) (faults_told by_new result) new.old new.new }
+    ensures after { HasRead F.facts (region.size / 24 + 2) (faults_told by_new result) new.old new.new }
     ensures side { faults_told by_old result ≡ 0 }
     ensures lists { IfOk result (Lists F.facts region new.old) }
 {
@@ -275,7 +275,30 @@ fn new_components<F: Flash>(
     }
 }
 
-/// What changes between two regions.
+/// What changes between two regions, cell by cell.
+fn cell_changes<F: Flash, G: Flash>(
+    alloc: Global,
+    old: &mut Paged<F>,
+    old_region: Region,
+    new: &mut Paged<G>,
+    new_region: Region,
+) -> Result<Vec<ComponentChange>, ChangeFault>
+    requires old { LiesIn old_region (F.facts old.old.device).content }
+    requires new { LiesIn new_region (G.facts new.old.device).content }
+
+    ensures old { HasRead F.facts ((old_region.size + new_region.size) / 24 + 2) (faults_told by_old result) old.old old.new }
+    ensures new { HasRead G.facts (new_region.size / 12 + 2) (faults_told by_new result) new.old new.new }
+    ensures changes { OnHonestIn F.facts old.old.device old_region (λ x. OnHonestIn G.facts new.old.device new_region (λ y.
+        IfOk result (λ changes. changes.items ≡ component_changes x y))) }
+{
+    let old_list = old_components(alloc, old, old_region)?;
+    let new_list = new_components(alloc, new, new_region)?;
+    list_changes(
+        alloc, old, old_region, &old_list, new, new_region, &new_list,
+    )
+}
+
+/// What changes between two regions. Those of the same bytes are seen to be so before their cells are listed.
 fn region_changes<F: Flash, G: Flash>(
     alloc: Global,
     old: &mut Paged<F>,
@@ -291,11 +314,10 @@ fn region_changes<F: Flash, G: Flash>(
     ensures changes { OnHonestIn F.facts old.old.device old_region (λ x. OnHonestIn G.facts new.old.device new_region (λ y.
         IfOk result (λ changes. changes.items ≡ component_changes x y))) }
 {
-    let old_list = old_components(alloc, old, old_region)?;
-    let new_list = new_components(alloc, new, new_region)?;
-    list_changes(
-        alloc, old, old_region, &old_list, new, new_region, &new_list,
-    )
+    if are_same(old, old_region, new, new_region)? {
+        return Ok(Vec::new(alloc));
+    }
+    cell_changes(alloc, old, old_region, new, new_region)
 }
 
 /// What changes between the components of a region of the old device and one of the new; `None` stands for a region

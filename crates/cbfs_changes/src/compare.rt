@@ -1,5 +1,5 @@
 //! Comparing components of two devices.
-ghost use Rattle.std.specs.Prelude.{◌≡◌, ◌+◌, ◌-◌, ◌/◌, ◌≤◌, length, slice_range, IfOk};
+ghost use Rattle.std.specs.Prelude.{◌≡◌, ◌+◌, ◌-◌, ◌/◌, ◌≤◌, true, length, slice_range, IfOk};
 ghost use Rattle.std.specs.Str.{bytes_eq};
 ghost use Rattle.flash_store.specs.Pages.{OnHonest, OnHonestIn};
 ghost use Rattle.flash_store.specs.Regions.{LiesIn};
@@ -50,6 +50,27 @@ pub fn difference<F: Flash, G: Flash>(
         return Ok(Some(Difference::Attributes));
     }
     Ok(None)
+}
+
+/// Whether two regions have the same bytes. One without room for a cell isn't looked at.
+pub fn are_same<F: Flash, G: Flash>(
+    old: &mut Paged<F>,
+    old_region: Region,
+    new: &mut Paged<G>,
+    new_region: Region,
+) -> Result<bool, ChangeFault>
+    requires old { LiesIn old_region (F.facts old.old.device).content }
+    requires new { LiesIn new_region (G.facts new.old.device).content }
+
+    ensures after { HasCompared F.facts G.facts (new_region.size / 48) result old.old old.new new.old new.new }
+    ensures same { OnHonestIn F.facts old.old.device old_region (λ x. OnHonestIn G.facts new.old.device new_region (λ y.
+        IfOk result (λ same. same ≡ true → x ≡ y))) }
+{
+    if new_region.size() < 64 {
+        return Ok(false);
+    }
+    let (a, b) = (Stretch::whole(old_region), Stretch::whole(new_region));
+    same_stretch(old, old_region, a, new, new_region, b)
 }
 
 /// Whether two stretches have the same bytes.

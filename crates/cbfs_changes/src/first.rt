@@ -1,5 +1,5 @@
 //! The first component of each name.
-ghost use Rattle.std.specs.Prelude.{◌≡◌, [], ◌∷◌, ◌++◌, List, IfOk, OnOk};
+ghost use Rattle.std.specs.Prelude.{◌≡◌, ◌∷◌, List, IfOk, OnOk};
 ghost use Rattle.cbfs_changes.specs.Firsts.{Notes, first_cell, is_first};
 ghost use Rattle.cbfs_changes.specs.declared.listing.Listed.{Listed};
 
@@ -7,14 +7,19 @@ use crate::listing::Listed;
 use cbfs_walk::Cell;
 use flash_store::Region;
 use std::alloc::{AllocError, Global};
-use std::collections::BTreeMap;
+use std::collections::HashMap;
+use std::hash::{BuildHasherDefault, DefaultHasher};
+
+/// The cells of names. Whoever makes an image picks its names, so the hasher is one for which names that collide are dear
+/// to find.
+pub type Firsts<'a> = HashMap<&'a [u8], Cell, BuildHasherDefault<DefaultHasher>>;
 
 /// The components of a region, and of each name the cell of the first.
 #[derive(Drop)]
 pub struct Listing<'a> {
     pub region: Region,
     pub all: &'a [Listed],
-    pub first: BTreeMap<&'a [u8], Cell>,
+    pub first: Firsts<'a>,
 }
 
 impl<'a> Listing<'a> {
@@ -23,7 +28,7 @@ impl<'a> Listing<'a> {
         requires { Notes self.now.first self.now.all.now }
         ensures { result ≡ first_cell name.now self.now.all.now }
     {
-        self.first.get(&name).copied()
+        self.first.get(name).copied()
     }
 
     /// Whether no component in front of this one has its name.
@@ -48,21 +53,20 @@ pub fn with_firsts<'a>(
     ensures all { IfOk result (λ l. l.all.now ≡ all.now) }
     ensures notes { IfOk result (λ l. Notes l.first all.now) }
 {
-    let mut first = BTreeMap::new(alloc);
-    for listed in all {
-        note(&mut first, listed)?;
+    let mut first = HashMap::with_hasher(alloc, BuildHasherDefault::new());
+    let mut left = all.len();
+    // The last one of a name is noted first, so that the first one stays.
+    while left > 0 {
+        left -= 1;
+        note(&mut first, &all[left])?;
     }
     Ok(Listing { region, all, first })
 }
 
-/// Notes a component's cell, where none is noted for its name.
-fn note<'a>(first: &mut BTreeMap<&'a [u8], Cell>, listed: &'a Listed) -> Result<(), AllocError>
-    ensures { (before : List Listed) → Notes first.old before → OnOk result (Notes first.new (before ++ listed.now ∷ [])) }
+/// Notes a component's cell, in place of that of any of its name behind it.
+fn note<'a>(first: &mut Firsts<'a>, listed: &'a Listed) -> Result<(), AllocError>
+    ensures { (behind : List Listed) → Notes first.old behind → OnOk result (Notes first.new (listed.now ∷ behind)) }
 {
-    let name = listed.name.as_slice();
-    if first.contains_key(&name) {
-        return Ok(());
-    }
-    first.insert(name, listed.cell)?;
+    first.insert(listed.name.as_slice(), listed.cell)?;
     Ok(())
 }

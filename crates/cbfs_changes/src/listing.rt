@@ -66,7 +66,7 @@ pub fn components<F: Flash>(
 ) -> Result<Vec<Listed>, ListingFault>
     requires { LiesIn region (F.facts paged.old.device).content }
 
-    ensures after { HasRead F.facts (region.size / 16 + 2) (faults_told by_device result) paged.old paged.new }
+    ensures after { HasRead F.facts (region.size / 24 + 2) (faults_told by_device result) paged.old paged.new }
     ensures lists { IfOk result (Lists F.facts region paged.old) }
 {
     let mut all = Vec::new(alloc);

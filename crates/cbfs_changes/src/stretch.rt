@@ -3,6 +3,7 @@ ghost use Rattle.std.specs.Prelude.{◌≡◌, ◌+◌, ◌<◌, ◌≤◌, ◌^
 ghost use Rattle.flash_format.specs.Entry.{name_end};
 
 use cbfs_walk::Cell;
+use flash_store::Region;
 
 /// The bytes between two places, counted from the region's start.
 #[derive(Clone, Copy)]
@@ -12,6 +13,16 @@ pub struct Stretch {
 }
 
 impl Stretch {
+    /// All of a region.
+    pub fn whole(region: Region) -> Stretch
+        ensures { result ≡ record { from = 0; end = region.size } }
+    {
+        Stretch {
+            from: 0,
+            end: region.size(),
+        }
+    }
+
     /// A component's content, as it is stored.
     pub fn content(cell: &Cell) -> Stretch
         requires { cell.now.at + (cell.now.head.offset + cell.now.head.len) < 2 ^ 32 }

@@ -218,10 +218,11 @@ fn a_region_that_is_absent(rt: HostRuntime) {
 }
 
 /// The fault where the old device refuses its call of this number, counted from 0, and the new one that of that number.
+/// The devices differ in the last byte of a content: two calls compare the regions, one lists them, two compare contents.
 fn fault_at(rt: &(impl Abort + AllocGlobal), old: u64, new: u64) -> Option<ChangeFault> {
-    let parts: Parts = &[(0, &L)];
-    let mut old = Paged::new(FailAt::new(device_with(rt, 5056, parts), old, 0));
-    let mut new = Paged::new(FailAt::new(device_with(rt, 5056, parts), new, 0));
+    let (before, after): (Parts, Parts) = (&[(0, &L)], &[(0, &L), (5039, b"x")]);
+    let mut old = Paged::new(FailAt::new(device_with(rt, 5056, before), old, 0));
+    let mut new = Paged::new(FailAt::new(device_with(rt, 5056, after), new, 0));
     let (before, after) = (whole(rt, &old), whole(rt, &new));
     component_changes(rt.alloc(), &mut old, Some(before), &mut new, Some(after)).err()
 }
@@ -232,5 +233,7 @@ fn devices_that_refuse_a_read(rt: HostRuntime) {
     assert_eq!(&rt; fault_at(&rt, 9, 0), Some(ChangeFault::NewDevice));
     assert_eq!(&rt; fault_at(&rt, 2, 9), Some(ChangeFault::OldDevice));
     assert_eq!(&rt; fault_at(&rt, 9, 2), Some(ChangeFault::NewDevice));
+    assert_eq!(&rt; fault_at(&rt, 4, 9), Some(ChangeFault::OldDevice));
+    assert_eq!(&rt; fault_at(&rt, 9, 4), Some(ChangeFault::NewDevice));
     assert_eq!(&rt; fault_at(&rt, 9, 9), None);
 }

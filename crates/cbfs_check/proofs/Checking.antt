@@ -1,5 +1,5 @@
 -- What a check has told so far, and what the rest of a region tells.
-use Rattle.std.proofs.Common.{◌≡◌, ℕ, ◌+◌, ◌/◌, ◌%◌, ◌≤◌, ◌⊎◌, inl, inr, IsTrue, List, [], ◌∷◌, ◌++◌, length, Option, Some, None, Result, Ok, Err, Vec, Global, refl, sym, ap, subst, ◌∙◌, arith, append_assoc}
+use Rattle.std.proofs.Common.{◌≡◌, ℕ, ◌+◌, ◌/◌, ◌%◌, ◌≤◌, ◌⊎◌, inl, inr, Bool, IsTrue, List, [], ◌∷◌, ◌++◌, length, Option, Some, None, Result, Ok, Err, Vec, Global, refl, sym, ap, subst, ◌∙◌, arith, append_assoc}
 use Rattle.std.specs.Prelude.{IsErrOf, IfOk}
 use mathlib.Core.Path.{fun_ext}
 use Rattle.flash_format.specs.Cut.{Cut, End, after, cut}
@@ -34,11 +34,11 @@ use Rattle.cbfs_check.proofs.CountLemmas.{count_all, count_more, count_none, cou
 -- ---- as a reading of the cut
 
 -- all that is told, once so much is told and the cut goes on so at a place
-tell_cut : ℕ → Cut → Told → List RegionFinding
-tell_cut at k t = t.findings ++ (cells_findings t.names at k.cells ++ (end_finding (place_after at k.cells) k.end ∷ findings.Counts (count_all t.count at k.cells) ∷ []))
+tell_cut : Bool → ℕ → Cut → Told → List RegionFinding
+tell_cut verbose at k t = t.findings ++ (cells_findings verbose t.names at k.cells ++ (end_finding (place_after at k.cells) k.end ∷ findings.Counts (count_all t.count at k.cells) ∷ []))
 
-tell_cell : List ℕ → Cell → (Told → List RegionFinding) → Told → List RegionFinding
-tell_cell x given later t = later (told_cell t given.at x)
+tell_cell : Bool → List ℕ → Cell → (Told → List RegionFinding) → Told → List RegionFinding
+tell_cell verbose x given later t = later (told_cell verbose t given.at x)
 
 tell_fault : WalkFault → Told → List RegionFinding
 tell_fault fault t = t.findings ++ shape_findings fault
@@ -50,54 +50,54 @@ last end at n = end_finding at end ∷ findings.Counts n ∷ []
 joined : (told here later end : List RegionFinding) → told ++ ((here ++ later) ++ end) ≡ (told ++ here) ++ (later ++ end)
 joined told here later end = ap (λ (l : List RegionFinding). told ++ l) (append_assoc here later end) ∙ sym (append_assoc told here (later ++ end))
 
-cell_more : (at : ℕ) (x : List ℕ) (k : Cut) (t : Told) → tell_cut at (after x k) t ≡ tell_cut (at + length x) k (told_cell t at x)
+cell_more : (verbose : Bool) (at : ℕ) (x : List ℕ) (k : Cut) (t : Told) → tell_cut verbose at (after x k) t ≡ tell_cut verbose (at + length x) k (told_cell verbose t at x)
 unfolding tell_cut cells_findings last
-cell_more at x k t =
-    ap (λ (n : RegionCounts). t.findings ++ ((cell_findings t.names at x ++ cells_findings (names_after t.names x) (at + length x) k.cells) ++ last k.end (place_after (at + length x) k.cells) n)) (count_more t.count at x k.cells)
-    ∙ joined t.findings (cell_findings t.names at x) (cells_findings (names_after t.names x) (at + length x) k.cells) (last k.end (place_after (at + length x) k.cells) (count_all (told_cell t at x).count (at + length x) k.cells))
+cell_more verbose at x k t =
+    ap (λ (n : RegionCounts). t.findings ++ ((cell_findings verbose t.names at x ++ cells_findings verbose (names_after t.names x) (at + length x) k.cells) ++ last k.end (place_after (at + length x) k.cells) n)) (count_more t.count at x k.cells)
+    ∙ joined t.findings (cell_findings verbose t.names at x) (cells_findings verbose (names_after t.names x) (at + length x) k.cells) (last k.end (place_after (at + length x) k.cells) (count_all (told_cell verbose t at x).count (at + length x) k.cells))
 
-law : ReadsCells tell_cut tell_cell
+law : (verbose : Bool) → ReadsCells (tell_cut verbose) (tell_cell verbose)
 unfolding tell_cell
-law at x k = fun_ext (λ (t : Told). cell_more at x k t)
+law verbose at x k = fun_ext (λ (t : Told). cell_more verbose at x k t)
 
 -- all that is told from a place on
-pub told_from : List ℕ → Told → ℕ → List RegionFinding
-told_from x t at = shaped tell_fault tell_cut x at t
+pub told_from : Bool → List ℕ → Told → ℕ → List RegionFinding
+told_from verbose x t at = shaped tell_fault (tell_cut verbose) x at t
 
-whole_counts : (x : List ℕ) → (cells_findings [] 0 (cut x).cells ++ last (cut x).end (place_after 0 (cut x).cells) (counts x)) ≡ tell_cut 0 (cut x) told_nothing
+whole_counts : (verbose : Bool) (x : List ℕ) → (cells_findings verbose [] 0 (cut x).cells ++ last (cut x).end (place_after 0 (cut x).cells) (counts x)) ≡ tell_cut verbose 0 (cut x) told_nothing
 unfolding tell_cut last
-whole_counts x = ap (λ (n : RegionCounts). cells_findings [] 0 (cut x).cells ++ last (cut x).end (place_after 0 (cut x).cells) n) (sym (count_whole 0 (cut x).cells))
+whole_counts verbose x = ap (λ (n : RegionCounts). cells_findings verbose [] 0 (cut x).cells ++ last (cut x).end (place_after 0 (cut x).cells) n) (sym (count_whole 0 (cut x).cells))
 
-told_whole : (x : List ℕ) → region_findings x ≡ told_from x told_nothing 0
+told_whole : (verbose : Bool) (x : List ℕ) → region_findings verbose x ≡ told_from verbose x told_nothing 0
 unfolding told_from tell_fault region_findings shaped last
-told_whole x = go (shape x)
+told_whole verbose x = go (shape x)
   where
-    go : (o : Option WalkFault) → refused_or shape_findings o (cells_findings [] 0 (cut x).cells ++ last (cut x).end (place_after 0 (cut x).cells) (counts x)) ≡ refused_or tell_fault o (tell_cut 0 (cut x)) told_nothing
-    go None = whole_counts x
+    go : (o : Option WalkFault) → refused_or shape_findings o (cells_findings verbose [] 0 (cut x).cells ++ last (cut x).end (place_after 0 (cut x).cells) (counts x)) ≡ refused_or tell_fault o (tell_cut verbose 0 (cut x)) told_nothing
+    go None = whole_counts verbose x
     go (Some fault) = refl
 
 -- the same by the answer of the walk
-told_by : List ℕ → Told → Answer → List RegionFinding
-told_by x t answer = by_answer tell_fault tell_cut tell_cell x answer t
+told_by : Bool → List ℕ → Told → Answer → List RegionFinding
+told_by verbose x t answer = by_answer tell_fault (tell_cut verbose) (tell_cell verbose) x answer t
 
-told_step : (x : List ℕ) (t : Told) (at : ℕ) → at ≤ length x → at % 64 ≡ 0 → told_from x t at ≡ told_by x t (answer_at x at)
+told_step : (verbose : Bool) (x : List ℕ) (t : Told) (at : ℕ) → at ≤ length x → at % 64 ≡ 0 → told_from verbose x t at ≡ told_by verbose x t (answer_at x at)
 unfolding told_from told_by
-told_step x t at inside aligned = ap (λ (f : Told → List RegionFinding). f t) (shaped_step tell_fault tell_cut tell_cell law x at inside aligned)
+told_step verbose x t at inside aligned = ap (λ (f : Told → List RegionFinding). f t) (shaped_step tell_fault (tell_cut verbose) (tell_cell verbose) (law verbose) x at inside aligned)
 
-told_end : (x : List ℕ) (t : Told) → told_by x t (Ok steps.End) ≡ t.findings ++ findings.Complete ∷ findings.Counts t.count.counts ∷ []
+told_end : (verbose : Bool) (x : List ℕ) (t : Told) → told_by verbose x t (Ok steps.End) ≡ t.findings ++ findings.Complete ∷ findings.Counts t.count.counts ∷ []
 unfolding told_by tell_cut cells_findings
-told_end x t = ap (λ n. t.findings ++ findings.Complete ∷ findings.Counts n ∷ []) (count_none t.count (length x))
+told_end verbose x t = ap (λ n. t.findings ++ findings.Complete ∷ findings.Counts n ∷ []) (count_none t.count (length x))
 
-told_tail : (x : List ℕ) (t : Told) (at : ℕ) → told_by x t (Ok (steps.Tail at)) ≡ t.findings ++ findings.Tail at ∷ findings.Counts t.count.counts ∷ []
+told_tail : (verbose : Bool) (x : List ℕ) (t : Told) (at : ℕ) → told_by verbose x t (Ok (steps.Tail at)) ≡ t.findings ++ findings.Tail at ∷ findings.Counts t.count.counts ∷ []
 unfolding told_by tell_cut cells_findings
-told_tail x t at = ap (λ n. t.findings ++ findings.Tail at ∷ findings.Counts n ∷ []) (count_none t.count at)
+told_tail verbose x t at = ap (λ n. t.findings ++ findings.Tail at ∷ findings.Counts n ∷ []) (count_none t.count at)
 
-told_fault : (x : List ℕ) (t : Told) (fault : WalkFault) → (fault ≡ walk.Device → ⊥) → told_by x t (Err fault) ≡ refused_findings t.findings t.count.counts fault
+told_fault : (verbose : Bool) (x : List ℕ) (t : Told) (fault : WalkFault) → (fault ≡ walk.Device → ⊥) → told_by verbose x t (Err fault) ≡ refused_findings t.findings t.count.counts fault
 unfolding told_by tell_cut tell_fault cells_findings
-told_fault x t walk.Device other = absurd (other refl)
-told_fault x t walk.RegionShape other = refl
-told_fault x t walk.NotCbfs other = refl
-told_fault x t (walk.Damaged at kind) other = ap (λ n. t.findings ++ findings.Damaged at kind ∷ findings.Counts n ∷ []) (count_none t.count at)
+told_fault verbose x t walk.Device other = absurd (other refl)
+told_fault verbose x t walk.RegionShape other = refl
+told_fault verbose x t walk.NotCbfs other = refl
+told_fault verbose x t (walk.Damaged at kind) other = ap (λ n. t.findings ++ findings.Damaged at kind ∷ findings.Counts n ∷ []) (count_none t.count at)
 
 -- the same of the report that has told it
 reported : (report : Report) (t : Told) (f : List RegionFinding → RegionCounts → List RegionFinding) → HasTold report t → f report.findings.items report.count.counts ≡ f t.findings t.count.counts
@@ -106,25 +106,25 @@ reported report t f told = ap (λ (l : List RegionFinding). f l report.count.cou
 -- ---- the loop
 
 -- the check has come to the walk's place
-pub record Checking {F : Type 0} (facts : F → Device) (r : Range) (w : Walking) (report : Report) (old now : Pages F) : Type 0 where
+pub record Checking {F : Type 0} (facts : F → Device) (verbose : Bool) (r : Range) (w : Walking) (report : Report) (old now : Pages F) : Type 0 where
   pub region : w.region ≡ r
   pub going : w.ended ≡ None
   pub inside : w.at ≤ r.size
   pub aligned : w.at % 64 ≡ 0
   pub read : HasRead facts (w.at / 16) 0 old now
   pub before : IsCountBefore w.at report.count
-  pub so_far : IsTrue (facts old.device).honest → (t : Told) × HasTold report t × (region_findings (bytes_in r (facts old.device).content) ≡ told_from (bytes_in r (facts old.device).content) t w.at)
+  pub so_far : IsTrue (facts old.device).honest → (t : Told) × HasTold report t × (region_findings verbose (bytes_in r (facts old.device).content) ≡ told_from verbose (bytes_in r (facts old.device).content) t w.at)
 
-pub checking_start : {F : Type 0} (facts : F → Device) (r : Range) (report : Report) (old : Pages F) → report.findings.items ≡ [] → report.names.keys ≡ [] → report.count ≡ nothing
-    → Checking facts r (walk_of r) report old old
-checking_start facts r report old none unnamed zero = record {
+pub checking_start : {F : Type 0} (facts : F → Device) (verbose : Bool) (r : Range) (report : Report) (old : Pages F) → report.findings.items ≡ [] → report.names.keys ≡ [] → report.count ≡ nothing
+    → Checking facts verbose r (walk_of r) report old old
+checking_start facts verbose r report old none unnamed zero = record {
   region = refl;
   going = refl;
   inside = omega arith;
   aligned = refl;
   read = HasRead-within facts 0 (0 / 16) 0 old old (omega arith) (HasRead-none facts old);
   before = rw zero (record { components = omega arith; free = omega arith; row = omega arith });
-  so_far = λ h. (told_nothing, (none, (rw unnamed (λ q. refl)), zero), told_whole (bytes_in r (facts old.device).content));
+  so_far = λ h. (told_nothing, (none, (rw unnamed (λ q. refl)), zero), told_whole verbose (bytes_in r (facts old.device).content));
 }
 
 -- a step is no fault of the device
@@ -132,7 +132,7 @@ no_fault : (s : Step) (b : Answer) → (let a : Answer = Ok s in IsErrOf a walk.
 no_fault s b (inl e) = absurd cc
 no_fault s b (inr e) = e
 
-module _ {F : Type 0} (facts : F → Device) (r : Range) (w : Walking) (report : Report) (old now : Pages F) (lies : LiesIn r (facts old.device).content) (i : Checking facts r w report old now) where
+module _ {F : Type 0} (facts : F → Device) (verbose : Bool) (r : Range) (w : Walking) (report : Report) (old now : Pages F) (lies : LiesIn r (facts old.device).content) (i : Checking facts verbose r w report old now) where
   abbrev x : List ℕ
   x = bytes_in r (facts old.device).content
 
@@ -141,14 +141,14 @@ module _ {F : Type 0} (facts : F → Device) (r : Range) (w : Walking) (report :
   Answers a = IsTrue (facts now.device).honest → w.ended ≡ None → IsErrOf a walk.Device ⊎ (a ≡ answer_at (bytes_in w.region (facts now.device).content) w.at)
 
   answered : (a : Answer) → IsTrue (facts old.device).honest → a ≡ answer_at (bytes_in w.region (facts now.device).content) w.at
-      → (a ≡ answer_at x w.at) × ((t : Told) × HasTold report t × (region_findings x ≡ told_by x t a))
+      → (a ≡ answer_at x w.at) × ((t : Told) × HasTold report t × (region_findings verbose x ≡ told_by verbose x t a))
   answered a h is =
       let len : length x ≡ r.size = length-bytes_in r (facts old.device).content lies in
       let here : a ≡ answer_at x w.at = is ∙ ap (λ (k : Range). answer_at (bytes_in k (facts now.device).content) w.at) i.region ∙ ap (λ (l : List ℕ). answer_at (bytes_in r l) w.at) (i.read.device.unchanged h) in
       let told = i.so_far h in
-      (here, (told.0, told.1, told.2 ∙ told_step x told.0 w.at (omega (arith, len, i.inside)) i.aligned ∙ ap (λ (b : Answer). told_by x told.0 b) (sym here)))
+      (here, (told.0, told.1, told.2 ∙ told_step verbose x told.0 w.at (omega (arith, len, i.inside)) i.aligned ∙ ap (λ (b : Answer). told_by verbose x told.0 b) (sym here)))
 
-  step_answered : (s : Step) → Answers (Ok s) → IsTrue (facts old.device).honest → (Ok s ≡ answer_at x w.at) × ((t : Told) × HasTold report t × (region_findings x ≡ told_by x t (Ok s)))
+  step_answered : (s : Step) → Answers (Ok s) → IsTrue (facts old.device).honest → (Ok s ≡ answer_at x w.at) × ((t : Told) × HasTold report t × (region_findings verbose x ≡ told_by verbose x t (Ok s)))
   step_answered s answer h = answered (Ok s) h (no_fault s _ (answer (honest_still i.read.device.calls.same_honesty h) i.going))
 
   -- a cell is told
@@ -157,8 +157,8 @@ module _ {F : Type 0} (facts : F → Device) (r : Range) (w : Walking) (report :
       → Answers (Ok (steps.Cell c))
       → v ≡ record w { at = w.at + c.span; steps = w.steps + 1 }
       → IsCountBefore (c.at + c.span) next.count
-      → (IsTrue (facts mid.device).honest → StandsIn (bytes_in r (facts mid.device).content) c → (t : Told) → HasTold report t → HasTold next (told_cell t c.at (cell_in (bytes_in r (facts mid.device).content) c)))
-      → Checking facts r v next old new
+      → (IsTrue (facts mid.device).honest → StandsIn (bytes_in r (facts mid.device).content) c → (t : Told) → HasTold report t → HasTold next (told_cell verbose t c.at (cell_in (bytes_in r (facts mid.device).content) c)))
+      → Checking facts verbose r v next old new
   unfolding told_by tell_cell told_from
   checking_more c v next mid new n m given reads few more fewer answer moved before tells = rw moved (record {
     region = i.region;
@@ -173,9 +173,9 @@ module _ {F : Type 0} (facts : F → Device) (r : Range) (w : Walking) (report :
         let told = step_answered (steps.Cell c) answer h in
         let stands : StandsIn x c = ap (λ p. answer_at x p) given.1 ∙ sym told.0 in
         let t = told.1.0 in (
-          told_cell t c.at (cell_in x c),
+          told_cell verbose t c.at (cell_in x c),
           (rw same at (tells (honest_still reads.device.calls.same_honesty k))) stands t told.1.1,
-          told.1.2 ∙ ap (λ p. told_from x (told_cell t c.at (cell_in x c)) (p + c.span)) given.1,
+          told.1.2 ∙ ap (λ p. told_from verbose x (told_cell verbose t c.at (cell_in x c)) (p + c.span)) given.1,
         );
   })
     where
@@ -184,27 +184,27 @@ module _ {F : Type 0} (facts : F → Device) (r : Range) (w : Walking) (report :
 
   -- ---- the walk ended
 
-  pub checking_end : Answers (Ok steps.End) → IsTrue (facts old.device).honest → report.findings.items ++ findings.Complete ∷ findings.Counts report.count.counts ∷ [] ≡ region_findings x
+  pub checking_end : Answers (Ok steps.End) → IsTrue (facts old.device).honest → report.findings.items ++ findings.Complete ∷ findings.Counts report.count.counts ∷ [] ≡ region_findings verbose x
   checking_end answer h =
       let told = (step_answered steps.End answer h).1 in
-      reported report told.0 (λ l n. l ++ findings.Complete ∷ findings.Counts n ∷ []) told.1 ∙ sym (told.2 ∙ told_end x told.0)
+      reported report told.0 (λ l n. l ++ findings.Complete ∷ findings.Counts n ∷ []) told.1 ∙ sym (told.2 ∙ told_end verbose x told.0)
 
-  pub checking_tail : (at : ℕ) → Answers (Ok (steps.Tail at)) → IsTrue (facts old.device).honest → report.findings.items ++ findings.Tail at ∷ findings.Counts report.count.counts ∷ [] ≡ region_findings x
+  pub checking_tail : (at : ℕ) → Answers (Ok (steps.Tail at)) → IsTrue (facts old.device).honest → report.findings.items ++ findings.Tail at ∷ findings.Counts report.count.counts ∷ [] ≡ region_findings verbose x
   checking_tail at answer h =
       let told = (step_answered (steps.Tail at) answer h).1 in
-      reported report told.0 (λ l n. l ++ findings.Tail at ∷ findings.Counts n ∷ []) told.1 ∙ sym (told.2 ∙ told_tail x told.0 at)
+      reported report told.0 (λ l n. l ++ findings.Tail at ∷ findings.Counts n ∷ []) told.1 ∙ sym (told.2 ∙ told_tail verbose x told.0 at)
 
-  checking_fault : (fault : WalkFault) → (fault ≡ walk.Device → ⊥) → Answers (Err fault) → IsTrue (facts old.device).honest → refused_findings report.findings.items report.count.counts fault ≡ region_findings x
+  checking_fault : (fault : WalkFault) → (fault ≡ walk.Device → ⊥) → Answers (Err fault) → IsTrue (facts old.device).honest → refused_findings report.findings.items report.count.counts fault ≡ region_findings verbose x
   checking_fault fault other answer h = go (answer (honest_still i.read.device.calls.same_honesty h) i.going)
     where
-      go : (let a : Answer = Err fault in IsErrOf a walk.Device ⊎ (a ≡ answer_at (bytes_in w.region (facts now.device).content) w.at)) → refused_findings report.findings.items report.count.counts fault ≡ region_findings x
+      go : (let a : Answer = Err fault in IsErrOf a walk.Device ⊎ (a ≡ answer_at (bytes_in w.region (facts now.device).content) w.at)) → refused_findings report.findings.items report.count.counts fault ≡ region_findings verbose x
       go (inl device) = absurd (other (let is : fault ≡ walk.Device = cc in is))
       go (inr is) =
           let told = (answered (Err fault) h is).1 in
-          reported report told.0 (λ l n. refused_findings l n fault) told.1 ∙ sym (told.2 ∙ told_fault x told.0 fault other)
+          reported report told.0 (λ l n. refused_findings l n fault) told.1 ∙ sym (told.2 ∙ told_fault verbose x told.0 fault other)
 
   pub checking_refused : (fault : WalkFault) → Answers (Err fault) → IsTrue (facts old.device).honest → (result : Result (Vec RegionFinding Global) RegionCheckFault)
       → (fault ≡ walk.Device → IsErrOf result check.Device) → IfOk result (λ all. all.items ≡ refused_findings report.findings.items report.count.counts fault)
-      → IfOk result (λ all. all.items ≡ region_findings x)
+      → IfOk result (λ all. all.items ≡ region_findings verbose x)
   checking_refused fault answer h (Ok all) device told = told ∙ checking_fault fault (λ e. let bad : (let r : Result (Vec RegionFinding Global) RegionCheckFault = Ok all in r) ≡ Err check.Device = device e in cc) answer h
   checking_refused fault answer h (Err other) device told = tt

@@ -3,8 +3,6 @@ use Rattle.std.specs.Prelude.{◌≡◌, ℕ, Bool, List, Vec}
 use Rattle.std.specs.declared.alloc.Global.{Global}
 use Rattle.std.specs.List.{list_any}
 use Rattle.std.specs.Str.{bytes_eq}
-use Rattle.std.specs.Ordering.{is_eq, nat_cmp}
-use Rattle.std.specs.Cmp.Lexicographic.{slice_cmp}
 
 -- whether a name is among these
 abbrev pub is_among : List ℕ → List (List ℕ) → Bool
@@ -12,7 +10,7 @@ is_among name names = list_any (bytes_eq name) names
 
 -- whether the keys of a set have a name
 abbrev pub has : List ℕ → List (Vec ℕ Global) → Bool
-has name keys = list_any (λ k. is_eq (slice_cmp nat_cmp name k.items)) keys
+has name keys = list_any (λ k. bytes_eq name k.items) keys
 
 -- the keys of a set are these names
 abbrev pub HasNames : List (Vec ℕ Global) → List (List ℕ) → Type 0

@@ -1,5 +1,5 @@
 -- What is told so far.
-use Rattle.std.specs.Prelude.{◌≡◌, ℕ, List, [], ◌∷◌, ◌++◌, length, Result, OnOk}
+use Rattle.std.specs.Prelude.{◌≡◌, ℕ, Bool, List, [], ◌∷◌, ◌++◌, length, Result, OnOk}
 use Rattle.flash_format.specs.Head.{head_of, is_free}
 use Rattle.cbfs_check.specs.Counts.{nothing, counted}
 use Rattle.cbfs_check.specs.Names.{HasNames}
@@ -23,12 +23,12 @@ abbrev pub told_nothing : Told
 told_nothing = record { findings = []; names = []; count = nothing }
 
 -- one cell more, at a place, before it is counted
-abbrev pub told_of_cell : Told → ℕ → List ℕ → Told
-told_of_cell t at x = record t { findings = t.findings ++ cell_findings t.names at x; names = names_after t.names x }
+abbrev pub told_of_cell : Bool → Told → ℕ → List ℕ → Told
+told_of_cell verbose t at x = record t { findings = t.findings ++ cell_findings verbose t.names at x; names = names_after t.names x }
 
 -- and counted
-abbrev pub told_cell : Told → ℕ → List ℕ → Told
-told_cell t at x = record (told_of_cell t at x) { count = counted t.count (is_free (head_of x)) (length x) }
+abbrev pub told_cell : Bool → Told → ℕ → List ℕ → Told
+told_cell verbose t at x = record (told_of_cell verbose t at x) { count = counted t.count (is_free (head_of x)) (length x) }
 
 -- a component more of a name, with these findings of it
 abbrev pub told_component : Told → List ℕ → List RegionFinding → Told

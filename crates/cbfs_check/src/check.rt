@@ -25,6 +25,7 @@ fn tell_component<F: Flash>(
     region: Region,
     cell: &Cell,
     report: &mut Report,
+    is_verbose: bool,
 ) -> Result<(), RegionCheckFault>
     requires region { LiesIn region (F.facts paged.old.device).content }
     requires cell { IsCellIn region.size cell.now }
@@ -34,13 +35,13 @@ fn tell_component<F: Flash>(
     ensures count { report.new.count ≡ report.old.count }
     ensures told { OnHonestIn F.facts paged.old.device region (λ x. StandsIn x cell.now →
         TellsMore result report.old report.new (λ t. told_component t (cell_name (cell_in x cell.now))
-        (component_findings t.names cell.now.at (cell_in x cell.now)))) }
+        (component_findings is_verbose t.names cell.now.at (cell_in x cell.now)))) }
 {
     cells_stand_in_their_image();
     let mut field = [0; 256];
     let len = name(paged, region, cell, &mut field)?;
     let state = check_hash(paged, region, cell)?;
-    report.tell_named(cell.at, &field[..len], cell.head.kind, state)
+    report.tell_named(cell.at, &field[..len], cell.head.kind, state, is_verbose)
 }
 
 /// Tells what there is to tell of a free cell.
@@ -62,6 +63,7 @@ fn tell_cell<F: Flash>(
     region: Region,
     cell: &Cell,
     report: &mut Report,
+    is_verbose: bool,
 ) -> Result<(), RegionCheckFault>
     requires region { LiesIn region (F.facts paged.old.device).content }
     requires cell { IsCellIn region.size cell.now }
@@ -69,13 +71,13 @@ fn tell_cell<F: Flash>(
     ensures after { HasRead F.facts (2 + cell.now.span / 3840) (faults_told by_device result) paged.old paged.new }
     ensures count { report.new.count ≡ report.old.count }
     ensures told { OnHonestIn F.facts paged.old.device region (λ x. StandsIn x cell.now →
-        TellsMore result report.old report.new (λ t. told_of_cell t cell.now.at (cell_in x cell.now))) }
+        TellsMore result report.old report.new (λ t. told_of_cell is_verbose t cell.now.at (cell_in x cell.now))) }
 {
     cells_stand_in_their_image();
     if cell.head.is_free() {
         return tell_free(cell, report);
     }
-    tell_component(paged, region, cell, report)
+    tell_component(paged, region, cell, report, is_verbose)
 }
 
 /// Tells what there is to tell of a cell, and counts it.
@@ -84,6 +86,7 @@ fn check_cell<F: Flash>(
     region: Region,
     cell: &Cell,
     report: &mut Report,
+    is_verbose: bool,
 ) -> Result<(), RegionCheckFault>
     requires region { LiesIn region (F.facts paged.old.device).content }
     requires cell { IsCellIn region.size cell.now }
@@ -92,11 +95,11 @@ fn check_cell<F: Flash>(
     ensures after { HasRead F.facts (2 + cell.now.span / 3840) (faults_told by_device result) paged.old paged.new }
     ensures before { OnOk result (IsCountBefore (cell.now.at + cell.now.span) report.new.count) }
     ensures told { OnHonestIn F.facts paged.old.device region (λ x. StandsIn x cell.now →
-        TellsMore result report.old report.new (λ t. told_cell t cell.now.at (cell_in x cell.now))) }
+        TellsMore result report.old report.new (λ t. told_cell is_verbose t cell.now.at (cell_in x cell.now))) }
 {
     paged.places_fit();
     cells_stand_in_their_image();
-    tell_cell(paged, region, cell, report)?;
+    tell_cell(paged, region, cell, report, is_verbose)?;
     report.count = report.count.with(cell);
     Ok(())
 }
@@ -114,12 +117,13 @@ fn refused(report: Report, fault: WalkFault) -> Result<Vec<RegionFinding>, Regio
     }
 }
 
-/// All that is told of a region, cell by cell. `Device` comes exactly where the device refused a read, and `Memory`
-/// where an allocation was refused; then nothing is told.
+/// What is told of a region, cell by cell; that a component has no digest in a verbose check alone. `Device` comes exactly
+/// where the device refused a read, and `Memory` where an allocation was refused; then nothing is told.
 pub fn check_region<F: Flash>(
     alloc: Global,
     paged: &mut Paged<F>,
     region: Region,
+    is_verbose: bool,
 ) -> Result<Vec<RegionFinding>, RegionCheckFault>
     requires { LiesIn region (F.facts paged.old.device).content }
 
@@ -128,13 +132,13 @@ pub fn check_region<F: Flash>(
 
     // On an honest device.
     ensures findings { OnHonestIn F.facts paged.old.device region (λ x.
-        IfOk result (λ findings. findings.items ≡ region_findings x)) }
+        IfOk result (λ findings. findings.items ≡ region_findings is_verbose x)) }
 {
     let mut report = Report::new(alloc);
     let mut walk = Walk::new(region);
     loop {
         match walk.next(paged) {
-            Ok(Step::Cell(cell)) => check_cell(paged, region, &cell, &mut report)?,
+            Ok(Step::Cell(cell)) => check_cell(paged, region, &cell, &mut report, is_verbose)?,
             Ok(Step::Tail(at)) => return report.ended(RegionFinding::Tail { at }),
             Ok(Step::End) => return report.ended(RegionFinding::Complete),
             Err(fault) => return refused(report, fault),

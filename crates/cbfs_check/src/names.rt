@@ -5,14 +5,15 @@ ghost use Rattle.cbfs_check.specs.Names.{HasNames, is_among};
 
 use crate::fault::RegionCheckFault;
 use std::alloc::Global;
-use std::collections::BTreeSet;
+use std::collections::HashSet;
+use std::hash::{BuildHasherDefault, DefaultHasher};
+
+/// Names as a set. Whoever makes an image picks its names, so the hasher is one for which names that collide are dear to
+/// find.
+pub type Names = HashSet<Vec<u8>, BuildHasherDefault<DefaultHasher>>;
 
 /// Adds a name, and answers whether it is new.
-pub fn add_name(
-    alloc: Global,
-    names: &mut BTreeSet<Vec<u8>>,
-    name: &[u8],
-) -> Result<bool, RegionCheckFault>
+pub fn add_name(alloc: Global, names: &mut Names, name: &[u8]) -> Result<bool, RegionCheckFault>
     ensures new { IfOk result (λ new. (before : List (List ℕ)) → HasNames names.old.keys before →
         new ≡ not (is_among name.now before)) }
     ensures added { OnOk result ((before : List (List ℕ)) → HasNames names.old.keys before →

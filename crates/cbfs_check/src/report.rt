@@ -6,23 +6,24 @@ ghost use Rattle.cbfs_check.specs.Counts.{nothing};
 use crate::count::Count;
 use crate::fault::RegionCheckFault;
 use crate::finding::{ComponentFinding, Name, RegionFinding};
-use crate::names::add_name;
+use crate::names::{Names, add_name};
 use cbfs_walk::HashState;
 use flash_format::type_name;
 use std::alloc::Global;
-use std::collections::BTreeSet;
+use std::collections::HashSet;
+use std::hash::BuildHasherDefault;
 
 /// What is told so far, and the counts of the cells so far.
 #[derive(Drop)]
 pub struct Report {
     pub alloc: Global,
     pub findings: Vec<RegionFinding>,
-    pub names: BTreeSet<Vec<u8>>,
+    pub names: Names,
     pub count: Count,
 }
 
 impl Report {
-    ghost use Rattle.cbfs_check.specs.RegionFindings.{name_findings, named_findings, type_findings};
+    ghost use Rattle.cbfs_check.specs.RegionFindings.{hash_findings, name_findings, named_findings, type_findings};
     ghost use Rattle.cbfs_check.specs.Reports.{TellsMore, told_component};
 
     /// Nothing is told yet.
@@ -34,7 +35,7 @@ impl Report {
         Report {
             alloc,
             findings: Vec::new(alloc),
-            names: BTreeSet::new(alloc),
+            names: HashSet::with_hasher(alloc, BuildHasherDefault::new()),
             count: Count::new(),
         }
     }
@@ -95,6 +96,25 @@ impl Report {
         self.tell_component(at, name, ComponentFinding::UnknownType(kind))
     }
 
+    /// Tells what the digest of a component says; that there is none in a verbose check alone.
+    fn tell_hash(
+        &mut self,
+        at: u64,
+        name: &[u8],
+        state: HashState,
+        is_verbose: bool,
+    ) -> Result<(), RegionCheckFault>
+        ensures told { OnOk result (self.new.findings.items ≡ self.old.findings.items ++ hash_findings is_verbose at name.now state) }
+        ensures names { self.new.names ≡ self.old.names }
+        ensures count { self.new.count ≡ self.old.count }
+        ensures memory { IfErr result (λ fault. fault ≡ faults.Memory) }
+    {
+        if state == HashState::Absent && !is_verbose {
+            return Ok(());
+        }
+        self.tell_component(at, name, ComponentFinding::Hash(state))
+    }
+
     /// Tells what there is to tell of a component of a name and a type, with this digest, and adds its name.
     pub fn tell_named(
         &mut self,
@@ -102,15 +122,16 @@ impl Report {
         name: &[u8],
         kind: u32,
         state: HashState,
+        is_verbose: bool,
     ) -> Result<(), RegionCheckFault>
         ensures told { TellsMore result self.old self.new
-            (λ t. told_component t name.now (named_findings t.names at name.now kind state)) }
+            (λ t. told_component t name.now (named_findings is_verbose t.names at name.now kind state)) }
         ensures count { self.new.count ≡ self.old.count }
         ensures memory { IfErr result (λ fault. fault ≡ faults.Memory) }
     {
         self.tell_name(at, name)?;
         self.tell_type(at, name, kind)?;
-        self.tell_component(at, name, ComponentFinding::Hash(state))?;
+        self.tell_hash(at, name, state, is_verbose)?;
         Ok(())
     }
 

@@ -100,12 +100,23 @@ fn same(rt: &impl Abort, findings: &[RegionFinding], want: &[Told]) {
     }
 }
 
-/// A check of a region of these bytes tells this.
-fn tells(rt: &(impl Abort + AllocGlobal), size: usize, parts: Parts, want: &[Told]) {
+/// A check of a region of these bytes, in which all is asked for or not, tells this.
+fn tells_if(
+    rt: &(impl Abort + AllocGlobal),
+    is_verbose: bool,
+    size: usize,
+    parts: Parts,
+    want: &[Told],
+) {
     let mut paged = Paged::new(device_with(rt, size, parts));
     let region = whole(rt, &paged);
-    let findings = check_region(rt.alloc(), &mut paged, region).expect(rt, "findings");
+    let findings = check_region(rt.alloc(), &mut paged, region, is_verbose).expect(rt, "findings");
     same(rt, &findings, want);
+}
+
+/// A check of a region of these bytes in which all is asked for tells this.
+fn tells(rt: &(impl Abort + AllocGlobal), size: usize, parts: Parts, want: &[Told]) {
+    tells_if(rt, true, size, parts, want);
 }
 
 fn counts<'a>(components: u64, free: u64, longest_free: u64) -> Told<'a> {
@@ -185,6 +196,38 @@ fn digests_of_components(rt: HostRuntime) {
 }
 
 #[test]
+fn a_missing_digest_is_told_where_it_is_asked_for(rt: HostRuntime) {
+    let parts: Parts = &[(0, &A), (64, &B_77), (128, &H), (256, &U)];
+    let unknown = Of(64, b"b", ComponentFinding::UnknownType(0x77));
+    let digest = ComponentFinding::Hash(HashState::Valid(Digest::Sha256(ABC)));
+    let valid = Of(128, b"h", digest);
+    let unsupported = Of(256, b"u", ComponentFinding::Hash(HashState::Unsupported));
+    let end = counts(4, 0, 0);
+    tells_if(
+        &rt,
+        false,
+        320,
+        parts,
+        &[unknown, valid, unsupported, Complete, end],
+    );
+    tells_if(
+        &rt,
+        true,
+        320,
+        parts,
+        &[
+            plain(0, b"a"),
+            unknown,
+            plain(64, b"b"),
+            valid,
+            unsupported,
+            Complete,
+            end,
+        ],
+    );
+}
+
+#[test]
 fn free_cells(rt: HostRuntime) {
     tells(
         &rt,
@@ -226,6 +269,6 @@ fn devices_that_refuse_a_read(rt: HostRuntime) {
     let device = device_with(&rt, 128, &[(0, &H)]);
     let mut paged = Paged::new(FailAt::new(device, 0, 0));
     let region = whole(&rt, &paged);
-    let fault = check_region(rt.alloc(), &mut paged, region).err();
+    let fault = check_region(rt.alloc(), &mut paged, region, false).err();
     assert_eq!(&rt; fault, Some(RegionCheckFault::Device));
 }

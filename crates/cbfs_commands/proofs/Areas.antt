@@ -1,13 +1,14 @@
 -- The rows of the areas of a table, one by one.
 use Rattle.std.proofs.Common.{◌≡◌, ℕ, ◌+◌, ◌-◌, ◌*◌, ◌<◌, ◌≤◌, List, [], ◌++◌, drop, Option, suc, ap, ◌∙◌, arith, Some, None}
 use Rattle.std.specs.List.{flat_map}
-use Rattle.std.specs.Option.{option_map}
+use Rattle.std.specs.Option.{option_map, option_map_or}
 use Rattle.std.proofs.lemmas.List.{drop-drop}
 use Rattle.flash_format.specs.Flashmap.{area_of, areas_from, map_of, fmap_head_of}
 use Rattle.flash_store.specs.Fmap.{found_in}
 use Rattle.flash_store.specs.declared.fmap.FoundMap.{FoundMap}
-use Rattle.cbfs_commands.specs.Layouts.{area_row, map_row, layout, layout_under}
-use Rattle.cbfs_commands.specs.Told.{Told, shows, text_then}
+use Rattle.cbfs_commands.specs.Layouts.{area_row, map_row, layout, layout_text}
+use Rattle.cbfs_commands.specs.Told.{Told, refuses, shows, text_then}
+use Rattle.cbfs_commands.specs.declared.refusal.Refusal.TheVariants as refusals
 
 -- the rows of n areas from a place on
 abbrev pub rows_of : List ℕ → ℕ → ℕ → List ℕ
@@ -46,7 +47,7 @@ unfolding layout
 layout-is image map is = go (map_of image) is
   where
     go : (o : Option ℕ) → Some map ≡ option_map (λ q. let found : FoundMap = record { at = q; head = fmap_head_of (drop q image) } in found) o
-        → layout_under image o ≡ text_then (map_row map.at map.head) (shows (rows_of image map.head.nareas (map.at + 56)))
+        → option_map_or (λ q. shows (layout_text image q)) o (refuses refusals.NoFmap) ≡ text_then (map_row map.at map.head) (shows (rows_of image map.head.nareas (map.at + 56)))
     go None is = absurd cc
     go (Some q) is =
         let same : (let found : FoundMap = record { at = q; head = fmap_head_of (drop q image) } in found) ≡ map = cc in

@@ -1,9 +1,8 @@
 -- No outcome's own answer blames a side: each of its refusals is one of the image, the command or the source as they are.
-use Rattle.std.proofs.Common.{ℕ, Bool, true, false, cond, List, [], ◌∷◌, length, nat_lt, ◌+◌, ◌==◌, ◌&&◌, is_some, Option, Some, None, Result, Ok, Err, subst}
-use Rattle.std.specs.Option.{ok_or}
+use Rattle.std.proofs.Common.{◌≡◌, ℕ, Bool, true, false, cond, List, [], ◌∷◌, length, nat_lt, ◌+◌, ◌==◌, ◌&&◌, is_some, Option, Some, None, Result, Ok, Err, sym, subst}
+use Rattle.std.specs.Option.{ok_or, option_map_or}
 use Rattle.std.specs.Prelude.{⊤}
 use Rattle.flash_format.specs.declared.flashmap.Area.{Area}
-use Rattle.flash_format.specs.declared.flashmap.FmapHead.{FmapHead}
 use Rattle.flash_format.specs.Components.{Component, components, is_packed}
 use Rattle.flash_format.specs.Cut.{End, complete, tail, damage, cut}
 use Rattle.flash_format.specs.Entry.{entry}
@@ -16,26 +15,24 @@ use Rattle.cbfs_walk.specs.Shaped.{place_after}
 use Rattle.cbfs_walk.specs.Shapes.{has_bad_size, is_absent, refused_or, shape}
 use Rattle.cbfs_walk.specs.declared.walk.WalkFault.{WalkFault}
 use Rattle.cbfs_walk.specs.declared.walk.WalkFault.TheVariants as walk
-use Rattle.cbfs_edit.specs.Additions.{NewComponent, addition_in, is_bad_align, is_bad_name, is_bad_type, unless_faulty, wanted_for}
+use Rattle.cbfs_edit.specs.Additions.{NewComponent, added, addition_in, is_bad_align, is_bad_name, is_bad_type, new_component, unless_faulty, wanted_for}
 use Rattle.cbfs_edit.specs.Groups.{group_of}
-use Rattle.cbfs_edit.specs.Places.{place_of, placed, placing_in}
-use Rattle.cbfs_edit.specs.Removals.{found, removal_in, unless_damaged}
+use Rattle.cbfs_edit.specs.Places.{place_of, placing_in}
+use Rattle.cbfs_edit.specs.Removals.{removal_in, removed, unless_damaged, unless_unsound}
 use Rattle.cbfs_edit.specs.declared.fault.EditFault.{EditFault}
 use Rattle.cbfs_edit.specs.declared.fault.EditFault.TheVariants as edit
-use Rattle.cbfs_edit.specs.declared.group.Freed.{Freed}
-use Rattle.cbfs_edit.specs.declared.place.Place.{Place}
 use Rattle.cbfs_edit.specs.declared.place.Spot.{Spot}
-use Rattle.cbfs_edit.specs.declared.place.Wanted.{Wanted}
+use Rattle.cbfs_commands.specs.declared.plan.Plan.{Plan}
 use Rattle.cbfs_commands.specs.declared.refusal.Refusal.{Refusal}
 use Rattle.cbfs_commands.specs.declared.refusal.Refusal.TheVariants as refusals
-use Rattle.cbfs_commands.specs.Creations.{head_for, map_place, plan_for, plan_of, region_place, region_places, some_overlap, table_head}
+use Rattle.cbfs_commands.specs.Creations.{head_for, map_place, plan_for, plan_of, region_place, region_places, some_overlap}
 use Rattle.cbfs_commands.specs.Deeds.{deed, outcome}
-use Rattle.cbfs_commands.specs.Layouts.{layout, layout_under}
-use Rattle.cbfs_commands.specs.Outcomes.{add, changing, create, end_answer, extract, print, print_region, read, remove, told_component, told_found, write}
+use Rattle.cbfs_commands.specs.Layouts.{layout, layout_text}
+use Rattle.cbfs_commands.specs.Outcomes.{add_region, changing, create, end_answer, extract, extract_region, made_in, print, print_region, read, remove_region, told_found, told_in, write_region}
 use Rattle.cbfs_commands.specs.Refusals.{HasNoFault, and_then, edit_refusal, itself, store_refusal, walk_refusal}
-use Rattle.cbfs_commands.specs.Requests.{Adding, Request}
+use Rattle.cbfs_commands.specs.Requests.{Request}
 use Rattle.cbfs_commands.specs.Requests as requests
-use Rattle.cbfs_commands.specs.Told.{Answer, Told, told_of}
+use Rattle.cbfs_commands.specs.Told.{Told, refuses, shows, told_of}
 
 -- a refusal that blames no side
 abbrev BlamesNone : Refusal → Type 0
@@ -49,10 +46,23 @@ abbrev Blameless : {T E : Type 0} → (E → Refusal) → Result T E → Type 0
 Blameless tell (Ok value) = ⊤
 Blameless tell (Err fault) = BlamesNone (tell fault)
 
+-- it is no fault of a side
+no_fault : {T : Type 0} (answer : Result T Refusal) → Blameless itself answer → HasNoFault answer
+no_fault {T} answer own = record {
+  device = λ blamed. subst (λ (a : Result T Refusal). Blameless itself a) blamed own;
+  output = λ blamed. subst (λ (a : Result T Refusal). Blameless itself a) blamed own;
+  source = λ blamed. subst (λ (a : Result T Refusal). Blameless itself a) blamed own;
+}
+
 -- one of two answers
 when : {T E : Type 0} (tell : E → Refusal) (b : Bool) (x y : Result T E) → Blameless tell x → Blameless tell y → Blameless tell (cond b x y)
 when tell true x y left right = left
 when tell false x y left right = right
+
+-- a value, where there is one
+given : {T E : Type 0} (tell : E → Refusal) (o : Option T) (fault : E) → BlamesNone (tell fault) → Blameless tell (ok_or o fault)
+given tell None fault own = own
+given tell (Some value) fault own = tt
 
 -- what comes of a value
 next-blameless : {T U E : Type 0} (tell : E → Refusal) (r : Result T E) (next : T → Result U Refusal) → Blameless tell r → ((value : T) → Blameless itself (next value)) → Blameless itself (and_then tell r next)
@@ -90,67 +100,44 @@ unless-misshapen P refuse x otherwise misshapen empty other = go (has_bad_size (
     go false true = empty
     go false false = other
 
-not_found-blameless : (at : ℕ) (end : End) → Blameless walk_refusal (not_found at end)
-not_found-blameless at complete = tt
-not_found-blameless at tail = tt
-not_found-blameless at (damage kind) = tt
-
-found_or-blameless : (c : Option Component) (otherwise : Found) → Blameless walk_refusal otherwise → Blameless walk_refusal (found_or c otherwise)
-found_or-blameless None otherwise other = other
-found_or-blameless (Some c) otherwise other = tt
+found-blameless : (c : Option Component) (at : ℕ) (end : End) → Blameless walk_refusal (found_or c (not_found at end))
+found-blameless (Some c) at end = tt
+found-blameless None at complete = tt
+found-blameless None at tail = tt
+found-blameless None at (damage kind) = tt
 
 component_in-blameless : (x name : List ℕ) → Blameless walk_refusal (component_in x name)
 unfolding component_in
-component_in-blameless x name = unless-misshapen (λ (r : Found). Blameless walk_refusal r) _ x _ tt tt (found_or-blameless (first_named name (components x)) _ (not_found-blameless (place_after 0 (cut x).cells) (cut x).end))
+component_in-blameless x name = unless-misshapen (λ (r : Found). Blameless walk_refusal r) _ x _ tt tt (found-blameless (first_named name (components x)) (place_after 0 (cut x).cells) (cut x).end)
 
 -- ---- edits
 
-unless_damaged-blameless : {T : Type 0} (at : ℕ) (end : End) (otherwise : Result T EditFault) → Blameless edit_refusal otherwise → Blameless edit_refusal (unless_damaged at end otherwise)
-unless_damaged-blameless at complete otherwise other = other
-unless_damaged-blameless at tail otherwise other = other
-unless_damaged-blameless at (damage kind) otherwise other = tt
-
-found-blameless : (group : Option Freed) → Blameless edit_refusal (found group)
-found-blameless None = tt
-found-blameless (Some group) = tt
+unsound-blameless : {T : Type 0} (x : List ℕ) (otherwise : Result T EditFault) → Blameless edit_refusal otherwise → Blameless edit_refusal (unless_unsound x otherwise)
+unsound-blameless {T} x otherwise other = unless-misshapen (λ (r : Result T EditFault). Blameless edit_refusal r) _ x _ tt tt (go (cut x).end)
+  where
+    go : (end : End) → Blameless edit_refusal (unless_damaged (place_after 0 (cut x).cells) end otherwise)
+    go complete = other
+    go tail = other
+    go (damage kind) = tt
 
 removal_in-blameless : (x name : List ℕ) → Blameless edit_refusal (removal_in x name)
 unfolding removal_in
-removal_in-blameless x name = unless-misshapen (λ (r : Result Freed EditFault). Blameless edit_refusal r) _ x _ tt tt (unless_damaged-blameless (place_after 0 (cut x).cells) (cut x).end _ (found-blameless (group_of x name)))
-
-placed-blameless : (place : Option Place) → Blameless edit_refusal (placed place)
-placed-blameless None = tt
-placed-blameless (Some place) = tt
-
-placing_in-blameless : (x name : List ℕ) (wanted : Wanted) → Blameless edit_refusal (placing_in x name wanted)
-unfolding placing_in
-placing_in-blameless x name wanted = unless-misshapen (λ (r : Result Place EditFault). Blameless edit_refusal r) _ x _ tt tt (unless_damaged-blameless (place_after 0 (cut x).cells) (cut x).end _ (unless_exists (is_some (first_named name (components x)))))
-  where
-    unless_exists : (b : Bool) → Blameless edit_refusal (cond b (Err edit.Exists) (placed (place_of x wanted)))
-    unless_exists true = tt
-    unless_exists false = placed-blameless (place_of x wanted)
+removal_in-blameless x name = unsound-blameless x _ (given edit_refusal (group_of x name) edit.NotFound tt)
 
 addition_in-blameless : (x : List ℕ) (new : NewComponent) (spot : Spot) → Blameless edit_refusal (addition_in x new spot)
-unfolding addition_in
+unfolding addition_in placing_in
 addition_in-blameless x new spot = go (is_bad_name new.name) (is_bad_type new.kind) (is_bad_align spot)
   where
     go : (name kind align : Bool) → Blameless edit_refusal (unless_faulty (cond name (Some edit.BadName) (cond kind (Some edit.BadType) (cond align (Some edit.BadAlign) None))) (placing_in x new.name (wanted_for new spot)))
     go true kind align = tt
     go false true align = tt
     go false false true = tt
-    go false false false = placing_in-blameless x new.name (wanted_for new spot)
+    go false false false = unsound-blameless x _ (when edit_refusal (is_some (first_named new.name (components x))) _ _ tt (given edit_refusal (place_of x (wanted_for new spot)) edit.NoSpace tt))
 
 -- ---- plans
 
-table_head-blameless : (source : List ℕ) → Blameless itself (table_head source)
-table_head-blameless source = go (map_head source)
-  where
-    go : (head : Option FmapHead) → Blameless itself (ok_or head refusals.TableBad)
-    go None = tt
-    go (Some head) = tt
-
 head_for-blameless : (n : ℕ) (source : List ℕ) → Blameless itself (head_for n source)
-head_for-blameless n source = next-blameless itself _ _ (table_head-blameless source) (λ head. when itself (head.size == n) _ _ tt tt)
+head_for-blameless n source = next-blameless itself _ _ (given itself (map_head source) refusals.TableBad tt) (λ head. when itself (head.size == n) _ _ tt tt)
 
 map_place-blameless : (n len : ℕ) (area : Option Area) → Blameless itself (map_place n len area)
 map_place-blameless n len area = next-blameless (λ fault. refusals.FmapArea) _ _ (other (inside n area)) (λ place. when itself (nat_lt place.size len) _ _ tt tt)
@@ -167,8 +154,12 @@ region_places-blameless n [] = tt
 region_places-blameless n (area ∷ areas) = next-blameless itself _ _ (region_place-blameless n area) (λ place. next-blameless itself _ _ (region_places-blameless n areas) (λ places. tt))
 
 plan_of-blameless : (n len : ℕ) (area : Option Area) (areas : List (Option Area)) → Blameless itself (plan_of n len area areas)
+unfolding plan_of
 plan_of-blameless n len area areas =
     next-blameless itself _ _ (map_place-blameless n len area) (λ map. next-blameless itself _ _ (region_places-blameless n areas) (λ regions. when itself (some_overlap (map ∷ regions)) _ _ tt tt))
+
+pub faultless_plan : (n len : ℕ) (area : Option Area) (areas : List (Option Area)) (result : Result Plan Refusal) → result ≡ plan_of n len area areas → HasNoFault result
+faultless_plan n len area areas result is = no_fault result (subst (λ (r : Result Plan Refusal). Blameless itself r) (sym is) (plan_of-blameless n len area areas))
 
 plan_for-blameless : (n : ℕ) (names : List (List ℕ)) (source : List ℕ) → Blameless itself (plan_for n names source)
 unfolding plan_for
@@ -181,68 +172,34 @@ end_answer-blameless at complete = tt
 end_answer-blameless at tail = tt
 end_answer-blameless at (damage kind) = tt
 
-print-blameless : (image name : List ℕ) (verbose : Bool) → Blameless itself (print image name verbose).answer
-unfolding print print_region
-print-blameless image name verbose = told-blameless store_refusal _ _ (region_of-blameless image name) (λ region. unless-misshapen (λ (t : Told). Blameless itself t.answer) _ (bytes_in region image) _ tt tt (end_answer-blameless _ _))
-
-layout-blameless : (image : List ℕ) → Blameless itself (layout image).answer
-unfolding layout
-layout-blameless image = go (map_of image)
-  where
-    go : (q : Option ℕ) → Blameless itself (layout_under image q).answer
-    go None = tt
-    go (Some q) = tt
-
-told_component-blameless : (c : Component) → Blameless itself (told_component c).answer
-told_component-blameless c = go (is_packed c.attributes) _ _ tt tt
-  where
-    go : (b : Bool) (t u : Told) → Blameless itself t.answer → Blameless itself u.answer → Blameless itself (cond b t u).answer
-    go true t u left right = left
-    go false t u left right = right
-
 told_found-blameless : (c : Option Component) → Blameless itself (told_found c).answer
 told_found-blameless None = tt
-told_found-blameless (Some c) = told_component-blameless c
+told_found-blameless (Some c) = elim (is_packed c.attributes) as (λ b. Blameless itself (let t : Told = cond b (refuses refusals.Compressed) (shows c.content) in t).answer) [ true ↦ tt | false ↦ tt ]
 
-extract-blameless : (image region name : List ℕ) → Blameless itself (extract image region name).answer
-unfolding extract
-extract-blameless image region name = told-blameless store_refusal _ _ (region_of-blameless image region) (λ found. told-blameless walk_refusal _ _ (component_in-blameless (bytes_in found image) name) told_found-blameless)
+-- by what is told of the region of a name, or made of it
+by_region : (image name : List ℕ) (tell : List ℕ → Told) → ((x : List ℕ) → Blameless itself (tell x).answer) → Blameless itself (told_in image name tell).answer
+by_region image name tell each = told-blameless store_refusal _ _ (region_of-blameless image name) (λ region. each (bytes_in region image))
 
-remove-blameless : (image region name : List ℕ) → Blameless itself (remove image region name)
-unfolding remove
-remove-blameless image region name = next-blameless store_refusal _ _ (region_of-blameless image region) (λ found. next-blameless edit_refusal _ _ (removal_in-blameless (bytes_in found image) name) (λ group. tt))
+edited : (image name : List ℕ) (make : Range → List ℕ → Result (List ℕ) Refusal) → ((region : Range) (x : List ℕ) → Blameless itself (make region x)) → Blameless itself (changing image (made_in image name make)).answer
+edited image name make each =
+    made-blameless image _ (next-blameless store_refusal _ _ (region_of-blameless image name) (λ region. next-blameless itself _ _ (each region (bytes_in region image)) (λ bytes. tt)))
 
-add-blameless : (image region : List ℕ) (new : NewComponent) (spot : Spot) → Blameless itself (add image region new spot)
-unfolding add
-add-blameless image region new spot = next-blameless store_refusal _ _ (region_of-blameless image region) (λ found. next-blameless edit_refusal _ _ (addition_in-blameless (bytes_in found image) new spot) (λ place. tt))
-
-read-blameless : (image name : List ℕ) → Blameless itself (read image name).answer
-unfolding read
-read-blameless image name = told-blameless store_refusal _ _ (region_of-blameless image name) (λ region. tt)
-
-write-blameless : (image name source : List ℕ) → Blameless itself (write image name source)
-unfolding write
-write-blameless image name source = next-blameless store_refusal _ _ (region_of-blameless image name) (λ region. when itself (length source == region.size) _ _ tt tt)
-
-create-blameless : (image : List ℕ) (names : List (List ℕ)) (source : List ℕ) → Blameless itself (create image names source)
-unfolding create
-create-blameless image names source = next-blameless itself _ _ (plan_for-blameless (length image) names source) (λ plan. tt)
+own_answer : (r : Request) (image source : List ℕ) → Blameless itself (outcome (deed r) image source).answer
+unfolding print print_region layout extract read create
+own_answer (requests.print region verbose) image source =
+    by_region image region (λ x. print_region x verbose) (λ x. unless-misshapen (λ (t : Told). Blameless itself t.answer) (λ fault. refuses (walk_refusal fault)) x _ tt tt (end_answer-blameless (place_after 0 (cut x).cells) (cut x).end))
+own_answer requests.layout image source = elim (map_of image) as (λ o. Blameless itself (option_map_or (λ q. shows (layout_text image q)) o (refuses refusals.NoFmap)).answer) [ None ↦ tt | Some q ↦ tt ]
+own_answer (requests.extract region name) image source = by_region image region (λ x. extract_region x name) (λ x. told-blameless walk_refusal (component_in x name) told_found (component_in-blameless x name) told_found-blameless)
+own_answer (requests.add region name kind hash spot) image source =
+    let new : NewComponent = new_component name kind hash source in
+    edited image region (λ found x. add_region x new spot) (λ found x. next-blameless edit_refusal (addition_in x new spot) (λ place. Ok (added x new place)) (addition_in-blameless x new spot) (λ place. tt))
+own_answer (requests.remove region name) image source =
+    edited image region (λ found x. remove_region x name) (λ found x. next-blameless edit_refusal (removal_in x name) (λ group. Ok (removed x group)) (removal_in-blameless x name) (λ group. tt))
+own_answer (requests.read region) image source = by_region image region shows (λ x. tt)
+own_answer (requests.write region) image source = edited image region (λ found x. write_region found source) (λ found x. when itself (length source == found.size) (Ok source) (Err refusals.SourceSize) tt tt)
+own_answer (requests.create names) image source = made-blameless image _ (next-blameless itself _ _ (plan_for-blameless (length image) names source) (λ plan. tt))
 
 -- ---- the law
 
-no_fault : (answer : Answer) → Blameless itself answer → HasNoFault answer
-no_fault answer own = record {
-  device = λ blamed. subst (λ (a : Answer). Blameless itself a) blamed own;
-  output = λ blamed. subst (λ (a : Answer). Blameless itself a) blamed own;
-  source = λ blamed. subst (λ (a : Answer). Blameless itself a) blamed own;
-}
-
 pub outcome-blameless : (r : Request) (image source : List ℕ) → HasNoFault (outcome (deed r) image source).answer
-outcome-blameless (requests.print region verbose) image source = no_fault _ (print-blameless image region verbose)
-outcome-blameless requests.layout image source = no_fault _ (layout-blameless image)
-outcome-blameless (requests.extract region name) image source = no_fault _ (extract-blameless image region name)
-outcome-blameless (requests.add a) image source = no_fault _ (made-blameless image _ (add-blameless image a.region _ a.spot))
-outcome-blameless (requests.remove region name) image source = no_fault _ (made-blameless image _ (remove-blameless image region name))
-outcome-blameless (requests.read region) image source = no_fault _ (read-blameless image region)
-outcome-blameless (requests.write region) image source = no_fault _ (made-blameless image _ (write-blameless image region source))
-outcome-blameless (requests.create names) image source = no_fault _ (made-blameless image _ (create-blameless image names source))
+outcome-blameless r image source = no_fault (outcome (deed r) image source).answer (own_answer r image source)

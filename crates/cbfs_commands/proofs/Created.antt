@@ -1,6 +1,8 @@
 -- Each region that `create` formats is one free cell.
 use Rattle.std.proofs.Common.{◌≡◌, ◌⊎◌, inl, inr, ℕ, zero, suc, ◌+◌, ◌-◌, ◌%◌, ◌^◌, ◌<◌, ◌≤◌, false, All, List, [], ◌∷◌, length, take, replicate, Some, refl, sym, ◌∙◌, ap, subst, arith, length-take, length-drop}
+use Rattle.std.specs.Prelude.{fold}
 use Rattle.std.specs.List.{list_any}
+use Rattle.std.proofs.lemmas.Bool.{or_parts}
 use Rattle.std.proofs.lemmas.List.{length-replicate}
 use Rattle.std.proofs.lemmas.List.Elements.{All-nil, All-cons, All-head, All-tail}
 use Rattle.flash_format.proofs.Placed.{empty_is_space}
@@ -15,10 +17,10 @@ use Rattle.cbfs_walk.proofs.Answering.{good_size}
 use Rattle.cbfs_edit.specs.Formats.{IsOneFreeCell, formatted}
 use Rattle.cbfs_edit.specs.Removals.{last_four}
 use Rattle.cbfs_edit.proofs.FormatLemmas.{formatted_free}
-use Rattle.cbfs_commands.specs.Creations.{IsPlace, formatted_all, formatted_at, overlap, some_overlap}
+use Rattle.cbfs_commands.specs.Creations.{IsPlace, formatted_at, overlap, some_overlap}
 use Rattle.cbfs_commands.specs.Laws.{CreatedRegionsAreFree}
 use Rattle.cbfs_commands.proofs.RegionPlaces.{whole_over}
-use Rattle.cbfs_commands.proofs.Planned.{both_false, lie_apart, planned}
+use Rattle.cbfs_commands.proofs.Planned.{lie_apart, planned}
 
 record IsSized (n : ℕ) (place : Range) : Type 0 where
   some : 64 ≤ place.size
@@ -68,22 +70,22 @@ module _ (n : ℕ) (image : List ℕ) (long : length image ≡ n) (place : Range
       (formatted_free (bytes_in place image) (omega (arith, region_long, size.some)) (ap (λ k. k % 64) region_long ∙ size.whole) (omega (arith, region_long, is.inside, small)))
 
 -- what is formatted after it leaves a region as it is
-untouched : (n : ℕ) (image : List ℕ) (other : Range) (places : List Range) → length image ≡ n → All (IsPlace n) places → list_any (overlap other) places ≡ false → bytes_in other (formatted_all image places) ≡ bytes_in other image
+untouched : (n : ℕ) (image : List ℕ) (other : Range) (places : List Range) → length image ≡ n → All (IsPlace n) places → list_any (overlap other) places ≡ false → bytes_in other (fold formatted_at image places) ≡ bytes_in other image
 untouched n image other [] long each none = refl
 untouched n image other (place ∷ places) long each none =
     let is : IsPlace n place = All-head (IsPlace n) place places each in
-    let parts = both_false (overlap other place) (list_any (overlap other) places) none in
+    let parts = or_parts (overlap other place) (list_any (overlap other) places) none in
     untouched n (formatted_at image place) other places (image_long n image long place is) (All-tail (IsPlace n) place places each) parts.1 ∙ beside n image long place is other (lie_apart other place parts.0)
 
-all_free : (n : ℕ) (image : List ℕ) (places : List Range) → n < 2 ^ 32 → length image ≡ n → All (IsPlace n) places → some_overlap places ≡ false → All (λ (place : Range). IsOneFreeCell (bytes_in place (formatted_all image places))) places
+all_free : (n : ℕ) (image : List ℕ) (places : List Range) → n < 2 ^ 32 → length image ≡ n → All (IsPlace n) places → some_overlap places ≡ false → All (λ (place : Range). IsOneFreeCell (bytes_in place (fold formatted_at image places))) places
 all_free n image [] small long each none = All-nil (λ (place : Range). IsOneFreeCell (bytes_in place image))
 all_free n image (place ∷ places) small long each none =
     let is : IsPlace n place = All-head (IsPlace n) place places each in
     let others : All (IsPlace n) places = All-tail (IsPlace n) place places each in
-    let parts = both_false (list_any (overlap place) places) (some_overlap places) none in
+    let parts = or_parts (list_any (overlap place) places) (some_overlap places) none in
     let next : List ℕ = formatted_at image place in
     let long_next : length (formatted_at image place) ≡ n = image_long n image long place is in
-    All-cons (λ (p : Range). IsOneFreeCell (bytes_in p (formatted_all next places))) place places
+    All-cons (λ (p : Range). IsOneFreeCell (bytes_in p (fold formatted_at next places))) place places
     (subst (λ (l : List ℕ). IsOneFreeCell l) (sym (untouched n next place places long_next others parts.0)) (free n image long place is small))
     (all_free n next places small long_next others parts.1)
 
@@ -94,5 +96,5 @@ created_free n names source plan small is =
     let table : List ℕ = take plan.map_len source in
     let long_erased : length erased ≡ n = length-replicate {A = ℕ} n 0xff in
     let long : length (overwritten erased plan.map.start table) ≡ n = length-overwritten erased plan.map.start table (omega (arith, length-take plan.map_len source, k.fits.room, k.fits.map, long_erased)) ∙ long_erased in
-    let parts = both_false (list_any (overlap plan.map) plan.regions.items) (some_overlap plan.regions.items) k.none in
+    let parts = or_parts (list_any (overlap plan.map) plan.regions.items) (some_overlap plan.regions.items) k.none in
     all_free n (overwritten erased plan.map.start table) plan.regions.items small long k.fits.regions parts.1

@@ -8,15 +8,13 @@ use Rattle.flash_store.specs.Regions.{Range, bytes_in}
 use Rattle.flash_store.specs.declared.fmap.StoreFault.{StoreFault}
 use Rattle.flash_store.proofs.DeviceLemmas.{length-bytes_in}
 use Rattle.cbfs_edit.specs.Additions.{added}
-use Rattle.cbfs_edit.specs.declared.fault.EditFault.{EditFault}
-use Rattle.cbfs_edit.specs.declared.place.Place.{Place}
 use Rattle.cbfs_edit.proofs.Added.{added_length}
 use Rattle.cbfs_edit.proofs.FoundAgain.{additions_found}
 use Rattle.cbfs_walk.specs.Finding.{Found}
 use Rattle.cbfs_commands.specs.declared.refusal.Refusal.{Refusal}
 use Rattle.cbfs_commands.specs.declared.refusal.Refusal.TheVariants as refusals
-use Rattle.cbfs_commands.specs.Refusals.{and_then, edit_refusal, store_refusal, walk_refusal}
-use Rattle.cbfs_commands.specs.Outcomes.{add, add_region, changing, extract, extract_region, told_found}
+use Rattle.cbfs_commands.specs.Refusals.{store_refusal, walk_refusal}
+use Rattle.cbfs_commands.specs.Outcomes.{add, changing, extract, extract_region, told_found}
 use Rattle.cbfs_commands.specs.Told.{Told, refuses, shows, told_of}
 use Rattle.cbfs_commands.specs.Laws.{AddedFilesAreExtracted, AdditionsAreExtracted}
 use Rattle.cbfs_commands.proofs.RegionPlaces.{region_lies, whole_over}
@@ -38,9 +36,7 @@ files_extracted image name new spot region place asked is still =
     let now : List ℕ = (changing image (add image name new spot)).image in
     let lies = region_lies image name region asked in
     let long : length y ≡ region.size = added_length x new spot place is.region is.kind is.content is.digest is.placed ∙ length-bytes_in region image lies in
-    let made : add image name new spot ≡ Ok (overwritten image region.start y) =
-    ap (λ (r : Result Range StoreFault). and_then store_refusal r (λ found. add_region image found new spot)) asked
-    ∙ ap (λ (r : Result Place EditFault). and_then edit_refusal r (λ place. let o : Result (List ℕ) Refusal = Ok (overwritten image region.start (added x new place)) in o)) is.placed in
+    let made : add image name new spot ≡ Ok (overwritten image region.start y) = rw (asked, is.placed) refl in
     let left : now ≡ overwritten image region.start y = ap (λ (r : Result (List ℕ) Refusal). (changing image r).image) made in
     let holds : bytes_in region now ≡ y = ap (λ (l : List ℕ). bytes_in region l) left ∙ whole_over region image y lies long in
     ap (λ (r : Result Range StoreFault). told_of store_refusal r (λ found. extract_region (bytes_in found now) new.name)) still ∙ ap (λ (l : List ℕ). extract_region l new.name) holds ∙ additions_extracted x new spot place is

@@ -1,16 +1,11 @@
 -- A write, an addition, a removal and a creation as the outcome of a command: they write no output.
-use Rattle.std.proofs.Common.{◌≡◌, ◌∙◌, ℕ, inl, inr, List, [], length, drop, length-drop, ◌+◌, Option, Result, Ok, Err, refl, sym, arith, subst}
-use Rattle.std.specs.Io.KnownBytes.{Appends}
+use Rattle.std.proofs.Common.{◌≡◌, ◌∙◌, ℕ, inl, inr, List, length, drop, length-drop, ◌+◌, Option, Result, refl, sym, arith}
 use Rattle.std.proofs.KnownBytes.{Appends-nil}
 use Rattle.std.proofs.lemmas.List.{nil_from_length}
 use Rattle.flash_store.specs.Bytes.{SameOutside}
 use Rattle.cbfs_commands.specs.declared.refusal.Refusal.{Refusal}
 use Rattle.cbfs_commands.specs.Told.{Answer}
 use Rattle.cbfs_commands.specs.Outcomes.{LeavesOr, Meets, changing}
-
-silent : (image : List ℕ) (made : Result (List ℕ) Refusal) → (changing image made).written ≡ []
-silent image (Err refusal) = refl
-silent image (Ok now) = refl
 
 -- all bytes lie in the whole image
 pub whole-image : (image now : List ℕ) → length now ≡ length image → SameOutside 0 (length image) image now
@@ -21,6 +16,6 @@ whole-image image now same = record {
 
 -- a command without output that left what is made
 pub left-met : (out : Option (List ℕ)) (image now : List ℕ) (answer : Answer) (made : Result (List ℕ) Refusal) → LeavesOr image now answer made → Meets out out now answer (changing image made)
-left-met out image now answer made (inl done) = inl (done.0, subst (λ l. Appends out out l) (sym (silent image made)) (Appends-nil out), done.1)
+left-met out image now answer made (inl done) = inl (done.0, Appends-nil out, done.1)
 left-met out image now answer made (inr (inl device)) = inr (inr (inl (device, (0, omega arith, Appends-nil out))))
 left-met out image now answer made (inr (inr source)) = inr (inr (inr (source, (0, omega arith, Appends-nil out))))

@@ -1,8 +1,9 @@
 -- A plan that isn't refused fits its image, and its areas lie apart.
 use Rattle.std.proofs.Common.{◌≡◌, inl, inr, ℕ, ◌+◌, ◌≤◌, ◌==◌, ◌&&◌, ◌||◌, Bool, true, false, cond, All, List, [], ◌∷◌, length, Option, Some, None, Result, Ok, Err, refl, sym, ap, subst, arith}
-use Rattle.std.specs.Prelude.{nat_le, nat_lt}
+use Rattle.std.specs.Prelude.{IfOk, nat_le, nat_lt}
 use Rattle.std.specs.List.{AllPairs, list_any}
 use Rattle.std.specs.Option.{ok_or}
+use Rattle.std.proofs.lemmas.Bool.{and_parts, or_parts}
 use Rattle.std.proofs.lemmas.Bool.Decides.{nat_tests}
 use Rattle.std.proofs.lemmas.List.Elements.{All-nil, All-cons}
 use Rattle.std.proofs.lemmas.List.Kept.{AllPairs-cons}
@@ -52,10 +53,6 @@ are_places n (area ∷ areas) places is =
 
 -- ---- no two overlap
 
-pub both_false : (a b : Bool) → (a || b) ≡ false → (a ≡ false) × (b ≡ false)
-both_false true b e = absurd cc
-both_false false b e = (refl, e)
-
 pub lie_apart : (a b : Range) → overlap a b ≡ false → LieApart a b
 lie_apart a b none = go (nat_lt a.start (b.start + b.size)) (nat_lt b.start (a.start + a.size)) refl refl none
   where
@@ -67,28 +64,24 @@ lie_apart a b none = go (nat_lt a.start (b.start + b.size)) (nat_lt b.start (a.s
 apart_from : (place : Range) (others : List Range) → list_any (overlap place) others ≡ false → All (LieApart place) others
 apart_from place [] none = All-nil (LieApart place)
 apart_from place (other ∷ others) none =
-    let parts = both_false (overlap place other) (list_any (overlap place) others) none in
+    let parts = or_parts (overlap place other) (list_any (overlap place) others) none in
     All-cons (LieApart place) other others (lie_apart place other parts.0) (apart_from place others parts.1)
 
 all_apart : (places : List Range) → some_overlap places ≡ false → AllPairs LieApart places
 all_apart [] none = λ i j d order below. absurd (omega arith)
 all_apart (place ∷ places) none =
-    let parts = both_false (list_any (overlap place) places) (some_overlap places) none in
+    let parts = or_parts (list_any (overlap place) places) (some_overlap places) none in
     AllPairs-cons LieApart place places (apart_from place places parts.0) (all_apart places parts.1)
 
 -- ---- the plan
-
-is_both : (a b : Bool) → (a && b) ≡ true → (a ≡ true) × (b ≡ true)
-is_both true b e = (refl, e)
-is_both false b e = absurd cc
 
 -- a table lies in its source
 table_fits : (source : List ℕ) (head : FmapHead) → map_head source ≡ Some head → map_len head ≤ length source
 unfolding is_map
 table_fits source head is =
     let known = head_some source head (sym is) in
-    let parts = is_both (nat_le fmap_head_len (length source)) (has_signature source && is_valid_head (fmap_head_of source) (length source)) known.0 in
-    let valid : is_valid_head (fmap_head_of source) (length source) ≡ true = (is_both (has_signature source) (is_valid_head (fmap_head_of source) (length source)) parts.1).1 in
+    let parts = and_parts (nat_le fmap_head_len (length source)) (has_signature source && is_valid_head (fmap_head_of source) (length source)) known.0 in
+    let valid : is_valid_head (fmap_head_of source) (length source) ≡ true = (and_parts (has_signature source) (is_valid_head (fmap_head_of source) (length source)) parts.1).1 in
     omega (arith, valid_fits (fmap_head_of source) (length source) valid, ap (λ (h : FmapHead). map_len h) known.1)
 
 pub record IsPlanned (n m : ℕ) (plan : Plan) : Type 0 where
@@ -96,6 +89,7 @@ pub record IsPlanned (n m : ℕ) (plan : Plan) : Type 0 where
   pub none : some_overlap (plan.map ∷ plan.regions.items) ≡ false
 
 planned_of : (n m len : ℕ) (area : Option Area) (areas : List (Option Area)) (plan : Plan) → len ≤ m → plan_of n len area areas ≡ Ok plan → IsPlanned n m plan
+unfolding plan_of
 planned_of n m len area areas plan in_source is =
     let map = done itself (map_place n len area) _ plan is in
     let found = done (λ fault. refusals.FmapArea) (inside n area) _ map.0 map.1 in
@@ -113,6 +107,10 @@ planned_of n m len area areas plan in_source is =
   where
     enough : (size len : ℕ) → nat_lt size len ≡ false → len ≤ size
     enough size len none = grind (arith, nat_tests)
+
+pub fitting_plan : (n m len : ℕ) (area : Option Area) (areas : List (Option Area)) (result : Result Plan Refusal) → len ≤ m → result ≡ plan_of n len area areas → IfOk result (λ plan. Fits n m plan)
+fitting_plan n m len area areas (Err refusal) in_source is = tt
+fitting_plan n m len area areas (Ok plan) in_source is = (planned_of n m len area areas plan in_source (sym is)).fits
 
 pub planned : (n : ℕ) (names : List (List ℕ)) (source : List ℕ) (plan : Plan) → plan_for n names source ≡ Ok plan → IsPlanned n (length source) plan
 unfolding plan_for

@@ -49,10 +49,8 @@ unfolding rows_from each_row
 by_row verbose x (Ok (steps.Cell c)) = refl
 by_row verbose x (Ok steps.End) = refl
 by_row verbose x (Ok (steps.Tail at)) = refl
-by_row verbose x (Err (faults.Damaged at kind)) = refl
 by_row verbose x (Err faults.Device) = refl
-by_row verbose x (Err faults.RegionShape) = refl
-by_row verbose x (Err faults.NotCbfs) = refl
+by_row verbose x (Err _) = refl
 
 -- the answer of a walk says what is printed from its place on
 pub printed : (verbose : Bool) (r : Range) (image : List ℕ) (w : Walking) (a : walks.Answer) → w.region ≡ r → w.at ≤ r.size → w.at % 64 ≡ 0 → LiesIn r image
@@ -94,16 +92,12 @@ told_by fault rest out (inl device) = let is : fault ≡ faults.Device = cc in r
 told_by fault rest out (inr is) = rw is (inl (refl, Appends-nil out))
 
 counted : (fault : WalkFault) → walks.by_device fault ≡ by_device (walk_refusal fault)
-counted (faults.Damaged at kind) = refl
 counted faults.Device = refl
-counted faults.RegionShape = refl
-counted faults.NotCbfs = refl
+counted _ = refl
 
 blames_no_other : (fault : WalkFault) → (walk_refusal fault ≡ refusals.Output → ⊥) × (walk_refusal fault ≡ refusals.Source → ⊥)
-blames_no_other (faults.Damaged at kind) = (λ e. cc, λ e. cc)
 blames_no_other faults.Device = (λ e. cc, λ e. cc)
-blames_no_other faults.RegionShape = (λ e. cc, λ e. cc)
-blames_no_other faults.NotCbfs = (λ e. cc, λ e. cc)
+blames_no_other _ = (λ e. cc, λ e. cc)
 
 pub told-fault : {F W : Type 0} {facts : F → Device} {contents : W → Option (List ℕ)} {sinks : W → ℕ} {k : ℕ} {old new : Pages F} {out : W} (fault : WalkFault) (answer : Answer) (rest : List ℕ → Told)
     → HasRead facts k (walks.by_device fault) old new → answer ≡ Err (walk_refusal fault)

@@ -1,6 +1,7 @@
 -- A region of a name lies in its image, and what is written over it depends on its own bytes alone.
 use Rattle.std.proofs.Common.{◌≡◌, ◌⊎◌, inl, inr, ℕ, ◌+◌, ◌≤◌, Bool, true, false, cond, List, ◌++◌, length, take, drop, Option, Some, None, Result, Ok, Err, refl, sym, ◌∙◌, ap, arith}
 use Rattle.std.specs.Prelude.{nat_lt}
+use Rattle.std.proofs.lemmas.Bool.{cases_lt}
 use Rattle.std.proofs.lemmas.Bool.Decides.{nat_tests}
 use Rattle.std.proofs.lemmas.List.{append-nil, drop_all, drop_at, take-append-le, length-take-le}
 use Rattle.flash_format.specs.declared.flashmap.Area.{Area}
@@ -54,16 +55,9 @@ shorter r image u lies short =
     let place : r.start ≡ r.start + 0 = omega arith in
     ap (λ n. bytes_in r (overwritten image n u)) place ∙ written_in r image 0 u lies (omega (arith, short))
 
-by_length : (a b : ℕ) → (a ≤ b) ⊎ (b ≤ a)
-by_length a b = go (nat_lt a b) refl
-  where
-    go : (c : Bool) → nat_lt a b ≡ c → (a ≤ b) ⊎ (b ≤ a)
-    go true e = inl (grind (arith, nat_tests))
-    go false e = inr (grind (arith, nat_tests))
-
 pub alike_over : (r : Range) (image other u : List ℕ) → LiesIn r image → LiesIn r other → bytes_in r other ≡ bytes_in r image → bytes_in r (overwritten other r.start u) ≡ bytes_in r (overwritten image r.start u)
-alike_over r image other u lies lies_other same = elim (by_length r.size (length u)) [
-  | inl long ↦ longer r other u lies_other long ∙ sym (longer r image u lies long)
+alike_over r image other u lies lies_other same = elim (cases_lt r.size (length u)) [
+  | inl long ↦ longer r other u lies_other (omega (arith, long)) ∙ sym (longer r image u lies (omega (arith, long)))
   | inr short ↦ shorter r other u lies_other short ∙ ap (λ (l : List ℕ). overwritten l 0 u) same ∙ sym (shorter r image u lies short)
 ]
 

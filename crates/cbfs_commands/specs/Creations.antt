@@ -1,10 +1,9 @@
 -- What `create` makes of a flashmap: the table that it begins with, the places of the map and of the regions by the
 -- table's areas, and the image. What is asked of them, and the order of the checks, are this project's own.
-use Rattle.std.specs.Prelude.{◌≡◌, ℕ, ◌+◌, ◌≤◌, Bool, false, ◌&&◌, ◌||◌, All, List, [], ◌∷◌, take, map, drop, replicate, nat_lt, Option, Result, Ok, Err, ◌==◌, if◌then◌else◌}
+use Rattle.std.specs.Prelude.{◌≡◌, ℕ, ◌+◌, ◌≤◌, Bool, false, ◌&&◌, ◌||◌, All, List, [], ◌∷◌, take, map, drop, fold, replicate, nat_lt, Option, Result, Ok, Err, ◌==◌, if◌then◌else◌}
 use Rattle.std.specs.List.{find, list_any}
 use Rattle.std.specs.Option.{ok_or}
 use lib.Chars.{codes}
-use Rattle.arrayvec.specs.ArrayVec.{ArrayVec}
 use Rattle.flash_format.specs.declared.flashmap.FmapHead.{FmapHead}
 use Rattle.flash_format.specs.declared.flashmap.Area.{Area}
 use Rattle.flash_format.specs.Flashmap.{fmap_head_len, map_len, areas_from, is_area}
@@ -58,11 +57,6 @@ abbrev pub region_places : ℕ → List (Option Area) → Result (List Range) Re
 region_places n [] = Ok []
 region_places n (area ∷ areas) = and_then itself (region_place n area) (λ place. and_then itself (region_places n areas) (λ places. Ok (place ∷ places)))
 
--- a vector of them by what it holds
-abbrev pub items_of : Result (ArrayVec Range) Refusal → Result (List Range) Refusal
-items_of (Ok places) = Ok places.items
-items_of (Err refusal) = Err refusal
-
 -- two ranges have a byte in common
 abbrev pub overlap : Range → Range → Bool
 overlap a b = nat_lt a.start (b.start + b.size) && nat_lt b.start (a.start + a.size)
@@ -75,7 +69,7 @@ some_overlap (place ∷ places) = list_any (overlap place) places || some_overla
 -- ---- the plan: first the map's area, then each region, then whether any two of them overlap
 
 -- the plan of an image of n bytes, by the length of its table, the map's area and those of the regions
-abbrev pub plan_of : ℕ → ℕ → Option Area → List (Option Area) → Result Plan Refusal
+unfoldable pub plan_of : ℕ → ℕ → Option Area → List (Option Area) → Result Plan Refusal
 plan_of n len area areas =
     and_then itself (map_place n len area) (λ map.
     and_then itself (region_places n areas) (λ regions.
@@ -107,10 +101,6 @@ pub record Fits (n m : ℕ) (plan : Plan) : Type 0 where
 abbrev pub formatted_at : List ℕ → Range → List ℕ
 formatted_at image place = overwritten image place.start (formatted (bytes_in place image))
 
-abbrev pub formatted_all : List ℕ → List Range → List ℕ
-formatted_all image [] = image
-formatted_all image (place ∷ places) = formatted_all (formatted_at image place) places
-
 -- 0xff throughout, then the table in its area, then the regions in order
 abbrev pub created : ℕ → Plan → List ℕ → List ℕ
-created n plan source = formatted_all (overwritten (replicate n 0xff) plan.map.start (take plan.map_len source)) plan.regions.items
+created n plan source = fold formatted_at (overwritten (replicate n 0xff) plan.map.start (take plan.map_len source)) plan.regions.items

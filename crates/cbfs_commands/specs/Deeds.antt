@@ -1,20 +1,22 @@
 -- What a command is to an image: its outcome, what it may change, which sides it uses, and what a stop leaves.
-use Rattle.std.specs.Prelude.{◌≡◌, ℕ, ◌+◌, ◌/◌, ◌⊎◌, Bool, true, false, List, length, Option, Some, None, is_some, unwrap_or, Result, Ok, Err, IsErrOf, IsTrue}
+use Rattle.std.specs.Prelude.{◌≡◌, ℕ, ◌+◌, ◌/◌, ◌⊎◌, Bool, true, false, List, [], length, Option, Some, None, is_some, unwrap_or, Result, Ok, Err, IsErrOf, IsTrue}
 use Rattle.std.specs.Option.{option_map}
 use Rattle.std.specs.Result.{result_ok}
 use Rattle.flash_format.specs.Flashmap.{area_len}
 use Rattle.flash_store.specs.Bytes.{SameOutside}
 use Rattle.flash_store.specs.Device.{Device}
-use Rattle.flash_store.specs.Pages.{Pages}
+use Rattle.flash_store.specs.Pages.{Pages, OnHonest}
 use Rattle.flash_store.specs.Regions.{Range, bytes_in, region_of}
 use Rattle.cbfs_edit.specs.Additions.{new_component}
 use Rattle.cbfs_edit.specs.Stops.{LeavesWhole}
+use Rattle.cbfs_edit.specs.declared.addition.HashChoice.{HashChoice}
+use Rattle.cbfs_edit.specs.declared.place.Spot.{Spot}
 use Rattle.cbfs_commands.specs.declared.refusal.Refusal.{Refusal}
 use Rattle.cbfs_commands.specs.declared.refusal.Refusal.TheVariants as refusals
 use Rattle.cbfs_commands.specs.Layouts.{layout}
-use Rattle.cbfs_commands.specs.Requests.{Adding, Request}
+use Rattle.cbfs_commands.specs.Requests.{Request}
 use Rattle.cbfs_commands.specs.Requests as requests
-use Rattle.cbfs_commands.specs.Outcomes.{Outcome, StopsIn, AddStopsIn, changing, reading, print, extract, add, remove, read, write, create}
+use Rattle.cbfs_commands.specs.Outcomes.{Outcome, StopsIn, AddStopsIn, HasWritten, LeavesOr, changing, reading, made_in, in_place, print, extract, add_region, remove_region, read, write_region, create}
 use Rattle.cbfs_commands.specs.Told.{Answer, Told}
 
 -- A change of the image: what it makes of the image and the source, the region that it may change, by how many calls of the
@@ -62,30 +64,50 @@ source_calls (changes c) n = unwrap_or (option_map (λ calls. calls n) c.source_
 abbrev pub copying_calls : ℕ → ℕ
 copying_calls n = n / 4096 + 1
 
--- a change of the region of a name, with what a stop leaves of the image by that region
-abbrev pub edits : List ℕ → (List ℕ → List ℕ → Result (List ℕ) Refusal) → Option (ℕ → ℕ) → (Range → List ℕ → List ℕ → Answer → List ℕ → Type 0) → Change
-edits name made calls Stops = record {
-  made = made;
+-- An edit of a region: what it makes of it, by the region, its bytes and the source, by how many calls of the source, by its
+-- length, where it reads one, and what a stop leaves, by the region, the image, the source, the answer and what is left.
+pub record Edit : Type 1 where
+  pub made : Range → List ℕ → List ℕ → Result (List ℕ) Refusal
+  pub source_calls : Option (ℕ → ℕ)
+  pub Stops : Range → List ℕ → List ℕ → Answer → List ℕ → Type 0
+
+-- the edit of this region
+abbrev pub edits_in : Range → Edit → Change
+edits_in region e = record {
+  made = λ image source. in_place image region (e.made region (bytes_in region image) source);
+  target = λ image. Some region;
+  source_calls = e.source_calls;
+  Stopped = e.Stops region;
+}
+
+-- the edit of the region of a name
+abbrev pub edits : List ℕ → Edit → Change
+edits name e = record {
+  made = λ image source. made_in image name (λ region x. e.made region x source);
   target = λ image. result_ok (region_of image name);
-  source_calls = calls;
-  Stopped = λ image source answer now. (region : Range) → region_of image name ≡ Ok region → Stops region image source answer now;
+  source_calls = e.source_calls;
+  Stopped = λ image source answer now. (region : Range) → region_of image name ≡ Ok region → e.Stops region image source answer now;
 }
 
 -- the source is put in place of a region
-abbrev pub replaces : List ℕ → Change
-replaces name = edits name (λ image source. write image name source) (Some copying_calls) (λ region image source answer now. StopsIn image region source now answer)
+abbrev pub replaces : Edit
+replaces = record { made = λ region x source. write_region region source; source_calls = Some copying_calls; Stops = StopsIn }
 
 -- the source is added to a region as a component
-abbrev pub adds : Adding → Change
-adds a =
-    edits a.region (λ image source. add image a.region (new_component a.name a.kind a.hash source) a.spot) (Some copying_calls)
-    (λ region image source answer now. AddStopsIn (bytes_in region image) (new_component a.name a.kind a.hash source) a.spot answer (bytes_in region now))
+abbrev pub adds : List ℕ → ℕ → HashChoice → Spot → Edit
+adds name kind hash spot = record {
+  made = λ region x source. add_region x (new_component name kind hash source) spot;
+  source_calls = Some copying_calls;
+  Stops = λ region image source answer now. AddStopsIn region image (new_component name kind hash source) spot answer now;
+}
 
 -- a component is removed from a region
-abbrev pub removes : List ℕ → List ℕ → Change
-removes name component =
-    edits name (λ image source. remove image name component) None
-    (λ region image source answer now. IsErrOf answer refusals.Device → LeavesWhole (bytes_in region image) component (bytes_in region now))
+abbrev pub removes : List ℕ → Edit
+removes name = record {
+  made = λ region x source. remove_region x name;
+  source_calls = None;
+  Stops = λ region image source answer now. IsErrOf answer refusals.Device → LeavesWhole (bytes_in region image) name (bytes_in region now);
+}
 
 -- the whole image is made from the source: of a stop only the size is promised
 abbrev pub creates : List (List ℕ) → Change
@@ -101,15 +123,11 @@ abbrev pub deed : Request → Deed
 deed (requests.print region verbose) = tells (λ image. print image region verbose)
 deed requests.layout = tells layout
 deed (requests.extract region name) = tells (λ image. extract image region name)
-deed (requests.add a) = changes (adds a)
-deed (requests.remove region name) = changes (removes region name)
+deed (requests.add region name kind hash spot) = changes (edits region (adds name kind hash spot))
+deed (requests.remove region name) = changes (edits region (removes name))
 deed (requests.read region) = tells (λ image. read image region)
-deed (requests.write region) = changes (replaces region)
+deed (requests.write region) = changes (edits region replaces)
 deed (requests.create names) = changes (creates names)
-
--- P of the bytes of a device and of a source, where both are honest
-abbrev pub OnBoth : {F S : Type 0} → (F → Device) → F → (S → Device) → S → (List ℕ → List ℕ → Type 0) → Type 0
-OnBoth facts device source_facts source P = IsTrue (facts device).honest → IsTrue (source_facts source).honest → P (facts device).content (source_facts source).content
 
 -- the source is honest, where the command reads it
 abbrev pub Serves : Deed → Device → Type 0
@@ -124,8 +142,16 @@ SparesOutside (Some region) image now = SameOutside region.start region.size ima
 abbrev pub MayHaveWritten : Answer → Type 0
 MayHaveWritten answer = (answer ≡ Ok tt) ⊎ (answer ≡ Err refusals.Device) ⊎ (answer ≡ Err refusals.Source)
 
--- What is kept of an honest device however a call ends: what lies outside the region that it may change, and everything
--- after any other answer.
-pub record HasKept {F : Type 0} (facts : F → Device) (target : List ℕ → Option Range) (old new : Pages F) (answer : Answer) : Type 0 where
-  pub spares : IsTrue (facts old.device).honest → SparesOutside (target (facts old.device).content) (facts old.device).content (facts new.device).content
-  pub refused : IsTrue (facts old.device).honest → MayHaveWritten answer ⊎ ((facts new.device).content ≡ (facts old.device).content)
+-- the source of a change that reads none
+abbrev pub no_source : Device
+no_source = record { content = []; calls = 0; faults = 0; honest = true }
+
+-- What a call leaves that makes a change, by at most n calls of the device: of an honest device, however it ends and whatever
+-- the source, what lies outside the region that it may change, and everything after any other answer; from an honest source,
+-- where it reads one, what the change makes of the image, or what a stop leaves.
+pub record HasChanged {F : Type 0} (facts : F → Device) (n : ℕ) (change : Change) (old new : Pages F) (source source_now : Device) (answer : Answer) : Type 0 where
+  pub after : HasWritten facts n (source_calls (changes change) (length source.content)) old new source source_now answer
+  pub spares : OnHonest facts old.device (λ image. SparesOutside (change.target image) image (facts new.device).content)
+  pub refused : OnHonest facts old.device (λ image. MayHaveWritten answer ⊎ ((facts new.device).content ≡ image))
+  pub left : OnHonest facts old.device (λ image. Serves (changes change) source → LeavesOr image (facts new.device).content answer (change.made image source.content))
+  pub stopped : OnHonest facts old.device (λ image. Serves (changes change) source → change.Stopped image source.content answer (facts new.device).content)

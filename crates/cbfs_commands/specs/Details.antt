@@ -7,7 +7,6 @@ use lib.Chars.{codes}
 use Rattle.byteorder.specs.Endian.{big_bytes}
 use Rattle.hex.specs.Hex.{encode_lower}
 use Rattle.flash_format.specs.Head.{head_of, is_free}
-use Rattle.flash_format.specs.Cut.{cut}
 use Rattle.flash_format.specs.Attributes.{Attribute}
 use Rattle.flash_format.specs.Components.{cell_attributes, cell_content}
 use Rattle.flash_format.specs.Made.{digest_bytes}
@@ -57,10 +56,6 @@ shown_cell verbose at x = row at x ++ (if verbose && not (is_free (head_of x)) t
 unfoldable pub rows_from : Bool → ℕ → List (List ℕ) → List ℕ
 rows_from verbose at [] = []
 rows_from verbose at (x ∷ cells) = shown_cell verbose at x ++ rows_from verbose (at + length x) cells
-
--- the text shown of a region
-abbrev pub shown : List ℕ → Bool → List ℕ
-shown x verbose = rows_from verbose 0 (cut x).cells
 
 -- ---- counts
 

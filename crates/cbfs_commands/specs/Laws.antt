@@ -30,7 +30,7 @@ abbrev pub region_name : Request → Option (List ℕ)
 region_name (requests.print region verbose) = Some region
 region_name requests.layout = None
 region_name (requests.extract region name) = Some region
-region_name (requests.add a) = Some a.region
+region_name (requests.add region name kind hash spot) = Some region
 region_name (requests.remove region name) = Some region
 region_name (requests.read region) = Some region
 region_name (requests.write region) = Some region

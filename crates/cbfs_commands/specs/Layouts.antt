@@ -1,6 +1,7 @@
 -- What `layout` writes: the place of an image's map, and its areas. The forms of the texts are this project's own.
-use Rattle.std.specs.Prelude.{ℕ, List, ◌++◌, drop, Option, Some, None}
+use Rattle.std.specs.Prelude.{ℕ, List, ◌++◌, drop}
 use Rattle.std.specs.List.{flat_map}
+use Rattle.std.specs.Option.{option_map_or}
 use Rattle.std.specs.Fmt.{decimal}
 use lib.Chars.{codes}
 use Rattle.flash_format.specs.declared.flashmap.FmapHead.{FmapHead}
@@ -22,9 +23,5 @@ area_row a = printed_name (text_of a.name) ++ tab ++ hexadecimal a.offset ++ tab
 abbrev pub layout_text : List ℕ → ℕ → List ℕ
 layout_text image q = map_row q (fmap_head_of (drop q image)) ++ flat_map area_row (areas_at image q)
 
-abbrev pub layout_under : List ℕ → Option ℕ → Told
-layout_under image None = refuses refusals.NoFmap
-layout_under image (Some q) = shows (layout_text image q)
-
 unfoldable pub layout : List ℕ → Told
-layout image = layout_under image (map_of image)
+layout image = option_map_or (λ q. shows (layout_text image q)) (map_of image) (refuses refusals.NoFmap)

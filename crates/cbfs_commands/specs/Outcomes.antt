@@ -1,5 +1,6 @@
 -- What each command writes, leaves behind and answers, as a function of the whole image, the command and the source.
 use Rattle.std.specs.Prelude.{◌≡◌, ◌≢◌, ℕ, ◌⊎◌, Bool, List, [], length, Option, None, Some, Result, Ok, Err, IsErrOf, ◌==◌, if◌then◌else◌}
+use Rattle.std.specs.Result.{result_map_both, result_unwrap_or}
 use Rattle.std.specs.Io.KnownBytes.{Appends}
 use Rattle.flash_format.specs.Components.{Component, is_packed}
 use Rattle.flash_format.specs.Cut.{Cut, End, complete, tail, damage, cut}
@@ -33,18 +34,21 @@ reading image t = record { written = t.written; image = image; answer = t.answer
 
 -- a command that only changes the image, by what it leaves of it or why it is refused
 abbrev pub changing : List ℕ → Result (List ℕ) Refusal → Outcome
-changing image (Err refusal) = reading image (refuses refusal)
-changing image (Ok now) = record { written = []; image = now; answer = Ok tt }
+changing image made = record { written = []; image = result_unwrap_or made image; answer = result_map_both (λ now. tt) itself made }
 
 -- ---- on the region of a name
 
--- what a command tells of it
-abbrev pub told_in : List ℕ → List ℕ → (Range → Told) → Told
-told_in image name tell = told_of store_refusal (region_of image name) tell
+-- what a command tells of its bytes
+abbrev pub told_in : List ℕ → List ℕ → (List ℕ → Told) → Told
+told_in image name tell = told_of store_refusal (region_of image name) (λ region. tell (bytes_in region image))
 
--- what a command makes of it
-abbrev pub made_in : List ℕ → List ℕ → (Range → Result (List ℕ) Refusal) → Result (List ℕ) Refusal
-made_in image name make = and_then store_refusal (region_of image name) make
+-- other bytes in place of those of a region
+abbrev pub in_place : List ℕ → Range → Result (List ℕ) Refusal → Result (List ℕ) Refusal
+in_place image region made = and_then itself made (λ bytes. Ok (overwritten image region.start bytes))
+
+-- what a command makes of it and its bytes, in place of them
+abbrev pub made_in : List ℕ → List ℕ → (Range → List ℕ → Result (List ℕ) Refusal) → Result (List ℕ) Refusal
+made_in image name make = and_then store_refusal (region_of image name) (λ region. in_place image region (make region (bytes_in region image)))
 
 -- ---- print
 
@@ -62,7 +66,7 @@ print_region x verbose = refused_or (λ fault. refuses (walk_refusal fault)) (sh
 
 -- the rows of the region's cells, with the lines of its components where verbose
 unfoldable pub print : List ℕ → List ℕ → Bool → Told
-print image name verbose = told_in image name (λ region. print_region (bytes_in region image) verbose)
+print image name verbose = told_in image name (λ x. print_region x verbose)
 
 -- ---- extract
 
@@ -79,40 +83,35 @@ extract_region x name = told_of walk_refusal (component_in x name) told_found
 
 -- the content of the first component of the name in the region
 unfoldable pub extract : List ℕ → List ℕ → List ℕ → Told
-extract image region name = told_in image region (λ found. extract_region (bytes_in found image) name)
+extract image region name = told_in image region (λ x. extract_region x name)
 
 -- ---- remove
 
-abbrev pub remove_region : List ℕ → Range → List ℕ → Result (List ℕ) Refusal
-remove_region image region name =
-    and_then edit_refusal (removal_in (bytes_in region image) name) (λ group. Ok (overwritten image region.start (removed (bytes_in region image) group)))
-
 -- one empty entry in place of the first component of the name, with the free space that touches it
-unfoldable pub remove : List ℕ → List ℕ → List ℕ → Result (List ℕ) Refusal
-remove image region name = made_in image region (λ found. remove_region image found name)
+abbrev pub remove_region : List ℕ → List ℕ → Result (List ℕ) Refusal
+remove_region x name = and_then edit_refusal (removal_in x name) (λ group. Ok (removed x group))
 
 -- ---- add
 
-abbrev pub add_region : List ℕ → Range → NewComponent → Spot → Result (List ℕ) Refusal
-add_region image region new spot =
-    and_then edit_refusal (addition_in (bytes_in region image) new spot) (λ place. Ok (overwritten image region.start (added (bytes_in region image) new place)))
-
 -- the component in the first free space that has room for it, at the least place that the spot allows
+abbrev pub add_region : List ℕ → NewComponent → Spot → Result (List ℕ) Refusal
+add_region x new spot = and_then edit_refusal (addition_in x new spot) (λ place. Ok (added x new place))
+
 unfoldable pub add : List ℕ → List ℕ → NewComponent → Spot → Result (List ℕ) Refusal
-add image region new spot = made_in image region (λ found. add_region image found new spot)
+add image region new spot = made_in image region (λ found x. add_region x new spot)
 
 -- ---- read and write
 
 -- the region's bytes
 unfoldable pub read : List ℕ → List ℕ → Told
-read image name = told_in image name (λ region. shows (bytes_in region image))
-
-abbrev pub write_region : List ℕ → Range → List ℕ → Result (List ℕ) Refusal
-write_region image region source = if length source == region.size then Ok (overwritten image region.start source) else Err refusals.SourceSize
+read image name = told_in image name shows
 
 -- the source in place of the region's bytes
+abbrev pub write_region : Range → List ℕ → Result (List ℕ) Refusal
+write_region region source = if length source == region.size then Ok source else Err refusals.SourceSize
+
 unfoldable pub write : List ℕ → List ℕ → List ℕ → Result (List ℕ) Refusal
-write image name source = made_in image name (λ region. write_region image region source)
+write image name source = made_in image name (λ region x. write_region region source)
 
 -- ---- create
 
@@ -133,16 +132,16 @@ Meets old new image answer o =
 
 -- What a region holds once a write into it was stopped: a prefix of the source, and the old bytes; between them after a
 -- fault of the device one piece that may hold anything. A source of another size changes nothing.
-pub record StopsIn (image : List ℕ) (region : Range) (source now : List ℕ) (answer : Answer) : Type 0 where
+pub record StopsIn (region : Range) (image source : List ℕ) (answer : Answer) (now : List ℕ) : Type 0 where
   pub of_other_size : length source ≢ region.size → now ≡ image
   pub by_source : answer ≡ Err refusals.Source → FirstWritten region.start source image now
   pub by_device : answer ≡ Err refusals.Device → PartWritten region.start source image now
 
 -- what a region holds once an addition to it was stopped: after a fault of the device the components of before or of the
 -- whole addition, after one of the source those of before
-pub record AddStopsIn (x : List ℕ) (new : NewComponent) (spot : Spot) (answer : Answer) (now : List ℕ) : Type 0 where
-  pub by_device : answer ≡ Err refusals.Device → AddLeavesWhole x new spot now
-  pub by_source : answer ≡ Err refusals.Source → AddLeavesBefore x new spot now
+pub record AddStopsIn (region : Range) (image : List ℕ) (new : NewComponent) (spot : Spot) (answer : Answer) (now : List ℕ) : Type 0 where
+  pub by_device : answer ≡ Err refusals.Device → AddLeavesWhole (bytes_in region image) new spot (bytes_in region now)
+  pub by_source : answer ≡ Err refusals.Source → AddLeavesBefore (bytes_in region image) new spot (bytes_in region now)
 
 -- the call has left what a change makes of the image and is done, or is refused as it is and has left the image, or the
 -- device or the source failed
@@ -153,13 +152,7 @@ LeavesOr image now answer made =
 
 -- What a call leaves that writes to the device, by at most n calls, from a source, by at most m: each fault is told only
 -- where that side failed.
-pub record HasWritten {F S : Type 0} (facts : F → Device) (source_facts : S → Device) (n m : ℕ) (old new : Pages F) (source_old source_new : S) (answer : Answer) : Type 0 where
+pub record HasWritten {F : Type 0} (facts : F → Device) (n m : ℕ) (old new : Pages F) (source source_now : Device) (answer : Answer) : Type 0 where
   pub calls : Calls n (faults_told by_device answer) (facts old.device) (facts new.device)
-  pub source_calls : Calls m (faults_told by_source answer) (source_facts source_old) (source_facts source_new)
-  pub no_output : IsErrOf answer refusals.Output → ⊥
-
--- what a call leaves that changes the device by itself, by at most n calls
-pub record HasEdited {F : Type 0} (facts : F → Device) (n : ℕ) (old new : Pages F) (answer : Answer) : Type 0 where
-  pub calls : Calls n (faults_told by_device answer) (facts old.device) (facts new.device)
-  pub no_source : IsErrOf answer refusals.Source → ⊥
+  pub source_calls : Calls m (faults_told by_source answer) source source_now
   pub no_output : IsErrOf answer refusals.Output → ⊥

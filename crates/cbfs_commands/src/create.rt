@@ -1,13 +1,12 @@
 //! The command `create`.
 
-ghost use Rattle.std.specs.Prelude.{◌≡◌, ◌⊎◌, ◌+◌, ◌*◌, ◌/◌, ◌<◌, ◌≤◌, All, length, map, OnOk, OnErr, Err};
-ghost use Rattle.flash_format.specs.Flashmap.{area_len};
+ghost use Rattle.std.specs.Prelude.{◌≡◌, ◌+◌, ◌*◌, ◌/◌, ◌≤◌, All, fold, length, map, IsTrue, OnOk, OnErr, Err};
 ghost use Rattle.flash_store.specs.Device.{Calls, refusals};
 ghost use Rattle.flash_store.specs.Pages.{OnHonest};
 ghost use Rattle.cbfs_commands.specs.declared.table.TheConstants.{MOST_REGIONS};
-ghost use Rattle.cbfs_commands.specs.Creations.{Fits, IsPlace, created, formatted_all, formatted_at};
-ghost use Rattle.cbfs_commands.specs.Deeds.{MayHaveWritten, OnBoth};
-ghost use Rattle.cbfs_commands.specs.Outcomes.{HasWritten, LeavesOr, create};
+ghost use Rattle.cbfs_commands.specs.Creations.{Fits, IsPlace, created, formatted_at};
+ghost use Rattle.cbfs_commands.specs.Deeds.{HasChanged, MayHaveWritten, creates};
+ghost use Rattle.cbfs_commands.specs.Outcomes.{HasWritten};
 
 use crate::plan::{Plan, read_plan};
 use crate::refusal::Refusal;
@@ -38,7 +37,7 @@ fn format_all<F: Flash>(paged: &mut Paged<F>, mut places: &[Region]) -> Result<(
         (refusals result) (F.facts paged.old.device) (F.facts paged.new.device) }
     ensures is { OnErr result (result ≡ Err Refusal.Device) }
     ensures formatted { OnHonest F.facts paged.old.device (λ image.
-        OnOk result ((F.facts paged.new.device).content ≡ formatted_all image places.entry.now)) }
+        OnOk result ((F.facts paged.new.device).content ≡ fold formatted_at image places.entry.now)) }
 {
     while let [place, rest @ ..] = places {
         format_place(paged, *place)?;
@@ -55,11 +54,11 @@ fn write_plan<F: Flash, S: Source>(
 ) -> Result<(), Refusal>
     requires { Fits (length (F.facts paged.old.device).content) (length (S.facts source.old).content) plan.now }
 
-    ensures after { HasWritten F.facts S.facts (length (F.facts paged.old.device).content / 128 + 34)
-        (length (S.facts source.old).content / 4096 + 1) paged.old paged.new source.old source.new result }
+    ensures after { HasWritten F.facts (length (F.facts paged.old.device).content / 128 + 34)
+        (length (S.facts source.old).content / 4096 + 1) paged.old paged.new (S.facts source.old) (S.facts source.new) result }
     ensures is { MayHaveWritten result }
-    ensures created { OnBoth F.facts paged.old.device S.facts source.old (λ image bytes.
-        OnOk result ((F.facts paged.new.device).content ≡ created (length image) plan.now bytes)) }
+    ensures created { OnHonest F.facts paged.old.device (λ image. IsTrue (S.facts source.old).honest →
+        OnOk result ((F.facts paged.new.device).content ≡ created (length image) plan.now (S.facts source.old).content)) }
 {
     let image_len = paged.len();
     paged.fill(0, image_len, 0xff)?;
@@ -76,17 +75,8 @@ pub fn create<F: Flash, S: Source>(
     source: &mut S,
 ) -> Result<(), Refusal>
     requires { length names.now ≤ MOST_REGIONS }
-
-    // On any device, from any source.
-    ensures after { HasWritten F.facts S.facts (2 * length (F.facts paged.old.device).content + 64)
-        (length (S.facts source.old).content / area_len + length (S.facts source.old).content / 4096 + 3)
-        paged.old paged.new source.old source.new result }
-
-    // On an honest device.
-    ensures refused { OnHonest F.facts paged.old.device (λ image.
-        MayHaveWritten result ⊎ ((F.facts paged.new.device).content ≡ image)) }
-    ensures left { OnBoth F.facts paged.old.device S.facts source.old (λ image bytes.
-        LeavesOr image (F.facts paged.new.device).content result (create image (map (λ n. n.now) names.now) bytes)) }
+    ensures { HasChanged F.facts (2 * length (F.facts paged.old.device).content + 64) (creates (map (λ name. name.now) names.now))
+        paged.old paged.new (S.facts source.old) (S.facts source.new) result }
 {
     let image_len = paged.len();
     let plan = read_plan(names, source, image_len)?;

@@ -1,11 +1,12 @@
 //! The plan of a new image: where its flashmap goes, and which regions are formatted.
 
-ghost use Rattle.std.specs.Prelude.{◌≡◌, ◌⊎◌, ◌+◌, ◌/◌, ◌<◌, ◌≤◌, ℕ, All, length, map, nat_lt, IsTrue, IsErrOf, IfOk};
+ghost use Rattle.std.specs.Prelude.{◌≡◌, ◌⊎◌, ◌+◌, ◌/◌, ◌≤◌, length, map, nat_lt, IsTrue, IsErrOf, IfOk};
 ghost use Rattle.std.specs.List.{list_any};
+ghost use Rattle.std.specs.Result.{result_map_both};
 ghost use Rattle.flash_format.specs.Flashmap.{area_len, map_len};
 ghost use Rattle.flash_store.specs.Device.{Reads, faults_told};
-ghost use Rattle.cbfs_commands.specs.Creations.{Fits, IsPlace, items_of, map_place, overlap, plan_for, plan_of, region_place, region_places, some_overlap};
-ghost use Rattle.cbfs_commands.specs.Refusals.{HasNoFault, by_source};
+ghost use Rattle.cbfs_commands.specs.Creations.{Fits, map_place, overlap, plan_for, plan_of, region_place, region_places, some_overlap};
+ghost use Rattle.cbfs_commands.specs.Refusals.{by_source, itself};
 
 use crate::refusal::Refusal;
 use crate::table::{MOST_REGIONS, first_areas, head_for};
@@ -26,8 +27,7 @@ pub struct Plan {
 
 /// Where the map's area lies, which has room for the table.
 fn map_place(area: Option<Area>, map_len: u64, image_len: u64) -> Result<Region, Refusal>
-    ensures is { result ≡ map_place image_len map_len area }
-    ensures no_fault { HasNoFault result }
+    ensures { result ≡ map_place image_len map_len area }
 {
     match region_of_area(area, image_len) {
         Ok(place) if place.size() >= map_len => Ok(place),
@@ -37,9 +37,7 @@ fn map_place(area: Option<Area>, map_len: u64, image_len: u64) -> Result<Region,
 
 /// Where a region's area lies, which has the size of a CBFS.
 fn region_place(area: Option<Area>, image_len: u64) -> Result<Region, Refusal>
-    ensures is { result ≡ region_place image_len area }
-    ensures no_fault { HasNoFault result }
-    ensures place { IfOk result (λ place. IsPlace image_len place) }
+    ensures { result ≡ region_place image_len area }
 {
     let place = region_of_area(area, image_len)?;
     if place.size() == 0 || place.size() % 64 != 0 {
@@ -54,9 +52,7 @@ fn region_places(
     image_len: u64,
 ) -> Result<ArrayVec<Region, MOST_REGIONS>, Refusal>
     requires { length areas.now ≤ MOST_REGIONS }
-    ensures is { items_of result ≡ region_places image_len areas.now }
-    ensures no_fault { HasNoFault result }
-    ensures places { IfOk result (λ places. All (IsPlace image_len) places.items) }
+    ensures { result_map_both (λ places. places.items) itself result ≡ region_places image_len areas.now }
 {
     let mut places = ArrayVec::new();
     for i in 0..areas.len() {
@@ -105,6 +101,7 @@ fn map_len(head: &FmapHead) -> u64
 }
 
 /// The plan by the areas that were found.
+#[tactic(auto, unfolding(crate::specs::Creations::plan_of))]
 fn plan_of(
     head: &FmapHead,
     map: Option<Area>,
@@ -112,9 +109,7 @@ fn plan_of(
     image_len: u64,
 ) -> Result<Plan, Refusal>
     requires { length regions.now ≤ MOST_REGIONS }
-    ensures is { result ≡ plan_of image_len (map_len head.now) map regions.now }
-    ensures no_fault { HasNoFault result }
-    ensures fits { (m : ℕ) → map_len head.now ≤ m → IfOk result (λ plan. Fits image_len m plan) }
+    ensures { result ≡ plan_of image_len (map_len head.now) map regions.now }
 {
     let map_len = map_len(head);
     let map = map_place(map, map_len, image_len)?;

@@ -1,10 +1,8 @@
 //! The command `write`.
 
-ghost use Rattle.std.specs.Prelude.{◌≡◌, ◌+◌, ◌*◌, ◌/◌, ◌<◌, ◌≤◌, ◌⊎◌, length, Some, Ok};
-ghost use Rattle.std.specs.Result.{result_ok};
-ghost use Rattle.flash_store.specs.Regions.{LiesIn, region_of};
-ghost use Rattle.cbfs_commands.specs.Deeds.{HasKept, OnBoth, replaces};
-ghost use Rattle.cbfs_commands.specs.Outcomes.{HasWritten, LeavesOr, StopsIn, write, write_region};
+ghost use Rattle.std.specs.Prelude.{◌+◌, ◌*◌, ◌/◌, length};
+ghost use Rattle.flash_store.specs.Regions.{LiesIn};
+ghost use Rattle.cbfs_commands.specs.Deeds.{HasChanged, edits, edits_in, replaces};
 
 use crate::refusal::Refusal;
 use flash_store::{Flash, Paged, Region, Source};
@@ -16,17 +14,8 @@ fn write_region<F: Flash, S: Source>(
     source: &mut S,
 ) -> Result<(), Refusal>
     requires { LiesIn region (F.facts paged.old.device).content }
-
-    // On any device, from any source.
-    ensures after { HasWritten F.facts S.facts (length (F.facts paged.old.device).content / 4096 + 1)
-        (length (S.facts source.old).content / 4096 + 1) paged.old paged.new source.old source.new result }
-
-    // On an honest device.
-    ensures kept { HasKept F.facts (λ image. Some region) paged.old paged.new result }
-    ensures left { OnBoth F.facts paged.old.device S.facts source.old (λ image bytes.
-        LeavesOr image (F.facts paged.new.device).content result (write_region image region bytes)) }
-    ensures stopped { OnBoth F.facts paged.old.device S.facts source.old (λ image bytes.
-        StopsIn image region bytes (F.facts paged.new.device).content result) }
+    ensures { HasChanged F.facts (length (F.facts paged.old.device).content / 4096 + 1) (edits_in region replaces)
+        paged.old paged.new (S.facts source.old) (S.facts source.new) result }
 {
     if source.len() != region.size() {
         return Err(Refusal::SourceSize);
@@ -36,22 +25,13 @@ fn write_region<F: Flash, S: Source>(
 }
 
 /// Replaces the bytes of a region by the source, which has its size.
-#[tactic(auto, unfolding(crate::specs::Outcomes::write))]
 pub fn write<F: Flash, S: Source>(
     paged: &mut Paged<F>,
     name: &[u8],
     source: &mut S,
 ) -> Result<(), Refusal>
-    // On any device, from any source.
-    ensures after { HasWritten F.facts S.facts (2 * length (F.facts paged.old.device).content + 64)
-        (length (S.facts source.old).content / 4096 + 1) paged.old paged.new source.old source.new result }
-
-    // On an honest device.
-    ensures kept { HasKept F.facts (λ image. result_ok (region_of image name.now)) paged.old paged.new result }
-    ensures left { OnBoth F.facts paged.old.device S.facts source.old (λ image bytes.
-        LeavesOr image (F.facts paged.new.device).content result (write image name.now bytes)) }
-    ensures stopped { OnBoth F.facts paged.old.device S.facts source.old (λ image bytes.
-        (replaces name.now).Stopped image bytes result (F.facts paged.new.device).content) }
+    ensures { HasChanged F.facts (2 * length (F.facts paged.old.device).content + 64) (edits name.now replaces)
+        paged.old paged.new (S.facts source.old) (S.facts source.new) result }
 {
     let region = flash_store::region(paged, name)?;
     write_region(paged, region, source)

@@ -1,8 +1,9 @@
--- An accepted addition: where it stands, and what the region has after it.
-use Rattle.std.proofs.Common.{◌≡◌, ◌≢◌, inl, inr, ℕ, ◌+◌, ◌-◌, ◌%◌, ◌^◌, ◌<◌, ◌≤◌, Bool, true, false, cond, eqb, ltb, ◌||◌, List, [], ◌∷◌, ◌++◌, length, drop, Option, Some, None, Ok, sym, ◌∙◌, ap, subst, refl, arith, length-append}
-use Rattle.std.specs.Prelude.{◌==◌}
+-- An accepted addition: where it stands, what the region has after it, and what its calls have answered.
+use Rattle.std.proofs.Common.{◌≡◌, ◌≢◌, inl, inr, ℕ, ◌+◌, ◌-◌, ◌%◌, ◌^◌, ◌<◌, ◌≤◌, Bool, true, false, cond, eqb, ltb, ◌||◌, List, [], ◌∷◌, ◌++◌, length, drop, Contains, Option, Some, None, Ok, sym, ◌∙◌, ap, subst, refl, arith, length-append, ◌⊎◌, ⊎_elim, Result, Err}
+use Rattle.std.specs.Prelude.{◌==◌, IsErrOf}
 use Rattle.std.specs.List.{list_any}
 use Rattle.std.proofs.lemmas.Bool.{cond_both, eqb-false, eqb-true, ltb-false, or_parts}
+use Rattle.std.proofs.lemmas.List.Elements.{Contains-append_right}
 use Rattle.flash_format.specs.Head.{round64}
 use Rattle.flash_format.specs.Entry.{is_nul}
 use Rattle.flash_format.specs.EmptyEntries.{empty_entry, padding}
@@ -12,29 +13,42 @@ use Rattle.flash_format.specs.Splices.{spliced}
 use Rattle.flash_format.specs.Made.{IsDigest, IsMade, hash_len, meta_length, made_metadata}
 use Rattle.flash_format.specs.Placings.{HasOneMore, IsSpace, IsPlacing, made_component, space_cells}
 use Rattle.flash_format.specs.declared.digest.Digest.{Digest}
-use Rattle.flash_format.specs.declared.digest.Digest.TheVariants as digests
 use Rattle.flash_format.proofs.MadeLaws.{length-metadata, hash_as_long, made_as_long, made_alone}
 use Rattle.flash_format.proofs.Placed.{empty_is_space, components_placed}
+use Rattle.flash_store.specs.Bytes.{SameOutside}
+use Rattle.flash_store.proofs.BytesLemmas.{SameOutside-overwritten, further, length-overwritten}
 use Rattle.cbfs_edit.specs.Groups.{IsCellRange}
 use Rattle.cbfs_edit.specs.Runs.{runs}
-use Rattle.cbfs_edit.specs.Removals.{kept_at}
-use Rattle.cbfs_edit.specs.Places.{IsWanted, IsFirstPlace, IsPlaceAmong, limit_of, placing_in}
+use Rattle.cbfs_edit.specs.Removals.{kept_at, space_end}
+use Rattle.cbfs_edit.specs.Places.{IsWanted, IsFirstPlace, IsPlaceAmong, placing_in}
 use Rattle.cbfs_edit.specs.Placings.{Fits}
-use Rattle.cbfs_edit.specs.Stops.{AddLeavesWhole, AddLeavesBefore, IsOldOrEmptied}
-use Rattle.cbfs_edit.specs.Additions.{NewComponent, AddsOne, added, addition_in, empty_between, cell_end, header_of, is_bad_align, is_bad_name, is_bad_type, kept_from, made_at, own_fault, unless_faulty, wanted_for}
+use Rattle.cbfs_edit.specs.Stops.{AddLeavesWhole, AddLeavesBefore, IsOldOrEmptied, written_to, IsInsertStop}
+use Rattle.cbfs_edit.specs.Additions.{NewComponent, AddsOne, added, addition_in, empty_between, cell_end, header_of, is_bad_align, is_bad_name, is_bad_type, kept_from, made_at, own_fault, unless_faulty, wanted_for, added_to, digest_of}
 use Rattle.cbfs_edit.specs.Laws.{AdditionsAddOneComponent}
 use Rattle.cbfs_edit.specs.declared.fault.EditFault.{EditFault}
-use Rattle.cbfs_edit.specs.declared.fault.EditFault.TheVariants as faults
+use Rattle.cbfs_edit.specs.declared.group.Freed.{Freed}
 use Rattle.cbfs_edit.specs.declared.place.Spot.{Spot}
-use Rattle.cbfs_edit.specs.declared.place.Spot.TheVariants.{Aligned, Fixed}
+use Rattle.cbfs_edit.specs.declared.place.Spot.TheVariants.{Aligned}
 use Rattle.cbfs_edit.specs.declared.place.Wanted.{Wanted}
 use Rattle.cbfs_edit.specs.declared.place.Place.{Place}
-use Rattle.cbfs_edit.proofs.AnsweredPlaces.{IsAnsweredPlace, answered_place}
-use Rattle.cbfs_edit.proofs.ContentPlaces.{content_at}
-use Rattle.cbfs_edit.proofs.FreeRuns.{IsRun, run_of, emptied_runs}
-use Rattle.cbfs_edit.proofs.Groups.{as_splice, emptied-written, over-range}
-use Rattle.cbfs_edit.proofs.Kept.{keeps}
-use Rattle.cbfs_edit.proofs.Leasts.{place_among-right}
+use Rattle.cbfs_edit.proofs.Places.{IsAnsweredPlace, answered_place, fits_there, place_among-right}
+use Rattle.cbfs_edit.proofs.Lists.{content_at}
+use Rattle.cbfs_edit.proofs.Runs.{IsRun, run_of, emptied_runs}
+use Rattle.cbfs_edit.proofs.Emptied.{emptied-wider, space_end-below, space_end-near, as_splice, emptied-stopped}
+use Rattle.cbfs_edit.proofs.Changes.{keeps}
+use Rattle.std.specs.Option.{option_map_or}
+use Rattle.std.specs.Result.{result_ok}
+use Rattle.flash_store.specs.Regions.{Range, LiesIn, bytes_in}
+use Rattle.flash_store.specs.declared.paged.CopyFault.{CopyFault}
+use Rattle.flash_store.proofs.DeviceLemmas.{length-bytes_in}
+use Rattle.sha2.proofs.Facts256.{length-sha256}
+use Rattle.sha2.proofs.Facts512.{length-sha512}
+use Rattle.cbfs_walk.specs.Hashes.{sha256_of, sha512_of}
+use Rattle.cbfs_edit.specs.declared.addition.HashChoice.{HashChoice}
+use Rattle.cbfs_edit.specs.declared.addition.HashChoice.TheVariants.{Plain, Sha256, Sha512}
+use Rattle.flash_format.specs.declared.digest.Digest.TheVariants as digests
+use Rattle.cbfs_edit.specs.declared.fault.EditFault.TheVariants as faults
+use Rattle.flash_store.specs.declared.paged.CopyFault.TheVariants as copies
 
 -- once the caller's own faults are looked at
 pub own-is : (x : List ℕ) (new : NewComponent) (spot : Spot) (own : Option EditFault) → own ≡ own_fault new.name new.kind spot → unless_faulty own (placing_in x new.name (wanted_for new spot)) ≡ addition_in x new spot
@@ -88,10 +102,6 @@ hash_short None = omega arith
 hash_short (Some (digests.Sha256 bytes)) = omega arith
 hash_short (Some (digests.Sha512 bytes)) = omega arith
 
-limit_below : (spot : Spot) (size end : ℕ) → limit_of spot size end ≤ end
-limit_below (Fixed place) size end = omega arith
-limit_below other size end = cond_both (end == size) (end - 4) end (λ n. n ≤ end) (λ e. omega arith) (λ e. omega arith)
-
 module _ (x : List ℕ) (new : NewComponent) (spot : Spot) (place : Place) (small : length x < 2 ^ 32) (kind_small : new.kind < 2 ^ 32) (content_small : length new.content < 2 ^ 32) (digest : IsDigest new.digest)
     (is : addition_in x new spot ≡ Ok place) where
   abbrev wanted : Wanted
@@ -106,25 +116,23 @@ module _ (x : List ℕ) (new : NewComponent) (spot : Spot) (place : Place) (smal
   pub there : IsAnsweredPlace x new.name wanted place
   there = answered_place x new.name wanted place fine.placed
 
-  the_run : IsRun x place.run
-  the_run = run_of x place.run there.sound.whole there.is_run
-
-  range : IsCellRange place.run (length x)
-  range = the_run.range
-
   is_wanted : IsWanted wanted
   is_wanted = record { header = omega (arith, hash_short new.digest, fine.name_short); len = content_small; spot = fine.spot_good }
 
   first : IsFirstPlace wanted (length x) (runs x) place
   first = subst (λ (o : Option Place). IsPlaceAmong wanted (length x) (runs x) o) there.found (place_among-right wanted (length x) (runs x) is_wanted)
 
+  is_run : Contains (runs x) place.run
+  is_run = subst (λ (l : List Freed). Contains l place.run) (sym first.whole) (Contains-append_right first.before (place.run ∷ first.later) place.run (0, omega arith, refl))
+
+  the_run : IsRun x place.run
+  the_run = run_of x place.run there.sound.whole is_run
+
+  range : IsCellRange place.run (length x)
+  range = the_run.range
+
   fits : Fits wanted (length x) place
-  fits = record {
-    run = range;
-    start_below = omega (arith, range.start_aligned, first.header.aligned, first.header.largest, first.content.allowed.after_header);
-    header = first.header;
-    inside = omega (arith, first.content.allowed.ends, limit_below spot (length x) place.run.end);
-  }
+  fits = fits_there wanted (length x) place range first.content first.header
 
   some : 4 ≤ length x
   some = omega (arith, range.some, range.inside)
@@ -184,7 +192,7 @@ module _ (x : List ℕ) (new : NewComponent) (spot : Spot) (place : Place) (smal
   as_spliced = as_splice x place.run.start place.run.end (before ++ (made_at x new place ++ after)) (omega (arith, whole_long, range.some))
 
   pub added_length : length (added x new place) ≡ length x
-  added_length = (over-range x place.run (before ++ (made_at x new place ++ after)) (added x new place) range whole_long refl).same_length
+  added_length = length-overwritten x place.run.start (before ++ (made_at x new place ++ after)) (omega (arith, whole_long, range.some, range.inside))
 
   pub region_some : 64 ≤ length x
   region_some = omega (arith, range.some, range.inside)
@@ -200,29 +208,113 @@ module _ (x : List ℕ) (new : NewComponent) (spot : Spot) (place : Place) (smal
         content = content_at x before metadata new.content pad after place.run.start place.content (omega (arith, range.some, range.inside)) (omega (arith, placing.space_before.long, metadata_long, fits.start_below, fits.header.room));
       }
 
+  abbrev to : ℕ
+  to = written_to (length x) (length new.content) place
+
+  near : (space_end (length x) place.run.end ≤ place.run.end) × (place.run.end ≤ space_end (length x) place.run.end + 4)
+  near = space_end-near (length x) place.run.end
+
   -- a stop before the last commit
-  pub add_leaves_before : (y : List ℕ) → IsOldOrEmptied x place.run y → drop (kept_from x new place) y ≡ drop (kept_from x new place) x → AddLeavesBefore x new spot y
-  add_leaves_before y (inl same) last = (inl same, ap (λ (l : List ℕ). components l) same)
-  add_leaves_before y (inr emptied) last =
-      let kept = emptied_runs x place.run y there.sound.whole small there.is_run emptied in
-      let written = emptied-written x place.run range y emptied in
-      (inr (place, is, record { components = inl kept.components; end = kept.end; same_length = written.same_length; outside = written.outside; last = last }), kept.components)
+  pub add_leaves_before : (y : List ℕ) → IsOldOrEmptied place.run to x y → AddLeavesBefore x new spot y
+  add_leaves_before y (inl same) = (inl same, ap (λ (l : List ℕ). components l) same)
+  add_leaves_before y (inr emptied) =
+      let within : to ≤ place.run.end = omega (arith, near, fits.inside) in
+      let whole = emptied-wider x place.run range to y emptied place.run.end within in
+      let kept = emptied_runs x place.run y there.sound.whole small is_run whole in
+      let below = space_end-below (length x) place.run.end range.inside range.end_aligned there.sound.whole in
+      (inr (place, is, emptied-stopped x place.run range to y emptied (added x new place) (kept_from x new place) (omega (arith, near, range.some)) within (omega (arith, below)) (inl kept.components) kept.end), kept.components)
 
   -- and after it
-  pub add_leaves_done : (y : List ℕ) → y ≡ added x new place → drop (kept_from x new place) y ≡ drop (kept_from x new place) x → AddLeavesWhole x new spot y
+  pub add_leaves_done : (y : List ℕ) → y ≡ added x new place → drop to y ≡ drop to x → AddLeavesWhole x new spot y
   add_leaves_done y done last =
-      let written = over-range x place.run (before ++ (made_at x new place ++ after)) y range whole_long done in
+      let u : List ℕ = before ++ (made_at x new place ++ after) in
+      let below = space_end-below (length x) place.run.end range.inside range.end_aligned there.sound.whole in
       inr (
         place,
         is,
         record {
           components = inr (ap (λ (l : List ℕ). components l) done);
           end = ap (λ (l : List ℕ). (cut l).end) done ∙ adds_one.more.same_end;
-          same_length = written.same_length;
-          outside = written.outside;
-          last = last;
+          same_length = ap length done ∙ added_length;
+          outside =
+              subst (λ (l : List ℕ). SameOutside place.run.start (place.run.end - place.run.start) x l) (sym done)
+              (SameOutside-overwritten x place.run.start (place.run.end - place.run.start) u (omega (arith, whole_long)) (omega (arith, range.some, range.inside)));
+          last = further x y to (kept_from x new place) (omega (arith, below)) last;
         },
       )
 
 pub additions_add_one : AdditionsAddOneComponent
 additions_add_one x new spot place small kind_small content_small digest is = adds_one x new spot place small kind_small content_small digest is
+
+-- ---- the steps of an addition: its own checks, the search for a place, the writes
+
+pub digest-sized : (hash : HashChoice) (content : List ℕ) → IsDigest (digest_of hash content)
+unfolding sha256_of sha512_of
+digest-sized Plain content = tt
+digest-sized Sha256 content = length-sha256 content
+digest-sized Sha512 content = length-sha512 content
+
+-- no fault of the caller's own
+pub no_fault : (o : Option EditFault) → ((fault : EditFault) → o ≡ Some fault → ⊥) → None ≡ o
+no_fault None none = refl
+no_fault (Some fault) none = absurd (none fault refl)
+
+pub same_fault : {A : Type 0} (fault other : EditFault) → (let a : Result A EditFault = Err fault in IsErrOf a other) → fault ≡ other
+same_fault fault other is = cc
+
+-- a fault is told alike, whatever the call answers besides
+pub told : {A B : Type 0} (fault other : EditFault) → (let a : Result A EditFault = Err fault in IsErrOf a other) → (let b : Result B EditFault = Err fault in IsErrOf b other)
+told fault other is = ap (λ e. Err e) (same_fault fault other is)
+
+pub told_as : {A : Type 0} (fault other : EditFault) → fault ≡ other → (let a : Result A EditFault = Err fault in IsErrOf a other)
+told_as fault other is = ap (λ e. Err e) is
+
+-- what the search for a place has answered, once the caller's own checks are passed
+module _ (x : List ℕ) (new : NewComponent) (spot : Spot) (own : Option EditFault) (wanted : Wanted) (passed : (fault : EditFault) → own ≡ Some fault → ⊥) (own_is : own ≡ own_fault new.name new.kind spot) (wanted_is : wanted ≡ wanted_for new spot) where
+  same : placing_in x new.name wanted ≡ addition_in x new spot
+  same = ap (λ (w : Wanted). placing_in x new.name w) wanted_is ∙ own-is x new spot None (no_fault own passed ∙ own_is)
+
+  pub found_in : (r : Result Place EditFault) → IsErrOf r faults.Device ⊎ (r ≡ placing_in x new.name wanted) → IsErrOf r faults.Device ⊎ (r ≡ addition_in x new spot)
+  found_in r (inl failed) = inl failed
+  found_in r (inr found) = inr (found ∙ same)
+
+  pub place_found : (place : Place) → (let a : Result Place EditFault = Ok place in IsErrOf a faults.Device ⊎ (a ≡ placing_in x new.name wanted)) → addition_in x new spot ≡ Ok place
+  place_found place (inl failed) = absurd cc
+  place_found place (inr found) = sym (found ∙ same)
+
+-- what is written over a region that the search has left as it was
+pub written : (r : Range) (new : NewComponent) (spot : Spot) (place : Place) (old mid now : List ℕ) → mid ≡ old → addition_in (bytes_in r old) new spot ≡ Ok place → bytes_in r now ≡ added (bytes_in r mid) new place → bytes_in r now ≡ added_to (bytes_in r old) new spot
+written r new spot place old mid now same is there = there ∙ ap (λ (l : List ℕ). added (bytes_in r l) new place) same ∙ sym (ap (λ (a : Result Place EditFault). option_map_or (added (bytes_in r old) new) (result_ok a) (bytes_in r old)) is)
+
+module _ (r : Range) (new : NewComponent) (spot : Spot) (place : Place) (old mid now : List ℕ) (honest : Type 0) (result : Result (Unit {0}) CopyFault) (n : ℕ) (lies : LiesIn r old) (small : length old < 2 ^ 32) (kind_small : new.kind < 2 ^ 32)
+    (content_small : length new.content < 2 ^ 32) (len : n ≡ length new.content) (digest : IsDigest new.digest) (same : mid ≡ old) (is : addition_in (bytes_in r old) new spot ≡ Ok place)
+    (stopped : IsInsertStop place.run (written_to r.size n place) ((IsErrOf result copies.Source → ⊥) × (honest → bytes_in r now ≡ added (bytes_in r mid) new place)) (bytes_in r mid) (bytes_in r now)) where
+  abbrev x : List ℕ
+  x = bytes_in r old
+
+  abbrev y : List ℕ
+  y = bytes_in r now
+
+  size : length x ≡ r.size
+  size = length-bytes_in r old lies
+
+  x_small : length x < 2 ^ 32
+  x_small = omega (arith, size, lies, small)
+
+  abbrev Stop : List ℕ → ℕ → ℕ → Type 0
+  Stop l k m = IsInsertStop place.run (written_to k m place) ((IsErrOf result copies.Source → ⊥) × (honest → y ≡ added (bytes_in r l) new place)) (bytes_in r l) y
+
+  stop : Stop old (length x) (length new.content)
+  stop = subst (λ m. Stop old (length x) m) len (subst (λ k. Stop old k n) (sym size) (subst (λ (l : List ℕ). Stop l r.size n) same stopped))
+
+  left_before : IsOldOrEmptied place.run (written_to (length x) (length new.content) place) x y → AddLeavesBefore x new spot y
+  left_before before = add_leaves_before x new spot place x_small kind_small content_small digest is y before
+
+  -- after a fault of the source
+  pub source_leaves : IsErrOf result copies.Source → AddLeavesBefore x new spot y
+  source_leaves failed = ⊎_elim left_before (λ shown. absurd (shown.0.0 failed)) stop
+
+  -- after one of the device
+  pub device_leaves : honest → AddLeavesWhole x new spot y
+  device_leaves true_source =
+      ⊎_elim (λ before. (left_before before).0) (λ shown. add_leaves_done x new spot place x_small kind_small content_small digest is y (shown.0.1 true_source) shown.1) stop

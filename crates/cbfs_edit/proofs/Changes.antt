@@ -1,15 +1,41 @@
--- Changes of a run, within a range.
-use Rattle.std.proofs.Common.{◌≡◌, inl, inr, ℕ, ◌+◌, ◌-◌, ◌≤◌, List, sym, ◌∙◌, subst, refl, arith}
-use Rattle.std.specs.Prelude.{◌==◌, max}
-use Rattle.std.proofs.lemmas.Bool.{cases_Bool, eqb-false, eqb-true}
+-- Changes within a range, and the last four bytes that are kept.
+use Rattle.std.proofs.Common.{◌≡◌, ℕ, ◌-◌, ◌<◌, ◌≤◌, Bool, true, false, cond, List, length, Option, Some, None, ap, refl, arith, length-drop, ◌⊎◌, inl, inr, ◌+◌, sym, ◌∙◌, subst}
+use Rattle.std.specs.Prelude.{◌==◌, is_some, max}
+use Rattle.std.proofs.lemmas.Bool.{cond_both, ne_eqb, eqb-false, eqb-true}
+use Rattle.flash_format.specs.Made.{KeepsFour}
+use Rattle.cbfs_edit.specs.Removals.{last_four, kept_at}
 use Rattle.flash_format.specs.Head.{header_length}
-use Rattle.flash_store.specs.Bytes.{SameOutside}
-use Rattle.flash_store.proofs.BytesLemmas.{SameOutside-trans}
+use Rattle.flash_format.specs.EmptyEntries.{empty_header}
+use Rattle.flash_store.specs.Bytes.{SameOutside, overwritten}
+use Rattle.flash_store.proofs.BytesLemmas.{SameOutside-overwritten, SameOutside-trans}
 use Rattle.cbfs_edit.specs.declared.place.Place.{Place}
-use Rattle.cbfs_edit.specs.Insertions.{HasRoom, held_back, IsUnfinished}
+use Rattle.cbfs_edit.specs.Insertions.{HasRoom, bounded, held_back, IsUnfinished}
+
+-- ---- the last four bytes of a region, where an empty entry keeps them
+
+pub length-last_four : (x : List ℕ) → 4 ≤ length x → length (last_four x) ≡ 4
+length-last_four x some = omega (arith, length-drop (length x - 4) x)
+
+pub keeps : (x : List ℕ) (end : ℕ) → 4 ≤ length x → KeepsFour (kept_at x end)
+keeps x end some = cond_both (end == length x) (Some (last_four x)) None (λ (o : Option (List ℕ)). KeepsFour o) (λ e. length-last_four x some) (λ e. tt)
+
+pub is_some-cond : (b : Bool) (last : List ℕ) → is_some (cond b (Some last) None) ≡ b
+is_some-cond true last = refl
+is_some-cond false last = refl
+
+-- a cell that ends before the region's end keeps nothing
+pub kept-none : (x : List ℕ) (end : ℕ) → end < length x → kept_at x end ≡ None
+kept-none x end below = ap (λ b. cond b (Some (last_four x)) None) (ne_eqb end (length x) (λ e. absurd (omega (arith, e, below))))
+
+-- ---- changes of a run, within a range
 
 pub unchanged : (x : List ℕ) (at n : ℕ) → SameOutside at n x x
 unchanged x at n = record { before = refl; after = refl }
+
+-- a write that is whole or absent
+pub whole-outside : (x y : List ℕ) (at n : ℕ) (u : List ℕ) → length u ≡ n → at ≤ length x → (y ≡ x) ⊎ (y ≡ overwritten x at u) → SameOutside at n x y
+whole-outside x y at n u long inside (inl same) = subst (λ (l : List ℕ). SameOutside at n x l) (sym same) (unchanged x at n)
+whole-outside x y at n u long inside (inr is) = subst (λ (l : List ℕ). SameOutside at n x l) (sym is) (SameOutside-overwritten x at n u (omega (arith, long)) inside)
 
 -- a change within a range
 pub within : (y z : List ℕ) (at n from to : ℕ) → from ≤ at → at + n ≤ to → SameOutside at n y z → SameOutside from (to - from) y z
@@ -25,18 +51,19 @@ module _ (size : ℕ) (place : Place) (end metadata : ℕ) (room : HasRoom size 
   -- the rest of the metadata
   pub metadata-within : (at n : ℕ) → at ≡ place.header + held_back place → n ≡ metadata - held_back place → SameOutside at n y z → IsUnfinished place y z
   metadata-within at n is long same =
-      let bounds : (place.run.start + header_length ≤ at) × (at + n ≤ place.content) = elim (cases_Bool (place.header == place.run.start)) [
-        | inl here ↦
-            let held : held_back place ≡ header_length = rw here refl in
-            let same = eqb-true place.header place.run.start here in
-            (omega (arith, held, same), omega (arith, held, same, room.metadata_is, room.metadata_long))
-        | inr later ↦
-            let held : held_back place ≡ 0 = rw later refl in
-            (omega (arith, held, eqb-false place.header place.run.start later, room.start_below, room.run.start_aligned, room.header_aligned), omega (arith, held, room.metadata_is))
-      ] in
-      within y z at n (place.run.start + header_length) (max place.content (place.run.end - 4)) bounds.0 (omega (arith, bounds.1)) same
+      let held : (place.run.start + header_length ≤ place.header + held_back place) × (held_back place ≤ header_length) =
+      cond_both (place.header == place.run.start) header_length 0 (λ k. (place.run.start + header_length ≤ place.header + k) × (k ≤ header_length))
+      (λ e. (omega (arith, eqb-true place.header place.run.start e), omega arith))
+      (λ e. (omega (arith, eqb-false place.header place.run.start e, room.start_below, room.run.start_aligned, room.header_aligned), omega arith)) in
+      within y z at n (place.run.start + header_length) (max place.content (place.run.end - 4)) (omega (arith, held, is)) (omega (arith, held, is, long, room.metadata_is, room.metadata_long)) same
 
   -- the header of the empty entry after the component
+  pub bound-is : (header : List ℕ) (told : ℕ) → told ≡ length y → header ≡ empty_header (place.run.end - end) (place.run.end == told) → (end ≡ place.run.end → ⊥) → z ≡ overwritten y end header → z ≡ bounded y end place.run.end
+  bound-is header told is_told is_header other is =
+      is
+      ∙ ap (λ (h : List ℕ). overwritten y end h) (is_header ∙ ap (λ n. empty_header (place.run.end - end) (place.run.end == n)) is_told)
+      ∙ sym (ap (λ b. cond b y (overwritten y end (empty_header (place.run.end - end) (place.run.end == length y)))) (ne_eqb end place.run.end other))
+
   pub bound-within : (n : ℕ) → n ≡ header_length → (end ≡ place.run.end → ⊥) → SameOutside end n y z → IsUnfinished place y z
   bound-within n long other same =
       within y z end n (place.run.start + header_length) (max place.content (place.run.end - 4))

@@ -1,33 +1,89 @@
--- Lists of edits: a run goes on by one step.
-use Rattle.std.proofs.Common.{◌≡◌, ℕ, ◌+◌, ◌<◌, All, List, [], ◌∷◌, ◌++◌, length, take, drop, set, get_or, IsTrue, refl, sym, subst, ap, ◌∙◌, arith}
+-- Edits' steps, and lists of them.
+use Rattle.std.proofs.Common.{◌≡◌, ◌≢◌, ◌⊎◌, inl, inr, ⊎_elim, List, ℕ, Result, Ok, Err, ap, refl, sym, ◌+◌, ◌<◌, All, [], ◌∷◌, ◌++◌, length, take, drop, set, get_or, IsTrue, subst, ◌∙◌, arith, rules}
+use Rattle.std.specs.Prelude.{IsErrOf, IfErr, IfOk, OnOk, sum_by}
+use Rattle.flash_store.specs.Regions.{Range, bytes_in}
+use Rattle.cbfs_edit.specs.Additions.{NewComponent, addition_in, added_to, placed_of}
+use Rattle.cbfs_edit.specs.Refusals.{ByFault, by_device}
+use Rattle.cbfs_edit.specs.Removals.{removed, removal_in}
+use Rattle.cbfs_edit.specs.Steps.{AdditionReply, RemovalReply, Answered, HasHonestSource, Run, State, Step, edit_calls, faults_of, state_of}
+use Rattle.cbfs_edit.specs.Stops.{LeavesWhole, AddLeavesWhole, AddLeavesBefore}
+use Rattle.cbfs_edit.specs.declared.addition.Placed.{Placed}
+use Rattle.cbfs_edit.specs.declared.edit.Reply.{Reply}
+use Rattle.cbfs_edit.specs.declared.fault.EditFault.{EditFault}
+use Rattle.cbfs_edit.specs.declared.group.Freed.{Freed}
+use Rattle.cbfs_edit.specs.declared.place.Place.{Place}
+use Rattle.cbfs_edit.specs.declared.place.Spot.{Spot}
+use Rattle.cbfs_edit.proofs.Added.{same_fault, told_as}
 use Rattle.std.proofs.lemmas.List.{take_more, take_more_set, drop-set-lt, drop-drop, get_or-drop}
 use Rattle.std.proofs.Math.ListN.{length-set}
 use Rattle.std.proofs.lemmas.List.Sums.{sum_by_more, sum_by-append}
-use Rattle.std.specs.Prelude.{sum_by}
 use Rattle.flash_store.specs.Device.{Device}
 use Rattle.flash_store.specs.Pages.{Pages, HasChanged}
-use Rattle.flash_store.specs.Regions.{Range}
 use Rattle.flash_store.proofs.DeviceLemmas.{honest_still}
-use Rattle.cbfs_edit.specs.Steps.{Answered, HasHonestSource, Run, State, Step, edit_calls, faults_of, state_of}
-use Rattle.cbfs_edit.specs.Refusals.{by_device}
 use Rattle.cbfs_edit.specs.declared.edit.Edit.{Edit}
-use Rattle.cbfs_edit.specs.declared.edit.Reply.{Reply}
+use Rattle.cbfs_edit.specs.declared.edit.Reply.TheVariants as replies
+use Rattle.cbfs_edit.specs.declared.fault.EditFault.TheVariants as faults
+
+-- ---- an edit's step, from what its clauses say one by one
+
+-- what is said of a fault
+by-fault : (fault : EditFault) (A B C : Type 0) → (fault ≡ faults.Device → A) → (fault ≡ faults.Source → B) → (fault ≢ faults.Device → fault ≢ faults.Source → C) → ByFault fault A B C
+by-fault faults.Device A B C a b c = a refl
+by-fault faults.Source A B C a b c = b refl
+by-fault other A B C a b c = c (λ e. absurd cc) (λ e. absurd cc)
+
+abbrev removal_reply : Result Freed EditFault → Reply
+removal_reply (Ok group) = replies.Freed group
+removal_reply (Err fault) = replies.Refused fault
+
+abbrev addition_reply : Result Placed EditFault → Reply
+addition_reply (Ok placed) = replies.Placed placed
+addition_reply (Err fault) = replies.Refused fault
+
+pub removal_step : (name : List ℕ) (r : Range) (old now : List ℕ) (result : Result Freed EditFault)
+    → (IsErrOf result faults.Source → ⊥)
+    → IsErrOf result faults.Device ⊎ (result ≡ removal_in (bytes_in r old) name)
+    → IfOk result (λ group. bytes_in r now ≡ removed (bytes_in r old) group)
+    → IfErr result (λ fault. fault ≢ faults.Device → now ≡ old)
+    → (IsErrOf result faults.Device → LeavesWhole (bytes_in r old) name (bytes_in r now))
+    → RemovalReply name (bytes_in r old) (removal_reply result) (bytes_in r now)
+removal_step name r old now (Ok group) no_source (inl failed) changed refused stopped = absurd cc
+removal_step name r old now (Ok group) no_source (inr is) changed refused stopped = (sym is, changed)
+removal_step name r old now (Err fault) no_source answer changed refused stopped =
+    by-fault fault _ _ _
+    (λ e. stopped (told_as fault faults.Device e))
+    (λ e. no_source (told_as fault faults.Source e))
+    (λ other _. (⊎_elim (λ failed. absurd (other (same_fault fault faults.Device failed))) (λ is. sym is) answer, ap (λ (l : List ℕ). bytes_in r l) (refused other)))
+
+-- an addition is refused as its place is
+placed-refused : (place : Result Place EditFault) (fault : EditFault) → Err fault ≡ placed_of place → place ≡ Err fault
+placed-refused (Ok place) fault is = absurd cc
+placed-refused (Err other) fault is = ap (λ (e : EditFault). Err e) (sym (same_fault fault other is))
+
+pub addition_step : (new : NewComponent) (spot : Spot) (r : Range) (old now : List ℕ) (result : Result Placed EditFault)
+    → IsErrOf result faults.Device ⊎ (IsErrOf result faults.Source ⊎ (result ≡ placed_of (addition_in (bytes_in r old) new spot)))
+    → OnOk result (bytes_in r now ≡ added_to (bytes_in r old) new spot)
+    → IfErr result (λ fault. fault ≢ faults.Device → fault ≢ faults.Source → now ≡ old)
+    → (IsErrOf result faults.Device → AddLeavesWhole (bytes_in r old) new spot (bytes_in r now))
+    → (IsErrOf result faults.Source → AddLeavesBefore (bytes_in r old) new spot (bytes_in r now))
+    → AdditionReply new spot (bytes_in r old) (addition_reply result) (bytes_in r now)
+addition_step new spot r old now (Ok placed) (inl failed) changed refused stopped before = absurd cc
+addition_step new spot r old now (Ok placed) (inr (inl failed)) changed refused stopped before = absurd cc
+addition_step new spot r old now (Ok placed) (inr (inr is)) changed refused stopped before = (sym is, changed)
+addition_step new spot r old now (Err fault) answer changed refused stopped before =
+    by-fault fault _ _ _
+    (λ e. stopped (told_as fault faults.Device e))
+    (λ e. before (told_as fault faults.Source e))
+    (λ other not_source. (
+      ⊎_elim (λ failed. absurd (other (same_fault fault faults.Device failed))) (λ rest. ⊎_elim (λ failed. absurd (not_source (same_fault fault faults.Source failed))) (λ is. placed-refused _ fault is) rest) answer,
+      ap (λ (l : List ℕ). bytes_in r l) (refused other not_source),
+    ))
+
+-- ---- lists of edits: a run goes on by one step
 
 -- what two calls leave
 pub changed_more : {F : Type 0} (facts : F → Device) (region : Range) (n k r q : ℕ) (a b c : Pages F) → HasChanged facts region n r a b → HasChanged facts region k q b c → HasChanged facts region (n + k) (r + q) a c
-changed_more facts region n k r q a b c first second = record {
-  calls = record {
-    no_fewer = omega (arith, first.calls.no_fewer, second.calls.no_fewer);
-    no_more = omega (arith, first.calls.no_more, second.calls.no_more);
-    faults = omega (arith, first.calls.faults, second.calls.faults);
-    same_honesty = second.calls.same_honesty ∙ first.calls.same_honesty;
-    same_length = second.calls.same_length ∙ first.calls.same_length;
-  };
-  outside = λ h.
-      let one = first.outside h in
-      let two = second.outside (honest_still first.calls.same_honesty h) in
-      record { before = two.before ∙ one.before; after = two.after ∙ one.after };
-}
+changed_more facts region n k r q a b c first second = search rules
 
 module _ {S : Type 0} (step : Edit S → Edit S → State → Reply → State → Type 0) where
   run-push : (olds news : List (Edit S)) (replies : List Reply) (before mid after : State) (old new : Edit S) (reply : Reply) → Run step olds news replies before mid → step old new mid reply after

@@ -1,52 +1,244 @@
--- The state between the first commit of an edit and its last.
-use Rattle.std.proofs.Common.{◌≡◌, ℕ, ◌+◌, ◌-◌, ◌≤◌, List, length, sym, ◌∙◌, subst, arith}
+-- The state between the first commit of an edit and its last, by the header of an empty entry over a group of cells.
+use Rattle.std.proofs.Common.{◌≡◌, ◌⊎◌, inl, inr, ℕ, ◌+◌, ◌-◌, ◌≤◌, List, ◌++◌, length, sym, ◌∙◌, ap, arith, refl, ◌%◌, Bool, true, false, cond, take, drop, replicate, Some, None, subst, append_assoc, length-append, length-drop, ◌^◌, ◌<◌}
 use Rattle.std.specs.Prelude.{slice_range, ◌==◌}
 use Rattle.flash_format.specs.Head.{header_length}
-use Rattle.flash_format.specs.EmptyEntries.{empty_header}
+use Rattle.flash_format.specs.EmptyEntries.{empty_header, padding}
 use Rattle.flash_format.proofs.EmptyEntryLaws.{length-empty_header}
 use Rattle.flash_store.specs.Bytes.{overwritten, SameOutside}
-use Rattle.flash_store.proofs.BytesLemmas.{SameOutside-overwritten, SameOutside-wider, overwritten-more_at, length-overwritten, length-slice_range, overwritten-front, changed-overwritten}
-use Rattle.cbfs_edit.specs.Stops.{IsEmptied}
+use Rattle.flash_store.proofs.BytesLemmas.{SameOutside-overwritten, SameOutside-trans, SameOutside-wider, overwritten-more_at, length-overwritten, length-slice_range, changed-overwritten, overwritten-front, slice_range_is, further}
+use Rattle.cbfs_edit.specs.Stops.{IsEmptied, IsOldOrEmptied, IsStopped, SameCells}
 use Rattle.cbfs_edit.specs.declared.group.Freed.{Freed}
+use Rattle.cbfs_edit.proofs.Changes.{again, unchanged, within, is_some-cond}
+use Rattle.std.proofs.lemmas.List.{length-replicate, take_all}
+use Rattle.std.proofs.lemmas.Bool.{cond_both, eqb-false, eqb-true}
+use Rattle.flash_store.specs.Regions.{Range, LiesIn, bytes_in}
+use Rattle.flash_store.proofs.DeviceLemmas.{length-bytes_in}
+use Rattle.cbfs_edit.specs.Groups.{IsCellRange}
+use Rattle.cbfs_edit.specs.Removals.{last_four, kept_at, removed, space_end}
+use Rattle.std.specs.List.{concat}
+use Rattle.flash_format.specs.Cut.{cut}
+use Rattle.flash_format.specs.Components.{components_from, components}
+use Rattle.flash_format.specs.Splices.{CellsBetween, spliced}
+use Rattle.flash_format.proofs.Splices.{length-concat-cells, group-whole, cells-before, cells-group}
+use Rattle.flash_format.proofs.Splices as splices
 
-module _ (x : List ℕ) (group : Freed) (some : group.start + header_length ≤ group.end) (inside : group.end ≤ length x) where
+-- ---- lengths and places
+
+-- the region keeps its length where the image does
+pub same_region_length : (r : Range) (x y z : List ℕ) → LiesIn r x → length y ≡ length x → length z ≡ length y → length (bytes_in r z) ≡ length (bytes_in r y)
+same_region_length r x y z lies first second =
+    let lies_y : LiesIn r y = omega (arith, lies) in
+    let lies_z : LiesIn r z = omega (arith, lies) in
+    length-bytes_in r z lies_z ∙ sym (length-bytes_in r y lies_y)
+
+pub space_end-near : (size end : ℕ) → (space_end size end ≤ end) × (end ≤ space_end size end + 4)
+space_end-near size end = cond_both (end == size) (end - 4) end (λ n. (n ≤ end) × (end ≤ n + 4)) (λ e. (omega arith, omega arith)) (λ e. (omega arith, omega arith))
+
+-- that of whole cells keeps the last four bytes
+pub space_end-below : (size end : ℕ) → end ≤ size → end % 64 ≡ 0 → size % 64 ≡ 0 → space_end size end ≤ size - 4
+space_end-below size end inside aligned whole =
+    cond_both (end == size) (end - 4) end (λ n. n ≤ size - 4) (λ e. omega (arith, inside)) (λ e. omega (arith, eqb-false end size e, inside, aligned, whole))
+
+-- a group that isn't empty lies at multiples of 64 within the region
+pub group_range : (x : List ℕ) (group : Freed) → CellsBetween x group.start group.end → group.start < group.end → IsCellRange group (length x)
+group_range x group g some =
+    let before : length (concat g.before) % 64 ≡ 0 = length-concat-cells g.before (cells-before x group.start group.end g) in
+    let inner : length (concat g.group) % 64 ≡ 0 = length-concat-cells g.group (cells-group x group.start group.end g) in
+    let whole : length x ≡ length (concat g.before ++ (concat g.group ++ (concat g.after ++ g.rest))) = ap length (group-whole x group.start group.end g) in
+    record {
+      some = omega (arith, g.start_is, g.end_is, before, inner);
+      start_aligned = omega (arith, g.start_is, before);
+      end_aligned = omega (arith, g.start_is, g.end_is, before, inner);
+      inside = omega (arith, whole, length-append (concat g.before) (concat g.group ++ (concat g.after ++ g.rest)), length-append (concat g.group) (concat g.after ++ g.rest), g.start_is, g.end_is);
+    }
+
+-- bytes written over a group are a splice
+pub as_splice : (x : List ℕ) (start end : ℕ) (u : List ℕ) → start + length u ≡ end → overwritten x start u ≡ spliced x start end u
+as_splice x start end u size = ap (λ n. take start x ++ (u ++ drop n x)) size
+
+-- ---- the header of an empty entry over a group, and what is behind it
+
+module _ (x : List ℕ) (group : Freed) (range : IsCellRange group (length x)) where
   abbrev start : ℕ
   start = group.start
 
-  abbrev header : List ℕ
-  header = empty_header (group.end - group.start) (group.end == length x)
+  abbrev end : ℕ
+  end = group.end
 
-  abbrev room : ℕ
-  room = group.end - group.start - header_length
+  abbrev kept : Bool
+  kept = end == length x
+
+  abbrev header : List ℕ
+  header = empty_header (end - start) kept
+
+  abbrev bare : List ℕ
+  bare = overwritten x start header
+
+  abbrev behind : ℕ
+  behind = start + header_length
 
   header-length : length header ≡ header_length
-  header-length = length-empty_header (group.end - group.start) (group.end == length x)
+  header-length = length-empty_header (end - start) kept
 
-  -- the commit of the header
-  pub emptied-commit : IsEmptied x group (overwritten x start header)
-  emptied-commit =
-      let old : List ℕ = slice_range x (start + header_length) (start + header_length + room) in
-      record {
-        more = old;
-        room = omega (arith, length-slice_range x (start + header_length) room (omega (arith, some, inside)), some);
-        bytes = overwritten-front x start header_length room header header-length (omega (arith, some, inside));
+  bare-length : length bare ≡ length x
+  bare-length = length-overwritten x start header (omega (arith, header-length, range.some, range.inside))
+
+  module _ (to : ℕ) where
+    -- the commit of the header
+    pub emptied-commit : IsEmptied group to x bare
+    emptied-commit = record { same_length = bare-length; same = unchanged bare behind (to - behind) }
+
+    module _ (y : List ℕ) (is : IsEmptied group to x y) where
+      -- each write after it
+      pub emptied-write : (z : List ℕ) (at n : ℕ) → length z ≡ length y → behind ≤ at → at + n ≤ to → SameOutside at n y z → IsEmptied group to x z
+      emptied-write z at n size after before same =
+          record { same_length = size ∙ is.same_length; same = again bare y z behind (to - behind) is.same (within y z at n behind to after before same) }
+
+      pub emptied-wider : (later : ℕ) → to ≤ later → IsEmptied group later x y
+      emptied-wider later le = record { same_length = is.same_length; same = SameOutside-wider bare y behind (to - behind) (later - behind) (omega arith) is.same }
+
+      -- nothing else has changed
+      pub emptied-outside : behind ≤ to → SameOutside start (to - start) x y
+      emptied-outside order =
+          SameOutside-trans x bare y start (to - start) header_length (to - behind) (omega arith)
+          (SameOutside-overwritten x start (to - start) header (omega (arith, header-length)) (omega (arith, range.some, range.inside))) is.same
+
+      -- a stop of an edit, by what is known of its cells; from a place on all bytes are kept
+      pub emptied-stopped : (done : List ℕ) (last : ℕ) → behind ≤ to → to ≤ end → to ≤ last → (components y ≡ components x) ⊎ (components y ≡ components done) → (cut y).end ≡ (cut x).end → IsStopped x group done last y
+      emptied-stopped done last order inside later cells ends = record {
+        components = cells;
+        end = ends;
+        same_length = is.same_length;
+        outside = SameOutside-wider x y start (to - start) (end - start) (omega (arith, inside)) (emptied-outside order);
+        last = further x y (start + (to - start)) last (omega (arith, order, later)) (emptied-outside order).after;
       }
 
-  -- one clause serves every write after it
-  pub emptied-write : (y z : List ℕ) (n : ℕ) → IsEmptied x group y → start + header_length + n ≤ group.end → length z ≡ length x → SameOutside (start + header_length) n y z → IsEmptied x group z
-  emptied-write y z n is fits size same =
-      let bare : List ℕ = overwritten x start header in
-      let bare_size : length bare ≡ length x = length-overwritten x start header (omega (arith, header-length, some, inside)) in
-      let again : y ≡ overwritten bare (start + header_length) is.more = is.bytes ∙ sym (overwritten-more_at x start header_length header is.more header-length (omega (arith, some, inside))) in
-      let first : SameOutside (start + header_length) room bare y =
-      subst (λ (l : List ℕ). SameOutside (start + header_length) room bare l) (sym again) (SameOutside-overwritten bare (start + header_length) room is.more (omega (arith, is.room)) (omega (arith, bare_size, some, inside))) in
-      let second : SameOutside (start + header_length) room y z = SameOutside-wider y z (start + header_length) n room (omega (arith, fits)) same in
-      let both : SameOutside (start + header_length) room bare z = record { before = second.before ∙ first.before; after = second.after ∙ first.after } in
-      let w : List ℕ = slice_range z (start + header_length) (start + header_length + room) in
-      record {
-        more = w;
-        room = omega (arith, length-slice_range z (start + header_length) room (omega (arith, size, some, inside)), some);
-        bytes =
-            changed-overwritten bare z (start + header_length) room (omega (arith, bare_size, some, inside)) (omega (arith, bare_size, size)) both
-            ∙ overwritten-more_at x start header_length header w header-length (omega (arith, some, inside));
-      }
+  pub old_or-wider : (to later : ℕ) (y : List ℕ) → to ≤ later → IsOldOrEmptied group to x y → IsOldOrEmptied group later x y
+  old_or-wider to later y le (inl same) = inl same
+  old_or-wider to later y le (inr is) = inr (emptied-wider to y is later le)
+
+  -- ---- a finished removal is one
+
+  -- the last four bytes stand where they are kept
+  kept_bytes : (n : ℕ) → n ≡ end - 4 - (behind) → end ≡ length x → overwritten x start (header ++ replicate n 0xff) ≡ overwritten x start (header ++ padding (end - start - header_length) (Some (last_four x)))
+  kept_bytes n is_n at_end =
+      let k = header_length + n in
+      let filler : List ℕ = replicate n 0xff in
+      let wide : length (header ++ filler) ≡ k = omega (arith, length-append header filler, header-length, length-replicate {A = ℕ} n 0xff) in
+      let place : start + k ≡ length x - 4 = omega (arith, range.some) in
+      let four : 4 - (end - start - header_length) ≡ 0 = omega (arith, range.some) in
+      let space : n ≡ end - start - header_length - 4 = omega (arith, is_n) in
+      let old : slice_range x (start + k) (start + k + 4) ≡ last_four x =
+      slice_range_is x (start + k) 4 ∙ ap (λ p. take 4 (drop p x)) place ∙ take_all 4 (last_four x) (omega (arith, length-drop (length x - 4) x)) in
+      overwritten-front x start k 4 (header ++ filler) wide (omega (arith, place, range.some))
+      ∙ ap (λ (l : List ℕ). overwritten x start (header ++ filler ++ l)) old
+      ∙ ap (λ (l : List ℕ). overwritten x start l) (append_assoc header filler (last_four x))
+      ∙ ap (λ p. overwritten x start (header ++ (replicate p 0xff ++ last_four x))) space
+      ∙ ap (λ p. overwritten x start (header ++ (replicate (end - start - header_length - 4) 0xff ++ drop p (last_four x)))) (sym four)
+
+  as_empty : (n : ℕ) (b : Bool) → kept ≡ b → n ≡ cond b (end - 4) end - (behind)
+      → overwritten x start (header ++ replicate n 0xff) ≡ overwritten x start (header ++ padding (end - start - header_length) (cond b (Some (last_four x)) None))
+  as_empty n true e is_n = kept_bytes n is_n (eqb-true end (length x) e)
+  as_empty n false e is_n = let all : n ≡ end - start - header_length = omega (arith, is_n) in ap (λ p. overwritten x start (header ++ replicate p 0xff)) all
+
+  abbrev to : ℕ
+  to = space_end (length x) end
+
+  abbrev filler : List ℕ
+  filler = replicate (to - behind) 0xff
+
+  -- the header, and the whole space filled
+  pub filled : overwritten bare behind filler ≡ removed x group
+  filled =
+      overwritten-more_at x start header_length header filler header-length (omega (arith, range.some, range.inside))
+      ∙ as_empty (to - behind) kept refl refl
+      ∙ ap (λ b. overwritten x start (empty_header (end - start) b ++ padding (end - start - header_length) (kept_at x end))) (sym (is_some-cond kept (last_four x)))
+
+  pub removed-emptied : IsEmptied group to x (removed x group)
+  removed-emptied =
+      let near = space_end-near (length x) end in
+      let long : length filler ≡ to - behind = length-replicate {A = ℕ} (to - behind) 0xff in
+      let fits : behind + length filler ≤ length bare = omega (arith, long, bare-length, near, range.some, range.inside) in
+      subst (λ (l : List ℕ). IsEmptied group to x l) filled
+      (emptied-write to bare (emptied-commit to) (overwritten bare behind filler) behind (to - behind) (length-overwritten bare behind filler fits) (omega arith) (omega (arith, near.1, range.some))
+      (SameOutside-overwritten bare behind (to - behind) filler (omega (arith, long)) (omega (arith, fits))))
+
+  pub removed-whole : IsEmptied group end x (removed x group)
+  removed-whole = emptied-wider to (removed x group) removed-emptied end (space_end-near (length x) end).0
+
+  -- ---- the cells
+
+  module _ (y : List ℕ) (is : IsEmptied group end x y) where
+    -- what is behind the header
+    pub emptied-bytes : (more : List ℕ) × (header_length + length more ≡ end - start) × (y ≡ overwritten x start (header ++ more))
+    emptied-bytes =
+        let room : ℕ = end - behind in
+        let more : List ℕ = slice_range y behind (behind + room) in (
+          more,
+          omega (arith, length-slice_range y behind room (omega (arith, is.same_length, range.some, range.inside)), range.some),
+          changed-overwritten bare y behind room (omega (arith, bare-length, range.some, range.inside)) (is.same_length ∙ sym bare-length) is.same
+              ∙ overwritten-more_at x start header_length header more header-length (omega (arith, range.some, range.inside)),
+        )
+
+    is_splice : y ≡ spliced x start end (header ++ emptied-bytes.0)
+    is_splice =
+        let has = emptied-bytes in has.2 ∙ as_splice x start end (header ++ has.0) (omega (arith, length-append header has.0, header-length, has.1, range.some))
+
+    module _ (g : CellsBetween x start end) (small : length x < 2 ^ 32) where
+      pub emptied-components : components y ≡ components_from 0 g.before ++ components_from end g.after
+      emptied-components =
+          ap (λ (l : List ℕ). components l) is_splice
+          ∙ splices.emptied-components x start end g kept emptied-bytes.0 (omega (arith, range.some)) (omega (arith, range.some, range.inside, small)) (omega (arith, emptied-bytes.1, range.some))
+
+      pub emptied-end : (cut y).end ≡ (cut x).end
+      emptied-end =
+          ap (λ (l : List ℕ). (cut l).end) is_splice
+          ∙ splices.emptied-end x start end g kept emptied-bytes.0 (omega (arith, range.some)) (omega (arith, range.some, range.inside, small)) (omega (arith, emptied-bytes.1, range.some))
+
+  -- after the commit the cells are those of the finished removal
+  pub emptied-same : (y : List ℕ) → IsEmptied group end x y → CellsBetween x start end → length x < 2 ^ 32 → SameCells y (removed x group)
+  emptied-same y is g small = record {
+    components = emptied-components y is g small ∙ sym (emptied-components (removed x group) removed-whole g small);
+    end = emptied-end y is g small ∙ sym (emptied-end (removed x group) removed-whole g small);
+  }
+
+-- the same in a region of the image
+module _ (r : Range) (group : Freed) (old header : List ℕ) (told : ℕ) (lies : LiesIn r old) (in_region : IsCellRange group r.size) (is_told : told ≡ r.size) (is_header : header ≡ empty_header (group.end - group.start) (group.end == told)) where
+  abbrev x : List ℕ
+  x = bytes_in r old
+
+  long : length x ≡ r.size
+  long = length-bytes_in r old lies
+
+  range : IsCellRange group (length x)
+  range = subst (λ n. IsCellRange group n) (sym long) in_region
+
+  a_header : header ≡ empty_header (group.end - group.start) (group.end == length x)
+  a_header = is_header ∙ ap (λ n. empty_header (group.end - group.start) (group.end == n)) (is_told ∙ sym long)
+
+  abbrev upto : ℕ
+  upto = space_end r.size group.end
+
+  committed : (y : List ℕ) → y ≡ overwritten x group.start header → IsEmptied group upto x y
+  committed y is =
+      subst (λ (l : List ℕ). IsEmptied group upto x l) (sym (is ∙ ap (λ (h : List ℕ). overwritten x group.start h) a_header)) (emptied-commit x group range upto)
+
+  -- a commit that was refused is whole or absent
+  pub commit_left : (y : List ℕ) → (y ≡ x) ⊎ (y ≡ overwritten x group.start header) → IsOldOrEmptied group upto x y
+  commit_left y (inl same) = inl same
+  commit_left y (inr is) = inr (committed y is)
+
+  module _ (y z : List ℕ) (n : ℕ) (is : y ≡ overwritten x group.start header) (is_n : n ≡ upto - (group.start + header_length)) where
+    -- any change of the space that the empty entry describes
+    pub fill_left : length z ≡ length y → SameOutside (group.start + header_length) n y z → IsOldOrEmptied group upto x z
+    fill_left size same =
+        inr (emptied-write x group range upto y (committed y is) z (group.start + header_length) n size (omega arith) (omega (arith, is_n, (space_end-near r.size group.end).1, range.some)) same)
+
+    -- the whole space is filled
+    pub fill_done : z ≡ overwritten y (group.start + header_length) (replicate n 0xff) → z ≡ removed x group
+    fill_done at =
+        at
+        ∙ ap (λ (l : List ℕ). overwritten l (group.start + header_length) (replicate n 0xff)) (is ∙ ap (λ (h : List ℕ). overwritten x group.start h) a_header)
+        ∙ ap (λ k. overwritten (overwritten x group.start (empty_header (group.end - group.start) (group.end == length x))) (group.start + header_length) (replicate k 0xff))
+        (is_n ∙ ap (λ k. space_end k group.end - (group.start + header_length)) (sym long))
+        ∙ filled x group range

@@ -1,5 +1,5 @@
 -- A region that becomes one empty entry.
-use Rattle.std.proofs.Common.{◌≡◌, ◌⊎◌, inl, inr, ℕ, ◌+◌, ◌-◌, ◌%◌, ◌^◌, ◌<◌, ◌≤◌, Bool, true, cond, Some, None, List, [], ◌∷◌, ◌++◌, length, sym, ◌∙◌, ap, refl, arith, length-append}
+use Rattle.std.proofs.Common.{◌≡◌, inl, inr, ℕ, ◌+◌, ◌-◌, ◌%◌, ◌^◌, ◌<◌, ◌≤◌, Bool, true, cond, Some, None, List, [], ◌∷◌, ◌++◌, length, drop, sym, ◌∙◌, ap, refl, arith, length-append}
 use Rattle.std.specs.Prelude.{◌==◌}
 use Rattle.std.proofs.lemmas.List.{append-nil, drop_all}
 use Rattle.std.proofs.lemmas.Bool.{eq-eqb}
@@ -12,12 +12,15 @@ use Rattle.flash_format.proofs.CutLaws.{cut_unique}
 use Rattle.flash_format.proofs.EmptyEntryLaws.{empty_header-cell, length-empty_header}
 use Rattle.flash_format.proofs.MadeLaws.{length-padding}
 use Rattle.flash_store.specs.Bytes.{overwritten}
-use Rattle.cbfs_edit.specs.Removals.{removed, last_four, kept_at}
-use Rattle.cbfs_edit.specs.Stops.{IsEmptyStop, IsOldOrEmptied}
+use Rattle.flash_store.proofs.BytesLemmas.{further}
+use Rattle.cbfs_edit.specs.Groups.{IsCellRange}
+use Rattle.cbfs_edit.specs.Removals.{removed, last_four, kept_at, space_end}
+use Rattle.cbfs_edit.specs.Stops.{IsOldOrEmptied}
 use Rattle.cbfs_edit.specs.Formats.{formatted, IsOneFreeCell, IsFormatStop}
 use Rattle.cbfs_edit.specs.Laws.{FormattedIsOneFreeCell}
 use Rattle.cbfs_edit.specs.declared.group.Freed.{Freed}
-use Rattle.cbfs_edit.proofs.Kept.{length-last_four}
+use Rattle.cbfs_edit.proofs.Emptied.{emptied-bytes, emptied-outside, emptied-wider, space_end-below, space_end-near}
+use Rattle.cbfs_edit.proofs.Changes.{length-last_four}
 
 -- bytes over a whole list
 overwritten-whole : (x u : List ℕ) → length u ≡ length x → overwritten x 0 u ≡ u
@@ -61,15 +64,21 @@ format_done x y size long some is =
     ∙ overwritten-whole x (formatted x) wide
 
 -- a stop at one of the writes
-pub format_stopped : (x y : List ℕ) (size : ℕ) → length x ≡ size → 64 ≤ size → size % 64 ≡ 0 → size < 2 ^ 32 → IsEmptyStop x (whole_range size) y → IsFormatStop x y
-format_stopped x y size long some whole small stop = record { cells = cells stop.bytes; last_four = stop.last_four }
-  where
-    cells : IsOldOrEmptied x (whole_range size) y → (y ≡ x) ⊎ IsOneFreeCell y
-    cells (inl same) = inl same
-    cells (inr is) =
-        let room : header_length + length is.more ≡ size = omega (arith, is.room) in
-        let header : List ℕ = empty_header (size - 0) (size == length x) in
-        let wide : length (header ++ is.more) ≡ length x = omega (arith, length-append header is.more, length-empty_header (size - 0) (size == length x)) in
-        let bytes : y ≡ empty_header size (size == length x) ++ is.more =
-        is.bytes ∙ overwritten-whole x (header ++ is.more) wide ∙ ap (λ n. empty_header n (size == length x) ++ is.more) (let e : size - 0 ≡ size = omega arith in e) in
-        inr (one_free_cell y is.more size (size == length x) some whole small room bytes)
+pub format_stopped : (x y : List ℕ) (size told : ℕ) → length x ≡ size → told ≡ size → 64 ≤ size → size % 64 ≡ 0 → size < 2 ^ 32 → IsOldOrEmptied (whole_range size) (space_end told size) x y → IsFormatStop x y
+format_stopped x y size told long is_told some whole small (inl same) = record { cells = inl same; last_four = ap (λ (l : List ℕ). last_four l) same }
+format_stopped x y size told long is_told some whole small (inr emptied) =
+    let group : Freed = whole_range size in
+    let range : IsCellRange group (length x) = record { some = some; start_aligned = refl; end_aligned = whole; inside = omega arith } in
+    let to = space_end told size in
+    let near = space_end-near told size in
+    let is = emptied-bytes x group range y (emptied-wider x group range to y emptied size near.0) in
+    let room : header_length + length is.0 ≡ size = omega (arith, is.1) in
+    let header : List ℕ = empty_header (size - 0) (size == length x) in
+    let wide : length (header ++ is.0) ≡ length x = omega (arith, length-append header is.0, length-empty_header (size - 0) (size == length x)) in
+    let bytes : y ≡ empty_header size (size == length x) ++ is.0 =
+    is.2 ∙ overwritten-whole x (header ++ is.0) wide ∙ ap (λ n. empty_header n (size == length x) ++ is.0) (let e : size - 0 ≡ size = omega arith in e) in
+    let below : to ≤ size - 4 = omega (arith, space_end-below told size (omega arith) whole (omega (arith, whole))) in
+    record {
+      cells = inr (one_free_cell y is.0 size (size == length x) some whole small room bytes);
+      last_four = ap (λ n. drop (n - 4) y) emptied.same_length ∙ further x y (0 + (to - 0)) (length x - 4) (omega (arith, below, long)) (emptied-outside x group range to y emptied (omega (arith, near.1, some))).after;
+    }

@@ -1,22 +1,32 @@
--- What was added is found by its name.
-use Rattle.std.proofs.Common.{◌≡◌, ℕ, ◌%◌, ◌<◌, ◌≤◌, All, append_assoc, length-append, false, List, [], ◌∷◌, ◌++◌, length, None, refl, sym, ◌∙◌, ap, arith}
+-- What was added is found by its name, can be removed, and all others are kept.
+use Rattle.std.proofs.Common.{◌≡◌, ℕ, ◌%◌, ◌<◌, ◌≤◌, All, append_assoc, length-append, false, List, [], ◌∷◌, ◌++◌, length, None, refl, sym, ◌∙◌, ap, arith, true, Option, Some, Ok, Err, subst, Contains, inl, inr, suc}
 use Rattle.std.specs.Str.{bytes_eq}
-use Rattle.std.proofs.lemmas.List.Elements.{All-nil, All-cons, All-head, All-tail}
-use Rattle.std.proofs.lemmas.Bool.{eq-eqb, ne_eqb}
+use Rattle.std.proofs.lemmas.List.Elements.{All-nil, All-cons, All-head, All-tail, All-weaker, All-contains, Contains-append_right, Contains-append_left, Contains-append_cases}
+use Rattle.std.proofs.lemmas.Bool.{eq-eqb, ne_eqb, both_ways}
 use Rattle.flash_format.specs.Entry.{Entry, absent, damaged, cell, entry}
-use Rattle.flash_format.specs.Cut.{Cut, cut}
+use Rattle.flash_format.specs.Cut.{Cut, cut, End}
 use Rattle.flash_format.specs.Components.{Component, components, components_from}
 use Rattle.flash_format.specs.Placings.{space_cells}
 use Rattle.flash_format.proofs.CutSteps.{cut_absent}
 use Rattle.flash_format.proofs.CutLaws.{cut_unique}
 use Rattle.cbfs_walk.specs.Finding.{IsFirstOf, first_named}
-use Rattle.cbfs_walk.specs.Shapes.{has_bad_size, is_absent, shape}
+use Rattle.cbfs_walk.specs.Shapes.{has_bad_size, is_absent, shape, refused_or}
 use Rattle.cbfs_walk.proofs.FirstNamed.{first_found, none_named, same_name}
 use Rattle.cbfs_edit.specs.Additions.{NewComponent, AddsOne, added, empty_between, cell_end, made_at}
-use Rattle.cbfs_edit.specs.Laws.{IsAdded, AdditionsAreFound, added_component}
+use Rattle.cbfs_edit.specs.Laws.{IsAdded, AdditionsAreFound, added_component, AdditionsAreUndone, AdditionsKeepAll, RemovalsKeepOthers}
 use Rattle.cbfs_edit.specs.declared.place.Spot.{Spot}
 use Rattle.cbfs_edit.specs.declared.place.Place.{Place}
 use Rattle.cbfs_edit.proofs.Added.{accepted_size, added_length, additions_add_one, there, region_some}
+use Rattle.cbfs_walk.specs.Shaped.{place_after}
+use Rattle.cbfs_walk.specs.declared.walk.WalkFault.{WalkFault}
+use Rattle.cbfs_edit.specs.Groups.{group_of}
+use Rattle.cbfs_edit.specs.Refusals.{refusal_of}
+use Rattle.cbfs_edit.specs.Removals.{LosesOne, found, removed, removal_in, unless_damaged}
+use Rattle.cbfs_edit.specs.declared.group.Freed.{Freed}
+use Rattle.cbfs_edit.proofs.Groups.{group_none}
+use Rattle.cbfs_edit.proofs.Lists.{one_split}
+use Rattle.cbfs_edit.proofs.Removals.{others_have_not, removal_takes_one}
+use Rattle.std.proofs.lemmas.Map.Made.{Contains-tail}
 
 all_left : (P : Component → Type 0) (a b : List Component) → All P (a ++ b) → All P a
 all_left P [] b each = All-nil P
@@ -95,3 +105,76 @@ module _ (x : List ℕ) (new : NewComponent) (spot : Spot) (place : Place) (is :
 
 pub additions_found : AdditionsAreFound
 additions_found x new spot place is = first_found (added x new place) new.name (added_component x new place) (shape_after x new spot place is) (added_first x new spot place is)
+
+-- ---- what was added can be removed, and then the components are those of before
+
+abbrev IsNamed : List ℕ → Component → Type 0
+IsNamed name c = bytes_eq c.name name ≡ true
+
+unnamed : (name : List ℕ) (cs : List Component) → All (λ (c : Component). bytes_eq c.name name ≡ false) cs → All (λ c. IsNamed name c → ⊥) cs
+unnamed name cs none = All-weaker (λ (c : Component). bytes_eq c.name name ≡ false) (λ c. IsNamed name c → ⊥) (λ (c : Component) other. both_ways (bytes_eq c.name name) other) cs none
+
+removal_is : (y name : List ℕ) → shape y ≡ None → unless_damaged (place_after 0 (cut y).cells) (cut y).end (found (group_of y name)) ≡ found (group_of y name) → removal_in y name ≡ found (group_of y name)
+unfolding removal_in
+removal_is y name good through = ap (λ (o : Option WalkFault). refused_or (λ fault. Err (refusal_of fault)) o (unless_damaged (place_after 0 (cut y).cells) (cut y).end (found (group_of y name)))) good ∙ through
+
+-- where a component has the name there is a group
+some_group : (y name : List ℕ) (c : Component) → IsFirstOf name (components y) c → (group : Freed) × (group_of y name ≡ Some group)
+some_group y name c is = go (group_of y name) refl
+  where
+    go : (o : Option Freed) → group_of y name ≡ o → (group : Freed) × (group_of y name ≡ Some group)
+    go (Some group) e = (group, e)
+    go None e =
+        let others = others_have_not name 0 (cut y).cells (group_none y name e) in
+        let here : Contains (components y) c = subst (λ (l : List Component). Contains l c) (sym is.whole) (Contains-append_right is.before (c ∷ is.after) c (0, omega arith, refl)) in
+        let other : bytes_eq c.name name ≡ false = All-contains (λ (d : Component). bytes_eq d.name name ≡ false) (components y) c others here in
+        absurd (let k : true ≡ false = sym is.named ∙ other in cc)
+
+pub additions_undone : AdditionsAreUndone
+additions_undone x new spot place is =
+    let y : List ℕ = added x new place in
+    let more = one_more x new spot place is in
+    let some = some_group y new.name (added_component x new place) (added_first x new spot place is) in
+    let group : Freed = some.0 in
+    let sound = (there x new spot place is.region is.kind is.content is.digest is.placed).sound in
+    let at = place_after 0 (cut y).cells in
+    let removes : removal_in y new.name ≡ Ok group =
+    removal_is y new.name (shape_after x new spot place is) (ap (λ (e : End). unless_damaged at e (found (group_of y new.name))) more.more.same_end ∙ sound.undamaged at (found (group_of y new.name))) ∙ ap (λ (o : Option Freed). found o) some.1 in
+    let long : length y ≡ length x = added_length x new spot place is.region is.kind is.content is.digest is.placed in
+    let loses : LosesOne new.name y (removed y group) = removal_takes_one y new.name group (omega (arith, long, is.region)) removes in
+    let once = one_split (IsNamed new.name) loses.before loses.after (before x new spot place is) (after x new spot place is) loses.component (added_component x new place) loses.named (same_name new.name)
+    (unnamed new.name loses.before loses.first) (unnamed new.name (before x new spot place is) (none_before x new spot place is))
+    (sym loses.was ∙ more.more.new_components) in (
+      group,
+      removes,
+      record {
+        components = loses.is ∙ ap (λ (l : List Component). l ++ loses.after) once.first ∙ ap (λ (l : List Component). before x new spot place is ++ l) once.last ∙ sym more.more.old_components;
+        end = loses.same_end ∙ more.more.same_end;
+      },
+    )
+
+-- ---- the components that an edit keeps
+
+one_between : (before after : List Component) (d c : Component) → Contains (before ++ after) c → Contains (before ++ (d ∷ after)) c
+one_between before after d c has = elim (Contains-append_cases before after c has) [
+  | inl first ↦ Contains-append_left before (d ∷ after) c first
+  | inr last ↦ Contains-append_right before (d ∷ after) c (suc last.0, omega (arith, last.1), last.2)
+]
+
+one_less : (before after : List Component) (d c : Component) → (d ≡ c → ⊥) → Contains (before ++ (d ∷ after)) c → Contains (before ++ after) c
+one_less before after d c other has = elim (Contains-append_cases before (d ∷ after) c has) [
+  | inl first ↦ Contains-append_left before after c first
+  | inr last ↦ Contains-append_right before after c (Contains-tail d after c other last)
+]
+
+pub additions_keep : AdditionsKeepAll
+additions_keep x new spot place is c has =
+    let more = one_more x new spot place is in
+    subst (λ (l : List Component). Contains l c) (sym more.more.new_components)
+    (one_between (before x new spot place is) (after x new spot place is) (added_component x new place) c (subst (λ (l : List Component). Contains l c) more.more.old_components has))
+
+pub removals_keep : RemovalsKeepOthers
+removals_keep x name group small is c has other =
+    let loses = removal_takes_one x name group small is in
+    let differs : loses.component ≡ c → ⊥ = λ e. absurd (let k : true ≡ false = sym loses.named ∙ ap (λ (d : Component). bytes_eq d.name name) e ∙ other in cc) in
+    subst (λ (l : List Component). Contains l c) (sym loses.is) (one_less loses.before loses.after loses.component c differs (subst (λ (l : List Component). Contains l c) loses.was has))

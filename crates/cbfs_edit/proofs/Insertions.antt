@@ -1,45 +1,190 @@
--- The stages of an insertion, by what the image then holds: the empty entry over the run, the content, the metadata with what shows it.
-use Rattle.std.proofs.Common.{◌≡◌, ◌⊎◌, inl, inr, ℕ, ◌+◌, ◌-◌, ◌^◌, ◌<◌, ◌≤◌, Option, List, ◌++◌, length, drop, sym, ◌∙◌, ap, subst, refl, arith, append_assoc, length-append, length-drop}
-use Rattle.std.specs.Prelude.{◌==◌, max}
-use Rattle.std.proofs.lemmas.Bool.{cond_both, eqb-false}
-use Rattle.std.proofs.lemmas.List.{drop-drop}
+-- The writes of a component: what they come to, and what the region holds where they stop.
+use Rattle.std.proofs.Common.{◌≡◌, ⊎_elim, ℕ, ◌+◌, ◌-◌, ◌≤◌, true, false, List, [], ◌++◌, length, take, drop, replicate, Option, None, sym, ◌∙◌, ap, arith, rules, append_assoc, length-append, length-drop, take-append-drop, ◌⊎◌, inl, inr, ◌^◌, ◌<◌, Result, Ok, Err, subst, refl}
+use Rattle.std.specs.Prelude.{◌==◌, is_some, max, OnErr}
+use Rattle.std.proofs.lemmas.Bool.{cases_eq, eq-eqb, ne_eqb, cond_both, eqb-false}
+use Rattle.std.proofs.lemmas.List.{append-nil, length-replicate, length-take-le}
 use Rattle.flash_format.specs.Head.{header_length, round64}
-use Rattle.flash_format.specs.EmptyEntries.{empty_header, padding}
+use Rattle.flash_format.specs.EmptyEntries.{empty_header, empty_entry, padding}
+use Rattle.flash_format.specs.Made.{KeepsFour, hash_len, meta_length, made, made_metadata, described, described_len, pointed}
+use Rattle.flash_format.proofs.EmptyEntryLaws.{length-empty_header}
+use Rattle.flash_format.proofs.MadeLaws.{length-padding}
+use Rattle.flash_store.specs.Bytes.{overwritten, SameOutside}
+use Rattle.flash_store.proofs.BytesLemmas.{length-overwritten, drop-overwritten, further}
+use Rattle.cbfs_edit.specs.declared.place.Place.{Place}
+use Rattle.cbfs_edit.specs.Removals.{last_four, kept_at, removed, space_end}
+use Rattle.cbfs_edit.specs.Additions.{empty_between, NewComponent, added, attribute_len, digest_of, header_of, labelled, wanted_for}
+use Rattle.cbfs_edit.specs.Insertions.{HasRoom, held_back, with_metadata, bounded, shown_by, finished, IsUnfinished}
+use Rattle.cbfs_edit.proofs.Changes.{is_some-cond, keeps, kept-none}
+use Rattle.cbfs_edit.proofs.Lists.{over_part, padding-begins, padding-split}
 use Rattle.flash_format.specs.declared.digest.Digest.{Digest}
 use Rattle.flash_format.specs.declared.meta.Meta.{Meta}
-use Rattle.flash_format.specs.Made.{hash_len, meta_length, made, made_metadata, described, described_len, pointed}
-use Rattle.flash_format.proofs.EmptyEntryLaws.{length-empty_header}
-use Rattle.flash_store.specs.Bytes.{overwritten, SameOutside}
 use Rattle.flash_store.specs.Regions.{Range, LiesIn, bytes_in}
-use Rattle.flash_store.proofs.BytesLemmas.{SameOutside-overwritten, SameOutside-wider, length-overwritten}
 use Rattle.flash_store.proofs.DeviceLemmas.{length-bytes_in}
 use Rattle.cbfs_walk.specs.Hashes.{sha256_of, sha512_of}
 use Rattle.cbfs_edit.specs.Placings.{Fits}
-use Rattle.cbfs_edit.specs.Removals.{kept_at, removed}
-use Rattle.cbfs_edit.specs.Stops.{IsEmptyStop, IsEmptied, IsInsertStop}
-use Rattle.cbfs_edit.specs.Additions.{NewComponent, added, empty_between, attribute_len, digest_of, header_of, kept_from, labelled}
+use Rattle.cbfs_edit.specs.Stops.{IsEmptied, IsInsertStop, IsOldOrEmptied, written_to}
 use Rattle.cbfs_edit.specs.declared.addition.HashChoice.{HashChoice}
 use Rattle.cbfs_edit.specs.declared.addition.HashChoice.TheVariants.{Plain}
 use Rattle.cbfs_edit.specs.declared.addition.Label.{Label}
-use Rattle.cbfs_edit.specs.Insertions.{HasRoom, IsUnfinished, bounded, finished, with_metadata, held_back, shown_by}
 use Rattle.cbfs_edit.specs.declared.group.Freed.{Freed}
-use Rattle.cbfs_edit.specs.declared.place.Place.{Place}
 use Rattle.cbfs_edit.specs.declared.place.Wanted.{Wanted}
-use Rattle.cbfs_edit.proofs.Emptied.{emptied-write}
-use Rattle.cbfs_edit.proofs.EmptyEntries.{same_region_length}
-use Rattle.cbfs_edit.proofs.Changes.{again, bound-within, metadata-within, unchanged, within}
-use Rattle.cbfs_edit.proofs.Groups.{removed-emptied}
-use Rattle.cbfs_edit.proofs.Inserted.{inserted, has_metadata}
+use Rattle.cbfs_edit.proofs.Emptied.{emptied-outside, emptied-wider, emptied-write, old_or-wider, removed-emptied, same_region_length, space_end-near}
 
--- from a place on both have the same bytes
-abbrev EndsAlike : ℕ → List ℕ → List ℕ → Type 0
-EndsAlike from x y = drop from y ≡ drop from x
+-- ---- what the writes of a component come to, one after the other
 
--- what is alike from a place on is so from a later one on
-later_on : (a b : ℕ) (x y : List ℕ) → a ≤ b → EndsAlike a x y → EndsAlike b x y
-later_on a b x y le same =
-    let sum : a + (b - a) ≡ b = omega (arith, le) in
-    ap (λ n. drop n y) (sym sum) ∙ sym (drop-drop (b - a) a y) ∙ ap (λ (l : List ℕ). drop (b - a) l) same ∙ drop-drop (b - a) a x ∙ ap (λ n. drop n x) sum
+-- the begin of the run: what the last commit writes, the space of the empty entry before, and the rest of the metadata
+pub record HasMetadata (x : List ℕ) (place : Place) (metadata : List ℕ) : Type 0 where
+  pub space : ℕ
+  pub rest_at : place.header + held_back place ≡ place.run.start + header_length + space
+  pub begin_long : length (shown_by place metadata) ≡ header_length
+  pub rest_long : place.run.start + header_length + space + length (drop (held_back place) metadata) ≡ place.content
+  pub whole : shown_by place metadata ++ (replicate space 0xff ++ drop (held_back place) metadata) ≡ empty_between x place.run.start place.header ++ metadata
+  pub room : place.run.start + header_length + space + 4 ≤ place.run.end
+
+module _ (x : List ℕ) (place : Place) (end : ℕ) (metadata : List ℕ) (room : HasRoom (length x) place end (length metadata)) where
+  abbrev s : ℕ
+  s = place.run.start
+
+  abbrev h : ℕ
+  h = place.header
+
+  abbrev e : ℕ
+  e = place.run.end
+
+  at_start : h ≡ s → HasMetadata x place metadata
+  at_start same =
+      let here : (h == s) ≡ true = eq-eqb h s same in
+      let none : (s == h) ≡ true = eq-eqb s h (sym same) in
+      record {
+        space = 0;
+        rest_at = rw here (omega arith);
+        begin_long = rw here (length-take-le header_length metadata room.metadata_long);
+        rest_long = rw here (omega (arith, length-drop header_length metadata, room.metadata_is, room.metadata_long));
+        whole = rw (here, none) (take-append-drop header_length metadata);
+        room = omega (arith, room.run.some);
+      }
+
+  later : (h ≡ s → ⊥) → HasMetadata x place metadata
+  later other =
+      let apart : s + 64 ≤ h = omega (arith, other, room.start_below, room.run.start_aligned, room.header_aligned) in
+      let there : (h == s) ≡ false = ne_eqb h s other in
+      let some : (s == h) ≡ false = ne_eqb s h (λ q. absurd (omega (arith, q, apart))) in
+      let nothing : kept_at x h ≡ None = kept-none x h (omega (arith, room.metadata_is, room.metadata_long, room.content_below, room.end_below, room.run.inside)) in
+      record {
+        space = h - s - header_length;
+        rest_at = rw there (omega (arith, apart));
+        begin_long = rw there (length-empty_header (h - s) false);
+        rest_long = rw there (omega (arith, room.metadata_is, apart));
+        whole = rw (there, some, nothing) (sym (append_assoc (empty_header (h - s) false) (replicate (h - s - header_length) 0xff) metadata));
+        room = omega (arith, apart, room.metadata_is, room.metadata_long, room.content_below, room.end_below);
+      }
+
+  pub has_metadata : HasMetadata x place metadata
+  has_metadata = ⊎_elim at_start later (cases_eq h s)
+
+  module _ (content : List ℕ) (fits : place.content + length content ≤ end) where
+    abbrev d : ℕ
+    d = place.content + length content
+
+    abbrev last : Option (List ℕ)
+    last = kept_at x e
+
+    abbrev tail : List ℕ
+    tail = padding (e - d) last
+
+    four : KeepsFour last
+    four = keeps x e (omega (arith, room.run.some, room.run.inside))
+
+    -- the header of the empty entry after the component, where there is one
+    abbrev after : List ℕ
+    after = padding (end - d) (kept_at x end) ++ empty_between x end e
+
+    bound_same : (y : List ℕ) (p : List ℕ) → end ≡ e → y ≡ overwritten x s (p ++ tail) → bounded y end e ≡ overwritten x s (p ++ after)
+    bound_same y p same is =
+        let here : (end == e) ≡ true = eq-eqb end e same in
+        rw here (is ∙ ap (λ k. overwritten x s (p ++ padding (k - d) (kept_at x k))) (sym same) ∙ ap (λ (l : List ℕ). overwritten x s (p ++ l)) (sym (append-nil (padding (end - d) (kept_at x end)))))
+
+    bound_other : (y : List ℕ) (p : List ℕ) → length p ≡ d - s → (end ≡ e → ⊥) → y ≡ overwritten x s (p ++ tail) → bounded y end e ≡ overwritten x s (p ++ after)
+    bound_other y p long other is =
+        let apart : end + 64 ≤ e = omega (arith, other, room.end_below, room.end_aligned, room.run.end_aligned) in
+        let n = e - end - header_length in
+        let gap : List ℕ = replicate (end - d) 0xff in
+        let q : List ℕ = take header_length (padding (header_length + n) last) in
+        let rest : List ℕ = padding n last in
+        let tail_is : tail ≡ gap ++ (q ++ rest) =
+        (let sum : e - d ≡ (end - d) + (header_length + n) = omega (arith, apart, fits) in ap (λ k. padding k last) sum)
+        ∙ padding-begins (end - d) (header_length + n) last (omega arith)
+        ∙ ap (λ (l : List ℕ). gap ++ l) (padding-split header_length n last) in
+        let q_long : length q ≡ header_length = length-take-le header_length (padding (header_length + n) last) (omega (arith, length-padding (header_length + n) last four)) in
+        let total : length (p ++ tail) ≡ e - s = omega (arith, length-append p tail, length-padding (e - d) last four, long, fits, apart, room.content_below, room.metadata_is, room.start_below) in
+        let same_size : length y ≡ length x = ap length is ∙ length-overwritten x s (p ++ tail) (omega (arith, total, room.run.some, room.run.inside)) in
+        let header : List ℕ = empty_header (e - end) (e == length y) in
+        let header_is : header ≡ empty_header (e - end) (is_some last) =
+        ap (λ k. empty_header (e - end) (e == k)) same_size ∙ ap (λ b. empty_header (e - end) b) (sym (is_some-cond (e == length x) (last_four x))) in
+        let nothing : kept_at x end ≡ None = kept-none x end (omega (arith, apart, room.run.inside)) in
+        let there : (end == e) ≡ false = ne_eqb end e other in
+        rw (there, nothing) (
+        ap (λ (l : List ℕ). overwritten l end header) (is ∙ ap (λ (l : List ℕ). overwritten x s (p ++ l)) tail_is ∙ ap (λ (l : List ℕ). overwritten x s l) (sym (append_assoc p gap (q ++ rest))))
+        ∙ over_part x s (p ++ gap) q rest header end (omega (arith, room.run.some, room.run.inside))
+        (omega (arith, length-append p gap, length-replicate {A = ℕ} (end - d) 0xff, long, fits, room.content_below, room.metadata_is, room.start_below))
+        (length-empty_header (e - end) (e == length y) ∙ sym q_long)
+        ∙ ap (λ (l : List ℕ). overwritten x s ((p ++ gap) ++ (l ++ rest))) header_is
+        ∙ ap (λ (l : List ℕ). overwritten x s l) (append_assoc p gap (empty_entry (e - end) last))
+        )
+
+    bound : (y : List ℕ) (p : List ℕ) → length p ≡ d - s → y ≡ overwritten x s (p ++ tail) → bounded y end e ≡ overwritten x s (p ++ after)
+    bound y p long is = ⊎_elim (λ same. bound_same y p same is) (λ other. bound_other y p long other is) (cases_eq end e)
+
+    -- all writes together
+    pub inserted : finished (overwritten (removed x place.run) place.content content) place end metadata
+        ≡ overwritten x s (empty_between x s h ++ ((metadata ++ content) ++ after))
+    inserted =
+        let f = has_metadata in
+        let g = f.space in
+        let d1 : List ℕ = drop (held_back place) metadata in
+        let v = length d1 in
+        let b = v + (length content + (e - d)) in
+        let size = e - s in
+        let header : List ℕ = empty_header size (is_some last) in
+        let space : List ℕ = replicate g 0xff in
+        let u1 : List ℕ = take v (padding b last) in
+        let u2 : List ℕ = take (length content) (padding (length content + (e - d)) last) in
+        let sum : size - header_length ≡ g + b = omega (arith, f.rest_long, f.room, fits, room.end_below, room.run.some) in
+        let enough : 4 ≤ b = omega (arith, sum, f.room, room.run.some) in
+        let pad : padding (size - header_length) last ≡ space ++ (u1 ++ (u2 ++ tail)) =
+        ap (λ k. padding k last) sum
+        ∙ padding-begins g b last enough
+        ∙ ap (λ (l : List ℕ). space ++ l) (padding-split v (length content + (e - d)) last ∙ ap (λ (l : List ℕ). u1 ++ l) (padding-split (length content) (e - d) last)) in
+        let u1_long : length u1 ≡ v = length-take-le v (padding b last) (omega (arith, length-padding b last four)) in
+        let u2_long : length u2 ≡ length content = length-take-le (length content) (padding (length content + (e - d)) last) (omega (arith, length-padding (length content + (e - d)) last four)) in
+        let header_long : length header ≡ header_length = length-empty_header size (is_some last) in
+        let space_long : length space ≡ g = length-replicate {A = ℕ} g 0xff in
+        let inside : s ≤ length x = omega (arith, room.run.some, room.run.inside) in
+        let emptied : removed x place.run ≡ overwritten x s ((header ++ (space ++ u1)) ++ (u2 ++ tail)) =
+        ap (λ (l : List ℕ). overwritten x s (header ++ l)) pad ∙ ap (λ (l : List ℕ). overwritten x s l) (simp append_assoc) in
+        let copied : overwritten (removed x place.run) place.content content ≡ overwritten x s ((header ++ (space ++ u1)) ++ (content ++ tail)) =
+        ap (λ (l : List ℕ). overwritten l place.content content) emptied
+        ∙ over_part x s (header ++ (space ++ u1)) u2 tail content place.content inside
+        (omega (arith, length-append header (space ++ u1), length-append space u1, header_long, space_long, u1_long, f.rest_long)) (sym u2_long) in
+        let copied_again : overwritten (removed x place.run) place.content content ≡ overwritten x s ((header ++ space) ++ (u1 ++ (content ++ tail))) =
+        copied ∙ ap (λ (l : List ℕ). overwritten x s l) (simp append_assoc) in
+        let described : with_metadata (overwritten (removed x place.run) place.content content) place metadata ≡ overwritten x s ((header ++ space) ++ (d1 ++ (content ++ tail))) =
+        ap (λ (l : List ℕ). with_metadata l place metadata) copied_again
+        ∙ over_part x s (header ++ space) u1 (content ++ tail) d1 (place.header + held_back place) inside
+        (omega (arith, length-append header space, header_long, space_long, f.rest_at)) (sym u1_long) in
+        let p : List ℕ = header ++ (space ++ (d1 ++ content)) in
+        let p_long : length p ≡ d - s =
+        omega (arith, length-append header (space ++ (d1 ++ content)), length-append space (d1 ++ content), length-append d1 content, header_long, space_long, f.rest_long) in
+        let bounded_is : bounded (with_metadata (overwritten (removed x place.run) place.content content) place metadata) end e ≡ overwritten x s (p ++ after) =
+        bound _ p p_long (described ∙ ap (λ (l : List ℕ). overwritten x s l) (simp append_assoc)) in
+        let begin : List ℕ = shown_by place metadata in
+        ap (λ (l : List ℕ). overwritten l s begin) (bounded_is ∙ ap (λ (l : List ℕ). overwritten x s l) (append_assoc header (space ++ (d1 ++ content)) after))
+        ∙ over_part x s [] header ((space ++ (d1 ++ content)) ++ after) begin s inside (omega arith) (f.begin_long ∙ sym header_long)
+        ∙ ap (λ (l : List ℕ). overwritten x s l) (let e1 : begin ++ ((space ++ (d1 ++ content)) ++ after) ≡ (begin ++ (space ++ d1)) ++ (content ++ after) = simp append_assoc in e1)
+        ∙ ap (λ (l : List ℕ). overwritten x s (l ++ (content ++ after))) f.whole
+        ∙ ap (λ (l : List ℕ). overwritten x s l) (simp append_assoc)
+
+-- ---- the stages: the empty entry over the run, the content, the metadata with what shows it
 
 -- the attribute of a digest
 pub attribute-is : (hash : HashChoice) (content : List ℕ) → attribute_len hash ≡ hash_len (digest_of hash content)
@@ -51,62 +196,47 @@ pub attribute-short : (hash : HashChoice) → attribute_len hash ≤ 76
 attribute-short Plain = omega arith
 attribute-short other = omega arith
 
--- where a component fits there is room for its metadata
-pub room-for : (size k a : ℕ) (wanted : Wanted) (place : Place) (end metadata : ℕ) → size < 2 ^ 32 → Fits wanted size place → k ≤ 127 → a ≤ 76 → wanted.header ≡ meta_length k a
-    → end ≡ round64 (place.content + wanted.len) → metadata ≡ wanted.header + (place.content - place.header - wanted.header) → HasRoom size place end metadata
-room-for size k a wanted place end metadata small fits short few is ends long = record {
-  run = fits.run;
-  small = small;
-  start_below = fits.start_below;
-  header_aligned = fits.header.aligned;
-  metadata_is = omega (arith, long, fits.header.room);
-  metadata_long = omega (arith, long, is);
-  metadata_short = omega (arith, long, is, short, few, fits.header.largest, fits.header.room);
-  content_below = omega (arith, ends);
-  end_aligned = omega (arith, ends);
-  end_below = omega (arith, ends, fits.inside, fits.run.end_aligned);
-}
-
 -- a description by its parts
 pub described-is : (m : Meta) (name : List ℕ) (kind : ℕ) (digest : Option Digest) (gap n : ℕ) → m.name.now ≡ name → m.kind ≡ kind → pointed m.digest ≡ digest → m.gap ≡ gap → m.len ≡ n
     → described m ≡ made_metadata name kind digest gap n
 described-is m name kind digest gap n is_name is_kind is_digest is_gap is_len = rw (is_name, is_kind, is_digest, is_gap, is_len) refl
 
-pub described_len-is : (m : Meta) (name : List ℕ) (digest : Option Digest) (gap header a : ℕ) → m.name.now ≡ name → pointed m.digest ≡ digest → m.gap ≡ gap → hash_len digest ≡ a → header ≡ meta_length (length name) a
-    → described_len m ≡ header + gap
-described_len-is m name digest gap header a is_name is_digest is_gap is_len is_header = rw (is_name, is_digest, is_gap, is_len, is_header) refl
+-- where a component fits there is room for its metadata
+pub room-for : (size : ℕ) (label : Label) (content : List ℕ) (wanted : Wanted) (place : Place) (m : Meta) (digest : Option Digest) → size < 2 ^ 32 → Fits wanted size place → length label.name.now ≤ 127
+    → wanted ≡ wanted_for (labelled label content) wanted.spot → m.name.now ≡ label.name.now → pointed m.digest ≡ digest → m.gap ≡ place.content - place.header - wanted.header → hash_len digest ≡ attribute_len label.hash
+    → HasRoom size place (round64 (place.content + wanted.len)) (described_len m)
+room-for size label content wanted place m digest small fits short is is_name is_digest is_gap digest_len =
+    let header : wanted.header ≡ meta_length (length label.name.now) (attribute_len label.hash) = ap (λ (w : Wanted). w.header) is ∙ ap (λ n. meta_length (length label.name.now) n) (sym (attribute-is label.hash content)) in
+    let long : described_len m ≡ wanted.header + (place.content - place.header - wanted.header) = rw (is_name, is_digest, is_gap, digest_len, header) refl in
+    let few : attribute_len label.hash ≤ 76 = attribute-short label.hash in
+    search rules
 
--- all that is written after the content stays in the run, and of its last four bytes before the content
-finished-within : (z : List ℕ) (place : Place) (end : ℕ) (metadata : List ℕ) → HasRoom (length z) place end (length metadata)
-    → SameOutside place.run.start (max place.content (place.run.end - 4) - place.run.start) z (finished z place end metadata)
-finished-within z place end metadata room =
-    let start = place.run.start in
-    let to = max place.content (place.run.end - 4) in
-    let from = start + header_length in
-    let rest : List ℕ = drop (held_back place) metadata in
-    let f : List ℕ = with_metadata z place metadata in
-    let header : List ℕ = empty_header (place.run.end - end) (place.run.end == length f) in
-    let b : List ℕ = bounded f end place.run.end in
+-- what is left by any error
+pub on_err : {A E : Type 0} (r : Result A E) (P : Type 0) → P → OnErr r P
+on_err (Ok a) P p = tt
+on_err (Err e) P p = p
+
+-- what is written after the content ends at the content, at the end of the run's first header, or before the run's last four bytes
+finished-last : (z : List ℕ) (place : Place) (end to : ℕ) (metadata : List ℕ) → HasRoom (length z) place end (length metadata) → place.content ≤ to → place.run.end ≤ to + 4 → drop to (finished z place end metadata) ≡ drop to z
+finished-last z place end to metadata room content last =
     let k = has_metadata z place end metadata room in
-    let at_rest = place.header + held_back place in
-    let inside : at_rest + length rest ≤ length z = omega (arith, k.rest_at, k.rest_long, room.content_below, room.end_below, room.run.inside) in
-    let f_size : length f ≡ length z = length-overwritten z at_rest rest inside in
-    let header_long : length header ≡ header_length = length-empty_header (place.run.end - end) (place.run.end == length f) in
-    let b_size : length b ≡ length z =
-    cond_both (end == place.run.end) f (overwritten f end header) (λ (l : List ℕ). length l ≡ length z) (λ e. f_size)
-    (λ e. length-overwritten f end header (omega (arith, f_size, header_long, eqb-false end place.run.end e, room.end_below, room.end_aligned, room.run.end_aligned, room.run.inside)) ∙ f_size) in
-    let first : IsUnfinished place z f =
-    metadata-within (length z) place end (length metadata) room z f at_rest (length rest) refl (length-drop (held_back place) metadata) (SameOutside-overwritten z at_rest (length rest) rest (omega arith) (omega (arith, inside))) in
-    let second : IsUnfinished place f b =
-    cond_both (end == place.run.end) f (overwritten f end header) (λ (l : List ℕ). IsUnfinished place f l) (λ e. unchanged f from (to - from))
-    (λ e. bound-within (length z) place end (length metadata) room f (overwritten f end header) header_length refl (eqb-false end place.run.end e) (SameOutside-overwritten f end header_length header (omega (arith, header_long)) (omega (arith, f_size, room.end_below, room.run.inside)))) in
-    let third : SameOutside start header_length b (finished z place end metadata) =
-    SameOutside-overwritten b start header_length (shown_by place metadata) (omega (arith, k.begin_long)) (omega (arith, b_size, room.run.some, room.run.inside)) in
-    let long : header_length ≤ to - start = omega (arith, room.start_below, room.metadata_is, room.metadata_long) in
-    again z b (finished z place end metadata) start (to - start) (within z b from (to - from) start to (omega arith) (omega (arith, long)) (again z f b from (to - from) first second)) (SameOutside-wider b (finished z place end metadata) start header_length (to - start) long third)
+    let at = place.header + held_back place in
+    let rest : List ℕ = drop (held_back place) metadata in
+    let f : List ℕ = overwritten z at rest in
+    let f_size : length f ≡ length z = length-overwritten z at rest (omega (arith, k.rest_at, k.rest_long, room.content_below, room.end_below, room.run.inside)) in
+    let header : List ℕ = empty_header (place.run.end - end) (place.run.end == length f) in
+    let long : length header ≡ header_length = length-empty_header (place.run.end - end) (place.run.end == length f) in
+    let there : end ≤ length f = omega (arith, f_size, room.end_below, room.run.inside) in
+    let IsAlike : List ℕ → Type 0 = λ l. (drop to l ≡ drop to z) × (place.run.start ≤ length l) in
+    let first : IsAlike f = (drop-overwritten z at rest to (omega (arith, k.rest_at, k.rest_long, content)) (omega (arith, k.rest_at, k.rest_long, room.content_below, room.end_below, room.run.inside)), omega (arith, f_size, room.run.some, room.run.inside)) in
+    let second : IsAlike (bounded f end place.run.end) =
+    cond_both (end == place.run.end) f (overwritten f end header) IsAlike (λ e. first)
+    (λ e. let fits : end + header_length ≤ place.run.end - 4 = omega (arith, eqb-false end place.run.end e, room.end_below, room.end_aligned, room.run.end_aligned) in
+    (drop-overwritten f end header to (omega (arith, long, fits, last)) there ∙ first.0, omega (arith, length-overwritten f end header (omega (arith, long, fits, f_size, room.run.inside)), first.1))) in
+    drop-overwritten (bounded f end place.run.end) place.run.start (shown_by place metadata) to (omega (arith, k.begin_long, room.start_below, room.metadata_is, room.metadata_long, content)) second.1 ∙ second.0
 
 module _ (r : Range) (old : List ℕ) (label : Label) (content : List ℕ) (wanted : Wanted) (place : Place) (lies : LiesIn r old) (in_region : Fits wanted r.size place) (short : length label.name.now ≤ 127)
-    (is_header : wanted.header ≡ meta_length (length label.name.now) (attribute_len label.hash)) (len : wanted.len ≡ length content) where
+    (is : wanted ≡ wanted_for (labelled label content) wanted.spot) where
   abbrev x : List ℕ
   x = bytes_in r old
 
@@ -116,8 +246,14 @@ module _ (r : Range) (old : List ℕ) (label : Label) (content : List ℕ) (want
   abbrev run : Freed
   run = place.run
 
-  abbrev kept : ℕ
-  kept = kept_from x new place
+  abbrev to : ℕ
+  to = written_to r.size wanted.len place
+
+  is_header : wanted.header ≡ meta_length (length label.name.now) (attribute_len label.hash)
+  is_header = ap (λ (w : Wanted). w.header) is ∙ ap (λ n. meta_length (length label.name.now) n) (sym (attribute-is label.hash content))
+
+  len : wanted.len ≡ length content
+  len = ap (λ (w : Wanted). w.len) is
 
   size : length x ≡ r.size
   size = length-bytes_in r old lies
@@ -125,41 +261,30 @@ module _ (r : Range) (old : List ℕ) (label : Label) (content : List ℕ) (want
   fits : Fits wanted (length x) place
   fits = subst (λ n. Fits wanted n place) (sym size) in_region
 
-  after_header : run.start + header_length ≤ run.end
-  after_header = omega (arith, fits.run.some)
+  near : (space_end r.size run.end ≤ run.end) × (run.end ≤ space_end r.size run.end + 4)
+  near = space_end-near r.size run.end
 
   module _ (empty_entry : List ℕ) (empty_long : length empty_entry ≡ length old) where
     abbrev y : List ℕ
     y = bytes_in r empty_entry
 
-    y_size : length y ≡ length x
-    y_size = same_region_length r old old empty_entry lies refl empty_long
-
-    empty_last : IsEmptyStop x run y → EndsAlike kept x y
-    empty_last stop = later_on (length x - 4) kept x y (omega arith) (ap (λ n. drop (n - 4) y) (sym y_size) ∙ stop.last_four)
-
     -- the empty entry
-    pub empty_stop : (Done : Type 0) → IsEmptyStop x run y → IsInsertStop x new place Done y
-    empty_stop Done stop = record { bytes = inl stop.bytes; last = empty_last stop }
+    pub empty_stop : (Done : Type 0) → IsOldOrEmptied run (space_end r.size run.end) x y → IsInsertStop run to Done x y
+    empty_stop Done stop = inl (old_or-wider x run fits.run (space_end r.size run.end) to y (omega arith) stop)
 
-    module _ (copied : List ℕ) (copied_long : length copied ≡ length empty_entry) (is : y ≡ removed x run) (torn : SameOutside place.content (length content) y (bytes_in r copied)) where
+    module _ (copied : List ℕ) (copied_long : length copied ≡ length empty_entry) (emptied : y ≡ removed x run) (torn : SameOutside place.content (length content) y (bytes_in r copied)) where
       abbrev z : List ℕ
       z = bytes_in r copied
 
-      z_size : length z ≡ length x
-      z_size = same_region_length r old empty_entry copied lies empty_long copied_long ∙ y_size
-
-      copied_last : IsEmptyStop x run y → EndsAlike kept x z
-      copied_last stop = later_on (place.content + length content) kept y z (omega arith) torn.after ∙ empty_last stop
-
-      copied_emptied : IsEmptied x run z
+      copied_emptied : IsEmptied run to x z
       copied_emptied =
-          emptied-write x run after_header fits.run.inside y z (run.end - (run.start + header_length)) (subst (λ (l : List ℕ). IsEmptied x run l) (sym is) (removed-emptied x run fits.run)) (omega (arith, after_header)) z_size
-          (within y z place.content (length content) (run.start + header_length) run.end (omega (arith, fits.start_below, fits.header.room, is_header)) (omega (arith, fits.inside, len)) torn)
+          let empty : IsEmptied run (space_end r.size run.end) x y = subst (λ n. IsEmptied run (space_end n run.end) x y) size (subst (λ (l : List ℕ). IsEmptied run (space_end (length x) run.end) x l) (sym emptied) (removed-emptied x run fits.run)) in
+          emptied-write x run fits.run to y (emptied-wider x run fits.run (space_end r.size run.end) y empty to (omega arith)) z place.content (length content)
+          (same_region_length r old empty_entry copied lies empty_long copied_long) (omega (arith, fits.start_below, fits.header.room, is_header)) (omega (arith, len)) torn
 
       -- the content
-      pub copied_stop : (Done : Type 0) → IsEmptyStop x run y → IsInsertStop x new place Done z
-      copied_stop Done stop = record { bytes = inl (inr copied_emptied); last = copied_last stop }
+      pub copied_stop : (Done : Type 0) → IsInsertStop run to Done x z
+      copied_stop Done = inl (inr copied_emptied)
 
       module _ (meta : Meta) (digest : Option Digest) (is_name : meta.name.now ≡ label.name.now) (is_kind : meta.kind ≡ label.kind) (is_digest : pointed meta.digest ≡ digest) (is_gap : meta.gap ≡ place.content - place.header - wanted.header)
           (is_len : meta.len ≡ wanted.len) (digest_len : hash_len digest ≡ attribute_len label.hash) (metadata_len : length (described meta) ≡ described_len meta) (small : length old < 2 ^ 32) where
@@ -169,11 +294,8 @@ module _ (r : Range) (old : List ℕ) (label : Label) (content : List ℕ) (want
         abbrev end : ℕ
         end = round64 (place.content + wanted.len)
 
-        metadata_long : length metadata ≡ wanted.header + (place.content - place.header - wanted.header)
-        metadata_long = metadata_len ∙ described_len-is meta label.name.now digest _ wanted.header (attribute_len label.hash) is_name is_digest is_gap digest_len is_header
-
         room : HasRoom (length x) place end (length metadata)
-        room = room-for (length x) (length label.name.now) (attribute_len label.hash) wanted place end (length metadata) (omega (arith, size, lies, small)) fits short (attribute-short label.hash) is_header refl metadata_long
+        room = subst (λ n. HasRoom (length x) place end n) (sym metadata_len) (room-for (length x) label content wanted place meta digest (omega (arith, size, lies, small)) fits short is is_name is_digest is_gap digest_len)
 
         module _ (shown : List ℕ) (shown_long : length shown ≡ length copied) where
           abbrev w : List ℕ
@@ -187,12 +309,12 @@ module _ (r : Range) (old : List ℕ) (label : Label) (content : List ℕ) (want
               let whole : List ℕ = metadata ++ content in
               let long : length whole ≡ d - place.header = omega (arith, length-append metadata content, room.metadata_is) in
               let pad : end - d ≡ round64 (length whole) - length whole = omega (arith, long, fits.header.aligned, fits.header.room, len) in
-              let header : wanted.header ≡ header_of new = is_header ∙ ap (λ n. meta_length (length label.name.now) n) (attribute-is label.hash content) in
+              let header : wanted.header ≡ header_of new = ap (λ (w : Wanted). w.header) is in
               let is_metadata : metadata ≡ made_metadata new.name new.kind new.digest gap (length content) =
               described-is meta label.name.now label.kind new.digest gap (length content) is_name is_kind (is_digest ∙ digest_is) (is_gap ∙ ap (λ n. place.content - place.header - n) header) (is_len ∙ len) in
               let before : List ℕ = empty_between x run.start place.header in
               third
-              ∙ ap (λ (l : List ℕ). finished l place end metadata) (second ∙ ap (λ (l : List ℕ). overwritten l place.content content) is)
+              ∙ ap (λ (l : List ℕ). finished l place end metadata) (second ∙ ap (λ (l : List ℕ). overwritten l place.content content) emptied)
               ∙ inserted x place end metadata room content (omega (arith, len))
               ∙ ap (λ (l : List ℕ). overwritten x run.start (before ++ l)) (sym (append_assoc whole (padding (end - d) (kept_at x end)) (empty_between x end run.end)))
               ∙ ap (λ n. overwritten x run.start (before ++ ((whole ++ padding n (kept_at x end)) ++ empty_between x end run.end))) pad
@@ -200,20 +322,14 @@ module _ (r : Range) (old : List ℕ) (label : Label) (content : List ℕ) (want
               ∙ ap (λ n. overwritten x run.start (before ++ (made new.name new.kind new.digest gap content (kept_at x n) ++ empty_between x n run.end))) (ap (λ n. round64 (place.content + n)) len)
 
           -- the metadata with what shows it
-          pub shown_stop : (Sound Honest : Type 0) → IsEmptyStop x run y → Sound → (Honest → digest ≡ digest_of label.hash content) → (Honest → z ≡ overwritten y place.content content)
-              → (w ≡ finished z place end metadata) ⊎ IsUnfinished place z w → IsInsertStop x new place (Sound × (Honest → w ≡ added x new place)) w
-          shown_stop Sound Honest stop sound digest_is second (inl third) =
-              let same : SameOutside run.start (max place.content (run.end - 4) - run.start) z w =
-              rw third (finished-within z place end metadata (subst (λ n. HasRoom n place end (length metadata)) (sym z_size) room)) in
-              record {
-                bytes = inr (sound, λ honest. shown_added (digest_is honest) (second honest) third);
-                last = later_on (run.start + (max place.content (run.end - 4) - run.start)) kept z w (omega (arith, fits.run.inside, fits.start_below, fits.header.room)) same.after ∙ copied_last stop;
-              }
-          shown_stop Sound Honest stop sound digest_is second (inr unfinished) =
+          pub shown_stop : (Sound Honest : Type 0) → Sound → (Honest → digest ≡ digest_of label.hash content) → (Honest → z ≡ overwritten y place.content content) → (w ≡ finished z place end metadata) ⊎ IsUnfinished place z w
+              → IsInsertStop run to (Sound × (Honest → w ≡ added x new place)) x w
+          shown_stop Sound Honest sound digest_is second (inl third) =
+              let behind : run.start + header_length ≤ to = omega (arith, near.1, fits.run.some) in
+              let first = further x z (run.start + (to - run.start)) to (omega (arith, behind)) (emptied-outside x run fits.run to z copied_emptied behind).after in
+              let last = finished-last z place end to metadata (subst (λ n. HasRoom n place end (length metadata)) (sym copied_emptied.same_length) room) (omega arith) (omega (arith, near.1)) in
+              inr ((sound, λ honest. shown_added (digest_is honest) (second honest) third), ap (λ (l : List ℕ). drop to l) third ∙ last ∙ first)
+          shown_stop Sound Honest sound digest_is second (inr unfinished) =
               let from = run.start + header_length in
-              let n = max place.content (run.end - 4) - from in
-              let w_size : length w ≡ length x = same_region_length r old copied shown lies (copied_long ∙ empty_long) shown_long ∙ z_size in
-              record {
-                bytes = inl (inr (emptied-write x run after_header fits.run.inside z w n copied_emptied (omega (arith, fits.inside, after_header)) w_size unfinished));
-                last = later_on (from + n) kept z w (omega (arith, fits.run.inside, fits.start_below, fits.header.room, is_header)) unfinished.after ∙ copied_last stop;
-              }
+              inl (inr (emptied-write x run fits.run to z copied_emptied w from (max place.content (run.end - 4) - from) (same_region_length r old copied shown lies (copied_long ∙ empty_long) shown_long) (omega arith)
+              (omega (arith, near.1, fits.run.some, fits.start_below, fits.header.room, is_header)) unfinished))

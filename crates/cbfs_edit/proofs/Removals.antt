@@ -1,21 +1,32 @@
--- An accepted removal has a group, in a region of a good size.
-use Rattle.std.proofs.Common.{◌≡◌, ◌⊎◌, inl, inr, ℕ, ◌-◌, ◌%◌, ◌^◌, ◌<◌, List, length, drop, Result, Ok, sym, ◌∙◌, ap, subst, arith}
+-- An accepted removal: its group, what it leaves, and the one component that it takes.
+use Rattle.std.proofs.Common.{◌≡◌, ◌⊎◌, inl, inr, ℕ, ◌-◌, ◌%◌, ◌^◌, ◌<◌, List, length, Result, Ok, sym, ◌∙◌, ap, subst, arith, ◌+◌, false, [], ◌∷◌, ◌++◌, refl, All}
 use Rattle.std.specs.Prelude.{IsErrOf}
 use Rattle.flash_store.specs.Regions.{Range, LiesIn, bytes_in}
 use Rattle.flash_store.proofs.DeviceLemmas.{length-bytes_in}
 use Rattle.flash_format.specs.Cut.{cut}
-use Rattle.cbfs_edit.specs.Groups.{IsCellRange, IsGroupOf, group_of}
-use Rattle.cbfs_edit.specs.Removals.{found, removal_in}
+use Rattle.cbfs_edit.specs.Groups.{IsCellRange, IsGroupOf, group_of, IsComponent, IsNot}
+use Rattle.cbfs_edit.specs.Removals.{found, removal_in, removed, space_end}
 use Rattle.flash_store.specs.Bytes.{overwritten, SameOutside}
 use Rattle.flash_store.proofs.RegionLemmas.{image_is}
-use Rattle.cbfs_edit.specs.Stops.{IsEmptyStop, IsOldOrEmptied, LeavesWhole}
-use Rattle.cbfs_edit.specs.Laws.{EmptiedGroupsLackTheComponent}
+use Rattle.cbfs_edit.specs.Stops.{IsOldOrEmptied, LeavesWhole}
+use Rattle.cbfs_edit.specs.Laws.{EmptiedGroupsLackTheComponent, RemovalsTakeOneComponent}
 use Rattle.cbfs_edit.specs.declared.fault.EditFault.{EditFault}
-use Rattle.cbfs_edit.specs.declared.fault.EditFault.TheVariants as faults
 use Rattle.cbfs_edit.specs.declared.group.Freed.{Freed}
-use Rattle.cbfs_edit.proofs.Exact.{cells_of, group_exact, group_some}
+use Rattle.cbfs_edit.proofs.Groups.{cells_of, group_exact, group_some}
 use Rattle.cbfs_edit.proofs.Sound.{accepted_by, found-some}
-use Rattle.cbfs_edit.proofs.Groups.{group_range, emptied-end, emptied-same, emptied-written}
+use Rattle.cbfs_edit.proofs.Emptied.{group_range, emptied-end, emptied-same, emptied-stopped, emptied-wider, space_end-below, space_end-near, emptied-components, removed-whole}
+use Rattle.std.specs.Str.{bytes_eq}
+use Rattle.std.specs.List.{concat}
+use Rattle.std.proofs.lemmas.Bool.{cases_Bool}
+use Rattle.std.proofs.lemmas.List.Elements.{All-nil, All-cons, All-head, All-tail}
+use Rattle.flash_format.specs.Head.{head_of, is_free}
+use Rattle.flash_format.specs.Components.{Component, component_at, components_from}
+use Rattle.flash_format.specs.Splices.{AllFree, CellsBetween}
+use Rattle.flash_format.proofs.CellLists.{components-append}
+use Rattle.flash_format.proofs.Splices.{components-free}
+use Rattle.cbfs_edit.specs.declared.fault.EditFault.TheVariants as faults
+
+-- ---- its group, in a region of a good size
 
 pub record IsAccepted (x name : List ℕ) (group : Freed) : Type 0 where
   pub whole : length x % 64 ≡ 0
@@ -37,36 +48,27 @@ emptied_lacks x name group y small is emptied =
 -- what a removal leaves that stops at one of its writes
 pub removal_leaves : (r : Range) (name : List ℕ) (group : Freed) (old mid new : List ℕ) → LiesIn r old → length old < 2 ^ 32 → mid ≡ old
     → (let a : Result Freed EditFault = Ok group in IsErrOf a faults.Device ⊎ (a ≡ removal_in (bytes_in r old) name))
-    → (r.size % 64 ≡ 0 → IsEmptyStop (bytes_in r mid) group (bytes_in r new)) → LeavesWhole (bytes_in r old) name (bytes_in r new)
-removal_leaves r name group old mid new lies small same (inl e) stopped = absurd cc
-removal_leaves r name group old mid new lies small same (inr e) stopped = left stop.bytes
+    → IsOldOrEmptied group (space_end r.size group.end) (bytes_in r mid) (bytes_in r new) → LeavesWhole (bytes_in r old) name (bytes_in r new)
+removal_leaves r name group old mid new lies small same (inl e) stop = absurd cc
+removal_leaves r name group old mid new lies small same (inr e) stop = left (rw same at stop)
   where
-    size : length (bytes_in r old) ≡ r.size
-    size = length-bytes_in r old lies
-
-    is : IsAccepted (bytes_in r old) name group
-    is = accepted (bytes_in r old) name group (sym e)
-
-    stop : IsEmptyStop (bytes_in r old) group (bytes_in r new)
-    stop = let whole : r.size % 64 ≡ 0 = omega (arith, is.whole, size) in rw same at (stopped whole)
-
-    left : IsOldOrEmptied (bytes_in r old) group (bytes_in r new) → LeavesWhole (bytes_in r old) name (bytes_in r new)
+    left : IsOldOrEmptied group (space_end r.size group.end) (bytes_in r old) (bytes_in r new) → LeavesWhole (bytes_in r old) name (bytes_in r new)
     left (inl unchanged) = inl unchanged
     left (inr emptied) =
         let x : List ℕ = bytes_in r old in
         let y : List ℕ = bytes_in r new in
+        let size : length x ≡ r.size = length-bytes_in r old lies in
+        let is : IsAccepted x name group = accepted x name group (sym e) in
+        let to = space_end r.size group.end in
+        let near = space_end-near r.size group.end in
+        let whole = emptied-wider x group is.range to y emptied group.end near.0 in
         let cells = cells_of x name group is.whole is.is in
-        let written = emptied-written x group is.range y emptied in
+        let x_small : length x < 2 ^ 32 = omega (arith, size, lies, small) in
         inr (
           group,
           sym e,
-          record {
-            components = inr (emptied-same x group is.range y emptied cells (omega (arith, size, lies, small))).components;
-            end = emptied-end x group is.range y emptied cells (omega (arith, size, lies, small));
-            same_length = written.same_length;
-            outside = written.outside;
-            last = ap (λ n. drop (n - 4) y) (sym written.same_length) ∙ stop.last_four;
-          },
+          emptied-stopped x group is.range to y emptied (removed x group) (length x - 4) (omega (arith, near.1, is.range.some)) near.0 (omega (arith, size, space_end-below r.size group.end (omega (arith, size, is.range.inside)) is.range.end_aligned (omega (arith, size, is.whole))))
+              (inr (emptied-same x group is.range y whole cells x_small).components) (emptied-end x group is.range y whole cells x_small),
         )
 
 -- the image after a change of its region alone
@@ -74,3 +76,57 @@ pub image_of : (r : Range) (u old mid new : List ℕ) → LiesIn r old → mid �
 image_of r u old mid new lies same size outside is =
     let lies_mid : LiesIn r mid = omega (arith, lies, ap length same) in
     subst (λ (l : List ℕ). new ≡ overwritten l r.start u) same (image_is r mid new u lies_mid size outside is)
+
+-- ---- it takes one component, the first of its name, and leaves all others with their places and bytes
+
+abbrev IsOther : List ℕ → Component → Type 0
+IsOther name c = bytes_eq c.name name ≡ false
+
+-- none of the components among these cells has the name
+pub others_have_not : (name : List ℕ) (at : ℕ) (cells : List (List ℕ)) → All (IsNot name) cells → All (IsOther name) (components_from at cells)
+unfolding components_from
+others_have_not name at [] none = All-nil (IsOther name)
+others_have_not name at (c ∷ cells) none =
+    let later : All (IsOther name) (components_from (at + length c) cells) = others_have_not name (at + length c) cells (All-tail (IsNot name) c cells none) in
+    elim (cases_Bool (is_free (head_of c))) [
+      | inl e ↦ rw e later
+      | inr e ↦ rw e (All-cons (IsOther name) (component_at at c) (components_from (at + length c) cells) (All-head (IsNot name) c cells none e) later)
+    ]
+
+-- a component, and the components of the cells behind it
+one_then : (at : ℕ) (c : List ℕ) (cells : List (List ℕ)) → IsComponent c → components_from at (c ∷ cells) ≡ component_at at c ∷ components_from (at + length c) cells
+unfolding components_from
+one_then at c cells is = rw is refl
+
+-- free cells, a component and free cells, and what is behind them
+row_of_one : (at end : ℕ) (row more after : List (List ℕ)) (c : List ℕ) → AllFree row → AllFree more → IsComponent c → at + length (concat row) + length c + length (concat more) ≡ end
+    → components_from at (row ++ (c ∷ (more ++ after))) ≡ component_at (at + length (concat row)) c ∷ components_from end after
+row_of_one at end row more after c free free_more is ends =
+    let place : ℕ = at + length (concat row) in
+    components-append at row (c ∷ (more ++ after))
+    ∙ ap (λ (l : List Component). l ++ components_from place (c ∷ (more ++ after))) (components-free at row free)
+    ∙ one_then place c (more ++ after) is
+    ∙ ap (λ (l : List Component). component_at place c ∷ l)
+    (components-append (place + length c) more after
+    ∙ ap (λ (l : List Component). l ++ components_from (place + length c + length (concat more)) after) (components-free (place + length c) more free_more)
+    ∙ ap (λ n. components_from n after) ends)
+
+pub removal_takes_one : RemovalsTakeOneComponent
+removal_takes_one x name group small is =
+    let a = accepted x name group is in
+    let g = a.is in
+    let cells : CellsBetween x group.start group.end = cells_of x name group a.whole g in
+    let first : 0 + length (concat g.before) ≡ group.start = omega (arith, g.start_is) in
+    record {
+      before = components_from 0 g.before;
+      component = component_at (group.start + length (concat g.row_before)) g.component;
+      after = components_from group.end g.after;
+      was = ap (λ (l : List (List ℕ)). components_from 0 l) g.whole
+          ∙ components-append 0 g.before (g.row_before ++ (g.component ∷ (g.row_after ++ g.after)))
+          ∙ ap (λ n. components_from 0 g.before ++ components_from n (g.row_before ++ (g.component ∷ (g.row_after ++ g.after)))) first
+          ∙ ap (λ (l : List Component). components_from 0 g.before ++ l) (row_of_one group.start group.end g.row_before g.row_after g.after g.component g.row_before_free g.row_after_free g.is_component g.end_is);
+      is = emptied-components x group a.range (removed x group) (removed-whole x group a.range) cells small;
+      named = g.named;
+      first = others_have_not name 0 g.before g.first;
+      same_end = emptied-end x group a.range (removed x group) (removed-whole x group a.range) cells small;
+    }

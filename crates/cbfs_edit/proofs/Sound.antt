@@ -5,12 +5,12 @@ use Rattle.flash_format.specs.Cut.{End, complete, tail, damage, cut}
 use Rattle.flash_format.specs.Entry.{entry}
 use Rattle.cbfs_walk.specs.Shapes.{has_bad_size, is_absent, refused_or}
 use Rattle.cbfs_walk.specs.Shaped.{place_after}
-use Rattle.cbfs_walk.specs.declared.walk.WalkFault.TheVariants as walk
 use Rattle.cbfs_walk.proofs.Answering.{good_size}
 use Rattle.cbfs_edit.specs.Refusals.{refusal_of}
 use Rattle.cbfs_edit.specs.Removals.{unless_damaged, unless_unsound}
 use Rattle.cbfs_edit.specs.declared.fault.EditFault.{EditFault}
 use Rattle.cbfs_edit.specs.declared.group.Freed.{Freed}
+use Rattle.cbfs_walk.specs.declared.walk.WalkFault.TheVariants as walk
 
 -- its size is good, and no damage ends its cells
 pub record IsSound (x : List ℕ) : Type 0 where
@@ -28,9 +28,8 @@ accepted_by {A} x r a is = go (has_bad_size (length x)) (is_absent (entry x)) (c
         → refused_or (λ fault. Err (refusal_of fault)) (cond b (Some walk.RegionShape) (cond n (Some walk.NotCbfs) None)) (unless_damaged (place_after 0 (cut x).cells) e r) ≡ Ok a → IsAccepted x r a
     go true n e size ends p = absurd cc
     go false true e size ends p = absurd cc
-    go false false complete size ends p = record { sound = record { whole = good_size (length x) (sym size); undamaged = λ at s. rw (← ends) refl }; is = p }
-    go false false tail size ends p = record { sound = record { whole = good_size (length x) (sym size); undamaged = λ at s. rw (← ends) refl }; is = p }
     go false false (damage kind) size ends p = absurd cc
+    go false false other size ends p = record { sound = record { whole = good_size (length x) (sym size); undamaged = λ at s. rw (← ends) refl }; is = p }
 
 pub found-some : {A : Type 0} (o : Option A) (fault : EditFault) (a : A) → ok_or o fault ≡ Ok a → o ≡ Some a
 found-some None fault a is = absurd cc

@@ -6,9 +6,10 @@ use Rattle.std.specs.Prelude.{◌≡◌, ℕ, ◌+◌, ◌-◌, ◌==◌, ◌||�
 use Rattle.flash_format.specs.Head.{round64}
 use Rattle.flash_format.specs.Entry.{is_nul}
 use Rattle.flash_format.specs.EmptyEntries.{empty_entry}
-use Rattle.flash_format.specs.Made.{hash_len, meta_length, made}
+use Rattle.flash_format.specs.Made.{algorithm_len, hash_len, meta_length, made}
 use Rattle.flash_format.specs.Placings.{HasOneMore, made_component, space_cells}
 use Rattle.flash_format.specs.Splices.{AllFree, CellsBetween}
+use Rattle.flash_format.specs.declared.digest.Algorithm.TheVariants as algorithms
 use Rattle.flash_format.specs.declared.digest.Digest.{Digest}
 use Rattle.flash_store.specs.Bytes.{overwritten}
 use Rattle.cbfs_walk.specs.Hashes.{sha256_of, sha512_of}
@@ -41,8 +42,8 @@ digest_of Sha512 content = Some (sha512_of content)
 -- how many bytes its attribute has
 abbrev pub attribute_len : HashChoice → ℕ
 attribute_len Plain = 0
-attribute_len Sha256 = 44
-attribute_len Sha512 = 76
+attribute_len Sha256 = 12 + algorithm_len algorithms.Sha256
+attribute_len Sha512 = 12 + algorithm_len algorithms.Sha512
 
 abbrev pub new_component : List ℕ → ℕ → HashChoice → List ℕ → NewComponent
 new_component name kind hash content = record { name = name; kind = kind; digest = digest_of hash content; content = content }

@@ -2,7 +2,7 @@
 use Rattle.std.specs.Prelude.{◌≡◌, ℕ, ◌+◌, ◌/◌, List, length, Result, IsTrue, IsErrOf, OnOk}
 use Rattle.flash_store.specs.Bytes.{overwritten, SameOutside}
 use Rattle.flash_store.specs.Copies.{by_device, by_source}
-use Rattle.flash_store.specs.Device.{Device, Reads, faults_told}
+use Rattle.flash_store.specs.Device.{Device, Reads, faults_told, refusals}
 use Rattle.flash_store.specs.Pages.{Pages, HasChanged}
 use Rattle.flash_store.specs.Regions.{Range, bytes_in}
 use Rattle.flash_store.specs.declared.paged.CopyFault.{CopyFault}
@@ -12,6 +12,13 @@ use Rattle.flash_store.specs.declared.paged.CopyFault.TheVariants as causes
 abbrev pub OnHonestChange : {F : Type 0} → (F → Device) → Range → Pages F → Pages F → (List ℕ → List ℕ → Type 0) → Type 0
 OnHonestChange facts region old new P =
     IsTrue (facts old.device).honest → P (bytes_in region (facts old.device).content) (bytes_in region (facts new.device).content)
+
+-- What is left after a write into a region, by at most n calls. On an honest device the region's bytes are those that
+-- `done` makes of them, where no call was refused, and `Left` relates them to those of before, whatever was answered.
+pub record HasWrittenIn {F T E : Type 0} (facts : F → Device) (region : Range) (n : ℕ) (done : List ℕ → List ℕ) (Left : List ℕ → List ℕ → Type 0) (old new : Pages F) (result : Result T E) : Type 0 where
+  pub after : HasChanged facts region n (refusals result) old new
+  pub written : OnHonestChange facts region old new (λ x y. OnOk result (y ≡ done x))
+  pub left : OnHonestChange facts region old new Left
 
 -- What is left after a whole source was to be copied to a place of a region. What was copied is told of an honest device
 -- and an honest source, what is outside of an honest device whatever the source.

@@ -22,7 +22,7 @@ use Rattle.cbfs_edit.specs.declared.place.Spot.{Spot}
 -- once the header of an empty entry stands over the group of a removal, whatever the rest of the group holds, the
 -- components are those of the finished removal
 abbrev pub EmptiedGroupsLackTheComponent : Type 0
-EmptiedGroupsLackTheComponent = (x name : List ℕ) (group : Freed) (y : List ℕ) → length x < 2 ^ 32 → removal_in x name ≡ Ok group → IsEmptied x group y → SameCells y (removed x group)
+EmptiedGroupsLackTheComponent = (x name : List ℕ) (group : Freed) (y : List ℕ) → length x < 2 ^ 32 → removal_in x name ≡ Ok group → IsEmptied group group.end x y → SameCells y (removed x group)
 
 -- a removal takes the first component of the name, and all others stay, with their places and bytes
 abbrev pub RemovalsTakeOneComponent : Type 0
@@ -38,7 +38,7 @@ NoGroupNoComponent = (x name : List ℕ) → group_of x name ≡ None → All (I
 
 -- between the commits of an edit that fills a run the components are those of before
 abbrev pub EmptiedRunsKeepTheComponents : Type 0
-EmptiedRunsKeepTheComponents = (x : List ℕ) (run : Freed) (y : List ℕ) → length x % 64 ≡ 0 → length x < 2 ^ 32 → Contains (runs x) run → IsEmptied x run y → SameCells y x
+EmptiedRunsKeepTheComponents = (x : List ℕ) (run : Freed) (y : List ℕ) → length x % 64 ≡ 0 → length x < 2 ^ 32 → Contains (runs x) run → IsEmptied run run.end x y → SameCells y x
 
 -- the runs are the maximal rows of neighbouring free cells, all of them
 abbrev pub RunsAreExact : Type 0

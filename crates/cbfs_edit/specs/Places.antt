@@ -1,11 +1,11 @@
 -- The place of a new component.
 use Rattle.std.specs.Option.{option_or}
 use Rattle.std.specs.Int.{next_multiple_of}
-use Rattle.std.specs.Prelude.{◌≡◌, ◌≢◌, ℕ, ◌+◌, ◌-◌, ◌*◌, ◌/◌, ◌%◌, ◌^◌, ◌<◌, ◌≤◌, ⊤, ◌&&◌, ◌==◌, nat_le, if◌then◌else◌, is_some, List, [], ◌∷◌, ◌++◌, All, length, Option, Some, None, option_map, Result, Err, ok_or}
+use Rattle.std.specs.Prelude.{◌≡◌, ◌≢◌, ℕ, ◌+◌, ◌-◌, ◌*◌, ◌/◌, ◌%◌, ◌^◌, ◌<◌, ◌≤◌, ⊤, ◌&&◌, nat_le, if◌then◌else◌, is_some, List, [], ◌∷◌, ◌++◌, All, length, Option, Some, None, option_map, Result, Err, ok_or}
 use Rattle.flash_format.specs.Components.{components}
 use Rattle.cbfs_walk.specs.Finding.{first_named}
 use Rattle.cbfs_edit.specs.Runs.{runs}
-use Rattle.cbfs_edit.specs.Removals.{unless_unsound}
+use Rattle.cbfs_edit.specs.Removals.{space_end, unless_unsound}
 use Rattle.cbfs_edit.specs.declared.fault.EditFault.{EditFault}
 use Rattle.cbfs_edit.specs.declared.fault.EditFault.TheVariants.{Exists, NoSpace}
 use Rattle.cbfs_edit.specs.declared.group.Freed.{Freed}
@@ -31,7 +31,7 @@ Meets (Fixed place) c = c ≡ place
 -- where content ends at the latest, in a run that ends here, of a region of this size
 abbrev pub limit_of : Spot → ℕ → ℕ → ℕ
 limit_of (Fixed place) size end = end
-limit_of spot size end = if end == size then end - 4 else end
+limit_of spot size end = space_end size end
 
 -- content may begin at `c` in the run
 pub record IsAllowed (wanted : Wanted) (size : ℕ) (run : Freed) (c : ℕ) : Type 0 where

@@ -1,12 +1,11 @@
 -- The search for a place, from cell to cell.
 use Rattle.std.specs.Option.{option_or}
-use Rattle.std.specs.Prelude.{◌≡◌, ℕ, ◌+◌, ◌%◌, ◌≤◌, ◌||◌, if◌then◌else◌, List, [], length, Option, IfSome, Result, Err}
+use Rattle.std.specs.Prelude.{◌≡◌, ℕ, ◌+◌, ◌%◌, ◌^◌, ◌<◌, ◌≤◌, ◌||◌, nat_lt, if◌then◌else◌, List, length, Option, None, IfSome, Result, Err}
 use Rattle.std.specs.Str.{bytes_eq}
 use Rattle.flash_format.specs.Head.{head_of, is_free}
 use Rattle.flash_format.specs.Components.{cell_name}
 use Rattle.cbfs_edit.specs.Groups.{IsCellRange}
-use Rattle.cbfs_edit.specs.Runs.{add_run}
-use Rattle.cbfs_edit.specs.Places.{IsHeaderOf, place_among, placed}
+use Rattle.cbfs_edit.specs.Places.{IsHeaderOf, IsWanted, place_in, placed}
 use Rattle.cbfs_edit.specs.declared.fault.EditFault.{EditFault}
 use Rattle.cbfs_edit.specs.declared.fault.EditFault.TheVariants.{Exists}
 use Rattle.cbfs_edit.specs.declared.place.Wanted.{Wanted}
@@ -15,7 +14,7 @@ use Rattle.cbfs_edit.specs.declared.place.Survey.{Survey}
 
 -- the first place so far, where the row of free cells ends, which may be empty
 abbrev pub closed : Wanted → ℕ → Survey → Option Place
-closed wanted size s = option_or s.place (place_among wanted size (add_run s.row.start s.row.end []))
+closed wanted size s = option_or s.place (if nat_lt s.row.start s.row.end then place_in wanted size s.row else None)
 
 -- a search after a cell
 abbrev pub surveyed : List ℕ → Wanted → ℕ → Survey → List ℕ → Survey
@@ -37,6 +36,8 @@ pub record Fits (wanted : Wanted) (size : ℕ) (place : Place) : Type 0 where
 
 -- whatever the device is, a search speaks of whole cells before its place
 pub record IsSurvey (wanted : Wanted) (size at : ℕ) (s : Survey) : Type 0 where
+  pub asked : IsWanted wanted
+  pub small : size < 2 ^ 32
   pub here : s.row.end ≡ at
   pub order : s.row.start ≤ at
   pub inside : at ≤ size

@@ -20,6 +20,10 @@ last_four x = drop (length x - 4) x
 abbrev pub kept_at : List ℕ → ℕ → Option (List ℕ)
 kept_at x end = if end == length x then Some (last_four x) else None
 
+-- where the space of free cells that end here ends, in a region of this size: before its last four bytes, which are kept
+abbrev pub space_end : ℕ → ℕ → ℕ
+space_end size end = if end == size then end - 4 else end
+
 -- a region with one empty entry in place of a group
 abbrev pub removed : List ℕ → Freed → List ℕ
 removed x group = overwritten x group.start (empty_entry (group.end - group.start) (kept_at x group.end))

@@ -1,5 +1,5 @@
 -- The search for a group, from cell to cell.
-use Rattle.std.specs.Prelude.{ℕ, ◌+◌, ◌%◌, ◌≡◌, ◌≤◌, List, length, Result, Ok, Err, ⊤, if◌then◌else◌}
+use Rattle.std.specs.Prelude.{ℕ, ◌+◌, ◌%◌, ◌≡◌, ◌≤◌, List, length, Result, Ok, Err, if◌then◌else◌}
 use Rattle.std.specs.Str.{bytes_eq}
 use Rattle.flash_format.specs.Head.{head_of, is_free}
 use Rattle.flash_format.specs.Components.{cell_name}
@@ -19,11 +19,6 @@ passed name (Looking start) at x =
 passed name (Growing group) at x =
     if is_free (head_of x) then Growing (record { start = group.start; end = group.end + length x }) else Whole group
 passed name (Whole group) at x = Whole group
-
--- the component is found: no further name is read
-abbrev pub HasFound : Search → Type 0
-HasFound (Looking start) = ⊥
-HasFound search = ⊤
 
 -- what a search has found where the cells end
 abbrev pub group_in : Search → Result Freed EditFault

@@ -1,18 +1,18 @@
 //! The addition of a component.
-ghost use Rattle.std.specs.Prelude.{◌≡◌, ◌≢◌, ◌⊎◌, ◌+◌, ◌/◌, ◌%◌, ◌<◌, ◌≤◌, length, Err, IsTrue, IfOk, IfErr, IfSome, IsErrOf, OnOk};
+ghost use Rattle.std.specs.Prelude.{ℕ, List, ◌≡◌, ◌≢◌, ◌⊎◌, ◌+◌, ◌/◌, ◌%◌, ◌<◌, ◌≤◌, length, Err, IsTrue, IfOk, IfErr, IfSome, IsErrOf, OnOk, OnErr};
 ghost use Rattle.std.specs.List.{list_any};
 ghost use Rattle.flash_format.specs.Entry.{is_nul};
-ghost use Rattle.flash_format.specs.Made.{hash_len, meta_length, pointed};
+ghost use Rattle.flash_format.specs.Made.{hash_len, pointed};
 ghost use Rattle.flash_store.specs.Bytes.{overwritten};
 ghost use Rattle.flash_store.specs.Copies as copies;
-ghost use Rattle.flash_store.specs.Device.{Calls, Reads, faults_told};
+ghost use Rattle.flash_store.specs.Device.{Reads, faults_told};
 ghost use Rattle.flash_store.specs.Pages.{HasChanged, OnHonestIn};
 ghost use Rattle.flash_store.specs.Regions.{LiesIn};
 ghost use Rattle.cbfs_edit.specs.Changes.{OnHonestChange, HasCopied};
-ghost use Rattle.cbfs_edit.specs.Additions.{added, added_to, addition_in, attribute_len, digest_of, is_bad_name, labelled, new_component, own_fault, placed_of};
+ghost use Rattle.cbfs_edit.specs.Additions.{added, added_to, addition_in, attribute_len, digest_of, is_bad_name, labelled, new_component, own_fault, placed_of, wanted_for};
 ghost use Rattle.cbfs_edit.specs.Placings.{Fits};
 ghost use Rattle.cbfs_edit.specs.Refusals.{by_device, by_source};
-ghost use Rattle.cbfs_edit.specs.Stops.{AddLeavesBefore, AddLeavesWhole, IsInsertStop};
+ghost use Rattle.cbfs_edit.specs.Stops.{AddLeavesBefore, AddLeavesWhole, IsInsertStop, written_to};
 
 use crate::empty_entry::write_empty_entry;
 use crate::fault::EditFault;
@@ -20,7 +20,7 @@ use crate::hashing::Hashing;
 use crate::insertion::describe;
 use crate::place::{Place, Spot, Wanted, find_place};
 use crate::write::copy_into;
-use flash_format::{Digest, Meta, meta_len};
+use flash_format::{Algorithm, Digest, Meta, meta_len};
 use flash_store::{CopyFault, Flash, Nobody, Paged, Region, Source};
 use sha2::{Sha256, Sha512};
 
@@ -29,9 +29,9 @@ use sha2::{Sha256, Sha512};
 pub enum HashChoice {
     /// None is stored.
     Plain,
-    /// The digest of SHA-256, in an attribute of 44 bytes.
+    /// The digest of SHA-256.
     Sha256,
-    /// The digest of SHA-512, in an attribute of 76 bytes.
+    /// The digest of SHA-512.
     Sha512,
 }
 
@@ -120,6 +120,18 @@ fn meta_of<'a>(
     }
 }
 
+/// What a place is looked for, with so many bytes of content.
+fn wanted_of(label: &Label<'_>, len: u64, spot: Spot) -> Wanted
+    requires { length label.now.name.now ≤ 127 }
+    ensures { (content : List ℕ) → len ≡ length content → result ≡ wanted_for (labelled label.now content) spot }
+{
+    Wanted {
+        header: meta_len(label.name.len(), attribute_len(label.hash)) as u64,
+        len,
+        spot,
+    }
+}
+
 /// Puts a component into a run of free cells, where it fits.
 fn insert<F: Flash, S: Source>(
     paged: &mut Paged<F>,
@@ -132,8 +144,7 @@ fn insert<F: Flash, S: Source>(
     requires region { LiesIn region (F.facts paged.old.device).content }
     requires fits { Fits wanted region.size place }
     requires name { length label.now.name.now ≤ 127 }
-    requires header { wanted.header ≡ meta_length (length label.now.name.now) (attribute_len label.now.hash) }
-    requires len { wanted.len ≡ length (S.facts source.old).content }
+    requires wanted { wanted ≡ wanted_for (labelled label.now (S.facts source.old).content) wanted.spot }
 
     ensures after { HasChanged F.facts region (region.size / 4096 + region.size / 4096 + 6) (faults_told copies.by_device result)
         paged.old paged.new }
@@ -144,10 +155,10 @@ fn insert<F: Flash, S: Source>(
     // On an honest device.
     ensures added { OnHonestChange F.facts region paged.old paged.new (λ x y. IsTrue (S.facts source.old).honest →
         OnOk result (y ≡ added x (labelled label.now (S.facts source.old).content) place)) }
-    ensures stopped { OnHonestChange F.facts region paged.old paged.new (λ x y. region.size % 64 ≡ 0 →
-        IsInsertStop x (labelled label.now (S.facts source.old).content) place
+    ensures stopped { OnHonestChange F.facts region paged.old paged.new (λ x y. OnErr result
+        (IsInsertStop place.run (written_to region.size wanted.len place)
         ((IsErrOf result CopyFault.Source → ⊥) × (IsTrue (S.facts source.old).honest →
-        y ≡ added x (labelled label.now (S.facts source.old).content) place)) y) }
+        y ≡ added x (labelled label.now (S.facts source.old).content) place)) x y)) }
 {
     paged.places_fit();
     let end = (place.content + wanted.len + 63) / 64 * 64;
@@ -197,8 +208,8 @@ fn attribute_len(hash: HashChoice) -> usize
 {
     match hash {
         HashChoice::Plain => 0,
-        HashChoice::Sha256 => 44,
-        HashChoice::Sha512 => 76,
+        HashChoice::Sha256 => 12 + Algorithm::Sha256.digest_len(),
+        HashChoice::Sha512 => 12 + Algorithm::Sha512.digest_len(),
     }
 }
 
@@ -225,16 +236,12 @@ pub fn add<F: Flash, S: Source>(
 
     // On any device, from any source.
     ensures after { HasChanged F.facts region (region.size / 16 + region.size / 2048 + 7) (faults_told by_device result) paged.old paged.new }
-    ensures source_calls { Calls (length (S.facts source.old).content / 4096 + 1) (faults_told by_source result)
+    ensures source { Reads (length (S.facts source.old).content / 4096 + 1) (faults_told by_source result)
         (S.facts source.old) (S.facts source.new) }
 
     // What the words alone refuse is refused without a call.
     ensures words { IfSome (own_fault name.now kind spot) (λ fault.
         (result ≡ Err fault) × (paged.new ≡ paged.old) × (source.new ≡ source.old)) }
-
-    // On any device, from an honest source.
-    ensures same_source { IsTrue (S.facts source.old).honest →
-        (S.facts source.new).content ≡ (S.facts source.old).content }
 
     // On an honest device, from any source.
     ensures answer { OnHonestIn F.facts paged.old.device region (λ x.
@@ -259,16 +266,12 @@ pub fn add<F: Flash, S: Source>(
     if let Some(fault) = own_fault(name, kind, spot) {
         return Err(fault);
     }
-    let wanted = Wanted {
-        header: meta_len(name.len(), attribute_len(hash)) as u64,
-        len: source.len(),
-        spot,
-    };
+    let label = Label { name, kind, hash };
+    let wanted = wanted_of(&label, source.len(), spot);
     let place = match find_place(paged, region, name, wanted) {
         Ok(place) => place,
         Err(fault) => return Err(fault),
     };
-    let label = Label { name, kind, hash };
     match insert(paged, region, wanted, place, &label, source) {
         Ok(()) => Ok(Placed {
             header: place.header,

@@ -1,12 +1,10 @@
 //! One empty entry in place of a group of cells.
-ghost use Rattle.std.specs.Prelude.{◌≡◌, ◌+◌, ◌-◌, ◌/◌, ◌%◌, ◌<◌, ◌≤◌, OnOk, OnErr, if◌then◌else◌};
-ghost use Rattle.flash_store.specs.Device.{refusals};
-ghost use Rattle.flash_store.specs.Pages.{HasChanged};
+ghost use Rattle.std.specs.Prelude.{◌≡◌, ◌+◌, ◌/◌, ◌≤◌};
 ghost use Rattle.flash_store.specs.Regions.{LiesIn};
-ghost use Rattle.cbfs_edit.specs.Changes.{OnHonestChange};
+ghost use Rattle.cbfs_edit.specs.Changes.{HasWrittenIn};
 ghost use Rattle.cbfs_edit.specs.Groups.{IsCellRange};
-ghost use Rattle.cbfs_edit.specs.Removals.{removed};
-ghost use Rattle.cbfs_edit.specs.Stops.{IsEmptyStop};
+ghost use Rattle.cbfs_edit.specs.Removals.{removed, space_end};
+ghost use Rattle.cbfs_edit.specs.Stops.{IsOldOrEmptied};
 
 use crate::group::Freed;
 use crate::write::{commit_in, fill_in};
@@ -22,32 +20,22 @@ pub fn write_empty_entry<F: Flash>(
     requires region { LiesIn region (F.facts paged.old.device).content }
     requires group { IsCellRange group region.size }
 
-    // On any device.
-    ensures after { HasChanged F.facts region (region.size / 4096 + 2) (refusals result) paged.old paged.new }
-
-    // On an honest device.
-    ensures removed { OnHonestChange F.facts region paged.old paged.new (λ x y. OnOk result (y ≡ removed x group)) }
-    ensures stopped { OnHonestChange F.facts region paged.old paged.new (λ x y.
-        region.size % 64 ≡ 0 → IsEmptyStop x group y) }
+    ensures { HasWrittenIn F.facts region (region.size / 4096 + 2) (λ x. removed x group)
+        (IsOldOrEmptied group (space_end region.size group.end)) paged.old paged.new result }
 {
     paged.places_fit();
     let kept = group.end == region.size();
     let header = empty_header((group.end - group.start) as u32, kept);
     commit_in(paged, region, group.start, &header)?;
     let space = group.start + HEADER_LENGTH as u64;
-    fill_in(
-        paged,
-        region,
-        space,
-        space_end(group.end, kept) - space,
-        0xff,
-    )
+    let len = space_end(region, group.end) - space;
+    fill_in(paged, region, space, len, 0xff)
 }
 
-/// Where the space of free cells that end here ends: before the region's last four bytes, where those are kept.
-pub fn space_end(end: u64, kept: bool) -> u64
+/// Where the space of free cells that end here ends: before the region's last four bytes, which are kept.
+pub fn space_end(region: Region, end: u64) -> u64
     requires { 64 ≤ end }
-    ensures { result ≡ (if kept then end - 4 else end) }
+    ensures { result ≡ space_end region.size end }
 {
-    if kept { end - 4 } else { end }
+    if end == region.size() { end - 4 } else { end }
 }

@@ -7,7 +7,7 @@ ghost use Rattle.cbfs_walk.specs.Cells.{IsCellIn, cell_in};
 ghost use Rattle.cbfs_walk.specs.Walks.{StandsIn};
 ghost use Rattle.cbfs_edit.specs.Groups.{IsCellRange};
 ghost use Rattle.cbfs_edit.specs.Refusals.{by_device};
-ghost use Rattle.cbfs_edit.specs.Searches.{HasFound, passed, group_in, IsBefore};
+ghost use Rattle.cbfs_edit.specs.Searches.{passed, group_in, IsBefore};
 ghost use Rattle.cbfs_edit.specs.Removals.{removal_in};
 
 use crate::fault::{EditFault, refusal_of};
@@ -78,7 +78,6 @@ fn pass<F: Flash>(
     requires before { IsBefore cell.now.at search }
 
     ensures after { HasAnswered F.facts 1 paged.old paged.new result }
-    ensures no_call { HasFound search → paged.new ≡ paged.old }
     ensures before { IfOk result (IsBefore (cell.now.at + cell.now.span)) }
     ensures passed { OnHonestIn F.facts paged.old.device region (λ x. StandsIn x cell.now →
         IfOk result (λ next. next ≡ passed name.now search cell.now.at (cell_in x cell.now))) }

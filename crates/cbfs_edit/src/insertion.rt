@@ -2,13 +2,11 @@
 //!
 //! The header of an empty entry over the whole run is committed first, and what shows the component last, so that whatever is
 //! written between the two commits is free space.
-ghost use Rattle.std.specs.Prelude.{◌≡◌, ◌⊎◌, ◌+◌, ◌-◌, ◌%◌, ◌^◌, ◌<◌, ◌≤◌, length, OnOk, OnErr};
+ghost use Rattle.std.specs.Prelude.{◌≡◌, ◌⊎◌, ◌-◌, ◌%◌, ◌^◌, ◌<◌, ◌≤◌, length};
 ghost use Rattle.flash_format.specs.Head.{header_length};
 ghost use Rattle.flash_format.specs.Made.{described, described_len};
-ghost use Rattle.flash_store.specs.Device.{refusals};
-ghost use Rattle.flash_store.specs.Pages.{HasChanged};
 ghost use Rattle.flash_store.specs.Regions.{LiesIn};
-ghost use Rattle.cbfs_edit.specs.Changes.{OnHonestChange};
+ghost use Rattle.cbfs_edit.specs.Changes.{HasWrittenIn};
 ghost use Rattle.cbfs_edit.specs.Insertions.{HasRoom, IsUnfinished, bounded, finished, with_metadata, held_back, shown_by};
 
 use crate::place::Place;
@@ -38,12 +36,8 @@ fn write_metadata<F: Flash>(
     requires region { LiesIn region (F.facts paged.old.device).content }
     requires room { HasRoom region.size place end (length metadata.now) }
 
-    ensures after { HasChanged F.facts region 1 (refusals result) paged.old paged.new }
-
-    // On an honest device.
-    ensures written { OnHonestChange F.facts region paged.old paged.new (λ x y.
-        OnOk result (y ≡ with_metadata x place metadata.now)) }
-    ensures torn { OnHonestChange F.facts region paged.old paged.new (IsUnfinished place) }
+    ensures { HasWrittenIn F.facts region 1 (λ x. with_metadata x place metadata.now)
+        (IsUnfinished place) paged.old paged.new result }
 {
     let skip = held_back(place);
     write_in(paged, region, place.header + skip as u64, &metadata[skip..])
@@ -59,12 +53,8 @@ fn write_bound<F: Flash>(
     requires region { LiesIn region (F.facts paged.old.device).content }
     requires room { HasRoom region.size place end (place.content - place.header) }
 
-    ensures after { HasChanged F.facts region 1 (refusals result) paged.old paged.new }
-
-    // On an honest device.
-    ensures written { OnHonestChange F.facts region paged.old paged.new (λ x y.
-        OnOk result (y ≡ bounded x end place.run.end)) }
-    ensures torn { OnHonestChange F.facts region paged.old paged.new (IsUnfinished place) }
+    ensures { HasWrittenIn F.facts region 1 (λ x. bounded x end place.run.end)
+        (IsUnfinished place) paged.old paged.new result }
 {
     if end == place.run.end {
         return Ok(());
@@ -103,13 +93,8 @@ fn show<F: Flash>(
     requires region { LiesIn region (F.facts paged.old.device).content }
     requires room { HasRoom region.size place end (length metadata.now) }
 
-    ensures after { HasChanged F.facts region 3 (refusals result) paged.old paged.new }
-
-    // On an honest device.
-    ensures shown { OnHonestChange F.facts region paged.old paged.new (λ x y.
-        OnOk result (y ≡ finished x place end metadata.now)) }
-    ensures stopped { OnHonestChange F.facts region paged.old paged.new (λ x y.
-        (y ≡ finished x place end metadata.now) ⊎ IsUnfinished place x y) }
+    ensures { HasWrittenIn F.facts region 3 (λ x. finished x place end metadata.now)
+        (λ x y. (y ≡ finished x place end metadata.now) ⊎ IsUnfinished place x y) paged.old paged.new result }
 {
     write_metadata(paged, region, place, end, metadata)?;
     write_bound(paged, region, place, end)?;
@@ -130,14 +115,9 @@ pub fn describe<F: Flash>(
     requires name { length meta.now.name.now ≤ 127 }
     requires gap { meta.now.gap < 64 }
 
-    ensures after { HasChanged F.facts region 3 (refusals result) paged.old paged.new }
     ensures metadata { length (described meta.now) ≡ described_len meta.now }
-
-    // On an honest device.
-    ensures shown { OnHonestChange F.facts region paged.old paged.new (λ x y.
-        OnOk result (y ≡ finished x place end (described meta.now))) }
-    ensures stopped { OnHonestChange F.facts region paged.old paged.new (λ x y.
-        (y ≡ finished x place end (described meta.now)) ⊎ IsUnfinished place x y) }
+    ensures after { HasWrittenIn F.facts region 3 (λ x. finished x place end (described meta.now))
+        (λ x y. (y ≡ finished x place end (described meta.now)) ⊎ IsUnfinished place x y) paged.old paged.new result }
 {
     let mut metadata = [0; LONGEST_METADATA];
     let n = write_meta(meta, &mut metadata);

@@ -1,5 +1,5 @@
 //! The search for the place of a new component.
-ghost use Rattle.std.specs.Prelude.{◌≡◌, ◌≢◌, ◌⊎◌, ◌+◌, ◌/◌, ◌^◌, ◌<◌, ◌≤◌, MatchOption, IfOk, IfErr, IfSome, IsErrOf};
+ghost use Rattle.std.specs.Prelude.{◌≡◌, ◌≢◌, ◌⊎◌, ◌+◌, ◌/◌, ◌^◌, ◌<◌, ◌≤◌, IfOk, IfErr, IfSome, IsErrOf};
 ghost use Rattle.flash_store.specs.Device.{faults_told};
 ghost use Rattle.flash_store.specs.Pages.{HasRead, HasAnswered, OnHonestIn};
 ghost use Rattle.flash_store.specs.Regions.{LiesIn};
@@ -7,7 +7,7 @@ ghost use Rattle.cbfs_walk.specs.Cells.{IsCellIn, cell_in};
 ghost use Rattle.cbfs_walk.specs.Walks.{StandsIn};
 ghost use Rattle.cbfs_edit.specs.Groups.{IsCellRange};
 ghost use Rattle.cbfs_edit.specs.Refusals.{by_device};
-ghost use Rattle.cbfs_edit.specs.Places.{IsWanted, IsLeast, HasNoRoom, limit_of, least_from, least_in, place_in, placing_in};
+ghost use Rattle.cbfs_edit.specs.Places.{IsWanted, limit_of, least_from, least_in, place_in, placing_in};
 ghost use Rattle.cbfs_edit.specs.Placings.{closed, surveyed, answer_of, Fits, IsSurvey};
 
 use crate::empty_entry::space_end;
@@ -104,7 +104,6 @@ fn pass<F: Flash>(
 ) -> Result<Survey, FlashFault>
     requires region { LiesIn region (F.facts paged.old.device).content }
     requires cell { IsCellIn region.size cell.now }
-    requires wanted { IsWanted wanted }
     requires before { IsSurvey wanted region.size cell.now.at survey }
 
     ensures after { HasAnswered F.facts 1 paged.old paged.new result }
@@ -136,9 +135,7 @@ fn pass<F: Flash>(
 
 /// What the search has found where the cells end.
 fn answer_of(wanted: Wanted, region: Region, survey: Survey) -> Result<Place, EditFault>
-    requires wanted { IsWanted wanted }
-    requires survey { IsSurvey wanted region.size survey.row.end survey }
-    requires small { region.size < 2 ^ 32 }
+    requires { IsSurvey wanted region.size survey.row.end survey }
 
     ensures is { result ≡ answer_of wanted region.size survey }
     ensures fits { IfOk result (Fits wanted region.size) }
@@ -156,9 +153,7 @@ fn answer_of(wanted: Wanted, region: Region, survey: Survey) -> Result<Place, Ed
 
 /// The first place so far, where the row of free cells ends, which may be empty.
 fn close(wanted: Wanted, region: Region, survey: Survey) -> Option<Place>
-    requires wanted { IsWanted wanted }
-    requires survey { IsSurvey wanted region.size survey.row.end survey }
-    requires small { region.size < 2 ^ 32 }
+    requires { IsSurvey wanted region.size survey.row.end survey }
 
     ensures is { result ≡ closed wanted region.size survey }
     ensures fits { IfSome result (Fits wanted region.size) }
@@ -166,10 +161,10 @@ fn close(wanted: Wanted, region: Region, survey: Survey) -> Option<Place>
     match survey.place {
         Some(place) => Some(place),
         None => {
-            if survey.row.start == survey.row.end {
-                return None;
+            if survey.row.start < survey.row.end {
+                return place_in(wanted, region, survey.row);
             }
-            place_in(wanted, region, survey.row)
+            None
         }
     }
 }
@@ -199,8 +194,7 @@ fn least_in(wanted: Wanted, region: Region, run: Freed) -> Option<u64>
     requires run { IsCellRange run region.size }
     requires small { region.size < 2 ^ 32 }
 
-    ensures is { result ≡ least_in wanted region.size run }
-    ensures least { MatchOption result (HasNoRoom wanted region.size run) (IsLeast wanted region.size run) }
+    ensures { result ≡ least_in wanted region.size run }
 {
     let from = run.start + wanted.header;
     let content = least_from(wanted.spot, from);
@@ -234,8 +228,8 @@ fn limit_of(spot: Spot, region: Region, end: u64) -> u64
     ensures { result ≡ limit_of spot region.size end }
 {
     match spot {
-        Spot::First => space_end(end, end == region.size()),
-        Spot::Aligned(_) => space_end(end, end == region.size()),
+        Spot::First => space_end(region, end),
+        Spot::Aligned(_) => space_end(region, end),
         Spot::Fixed(_) => end,
     }
 }

@@ -2,10 +2,8 @@
 ghost use Rattle.std.specs.Prelude.{◌≡◌, ◌⊎◌, ℕ, List, ◌++◌, ◌+◌, ◌/◌, ◌<◌, ◌≤◌, length, IsTrue, OnOk, OnErr, replicate};
 ghost use Rattle.flash_format.specs.Head.{header_length};
 ghost use Rattle.flash_store.specs.Bytes.{overwritten, SameOutside};
-ghost use Rattle.flash_store.specs.Device.{refusals};
-ghost use Rattle.flash_store.specs.Pages.{HasChanged};
 ghost use Rattle.flash_store.specs.Regions.{LiesIn};
-ghost use Rattle.cbfs_edit.specs.Changes.{OnHonestChange, HasCopied};
+ghost use Rattle.cbfs_edit.specs.Changes.{HasCopied, HasWrittenIn};
 
 use flash_format::HEADER_LENGTH;
 use flash_store::{CopyFault, Flash, FlashFault, MemSource, Nobody, Paged, Region, Source, Watch};
@@ -20,13 +18,8 @@ pub fn commit_in<F: Flash>(
     requires region { LiesIn region (F.facts paged.old.device).content }
     requires inside { at + header_length ≤ region.size }
 
-    ensures after { HasChanged F.facts region 1 (refusals result) paged.old paged.new }
-
-    // On an honest device.
-    ensures written { OnHonestChange F.facts region paged.old paged.new (λ x y.
-        OnOk result (y ≡ overwritten x at bytes.now)) }
-    ensures whole { OnHonestChange F.facts region paged.old paged.new (λ x y.
-        (y ≡ x) ⊎ (y ≡ overwritten x at bytes.now)) }
+    ensures { HasWrittenIn F.facts region 1 (λ x. overwritten x at bytes.now)
+        (λ x y. (y ≡ x) ⊎ (y ≡ overwritten x at bytes.now)) paged.old paged.new result }
 {
     paged.places_fit();
     paged.commit(region.start() + at, bytes)
@@ -43,12 +36,8 @@ pub fn fill_in<F: Flash>(
     requires region { LiesIn region (F.facts paged.old.device).content }
     requires inside { at + n ≤ region.size }
 
-    ensures after { HasChanged F.facts region ((n + 4095) / 4096) (refusals result) paged.old paged.new }
-
-    // On an honest device.
-    ensures filled { OnHonestChange F.facts region paged.old paged.new (λ x y.
-        OnOk result (y ≡ overwritten x at (replicate n byte))) }
-    ensures torn { OnHonestChange F.facts region paged.old paged.new (SameOutside at n) }
+    ensures { HasWrittenIn F.facts region ((n + 4095) / 4096) (λ x. overwritten x at (replicate n byte))
+        (SameOutside at n) paged.old paged.new result }
 {
     paged.places_fit();
     paged.fill(region.start() + at, n, byte)
@@ -87,12 +76,8 @@ pub fn write_in<F: Flash>(
     requires inside { at + length bytes.now ≤ region.size }
     requires short { length bytes.now ≤ 4096 }
 
-    ensures after { HasChanged F.facts region 1 (refusals result) paged.old paged.new }
-
-    // On an honest device.
-    ensures written { OnHonestChange F.facts region paged.old paged.new (λ x y.
-        OnOk result (y ≡ overwritten x at bytes.now)) }
-    ensures torn { OnHonestChange F.facts region paged.old paged.new (SameOutside at (length bytes.now)) }
+    ensures { HasWrittenIn F.facts region 1 (λ x. overwritten x at bytes.now)
+        (SameOutside at (length bytes.now)) paged.old paged.new result }
 {
     let mut source = MemSource::new(bytes);
     match copy_into(paged, region, at, &mut source, &mut Nobody) {

@@ -1,8 +1,9 @@
 //! Edits of a file that moves few bytes a call, is interrupted, and refuses from a call on.
-use crate::tests::{
-    BETWEEN, Deed, Edit, FRESH, MAGIC_20, NEW_A, ONCE, TWICE, WITH_A, WITH_B_LATER, b, bytes_with,
-    edit_of, equal, fault_of, has_finished,
+use crate::additions::{NEW_A, b};
+use crate::bytes::{
+    BETWEEN, FRESH, MAGIC_20, ONCE, TWICE, WITH_A, WITH_B_LATER, bytes_with, equal,
 };
+use crate::stops::{Deed, Edit, edit_of, fault_of, has_finished};
 use cbfs_edit::{EditFault, Spot};
 use flash_store::{Ahead, Erased, FlakyFile, MemFlash, Paged, StoredFlash};
 use std::process::Abort;

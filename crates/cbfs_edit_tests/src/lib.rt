@@ -2,8 +2,16 @@
 #![tactic(auto)]
 
 #[cfg(test)]
+mod additions;
+#[cfg(test)]
+mod bytes;
+#[cfg(test)]
 mod files;
+#[cfg(test)]
+mod formats;
 #[cfg(test)]
 mod lists;
 #[cfg(test)]
-mod tests;
+mod removals;
+#[cfg(test)]
+mod stops;

@@ -1,10 +1,11 @@
 //! Lists of edits, on a device in memory and on one that refuses a single call.
 ghost use Rattle.std.specs.Prelude.{◌≡◌, ◌+◌, true, false, IsTrue};
 
-use crate::tests::{
-    A, Deed, EMPTY_512, FRESH, LAST_384, MAGIC_20, Parts, b, device_with, equal, fault_of, holds,
-    leaves, part_of, source_of,
+use crate::additions::{b, source_of};
+use crate::bytes::{
+    A, EMPTY_512, FRESH, LAST_384, MAGIC_20, Parts, device_with, equal, holds, part_of,
 };
+use crate::stops::{Deed, fault_of, leaves};
 use cbfs_edit::{Edit, EditFault, Freed, HashChoice, Placed, Reply, Spot, apply_all};
 use flash_format::HEADER_LENGTH;
 use flash_store::{Counter, Flash, FlashFault, MemFlash, MemSource, Paged};

@@ -46,12 +46,12 @@ unfolding clap_on_literals
 an_empty_name = refl
 
 an_addition : asked_by (codes "img" ∷ codes "add" ∷ codes "-n" ∷ codes "a" ∷ codes "-f" ∷ codes "x" ∷ codes "-t" ∷ codes "0x50" ∷ codes "-a" ∷ codes "0x40" ∷ codes "-A" ∷ codes "sha256" ∷ [])
-    ≡ Some (Ok (add (record { region = codes "COREBOOT"; name = codes "a"; kind = 0x50; hash = Sha256; spot = Aligned 64 })))
+    ≡ Some (Ok (add (codes "COREBOOT") (codes "a") 0x50 Sha256 (Aligned 64)))
 unfolding clap_on_literals number_of type_of_text
 an_addition = refl
 
 an_addition_at_a_place : asked_by (codes "img" ∷ codes "add" ∷ codes "-n" ∷ codes "a" ∷ codes "-f" ∷ codes "x" ∷ codes "-t" ∷ codes "raw" ∷ codes "-b" ∷ codes "0" ∷ codes "-r" ∷ codes "B" ∷ [])
-    ≡ Some (Ok (add (record { region = codes "B"; name = codes "a"; kind = 0x50; hash = Plain; spot = Fixed 0 })))
+    ≡ Some (Ok (add (codes "B") (codes "a") 0x50 Plain (Fixed 0)))
 unfolding clap_on_literals number_of type_of_text
 an_addition_at_a_place = refl
 

@@ -1,6 +1,6 @@
 -- The command line as clap's definitions have it: a subcommand that has to be there, and its options; and the line
 -- that words make by it.
-use Rattle.std.specs.Prelude.{ℕ, Bool, true, false, List, [], ◌∷◌, length, ◌==◌, ◌&&◌, ◌||◌, nat_lt, Option, Some, None, Result, Ok, Err, option_map, unwrap_or, is_some, if◌then◌else◌}
+use Rattle.std.specs.Prelude.{ℕ, Bool, true, false, List, [], ◌∷◌, length, ◌==◌, ◌||◌, nat_lt, Option, Some, None, Result, Ok, Err, option_map, unwrap_or, if◌then◌else◌}
 use Rattle.std.specs.Borrow.{Bor}
 use Rattle.std.specs.List.{list_any, slice_split}
 use Rattle.std.specs.Str.{bytes_eq}
@@ -32,49 +32,32 @@ rule_of id letter action required = record (new_rule id) { short = Some letter; 
 abbrev pub option_of : List ℕ → ℕ → Bool → Rule
 option_of id letter required = rule_of id letter Set required
 
--- one without
-abbrev pub verbose_option : Rule
-verbose_option = rule_of (codes "verbose") 118 SetTrue false
-
 abbrev pub region_option : Rule
 region_option = option_of (codes "region") 114 false
 
 abbrev pub file_option : Rule
 file_option = option_of (codes "file") 102 true
 
--- the flashmap of a new image, also a file of the line
-abbrev pub map_option : Rule
-map_option = option_of (codes "file") 77 true
-
 abbrev pub name_option : Rule
 name_option = option_of (codes "name") 110 true
-
-abbrev pub type_option : Rule
-type_option = option_of (codes "type") 116 true
-
-abbrev pub alignment_option : Rule
-alignment_option = option_of (codes "alignment") 97 false
-
-abbrev pub base_option : Rule
-base_option = option_of (codes "base") 98 false
-
-abbrev pub hash_option : Rule
-hash_option = option_of (codes "hash") 65 false
 
 -- a subcommand of a name with these options
 abbrev pub subcommand_of : List ℕ → List Rule → Shape
 subcommand_of name options = record (new_shape name) { rules = options }
 
+-- `-v` has no value, and `-M` of create is a file too
 abbrev pub subcommands : List Shape
 subcommands =
-    subcommand_of (codes "print") (region_option ∷ verbose_option ∷ [])
+    subcommand_of (codes "print") (region_option ∷ rule_of (codes "verbose") 118 SetTrue false ∷ [])
     ∷ subcommand_of (codes "layout") []
     ∷ subcommand_of (codes "extract") (region_option ∷ file_option ∷ name_option ∷ [])
-    ∷ subcommand_of (codes "add") (region_option ∷ name_option ∷ file_option ∷ type_option ∷ alignment_option ∷ base_option ∷ hash_option ∷ [])
+    ∷ subcommand_of (codes "add")
+    (region_option ∷ name_option ∷ file_option ∷ option_of (codes "type") 116 true ∷ option_of (codes "alignment") 97 false
+    ∷ option_of (codes "base") 98 false ∷ option_of (codes "hash") 65 false ∷ [])
     ∷ subcommand_of (codes "remove") (region_option ∷ name_option ∷ [])
     ∷ subcommand_of (codes "read") (region_option ∷ file_option ∷ [])
     ∷ subcommand_of (codes "write") (region_option ∷ file_option ∷ [])
-    ∷ subcommand_of (codes "create") (map_option ∷ region_option ∷ [])
+    ∷ subcommand_of (codes "create") (option_of (codes "file") 77 true ∷ region_option ∷ [])
     ∷ []
 
 -- the words after IMAGE
@@ -118,9 +101,6 @@ abbrev pub given : Option (List ℕ) → Result Request Refusal → Result Reque
 given None r = Err refusals.Usage
 given (Some text) r = r
 
-abbrev pub extraction : List ℕ → Option (List ℕ) → Option (List ℕ) → Result Request Refusal
-extraction region name file = if is_some name && is_some file then Ok (requests.extract region (unwrap_or name [])) else Err refusals.Usage
-
 -- the type that a text names, or whose number it is
 abbrev pub kind_by : Option (List ℕ) → Option ℕ
 kind_by None = None
@@ -133,29 +113,17 @@ spot_by (Some alignment) None = option_map Aligned (number_of alignment)
 spot_by None (Some base) = option_map Fixed (number_of base)
 spot_by (Some alignment) (Some base) = None
 
--- the digest that a text names
-abbrev pub hash_named : List ℕ → Option HashChoice
-hash_named text =
+-- the digest that a text names; none is stored without `-A`
+abbrev pub hash_by : Option (List ℕ) → Option HashChoice
+hash_by None = Some Plain
+hash_by (Some text) =
     if bytes_eq text (codes "sha256") then Some Sha256
     else (if bytes_eq text (codes "sha512") then Some Sha512 else None)
 
--- none is stored without `-A`
-abbrev pub hash_by : Option (List ℕ) → Option HashChoice
-hash_by None = Some Plain
-hash_by (Some text) = hash_named text
-
-abbrev pub addition_by : List ℕ → List ℕ → Option ℕ → Option HashChoice → Option Spot → Result Request Refusal
-addition_by region name (Some kind) (Some hash) (Some spot) = Ok (requests.add (record { region = region; name = name; kind = kind; hash = hash; spot = spot }))
-addition_by region name _ _ _ = Err refusals.Usage
-
--- a new component, where its name and its file are there
+-- a new component, where its name and its file are there, and what else is asked of it can be read
 abbrev pub addition : List ℕ → Option (List ℕ) → Option (List ℕ) → Option ℕ → Option HashChoice → Option Spot → Result Request Refusal
-addition region (Some name) (Some file) kind hash spot = addition_by region name kind hash spot
-addition region _ _ kind hash spot = Err refusals.Usage
-
-abbrev pub removal : List ℕ → Option (List ℕ) → Result Request Refusal
-removal region None = Err refusals.Usage
-removal region (Some name) = Ok (requests.remove region name)
+addition region (Some name) (Some file) (Some kind) (Some hash) (Some spot) = Ok (requests.add region name kind hash spot)
+addition region _ _ _ _ _ = Err refusals.Usage
 
 -- the names of a list, which stand between its commas
 abbrev pub names_in : List ℕ → List (List ℕ)
@@ -166,22 +134,20 @@ abbrev pub names_of : Option (Bor (List ℕ)) → List (List ℕ)
 names_of None = []
 names_of (Some list) = names_in list.now
 
-abbrev pub is_empty : List ℕ → Bool
-is_empty name = length name == 0
-
 -- a new image with regions of these names: at most 16, none of them empty
 abbrev pub creation_of : List (List ℕ) → Result Request Refusal
-creation_of names = if nat_lt 16 (length names) || list_any is_empty names then Err refusals.Usage else Ok (requests.create names)
+creation_of names = if nat_lt 16 (length names) || list_any (λ name. length name == 0) names then Err refusals.Usage else Ok (requests.create names)
 
 -- the command that the texts ask for
 abbrev pub command_of : Texts → Result Request Refusal
 command_of t =
     if bytes_eq t.subcommand (codes "print") then Ok (requests.print (region_named t) (verbose_by (text_of (codes "verbose") t)))
     else (if bytes_eq t.subcommand (codes "layout") then Ok requests.layout
-    else (if bytes_eq t.subcommand (codes "extract") then extraction (region_named t) (text_of (codes "name") t) (text_of (codes "file") t)
+    else (if bytes_eq t.subcommand (codes "extract") then
+    given (text_of (codes "file") t) (given (text_of (codes "name") t) (Ok (requests.extract (region_named t) (unwrap_or (text_of (codes "name") t) []))))
     else (if bytes_eq t.subcommand (codes "add") then
     addition (region_named t) (text_of (codes "name") t) (text_of (codes "file") t) (kind_by (text_of (codes "type") t)) (hash_by (text_of (codes "hash") t)) (spot_by (text_of (codes "alignment") t) (text_of (codes "base") t))
-    else (if bytes_eq t.subcommand (codes "remove") then removal (region_named t) (text_of (codes "name") t)
+    else (if bytes_eq t.subcommand (codes "remove") then given (text_of (codes "name") t) (Ok (requests.remove (region_named t) (unwrap_or (text_of (codes "name") t) [])))
     else (if bytes_eq t.subcommand (codes "read") then given (text_of (codes "file") t) (Ok (requests.read (region_named t)))
     else (if bytes_eq t.subcommand (codes "write") then given (text_of (codes "file") t) (Ok (requests.write (region_named t)))
     else (if bytes_eq t.subcommand (codes "create") then given (text_of (codes "file") t) (creation_of (names_in (region_named t)))

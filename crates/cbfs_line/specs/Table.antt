@@ -1,9 +1,16 @@
 -- What clap's command is with the options and the subcommands of a table.
-use Rattle.std.specs.Prelude.{ℕ, List, [], ◌∷◌}
+use Rattle.std.specs.Prelude.{◌≡◌, ℕ, List, [], ◌∷◌, false}
 use Rattle.std.specs.Borrow.{Bor}
-use Rattle.clap.specs.Words.{App, Rule, new_app, with_rule, with_subcommand}
+use Rattle.clap.specs.Words.{App, Rule, app_of, new_app, with_rule, with_subcommand}
+use Rattle.clap.specs.declared.builder.command.Command.{Command}
+use Rattle.clap.specs.declared.builder.command.Command.TheViews.{out-Command as fields_of}
 use Rattle.cbfs_line.specs.CommandLine.{rule_of}
 use Rattle.cbfs_line.specs.declared.words.TableOption.{TableOption}
+
+-- clap's definitions have the command as this one, and it has no global option
+pub record IsLocal (command : Command) (app : App) : Type 0 where
+  pub local : (fields_of command).has_globals ≡ false
+  pub shape : app_of command ≡ app
 
 abbrev pub rule_by : TableOption → Rule
 rule_by o = rule_of o.id.now o.letter o.action o.required

@@ -4,7 +4,7 @@ ghost use Rattle.std.specs.Prelude.{◌≡◌, IfOk, true, false};
 ghost use Rattle.clap.specs.Words.{app_of, with_rule};
 ghost use Rattle.clap.specs.declared.builder.command.Command.TheViews.{out-Command as fields_of};
 ghost use Rattle.cbfs_line.specs.CommandLine.{command_line};
-ghost use Rattle.cbfs_line.specs.Table.{rule_by, with_options, with_row, with_rows};
+ghost use Rattle.cbfs_line.specs.Table.{IsLocal, rule_by, with_options, with_row, with_rows};
 
 use clap::{Arg, ArgAction, Command};
 use std::alloc::{AllocError, Global};
@@ -102,9 +102,8 @@ fn with_option<'a>(
     command: Command<'a>,
     option: TableOption,
 ) -> Result<Command<'a>, AllocError>
-    requires local { (fields_of command).has_globals ≡ false }
-    ensures local { IfOk result (λ c. (fields_of c).has_globals ≡ false) }
-    ensures shape { IfOk result (λ c. app_of c ≡ with_rule (app_of command.entry) (rule_by option)) }
+    requires { (fields_of command).has_globals ≡ false }
+    ensures { IfOk result (λ c. IsLocal c (with_rule (app_of command.entry) (rule_by option))) }
 {
     let arg = Arg::new(alloc, option.id).short(option.letter);
     command.arg(arg.action(option.action).required(option.required))
@@ -116,9 +115,8 @@ fn with_options<'a>(
     mut command: Command<'a>,
     mut options: &[TableOption],
 ) -> Result<Command<'a>, AllocError>
-    requires local { (fields_of command).has_globals ≡ false }
-    ensures local { IfOk result (λ c. (fields_of c).has_globals ≡ false) }
-    ensures shape { IfOk result (λ c. app_of c ≡ with_options (app_of command.entry) options.entry.now) }
+    requires { (fields_of command).has_globals ≡ false }
+    ensures { IfOk result (λ c. IsLocal c (with_options (app_of command.entry) options.entry.now)) }
 {
     while let [option, rest @ ..] = options {
         command = with_option(alloc, command, *option)?;
@@ -133,9 +131,8 @@ fn with_row<'a>(
     command: Command<'a>,
     row: TableRow,
 ) -> Result<Command<'a>, AllocError>
-    requires local { (fields_of command).has_globals ≡ false }
-    ensures local { IfOk result (λ c. (fields_of c).has_globals ≡ false) }
-    ensures shape { IfOk result (λ c. app_of c ≡ with_row (app_of command.entry) row.entry) }
+    requires { (fields_of command).has_globals ≡ false }
+    ensures { IfOk result (λ c. IsLocal c (with_row (app_of command.entry) row.entry)) }
 {
     let subcommand = with_options(alloc, Command::new(alloc, row.0), row.1)?;
     command.subcommand(subcommand)
@@ -147,9 +144,8 @@ fn with_rows<'a>(
     mut command: Command<'a>,
     mut rows: &[TableRow],
 ) -> Result<Command<'a>, AllocError>
-    requires local { (fields_of command).has_globals ≡ false }
-    ensures local { IfOk result (λ c. (fields_of c).has_globals ≡ false) }
-    ensures shape { IfOk result (λ c. app_of c ≡ with_rows (app_of command.entry) rows.entry.now) }
+    requires { (fields_of command).has_globals ≡ false }
+    ensures { IfOk result (λ c. IsLocal c (with_rows (app_of command.entry) rows.entry.now)) }
 {
     while let [row, rest @ ..] = rows {
         command = with_row(alloc, command, *row)?;
@@ -160,9 +156,8 @@ fn with_rows<'a>(
 
 /// The words after IMAGE: a subcommand, which has to be there, and its options.
 pub fn whole_command<'a>(alloc: Global) -> Result<Command<'a>, AllocError>
-    ensures local { IfOk result (λ c. (fields_of c).has_globals ≡ false) }
     ensures needs { IfOk result (λ c. (fields_of c).subcommand_required ≡ true) }
-    ensures shape { IfOk result (λ c. app_of c ≡ command_line) }
+    ensures shape { IfOk result (λ c. IsLocal c command_line) }
 {
     let command = Command::new(alloc, "cbfstool").no_binary_name(true);
     with_rows(alloc, command.subcommand_required(true), &SUBCOMMANDS)

@@ -1,11 +1,28 @@
 -- What a walk answers at a place, by what stands there.
-use Rattle.std.proofs.Common.{◌≡◌, ℕ, ◌%◌, ◌<◌, Some, Bool, true, false, ◌&&◌, List, length, drop, Ok, Err, refl, sym, ap, ◌∙◌, arith, eqb, length-drop, true≢false}
-use Rattle.std.proofs.lemmas.Bool.{eqb-true, ne_eqb}
+use Rattle.std.proofs.Common.{◌≡◌, ℕ, ◌+◌, ◌-◌, ◌%◌, ◌<◌, ◌≤◌, Some, Bool, true, false, cond, not, ◌&&◌, ◌⊎◌, inl, inr, List, length, drop, Ok, Err, refl, sym, ap, ◌∙◌, arith, eqb, length-drop, true≢false, le_refl}
+use Rattle.std.specs.Prelude.{is_some, IfOk, IsErrOf}
+use Rattle.std.proofs.lemmas.Bool.{eqb-true, ne_eqb, and_right}
 use Rattle.std.proofs.lemmas.Grind.{common_steps}
-use Rattle.flash_format.specs.Entry.{Entry, absent, entry}
-use Rattle.flash_store.specs.Device.{faults_told}
+use Rattle.flash_format.specs.declared.head.Head.{Head}
+use Rattle.flash_format.specs.declared.head.Extent.{Extent}
+use Rattle.flash_format.specs.declared.head.DamageKind.{DamageKind}
+use Rattle.flash_format.specs.declared.head.DamageKind.TheVariants as kinds
+use Rattle.flash_format.specs.Head.{head_of, is_free, checked}
+use Rattle.flash_format.specs.Attributes.{attributes}
+use Rattle.flash_format.specs.Entry.{Entry, absent, damaged, cell, entry, front, present, component, has_name, name_field, attribute_field}
+use Rattle.flash_format.proofs.CutSteps.{front_some}
+use Rattle.flash_format.proofs.EntryLaws.{present_by}
+use Rattle.flash_store.specs.Device.{Device, faults_told}
+use Rattle.flash_store.specs.Pages.{Pages, HasRead}
+use Rattle.flash_store.specs.Regions.{Range}
+use Rattle.flash_store.proofs.WindowLemmas.{HasRead-within}
+use Rattle.cbfs_walk.specs.declared.cell.Cell.{Cell}
+use Rattle.cbfs_walk.specs.Cells.{PassesChecks, content_start}
+use Rattle.cbfs_walk.specs.Passing.{Passes, reads_over}
+use Rattle.cbfs_walk.proofs.Checks.{checks_give, entry_present}
+use Rattle.cbfs_walk.proofs.Reading.{Passes-then}
 use Rattle.cbfs_walk.specs.Shapes.{has_bad_size, is_absent}
-use Rattle.cbfs_walk.specs.Walks.{Answer, Walking, EndsWalk, by_device, GivesCell, moved, answer_by, answer_at}
+use Rattle.cbfs_walk.specs.Walks.{Answer, Walking, EndsWalk, by_device, GivesCell, moved, answer_by, answer_of, answer_at, reads_at}
 use Rattle.cbfs_walk.specs.declared.walk.Step.TheVariants as steps
 use Rattle.cbfs_walk.specs.declared.walk.WalkFault.TheVariants as faults
 
@@ -46,6 +63,59 @@ unfolding answer_at
 answer_absent x at size len good is first =
     let here : (eqb at 0 && is_absent (entry x)) ≡ true = first_entry x at absent is ∙ ap (λ n. eqb n 0 && true) first in
     rw (len, ← good, here) refl
+
+-- ---- where a head passes its checks
+
+cell_given : (x : List ℕ) (c : Cell) → c.head ≡ head_of x → Ok (steps.Cell c) ≡ answer_by x c.at (cell c.span)
+cell_given x c head = ap (λ (h : Head). Ok (steps.Cell (record { at = c.at; head = h; span = c.span }))) head
+
+pub answer_free : (x : List ℕ) (c : Cell) → c.head ≡ head_of x → true ≡ is_free c.head → Ok (steps.Cell c) ≡ answer_of x c
+answer_free x c head free = cell_given x c head ∙ ap (answer_by x c.at) (sym (present_by true c.head x (record { content = c.head.offset; span = c.span }) (sym free)))
+
+pub answer_damaged : (x : List ℕ) (c : Cell) (kind : DamageKind) → false ≡ is_free c.head → ((span : ℕ) → damaged kind ≡ component c.head x span) → Err (faults.Damaged c.at kind) ≡ answer_of x c
+answer_damaged x c kind used told = ap (answer_by x c.at) (told c.span ∙ sym (present_by false c.head x (record { content = c.head.offset; span = c.span }) (sym used)))
+
+pub answer_whole : (x : List ℕ) (c : Cell) → c.head ≡ head_of x → false ≡ is_free c.head → ((span : ℕ) → cell span ≡ component c.head x span) → Ok (steps.Cell c) ≡ answer_of x c
+answer_whole x c head used told = cell_given x c head ∙ ap (answer_by x c.at) (told c.span ∙ sym (present_by false c.head x (record { content = c.head.offset; span = c.span }) (sym used)))
+
+-- an entry stands there
+present_some : (h : Head) (x : List ℕ) (e : Extent) → is_absent (present h x (Ok e)) ≡ false
+present_some h x e = go (is_free h) (has_name (name_field h x)) (is_some (attributes (attribute_field h x)))
+  where
+    go : (free named formed : Bool) → is_absent (cond free (cell e.span) (cond (not named) (damaged kinds.Name) (cond (not formed) (damaged kinds.AttrLength) (cell e.span)))) ≡ false
+    go true named formed = refl
+    go false true true = refl
+    go false true false = refl
+    go false false formed = refl
+
+pub answer_cell : (x : List ℕ) (at size : ℕ) (h : Head) (e : Extent) (a : Answer) → length x ≡ size → false ≡ has_bad_size size → at < size → Some h ≡ front (drop at x) → Ok e ≡ checked h (size - at)
+    → (h ≡ head_of (drop at x) → IsErrOf a faults.Device ⊎ (a ≡ answer_of (drop at x) (record { at = at; head = h; span = e.span }))) → IsErrOf a faults.Device ⊎ (a ≡ answer_at x at)
+answer_cell x at size h e a len good inside head checks told = go (told (front_some (drop at x) h (sym head)).2)
+  where
+    there : present h (drop at x) (Ok e) ≡ entry (drop at x)
+    there = entry_present (drop at x) h (size - at) (Ok e) head (omega (arith, length-drop at x, len)) checks
+
+    go : IsErrOf a faults.Device ⊎ (a ≡ answer_of (drop at x) (record { at = at; head = h; span = e.span })) → IsErrOf a faults.Device ⊎ (a ≡ answer_at x at)
+    go (inl device) = inl device
+    go (inr is) = inr (is ∙ answer_entry x at size (present h (drop at x) (Ok e)) len good inside there (and_right (eqb at 0) (is_absent (present h (drop at x) (Ok e))) (present_some h (drop at x) e)))
+
+-- the calls that show it
+pub cell_reads : {F : Type 0} (facts : F → Device) (r : Range) (c : Cell) (old mid new : Pages F) (a : Answer) → PassesChecks r.size c → IfOk a (λ step. step ≡ steps.Cell c)
+    → Passes facts r c.at c.at 0 old mid → Passes facts r c.at (content_start c) (faults_told by_device a) mid new → HasRead facts (reads_at r.size c.at a) (faults_told by_device a) old new
+cell_reads facts r c old mid new (Ok step) is told first second =
+    let k = checks_give (r.size - c.at) c.head c.span is in
+    rw told (HasRead-within facts _ (reads_over c.span) 0 old new (omega (arith, k.fits)) (Passes-then first second (le_refl c.at) (le_refl c.at) (le_refl (content_start c))).read)
+cell_reads facts r c old mid new (Err fault) is told first second =
+    let k = checks_give (r.size - c.at) c.head c.span is in
+    HasRead-within facts _ (reads_over (r.size - c.at)) (by_device fault) old new (omega (arith, k.inside)) (Passes-then first second (le_refl c.at) (le_refl c.at) (le_refl (content_start c))).read
+
+pub cell_gives : (size : ℕ) (c : Cell) (a : Answer) → PassesChecks size c → false ≡ has_bad_size size → c.at % 64 ≡ 0 → c.at ≤ size → IfOk a (λ step. step ≡ steps.Cell c) → GivesCell size c.at a
+cell_gives size c (Err fault) is good aligned inside told = tt
+cell_gives size c (Ok step) is good aligned inside told =
+    let k = checks_give (size - c.at) c.head c.span is in
+    let whole = good_size size good in
+    let within = k.within (omega (arith, whole, aligned, inside)) in
+    rw told (record { aligned = aligned; positive = k.positive; whole = k.whole; inside = omega (arith, within, inside); content = k.fits; checks = is }, refl)
 
 -- ---- a walk that has ended
 

@@ -1,20 +1,20 @@
 -- The name of a component whose cell stands in a region.
-use Rattle.std.proofs.Common.{◌≡◌, ℕ, ◌+◌, ◌-◌, ◌<◌, ◌≤◌, min, true, false, List, ◌++◌, length, take, drop, sym, ap, ◌∙◌, arith, ltb, ◌⊎◌, inl, inr}
+use Rattle.std.proofs.Common.{◌≡◌, ℕ, ◌+◌, ◌-◌, ◌<◌, ◌≤◌, min, true, false, List, ◌++◌, length, take, drop, sym, ap, ◌∙◌, arith, ◌⊎◌, inl, inr}
 use Rattle.std.specs.Prelude.{slice_range}
 use Rattle.std.specs.List.{list_any, before_first, position_or_len}
 use Rattle.std.specs.Str.{bytes_eq}
 use Rattle.std.proofs.lemmas.List.{take-append-le}
 use Rattle.flash_format.specs.declared.head.Head.{Head}
 use Rattle.flash_format.specs.Head.{head_of, is_free}
-use Rattle.flash_format.specs.Entry.{name_end, name_field, name_of, is_nul, has_name}
+use Rattle.flash_format.specs.Entry.{name_end, name_field, name_of, is_nul}
 use Rattle.flash_format.specs.Components.{cell_name}
 use Rattle.cbfs_walk.specs.Cells.{IsComponentIn, cell_in}
 use Rattle.cbfs_walk.specs.Walks.{StandsIn}
 use Rattle.cbfs_walk.specs.declared.cell.Cell.{Cell}
-use Rattle.cbfs_walk.proofs.Parts.{range-drop, range-take, length-range, name_read}
+use Rattle.cbfs_walk.proofs.Parts.{range-drop, range-take, length-range}
 use Rattle.cbfs_walk.proofs.Checks.{checks_give}
 use Rattle.cbfs_walk.proofs.CutLaws.{standing, cell_head, cell_part, component_whole}
-use Rattle.cbfs_walk.proofs.Texts.{any_len, text_len, text_most, text_within, text_prefix, text_is, text_is_not}
+use Rattle.cbfs_walk.proofs.Texts.{text_len, text_most, text_within, text_prefix, text_is, text_is_not}
 
 -- what the checks of a component's head say of its name field
 pub record HasField (size : ℕ) (c : Cell) : Type 0 where
@@ -101,9 +101,3 @@ module _ (x : List ℕ) (size : ℕ) (c : Cell) (is : IsComponentIn size c) (len
       longer : {n m k : ℕ} → (255 < m) ⊎ (k ≤ m + 24) → n < 256 → n + 24 < k → n < m
       longer (inl lt) short within = omega arith
       longer (inr le) short within = omega arith
-
--- a NUL within the name field shows in its first 256 bytes
-pub nul_in_field : (x : List ℕ) (at end room n k : ℕ) (out : List ℕ) → k ≡ length (before_first is_nul out) → length out ≡ n → out ≡ slice_range x (at + 24) (at + 24 + n)
-    → room + 24 ≡ end → n ≡ min room 256 → ltb k n ≡ has_name (slice_range (drop at x) 24 end)
-nul_in_field x at end room n k out told size read fits is_min =
-    name_read x at end n (ltb k n) (ap (λ j. ltb j n) (told ∙ text_len out) ∙ ap (ltb (position_or_len is_nul out)) (sym size) ∙ sym (any_len out) ∙ ap (list_any is_nul) read) (omega (arith, fits)) (omega (arith, fits, is_min))

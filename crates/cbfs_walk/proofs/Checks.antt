@@ -1,12 +1,12 @@
 -- What the checks of a head say, and how they make an entry.
-use Rattle.std.proofs.Common.{◌≡◌, ℕ, ◌+◌, ◌-◌, ◌%◌, ◌≤◌, Bool, true, false, cond, not, ◌&&◌, ◌||◌, List, length, Some, None, Result, Ok, refl, sym, ap, ◌∙◌, arith, eqb, ltb}
-use Rattle.std.proofs.lemmas.Bool.{ltb-false}
+use Rattle.std.proofs.Common.{◌≡◌, ℕ, ◌+◌, ◌-◌, ◌%◌, ◌≤◌, false, List, length, Some, None, Result, Ok, sym, ap, ◌∙◌, arith}
 use Rattle.flash_format.specs.declared.head.Head.{Head}
 use Rattle.flash_format.specs.declared.head.Extent.{Extent}
 use Rattle.flash_format.specs.declared.head.DamageKind.{DamageKind}
-use Rattle.flash_format.specs.Head.{is_free, attributes_misplaced, checked, round64}
+use Rattle.flash_format.specs.Head.{is_free, checked, round64}
 use Rattle.flash_format.specs.Entry.{absent, entry, under, front, present, name_end}
 use Rattle.flash_format.proofs.CutSteps.{checked_ok}
+use Rattle.flash_format.proofs.EntryLaws.{name_between}
 use Rattle.cbfs_walk.specs.Cells as cells
 use Rattle.cbfs_walk.specs.Cells.{PassesChecks}
 use Rattle.cbfs_walk.specs.declared.cell.Cell.{Cell}
@@ -20,17 +20,6 @@ pub record IsGood (left : ℕ) (h : Head) (span : ℕ) : Type 0 where
   pub within : left % 64 ≡ 0 → span ≤ left
   pub name_low : is_free h ≡ false → 24 ≤ name_end h
   pub name_high : is_free h ≡ false → name_end h ≤ h.offset
-  pub placed : is_free h ≡ false → attributes_misplaced h ≡ false
-  pub attributes : is_free h ≡ false → h.attributes_offset ≤ h.offset
-
-pub placed_parts : (h : Head) → attributes_misplaced h ≡ false → 24 ≤ h.offset → (24 ≤ name_end h) × (name_end h ≤ h.offset) × (h.attributes_offset ≤ h.offset)
-placed_parts h e room = go (eqb h.attributes_offset 0) (ltb h.attributes_offset 25) refl refl e
-  where
-    go : (none low : Bool) → eqb h.attributes_offset 0 ≡ none → ltb h.attributes_offset 25 ≡ low → (not none && (low || ltb h.offset h.attributes_offset)) ≡ false
-        → (24 ≤ cond none h.offset h.attributes_offset) × (cond none h.offset h.attributes_offset ≤ h.offset) × (h.attributes_offset ≤ h.offset)
-    go true low a b p = let zero_is : h.attributes_offset ≡ 0 = grind (arith, a) in (room, omega arith, omega arith)
-    go false true a b p = absurd cc
-    go false false a b p = let high = ltb-false _ _ p in let low = ltb-false _ _ b in (omega (arith, low), high, high)
 
 pub checks_give : (left : ℕ) (h : Head) (span : ℕ) → cells.IsChecked left h span → IsGood left h span
 checks_give left h span ok =
@@ -44,10 +33,8 @@ checks_give left h span ok =
       positive = r.0;
       whole = r.1;
       within = r.2;
-      name_low = λ used. (placed_parts h (k.placed used) k.front).0;
-      name_high = λ used. (placed_parts h (k.placed used) k.front).1;
-      placed = k.placed;
-      attributes = λ used. (placed_parts h (k.placed used) k.front).2;
+      name_low = λ used. (name_between h (k.placed used) k.front).0;
+      name_high = λ used. (name_between h (k.placed used) k.front).1;
     })
   where
     rounds : (left n : ℕ) → 24 ≤ n → n ≤ left → (64 ≤ round64 n) × (round64 n % 64 ≡ 0) × (left % 64 ≡ 0 → round64 n ≤ left) × (n ≤ round64 n)

@@ -1,5 +1,5 @@
 -- The first component of a name, among components and in a region.
-use Rattle.std.proofs.Common.{◌≡◌, ℕ, Bool, true, false, cond, List, [], ◌∷◌, ◌++◌, Option, Some, None, Ok, Err, refl, sym, ◌∙◌, ap, All}
+use Rattle.std.proofs.Common.{◌≡◌, ℕ, Bool, true, false, cond, List, [], ◌∷◌, ◌++◌, Option, Some, None, Ok, Err, refl, sym, subst, ◌∙◌, ap, All}
 use Rattle.std.specs.Str.{bytes_eq}
 use Rattle.std.proofs.lemmas.List.Elements.{All-nil, All-cons, All-head, All-tail, All-contains}
 use Rattle.std.proofs.lemmas.Slice.Eq.{bytes_eq-Decides}
@@ -14,18 +14,30 @@ use Rattle.cbfs_walk.specs.declared.walk.WalkFault.{WalkFault}
 abbrev IsOther : List ℕ → Component → Type 0
 IsOther name c = bytes_eq c.name name ≡ false
 
-same_some : (c d : Component) → Some c ≡ Some d → c ≡ d
-same_some c d is = cc
-
 -- ---- among components
 
-pub none_named : (name : List ℕ) (all : List Component) → first_named name all ≡ None → All (IsOther name) all
-none_named name [] none = All-nil (IsOther name)
-none_named name (c ∷ all) none = go (bytes_eq c.name name) refl none (λ (e : first_named name all ≡ None). none_named name all e)
+-- what a search finds is the first of the name, and without one each is another
+abbrev FirstIs : List ℕ → List Component → Option Component → Type 0
+FirstIs name all None = All (IsOther name) all
+FirstIs name all (Some c) = IsFirstOf name all c
+
+named_first : (name : List ℕ) (all : List Component) → FirstIs name all (first_named name all)
+named_first name [] = All-nil (IsOther name)
+named_first name (c ∷ all) = go (bytes_eq c.name name) refl (first_named name all) (named_first name all)
   where
-    go : (b : Bool) → bytes_eq c.name name ≡ b → cond b (Some c) (first_named name all) ≡ None → (first_named name all ≡ None → All (IsOther name) all) → All (IsOther name) (c ∷ all)
-    go true e is later = absurd cc
-    go false e is later = All-cons (IsOther name) c all e (later is)
+    go : (b : Bool) → bytes_eq c.name name ≡ b → (o : Option Component) → FirstIs name all o → FirstIs name (c ∷ all) (cond b (Some c) o)
+    go true e o later = record { before = []; after = all; whole = refl; named = e; none_before = All-nil (IsOther name) }
+    go false e None others = All-cons (IsOther name) c all e others
+    go false e (Some d) is = record {
+      before = c ∷ is.before;
+      after = is.after;
+      whole = ap (λ (l : List Component). c ∷ l) is.whole;
+      named = is.named;
+      none_before = All-cons (IsOther name) c is.before e is.none_before;
+    }
+
+pub none_named : (name : List ℕ) (all : List Component) → first_named name all ≡ None → All (IsOther name) all
+none_named name all none = subst (λ (o : Option Component). FirstIs name all o) none (named_first name all)
 
 pub first_is : (name : List ℕ) (before after : List Component) (c : Component) → bytes_eq c.name name ≡ true → All (IsOther name) before → first_named name (before ++ (c ∷ after)) ≡ Some c
 first_is name [] after c named none = ap (λ b. cond b (Some c) (first_named name after)) named
@@ -34,29 +46,7 @@ first_is name (d ∷ before) after c named none =
     ∙ first_is name before after c named (All-tail (IsOther name) d before none)
 
 is_first : (name : List ℕ) (all : List Component) (c : Component) → first_named name all ≡ Some c → IsFirstOf name all c
-is_first name [] c found = absurd cc
-is_first name (d ∷ all) c found = go (bytes_eq d.name name) refl found (λ (e : first_named name all ≡ Some c). is_first name all c e)
-  where
-    later : (bytes_eq d.name name ≡ false) → IsFirstOf name all c → IsFirstOf name (d ∷ all) c
-    later e is = record {
-      before = d ∷ is.before;
-      after = is.after;
-      whole = ap (λ (l : List Component). d ∷ l) is.whole;
-      named = is.named;
-      none_before = All-cons (IsOther name) d is.before e is.none_before;
-    }
-
-    go : (b : Bool) → bytes_eq d.name name ≡ b → cond b (Some d) (first_named name all) ≡ Some c → (first_named name all ≡ Some c → IsFirstOf name all c) → IsFirstOf name (d ∷ all) c
-    go true e is rest =
-        let same : d ≡ c = same_some d c is in
-        record {
-          before = [];
-          after = all;
-          whole = ap (λ (h : Component). h ∷ all) same;
-          named = ap (λ (h : Component). bytes_eq h.name name) (sym same) ∙ e;
-          none_before = All-nil (IsOther name);
-        }
-    go false e is rest = later e (rest is)
+is_first name all c found = subst (λ (o : Option Component). FirstIs name all o) found (named_first name all)
 
 -- a name is equal to itself
 pub same_name : (name : List ℕ) → bytes_eq name name ≡ true

@@ -1,6 +1,6 @@
 -- The digest of a component's content: the pieces of which it is made, and what the first hash attribute says of it.
-use Rattle.std.proofs.Common.{◌≡◌, ℕ, ◌+◌, ◌-◌, ◌<◌, ◌≤◌, Bool, true, false, cond, IsTrue, List, ◌++◌, take, drop, length, Option, Some, None, sym, subst, ap, ◌∙◌, arith, ltb}
-use Rattle.std.specs.Prelude.{slice_range}
+use Rattle.std.proofs.Common.{◌≡◌, ℕ, ◌+◌, ◌-◌, ◌<◌, ◌≤◌, Bool, true, false, cond, IsTrue, List, ◌++◌, take, drop, length, Option, Some, None, Ok, sym, subst, ap, ◌∙◌, arith, ltb, le_refl}
+use Rattle.std.specs.Prelude.{slice_range, IfSome}
 use Rattle.std.specs.Str.{bytes_eq}
 use Rattle.std.proofs.lemmas.Bool.{lt-ltb, le-ltb}
 use Rattle.byteorder.specs.Endian.{big_number}
@@ -18,7 +18,8 @@ use Rattle.flash_store.specs.Device.{Device}
 use Rattle.flash_store.specs.Pages.{Pages}
 use Rattle.flash_store.specs.Regions.{Range, LiesIn, bytes_in}
 use Rattle.cbfs_walk.specs.Passing.{Passes}
-use Rattle.cbfs_walk.specs.Cells.{IsComponentIn, cell_in}
+use Rattle.cbfs_walk.specs.Cells.{IsComponentIn, cell_in, attributes_start, content_start, content_end}
+use Rattle.cbfs_walk.specs.Listed.{IsAttrOf, Placed, searched_to}
 use Rattle.cbfs_walk.specs.Walks.{StandsIn}
 use Rattle.cbfs_walk.specs.Hashes.{sha256_of, sha512_of, digest_like, digest_by, stored_digest, compared, state_of, hash_state, content_at, hash_state_in, IsUncompared}
 use Rattle.cbfs_walk.specs.declared.cell.Cell.{Cell}
@@ -26,6 +27,7 @@ use Rattle.cbfs_walk.specs.declared.hashes.HashState.{HashState}
 use Rattle.cbfs_walk.specs.declared.hashes.HashState.TheVariants.{Valid, Invalid}
 use Rattle.flash_format.specs.Made.{algorithm_len, algorithm_numbered, digest_with, digest_bytes}
 use Rattle.cbfs_walk.proofs.Parts.{length-region, range-inner, range-take, range-after, length-range}
+use Rattle.cbfs_walk.proofs.Reading.{Passes-then}
 use Rattle.cbfs_walk.proofs.Checks.{checks_give}
 use Rattle.cbfs_walk.proofs.CutLaws.{standing, cell_head, cell_part}
 use Rattle.cbfs_walk.proofs.Scanning.{data_found, Scanning, told_before, scanning_more}
@@ -92,19 +94,17 @@ module _ (r : Range) (image : List ℕ) (at n number : ℕ) (lies : LiesIn r ima
 
 -- ---- the digest of the content
 
-pub like_sha256 : (x : List ℕ) (c : Cell) (stored : Digest) (old bytes : List ℕ) (from end : ℕ) → stored ≡ digests.Sha256 old → bytes ≡ sha256 (slice_range x from end) → from ≡ c.at + c.head.offset → end ≡ c.at + (c.head.offset + c.head.len)
-    → digests.Sha256 bytes ≡ digest_like stored (content_at x c)
-unfolding sha256_of
-like_sha256 x c stored old bytes from end is e begins ends =
-    ap digests.Sha256 (e ∙ ap (λ k. sha256 (slice_range x k end)) begins ∙ ap (λ k. sha256 (slice_range x (c.at + c.head.offset) k)) ends)
-    ∙ ap (λ d. digest_like d (content_at x c)) (sym is)
+-- what was taken from the content's begin to its end is the content
+pub content_taken : (x : List ℕ) (c : Cell) (from at : ℕ) → from ≡ content_start c → at ≡ content_end c → slice_range x from at ≡ content_at x c
+content_taken x c from at begins ends = ap (λ k. slice_range x k at) begins ∙ ap (slice_range x (content_start c)) ends
 
-pub like_sha512 : (x : List ℕ) (c : Cell) (stored : Digest) (old bytes : List ℕ) (from end : ℕ) → stored ≡ digests.Sha512 old → bytes ≡ sha512 (slice_range x from end) → from ≡ c.at + c.head.offset → end ≡ c.at + (c.head.offset + c.head.len)
-    → digests.Sha512 bytes ≡ digest_like stored (content_at x c)
+pub like_sha256 : (stored : Digest) (old bytes content : List ℕ) → stored ≡ digests.Sha256 old → bytes ≡ sha256 content → digests.Sha256 bytes ≡ digest_like stored content
+unfolding sha256_of
+like_sha256 stored old bytes content is e = ap digests.Sha256 e ∙ ap (λ d. digest_like d content) (sym is)
+
+pub like_sha512 : (stored : Digest) (old bytes content : List ℕ) → stored ≡ digests.Sha512 old → bytes ≡ sha512 content → digests.Sha512 bytes ≡ digest_like stored content
 unfolding sha512_of
-like_sha512 x c stored old bytes from end is e begins ends =
-    ap digests.Sha512 (e ∙ ap (λ k. sha512 (slice_range x k end)) begins ∙ ap (λ k. sha512 (slice_range x (c.at + c.head.offset) k)) ends)
-    ∙ ap (λ d. digest_like d (content_at x c)) (sym is)
+like_sha512 stored old bytes content is e = ap digests.Sha512 e ∙ ap (λ d. digest_like d content) (sym is)
 
 -- ---- the first hash attribute
 
@@ -120,6 +120,13 @@ state_found r image c state lies is stands told =
     ap (λ (h : Head). slice_range (cell_in x c) h.offset (h.offset + h.len)) head ∙ cell_part x c c.head.offset (c.head.offset + c.head.len) k.fits in
     told ∙ ap (λ d. state_of d (content_at x c)) (data_found HASH x c inside stands is.used)
     ∙ ap (state_of (data_of HASH (cell_attributes (cell_in x c)))) (sym content)
+
+-- the reads of the attributes up to the first hash attribute, and of its data, stay before the content
+pub read_to_content : {F : Type 0} {facts : F → Device} {r : Range} {refused : ℕ} {old mid new : Pages F} (c : Cell) (tag : ℕ) (o : Option Placed) (found : Placed) → o ≡ Some found → IfSome o (IsAttrOf c tag)
+    → Passes facts r (attributes_start c) (searched_to c (Ok o)) 0 old mid → Passes facts r (found.0 + 8) (found.0 + 8 + (found.1.len - 8)) refused mid new → Passes facts r (attributes_start c) (content_start c) refused old new
+read_to_content c tag o found is attribute first second =
+    let there = (rw is at attribute).attribute in
+    Passes-then (rw is at first) second (le_refl _) (omega arith) (omega (arith, there.inside, there.head))
 
 -- a digest that is compared is not told without the content
 pub compared_is_told : (stored computed : Digest) (state : HashState) → state ≡ compared stored computed → IsUncompared state → ⊥

@@ -36,20 +36,13 @@ listed_by x at end h room inside e =
     let f = λ (k : AttrHead) (left : ℕ). let v : declared.Listed = cond (is_unused k.tag) End (cond (has_bad_len k left) Malformed (listed.Attribute k)) in v in
     ap (λ k. f k (end - at)) same ∙ ap (f (attr_head_of rest)) (sym len) ∙ rw long refl
 
--- what a read of the head tells, by the two tests of it
-module _ (r : Range) (image : List ℕ) (at end : ℕ) (h : AttrHead) (lies : LiesIn r image) (inside : end ≤ r.size) (room : 8 ≤ end - at)
-    (head : h ≡ attr_head_of (slice_range (bytes_in r image) at (at + 8))) where
-  told : cond (is_unused h.tag) End (cond (has_bad_len h (end - at)) Malformed (listed.Attribute h)) ≡ listed_in (slice_range (bytes_in r image) at end)
-  told = listed_by (bytes_in r image) at end h (omega (arith, room)) (omega (arith, length-region r image lies, inside)) head
-
-  pub listed_unused : true ≡ is_unused h.tag → End ≡ listed_in (slice_range (bytes_in r image) at end)
-  listed_unused unused = ap (λ b. cond b End (cond (has_bad_len h (end - at)) Malformed (listed.Attribute h))) unused ∙ told
-
-  pub listed_bad : false ≡ is_unused h.tag → true ≡ has_bad_len h (end - at) → Malformed ≡ listed_in (slice_range (bytes_in r image) at end)
-  listed_bad used bad = ap (λ b. cond b Malformed (listed.Attribute h)) bad ∙ ap (λ b. cond b End (cond (has_bad_len h (end - at)) Malformed (listed.Attribute h))) used ∙ told
-
-  pub listed_good : false ≡ is_unused h.tag → false ≡ has_bad_len h (end - at) → listed.Attribute h ≡ listed_in (slice_range (bytes_in r image) at end)
-  listed_good used good = ap (λ b. cond b Malformed (listed.Attribute h)) good ∙ ap (λ b. cond b End (cond (has_bad_len h (end - at)) Malformed (listed.Attribute h))) used ∙ told
+-- the same by the two tests of it
+pub listed_tested : (r : Range) (image : List ℕ) (at end : ℕ) (h : AttrHead) (unused bad : Bool) → LiesIn r image → end ≤ r.size → 8 ≤ end - at → h ≡ attr_head_of (slice_range (bytes_in r image) at (at + 8))
+    → unused ≡ is_unused h.tag → bad ≡ has_bad_len h (end - at) → cond unused End (cond bad Malformed (listed.Attribute h)) ≡ listed_in (slice_range (bytes_in r image) at end)
+listed_tested r image at end h unused bad lies inside room head is_unused_is is_bad =
+    ap (λ b. cond b End (cond bad Malformed (listed.Attribute h))) is_unused_is
+    ∙ ap (λ b. cond (is_unused h.tag) End (cond b Malformed (listed.Attribute h))) is_bad
+    ∙ listed_by (bytes_in r image) at end h (omega (arith, room)) (omega (arith, length-region r image lies, inside)) head
 
 -- ---- how the list goes on
 
@@ -164,10 +157,19 @@ GivesListed x k a all (listed.Attribute h) = (Some h ≡ first_head all) × (att
 GivesListed x k a all End = (None ≡ first_head all) × (attributes_left x (record { cell = k; at = k.head.offset }) ≡ Some (after_first all))
 GivesListed x k a all Malformed = ⊥
 
-stepped : (x : List ℕ) (k : Cell) (a p q : ℕ) (w : AttrWalking) (l : declared.Listed) → w ≡ record { cell = k; at = a } → p ≡ k.at + a → q ≡ k.at + k.head.offset → q ≤ length x
-    → l ≡ listed_in (slice_range x p q) → (all : List Attribute) → attributes_left x w ≡ Some all → GivesListed x k a all l
-stepped x k a p q w l view from to inside is all left = go l is
+pub walk_step : (r : Range) (image : List ℕ) (k : Cell) (a p q : ℕ) (w : AttrWalking) (l : declared.Listed) → LiesIn r image → w.cell.at + w.cell.head.offset ≤ r.size → w ≡ record { cell = k; at = a }
+    → p ≡ k.at + a → q ≡ k.at + k.head.offset → l ≡ listed_in (slice_range (bytes_in r image) p q)
+    → (all : List Attribute) → attributes_left (bytes_in r image) w ≡ Some all → GivesListed (bytes_in r image) k a all l
+walk_step r image k a p q w l lies room view from to is all left = go l is
   where
+    x : List ℕ
+    x = bytes_in r image
+
+    inside : q ≤ length x
+    inside =
+        let fits : k.at + k.head.offset ≤ r.size = subst (λ (v : AttrWalking). v.cell.at + v.cell.head.offset ≤ r.size) view room in
+        omega (arith, to, fits, length-region r image lies)
+
     here : attributes (slice_range x p q) ≡ Some all
     here = ap (λ n. attributes (slice_range x n q)) from ∙ ap (λ n. attributes (slice_range x (k.at + a) n)) to ∙ ap (attributes_left x) (sym view) ∙ left
 
@@ -196,10 +198,3 @@ pub gives_none : (x : List ℕ) (k : Cell) (a : ℕ) (all : List Attribute) (l :
 gives_none x k a all (listed.Attribute h) other gives = absurd (other h refl)
 gives_none x k a all End other gives = gives
 gives_none x k a all Malformed other gives = absurd gives
-
-pub walk_step : (r : Range) (image : List ℕ) (k : Cell) (a p q : ℕ) (w : AttrWalking) (l : declared.Listed) → LiesIn r image → w.cell.at + w.cell.head.offset ≤ r.size → w ≡ record { cell = k; at = a }
-    → p ≡ k.at + a → q ≡ k.at + k.head.offset → l ≡ listed_in (slice_range (bytes_in r image) p q)
-    → (all : List Attribute) → attributes_left (bytes_in r image) w ≡ Some all → GivesListed (bytes_in r image) k a all l
-walk_step r image k a p q w l lies inside view from to is all left =
-    let fits : k.at + k.head.offset ≤ r.size = subst (λ (v : AttrWalking). v.cell.at + v.cell.head.offset ≤ r.size) view inside in
-    stepped (bytes_in r image) k a p q w l view from to (omega (arith, to, fits, length-region r image lies)) is all left

@@ -1,6 +1,6 @@
 -- Calls that read, one after the other, and what the last of them answers.
 use Rattle.std.proofs.Common.{◌≡◌, ℕ, ◌+◌, ◌-◌, ◌*◌, ◌<◌, ◌≤◌, Result, Ok, Err, ◌∙◌, refl, arith, le_refl}
-use Rattle.std.specs.Prelude.{IfOk}
+use Rattle.std.specs.Prelude.{IfOk, IsOk, length}
 use Rattle.flash_store.specs.Device.{Device, refusals}
 use Rattle.flash_store.specs.Pages.{Pages, HasAnswered, HasSeen}
 use Rattle.flash_store.specs.Regions.{Range, LiesIn}
@@ -31,17 +31,15 @@ Passes-none facts r at p = let none = ScansTo-none facts (r.start + at) p in ord
 -- one read
 pub Passes-seen : {F T E : Type 0} {facts : F → Device} {r : Range} {at n : ℕ} {old new : Pages F} {result : Result T E} → LiesIn r (facts old.device).content → at + n ≤ r.size → n ≤ 256
     → HasSeen facts (r.start + at) n old new result → Passes facts r at at (refusals result) old new
-Passes-seen {F} {T} {E} {facts} {r} {at} {n} {old} {new} {result} lies inside short seen = go result seen
+Passes-seen {F} {T} {E} {facts} {r} {at} {n} {old} {new} {result} lies inside short seen =
+    let q = r.start + at in
+    let room : q + n ≤ length (facts old.device).content = omega (arith, lies, inside) in
+    let start = ScansTo-none facts q old in
+    ordered (SpendsTo-more facts q q q n old old new result (le_refl q) short room start seen) (λ none. ScansTo-more facts q q q n old old new result (answered result none) (le_refl q) short room start seen)
   where
-    q : ℕ
-    q = r.start + at
-
-    go : (result : Result T E) → HasSeen facts q n old new result → Passes facts r at at (refusals result) old new
-    go (Ok x) seen =
-        ordered
-        (SpendsTo-more facts q q q n old old new (Ok x) (le_refl q) short (omega (arith, lies, inside)) (ScansTo-none facts q old) seen)
-        (λ _. ScansTo-more facts q q q n old old new (Ok x) refl (le_refl q) short (omega (arith, lies, inside)) (ScansTo-none facts q old) seen)
-    go (Err e) seen = ordered (SpendsTo-more facts q q q n old old new (Err e) (le_refl q) short (omega (arith, lies, inside)) (ScansTo-none facts q old) seen) (λ none. absurd cc)
+    answered : (a : Result T E) → refusals a ≡ 0 → IsOk a
+    answered (Ok x) none = refl
+    answered (Err e) none = absurd cc
 
 -- reads, none of them refused, and then others, which begin where these end or later
 pub Passes-then : {F : Type 0} {facts : F → Device} {r : Range} {at p q next end last refused : ℕ} {old mid new : Pages F} → Passes facts r p q 0 old mid → Passes facts r next end refused mid new

@@ -1,11 +1,11 @@
 -- A scan of attributes on a device, from place to place.
-use Rattle.std.proofs.Common.{◌≡◌, ℕ, ◌+◌, ◌≤◌, Bool, true, false, cond, IsTrue, List, [], ◌∷◌, drop, Option, Some, None, refl, sym, subst, ap, ◌∙◌, arith, eqb, zero, suc, le_refl, length-drop, length}
+use Rattle.std.proofs.Common.{◌≡◌, ℕ, ◌+◌, ◌≤◌, Bool, true, false, cond, IsTrue, List, [], ◌∷◌, drop, Option, Some, None, refl, sym, subst, ap, ◌∙◌, arith, eqb, zero, suc, pred, ◌<◌, le_refl, length-drop, length}
 use Rattle.std.specs.Prelude.{slice_range, is_some, IfSome}
 use Rattle.std.specs.Option.{option_map}
 use Rattle.byteorder.specs.Endian.{big_number}
 use Rattle.flash_format.specs.declared.attribute.AttrHead.{AttrHead}
 use Rattle.flash_format.specs.Head.{is_free}
-use Rattle.flash_format.specs.Attributes.{Attribute, attribute, attributes, attr_head_of, data_of, value_of, least_len, COMPRESSION, ends_list, is_malformed}
+use Rattle.flash_format.specs.Attributes.{Attribute, attribute, attributes, attr_head_of, data_of, value_of, least_len, COMPRESSION}
 use Rattle.flash_format.specs.Entry.{name_end}
 use Rattle.flash_format.specs.Components.{packing, cell_attributes}
 use Rattle.flash_store.specs.Device.{Device}
@@ -16,11 +16,10 @@ use Rattle.cbfs_walk.specs.Cells.{attributes_start, content_start, IsComponentIn
 use Rattle.cbfs_walk.specs.Walks.{StandsIn}
 use Rattle.cbfs_walk.specs.AttrWalks.{IsAttrIn, after_first}
 use Rattle.cbfs_walk.specs.Hashes.{data_at}
-use Rattle.cbfs_walk.specs.Listed.{IsAttrOf, listed_in, Placed, by_tag, first_within, first_in, first_of, value_in}
+use Rattle.cbfs_walk.specs.Listed.{IsAttrOf, listed_in, Placed, by_tag, first_after, first_in, first_of, value_in}
 use Rattle.cbfs_walk.specs.declared.cell.Cell.{Cell}
 use Rattle.cbfs_walk.specs.declared.attribute_walk.Listed as declared
 use Rattle.cbfs_walk.specs.declared.attribute_walk.Listed.TheVariants as listed
-use Rattle.flash_format.proofs.AttributeSteps.{attributes_end}
 use Rattle.flash_store.proofs.DeviceLemmas.{honest_still}
 use Rattle.cbfs_walk.proofs.Reading.{Passes-none, Passes-then}
 use Rattle.cbfs_walk.proofs.Parts.{length-region, range-inner, range-after, length-range}
@@ -105,51 +104,38 @@ formed_malformed at y told = sym (ap (λ (o : Option (List Attribute)). is_some 
 
 -- ---- the first attribute with a tag
 
-ends_empty : (y : List ℕ) → length y ≤ 0 → ends_list y ≡ true
-ends_empty [] e = refl
-ends_empty (b ∷ y) e = absurd (omega (arith, e))
+-- the bytes that belong to the attribute before don't count
+first_after-drop : (skip tag at : ℕ) (y : List ℕ) → first_after skip tag at y ≡ first_in tag (at + skip) (drop skip y)
+unfolding first_after
+first_after-drop zero tag at y = ap (λ k. first_in tag k y) {x = at} {y = at + 0} (omega arith)
+first_after-drop (suc skip) tag at [] = refl
+first_after-drop (suc skip) tag at (b ∷ y) = first_after-drop skip tag (at + 1) y ∙ ap (λ k. first_in tag k (drop skip y)) {x = at + 1 + skip} {y = at + suc skip} (omega arith)
 
-none_within : (n tag at : ℕ) (y : List ℕ) (l : declared.Listed) → l ≡ listed_in y → ((h : AttrHead) → l ≡ listed.Attribute h → ⊥) → None ≡ first_within n tag at y
-unfolding first_within
-none_within zero tag at y l told other = refl
-none_within (suc n) tag at y (listed.Attribute h) told other = absurd (other h refl)
-none_within (suc n) tag at y listed.End told other = ap (λ l. by_tag tag at y l (first_within n tag)) told
-none_within (suc n) tag at y listed.Malformed told other = ap (λ l. by_tag tag at y l (first_within n tag)) told
+first_later : (n tag at b : ℕ) (y : List ℕ) → 0 < n → first_after (pred n) tag (at + 1) y ≡ first_in tag (at + n) (drop n (b ∷ y))
+first_later zero tag at b y some = absurd (omega arith)
+first_later (suc n) tag at b y some = first_after-drop n tag (at + 1) y ∙ ap (λ k. first_in tag k (drop n y)) {x = at + 1 + n} {y = at + suc n} (omega arith)
 
-none_empty : (n tag at : ℕ) (y : List ℕ) → length y ≤ 0 → None ≡ first_within n tag at y
-none_empty n tag at y few =
-    none_within n tag at y listed.End (sym (ap (λ b. cond b listed.End (cond (is_malformed y) listed.Malformed (listed.Attribute (attr_head_of y)))) (ends_empty y few))) (λ h e. absurd cc)
-
--- it is the same among as many attributes as bytes, or more
-within_enough : (n m tag at : ℕ) (y : List ℕ) → length y ≤ n → length y ≤ m → first_within n tag at y ≡ first_within m tag at y
-unfolding first_within
-within_enough zero m tag at y few more = none_empty m tag at y few
-within_enough (suc n) zero tag at y few more = sym (none_empty (suc n) tag at y more)
-within_enough (suc n) (suc m) tag at y few more = go (within_enough n m tag) (listed_in y) refl
+-- by what the list has at its start
+pub first_by : (tag at : ℕ) (l : declared.Listed) (y : List ℕ) → l ≡ listed_in y → first_in tag at y ≡ by_tag tag at l (λ n. first_in tag (at + n) (drop n y))
+unfolding first_after
+first_by tag at l [] told = ap (λ (k : declared.Listed). by_tag tag at k (λ n. first_in tag (at + n) (drop n []))) (sym told)
+first_by tag at l (b ∷ y) told = ap (λ (k : declared.Listed). by_tag tag at k (λ n. first_after (pred n) tag (at + 1) y)) (sym told) ∙ go l told
   where
-    go : ((at : ℕ) (z : List ℕ) → length z ≤ n → length z ≤ m → first_within n tag at z ≡ first_within m tag at z) → (l : declared.Listed) → l ≡ listed_in y
-        → by_tag tag at y l (first_within n tag) ≡ by_tag tag at y l (first_within m tag)
-    go same (listed.Attribute h) told =
-        let g = goes y h told in
-        ap (cond (eqb h.tag tag) (Some (at, h))) (same (at + h.len) (drop h.len y) (omega (arith, length-drop h.len y, g.least, few)) (omega (arith, length-drop h.len y, g.least, more)))
-    go same listed.End told = refl
-    go same listed.Malformed told = refl
-
-first_by : (tag at : ℕ) (h : AttrHead) (y : List ℕ) → listed.Attribute h ≡ listed_in y → first_in tag at y ≡ cond (eqb h.tag tag) (Some (at, h)) (first_in tag (at + h.len) (drop h.len y))
-unfolding first_within
-first_by tag at h y told =
-    within_enough (length y) (suc (length y)) tag at y (le_refl _) (omega arith)
-    ∙ ap (λ l. by_tag tag at y l (first_within (length y) tag)) (sym told)
-    ∙ ap (cond (eqb h.tag tag) (Some (at, h))) (within_enough (length y) (length (drop h.len y)) tag (at + h.len) (drop h.len y) (omega (arith, length-drop h.len y)) (le_refl _))
+    go : (l : declared.Listed) → l ≡ listed_in (b ∷ y) → by_tag tag at l (λ n. first_after (pred n) tag (at + 1) y) ≡ by_tag tag at l (λ n. first_in tag (at + n) (drop n (b ∷ y)))
+    go (listed.Attribute h) told = ap (cond (eqb h.tag tag) (Some (at, h))) (first_later h.len tag at b y (omega (arith, (goes (b ∷ y) h told).least)))
+    go listed.End told = refl
+    go listed.Malformed told = refl
 
 pub first_more : (tag at : ℕ) (h : AttrHead) (y : List ℕ) → eqb h.tag tag ≡ false → listed.Attribute h ≡ listed_in y → first_in tag at y ≡ first_in tag (at + h.len) (drop h.len y)
-first_more tag at h y other told = first_by tag at h y told ∙ ap (λ b. cond b (Some (at, h)) (first_in tag (at + h.len) (drop h.len y))) other
+first_more tag at h y other told = first_by tag at (listed.Attribute h) y told ∙ ap (λ b. cond b (Some (at, h)) (first_in tag (at + h.len) (drop h.len y))) other
 
 pub first_here : (tag at : ℕ) (h : AttrHead) (y : List ℕ) → eqb h.tag tag ≡ true → listed.Attribute h ≡ listed_in y → Some (at, h) ≡ first_in tag at y
-first_here tag at h y this told = sym (first_by tag at h y told ∙ ap (λ b. cond b (Some (at, h)) (first_in tag (at + h.len) (drop h.len y))) this)
+first_here tag at h y this told = sym (first_by tag at (listed.Attribute h) y told ∙ ap (λ b. cond b (Some (at, h)) (first_in tag (at + h.len) (drop h.len y))) this)
 
 pub first_none : (tag at : ℕ) (l : declared.Listed) (y : List ℕ) → ((h : AttrHead) → l ≡ listed.Attribute h → ⊥) → l ≡ listed_in y → None ≡ first_in tag at y
-first_none tag at l y other told = none_within (length y) tag at y l told other
+first_none tag at (listed.Attribute h) y other told = absurd (other h refl)
+first_none tag at listed.End y other told = sym (first_by tag at listed.End y told)
+first_none tag at listed.Malformed y other told = sym (first_by tag at listed.Malformed y told)
 
 -- the same by the component
 pub first_is : (x : List ℕ) (tag : ℕ) (c : Cell) (from end : ℕ) (found : Option Placed) → from ≡ attributes_start c → end ≡ content_start c → found ≡ first_in tag from (slice_range x from end) → found ≡ first_of x c tag
@@ -173,19 +159,16 @@ by_use tag x y at end h others rest b is fits head more e =
     go false = more
 
 -- among well formed attributes, the data of the first with a tag is the list's
-first_data : (tag n : ℕ) (x : List ℕ) (at end : ℕ) (all : List Attribute) → end ≤ length x → length (slice_range x at end) ≤ n → attributes (slice_range x at end) ≡ Some all
-    → option_map (data_at x) (first_within n tag at (slice_range x at end)) ≡ data_of tag all
-unfolding first_within
-first_data tag zero x at end all inside enough formed =
-    let empty : ends_list (slice_range x at end) ≡ true = ends_empty (slice_range x at end) (omega (arith, enough)) in
-    sym (ap (λ (l : List Attribute). data_of tag l) (goes_none (slice_range x at end) all (attributes_end (slice_range x at end) empty) formed))
-first_data tag (suc n) x at end all inside enough formed = go (first_data tag n x) (listed_in (slice_range x at end)) refl
+first_data : (tag bound : ℕ) (x : List ℕ) (at end : ℕ) (all : List Attribute) → end ≤ length x → length (slice_range x at end) < bound → attributes (slice_range x at end) ≡ Some all
+    → option_map (data_at x) (first_in tag at (slice_range x at end)) ≡ data_of tag all
+first_data tag zero x at end all inside few formed = absurd (omega (arith, few))
+first_data tag (suc n) x at end all inside few formed = ap (option_map (data_at x)) (first_by tag at (listed_in y) y refl) ∙ go (first_data tag n x) (listed_in y) refl
   where
     y : List ℕ
     y = slice_range x at end
 
-    go : ((p q : ℕ) (others : List Attribute) → q ≤ length x → length (slice_range x p q) ≤ n → attributes (slice_range x p q) ≡ Some others → option_map (data_at x) (first_within n tag p (slice_range x p q)) ≡ data_of tag others)
-        → (l : declared.Listed) → l ≡ listed_in y → option_map (data_at x) (by_tag tag at y l (first_within n tag)) ≡ data_of tag all
+    go : ((p q : ℕ) (others : List Attribute) → q ≤ length x → length (slice_range x p q) < n → attributes (slice_range x p q) ≡ Some others → option_map (data_at x) (first_in tag p (slice_range x p q)) ≡ data_of tag others)
+        → (l : declared.Listed) → l ≡ listed_in y → option_map (data_at x) (by_tag tag at l (λ k. first_in tag (at + k) (drop k y))) ≡ data_of tag all
     go later listed.End told = sym (ap (λ (l : List Attribute). data_of tag l) (goes_none y all (goes_end y told) formed))
     go later listed.Malformed told = let e : (let o : Option (List Attribute) = None in o) ≡ Some all = sym (goes_malformed y told) ∙ formed in absurd cc
     go later (listed.Attribute h) told =
@@ -194,16 +177,16 @@ first_data tag (suc n) x at end all inside enough formed = go (first_data tag n 
         let fits : at + h.len ≤ end = omega (arith, g.least, g.inside, length-range x at end inside) in
         let there : drop h.len y ≡ slice_range x (at + h.len) end = range-after x at end h.len fits in
         let rest : attributes (slice_range x (at + h.len) end) ≡ Some (after_first all) = ap (λ y. attributes y) (sym there) ∙ on.rest in
-        let short : length (slice_range x (at + h.len) end) ≤ n = omega (arith, length-drop h.len y, ap (λ (y : List ℕ). length y) there, g.least, enough) in
+        let short : length (slice_range x (at + h.len) end) < n = omega (arith, length-drop h.len y, ap (λ (y : List ℕ). length y) there, g.least, few) in
         let more = later (at + h.len) end (after_first all) inside short rest in
-        by_use tag x y at end h (after_first all) (first_within n tag (at + h.len) (drop h.len y)) (eqb h.tag tag) refl fits g.head
-        (ap (λ z. option_map (data_at x) (first_within n tag (at + h.len) z)) there ∙ more) refl
+        by_use tag x y at end h (after_first all) (first_in tag (at + h.len) (drop h.len y)) (eqb h.tag tag) refl fits g.head
+        (ap (λ z. option_map (data_at x) (first_in tag (at + h.len) z)) there ∙ more) refl
         ∙ sym (ap (λ (l : List Attribute). data_of tag l) on.first)
 
 -- the data that is found in a component that stands in the region
 pub data_found : (tag : ℕ) (x : List ℕ) (c : Cell) → c.at + c.head.offset ≤ length x → StandsIn x c → is_free c.head ≡ false → option_map (data_at x) (first_of x c tag) ≡ data_of tag (cell_attributes (cell_in x c))
 data_found tag x c inside stands used =
-    first_data tag (length (slice_range x (c.at + name_end c.head) (c.at + c.head.offset))) x (c.at + name_end c.head) (c.at + c.head.offset) (cell_attributes (cell_in x c)) inside (le_refl _) (listed_all x c stands used)
+    first_data tag (suc (length (slice_range x (c.at + name_end c.head) (c.at + c.head.offset)))) x (c.at + name_end c.head) (c.at + c.head.offset) (cell_attributes (cell_in x c)) inside (omega arith) (listed_all x c stands used)
 
 -- ---- the value of the first compression attribute
 

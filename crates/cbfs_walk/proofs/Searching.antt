@@ -6,14 +6,14 @@ use Rattle.flash_format.specs.declared.head.Head.{Head}
 use Rattle.flash_format.specs.Head.{head_of, is_free}
 use Rattle.flash_format.specs.Cut.{Cut}
 use Rattle.flash_format.specs.Components.{Component, cell_name, component_at, components_from}
-use Rattle.flash_store.specs.Device.{Device}
+use Rattle.flash_store.specs.Device.{Device, faults_told}
 use Rattle.flash_store.specs.Pages.{Pages, HasRead}
 use Rattle.flash_store.specs.Regions.{Range, LiesIn, bytes_in}
 use Rattle.cbfs_walk.specs.Passing.{reads_over}
 use Rattle.cbfs_walk.specs.Cells.{IsCellIn, cell_in}
-use Rattle.cbfs_walk.specs.Walks.{Answer, Walking, walk_of, answer_at, StandsIn}
+use Rattle.cbfs_walk.specs.Walks.{Answer, Walking, walk_of, answer_at, StandsIn, GivesCell, reads_at, by_device, moved}
 use Rattle.cbfs_walk.specs.Shaped.{shaped, ReadsCells, by_answer, place_after}
-use Rattle.cbfs_walk.specs.Finding.{Found, first_named, not_found, found_or, component_in, found_cell, find_in}
+use Rattle.cbfs_walk.specs.Finding.{Found, first_named, not_found, found_or, component_in, found_cell}
 use Rattle.cbfs_walk.specs.declared.cell.Cell.{Cell}
 use Rattle.cbfs_walk.specs.declared.walk.Step.{Step}
 use Rattle.cbfs_walk.specs.declared.walk.Step.TheVariants as steps
@@ -111,14 +111,24 @@ module _ {F : Type 0} (facts : F → Device) (r : Range) (name : List ℕ) (w : 
       (here, s.so_far h ∙ found_step x name w.at (omega (arith, len, s.inside)) s.aligned ∙ ap (found_by x name) (sym here))
 
   -- the walk gave a cell, and the test says whether it is the component
-  module _ (c : Cell) (mid : Pages F) (n : ℕ) (is_it : Bool) (given : IsCellIn w.region.size c × (c.at ≡ w.at)) (reads : HasRead facts n 0 now mid)
-      (answer : IsTrue (facts now.device).honest → w.ended ≡ None → (let a : Answer = Ok (steps.Cell c) in IsErrOf a faults.Device ⊎ (a ≡ answer_at (bytes_in w.region (facts now.device).content) w.at)))
+  module _ (step : Step) (c : Cell) (mid : Pages F) (is_it : Bool) (is : step ≡ steps.Cell c) (gives : GivesCell w.region.size w.at (Ok step))
+      (reading : HasRead facts (reads_at w.region.size w.at (Ok step)) (faults_told by_device (Ok step)) now mid)
+      (answers : IsTrue (facts now.device).honest → w.ended ≡ None → (let a : Answer = Ok step in IsErrOf a faults.Device ⊎ (a ≡ answer_at (bytes_in w.region (facts now.device).content) w.at)))
       (test : IsTrue (facts mid.device).honest → StandsIn (bytes_in r (facts mid.device).content) c → is_it ≡ (not (is_free c.head) && bytes_eq (cell_name (cell_in (bytes_in r (facts mid.device).content) c)) name)) where
+    given : IsCellIn w.region.size c × (c.at ≡ w.at)
+    given = rw is at gives
+
+    reads : HasRead facts (reads_over c.span) 0 now mid
+    reads = rw is at reading
+
+    answer : IsTrue (facts old.device).honest → (let a : Answer = Ok (steps.Cell c) in a ≡ answer_at (bytes_in w.region (facts now.device).content) w.at)
+    answer h = rw is at (told_step _ _ (answers (honest_still s.read.device.calls.same_honesty h) s.going))
+
     cell_of_region : IsCellIn r.size c
     cell_of_region = rw s.region at given.0
 
     stands : IsTrue (facts old.device).honest → StandsIn (bytes_in r (facts old.device).content) c
-    stands h = ap (answer_at (bytes_in r (facts old.device).content)) given.1 ∙ sym (answered (Ok (steps.Cell c)) h (told_step _ _ (answer (honest_still s.read.device.calls.same_honesty h) s.going))).0
+    stands h = ap (answer_at (bytes_in r (facts old.device).content)) given.1 ∙ sym (answered (Ok (steps.Cell c)) h (answer h)).0
 
     tested : IsTrue (facts old.device).honest → component_in (bytes_in r (facts old.device).content) name
         ≡ cond is_it (Ok (Some (component_at c.at (cell_in (bytes_in r (facts old.device).content) c)))) (found_from (bytes_in r (facts old.device).content) name (c.at + c.span))
@@ -128,13 +138,13 @@ module _ {F : Type 0} (facts : F → Device) (r : Range) (name : List ℕ) (w : 
         let k = honest_still s.read.device.calls.same_honesty h in
         let same : (facts mid.device).content ≡ (facts old.device).content = reads.device.unchanged k ∙ s.read.device.unchanged h in
         let told = rw same at (test (honest_still reads.device.calls.same_honesty k)) in
-        (answered (Ok (steps.Cell c)) h (told_step _ _ (answer k s.going))).1
+        (answered (Ok (steps.Cell c)) h (answer h)).1
         ∙ ap (λ b. cond b (Ok (Some (component_at c.at (cell_in x c)))) (found_from x name (c.at + c.span))) (sym (told (stands h)))
 
     pub found_first : is_it ≡ true → IsTrue (facts old.device).honest → component_in (bytes_in r (facts old.device).content) name ≡ Ok (Some (component_at c.at (cell_in (bytes_in r (facts old.device).content) c)))
     found_first e h = tested h ∙ ap (λ b. cond b (Ok (Some (component_at c.at (cell_in (bytes_in r (facts old.device).content) c)))) (found_from (bytes_in r (facts old.device).content) name (c.at + c.span))) e
 
-    pub found_answer : is_it ≡ true → IsTrue (facts old.device).honest → Ok (Some c) ≡ find_in (bytes_in r (facts old.device).content) name
+    pub found_answer : is_it ≡ true → IsTrue (facts old.device).honest → Ok (Some c) ≡ found_cell (component_in (bytes_in r (facts old.device).content) name)
     found_answer e h =
         let x = bytes_in r (facts old.device).content in
         let len : length x ≡ r.size = length-region r (facts old.device).content lies in
@@ -142,13 +152,13 @@ module _ {F : Type 0} (facts : F → Device) (r : Range) (name : List ℕ) (w : 
         let span = cell_len x r.size c len cell_of_region in
         sym (ap found_cell (found_first e h) ∙ ap (λ (d : Cell). Ok (Some d)) (cell_is c.at c.span (head_of (cell_in x c)) c.head (length (cell_in x c)) head span))
 
-    pub searching_more : (v : Walking) (new : Pages F) → is_it ≡ false → v ≡ record w { at = w.at + c.span; steps = w.steps + 1 } → n ≡ reads_over c.span → HasRead facts 1 0 mid new → Searching facts r name v old new
-    searching_more v new e moved few more = rw moved (record {
+    pub searching_more : (v : Walking) (new : Pages F) → is_it ≡ false → v ≡ moved w (Ok step) → HasRead facts 1 0 mid new → Searching facts r name v old new
+    searching_more v new e next more = rw (rw is at next) (record {
       region = s.region;
       going = s.going;
       inside = omega (arith, cell_of_region.inside, given.1);
       aligned = omega (arith, s.aligned, given.0.whole);
-      read = HasRead-within facts (w.at / 16 + (n + 1)) ((w.at + c.span) / 16) 0 old new (omega (arith, few, given.0.positive)) (HasRead-then facts (w.at / 16) (n + 1) 0 old now new s.read (HasRead-then facts n 1 0 now mid new reads more));
+      read = HasRead-within facts (w.at / 16 + (reads_over c.span + 1)) ((w.at + c.span) / 16) 0 old new (omega (arith, given.0.positive)) (HasRead-then facts (w.at / 16) (reads_over c.span + 1) 0 old now new s.read (HasRead-then facts (reads_over c.span) 1 0 now mid new reads more));
       so_far = λ h.
           let x = bytes_in r (facts old.device).content in
           tested h
@@ -159,12 +169,12 @@ module _ {F : Type 0} (facts : F → Device) (r : Range) (name : List ℕ) (w : 
   -- ---- the walk ended
 
   pub searching_end : (answer : IsTrue (facts now.device).honest → w.ended ≡ None → (let a : Answer = Ok steps.End in IsErrOf a faults.Device ⊎ (a ≡ answer_at (bytes_in w.region (facts now.device).content) w.at)))
-      → IsTrue (facts old.device).honest → Ok None ≡ find_in (bytes_in r (facts old.device).content) name
+      → IsTrue (facts old.device).honest → Ok None ≡ found_cell (component_in (bytes_in r (facts old.device).content) name)
   unfolding found_by find_cut components_from
   searching_end answer h = sym (ap found_cell (answered (Ok steps.End) h (told_step _ _ (answer (honest_still s.read.device.calls.same_honesty h) s.going))).1)
 
   pub searching_tail : (at : ℕ) → (answer : IsTrue (facts now.device).honest → w.ended ≡ None → (let a : Answer = Ok (steps.Tail at) in IsErrOf a faults.Device ⊎ (a ≡ answer_at (bytes_in w.region (facts now.device).content) w.at)))
-      → IsTrue (facts old.device).honest → Ok None ≡ find_in (bytes_in r (facts old.device).content) name
+      → IsTrue (facts old.device).honest → Ok None ≡ found_cell (component_in (bytes_in r (facts old.device).content) name)
   unfolding found_by find_cut components_from
   searching_tail at answer h = sym (ap found_cell (answered (Ok (steps.Tail at)) h (told_step _ _ (answer (honest_still s.read.device.calls.same_honesty h) s.going))).1)
 
@@ -174,10 +184,10 @@ module _ {F : Type 0} (facts : F → Device) (r : Range) (name : List ℕ) (w : 
   refusal _ = refl
 
   pub searching_err : (fault : WalkFault) → (answer : IsTrue (facts now.device).honest → w.ended ≡ None → (let a : Answer = Err fault in IsErrOf a faults.Device ⊎ (a ≡ answer_at (bytes_in w.region (facts now.device).content) w.at)))
-      → IsTrue (facts old.device).honest → (let a : Result (Option Cell) WalkFault = Err fault in IsErrOf a faults.Device ⊎ (a ≡ find_in (bytes_in r (facts old.device).content) name))
+      → IsTrue (facts old.device).honest → (let a : Result (Option Cell) WalkFault = Err fault in IsErrOf a faults.Device ⊎ (a ≡ found_cell (component_in (bytes_in r (facts old.device).content) name)))
   searching_err fault answer h = go (answer (honest_still s.read.device.calls.same_honesty h) s.going)
     where
       go : (let a : Answer = Err fault in IsErrOf a faults.Device ⊎ (a ≡ answer_at (bytes_in w.region (facts now.device).content) w.at))
-          → (let a : Result (Option Cell) WalkFault = Err fault in IsErrOf a faults.Device ⊎ (a ≡ find_in (bytes_in r (facts old.device).content) name))
+          → (let a : Result (Option Cell) WalkFault = Err fault in IsErrOf a faults.Device ⊎ (a ≡ found_cell (component_in (bytes_in r (facts old.device).content) name)))
       go (inl device) = let is : fault ≡ faults.Device = cc in inl (ap (λ (f : WalkFault). Err f) is)
       go (inr is) = inr (sym (ap found_cell (answered (Err fault) h is).1 ∙ refusal fault))

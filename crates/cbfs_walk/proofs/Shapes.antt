@@ -1,13 +1,12 @@
 -- One step of any reading that goes from cell to cell.
-use Rattle.std.proofs.Common.{◌≡◌, ℕ, ◌+◌, ◌%◌, ◌<◌, ◌≤◌, Bool, true, false, cond, ◌&&◌, List, length, take, drop, Some, None, Ok, Err, refl, sym, ap, ◌∙◌, arith, eqb, length-take, length-drop}
-use Rattle.std.proofs.lemmas.List.{drop-drop}
+use Rattle.std.proofs.Common.{◌≡◌, ℕ, ◌+◌, ◌%◌, ◌<◌, ◌≤◌, Bool, true, false, cond, ◌&&◌, List, length, drop, Some, None, Ok, Err, refl, sym, ap, ◌∙◌, arith, eqb, length-take, length-drop}
 use Rattle.std.proofs.lemmas.Bool.{ne_eqb}
 use Rattle.std.proofs.lemmas.Grind.{common_steps}
 use Rattle.flash_format.specs.declared.head.Head.{Head}
 use Rattle.flash_format.specs.Head.{head_of}
 use Rattle.flash_format.specs.Entry.{Entry, absent, damaged, cell, entry}
 use Rattle.flash_format.specs.Cut.{Cut, complete, ends, cut}
-use Rattle.flash_format.proofs.CutSteps.{cell_span, cut_empty, cut_absent, cut_damaged, cut_cell}
+use Rattle.flash_format.proofs.CutSteps.{cell_span, cut_empty, cut_absent, cut_damaged}
 use Rattle.flash_format.proofs.Fronts.{head_of-take}
 use Rattle.cbfs_walk.specs.Shapes.{has_bad_size, is_absent, refused_or}
 use Rattle.cbfs_walk.specs.Walks.{answer_at, answer_by}
@@ -18,6 +17,7 @@ use Rattle.cbfs_walk.specs.declared.walk.WalkFault.{WalkFault}
 use Rattle.cbfs_walk.specs.declared.walk.WalkFault.TheVariants as walk
 use Rattle.cbfs_walk.specs.Shaped.{shaped, ReadsCells, by_answer}
 use Rattle.cbfs_walk.proofs.Answering.{good_size}
+use Rattle.cbfs_walk.proofs.CutLaws.{cut_at}
 use Rattle.cbfs_walk.proofs.Parts.{range_is}
 
 -- a region whose shape is good there
@@ -30,22 +30,20 @@ over_cell : {A : Type 0} (refuse : WalkFault → A) (read : ℕ → Cut → A) (
     → has_bad_size (length x) ≡ false → at % 64 ≡ 0 → at ≤ length x → 0 < length (drop at x) → entry (drop at x) ≡ cell span
     → read at (cut (drop at x)) ≡ each (cell_in x (record { at = at; head = head_of (drop at x); span = span })) (record { at = at; head = head_of (drop at x); span = span }) (shaped refuse read x (at + span))
 over_cell refuse read each law x at span good aligned inside some e =
-    let rest = drop at x in
-    let s = cell_span rest span e in
+    let c : Cell = record { at = at; head = head_of (drop at x); span = span } in
+    let s = cell_span (drop at x) span e in
     let size : length x % 64 ≡ 0 = good_size (length x) (sym good) in
-    let fits : span ≤ length rest = s.inside (omega (arith, length-drop at x, size, aligned)) in
-    let len : length (take span rest) ≡ span = omega (arith, length-take span rest, fits) in
-    let head : head_of (take span rest) ≡ head_of rest = head_of-take rest span (omega (arith, s.positive)) in
+    let fits : span ≤ length (drop at x) = s.inside (omega (arith, length-drop at x, size, aligned)) in
+    let len : length (cell_in x c) ≡ span = ap length (range_is x at span) ∙ omega (arith, length-take span (drop at x), fits) in
+    let head : head_of (cell_in x c) ≡ head_of (drop at x) = ap head_of (range_is x at span) ∙ head_of-take (drop at x) span (omega (arith, s.positive)) in
     let some_more : eqb (at + span) 0 ≡ false = ne_eqb (at + span) 0 (λ z. omega (arith, z, s.positive)) in
     let later = past refuse read x (at + span) good (ap (λ b. b && is_absent (entry x)) some_more) in
-    let f = λ (c : List ℕ) (h : Head) (n : ℕ) (l : List ℕ). each c (record { at = at; head = h; span = n }) (read (at + n) (cut l)) in
-    ap (read at) (cut_cell rest span some e)
-    ∙ law at (take span rest) (cut (drop span rest))
-    ∙ ap (λ h. f (take span rest) h (length (take span rest)) (drop span rest)) head
-    ∙ ap (λ n. f (take span rest) (head_of rest) n (drop span rest)) len
-    ∙ ap (λ l. f (take span rest) (head_of rest) span l) (drop-drop span at x)
-    ∙ ap (λ c. f c (head_of rest) span (drop (at + span) x)) (sym (range_is x at span))
-    ∙ ap (λ k. each (cell_in x (record { at = at; head = head_of rest; span = span })) (record { at = at; head = head_of rest; span = span }) k) (sym later)
+    let f = λ (h : Head) (n : ℕ). each (cell_in x c) (record { at = at; head = h; span = n }) (read (at + n) (cut (drop (at + span) x))) in
+    ap (read at) (cut_at x at span some e)
+    ∙ law at (cell_in x c) (cut (drop (at + span) x))
+    ∙ ap (λ h. f h (length (cell_in x c))) head
+    ∙ ap (f (head_of (drop at x))) len
+    ∙ ap (each (cell_in x c) c) (sym later)
 
 pub shaped_step : {A : Type 0} (refuse : WalkFault → A) (read : ℕ → Cut → A) (each : List ℕ → Cell → A → A) → ReadsCells read each → (x : List ℕ) (at : ℕ) → at ≤ length x → at % 64 ≡ 0
     → shaped refuse read x at ≡ by_answer refuse read each x (answer_at x at)

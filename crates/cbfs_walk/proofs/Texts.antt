@@ -1,25 +1,22 @@
 -- Text before its first NUL.
-use Rattle.std.proofs.Common.{◌≡◌, ℕ, zero, suc, ◌+◌, ◌<◌, ◌≤◌, min, Bool, true, false, cond, not, ◌||◌, List, [], ◌∷◌, length, take, refl, sym, ap, ◌∙◌, arith, ltb, length-take, ◌⊎◌, inl, inr}
+use Rattle.std.proofs.Common.{◌≡◌, ℕ, zero, suc, ◌+◌, ◌<◌, ◌≤◌, min, Bool, true, false, cond, not, ◌||◌, List, [], ◌∷◌, length, take, sym, ap, ◌∙◌, arith, length-take, ◌⊎◌, inl, inr}
 use Rattle.std.specs.List.{list_any, before_first, position_or_len}
 use Rattle.std.specs.Str.{bytes_eq}
 use Rattle.std.proofs.lemmas.List.{take-take}
 use Rattle.std.proofs.lemmas.List.Folds.{length-prefix_len}
 use Rattle.std.proofs.lemmas.List.Sums.{prefix_len-le-length}
-use Rattle.std.proofs.lemmas.Bool.{cases_lt, ltb-true, lt-ltb, le-ltb, false_from_ne_true}
+use Rattle.std.proofs.lemmas.Bool.{cases_lt, false_from_ne_true}
 use Rattle.std.proofs.lemmas.Slice.Eq.{bytes_eq-Decides}
 use Rattle.flash_format.specs.Entry.{is_nul}
 
-pub any_len : (x : List ℕ) → list_any is_nul x ≡ ltb (position_or_len is_nul x) (length x)
-any_len [] = refl
-any_len (b ∷ x) = go (is_nul b) (any_len x)
+-- a NUL stands after fewer bytes than there are
+any_within : (x : List ℕ) → list_any is_nul x ≡ true → position_or_len is_nul x < length x
+any_within [] e = absurd cc
+any_within (b ∷ x) e = go (is_nul b) (any_within x) e
   where
-    next : (cases : (position_or_len is_nul x < length x) ⊎ (length x ≤ position_or_len is_nul x)) → ltb (position_or_len is_nul x) (length x) ≡ ltb (1 + position_or_len is_nul x) (suc (length x))
-    next (inl lt) = lt-ltb _ _ lt ∙ sym (lt-ltb _ _ (omega (arith, lt)))
-    next (inr le) = le-ltb _ _ le ∙ sym (le-ltb _ _ (omega (arith, le)))
-
-    go : (nul : Bool) → list_any is_nul x ≡ ltb (position_or_len is_nul x) (length x) → (nul || list_any is_nul x) ≡ ltb (cond (not nul) (1 + position_or_len is_nul x) 0) (suc (length x))
-    go true e = sym (lt-ltb _ _ (omega arith))
-    go false e = e ∙ next (cases_lt _ _)
+    go : (nul : Bool) → (list_any is_nul x ≡ true → position_or_len is_nul x < length x) → (nul || list_any is_nul x) ≡ true → cond (not nul) (1 + position_or_len is_nul x) 0 < suc (length x)
+    go true later e = omega arith
+    go false later e = let lt : position_or_len is_nul x < length x = later e in omega arith
 
 len_prefix : (k : ℕ) (x : List ℕ) → position_or_len is_nul (take k x) ≡ min (position_or_len is_nul x) k
 len_prefix zero x = omega arith
@@ -40,7 +37,7 @@ text_most x = prefix_len-le-length (λ b. not (is_nul b)) x
 -- a NUL among the first bytes stands after fewer
 pub text_within : (k : ℕ) (x : List ℕ) → list_any is_nul (take k x) ≡ true → (position_or_len is_nul x < k) × (position_or_len is_nul x < length x)
 text_within k x e =
-    let some : position_or_len is_nul (take k x) < length (take k x) = ltb-true _ _ (sym (any_len (take k x)) ∙ e) in
+    let some = any_within (take k x) e in
     let n = len_prefix k x in
     let m = length-take k x in
     (omega (arith, some, n, m), omega (arith, some, n, m))

@@ -45,14 +45,11 @@ component_in x name =
 abbrev pub cell_of : Component → Cell
 cell_of c = record { at = c.at; head = head_of c.bytes; span = length c.bytes }
 
+-- the cell of the component that is found
 abbrev pub found_cell : Found → Result (Option Cell) WalkFault
 found_cell (Err fault) = Err fault
 found_cell (Ok None) = Ok None
 found_cell (Ok (Some c)) = Ok (Some (cell_of c))
-
--- the cell of the first component of a name, or else how the cells end
-abbrev pub find_in : List ℕ → List ℕ → Result (Option Cell) WalkFault
-find_in x name = found_cell (component_in x name)
 
 -- how many calls a search of a region of this size makes at most; it goes no further than the component
 abbrev pub find_reads : ℕ → Result (Option Cell) WalkFault → ℕ

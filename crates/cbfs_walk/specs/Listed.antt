@@ -1,5 +1,5 @@
 -- What a list of attributes has at its start, as the program has it, and the first attribute with a tag.
-use Rattle.std.specs.Prelude.{◌≡◌, ℕ, zero, suc, ◌+◌, List, length, drop, slice_range, Option, Some, None, Result, Ok, ⊤, ◌==◌, if◌then◌else◌, ◌≤◌}
+use Rattle.std.specs.Prelude.{◌≡◌, ℕ, zero, suc, pred, ◌+◌, List, [], ◌∷◌, slice_range, Option, Some, None, Result, Ok, ⊤, ◌==◌, if◌then◌else◌, ◌≤◌}
 use Rattle.flash_format.specs.declared.attribute.AttrHead.{AttrHead}
 use Rattle.flash_format.specs.Head.{be32}
 use Rattle.flash_format.specs.Attributes.{attr_head_of, ends_list, is_malformed}
@@ -24,19 +24,20 @@ IsListedIn at end _ = ⊤
 abbrev pub Placed : Type 0
 Placed = ℕ × AttrHead
 
--- the attribute at a place where it has the tag, and else what the rest of the list gives
-abbrev pub by_tag : ℕ → ℕ → List ℕ → Listed → (ℕ → List ℕ → Option Placed) → Option Placed
-by_tag tag at x (Attribute h) rest = if h.tag == tag then Some (at, h) else rest (at + h.len) (drop h.len x)
-by_tag tag at x _ rest = None
+-- the attribute at a place where it has the tag, and else what the list gives that follows after so many bytes
+abbrev pub by_tag : ℕ → ℕ → Listed → (ℕ → Option Placed) → Option Placed
+by_tag tag at (Attribute h) later = if h.tag == tag then Some (at, h) else later h.len
+by_tag tag at _ later = None
 
--- the first with a tag among so many attributes at most
-unfoldable pub first_within : ℕ → ℕ → ℕ → List ℕ → Option Placed
-first_within zero tag at x = None
-first_within (suc n) tag at x = by_tag tag at x (listed_in x) (first_within n tag)
+-- the first with a tag, in bytes of which the first `skip` still belong to the attribute before
+unfoldable pub first_after : ℕ → ℕ → ℕ → List ℕ → Option Placed
+first_after skip tag at [] = None
+first_after (suc skip) tag at (b ∷ rest) = first_after skip tag (at + 1) rest
+first_after zero tag at (b ∷ rest) = by_tag tag at (listed_in (b ∷ rest)) (λ len. first_after (pred len) tag (at + 1) rest)
 
--- the same of a whole list, up to its end or to a malformed attribute; it has no more attributes than bytes
+-- the same of a list, up to its end or to a malformed attribute
 abbrev pub first_in : ℕ → ℕ → List ℕ → Option Placed
-first_in tag at x = first_within (length x) tag at x
+first_in tag at x = first_after 0 tag at x
 
 -- the same of a component in a region of these bytes
 abbrev pub first_of : List ℕ → Cell → ℕ → Option Placed

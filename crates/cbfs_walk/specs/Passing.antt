@@ -1,7 +1,7 @@
 -- Reads of a region in order: what they leave, and how many calls they make.
-use Rattle.std.specs.Prelude.{◌≡◌, ℕ, ◌+◌, ◌-◌, ◌/◌, Result}
+use Rattle.std.specs.Prelude.{◌≡◌, ℕ, ◌+◌, ◌-◌, ◌/◌, List, Result, IfOk}
 use Rattle.flash_store.specs.Device.{Device, refusals}
-use Rattle.flash_store.specs.Pages.{Pages, HasRead}
+use Rattle.flash_store.specs.Pages.{Pages, HasRead, OnHonestIn}
 use Rattle.flash_store.specs.Regions.{Range}
 use Rattle.flash_store.specs.Scans.{ScansTo, SpendsTo}
 
@@ -19,3 +19,7 @@ pub record Passes {F : Type 0} (facts : F → Device) (region : Range) (at end r
 -- the same of a call that is refused where a read is
 abbrev pub HasPassed : {F T E : Type 0} → (F → Device) → Range → ℕ → ℕ → Pages F → Pages F → Result T E → Type 0
 HasPassed facts region at end old new result = Passes facts region at end (refusals result) old new
+
+-- what a call answers that isn't refused, by the bytes of the region, where the device is honest
+abbrev pub ReadsAs : {F T E : Type 0} → (F → Device) → Pages F → Range → Result T E → (List ℕ → T) → Type 0
+ReadsAs facts old region result answer = OnHonestIn facts old.device region (λ x. IfOk result (λ read. read ≡ answer x))

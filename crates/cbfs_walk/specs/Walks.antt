@@ -1,9 +1,11 @@
 -- A walk from cell to cell of a region.
-use Rattle.std.specs.Prelude.{◌≡◌, ℕ, ◌+◌, ◌-◌, List, length, drop, Option, Some, None, Result, Ok, Err, ◌==◌, if◌then◌else◌, ⊤}
+use Rattle.std.specs.Prelude.{◌≡◌, ℕ, ◌+◌, ◌-◌, List, length, drop, Option, Some, None, Result, Ok, Err, ◌==◌, if◌then◌else◌, ⊤, IfOk}
 use Rattle.flash_format.specs.Head.{head_of}
-use Rattle.flash_format.specs.Entry.{Entry, absent, damaged, cell, entry}
+use Rattle.flash_format.specs.Entry.{Entry, absent, damaged, cell, entry, present}
+use Rattle.flash_store.specs.Device.{Device}
+use Rattle.flash_store.specs.Pages.{Pages, OnHonestIn}
 use Rattle.flash_store.specs.Regions.{Range}
-use Rattle.cbfs_walk.specs.Cells.{IsCellIn}
+use Rattle.cbfs_walk.specs.Cells.{IsCellIn, cell_in}
 use Rattle.cbfs_walk.specs.Shapes.{shape_at, refused_or}
 use Rattle.cbfs_walk.specs.Passing.{reads_over}
 use Rattle.cbfs_walk.specs.declared.cell.Cell.{Cell}
@@ -33,6 +35,10 @@ answer_by rest at absent = Ok (steps.Tail at)
 answer_by rest at (damaged kind) = Err (faults.Damaged at kind)
 answer_by rest at (cell span) = Ok (steps.Cell (record { at = at; head = head_of rest; span = span }))
 
+-- where a cell's head passes its checks, by the bytes from there on
+abbrev pub answer_of : List ℕ → Cell → Answer
+answer_of rest c = answer_by rest c.at (present c.head rest (Ok (record { content = c.head.offset; span = c.span })))
+
 -- the answer at a place of a region of these bytes
 unfoldable pub answer_at : List ℕ → ℕ → Answer
 answer_at x at =
@@ -42,6 +48,10 @@ answer_at x at =
 -- the cell is what a walk gives at its place in a region of these bytes
 abbrev pub StandsIn : List ℕ → Cell → Type 0
 StandsIn x c = answer_at x c.at ≡ Ok (steps.Cell c)
+
+-- what a call answers that isn't refused, by the bytes of a cell that stands in the region, where the device is honest
+abbrev pub ReadsCellAs : {F T E : Type 0} → (F → Device) → Pages F → Range → Cell → Result T E → (List ℕ → T) → Type 0
+ReadsCellAs facts old region c result answer = OnHonestIn facts old.device region (λ x. StandsIn x c → IfOk result (λ read. read ≡ answer (cell_in x c)))
 
 -- how many refused calls of the device a fault tells
 abbrev pub by_device : WalkFault → ℕ
@@ -72,6 +82,3 @@ EndsWalk _ = ⊤
 abbrev pub reads_at : ℕ → ℕ → Answer → ℕ
 reads_at size at (Ok (steps.Cell c)) = reads_over c.span
 reads_at size at _ = reads_over (size - at)
-
-abbrev pub reads_of : Walking → Answer → ℕ
-reads_of w answer = reads_at w.region.size w.at answer

@@ -6,9 +6,9 @@ ghost use Rattle.flash_format.specs.Components.{cell_attributes, packing};
 ghost use Rattle.flash_format.specs.Entry.{name_end};
 ghost use Rattle.flash_store.specs.Pages.{HasAnswered, OnHonestIn};
 ghost use Rattle.flash_store.specs.Regions.{LiesIn};
-ghost use Rattle.cbfs_walk.specs.Passing.{HasPassed, reads_over};
+ghost use Rattle.cbfs_walk.specs.Passing.{HasPassed, ReadsAs, reads_over};
 ghost use Rattle.cbfs_walk.specs.Cells.{IsComponentIn, attributes_start, cell_in};
-ghost use Rattle.cbfs_walk.specs.Walks.{StandsIn};
+ghost use Rattle.cbfs_walk.specs.Walks.{StandsIn, ReadsCellAs};
 ghost use Rattle.cbfs_walk.specs.AttrWalks.{place_of, attr_walk_of, attr_moved, attr_reads, IsAttrIn, attributes_left, first_head, after_first};
 ghost use Rattle.cbfs_walk.specs.Listed.{IsListedIn, listed_in, IsAttrOf, first_of, searched_to, value_in};
 
@@ -107,10 +107,8 @@ pub fn packing<F: Flash>(
     ensures after { HasAnswered F.facts (reads_over cell.now.head.offset) paged.old paged.new result }
 
     // On an honest device: in any cell, and in one that stands in the region.
-    ensures value { OnHonestIn F.facts paged.old.device region (λ x.
-        IfOk result (λ value. value ≡ value_in x (first_of x cell.now COMPRESSION))) }
-    ensures packing { OnHonestIn F.facts paged.old.device region (λ x. StandsIn x cell.now →
-        IfOk result (λ value. value ≡ packing (cell_attributes (cell_in x cell.now)))) }
+    ensures value { ReadsAs F.facts paged.old region result (λ x. value_in x (first_of x cell.now COMPRESSION)) }
+    ensures packing { ReadsCellAs F.facts paged.old region cell.now result (λ x. packing (cell_attributes x)) }
 {
     paged.places_fit();
     content_fits(cell, region);
@@ -134,8 +132,7 @@ pub fn first_attribute<F: Flash>(
     ensures passes { HasPassed F.facts region (attributes_start cell.now) (searched_to cell.now result)
         paged.old paged.new result }
     ensures attribute { IfOk result (λ found. IfSome found (IsAttrOf cell.now tag)) }
-    ensures first { OnHonestIn F.facts paged.old.device region (λ x.
-        IfOk result (λ found. found ≡ first_of x cell.now tag)) }
+    ensures first { ReadsAs F.facts paged.old region result (λ x. first_of x cell.now tag) }
 {
     paged.places_fit();
     content_fits(cell, region);
@@ -166,8 +163,7 @@ pub fn are_well_formed<F: Flash>(
     requires inside { end ≤ region.size }
 
     ensures passes { HasPassed F.facts region from end paged.old paged.new result }
-    ensures formed { OnHonestIn F.facts paged.old.device region (λ x.
-        IfOk result (λ formed. formed ≡ is_some (attributes (slice_range x from end)))) }
+    ensures formed { ReadsAs F.facts paged.old region result (λ x. is_some (attributes (slice_range x from end))) }
 {
     paged.places_fit();
     let mut at = from;
@@ -204,8 +200,7 @@ fn listed_at<F: Flash>(
     ensures no_call { at ≡ end → paged.new ≡ paged.old }
     ensures none { at ≡ end → result ≡ Ok Listed.End }
     ensures attribute { IfOk result (λ listed. IsListedIn at end listed) }
-    ensures listed { OnHonestIn F.facts paged.old.device region (λ x.
-        IfOk result (λ listed. listed ≡ listed_in (slice_range x at end))) }
+    ensures listed { ReadsAs F.facts paged.old region result (λ x. listed_in (slice_range x at end)) }
 {
     if end - at < 8 {
         return Ok(Listed::End);
@@ -229,8 +224,7 @@ pub fn value_at<F: Flash>(paged: &mut Paged<F>, region: Region, at: u64) -> Resu
     requires inside { at + 4 ≤ region.size }
 
     ensures passes { HasPassed F.facts region at at paged.old paged.new result }
-    ensures value { OnHonestIn F.facts paged.old.device region (λ x.
-        IfOk result (λ value. value ≡ be32 at x)) }
+    ensures value { ReadsAs F.facts paged.old region result (λ x. be32 at x) }
 {
     paged.places_fit();
     let mut bytes = [0; 4];

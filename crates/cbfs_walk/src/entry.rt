@@ -1,12 +1,10 @@
 //! What stands at a place of a region.
 ghost use Rattle.std.specs.Prelude.{◌≡◌, ℕ, ◌+◌, ◌-◌, ◌/◌, ◌≤◌, drop, IfOk};
-ghost use Rattle.flash_format.specs.Head.{head_of};
-ghost use Rattle.flash_format.specs.Entry.{entry, front, component, name_end};
-ghost use Rattle.flash_store.specs.Pages.{HasAnswered, OnHonestIn};
+ghost use Rattle.flash_format.specs.Entry.{front, component, name_end};
+ghost use Rattle.flash_store.specs.Pages.{OnHonestIn};
 ghost use Rattle.flash_store.specs.Regions.{LiesIn};
-ghost use Rattle.cbfs_walk.specs.Cells.{IsChecked};
-ghost use Rattle.cbfs_walk.specs.Passing.{HasPassed};
-ghost use Rattle.cbfs_walk.specs.Entries.{seen, OnCell, entry_or, reads_by};
+ghost use Rattle.cbfs_walk.specs.Passing.{HasPassed, ReadsAs};
+ghost use Rattle.cbfs_walk.specs.Entries.{entry_or};
 
 use crate::attribute_walk::are_well_formed;
 use crate::names::{has_name_end, name_end};
@@ -14,48 +12,8 @@ use crate::read::read_in;
 use flash_format::{DamageKind, Head};
 use flash_store::{Flash, FlashFault, Paged, Region};
 
-#[derive(Clone, Copy)]
-pub enum Entry {
-    Absent,
-    Damaged(DamageKind),
-    /// A cell of so many bytes.
-    Cell(Head, u64),
-}
-
-pub fn entry_at<F: Flash>(
-    paged: &mut Paged<F>,
-    region: Region,
-    at: u64,
-) -> Result<Entry, FlashFault>
-    requires region { LiesIn region (F.facts paged.old.device).content }
-    requires inside { at ≤ region.size }
-
-    ensures after { HasAnswered F.facts (reads_by (region.size - at) result) paged.old paged.new result }
-    ensures checks { IfOk result (λ e. OnCell e (IsChecked (region.size - at))) }
-    ensures entry { OnHonestIn F.facts paged.old.device region (λ x.
-        IfOk result (λ e. seen e ≡ entry (drop at x))) }
-    ensures head { OnHonestIn F.facts paged.old.device region (λ x.
-        IfOk result (λ e. OnCell e (λ head span. head ≡ head_of (drop at x)))) }
-{
-    let left = region.size() - at;
-    let Some(head) = head_at(paged, region, at)? else {
-        return Ok(Entry::Absent);
-    };
-    match head.check(left) {
-        Err(kind) => Ok(Entry::Damaged(kind)),
-        Ok(extent) => {
-            if head.is_free() {
-                return Ok(Entry::Cell(head, extent.span));
-            }
-            match damage_in(paged, region, at, &head)? {
-                Some(kind) => Ok(Entry::Damaged(kind)),
-                None => Ok(Entry::Cell(head, extent.span)),
-            }
-        }
-    }
-}
-
-fn head_at<F: Flash>(
+/// The head that the entry at a place begins with, where one stands there.
+pub fn head_at<F: Flash>(
     paged: &mut Paged<F>,
     region: Region,
     at: u64,
@@ -64,8 +22,7 @@ fn head_at<F: Flash>(
     requires inside { at ≤ region.size }
 
     ensures passes { HasPassed F.facts region at at paged.old paged.new result }
-    ensures head { OnHonestIn F.facts paged.old.device region (λ x.
-        IfOk result (λ head. head ≡ front (drop at x))) }
+    ensures head { ReadsAs F.facts paged.old region result (λ x. front (drop at x)) }
 {
     if region.size() - at < 24 {
         return Ok(None);
@@ -76,7 +33,7 @@ fn head_at<F: Flash>(
 }
 
 /// What is wrong with a component after its head.
-fn damage_in<F: Flash>(
+pub fn damage_in<F: Flash>(
     paged: &mut Paged<F>,
     region: Region,
     at: u64,

@@ -4,9 +4,9 @@ ghost use Rattle.flash_format.specs.declared.digest.Digest.TheVariants as digest
 ghost use Rattle.flash_format.specs.Components.{cell_attributes, cell_content};
 ghost use Rattle.flash_store.specs.Pages.{HasAnswered, HasRead, OnHonestIn};
 ghost use Rattle.flash_store.specs.Regions.{LiesIn};
-ghost use Rattle.cbfs_walk.specs.Passing.{HasPassed, reads_over};
-ghost use Rattle.cbfs_walk.specs.Cells.{IsComponentIn, PassesChecks, content_start, content_end, cell_in};
-ghost use Rattle.cbfs_walk.specs.Walks.{StandsIn};
+ghost use Rattle.cbfs_walk.specs.Passing.{HasPassed, ReadsAs, reads_over};
+ghost use Rattle.cbfs_walk.specs.Cells.{IsComponentIn, PassesChecks, content_start, content_end};
+ghost use Rattle.cbfs_walk.specs.Walks.{ReadsCellAs};
 ghost use Rattle.cbfs_walk.specs.Hashes.{digest_like, stored_digest, compared, hash_state, content_at, hash_state_in, IsUncompared};
 
 use crate::attribute_walk::{first_attribute, value_at};
@@ -49,10 +49,9 @@ pub fn check_hash<F: Flash>(
         HasRead F.facts (reads_over cell.now.head.offset) 0 paged.old paged.new) }
 
     // On an honest device: in any cell, and in one that stands in the region.
-    ensures value { OnHonestIn F.facts paged.old.device region (λ x.
-        IfOk result (λ state. state ≡ hash_state_in x cell.now)) }
-    ensures state { OnHonestIn F.facts paged.old.device region (λ x. StandsIn x cell.now → IfOk result (λ state.
-        state ≡ hash_state (cell_attributes (cell_in x cell.now)) (cell_content (cell_in x cell.now)))) }
+    ensures value { ReadsAs F.facts paged.old region result (λ x. hash_state_in x cell.now) }
+    ensures state { ReadsCellAs F.facts paged.old region cell.now result
+        (λ x. hash_state (cell_attributes x) (cell_content x)) }
 {
     paged.places_fit();
     content_fits(cell, region);
@@ -80,8 +79,7 @@ fn stored_digest<F: Flash>(
     requires least { 4 ≤ n }
 
     ensures passes { HasPassed F.facts region at (at + n) paged.old paged.new result }
-    ensures stored { OnHonestIn F.facts paged.old.device region (λ x.
-        IfOk result (λ stored. stored ≡ stored_digest (slice_range x at (at + n)))) }
+    ensures stored { ReadsAs F.facts paged.old region result (λ x. stored_digest (slice_range x at (at + n))) }
 {
     paged.places_fit();
     let number = value_at(paged, region, at)?;
@@ -107,20 +105,11 @@ fn content_digest<F: Flash>(
     requires cell { PassesChecks region.size cell.now }
 
     ensures passes { HasPassed F.facts region (content_start cell.now) (content_end cell.now) paged.old paged.new result }
-    ensures digest { OnHonestIn F.facts paged.old.device region (λ x.
-        IfOk result (λ digest. digest ≡ digest_like stored.now (content_at x cell.now))) }
+    ensures digest { ReadsAs F.facts paged.old region result (λ x. digest_like stored.now (content_at x cell.now)) }
 {
-    paged.places_fit();
-    content_fits(cell, region);
-    let from = cell.at + u64::from(cell.head.offset);
-    let end = from + u64::from(cell.head.len);
     match stored {
-        Digest::Sha256(_) => Ok(Digest::Sha256(digest_between::<F, Sha256>(
-            paged, region, from, end,
-        )?)),
-        Digest::Sha512(_) => Ok(Digest::Sha512(digest_between::<F, Sha512>(
-            paged, region, from, end,
-        )?)),
+        Digest::Sha256(_) => Ok(Digest::Sha256(hash_content::<F, Sha256>(paged, region, cell)?)),
+        Digest::Sha512(_) => Ok(Digest::Sha512(hash_content::<F, Sha512>(paged, region, cell)?)),
     }
 }
 
@@ -135,24 +124,24 @@ fn compared(stored: Digest, computed: &Digest) -> HashState
     }
 }
 
-/// The digest of the bytes between two places, which are read in order, a piece at a time.
-fn digest_between<F: Flash, D: sha2::Digest>(
+/// The digest of a component's content, which is read in order, a piece at a time.
+fn hash_content<F: Flash, D: sha2::Digest>(
     paged: &mut Paged<F>,
     region: Region,
-    from: u64,
-    end: u64,
+    cell: &Cell,
 ) -> Result<D::Output, FlashFault>
     requires region { LiesIn region (F.facts paged.old.device).content }
-    requires order { from ≤ end }
-    requires inside { end ≤ region.size }
+    requires cell { PassesChecks region.size cell.now }
 
-    ensures passes { HasPassed F.facts region from end paged.old paged.new result }
+    ensures passes { HasPassed F.facts region (content_start cell.now) (content_end cell.now) paged.old paged.new result }
     ensures digest { OnHonestIn F.facts paged.old.device region (λ x.
-        IfOk result (D.digest_of (slice_range x from end))) }
+        IfOk result (D.digest_of (content_at x cell.now))) }
 {
     paged.places_fit();
+    content_fits(cell, region);
     let mut hasher = D::new();
-    let mut at = from;
+    let mut at = cell.at + u64::from(cell.head.offset);
+    let end = at + u64::from(cell.head.len);
     while at < end {
         let n = (end - at).min(PIECE);
         let bytes = piece_in(paged, region, at, n as usize)?;

@@ -1,14 +1,14 @@
 //! The names of components.
 ghost use Rattle.std.specs.Prelude.{◌≡◌, ◌+◌, ◌≤◌, false, length, take, drop, IfOk};
-ghost use Rattle.std.specs.List.{before_first};
+ghost use Rattle.std.specs.List.{before_first, list_any};
 ghost use Rattle.std.specs.Str.{bytes_eq};
 ghost use Rattle.flash_format.specs.Entry.{name_field, name_end, has_name, is_nul};
 ghost use Rattle.flash_format.specs.Components.{cell_name};
 ghost use Rattle.flash_store.specs.Pages.{HasAnswered, OnHonestIn};
 ghost use Rattle.flash_store.specs.Regions.{LiesIn};
-ghost use Rattle.cbfs_walk.specs.Passing.{HasPassed};
+ghost use Rattle.cbfs_walk.specs.Passing.{HasPassed, ReadsAs};
 ghost use Rattle.cbfs_walk.specs.Cells.{IsComponentIn, cell_in};
-ghost use Rattle.cbfs_walk.specs.Walks.{StandsIn};
+ghost use Rattle.cbfs_walk.specs.Walks.{StandsIn, ReadsCellAs};
 
 use crate::cell::{Cell, content_fits};
 use crate::read::piece_in;
@@ -36,8 +36,7 @@ pub fn name<F: Flash>(
     // On an honest device.
     ensures name { OnHonestIn F.facts paged.old.device region (λ x. StandsIn x cell.now →
         IfOk result (λ n. take n out.new ≡ cell_name (cell_in x cell.now))) }
-    ensures len { OnHonestIn F.facts paged.old.device region (λ x. StandsIn x cell.now →
-        IfOk result (λ n. n ≡ length (cell_name (cell_in x cell.now)))) }
+    ensures len { ReadsCellAs F.facts paged.old region cell.now result (λ x. length (cell_name x)) }
 {
     paged.places_fit();
     content_fits(cell, region);
@@ -61,8 +60,7 @@ pub fn name_is<F: Flash>(
     ensures after { HasAnswered F.facts 1 paged.old paged.new result }
 
     // On an honest device.
-    ensures named { OnHonestIn F.facts paged.old.device region (λ x. StandsIn x cell.now →
-        IfOk result (λ named. named ≡ bytes_eq (cell_name (cell_in x cell.now)) name.now)) }
+    ensures named { ReadsCellAs F.facts paged.old region cell.now result (λ x. bytes_eq (cell_name x) name.now) }
 {
     paged.places_fit();
     content_fits(cell, region);
@@ -86,13 +84,12 @@ pub fn has_name_end<F: Flash>(
     requires order { 24 ≤ name_end head.now }
 
     ensures passes { HasPassed F.facts region (at + 24) (at + 24) paged.old paged.new result }
-    ensures ends { OnHonestIn F.facts paged.old.device region (λ x.
-        IfOk result (λ ends. ends ≡ has_name (name_field head.now (drop at x)))) }
+    ensures ends { ReadsAs F.facts paged.old region result (λ x. has_name (name_field head.now (drop at x))) }
 {
     paged.places_fit();
     let n = name_room(head).min(256);
     let bytes = piece_in(paged, region, at + 24, n)?;
-    Ok(text_len(bytes) < n)
+    Ok(has_nul(bytes))
 }
 
 /// Where the name field of a component ends, and its attributes begin.
@@ -112,6 +109,13 @@ fn name_room(head: &Head) -> usize
     ensures { result + 24 ≡ name_end head.now }
 {
     name_end(head) as usize - 24
+}
+
+/// Whether there is a NUL.
+fn has_nul(bytes: &[u8]) -> bool
+    ensures { result ≡ list_any is_nul bytes.now }
+{
+    bytes.iter().any(|b| *b == 0)
 }
 
 /// Whether the bytes before the first NUL are this text.

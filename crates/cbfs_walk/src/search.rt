@@ -7,8 +7,8 @@ ghost use Rattle.flash_store.specs.Device.{faults_told};
 ghost use Rattle.flash_store.specs.Pages.{HasRead, HasAnswered, OnHonestIn};
 ghost use Rattle.flash_store.specs.Regions.{LiesIn};
 ghost use Rattle.cbfs_walk.specs.Cells.{IsCellIn, PassesChecks, cell_in};
-ghost use Rattle.cbfs_walk.specs.Walks.{StandsIn, by_device};
-ghost use Rattle.cbfs_walk.specs.Finding.{component_in, find_in, find_reads};
+ghost use Rattle.cbfs_walk.specs.Walks.{StandsIn, ReadsCellAs, by_device};
+ghost use Rattle.cbfs_walk.specs.Finding.{component_in, found_cell, find_reads};
 
 use crate::cell::Cell;
 use crate::names::name_is;
@@ -31,7 +31,7 @@ pub fn find<F: Flash>(
 
     // On an honest device.
     ensures answer { OnHonestIn F.facts paged.old.device region (λ x.
-        IsErrOf result WalkFault.Device ⊎ (result ≡ find_in x name.now)) }
+        IsErrOf result WalkFault.Device ⊎ (result ≡ found_cell (component_in x name.now))) }
     ensures stands { OnHonestIn F.facts paged.old.device region (λ x.
         IfOk result (λ found. IfSome found (StandsIn x))) }
     ensures first { OnHonestIn F.facts paged.old.device region (λ x. IfOk result (λ found. IfSome found (λ cell.
@@ -69,8 +69,8 @@ pub fn is_component<F: Flash>(
     ensures no_call { IsTrue (is_free cell.now.head) → paged.new ≡ paged.old }
 
     // On an honest device.
-    ensures named { OnHonestIn F.facts paged.old.device region (λ x. StandsIn x cell.now → IfOk result (λ is. is
-        ≡ (not (is_free cell.now.head) && bytes_eq (cell_name (cell_in x cell.now)) name.now))) }
+    ensures named { ReadsCellAs F.facts paged.old region cell.now result
+        (λ x. not (is_free cell.now.head) && bytes_eq (cell_name x) name.now) }
 {
     if cell.head.is_free() {
         return Ok(false);

@@ -1,13 +1,16 @@
 //! A walk from cell to cell.
-ghost use Rattle.std.specs.Prelude.{◌≡◌, ◌⊎◌, ◌+◌, ◌*◌, ◌/◌, ◌%◌, ◌<◌, ◌≤◌, None, IsSome, IfSome, IsErrOf};
+ghost use Rattle.std.specs.Prelude.{◌≡◌, ◌⊎◌, ◌+◌, ◌*◌, ◌/◌, ◌%◌, ◌<◌, ◌≤◌, None, IsSome, IfOk, IfSome, IsErrOf, drop};
+ghost use Rattle.flash_format.specs.Head.{head_of};
 ghost use Rattle.flash_store.specs.Device.{faults_told};
 ghost use Rattle.flash_store.specs.Pages.{HasRead, OnHonestIn};
 ghost use Rattle.flash_store.specs.Regions.{LiesIn};
+ghost use Rattle.cbfs_walk.specs.Cells.{PassesChecks, content_start};
+ghost use Rattle.cbfs_walk.specs.Passing.{Passes};
 ghost use Rattle.cbfs_walk.specs.Shapes.{has_bad_size};
-ghost use Rattle.cbfs_walk.specs.Walks.{by_device, walk_of, moved, answer_at, GivesCell, reads_of, reads_at};
+ghost use Rattle.cbfs_walk.specs.Walks.{by_device, walk_of, moved, answer_at, answer_of, GivesCell, reads_at};
 
 use crate::cell::Cell;
-use crate::entry::{Entry, entry_at};
+use crate::entry::{damage_in, head_at};
 use flash_format::DamageKind;
 use flash_store::{Flash, Paged, Region};
 use std::marker::Model;
@@ -88,7 +91,8 @@ impl Walk {
         requires { LiesIn self.old.region (F.facts paged.old.device).content }
 
         // On any device.
-        ensures after { HasRead F.facts (reads_of self.old result) (faults_told by_device result) paged.old paged.new }
+        ensures after { HasRead F.facts (reads_at self.old.region.size self.old.at result) (faults_told by_device result)
+            paged.old paged.new }
         ensures cell { GivesCell self.old.region.size self.old.at result }
         ensures moved { self.new ≡ moved self.old result }
         ensures ended { IfSome self.old.ended (λ answer. result ≡ answer) }
@@ -137,11 +141,43 @@ fn answer_at<F: Flash>(paged: &mut Paged<F>, region: Region, at: u64) -> Result<
     if at == region.size() {
         return Ok(Step::End);
     }
-    match entry_at(paged, region, at) {
+    let left = region.size() - at;
+    match head_at(paged, region, at) {
         Err(_) => Err(WalkFault::Device),
-        Ok(Entry::Absent) if at == 0 => Err(WalkFault::NotCbfs),
-        Ok(Entry::Absent) => Ok(Step::Tail(at)),
-        Ok(Entry::Damaged(kind)) => Err(WalkFault::Damaged { at, kind }),
-        Ok(Entry::Cell(head, span)) => Ok(Step::Cell(Cell { at, head, span })),
+        Ok(None) if at == 0 => Err(WalkFault::NotCbfs),
+        Ok(None) => Ok(Step::Tail(at)),
+        Ok(Some(head)) => match head.check(left) {
+            Err(kind) => Err(WalkFault::Damaged { at, kind }),
+            Ok(extent) => cell_at(
+                paged,
+                region,
+                &Cell {
+                    at,
+                    head,
+                    span: extent.span,
+                },
+            ),
+        },
+    }
+}
+
+/// The answer where a cell's head stands that has passed its checks.
+fn cell_at<F: Flash>(paged: &mut Paged<F>, region: Region, cell: &Cell) -> Result<Step, WalkFault>
+    requires region { LiesIn region (F.facts paged.old.device).content }
+    requires cell { PassesChecks region.size cell.now }
+
+    ensures passes { Passes F.facts region cell.now.at (content_start cell.now) (faults_told by_device result)
+        paged.old paged.new }
+    ensures cell { IfOk result (λ step. step ≡ Step.Cell cell.now) }
+    ensures answer { OnHonestIn F.facts paged.old.device region (λ x. cell.now.head ≡ head_of (drop cell.now.at x) →
+        IsErrOf result WalkFault.Device ⊎ (result ≡ answer_of (drop cell.now.at x) cell.now)) }
+{
+    if cell.head.is_free() {
+        return Ok(Step::Cell(*cell));
+    }
+    match damage_in(paged, region, cell.at, &cell.head) {
+        Err(_) => Err(WalkFault::Device),
+        Ok(Some(kind)) => Err(WalkFault::Damaged { at: cell.at, kind }),
+        Ok(None) => Ok(Step::Cell(*cell)),
     }
 }

@@ -10,6 +10,6 @@ use Rattle.check_report.specs.Reports.{Wish, change_rows, with_changes}
 use Rattle.check_report.specs.Changes.{AreChanges}
 
 pub gathered : (wish : Wish) (x y : List ℕ) (news : List NumberedArea) (findings : List ImageFinding) (c : Changes)
-    → news ≡ image_areas y → findings ≡ image_findings y wish.areas → AreChanges x y news findings c
-    → with_changes (finding_rows wish.is_verbose wish.areas findings) wish.kept c news ≡ change_rows wish x y
+    → news ≡ image_areas y → findings ≡ image_findings wish.is_verbose y wish.areas → AreChanges x y news findings c
+    → with_changes (finding_rows wish.areas findings) wish.kept c news ≡ change_rows wish x y
 gathered wish x y news findings c areas told k = rw (k.old_len, k.new_len, k.blocks, k.old_areas, k.areas, k.regions, areas, told) refl

@@ -1,5 +1,5 @@
 -- The rows of a report. What is told, and in which order, is this project's own.
-use Rattle.std.specs.Prelude.{ℕ, Bool, List, [], ◌++◌, length, map}
+use Rattle.std.specs.Prelude.{ℕ, Bool, List, ◌++◌, length, map}
 use Rattle.std.specs.List.{flat_map, list_any}
 use Rattle.flashmap_check.specs.declared.finding.NumberedArea.{NumberedArea}
 use Rattle.flashmap_check.specs.MapFindings.{image_areas}
@@ -41,7 +41,7 @@ answer_of form told = record { text = report form told; is_bad = list_any is_bad
 
 -- the rows of an image: what is found in it
 abbrev pub image_rows : Wish → List ℕ → List SeenRow
-image_rows wish image = finding_rows wish.is_verbose wish.areas (image_findings image wish.areas)
+image_rows wish image = finding_rows wish.areas (image_findings wish.is_verbose image wish.areas)
 
 -- of what becomes of the components of a region
 abbrev pub region_rows : List (List ℕ) → RegionChange → List SeenRow
@@ -64,5 +64,5 @@ abbrev pub change_rows : Wish → List ℕ → List ℕ → List SeenRow
 change_rows wish x y =
     (((image_rows wish y ++ rows.image_rows (length x) (length y) (different_blocks x y))
     ++ rows.area_rows wish.kept (area_changes x (image_areas x) y (image_areas y)))
-    ++ regions_rows wish.kept (region_changes x (image_areas x) y (image_findings y wish.areas)))
+    ++ regions_rows wish.kept (region_changes x (image_areas x) y (image_findings wish.is_verbose y wish.areas)))
     ++ rows.missing_rows wish.kept (image_areas x) (image_areas y)

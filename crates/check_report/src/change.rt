@@ -1,5 +1,5 @@
 //! The report on what a new image changes.
-ghost use Rattle.std.specs.Prelude.{◌≡◌, ◌+◌, ◌*◌, ◌++◌, ◌≤◌, List, length, map, IfOk, OnOk};
+ghost use Rattle.std.specs.Prelude.{◌≡◌, ◌+◌, ◌*◌, ◌/◌, ◌++◌, ◌≤◌, List, length, map, IfOk, OnOk};
 ghost use Rattle.flash_format.specs.Flashmap.{area_len};
 ghost use Rattle.flash_store.specs.Device.{faults_told};
 ghost use Rattle.flash_store.specs.Pages.{HasRead, OnHonest};
@@ -19,7 +19,7 @@ use check_rows::Report;
 use finding_rows::tell_findings;
 use flash_store::{Flash, Paged};
 use flashmap_changes::{AreaChange, area_changes, different_blocks};
-use flashmap_check::{NumberedArea, checked_map};
+use flashmap_check::{NumberedArea, image_areas};
 use image_check::{CheckedImage, checked_image};
 use region_changes::{RegionChange, region_changes};
 use std::alloc::{AllocError, Global};
@@ -46,21 +46,21 @@ fn changes_to<F: Flash, G: Flash>(
     requires regions { area_len * length (region_areas checked.now.findings.items) ≤ length (G.facts new.old.device).content }
     requires areas { area_len * length checked.now.areas.items ≤ length (G.facts new.old.device).content }
 
-    ensures old { HasRead F.facts (2 * length (F.facts old.old.device).content + length (G.facts new.old.device).content + 64)
+    ensures old { HasRead F.facts (length (F.facts old.old.device).content + length (G.facts new.old.device).content / 4 + 64)
         (faults_told by_old result) old.old old.new }
     ensures new { HasRead G.facts (length (G.facts new.old.device).content + 8) (faults_told by_new result) new.old new.new }
     ensures changes { OnHonest F.facts old.old.device (λ x. OnHonest G.facts new.old.device (λ y.
         IfOk result (AreChanges x y checked.now.areas.items checked.now.findings.items))) }
 {
-    let map = checked_map(alloc, old)?;
+    let old_areas = image_areas(alloc, old)?;
     let blocks = different_blocks(old, new)?;
-    let areas = area_changes(alloc, old, &map.areas, new, &checked.areas)?;
-    let regions = region_changes(alloc, old, &map.areas, new, &checked.findings)?;
+    let areas = area_changes(alloc, old, &old_areas, new, &checked.areas)?;
+    let regions = region_changes(alloc, old, &old_areas, new, &checked.findings)?;
     Ok(Changes {
         old_len: old.len(),
         new_len: new.len(),
         blocks,
-        old_areas: map.areas,
+        old_areas,
         areas,
         regions,
     })
@@ -92,7 +92,7 @@ pub fn report_change<F: Flash, G: Flash>(
     request: Request<'_>,
 ) -> Result<Answer, ReportFault>
     // On any devices.
-    ensures old { HasRead F.facts (2 * length (F.facts old.old.device).content + length (G.facts new.old.device).content + 64)
+    ensures old { HasRead F.facts (length (F.facts old.old.device).content + length (G.facts new.old.device).content / 4 + 64)
         (faults_told by_old result) old.old old.new }
     ensures new { HasRead G.facts (3 * length (G.facts new.old.device).content + 72) (faults_told by_new result) new.old new.new }
 
@@ -100,15 +100,10 @@ pub fn report_change<F: Flash, G: Flash>(
     ensures answer { OnHonest F.facts old.old.device (λ x. OnHonest G.facts new.old.device (λ y.
         IfOk result (λ answer. answer ≡ answer_of request.entry.form (change_rows (wish_of request.entry) x y)))) }
 {
-    let checked = checked_image(alloc, new, request.areas)?;
+    let checked = checked_image(alloc, new, request.areas, request.is_verbose)?;
     let changes = changes_to(alloc, old, new, &checked)?;
     let mut report = Report::new(alloc, request.form);
-    tell_findings(
-        &mut report,
-        &checked.findings,
-        request.areas,
-        request.is_verbose,
-    )?;
+    tell_findings(&mut report, &checked.findings, request.areas)?;
     tell_changes(&mut report, request.kept, &changes, &checked.areas)?;
     Ok(Answer::of(report)?)
 }

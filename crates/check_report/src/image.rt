@@ -28,8 +28,8 @@ pub fn report_image<F: Flash>(
     ensures answer { OnHonest F.facts paged.old.device (λ image.
         IfOk result (λ answer. answer ≡ answer_of request.entry.form (image_rows (wish_of request.entry) image))) }
 {
-    let findings = check_image(alloc, paged, request.areas)?;
+    let findings = check_image(alloc, paged, request.areas, request.is_verbose)?;
     let mut report = Report::new(alloc, request.form);
-    tell_findings(&mut report, &findings, request.areas, request.is_verbose)?;
+    tell_findings(&mut report, &findings, request.areas)?;
     Ok(Answer::of(report)?)
 }

@@ -66,6 +66,26 @@ fn the_report_on_an_image(rt: HostRuntime) {
 }
 
 #[test]
+fn a_verbose_report(rt: HostRuntime) {
+    let mut paged = Paged::new(image(&rt, &ONE));
+    let mut request = request(&[], Form::Text);
+    request.is_verbose = true;
+    let answer = report_image(rt.alloc(), &mut paged, request);
+    tells(
+        &rt,
+        answer,
+        false,
+        "remark\t-\t-\t0x0\tflashmap\n\
+         remark\tA\ta\t0x0\tno hash\n\
+         remark\tA\t-\t0x40\tunused tail\n\
+         remark\tA\t-\t-\tcomponents\t1\n\
+         remark\tA\t-\t-\tfree bytes\t0\n\
+         remark\tA\t-\t-\tlargest free run\t0\n\
+         0 bad, 6 remarks, 0 changes\n",
+    );
+}
+
+#[test]
 fn the_report_on_what_changes(rt: HostRuntime) {
     let mut old = Paged::new(image(&rt, &ONE));
     let mut new = Paged::new(image(&rt, &OTHER));

@@ -1,6 +1,6 @@
 -- A row is bad where its finding is.
 use Rattle.std.proofs.Common.{◌≡◌, ℕ, List, [], ◌∷◌, refl}
-use Rattle.std.specs.Prelude.{Bool, true, false}
+use Rattle.std.specs.Prelude.{Bool}
 use Rattle.std.specs.List.{flat_map, list_any}
 use Rattle.std.proofs.lemmas.List.Concat.{flat_map-cons}
 use Rattle.std.proofs.lemmas.List.Folds.{list_any-append}
@@ -35,27 +35,26 @@ bad_map of_map.TooManyAreas = refl
 bad_map of_map.NoMapArea = refl
 bad_map (of_map.MapAreaMisses a) = refl
 
-bad_region : (is_verbose : Bool) (region : List ℕ) (f : RegionFinding) → list_any is_bad_row (region_rows is_verbose region f) ≡ is_bad_region f
-bad_region v region of_region.BadSize = refl
-bad_region v region of_region.NotCbfs = refl
-bad_region v region (of_region.Component at name Shadowed) = refl
-bad_region v region (of_region.Component at name (UnknownType kind)) = refl
-bad_region true region (of_region.Component at name (Hash Absent)) = refl
-bad_region false region (of_region.Component at name (Hash Absent)) = refl
-bad_region v region (of_region.Component at name (Hash (Valid digest))) = refl
-bad_region v region (of_region.Component at name (Hash (Invalid digest))) = refl
-bad_region v region (of_region.Component at name (Hash Unsupported)) = refl
-bad_region v region (of_region.Deleted at) = refl
-bad_region v region of_region.Complete = refl
-bad_region v region (of_region.Tail at) = refl
-bad_region v region (of_region.Damaged at kind) = refl
-bad_region v region (of_region.Counts counts) = refl
+bad_region : (region : List ℕ) (f : RegionFinding) → list_any is_bad_row (region_rows region f) ≡ is_bad_region f
+bad_region region of_region.BadSize = refl
+bad_region region of_region.NotCbfs = refl
+bad_region region (of_region.Component at name Shadowed) = refl
+bad_region region (of_region.Component at name (UnknownType kind)) = refl
+bad_region region (of_region.Component at name (Hash Absent)) = refl
+bad_region region (of_region.Component at name (Hash (Valid digest))) = refl
+bad_region region (of_region.Component at name (Hash (Invalid digest))) = refl
+bad_region region (of_region.Component at name (Hash Unsupported)) = refl
+bad_region region (of_region.Deleted at) = refl
+bad_region region of_region.Complete = refl
+bad_region region (of_region.Tail at) = refl
+bad_region region (of_region.Damaged at kind) = refl
+bad_region region (of_region.Counts counts) = refl
 
-bad_finding : (is_verbose : Bool) (names : List (List ℕ)) (f : ImageFinding) → list_any is_bad_row (rows_of is_verbose names f) ≡ is_bad f
-bad_finding v names (Map f) = bad_map f
-bad_finding v names (Skipped a) = refl
-bad_finding v names (Region a findings) = bad_rows (region_rows v (area_name a)) is_bad_region (bad_region v (area_name a)) findings
-bad_finding v names (NoRegion number) = refl
+bad_finding : (names : List (List ℕ)) (f : ImageFinding) → list_any is_bad_row (rows_of names f) ≡ is_bad f
+bad_finding names (Map f) = bad_map f
+bad_finding names (Skipped a) = refl
+bad_finding names (Region a findings) = bad_rows (region_rows (area_name a)) is_bad_region (bad_region (area_name a)) findings
+bad_finding names (NoRegion number) = refl
 
-pub bad_findings : (is_verbose : Bool) (names : List (List ℕ)) (findings : List ImageFinding) → list_any is_bad_row (finding_rows is_verbose names findings) ≡ list_any is_bad findings
-bad_findings v names findings = bad_rows (rows_of v names) is_bad (bad_finding v names) findings
+pub bad_findings : (names : List (List ℕ)) (findings : List ImageFinding) → list_any is_bad_row (finding_rows names findings) ≡ list_any is_bad findings
+bad_findings names findings = bad_rows (rows_of names) is_bad (bad_finding names) findings

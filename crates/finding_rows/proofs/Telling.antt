@@ -1,7 +1,6 @@
 -- Findings that are told one after the other.
 use Rattle.std.proofs.Common.{◌≡◌, ◌∙◌, ℕ, ◌+◌, ◌<◌, ◌≤◌, List, [], ◌∷◌, ◌++◌, length, get_or, take, ap, sym, subst, append_assoc}
 use Rattle.std.proofs.lemmas.List.{flat_map_more, take_all, take_more}
-use Rattle.std.specs.Prelude.{Bool, true, if◌then◌else◌}
 use Rattle.std.specs.List.{flat_map}
 use Rattle.check_rows.specs.declared.report.Form.{Form}
 use Rattle.check_rows.specs.declared.report.Report.{Report}
@@ -14,11 +13,6 @@ pub rows_more : {X : Type 0} (rows : X → List SeenRow) (xs : List X) (i : ℕ)
 rows_more rows xs i x form told report lt is has =
     let more = ap (λ y. take i xs ++ y ∷ []) is ∙ sym (take_more xs i x lt) in
     subst (λ l. HasTold form l report) (flat_map_more rows told (take i xs) x ∙ ap (λ l. told ++ flat_map rows l) more) has
-
--- a row, where it is told at all
-pub row_if : (b : Bool) (form : Form) (told : List SeenRow) (row seen : SeenRow) (report : Report) → b ≡ true → row ≡ seen
-    → HasTold form (told ++ row ∷ []) report → HasTold form (told ++ (if b then seen ∷ [] else [])) report
-row_if b form told row seen report is same has = subst (λ t. HasTold form (told ++ (if t then seen ∷ [] else [])) report) (sym is) (subst (λ r. HasTold form (told ++ r ∷ []) report) same has)
 
 -- all of them
 pub rows_all : {X : Type 0} (rows : X → List SeenRow) (xs : List X) (i : ℕ) (form : Form) (told : List SeenRow) (report : Report) → length xs ≤ i

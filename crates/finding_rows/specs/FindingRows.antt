@@ -1,5 +1,5 @@
 -- The rows that tell what was found in an image. Their texts are this project's own.
-use Rattle.std.specs.Prelude.{ℕ, Bool, true, false, List, [], ◌∷◌, Option, Some, None, slice_get, if◌then◌else◌}
+use Rattle.std.specs.Prelude.{ℕ, Bool, true, false, List, [], ◌∷◌, Option, Some, None, slice_get}
 use Rattle.std.specs.List.{flat_map}
 use lib.Chars.{codes}
 use Rattle.flash_format.specs.Flashmap.{text_of}
@@ -88,18 +88,9 @@ abbrev pub component_detail : ComponentFinding → Detail
 component_detail (UnknownType kind) = details.Number kind
 component_detail _ = details.None
 
--- it has a row: only a verbose report has one of a component without a hash
-abbrev pub is_told : Bool → ComponentFinding → Bool
-is_told is_verbose (Hash Absent) = is_verbose
-is_told is_verbose _ = true
-
 -- of a component
 abbrev pub component_row : Verdict → List ℕ → ℕ → List ℕ → ComponentFinding → SeenRow
 component_row verdict region at name finding = record { verdict = verdict; area = Some region; component = Some name; position = Some at; what = component_text finding; detail = component_detail finding }
-
--- that row, or none
-abbrev pub component_rows : Verdict → Bool → List ℕ → ℕ → List ℕ → ComponentFinding → List SeenRow
-component_rows verdict is_verbose region at name finding = if is_told is_verbose finding then component_row verdict region at name finding ∷ [] else []
 
 -- what a damaged entry says: the check that it fails
 abbrev pub damage_text : DamageKind → List ℕ
@@ -118,18 +109,18 @@ count_rows v region counts =
     ∷ []
 
 -- what a finding of a region says, with a verdict
-abbrev pub region_rows_with : Verdict → Bool → List ℕ → RegionFinding → List SeenRow
-region_rows_with v is_verbose region of_region.BadSize = region_row v region None (codes "size is 0 or no multiple of 64") ∷ []
-region_rows_with v is_verbose region of_region.NotCbfs = region_row v region None (codes "no CBFS") ∷ []
-region_rows_with v is_verbose region (of_region.Component at name finding) = component_rows v is_verbose region at name finding
-region_rows_with v is_verbose region (of_region.Deleted at) = region_row v region (Some at) (codes "deleted component") ∷ []
-region_rows_with v is_verbose region of_region.Complete = region_row v region None (codes "complete") ∷ []
-region_rows_with v is_verbose region (of_region.Tail at) = region_row v region (Some at) (codes "unused tail") ∷ []
-region_rows_with v is_verbose region (of_region.Damaged at kind) = region_row v region (Some at) (damage_text kind) ∷ []
-region_rows_with v is_verbose region (of_region.Counts c) = count_rows v region c
+abbrev pub region_rows_with : Verdict → List ℕ → RegionFinding → List SeenRow
+region_rows_with v region of_region.BadSize = region_row v region None (codes "size is 0 or no multiple of 64") ∷ []
+region_rows_with v region of_region.NotCbfs = region_row v region None (codes "no CBFS") ∷ []
+region_rows_with v region (of_region.Component at name finding) = component_row v region at name finding ∷ []
+region_rows_with v region (of_region.Deleted at) = region_row v region (Some at) (codes "deleted component") ∷ []
+region_rows_with v region of_region.Complete = region_row v region None (codes "complete") ∷ []
+region_rows_with v region (of_region.Tail at) = region_row v region (Some at) (codes "unused tail") ∷ []
+region_rows_with v region (of_region.Damaged at kind) = region_row v region (Some at) (damage_text kind) ∷ []
+region_rows_with v region (of_region.Counts c) = count_rows v region c
 
-abbrev pub region_rows : Bool → List ℕ → RegionFinding → List SeenRow
-region_rows is_verbose region finding = region_rows_with (verdict_of (is_bad_region finding)) is_verbose region finding
+abbrev pub region_rows : List ℕ → RegionFinding → List SeenRow
+region_rows region finding = region_rows_with (verdict_of (is_bad_region finding)) region finding
 
 -- ---- the image
 
@@ -138,12 +129,12 @@ abbrev pub missing_row : List (List ℕ) → ℕ → SeenRow
 missing_row names number = record { verdict = Bad; area = slice_get names number; component = None; position = None; what = codes "no such area"; detail = details.None }
 
 -- the rows of one finding, where these names of areas were given
-abbrev pub rows_of : Bool → List (List ℕ) → ImageFinding → List SeenRow
-rows_of is_verbose names (Map finding) = map_row finding ∷ []
-rows_of is_verbose names (Skipped a) = area_row Remark a (codes "isn't checked, an area behind it has bytes of it") details.None ∷ []
-rows_of is_verbose names (Region a findings) = flat_map (region_rows is_verbose (area_name a)) findings
-rows_of is_verbose names (NoRegion number) = missing_row names number ∷ []
+abbrev pub rows_of : List (List ℕ) → ImageFinding → List SeenRow
+rows_of names (Map finding) = map_row finding ∷ []
+rows_of names (Skipped a) = area_row Remark a (codes "isn't checked, an area behind it has bytes of it") details.None ∷ []
+rows_of names (Region a findings) = flat_map (region_rows (area_name a)) findings
+rows_of names (NoRegion number) = missing_row names number ∷ []
 
 -- the rows of these, in their order
-abbrev pub finding_rows : Bool → List (List ℕ) → List ImageFinding → List SeenRow
-finding_rows is_verbose names findings = flat_map (rows_of is_verbose names) findings
+abbrev pub finding_rows : List (List ℕ) → List ImageFinding → List SeenRow
+finding_rows names findings = flat_map (rows_of names) findings

@@ -1,5 +1,5 @@
 -- What the verdicts of the rows say of the findings.
-use Rattle.std.specs.Prelude.{◌≡◌, ℕ, Bool, true, false, List}
+use Rattle.std.specs.Prelude.{◌≡◌, ℕ, List}
 use Rattle.std.specs.List.{list_any}
 use Rattle.image_check.specs.declared.finding.ImageFinding.{ImageFinding}
 use Rattle.image_check.specs.Verdicts.{is_bad}
@@ -8,4 +8,4 @@ use Rattle.finding_rows.specs.FindingRows.{finding_rows}
 
 -- some row is bad exactly where some finding is
 abbrev pub RowsTellWhatIsBad : Type 0
-RowsTellWhatIsBad = (is_verbose : Bool) (names : List (List ℕ)) (findings : List ImageFinding) → list_any is_bad_row (finding_rows is_verbose names findings) ≡ list_any is_bad findings
+RowsTellWhatIsBad = (names : List (List ℕ)) (findings : List ImageFinding) → list_any is_bad_row (finding_rows names findings) ≡ list_any is_bad findings

@@ -1,5 +1,5 @@
 //! The rows of a region's findings.
-ghost use Rattle.std.specs.Prelude.{◌≡◌, ◌++◌, ◌∷◌, [], List, OnOk, if◌then◌else◌};
+ghost use Rattle.std.specs.Prelude.{◌≡◌, ◌++◌, ◌∷◌, [], List, OnOk};
 ghost use Rattle.std.specs.List.{flat_map};
 ghost use Rattle.check_rows.specs.Rows.{SeenRow, seen_row};
 ghost use Rattle.check_rows.specs.Reports.{HasTold};
@@ -44,16 +44,6 @@ fn component_detail(finding: ComponentFinding) -> Detail
         ComponentFinding::UnknownType(kind) => Detail::Number(u64::from(kind)),
         ComponentFinding::Shadowed => Detail::None,
         ComponentFinding::Hash(_) => Detail::None,
-    }
-}
-
-/// Whether it has a row.
-fn is_told(is_verbose: bool, finding: ComponentFinding) -> bool
-    ensures { result ≡ rows.is_told is_verbose finding }
-{
-    match finding {
-        ComponentFinding::Hash(HashState::Absent) => is_verbose,
-        _ => true,
     }
 }
 
@@ -153,34 +143,14 @@ fn tell_counts(
     )
 }
 
-/// Tells what is found of a component, where that has a row.
-fn tell_component(
-    report: &mut Report,
-    verdict: Verdict,
-    is_verbose: bool,
-    region: &[u8],
-    at: u64,
-    name: &[u8],
-    finding: ComponentFinding,
-) -> Result<(), AllocError>
-    ensures { (form : Form) (told : List SeenRow) → HasTold form told report.old
-        → OnOk result (HasTold form (told ++ rows.component_rows verdict is_verbose region.now at name.now finding) report.new) }
-{
-    if is_told(is_verbose, finding) {
-        report.tell(&component_row(verdict, region, at, name, finding))?;
-    }
-    Ok(())
-}
-
 fn tell_with(
     report: &mut Report,
     verdict: Verdict,
-    is_verbose: bool,
     region: &[u8],
     finding: &RegionFinding,
 ) -> Result<(), AllocError>
     ensures { (form : Form) (told : List SeenRow) → HasTold form told report.old
-        → OnOk result (HasTold form (told ++ rows.region_rows_with verdict is_verbose region.now finding.now) report.new) }
+        → OnOk result (HasTold form (told ++ rows.region_rows_with verdict region.now finding.now) report.new) }
 {
     match finding {
         RegionFinding::BadSize => {
@@ -190,7 +160,7 @@ fn tell_with(
         RegionFinding::NotCbfs => tell_row(report, verdict, region, None, "no CBFS"),
         RegionFinding::Component { at, name, what } => {
             let name = name.as_slice();
-            tell_component(report, verdict, is_verbose, region, *at, name, *what)
+            report.tell(&component_row(verdict, region, *at, name, *what))
         }
         RegionFinding::Deleted { at } => {
             tell_row(report, verdict, region, Some(*at), "deleted component")
@@ -209,29 +179,27 @@ fn tell_with(
 /// Tells the rows of a finding.
 fn tell_finding(
     report: &mut Report,
-    is_verbose: bool,
     region: &[u8],
     finding: &RegionFinding,
 ) -> Result<(), AllocError>
     ensures { (form : Form) (told : List SeenRow) → HasTold form told report.old
-        → OnOk result (HasTold form (told ++ rows.region_rows is_verbose region.now finding.now) report.new) }
+        → OnOk result (HasTold form (told ++ rows.region_rows region.now finding.now) report.new) }
 {
     let verdict = verdict_of(is_bad_region(finding));
-    tell_with(report, verdict, is_verbose, region, finding)
+    tell_with(report, verdict, region, finding)
 }
 
 /// Tells the rows of what was found in the region of this name.
 pub fn tell_region(
     report: &mut Report,
-    is_verbose: bool,
     region: &[u8],
     findings: &[RegionFinding],
 ) -> Result<(), AllocError>
     ensures { (form : Form) (told : List SeenRow) → HasTold form told report.old
-        → OnOk result (HasTold form (told ++ flat_map (rows.region_rows is_verbose region.now) findings.now) report.new) }
+        → OnOk result (HasTold form (told ++ flat_map (rows.region_rows region.now) findings.now) report.new) }
 {
     for finding in findings {
-        tell_finding(report, is_verbose, region, finding)?;
+        tell_finding(report, region, finding)?;
     }
     Ok(())
 }

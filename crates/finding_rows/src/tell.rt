@@ -31,10 +31,9 @@ fn tell_finding(
     report: &mut Report,
     finding: &ImageFinding,
     names: &[&[u8]],
-    is_verbose: bool,
 ) -> Result<(), AllocError>
     ensures { (form : Form) (told : List SeenRow) → HasTold form told report.old
-        → OnOk result (HasTold form (told ++ rows.rows_of is_verbose (map (λ n. n.now) names.now) finding.now) report.new) }
+        → OnOk result (HasTold form (told ++ rows.rows_of (map (λ n. n.now) names.now) finding.now) report.new) }
 {
     match finding {
         ImageFinding::Map(of_map) => report.tell(&map_row(of_map)),
@@ -43,26 +42,24 @@ fn tell_finding(
             report.tell(&area_row(Verdict::Remark, area, what, Detail::None))
         }
         ImageFinding::Region { area, findings } => {
-            tell_region(report, is_verbose, area.area.text(), findings.as_slice())
+            tell_region(report, area.area.text(), findings.as_slice())
         }
         ImageFinding::NoRegion(number) => report.tell(&missing_row(names, *number)),
     }
 }
 
-/// Tells a row for each of these findings, in their order, which were looked for with these names of areas. Of a component
-/// without a hash only a verbose report has a row, and the counts of a region have three. Where memory is refused, nothing
-/// is promised of the report from then on.
+/// Tells a row for each of these findings, in their order, which were looked for with these names of areas; the counts of a
+/// region have three. Where memory is refused, nothing is promised of the report from then on.
 pub fn tell_findings(
     report: &mut Report,
     findings: &[ImageFinding],
     names: &[&[u8]],
-    is_verbose: bool,
 ) -> Result<(), AllocError>
     ensures { (form : Form) (told : List SeenRow) → HasTold form told report.old
-        → OnOk result (HasTold form (told ++ finding_rows is_verbose (map (λ n. n.now) names.now) findings.now) report.new) }
+        → OnOk result (HasTold form (told ++ finding_rows (map (λ n. n.now) names.now) findings.now) report.new) }
 {
     for finding in findings {
-        tell_finding(report, finding, names, is_verbose)?;
+        tell_finding(report, finding, names)?;
     }
     Ok(())
 }

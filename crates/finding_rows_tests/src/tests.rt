@@ -40,7 +40,7 @@ fn ends(rt: &(impl Abort + AllocGlobal), report: Report, text: &[u8]) {
 /// This is the text of these findings, which were looked for with no name.
 fn tells(rt: &(impl Abort + AllocGlobal), findings: &[ImageFinding], text: &[u8]) {
     let mut report = Report::new(rt.alloc(), Form::Text);
-    tell_findings(&mut report, findings, &[], false).expect(rt, "memory");
+    tell_findings(&mut report, findings, &[]).expect(rt, "memory");
     ends(rt, report, text);
 }
 
@@ -172,8 +172,9 @@ fn components(rt: HostRuntime) {
         &[region(findings)],
         b"bad\tCOREBOOT\tconfig\t0x40\thas the name of an earlier component\n\
         remark\tCOREBOOT\tconfig\t0x40\ttype without a name\t0x1234\n\
+        remark\tCOREBOOT\tconfig\t0x40\tno hash\n\
         remark\tCOREBOOT\tconfig\t0x40\thash unsupported\n\
-        1 bad, 2 remarks, 0 changes\n",
+        1 bad, 3 remarks, 0 changes\n",
     );
 }
 
@@ -204,7 +205,7 @@ fn names_that_no_area_has(rt: HostRuntime) {
     let names: &[&[u8]] = &[b"COREBOOT", b"RW_A"];
     let findings = [ImageFinding::NoRegion(1), ImageFinding::NoRegion(2)];
     let mut report = Report::new(rt.alloc(), Form::Text);
-    tell_findings(&mut report, &findings, names, false).expect(&rt, "memory");
+    tell_findings(&mut report, &findings, names).expect(&rt, "memory");
     ends(
         &rt,
         report,
@@ -213,13 +214,13 @@ fn names_that_no_area_has(rt: HostRuntime) {
 }
 
 #[test]
-fn a_verbose_document(rt: HostRuntime) {
+fn a_document(rt: HostRuntime) {
     rows_tell_what_is_bad();
     let absent = config(&rt, ComponentFinding::Hash(HashState::Absent));
     let findings = Vec::from_array(rt.alloc(), [absent]).expect(&rt, "memory");
     let findings = [ImageFinding::Map(MapFinding::NoMap), region(findings)];
     let mut report = Report::new(rt.alloc(), Form::Json);
-    tell_findings(&mut report, &findings, &[], true).expect(&rt, "memory");
+    tell_findings(&mut report, &findings, &[]).expect(&rt, "memory");
     ends(
         &rt,
         report,

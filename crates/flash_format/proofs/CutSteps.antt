@@ -5,21 +5,14 @@ use Rattle.flash_format.specs.declared.head.Head.{Head}
 use Rattle.flash_format.specs.declared.head.Extent.{Extent}
 use Rattle.flash_format.specs.declared.head.DamageKind.{DamageKind}
 use Rattle.flash_format.specs.declared.head.DamageKind.TheVariants as kinds
-use Rattle.flash_format.specs.Head.{head_of, head_at, is_free, attributes_misplaced, checked, round64}
+use Rattle.flash_format.specs.Head.{head_of, head_at, has_magic, is_free, attributes_misplaced, checked, round64}
 use Rattle.flash_format.specs.Entry.{Entry, absent, damaged, cell, entry, present, under, front, component}
 use Rattle.flash_format.proofs.Fronts.{drop-pred}
-use Rattle.flash_format.specs.Cut.{Cut, complete, tail, damage, ends, after, by_entry, cut, cut_after}
-
--- what is known of the length of a cell
-pub record IsSpan (x : List ℕ) (span : ℕ) : Type 0 where
-  pub positive : 64 ≤ span
-  pub whole : span % 64 ≡ 0
-  pub inside : length x % 64 ≡ 0 → span ≤ length x
+use Rattle.flash_format.specs.Cut.{Cut, complete, tail, damage, ends, after, by_entry, cut, cut_after, IsSpan}
 
 -- what the checks of a head say where all of them pass
 pub record IsChecked (h : Head) (left : ℕ) (e : Extent) : Type 0 where
   pub front : 24 ≤ h.offset
-  pub behind : is_free h ≡ false → 25 ≤ h.offset
   pub placed : is_free h ≡ false → attributes_misplaced h ≡ false
   pub inside : h.offset + h.len ≤ left
   pub content : e.content ≡ h.offset
@@ -40,10 +33,6 @@ least : (free : Bool) (n : ℕ) → ltb n (cond free 24 25) ≡ false → 24 ≤
 least true n e = ltb-false _ _ e
 least false n e = let h : 25 ≤ n = ltb-false _ _ e in omega arith
 
-least_behind : (free : Bool) (n : ℕ) → free ≡ false → ltb n (cond free 24 25) ≡ false → 25 ≤ n
-least_behind true n f e = absurd cc
-least_behind false n f e = ltb-false _ _ e
-
 rest_fails : (free b : Bool) → free ≡ false → (not free && b) ≡ false → b ≡ false
 rest_fails true b f e = absurd cc
 rest_fails false b f e = e
@@ -57,7 +46,6 @@ checked_ok h left e ok =
     let same = extent_is _ e d.1 in
     record {
       front = least (is_free h) h.offset a.0;
-      behind = λ f. least_behind (is_free h) h.offset f a.0;
       placed = λ f. rest_fails (is_free h) (attributes_misplaced h) f b.0;
       inside = ltb-false _ _ d.0;
       content = ap (λ (y : Extent). y.content) (sym same);
@@ -87,16 +75,20 @@ present_cell h x (Ok e) span p = (e, refl, go (is_free h) p)
     go true q = cc
     go false q = inner _ _ q
 
+-- a head that is read is the one that stands there
+pub head_is : (x : List ℕ) (h : Head) → head_at x ≡ Some h → head_of x ≡ h
+head_is x h e = go (has_magic x) e
+  where
+    go : (b : Bool) → cond b (Some (head_of x)) None ≡ Some h → head_of x ≡ h
+    go true p = cc
+    go false p = absurd cc
+
 pub front_some : (x : List ℕ) (h : Head) → front x ≡ Some h → (24 ≤ length x) × (head_at x ≡ Some h) × (h ≡ head_of x)
 front_some x h e = short (ltb (length x) 24) refl e
   where
-    magic : (m : Bool) → cond m (Some (head_of x)) None ≡ Some h → h ≡ head_of x
-    magic true q = cc
-    magic false q = absurd cc
-
     short : (b : Bool) → ltb (length x) 24 ≡ b → cond b None (head_at x) ≡ Some h → (24 ≤ length x) × (head_at x ≡ Some h) × (h ≡ head_of x)
     short true l q = absurd cc
-    short false l q = (ltb-false _ _ l, q, magic _ q)
+    short false l q = (ltb-false _ _ l, q, sym (head_is x h q))
 
 pub cell_is : (x : List ℕ) (span : ℕ) → entry x ≡ cell span → IsCell x span
 unfolding entry

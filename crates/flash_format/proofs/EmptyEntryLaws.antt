@@ -9,6 +9,7 @@ use Rattle.flash_format.specs.Head.{header_length, head_of, head_at, head_bytes,
 use Rattle.flash_format.specs.EmptyEntries.{empty_header}
 use Rattle.flash_format.specs.Entry.{cell, entry, present}
 use Rattle.flash_format.proofs.Fronts.{head_at-take}
+use Rattle.flash_format.proofs.CutSteps.{head_is}
 use Rattle.flash_format.proofs.EntryLaws.{from_head, present_by}
 use Rattle.flash_format.proofs.Writing.{head_is_read_back}
 
@@ -22,13 +23,6 @@ head_in_front h more len_fits kind_fits attributes_fit offset_fits =
     sym (head_at-take (head_bytes h ++ more) 24 (omega arith))
     ∙ ap (λ (l : List ℕ). head_at l) (take_at (head_bytes h) more 24 (length-head_bytes h))
     ∙ head_is_read_back (head_bytes h) h refl len_fits kind_fits attributes_fit offset_fits
-
-pub head_is : (x : List ℕ) (h : Head) → head_at x ≡ Some h → head_of x ≡ h
-head_is x h e = go (has_magic x) e
-  where
-    go : (b : Bool) → cond b (Some (head_of x)) None ≡ Some h → head_of x ≡ h
-    go true p = cc
-    go false p = absurd cc
 
 -- what is checked of free space that fills its cell
 free_checked : (h : Head) (left : ℕ) → is_free h ≡ true → 24 ≤ h.offset → h.offset + h.len ≤ left → checked h left ≡ Ok (record { content = h.offset; span = round64 (h.offset + h.len) })
@@ -55,7 +49,7 @@ free_entry h more size free offset fits full whole small kind_fits attributes_fi
 pub empty_header-cell : (size : ℕ) (kept : Bool) (more : List ℕ) → 64 ≤ size → size % 64 ≡ 0 → size < 2 ^ 32 → header_length + length more ≡ size
     → (entry (empty_header size kept ++ more) ≡ cell size) × (is_free (head_of (empty_header size kept ++ more)) ≡ true)
 unfolding empty_header
-empty_header-cell size kept more some whole small long = by_kept kept
+empty_header-cell size kept more some whole small long = at_most (cond kept 4 0) (few kept)
   where
     at_most : (n : ℕ) → n ≤ 4 → let h : Head = record { len = size - header_length - n; kind = 0xffffffff; attributes_offset = 0; offset = header_length } in
         let x : List ℕ = head_bytes h ++ replicate (header_length - 24) 0 ++ more in
@@ -66,11 +60,9 @@ empty_header-cell size kept more some whole small long = by_kept kept
         let same : head_bytes h ++ replicate (header_length - 24) 0 ++ more ≡ head_bytes h ++ (replicate (header_length - 24) 0 ++ more) = append_assoc (head_bytes h) (replicate (header_length - 24) 0) more in
         (ap (λ (l : List ℕ). entry l) same ∙ done.0, ap (λ (l : List ℕ). is_free (head_of l)) same ∙ done.1)
 
-    by_kept : (b : Bool) → let h : Head = record { len = size - header_length - cond b 4 0; kind = 0xffffffff; attributes_offset = 0; offset = header_length } in
-        let x : List ℕ = head_bytes h ++ replicate (header_length - 24) 0 ++ more in
-        (entry x ≡ cell size) × (is_free (head_of x) ≡ true)
-    by_kept true = at_most 4 (omega arith)
-    by_kept false = at_most 0 (omega arith)
+    few : (b : Bool) → cond b 4 0 ≤ 4
+    few true = omega arith
+    few false = omega arith
 
 pub length-empty_header : (size : ℕ) (kept : Bool) → length (empty_header size kept) ≡ header_length
 unfolding empty_header head_bytes

@@ -27,20 +27,22 @@ checked_alike h left other fits here = rw (le-ltb left (h.offset + h.len) fits, 
 range_alike : (x y : List ℕ) (n a b : ℕ) → b ≤ n → take n x ≡ take n y → slice_range x a b ≡ slice_range y a b
 range_alike x y n a b le same = sym (range-take x n a b le) ∙ ap (λ (l : List ℕ). slice_range l a b) same ∙ range-take y n a b le
 
-name_ends : (h : Head) → attributes_misplaced h ≡ false → name_end h ≤ h.offset
-name_ends h placed = go (eqb h.attributes_offset 0) placed
+-- the name field begins in a head that passes its checks, and ends before the content
+pub name_between : (h : Head) → attributes_misplaced h ≡ false → 24 ≤ h.offset → (24 ≤ name_end h) × (name_end h ≤ h.offset)
+name_between h placed room = go (eqb h.attributes_offset 0) (ltb h.attributes_offset 25) refl placed
   where
-    go : (b : Bool) → (not b && (ltb h.attributes_offset 25 || ltb h.offset h.attributes_offset)) ≡ false → cond b h.offset h.attributes_offset ≤ h.offset
-    go true p = omega arith
-    go false p = ltb-false _ _ (or_parts (ltb h.attributes_offset 25) (ltb h.offset h.attributes_offset) p).1
+    go : (none low : Bool) → ltb h.attributes_offset 25 ≡ low → (not none && (low || ltb h.offset h.attributes_offset)) ≡ false
+        → (24 ≤ cond none h.offset h.attributes_offset) × (cond none h.offset h.attributes_offset ≤ h.offset)
+    go true low b p = (room, omega arith)
+    go false true b p = absurd cc
+    go false false b p = let long = ltb-false _ _ b in (omega (arith, long), ltb-false _ _ p)
 
 component_alike : (h : Head) (x y : List ℕ) (n span : ℕ) → name_end h ≤ n → h.offset ≤ n → take n x ≡ take n y → component h x span ≡ component h y span
 component_alike h x y n span named placed same =
     let name : name_field h x ≡ name_field h y = range_alike x y n 24 (name_end h) named same in
     let list : attribute_field h x ≡ attribute_field h y =
     ap (λ (l : List ℕ). cond (eqb h.attributes_offset 0) [] l) (range_alike x y n h.attributes_offset h.offset placed same) in
-    ap (λ (l : List ℕ). cond (not (has_name l)) (damaged kinds.Name) (cond (not (is_some (attributes (attribute_field h x)))) (damaged kinds.AttrLength) (cell span))) name
-    ∙ ap (λ (l : List ℕ). cond (not (has_name (name_field h y))) (damaged kinds.Name) (cond (not (is_some (attributes l))) (damaged kinds.AttrLength) (cell span))) list
+    rw (name, list) refl
 
 -- ---- the entry
 -- what stands where the head is there
@@ -70,11 +72,11 @@ content_within x span c =
 pub present_by : (free : Bool) (h : Head) (x : List ℕ) (e : Extent) → is_free h ≡ free → present h x (Ok e) ≡ cond free (cell e.span) (component h x e.span)
 present_by free h x e is = ap (λ (b : Bool). cond b (cell e.span) (component h x e.span)) is
 
-present_alike : (h : Head) (x y : List ℕ) (n : ℕ) (e : Extent) → h.offset ≤ n → (is_free h ≡ false → attributes_misplaced h ≡ false) → take n x ≡ take n y → present h y (Ok e) ≡ present h x (Ok e)
-present_alike h x y n e fits placed same = elim (cases_Bool (is_free h)) [
+present_alike : (h : Head) (x y : List ℕ) (n : ℕ) (e : Extent) → 24 ≤ h.offset → h.offset ≤ n → (is_free h ≡ false → attributes_misplaced h ≡ false) → take n x ≡ take n y → present h y (Ok e) ≡ present h x (Ok e)
+present_alike h x y n e room fits placed same = elim (cases_Bool (is_free h)) [
   | inl free ↦ present_by true h y e free ∙ sym (present_by true h x e free)
   | inr other ↦
-      let named : name_end h ≤ n = omega (arith, name_ends h (placed other)) in
+      let named : name_end h ≤ n = omega (arith, (name_between h (placed other) room).1, fits) in
       ap (λ (v : Entry). cond (is_free h) (cell e.span) v) (sym (component_alike h x y n e.span named fits same))
 ]
 
@@ -86,7 +88,7 @@ entry_alike x y span e in_x in_y same =
     let ends = content_within x span c in
     let fits : (head_of x).offset ≤ span = omega (arith, ends) in
     as_under x y span c (omega arith) (sym (same_head_at x y span long same)) (omega (arith, ends))
-    ∙ present_alike (head_of x) x y span c.extent fits k.placed same
+    ∙ present_alike (head_of x) x y span c.extent k.front fits k.placed same
     ∙ sym (as_under x x span c c.long refl k.inside)
     ∙ e
 
@@ -98,9 +100,3 @@ entry_free x y span e free same in_y =
     as_under x y span c (omega arith) (sym (same_head_at x y 24 (omega arith) same)) (omega (arith, ends))
     ∙ present_by true (head_of x) y c.extent free
     ∙ ap (λ (n : ℕ). cell n) c.spans
-
-pub entry_large : (x : List ℕ) (span : ℕ) → entry x ≡ cell span → (64 ≤ span) × (span % 64 ≡ 0)
-entry_large x span e = let s = cell_span x span e in (s.positive, s.whole)
-
-pub entry_fits : (x : List ℕ) (span : ℕ) → entry x ≡ cell span → length x % 64 ≡ 0 → span ≤ length x
-entry_fits x span e whole = (cell_span x span e).inside whole

@@ -4,8 +4,9 @@ use Rattle.std.specs.Prelude.{slice_range, is_some}
 use Rattle.std.specs.List.{list_any, before_first, prefix_len}
 use Rattle.std.specs.Option.{option_map}
 use Rattle.std.proofs.lemmas.Bool.{le-ltb, ne_eqb, and_right, or_from, or_parts, or_right}
-use Rattle.std.proofs.lemmas.List.Folds.{list_any_at}
-use Rattle.std.proofs.lemmas.List.{take_at, drop_at, append-nil, length-replicate, get_or-take, get_or-append_right}
+use Rattle.std.proofs.lemmas.List.Folds.{list_any-append}
+use Rattle.std.proofs.lemmas.List.{take_at, drop_at, append-nil, length-replicate}
+use Rattle.std.proofs.Math.Seq.{take-append-add}
 use Rattle.byteorder.specs.Endian.{big_bytes}
 use Rattle.byteorder.specs.Numbers.{big_number-reads_back}
 use Rattle.flash_format.specs.declared.head.Head.{Head}
@@ -21,17 +22,12 @@ use Rattle.flash_format.specs.Entry.{damaged, cell, present, component, is_nul, 
 use Rattle.flash_format.specs.EmptyEntries.{padding}
 use Rattle.flash_format.specs.Made.{IsDigest, IsMade, IsReadAs, KeepsFour, name_room, meta_length, algorithm_number, algorithm, digest_bytes, digest_len, hash_attribute, hash_bytes, hash_len, made_head, padded_name, made_metadata, made, made_attributes}
 use Rattle.flash_format.proofs.AttributeSteps.{attributes_end, attributes_more}
-use Rattle.flash_format.proofs.EmptyEntryLaws.{length-head_bytes, head_in_front, head_is}
+use Rattle.flash_format.proofs.EmptyEntryLaws.{length-head_bytes, head_in_front}
+use Rattle.flash_format.proofs.CutSteps.{head_is}
 use Rattle.flash_format.proofs.EntryLaws.{from_head, present_by, up}
 
 pub room_is_least : (k : ℕ) → (k < name_room k) × (name_room k % name_padding ≡ 0) × (name_room k ≤ k + name_padding)
 room_is_least k = (omega arith, omega arith, omega arith)
-
--- ---- Bools
-
-either_way : (b : Bool) (k u v : ℕ) → k < u → k < v → k < cond b u v
-either_way true k u v in_u in_v = in_u
-either_way false k u v in_u in_v = in_v
 
 -- ---- the name
 
@@ -53,16 +49,16 @@ first_nul (b ∷ name) z (suc m) plain room =
     let parts = or_parts (is_nul b) (list_any is_nul name) plain in
     until_nul (is_nul b) b (take m (name ++ (0 ∷ z))) refl parts.0 ∙ ap (λ (l : List ℕ). b ∷ l) (first_nul name z m parts.1 (omega arith))
 
+front_of : (name z : List ℕ) (m : ℕ) → length name < m → take m (name ++ (0 ∷ z)) ≡ name ++ (0 ∷ take (m - length name - 1) z)
+front_of name z m room =
+    ap (λ (k : ℕ). take k (name ++ (0 ∷ z))) {x = m} {y = length name + suc (m - length name - 1)} (omega arith) ∙ take-append-add name (0 ∷ z) (suc (m - length name - 1))
+
 some_nul : (name z : List ℕ) (m : ℕ) → length name ≤ 127 → length name < m → has_name (take m (name ++ (0 ∷ z))) ≡ true
 some_nul name z m short room =
-    let k = length name in
-    let x : List ℕ = name ++ (0 ∷ z) in
-    let field : List ℕ = take 256 (take m x) in
-    let inside : k < length field = omega (arith, length-take 256 (take m x), length-take m x, length-append name (0 ∷ z)) in
-    let nul : get_or field k 0 ≡ 0 =
-    get_or-take 256 (take m x) k 0 (omega arith) ∙ get_or-take m x k 0 room ∙ get_or-append_right name (0 ∷ z) k k 0 refl (omega arith)
-    ∙ (let e : k - k ≡ 0 = omega arith in ap (λ (i : ℕ). get_or (0 ∷ z) i 0) e) in
-    list_any_at is_nul field k 0 inside (ap (λ b. is_nul b) nul)
+    ap (λ (l : List ℕ). has_name l) (front_of name z m room)
+    ∙ ap (λ (l : List ℕ). list_any is_nul l) (front_of name (take (m - length name - 1) z) 256 (omega arith))
+    ∙ list_any-append is_nul name (0 ∷ take (256 - length name - 1) (take (m - length name - 1) z))
+    ∙ or_right (list_any is_nul name) true refl
 
 -- ---- the attributes
 
@@ -131,13 +127,8 @@ padded_is name = ap (λ (l : List ℕ). name ++ l) (zeros_begin (name_room (leng
 
 -- the name field is longer than the name
 name_fits : (name : List ℕ) (kind : ℕ) (digest : Option Digest) (gap n : ℕ) → 24 + length name < name_end (made_head name kind digest gap n)
-name_fits name kind digest gap n =
-    let h = made_head name kind digest gap n in
-    go digest
-  where
-    go : (d : Option Digest) → let h = made_head name kind d gap n in 24 + length name < name_end h
-    go None = omega arith
-    go (Some d) = either_way (eqb (24 + name_room (length name)) 0) (24 + length name) (made_head name kind (Some d) gap n).offset (24 + name_room (length name)) (omega arith) (omega arith)
+name_fits name kind None gap n = omega arith
+name_fits name kind (Some d) gap n = rw (ne_eqb (24 + name_room (length name)) 0 (λ z. omega (arith, z))) (omega arith)
 
 placed : (name : List ℕ) (kind : ℕ) (digest : Option Digest) (gap n : ℕ) → attributes_misplaced (made_head name kind digest gap n) ≡ false
 placed name kind None gap n = refl
@@ -258,11 +249,7 @@ pub made_is_read : (name : List ℕ) (kind : ℕ) (digest : Option Digest) (gap 
 made_is_read name kind digest gap content last more is four =
     let whole : List ℕ = made_metadata name kind digest gap (length content) ++ content in
     let pad : List ℕ = padding (round64 (length whole) - length whole) last in
-    let read = metadata_is_read name kind digest gap content (pad ++ more) is in
-    let same : whole ++ (pad ++ more) ≡ made name kind digest gap content last ++ more = sym (append_assoc whole pad more) in
-    let moved : IsReadAs name kind digest content (made name kind digest gap content last ++ more) (round64 (length whole)) =
-    subst (λ (l : List ℕ). IsReadAs name kind digest content l (round64 (length whole))) same read in
-    subst (λ (k : ℕ). IsReadAs name kind digest content (made name kind digest gap content last ++ more) k) (sym (length-made name kind digest gap content last four)) moved
+    rw (length-made name kind digest gap content last four, append_assoc whole pad more) (metadata_is_read name kind digest gap content (pad ++ more) is)
 
 pub made_alone : (name : List ℕ) (kind : ℕ) (digest : Option Digest) (gap : ℕ) (content : List ℕ) (last : Option (List ℕ)) → IsMade name kind digest gap content → KeepsFour last
     → IsReadAs name kind digest content (made name kind digest gap content last) (length (made name kind digest gap content last))

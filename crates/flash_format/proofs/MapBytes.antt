@@ -1,9 +1,8 @@
 -- A map is read as it was written, and it is the image's where none stands below it.
-use Rattle.std.proofs.Common.{◌≡◌, ℕ, ◌*◌, ◌<◌, ◌≤◌, Bool, true, false, List, [], ◌∷◌, ◌++◌, All, length, take, drop, Option, Some, None, refl, sym, ◌∙◌, ap, arith, append_assoc, length-append, length-drop, ⊎_elim}
-use Rattle.std.specs.Prelude.{nat_lt}
+use Rattle.std.proofs.Common.{◌≡◌, ℕ, ◌*◌, ◌<◌, ◌≤◌, Bool, true, false, List, [], ◌∷◌, ◌++◌, All, length, take, drop, Option, Some, None, refl, sym, ◌∙◌, ap, arith, append_assoc, length-append, length-drop, ⊎_elim, ◌&&◌}
+use Rattle.std.specs.Prelude.{nat_le}
 use Rattle.std.specs.List.{flat_map}
-use Rattle.std.proofs.lemmas.Bool.{cases_lt, eq-eqb, le-leb}
-use Rattle.std.proofs.lemmas.Bool.Decides.{nat_tests}
+use Rattle.std.proofs.lemmas.Bool.{cases_lt, eq-eqb, le-leb, leb-true, and_parts}
 use Rattle.std.proofs.lemmas.List.{take_at, drop_at}
 use Rattle.std.proofs.lemmas.List.Elements.{All-head, All-tail}
 use Rattle.byteorder.specs.Endian.{little_bytes}
@@ -13,17 +12,14 @@ use Rattle.flash_format.specs.Flashmap.{area_bytes, area_of, areas_from, fmap_he
 use Rattle.flash_format.specs.Laws.{IsAreaInBytes, IsMapOf, LowestMapsAreFound, MapsAreReadBack, map_bytes}
 use Rattle.flash_format.proofs.Fronts.{area_of-take, fmap_head_of-take, has_signature-take}
 use Rattle.flash_format.proofs.MapLaws.{map_lowest}
-use Rattle.flash_format.proofs.MapSteps.{map_where, not_map_short}
+use Rattle.flash_format.proofs.MapSteps.{map_where}
 use Rattle.flash_format.proofs.Writing.{area_is_read_back, fmap_head_is_read_back, signature_is_written}
 
 -- ---- the lowest map
 
 map_long : (x : List ℕ) → is_map x ≡ true → 56 ≤ length x
-map_long x is = go (nat_lt (length x) 56) refl
-  where
-    go : (b : Bool) → nat_lt (length x) 56 ≡ b → 56 ≤ length x
-    go true e = absurd (let k : true ≡ false = sym is ∙ not_map_short x (grind (arith, nat_tests)) in cc)
-    go false e = grind (arith, nat_tests)
+unfolding is_map
+map_long x is = leb-true 56 (length x) (and_parts (nat_le 56 (length x)) (has_signature x && is_valid_head (fmap_head_of x) (length x)) is).0
 
 one_place : (p q : ℕ) → (p < q → ⊥) → (q < p → ⊥) → p ≡ q
 one_place p q above below = ⊎_elim (λ lower. absurd (above lower)) (λ high. ⊎_elim (λ higher. absurd (below higher)) (λ low. omega (arith, high, low)) (cases_lt q p)) (cases_lt p q)

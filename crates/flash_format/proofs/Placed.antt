@@ -32,15 +32,10 @@ empty_is_space size last some four =
 
 -- ---- the component
 
-abbrev the_component : ℕ → List ℕ → ℕ → List Attribute → List ℕ → List ℕ → Component
-the_component at name kind attributes content bytes = record { at = at; name = name; kind = kind; attributes = attributes; content = content; bytes = bytes }
-
 component_made : (at : ℕ) (name : List ℕ) (kind : ℕ) (digest : Option Digest) (content x : List ℕ) (span : ℕ) → IsReadAs name kind digest content x span → component_at at x ≡ made_component at name kind digest content x
 component_made at name kind digest content x span is =
-    ap (λ (n : List ℕ). the_component at n (head_of x).kind (cell_attributes x) (cell_content x) x) is.has_name
-    ∙ ap (λ (k : ℕ). the_component at name k (cell_attributes x) (cell_content x) x) is.has_kind
-    ∙ ap (λ (o : Option (List Attribute)). the_component at name kind (unwrap_or o []) (cell_content x) x) is.has_attributes
-    ∙ ap (λ (l : List ℕ). the_component at name kind (unwrap_or (Some (made_attributes digest)) []) l x) is.has_content
+    let attributes : cell_attributes x ≡ made_attributes digest = ap (λ (o : Option (List Attribute)). unwrap_or o []) is.has_attributes in
+    rw (is.has_name, is.has_kind, attributes, is.has_content) refl
 
 -- a cell that isn't free has its component
 component_alone : (at : ℕ) (x : List ℕ) → is_free (head_of x) ≡ false → components_from at (x ∷ []) ≡ component_at at x ∷ []

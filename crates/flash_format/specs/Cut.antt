@@ -1,7 +1,7 @@
 -- A region cut into its cells, which follow each other, and what ends them.
 -- CBFS entries follow each other at multiples of 64; that the rest after the last one is a tail, kept and never
 -- used, is this project's own.
-use Rattle.std.specs.Prelude.{◌≡◌, ℕ, zero, suc, pred, ◌<◌, List, [], ◌∷◌, ◌++◌, length, take, All}
+use Rattle.std.specs.Prelude.{◌≡◌, ℕ, zero, suc, pred, ◌%◌, ◌<◌, ◌≤◌, List, [], ◌∷◌, ◌++◌, length, take, All}
 use Rattle.std.specs.List.{concat}
 use Rattle.flash_format.specs.declared.head.DamageKind.{DamageKind}
 use Rattle.flash_format.specs.Entry.{Entry, absent, damaged, cell, entry}
@@ -45,6 +45,12 @@ abbrev pub cut : List ℕ → Cut
 cut x = cut_after 0 x
 
 -- ---- the same as a relation
+
+-- the length of a cell that these bytes begin with: whole multiples of 64, and no more than bytes that are such have
+pub record IsSpan (x : List ℕ) (span : ℕ) : Type 0 where
+  pub positive : 64 ≤ span
+  pub whole : span % 64 ≡ 0
+  pub inside : length x % 64 ≡ 0 → span ≤ length x
 
 -- one cell and nothing more
 abbrev pub IsCell : List ℕ → Type 0

@@ -5,7 +5,7 @@ use Rattle.flash_format.specs.declared.digest.Digest.{Digest}
 use Rattle.flash_format.specs.Head.{name_padding, header_length, head_of, is_free, round64}
 use Rattle.flash_format.specs.EmptyEntries.{empty_header, empty_entry}
 use Rattle.flash_format.specs.Entry.{entry, cell}
-use Rattle.flash_format.specs.Cut.{End, cut, after_all, IsCell, IsCut}
+use Rattle.flash_format.specs.Cut.{End, cut, after_all, IsSpan, IsCell, IsCut}
 use Rattle.flash_format.specs.Components.{components, components_from, moved}
 use Rattle.flash_format.specs.Splices.{AllFree, CellsBetween, spliced}
 use Rattle.flash_format.specs.Made.{IsDigest, IsMade, IsReadAs, KeepsFour, name_room, meta_length, hash_len, made_metadata, made}
@@ -15,13 +15,9 @@ use Rattle.flash_format.specs.declared.flashmap.Area.{Area}
 use Rattle.flash_format.specs.declared.flashmap.FmapHead.{FmapHead}
 use Rattle.flash_format.specs.TypeNames.{name_of_type, type_of_text}
 
--- a cell has at least 64 bytes, and a multiple of 64
-abbrev pub CellsAreLarge : Type 0
-CellsAreLarge = (x : List ℕ) (span : ℕ) → entry x ≡ cell span → (64 ≤ span) × (span % 64 ≡ 0)
-
--- a cell doesn't reach past the end of a region of whole cells
-abbrev pub CellsFit : Type 0
-CellsFit = (x : List ℕ) (span : ℕ) → entry x ≡ cell span → length x % 64 ≡ 0 → span ≤ length x
+-- a cell has whole multiples of 64 bytes, and doesn't reach past the end of a region that has such
+abbrev pub CellsAreWhole : Type 0
+CellsAreWhole = (x : List ℕ) (span : ℕ) → entry x ≡ cell span → IsSpan x span
 
 -- a cell is read alike whatever follows it
 abbrev pub CellsAreReadAlike : Type 0
@@ -81,17 +77,11 @@ MetadataIsReadAsMade = (name : List ℕ) (kind : ℕ) (digest : Option Digest) (
     → let component = made_metadata name kind digest gap (length content) ++ content in
     IsReadAs name kind digest content (component ++ more) (round64 (length component))
 
--- a made cell is read as a cell of its length, whatever bytes follow
+-- a made cell is read as a cell of its length, whatever bytes follow, if any
 abbrev pub MadeCellsAreReadAsMade : Type 0
 MadeCellsAreReadAsMade = (name : List ℕ) (kind : ℕ) (digest : Option Digest) (gap : ℕ) (content : List ℕ) (last : Option (List ℕ)) (more : List ℕ) → IsMade name kind digest gap content → KeepsFour last
     → let x = made name kind digest gap content last in
     IsReadAs name kind digest content (x ++ more) (length x)
-
--- and where none follow
-abbrev pub MadeCellsStandAlone : Type 0
-MadeCellsStandAlone = (name : List ℕ) (kind : ℕ) (digest : Option Digest) (gap : ℕ) (content : List ℕ) (last : Option (List ℕ)) → IsMade name kind digest gap content → KeepsFour last
-    → let x = made name kind digest gap content last in
-    IsReadAs name kind digest content x (length x)
 
 -- how long a made cell is
 abbrev pub MadeCellsAreAsLong : Type 0

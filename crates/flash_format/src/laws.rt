@@ -1,6 +1,6 @@
 //! Laws of the definitions, which the crates above rest on. These functions do nothing: their contracts are the laws.
 
-ghost use Rattle.flash_format.specs.Laws.{CellsAreLarge, CellsFit, CellsAreReadAlike, FreeCellsAreReadByTheirHead, EveryRegionHasACut, CutsAreUnique, CutsGoOn, ComponentsGoOn, ComponentsJoin, PlacesAreSums, EmptyHeadersAreFreeCells, CellsAreReplaced, ComponentsStay, EmptyEntriesHaveNoComponent, MetadataIsReadAsMade, MadeCellsAreReadAsMade, MadeCellsStandAlone, MadeCellsAreAsLong, RoomsAreLeast, EmptyEntriesAreSpace, ComponentsArePlaced, MapsAreTheLowest, LowestMapsAreFound, MapsAreReadBack, NamesAreReadBack};
+ghost use Rattle.flash_format.specs.Laws.{CellsAreWhole, CellsAreReadAlike, FreeCellsAreReadByTheirHead, EveryRegionHasACut, CutsAreUnique, CutsGoOn, ComponentsGoOn, ComponentsJoin, PlacesAreSums, EmptyHeadersAreFreeCells, CellsAreReplaced, ComponentsStay, EmptyEntriesHaveNoComponent, MetadataIsReadAsMade, MadeCellsAreReadAsMade, MadeCellsAreAsLong, RoomsAreLeast, EmptyEntriesAreSpace, ComponentsArePlaced, MapsAreTheLowest, LowestMapsAreFound, MapsAreReadBack, NamesAreReadBack};
 ghost use Rattle.std.specs.Prelude.{◌≡◌};
 ghost use Rattle.flash_format.specs.Head.{header_length};
 ghost use Rattle.flash_format.specs.Flashmap.{fmap_head_len, area_len};
@@ -18,8 +18,7 @@ pub fn lengths_are_defined()
 /// How the cell of an entry is read: its length is a multiple of 64, it fits into a region of such a length, and nothing
 /// after it bears on it; of a free one only the first 24 bytes do.
 pub fn entries_are_read_alike()
-    ensures size { CellsAreLarge }
-    ensures within { CellsFit }
+    ensures size { CellsAreWhole }
     ensures alike { CellsAreReadAlike }
     ensures free { FreeCellsAreReadByTheirHead }
 {}
@@ -57,7 +56,6 @@ pub fn groups_are_replaced()
 pub fn made_cells_are_read_as_made()
     ensures metadata { MetadataIsReadAsMade }
     ensures whole { MadeCellsAreReadAsMade }
-    ensures alone { MadeCellsStandAlone }
     ensures len { MadeCellsAreAsLong }
     ensures room { RoomsAreLeast }
 {}

@@ -2,8 +2,9 @@
 use Rattle.std.proofs.Common.{◌≡◌, ℕ, ◌+◌, ◌-◌, ◌≤◌, List, ◌++◌, length, take, drop, refl, sym, ap, subst, ◌∙◌, arith, rules, length-append, length-take, length-drop, take-append-drop}
 use Rattle.std.specs.Prelude.{slice_range}
 use Rattle.std.proofs.lemmas.List.{append_assoc, take-take, drop-drop, drop-take, take_at, drop_at, length-take-le, take-append-le, drop-append-le}
+use Rattle.std.proofs.Math.Seq.{take-add}
 use Rattle.std.proofs.lemmas.Slice.{take-put_mid_below, take-put_mid, drop-put_mid}
-use Rattle.flash_store.specs.Bytes.{overwritten, SameOutside}
+use Rattle.flash_store.specs.Bytes.{overwritten, SameOutside, PartWritten}
 use borrow.Rule.Slice.PartMut.{put_mid}
 
 -- a part as a length from a place on
@@ -12,6 +13,20 @@ slice_range_is xs at n = ap (λ k. take k (drop at xs)) {x = at + n - at} {y = n
 
 pub length-slice_range : (xs : List ℕ) (at n : ℕ) → at + n ≤ length xs → length (slice_range xs at (at + n)) ≡ n
 length-slice_range xs at n within = grind (arith, length-take, length-drop)
+
+-- a part is decided by a prefix that holds it
+front_decides : (xs ys : List ℕ) (start n len : ℕ) → start + n ≤ len → take len xs ≡ take len ys → take n (drop start xs) ≡ take n (drop start ys)
+front_decides xs ys start n len within same =
+    let short = λ (zs : List ℕ). take-take (start + n) len zs within in
+    sym (drop-take start n xs) ∙ ap (drop start) (sym (short xs) ∙ ap (take (start + n)) same ∙ short ys) ∙ drop-take start n ys
+
+-- what lies in a window of a content is the content's
+pub part_of_window : (buffer content : List ℕ) (from len at n : ℕ) → take len buffer ≡ slice_range content from (from + len) → from ≤ at → at + n ≤ from + len → slice_range buffer (at - from) (at - from + n) ≡ slice_range content at (at + n)
+part_of_window buffer content from len at n same above within =
+    let there : from + (at - from) ≡ at = omega (arith, above) in
+    slice_range_is buffer (at - from) n
+    ∙ front_decides buffer (drop from content) (at - from) n len (omega (arith, above, within)) (same ∙ slice_range_is content from len)
+    ∙ ap (take n) (drop-drop (at - from) from content) ∙ ap (λ k. take n (drop k content)) there ∙ sym (slice_range_is content at n)
 
 -- the form in which std's lemmas have it
 pub overwritten_is : (old : List ℕ) (at : ℕ) (bytes : List ℕ) → overwritten old at bytes ≡ put_mid at (length bytes) old bytes
@@ -45,6 +60,10 @@ SameOutside-wider old new at m n shorter same = record {
   after = further old new (at + m) (at + n) (omega arith) same.after;
 }
 
+-- nor does one of the first of these bytes
+pub torn_part : {H : Type 0} (old new : List ℕ) (at k : ℕ) (bytes : List ℕ) → (H → SameOutside at (length (take k bytes)) old new) → H → SameOutside at (length bytes) old new
+torn_part old new at k bytes same h = SameOutside-wider old new at (length (take k bytes)) (length bytes) (omega (arith, length-take k bytes)) (same h)
+
 -- a write right after another's last byte makes one write with it
 pub overwritten-more : (old : List ℕ) (at : ℕ) (xs ys : List ℕ) → at + length xs ≤ length old → overwritten (overwritten old at xs) (at + length xs) ys ≡ overwritten old at (xs ++ ys)
 overwritten-more old at xs ys within =
@@ -69,6 +88,31 @@ SameOutside-trans old mid new at n d m within first second = record {
   before = nearer mid new at (at + d) (omega arith) second.before ∙ first.before;
   after = further mid new (at + d + m) (at + n) (omega (arith, within)) second.after ∙ first.after;
 }
+
+-- ---- bytes that are written some at a time
+
+-- some more of them
+pub written-more : (old mid new : List ℕ) (at done n : ℕ) (bytes : List ℕ) → done ≤ length bytes → at + done ≤ length old
+    → mid ≡ overwritten old at (take done bytes) → new ≡ overwritten mid (at + done) (take n (drop done bytes)) → new ≡ overwritten old at (take (done + n) bytes)
+written-more old mid new at done n bytes within inside so_far now =
+    now ∙ ap (λ m. overwritten m (at + done) (take n (drop done bytes))) so_far
+    ∙ overwritten-more_at old at done (take done bytes) (take n (drop done bytes)) (length-take-le done bytes within) inside
+    ∙ ap (overwritten old at) (sym (take-add done n bytes))
+
+-- a part of them changes nothing outside their range
+pub written-outside : (old mid : List ℕ) (at done : ℕ) (bytes : List ℕ) → at ≤ length old → mid ≡ overwritten old at (take done bytes) → SameOutside at (length bytes) old mid
+written-outside old mid at done bytes inside so_far =
+    rw so_far (SameOutside-overwritten old at (length bytes) (take done bytes) (omega (arith, length-take done bytes)) inside)
+
+-- nor does what a call leaves that failed behind it
+pub written-torn : (old mid new : List ℕ) (at done torn : ℕ) (bytes : List ℕ) → done + torn ≤ length bytes → at ≤ length old
+    → mid ≡ overwritten old at (take done bytes) → SameOutside (at + done) torn mid new → SameOutside at (length bytes) old new
+written-torn old mid new at done torn bytes within inside so_far same =
+    SameOutside-trans old mid new at (length bytes) done torn within (written-outside old mid at done bytes inside so_far) same
+
+pub written-part : (old mid new : List ℕ) (at done torn : ℕ) (bytes : List ℕ) → torn ≤ 4096 → done + torn ≤ length bytes
+    → mid ≡ overwritten old at (take done bytes) → SameOutside (at + done) torn mid new → PartWritten at bytes old new
+written-part old mid new at done torn bytes short within so_far same = record { done = done; torn = torn; short = short; within = within; same = rw (← so_far) same }
 
 pub length-overwritten : (x : List ℕ) (at : ℕ) (u : List ℕ) → at + length u ≤ length x → length (overwritten x at u) ≡ length x
 length-overwritten x at u inside =

@@ -1,34 +1,27 @@
 -- Copies that go on piece by piece: their calls so far, and what was put, filled or copied.
-use Rattle.std.proofs.Common.{replicate, ◌≡◌, ℕ, ◌+◌, ◌-◌, ◌*◌, ◌%◌, ◌<◌, ◌≤◌, ◌++◌, List, Option, None, Some, min, length, take, drop, sym, ap, subst, ◌∙◌, arith, append_assoc}
+use Rattle.std.proofs.Common.{replicate, ◌≡◌, ℕ, ◌+◌, ◌-◌, ◌/◌, ◌%◌, ◌<◌, ◌≤◌, ◌++◌, List, Option, None, Some, length, take, drop, sym, ap, subst, ◌∙◌, arith, append_assoc}
 use Rattle.std.specs.Prelude.{slice_range, Result, Ok, Err, OnErr}
 use Rattle.std.specs.Io.KnownBytes.{Appends, Keeps}
 use Rattle.std.proofs.KnownBytes.{Appends-trans}
 use Rattle.std.proofs.Math.Seq.{take-add}
-use Rattle.std.proofs.lemmas.List.{drop-drop, take-take, length-take-le, take-replicate, length-replicate, replicate-append-replicate}
-use Rattle.flash_store.specs.Bytes.{overwritten, SameOutside, FirstWritten, PartWritten}
-use Rattle.flash_store.proofs.BytesLemmas.{slice_range_is, length-slice_range, overwritten-more_at, SameOutside-overwritten, SameOutside-trans}
-use Rattle.flash_store.specs.Device.{Device, Calls, OneCall}
+use Rattle.std.proofs.lemmas.List.{drop-drop, take-take, length-take-le, take-replicate, drop-replicate}
+use Rattle.flash_store.specs.Bytes.{overwritten, FirstWritten}
+use Rattle.flash_store.proofs.BytesLemmas.{slice_range_is, length-slice_range}
+use Rattle.flash_store.proofs.DeviceLemmas.{Calls-then, Calls-at_most}
+use Rattle.flash_store.specs.Device.{Device, Calls}
+use Rattle.flash_store.specs.Pages.{Pages, HasRead}
+use Rattle.flash_store.proofs.WindowLemmas.{HasRead-then, HasRead-within}
 use Rattle.flash_store.specs.Output.{AppendsPart, AppendsPieces}
 
--- at most a call for each 4096 bytes that are done, and one more for the last few; none was refused
-pub record CallsSoFar (done n : ℕ) (old new : Device) : Type 0 where
-  pub no_fewer : old.calls ≤ new.calls
-  pub no_more : 4096 * new.calls ≤ 4096 * old.calls + done + 4095
-  pub no_more_yet : done < n → 4096 * new.calls ≤ 4096 * old.calls + done
-  pub faults : new.faults ≡ old.faults
-  pub same_honesty : new.honest ≡ old.honest
-  pub same_length : length new.content ≡ length old.content
+-- pieces of 4096 bytes take a call each, and so does a shorter last one
+pub Calls-piece : (done n refused : ℕ) (old mid new : Device) → done < n → done % 4096 ≡ 0 → Calls ((done + 4095) / 4096) 0 old mid → Calls 1 refused mid new → Calls ((n + 4095) / 4096) refused old new
+Calls-piece done n refused old mid new more whole so_far call =
+    Calls-at_most ((done + 4095) / 4096 + 1) ((n + 4095) / 4096) refused old new (omega (arith, so_far.no_more, call.no_more)) (Calls-then ((done + 4095) / 4096) 1 refused old mid new so_far call)
 
--- one piece more
-pub CallsSoFar-more : (done n size : ℕ) (old mid new : Device) → done < n → size ≡ min (n - done) 4096 → CallsSoFar done n old mid → OneCall 0 mid new → CallsSoFar (done + size) n old new
-CallsSoFar-more done n size old mid new left is so_far call = record {
-  no_fewer = omega (arith, so_far.no_fewer, call.calls);
-  no_more = omega (arith, so_far.no_more_yet left, call.calls);
-  no_more_yet = λ more. omega (arith, so_far.no_more_yet left, call.calls);
-  faults = omega (arith, so_far.faults, call.faults);
-  same_honesty = call.same_honesty ∙ so_far.same_honesty;
-  same_length = call.same_length ∙ so_far.same_length;
-}
+pub HasRead-piece : {F : Type 0} (facts : F → Device) (done n refused : ℕ) (old mid new : Pages F) → done < n → done % 4096 ≡ 0 → HasRead facts ((done + 4095) / 4096) 0 old mid → HasRead facts 1 refused mid new
+    → HasRead facts ((n + 4095) / 4096) refused old new
+HasRead-piece facts done n refused old mid new more whole so_far piece =
+    HasRead-within facts ((done + 4095) / 4096 + 1) ((n + 4095) / 4096) refused old new (omega (arith, more, whole)) (HasRead-then facts ((done + 4095) / 4096) 1 refused old mid new so_far piece)
 
 -- two neighbouring parts are one
 pub slice_range-join : (xs : List ℕ) (at m k : ℕ) → slice_range xs at (at + m) ++ slice_range xs (at + m) (at + m + k) ≡ slice_range xs at (at + (m + k))
@@ -75,84 +68,23 @@ pub OnErr-from : {T E P : Type 0} (result : Result T E) → P → OnErr result P
 OnErr-from (Ok x) p = tt
 OnErr-from (Err e) p = p
 
--- a fill goes on by one piece
-pub Filled-more : (old mid new : List ℕ) (at done size byte : ℕ) → size ≤ 4096 → at + (done + size) ≤ length old → mid ≡ overwritten old at (replicate done byte) → new ≡ overwritten mid (at + done) (take size (replicate 4096 byte)) → new ≡ overwritten old at (replicate (done + size) byte)
-Filled-more old mid new at done size byte short within so_far now =
-    let behind = overwritten-more_at old at done (replicate done byte) (replicate size byte) (length-replicate done byte) (omega (arith, within)) in
-    now ∙ ap (λ xs. overwritten xs (at + done) (take size (replicate 4096 byte))) so_far
-    ∙ ap (λ ys. overwritten (overwritten old at (replicate done byte)) (at + done) ys) (take-replicate size 4096 byte short)
-    ∙ behind ∙ ap (overwritten old at) (replicate-append-replicate done size byte)
-
--- how long a prefix of a row of copies is
-pub length-copies : (size byte : ℕ) → size ≤ 4096 → length (take size (replicate 4096 byte)) ≡ size
-length-copies size byte short = ap length (take-replicate size 4096 byte short) ∙ length-replicate size byte
-
--- the same bytes, as a prefix of a longer row of copies
-pub Filled-front : (old : List ℕ) (at done n byte : ℕ) → done ≤ n → overwritten old at (take done (replicate n byte)) ≡ overwritten old at (replicate done byte)
-Filled-front old at done n byte below = ap (overwritten old at) (take-replicate done n byte below)
-
--- or is cut short there
-pub Filled-part : (old mid new : List ℕ) (at done size n byte : ℕ) → size ≤ 4096 → done + size ≤ n → mid ≡ overwritten old at (replicate done byte)
-    → SameOutside (at + done) (length (take size (replicate 4096 byte))) mid new → PartWritten at (replicate n byte) old new
-Filled-part old mid new at done size n byte short within so_far torn = record {
-  done = done;
-  torn = size;
-  short = short;
-  within = rw (length-replicate n byte) within;
-  same = rw (Filled-front old at done n byte (omega (arith, within)), ← so_far) (subst (λ k. SameOutside (at + done) k mid new) (length-copies size byte short) torn);
-}
-
-pub Filled-outside : (old mid new : List ℕ) (at done size n byte : ℕ) → size ≤ 4096 → done + size ≤ n → at + n ≤ length old → mid ≡ overwritten old at (replicate done byte)
-    → SameOutside (at + done) (length (take size (replicate 4096 byte))) mid new → SameOutside at n old new
-Filled-outside old mid new at done size n byte short within inside so_far torn =
-    let first : SameOutside at n old mid = rw so_far (SameOutside-overwritten old at n (replicate done byte) (rw (length-replicate done byte) (omega (arith, within))) (omega (arith, inside))) in
-    SameOutside-trans old mid new at n done size within first (subst (λ k. SameOutside (at + done) k mid new) (length-copies size byte short) torn)
-
--- the same, where the piece may have made no call
-pub CallsSoFar-at_most : (done n size : ℕ) (old mid new : Device) → done < n → size ≡ min (n - done) 4096 → CallsSoFar done n old mid → Calls 1 0 mid new → CallsSoFar (done + size) n old new
-CallsSoFar-at_most done n size old mid new left is so_far call = record {
-  no_fewer = omega (arith, so_far.no_fewer, call.no_fewer);
-  no_more = omega (arith, so_far.no_more_yet left, call.no_more);
-  no_more_yet = λ more. omega (arith, so_far.no_more_yet left, call.no_more);
-  faults = omega (arith, so_far.faults, call.faults);
-  same_honesty = call.same_honesty ∙ so_far.same_honesty;
-  same_length = call.same_length ∙ so_far.same_length;
-}
-
--- a copy goes on by one piece of the input
-pub Copied-more : (old mid new input : List ℕ) (at done size : ℕ) → done ≤ length input → at + done ≤ length old → mid ≡ overwritten old at (take done input) → new ≡ overwritten mid (at + done) (slice_range input done (done + size)) → new ≡ overwritten old at (take (done + size) input)
-Copied-more old mid new input at done size has within so_far now =
-    let piece : slice_range input done (done + size) ≡ take size (drop done input) = slice_range_is input done size in
-    let behind = overwritten-more_at old at done (take done input) (take size (drop done input)) (length-take-le done input has) within in
-    now ∙ ap (λ xs. overwritten xs (at + done) (slice_range input done (done + size))) so_far
-    ∙ ap (λ ys. overwritten (overwritten old at (take done input)) (at + done) ys) piece
-    ∙ behind ∙ ap (overwritten old at) (sym (take-add done size input))
+-- a piece of a row of copies
+pub copies-part : (copies : List ℕ) (done size n byte : ℕ) → copies ≡ replicate 4096 byte → size ≤ 4096 → done + size ≤ n → take size copies ≡ take size (drop done (replicate n byte))
+copies-part copies done size n byte all short within =
+    ap (take size) all ∙ take-replicate size 4096 byte short ∙ sym (take-replicate size (n - done) byte (omega (arith, within))) ∙ ap (take size) (sym (drop-replicate done n byte))
 
 -- the first of the input, as a prefix of more of it
 pub Copied-front : (old mid input : List ℕ) (at done n : ℕ) → done ≤ n → mid ≡ overwritten old at (take done input) → mid ≡ overwritten old at (take done (take n input))
 Copied-front old mid input at done n below so_far = so_far ∙ ap (overwritten old at) (sym (take-take done n input below))
 
 -- or the input stops it
-pub Copied-stopped : (old mid new input : List ℕ) (at done n : ℕ) → done < n → n ≤ length input → mid ≡ overwritten old at (take done input) → new ≡ mid → FirstWritten at (take n input) old new
-Copied-stopped old mid new input at done n left has so_far same =
-    (done, rw (length-take-le n input has) left, same ∙ Copied-front old mid input at done n (omega (arith, left)) so_far)
-
--- or it is cut short
-pub Copied-part : (old mid new input : List ℕ) (at done size n : ℕ) → size ≤ 4096 → done + size ≤ n → n ≤ length input → mid ≡ overwritten old at (take done input)
-    → SameOutside (at + done) size mid new → PartWritten at (take n input) old new
-Copied-part old mid new input at done size n short within has so_far torn = record {
-  done = done;
-  torn = size;
-  short = short;
-  within = rw (length-take-le n input has) within;
-  same = rw (← Copied-front old mid input at done n (omega (arith, within)) so_far) torn;
-}
+pub Copied-stopped : {H G : Type 0} (old mid input : List ℕ) (at done n : ℕ) → done < n → n ≤ length input → (H → G → mid ≡ overwritten old at (take done input)) → H → G → FirstWritten at (take n input) old mid
+Copied-stopped old mid input at done n left has so_far h s =
+    (done, rw (length-take-le n input has) left, Copied-front old mid input at done n (omega (arith, left)) (so_far h s))
 
 -- what a watcher was shown: the first bytes of a source, and the next piece
-pub shown-more : (Saw : List ℕ → Type 0) (seen content now : List ℕ) (done size : ℕ) → now ≡ content → Saw ((seen ++ take done content) ++ slice_range now done (done + size)) → Saw (seen ++ take (done + size) content)
-shown-more Saw seen content now done size same saw =
-    let joined : (seen ++ take done content) ++ slice_range now done (done + size) ≡ seen ++ take (done + size) content =
-    ap (λ (l : List ℕ). (seen ++ take done content) ++ slice_range l done (done + size)) same
-    ∙ append_assoc seen (take done content) (slice_range content done (done + size))
-    ∙ ap (λ (l : List ℕ). seen ++ l) (ap (λ (l : List ℕ). take done content ++ l) (slice_range_is content done size) ∙ sym (take-add done size content)) in
+pub shown-more : (Saw : List ℕ → Type 0) (seen content piece : List ℕ) (done size : ℕ) → piece ≡ take size (drop done content) → Saw ((seen ++ take done content) ++ piece) → Saw (seen ++ take (done + size) content)
+shown-more Saw seen content piece done size is saw =
+    let joined : (seen ++ take done content) ++ piece ≡ seen ++ take (done + size) content =
+    append_assoc seen (take done content) piece ∙ ap (λ (l : List ℕ). seen ++ (take done content ++ l)) is ∙ ap (λ (l : List ℕ). seen ++ l) (sym (take-add done size content)) in
     subst (λ (l : List ℕ). Saw l) joined saw

@@ -3,7 +3,7 @@ use Rattle.std.proofs.Common.{◌≡◌, ℕ, ◌+◌, ◌≤◌, Bool, IsTrue, 
 use Rattle.std.specs.Prelude.{List, length, Result, Ok, Err, IsOk}
 use Rattle.std.proofs.Common.{length-take, length-drop}
 use Rattle.flash_store.specs.Regions.{Range, LiesIn, bytes_in}
-use Rattle.flash_store.specs.Device.{Device, Reads, refusals}
+use Rattle.flash_store.specs.Device.{Device, Calls, OneCall, Reads, refusals}
 
 -- a device stays honest
 pub honest_still : {old new : Bool} → new ≡ old → IsTrue old → IsTrue new
@@ -14,6 +14,35 @@ pub refusals-ok : {T E : Type 0} (result : Result T E) → IsOk result → refus
 refusals-ok (Ok value) ok = refl
 refusals-ok (Err fault) ok = absurd cc
 
+-- more calls, of which the last may have been refused
+pub Calls-then : (n k refused : ℕ) (old mid new : Device) → Calls n 0 old mid → Calls k refused mid new → Calls (n + k) refused old new
+Calls-then n k refused old mid new first second = record {
+  no_fewer = omega (arith, first.no_fewer, second.no_fewer);
+  no_more = omega (arith, first.no_more, second.no_more);
+  faults = omega (arith, first.faults, second.faults);
+  same_honesty = second.same_honesty ∙ first.same_honesty;
+  same_length = second.same_length ∙ first.same_length;
+}
+
+-- the same calls by another bound that they keep
+pub Calls-at_most : (k n refused : ℕ) (old new : Device) → new.calls ≤ old.calls + n → Calls k refused old new → Calls n refused old new
+Calls-at_most k n refused old new few calls = record {
+  no_fewer = calls.no_fewer;
+  no_more = few;
+  faults = calls.faults;
+  same_honesty = calls.same_honesty;
+  same_length = calls.same_length;
+}
+
+pub Calls-one : (refused : ℕ) (old new : Device) → OneCall refused old new → Calls 1 refused old new
+Calls-one refused old new one = record {
+  no_fewer = omega (arith, one.calls);
+  no_more = omega (arith, one.calls);
+  faults = one.faults;
+  same_honesty = one.same_honesty;
+  same_length = one.same_length;
+}
+
 pub Reads-none : (d : Device) → Reads 0 0 d d
 Reads-none d = record {
   calls = record { no_fewer = omega arith; no_more = omega arith; faults = omega arith; same_honesty = refl; same_length = refl };
@@ -22,26 +51,8 @@ Reads-none d = record {
 
 pub Reads-then : (n k refused : ℕ) (old mid new : Device) → Reads n 0 old mid → Reads k refused mid new → Reads (n + k) refused old new
 Reads-then n k refused old mid new first second = record {
-  calls = record {
-    no_fewer = omega (arith, first.calls.no_fewer, second.calls.no_fewer);
-    no_more = omega (arith, first.calls.no_more, second.calls.no_more);
-    faults = omega (arith, first.calls.faults, second.calls.faults);
-    same_honesty = second.calls.same_honesty ∙ first.calls.same_honesty;
-    same_length = second.calls.same_length ∙ first.calls.same_length;
-  };
+  calls = Calls-then n k refused old mid new first.calls second.calls;
   unchanged = λ h. second.unchanged (honest_still first.calls.same_honesty h) ∙ first.unchanged h;
-}
-
-pub Reads-within : (n k refused : ℕ) (old new : Device) → n ≤ k → Reads n refused old new → Reads k refused old new
-Reads-within n k refused old new le reads = record {
-  calls = record {
-    no_fewer = reads.calls.no_fewer;
-    no_more = omega (arith, reads.calls.no_more, le);
-    faults = reads.calls.faults;
-    same_honesty = reads.calls.same_honesty;
-    same_length = reads.calls.same_length;
-  };
-  unchanged = reads.unchanged;
 }
 
 -- a region inside an image has its size

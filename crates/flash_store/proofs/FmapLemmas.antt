@@ -1,14 +1,16 @@
 -- The search for a map, piece by piece.
 use Rattle.std.specs.Option.{option_map}
-use Rattle.std.proofs.Common.{⊎_elim, le_refl, zero, suc, ◌≡◌, ◌∙◌, ℕ, ◌+◌, ◌-◌, ◌*◌, ◌<◌, ◌≤◌, IsTrue, List, Option, Some, None, length, take, drop, sym, ap, subst, arith}
+use Rattle.std.proofs.Common.{⊎_elim, le_refl, zero, suc, ◌≡◌, ◌∙◌, ℕ, ◌+◌, ◌-◌, ◌/◌, ◌<◌, ◌≤◌, IsTrue, List, Option, Some, None, length, take, drop, sym, ap, subst, arith}
 use Rattle.std.specs.Prelude.{slice_range, slice_index}
-use Rattle.std.proofs.lemmas.Bool.{and_parts, cases_lt, cases_eq}
+use Rattle.std.proofs.lemmas.Bool.{and_parts, cases_lt, cases_eq, eqb-false}
 use Rattle.std.proofs.lemmas.Slice.Eq.{bytes_eq-Decides}
 use Rattle.std.proofs.lemmas.List.{get_or-take, get_or-drop, length-take}
 use Rattle.std.proofs.lemmas.List.Prefix.{at_from_reads}
 use lib.Chars.{codes}
+use lib.Dec.{eqb}
 use Rattle.memchr.specs.Find.{Nowhere, IsFirst, OccursAt, FindsNeedle}
-use Rattle.flash_store.specs.Device.{Device, Reads}
+use Rattle.flash_store.specs.Device.{Device}
+use Rattle.flash_store.specs.Pages.{Pages, HasRead}
 use Rattle.flash_store.specs.Fmap.{HasSignatureAt, map_head, map_head_in, found_from}
 use Rattle.flash_format.specs.declared.flashmap.FmapHead.{FmapHead}
 use Rattle.flash_format.specs.declared.flashmap.Area.{Area}
@@ -19,6 +21,7 @@ use Rattle.std.proofs.Common.{Bool, true, false, cond, refl, length-drop}
 use Rattle.std.proofs.lemmas.Bool.{leb-true, le-leb}
 use Rattle.flash_store.proofs.BytesLemmas.{slice_range_is, length-slice_range}
 use Rattle.flash_store.proofs.DeviceLemmas.{honest_still}
+use Rattle.flash_store.proofs.WindowLemmas.{HasRead-then, HasRead-within}
 
 -- the bytes that a map begins with
 abbrev pub signature : List ℕ
@@ -79,22 +82,19 @@ pub OccursAt-signature : (image : List ℕ) (q : ℕ) → OccursAt image signatu
 unfolding has_signature
 OccursAt-signature image q occurs = rw (at_from_reads 0 image signature q occurs.fits occurs.reads) refl
 
--- where two signatures lie over each other, their bytes agree
-agree : (image : List ℕ) (p q i j : ℕ) → OccursAt image signature p → OccursAt image signature q → i < 8 → j < 8 → p + i ≡ q + j → slice_index signature i ≡ slice_index signature j
-agree image p q i j first second i_below j_below e = sym (first.reads i i_below) ∙ ap (slice_index image) e ∙ second.reads j j_below
+-- two signatures don't lie over each other where a byte and the one d places on differ
+clash : (image : List ℕ) (q d j : ℕ) → OccursAt image signature q → OccursAt image signature (q + d) → j + d < 8 → eqb (slice_index signature (j + d)) (slice_index signature j) ≡ false → ⊥
+clash image q d j first second below differ =
+    let there : q + (j + d) ≡ q + d + j = omega arith in
+    eqb-false _ _ differ (sym (first.reads (j + d) below) ∙ ap (slice_index image) there ∙ second.reads j (omega arith))
 
 apart : (image : List ℕ) (q d : ℕ) → OccursAt image signature q → OccursAt image signature (q + d) → 0 < d → d < 6 → ⊥
 apart image q zero first second above below = absurd (omega (arith, above))
-apart image q (suc zero) first second above below =
-    let e : 70 ≡ 95 = agree image q (q + 1) 2 1 first second (omega arith) (omega arith) (omega arith) in absurd (omega (arith, e))
-apart image q (suc (suc zero)) first second above below =
-    let e : 70 ≡ 95 = agree image q (q + 2) 2 0 first second (omega arith) (omega arith) (omega arith) in absurd (omega (arith, e))
-apart image q (suc (suc (suc zero))) first second above below =
-    let e : 77 ≡ 95 = agree image q (q + 3) 3 0 first second (omega arith) (omega arith) (omega arith) in absurd (omega (arith, e))
-apart image q (suc (suc (suc (suc zero)))) first second above below =
-    let e : 65 ≡ 95 = agree image q (q + 4) 4 0 first second (omega arith) (omega arith) (omega arith) in absurd (omega (arith, e))
-apart image q (suc (suc (suc (suc (suc zero))))) first second above below =
-    let e : 80 ≡ 95 = agree image q (q + 5) 5 0 first second (omega arith) (omega arith) (omega arith) in absurd (omega (arith, e))
+apart image q (suc zero) first second above below = clash image q 1 1 first second (omega arith) refl
+apart image q (suc (suc zero)) first second above below = clash image q 2 0 first second (omega arith) refl
+apart image q (suc (suc (suc zero))) first second above below = clash image q 3 0 first second (omega arith) refl
+apart image q (suc (suc (suc (suc zero)))) first second above below = clash image q 4 0 first second (omega arith) refl
+apart image q (suc (suc (suc (suc (suc zero))))) first second above below = clash image q 5 0 first second (omega arith) refl
 apart image q (suc (suc (suc (suc (suc (suc d)))))) first second above below = absurd (omega (arith, below))
 
 -- a signature excludes one at the next five places
@@ -134,58 +134,42 @@ no_tables_behind image from q before occurs no_table k above below table =
     (cases_lt k q)
 
 -- no map stands from one place up to another, and at most two calls were made for each six bytes before the second, none of them refused
-pub record SearchedTo (from place : ℕ) (old new : Device) : Type 0 where
-  pub no_fewer : old.calls ≤ new.calls
+pub record SearchedTo {F : Type 0} (facts : F → Device) (from place : ℕ) (old new : Pages F) : Type 0 where
   pub above : from ≤ place
-  pub within : place ≤ length old.content
-  pub no_more : 3 * new.calls ≤ 3 * old.calls + place
-  pub faults : new.faults ≡ old.faults
-  pub same_honesty : new.honest ≡ old.honest
-  pub same_length : length new.content ≡ length old.content
-  pub unchanged : IsTrue old.honest → new.content ≡ old.content
-  pub none : IsTrue old.honest → Nowhere (IsTableAt old.content) from place
+  pub within : place ≤ length (facts old.device).content
+  pub read : HasRead facts (place / 3) 0 old new
+  pub none : IsTrue (facts old.device).honest → Nowhere (IsTableAt (facts old.device).content) from place
 
 -- the search goes on after a part with no signature
-pub SearchedTo-part : (old mid new : Device) (from place size : ℕ) → place + size ≤ length old.content → 56 ≤ size → SearchedTo from place old mid → Reads 1 0 mid new
-    → (IsTrue mid.honest → IsFirst (HasSignatureAt mid.content) place (place + size - 7) None)
-    → SearchedTo from (place + (size - 7)) old new
-SearchedTo-part old mid new from place size within long so_far call none = record {
-  no_fewer = omega (arith, so_far.no_fewer, call.calls.no_fewer);
+pub SearchedTo-part : {F : Type 0} (facts : F → Device) (old mid new : Pages F) (from place size : ℕ) → place + size ≤ length (facts old.device).content → 56 ≤ size
+    → SearchedTo facts from place old mid → HasRead facts 1 0 mid new → (IsTrue (facts mid.device).honest → IsFirst (HasSignatureAt (facts mid.device).content) place (place + size - 7) None)
+    → SearchedTo facts from (place + (size - 7)) old new
+SearchedTo-part facts old mid new from place size within long so_far call none = record {
   above = omega (arith, so_far.above);
   within = omega (arith, within, long);
-  no_more = omega (arith, so_far.no_more, call.calls.no_more, long);
-  faults = omega (arith, so_far.faults, call.calls.faults);
-  same_honesty = call.calls.same_honesty ∙ so_far.same_honesty;
-  same_length = call.calls.same_length ∙ so_far.same_length;
-  unchanged = λ h. call.unchanged (honest_still so_far.same_honesty h) ∙ so_far.unchanged h;
+  read = HasRead-within facts (place / 3 + 1) ((place + (size - 7)) / 3) 0 old new (omega (arith, long)) (HasRead-then facts (place / 3) 1 0 old mid new so_far.read call);
   none = λ h.
-      let here : Nowhere (HasSignatureAt old.content) place (place + size - 7) = rw (so_far.unchanged h) at (none (honest_still so_far.same_honesty h)) in
+      let here = rw (so_far.read.device.unchanged h) at (none (honest_still so_far.read.device.calls.same_honesty h)) in
       let end : place + (size - 7) ≡ place + size - 7 = omega (arith, long) in
-      rw end (no_tables old.content from place (place + size - 7) (so_far.none h) here);
+      rw end (no_tables (facts old.device).content from place (place + size - 7) (so_far.none h) here);
 }
 
 -- and after a signature that begins no map
-pub SearchedTo-signature : (old mid new last : Device) (from place q e : ℕ) → q + 8 ≤ length old.content → place ≤ q → SearchedTo from place old mid → Reads 1 0 mid new → Reads 1 0 new last
-    → (IsTrue mid.honest → IsFirst (HasSignatureAt mid.content) place e (Some q)) → (IsTrue new.honest → ¬ IsTableAt new.content q)
-    → SearchedTo from (q + 6) old last
-SearchedTo-signature old mid new last from place q e within above so_far call probe first no_table = record {
-  no_fewer = omega (arith, so_far.no_fewer, call.calls.no_fewer, probe.calls.no_fewer);
-  above = omega (arith, so_far.above, above);
-  within = omega (arith, within);
-  no_more = omega (arith, so_far.no_more, call.calls.no_more, probe.calls.no_more, above);
-  faults = omega (arith, so_far.faults, call.calls.faults, probe.calls.faults);
-  same_honesty = probe.calls.same_honesty ∙ call.calls.same_honesty ∙ so_far.same_honesty;
-  same_length = probe.calls.same_length ∙ call.calls.same_length ∙ so_far.same_length;
-  unchanged = λ h.
-      let h' = honest_still so_far.same_honesty h in
-      probe.unchanged (honest_still call.calls.same_honesty h') ∙ call.unchanged h' ∙ so_far.unchanged h;
-  none = λ h.
-      let h' = honest_still so_far.same_honesty h in
-      let found = rw (so_far.unchanged h) at (first h') in
-      let same : new.content ≡ old.content = call.unchanged h' ∙ so_far.unchanged h in
-      let none_here : ¬ IsTableAt old.content q = rw same at (no_table (honest_still call.calls.same_honesty h')) in
-      no_tables_behind old.content from q (no_tables old.content from place q (so_far.none h) found.0.before) found.1 none_here;
-}
+pub SearchedTo-signature : {F : Type 0} (facts : F → Device) (old mid new last : Pages F) (from place q e : ℕ) → q + 8 ≤ length (facts old.device).content → place ≤ q
+    → SearchedTo facts from place old mid → HasRead facts 1 0 mid new → HasRead facts 1 0 new last
+    → (IsTrue (facts mid.device).honest → IsFirst (HasSignatureAt (facts mid.device).content) place e (Some q)) → (IsTrue (facts new.device).honest → ¬ IsTableAt (facts new.device).content q)
+    → SearchedTo facts from (q + 6) old last
+SearchedTo-signature facts old mid new last from place q e within above so_far call probe first no_table =
+    let read : HasRead facts (place / 3 + 1) 0 old new = HasRead-then facts (place / 3) 1 0 old mid new so_far.read call in
+    record {
+      above = omega (arith, so_far.above, above);
+      within = omega (arith, within);
+      read = HasRead-within facts (place / 3 + 1 + 1) ((q + 6) / 3) 0 old last (omega (arith, above)) (HasRead-then facts (place / 3 + 1) 1 0 old new last read probe);
+      none = λ h.
+          let found = rw (so_far.read.device.unchanged h) at (first (honest_still so_far.read.device.calls.same_honesty h)) in
+          let none_here = rw (read.device.unchanged h) at (no_table (honest_still read.device.calls.same_honesty h)) in
+          no_tables_behind (facts old.device).content from q (no_tables (facts old.device).content from place q (so_far.none h) found.0.before) found.1 none_here;
+    }
 
 -- no map from one place up to another: the lowest is sought from there on
 pub map_from-skip : (image : List ℕ) (from d : ℕ) → from + d ≤ length image → Nowhere (IsTableAt image) from (from + d) → map_from from (drop from image) ≡ map_from (from + d) (drop (from + d) image)
@@ -240,36 +224,25 @@ map_head-take x long = rw (has_signature-take x 56 (omega arith), fmap_head_of-t
 pub map_head-short : (x : List ℕ) → length x < 56 → None ≡ map_head x
 map_head-short x short = rw (not_map_short x short) refl
 
-pub map_head-slice : (xs : List ℕ) (at : ℕ) → at + 56 ≤ length xs → map_head_in (slice_range xs at (at + 56)) (length xs - at) ≡ map_head (drop at xs)
-map_head-slice xs at inside =
-    rw (slice_range_is xs at 56, sym (length-drop at xs)) (map_head-take (drop at xs) (omega (arith, length-drop at xs)))
-
-pub area-slice : (xs : List ℕ) (at : ℕ) → area_of (slice_range xs at (at + 42)) ≡ area_of (drop at xs)
-area-slice xs at = rw (slice_range_is xs at 42) (area_of-take (drop at xs) 42 (omega arith))
-
 pub area_read : (bytes image : List ℕ) (p q : ℕ) (a : Area) → a ≡ area_of bytes → bytes ≡ slice_range image p (p + 42) → p ≡ q → a ≡ area_of (drop q image)
-area_read bytes image p q a e read same = e ∙ ap area_of read ∙ area-slice image p ∙ ap (λ k. area_of (drop k image)) same
+area_read bytes image p q a e read same = e ∙ ap area_of (read ∙ slice_range_is image p 42) ∙ area_of-take (drop p image) 42 (omega arith) ∙ ap (λ k. area_of (drop k image)) same
 
-pub head_read : (bytes image : List ℕ) (len p : ℕ) (h : Option FmapHead) → h ≡ map_head_in bytes (len - p) → bytes ≡ slice_range image p (p + 56) → len ≡ length image → p + 56 ≤ len → h ≡ map_head (drop p image)
-head_read bytes image len p h e read same inside = e ∙ ap (λ b. map_head_in b (len - p)) read ∙ ap (λ n. map_head_in (slice_range image p (p + 56)) (n - p)) same ∙ map_head-slice image p (omega (arith, same, inside))
-
--- the same of the first bytes
-pub head_read_first : (bytes image : List ℕ) (len : ℕ) (h : Option FmapHead) → h ≡ map_head_in bytes len → bytes ≡ slice_range image 0 56 → len ≡ length image → 56 ≤ len → h ≡ map_head image
-head_read_first bytes image len h e read same inside =
-    let left : len - 0 ≡ len = omega arith in
-    head_read bytes image len 0 h (e ∙ ap (λ n. map_head_in bytes n) (sym left)) read same inside
+pub head_read : (bytes image : List ℕ) (left p : ℕ) (h : Option FmapHead) → h ≡ map_head_in bytes left → bytes ≡ slice_range image p (p + 56) → p + left ≡ length image → 56 ≤ left → h ≡ map_head (drop p image)
+head_read bytes image left p h e read size long =
+    let rest : left ≡ length (drop p image) = omega (arith, length-drop p image, size) in
+    e ∙ ap (λ b. map_head_in b left) (read ∙ slice_range_is image p 56) ∙ ap (map_head_in (take 56 (drop p image))) rest ∙ map_head-take (drop p image) (omega (arith, rest, long))
 
 pub valid_fits : (h : FmapHead) (left : ℕ) → is_valid_head h left ≡ true → map_len h ≤ left
 unfolding is_valid_head
 valid_fits h left e = leb-true _ _ (and_parts _ _ (and_parts _ _ e).1).1
 
 -- or ends at the map that a signature begins
-pub SearchedTo-table : (old mid new : Device) (from place q e : ℕ) (h : FmapHead) → SearchedTo from place old mid → Reads 1 0 mid new
-    → (IsTrue mid.honest → IsFirst (HasSignatureAt mid.content) place e (Some q)) → (IsTrue new.honest → Some h ≡ map_head (drop q new.content))
-    → IsTrue old.honest → Some (record { at = q; head = h }) ≡ found_from from old.content
-SearchedTo-table old mid new from place q e h so_far call first table honest =
-    let h' = honest_still so_far.same_honesty honest in
-    let found = rw (so_far.unchanged honest) at (first h') in
-    let same : new.content ≡ old.content = call.unchanged h' ∙ so_far.unchanged honest in
-    let here = head_some (drop q old.content) h (rw same at (table (honest_still call.calls.same_honesty h'))) in
-    found_some old.content from q h (omega (arith, so_far.above, found.0.low)) (no_tables old.content from place q (so_far.none honest) found.0.before) here.0 here.1
+pub SearchedTo-table : {F : Type 0} (facts : F → Device) (old mid new : Pages F) (from place q e : ℕ) (h : FmapHead) → SearchedTo facts from place old mid → HasRead facts 1 0 mid new
+    → (IsTrue (facts mid.device).honest → IsFirst (HasSignatureAt (facts mid.device).content) place e (Some q)) → (IsTrue (facts new.device).honest → Some h ≡ map_head (drop q (facts new.device).content))
+    → IsTrue (facts old.device).honest → Some (record { at = q; head = h }) ≡ found_from from (facts old.device).content
+SearchedTo-table facts old mid new from place q e h so_far call first table honest =
+    let read : HasRead facts (place / 3 + 1) 0 old new = HasRead-then facts (place / 3) 1 0 old mid new so_far.read call in
+    let image : List ℕ = (facts old.device).content in
+    let found = rw (so_far.read.device.unchanged honest) at (first (honest_still so_far.read.device.calls.same_honesty honest)) in
+    let here = head_some (drop q image) h (rw (read.device.unchanged honest) at (table (honest_still read.device.calls.same_honesty honest))) in
+    found_some image from q h (omega (arith, so_far.above, found.0.low)) (no_tables image from place q (so_far.none honest) found.0.before) here.0 here.1

@@ -19,13 +19,6 @@ part-bytes_in image r at n fits =
     ∙ ap (λ (l : List ℕ). take n (drop at l)) (sym (slice_range_is image r.start r.size))
     ∙ sym (slice_range_is (bytes_in r image) at n)
 
-nothing_changed : (x : List ℕ) (at n : ℕ) → SameOutside at n x x
-nothing_changed x at n = record { before = refl; after = refl }
-
--- nothing outside the region changes
-pub outside_region : (r : Range) (x y : List ℕ) (at n : ℕ) → at + n ≤ r.size → SameOutside (r.start + at) n x y → SameOutside r.start r.size x y
-outside_region r x y at n fits same = SameOutside-trans x x y r.start r.size at n fits (nothing_changed x r.start r.size) same
-
 prefix : (r : Range) (x : List ℕ) (at : ℕ) → at ≤ r.size → take at (bytes_in r x) ≡ drop r.start (take (r.start + at) x)
 prefix r x at below = ap (λ (l : List ℕ). take at l) (slice_range_is x r.start r.size) ∙ take-take at r.size (drop r.start x) below ∙ sym (drop-take r.start at x)
 
@@ -65,8 +58,9 @@ written_beside r x at u inside (inr after) = overwritten-earlier x at u r.start 
 
 -- ---- the same with the place in the image as a number
 
+-- nothing outside the region changes
 pub outside_of : (r : Range) (x y : List ℕ) (p at n : ℕ) → p ≡ r.start + at → at + n ≤ r.size → SameOutside p n x y → SameOutside r.start r.size x y
-outside_of r x y p at n place fits same = outside_region r x y at n fits (rw place at same)
+outside_of r x y p at n place fits same = SameOutside-trans x x y r.start r.size at n fits (record { before = refl; after = refl }) (rw place at same)
 
 pub changed_at : (r : Range) (x y : List ℕ) (p at n : ℕ) → p ≡ r.start + at → at + n ≤ r.size → SameOutside p n x y → SameOutside at n (bytes_in r x) (bytes_in r y)
 changed_at r x y p at n place fits same = changed_in r x y at n fits (rw place at same)

@@ -7,7 +7,7 @@ use borrow.Rule.Slice.PartMut.{put_mid}
 use Rattle.flash_store.specs.Bytes.{overwritten, SameOutside}
 use Rattle.flash_store.specs.Storing.{Stored, SameFile, SameBytes, IsErased}
 use Rattle.std.specs.Prelude.{slice_range}
-use Rattle.flash_store.proofs.BytesLemmas.{nearer, further, slice_range_is, overwritten_is, overwritten-more_at, SameOutside-overwritten, SameOutside-trans}
+use Rattle.flash_store.proofs.BytesLemmas.{nearer, further, slice_range_is, part_of_window, overwritten_is}
 
 -- a file is as faithful as it was
 pub faithful_still : {old new : Bool} → new ≡ old → IsTrue old → IsTrue new
@@ -23,26 +23,6 @@ SameFile-trans first second = record {
 -- what is left of the bytes
 pub length-rest : (bytes : List ℕ) (done : ℕ) → length (take (length bytes - done) (drop done bytes)) ≡ length bytes - done
 length-rest bytes done = ap length (take_rest bytes done) ∙ length-drop done bytes
-
--- after a part of them, some more are written
-pub Written-more : (old mid new : List ℕ) (at done n : ℕ) (bytes : List ℕ) → done + n ≤ length bytes → at + length bytes ≤ length old
-    → mid ≡ overwritten old at (take done bytes) → new ≡ overwritten mid (at + done) (take n (take (length bytes - done) (drop done bytes))) → new ≡ overwritten old at (take (done + n) bytes)
-Written-more old mid new at done n bytes within inside so_far now =
-    now ∙ ap (λ rest. overwritten mid (at + done) (take n rest)) (take_rest bytes done) ∙ ap (λ m. overwritten m (at + done) (take n (drop done bytes))) so_far
-    ∙ overwritten-more_at old at done (take done bytes) (take n (drop done bytes)) (length-take-le done bytes (omega (arith, within))) (omega (arith, within, inside))
-    ∙ ap (overwritten old at) (sym (take-add done n bytes))
-
--- a part of them is written inside their range
-pub Written-outside : (old mid : List ℕ) (at done : ℕ) (bytes : List ℕ) → done ≤ length bytes → at + length bytes ≤ length old
-    → mid ≡ overwritten old at (take done bytes) → SameOutside at (length bytes) old mid
-Written-outside old mid at done bytes within inside so_far =
-    rw so_far (SameOutside-overwritten old at (length bytes) (take done bytes) (rw (length-take-le done bytes within) within) (omega (arith, inside)))
-
--- and so is what a call leaves that failed behind it
-pub Written-torn : (old mid new : List ℕ) (at done : ℕ) (bytes : List ℕ) → done ≤ length bytes → at + length bytes ≤ length old
-    → mid ≡ overwritten old at (take done bytes) → SameOutside (at + done) (length (take (length bytes - done) (drop done bytes))) mid new → SameOutside at (length bytes) old new
-Written-torn old mid new at done bytes within inside so_far torn =
-    SameOutside-trans old mid new at (length bytes) done (length bytes - done) (omega (arith, within)) (Written-outside old mid at done bytes within inside so_far) (subst (λ k. SameOutside (at + done) k mid new) (length-rest bytes done) torn)
 
 -- a list whose end was replaced
 pub length-ended : (out tail : List ℕ) (done : ℕ) → done ≤ length out → length tail ≡ length out - done → length (put_mid done (length out - done) out tail) ≡ length out
@@ -90,17 +70,10 @@ Erased-more mid new at n m short inside so_far now =
 -- a part of one
 pub IsErased-part : (x : List ℕ) (from to at n : ℕ) → from ≤ at → at + n ≤ to → IsErased from to x → slice_range x at (at + n) ≡ replicate n 255
 IsErased-part x from to at n low high all =
-    let skip : ℕ = at - from in
     let m : ℕ = to - from in
-    let d : List ℕ = drop from x in
-    let start : skip + from ≡ at = omega (arith, low) in
-    slice_range_is x at n
-    ∙ ap (λ k. take n (drop k x)) (sym start ∙ omega arith)
-    ∙ ap (take n) (sym (drop-drop skip from x))
-    ∙ sym (drop-take skip n d)
-    ∙ ap (drop skip) (sym (take-take (skip + n) m d (omega (arith, low, high))) ∙ ap (take (skip + n)) all ∙ take-replicate (skip + n) m 255 (omega (arith, low, high)))
-    ∙ drop-replicate skip (skip + n) 255
-    ∙ ap (λ k. replicate k 255) (omega arith)
+    let same : take m (replicate m 255) ≡ slice_range x from (from + m) = take-replicate m m 255 (omega arith) ∙ sym all ∙ ap (slice_range x from) (omega (arith, low, high)) in
+    sym (part_of_window (replicate m 255) x from m at n same low (omega (arith, low, high)))
+    ∙ slice_range_is (replicate m 255) (at - from) n ∙ ap (take n) (drop-replicate (at - from) m 255) ∙ take-replicate n (m - (at - from)) 255 (omega (arith, low, high))
 
 -- the same as a stretch
 pub IsErased-inside : (x : List ℕ) (from to a b : ℕ) → from ≤ a → a ≤ b → b ≤ to → IsErased from to x → IsErased a b x
@@ -124,8 +97,7 @@ IsErased-apart x y at n from to order (inr (inr behind)) same all =
 pub Held-part : (window x : List ℕ) (from held at n : ℕ) → from ≤ at → at - from ≤ held → n ≤ held - (at - from) → take held window ≡ take held (drop from x)
     → take n (take (held - (at - from)) (drop (at - from) window)) ≡ take n (drop at x)
 Held-part window x from held at n before within short had =
-    let skip : ℕ = at - from in
-    let whole : held ≡ skip + (held - skip) = omega (arith, within) in
-    let step : take (held - skip) (drop skip window) ≡ take (held - skip) (drop skip (drop from x)) =
-    sym (drop-take skip (held - skip) window) ∙ ap (λ k. drop skip (take k window)) (sym whole) ∙ ap (drop skip) had ∙ ap (λ k. drop skip (take k (drop from x))) whole ∙ drop-take skip (held - skip) (drop from x) in
-    ap (take n) step ∙ take-take n (held - skip) (drop skip (drop from x)) short ∙ ap (take n) (drop-drop skip from x ∙ ap (λ k. drop k x) (omega (arith, before)))
+    take-take n (held - (at - from)) (drop (at - from) window) short
+    ∙ sym (slice_range_is window (at - from) n)
+    ∙ part_of_window window x from held at n (had ∙ sym (slice_range_is x from held)) before (omega (arith, before, within, short))
+    ∙ slice_range_is x at n

@@ -1,69 +1,33 @@
 -- Reads through the window: what they leave, one after the other, and how many calls they make. For every crate that
 -- reads a device.
-use Rattle.std.proofs.Common.{◌≡◌, ◌∙◌, ℕ, ◌+◌, ◌-◌, ◌*◌, ◌<◌, ◌≤◌, IsTrue, List, length, take, drop, min, refl, sym, ap, subst, arith, le_refl, ⊎_elim}
+use Rattle.std.proofs.Common.{◌≡◌, ◌∙◌, ℕ, ◌+◌, ◌-◌, ◌*◌, ◌/◌, ◌<◌, ◌≤◌, IsTrue, List, length, take, drop, min, refl, sym, ap, subst, arith, le_refl, ⊎_elim}
 use Rattle.std.proofs.Common.{length-take}
 use Rattle.std.specs.Prelude.{slice_range, Result, Ok, Err, IsOk}
 use Rattle.std.proofs.lemmas.Bool.{cases_lt}
 use Rattle.std.proofs.lemmas.List.{drop-drop, drop-take, take-take}
 use Rattle.std.proofs.Math.Seq.{take-length}
 use Rattle.flash_store.specs.Device.{Device, refusals}
-use Rattle.flash_store.specs.Pages.{Held, Nothing, Window, Piece, Pages, IsTrueTo, Covers, HasNoPiece, without_piece, held_in, HasRead, HasSeen}
+use Rattle.flash_store.specs.Pages.{Held, Nothing, Window, Piece, Pages, IsTrueTo, Covers, held_in, HasRead, HasSeen}
 use Rattle.flash_store.specs.Scans.{HasSpent, HasScanned, ScansTo, SpendsTo}
 use Rattle.flash_store.specs.declared.paged.Buffered.{Buffered}
 use Rattle.flash_store.specs.declared.paged.Buffered.TheVariants as code
-use Rattle.flash_store.proofs.BytesLemmas.{slice_range_is}
-use Rattle.flash_store.proofs.DeviceLemmas.{refusals-ok, Reads-none, Reads-then, Reads-within}
-
--- a part is decided by a prefix that holds it
-front_decides : (xs ys : List ℕ) (start n len : ℕ) → start + n ≤ len → take len xs ≡ take len ys → take n (drop start xs) ≡ take n (drop start ys)
-front_decides xs ys start n len within same =
-    let short = λ (zs : List ℕ). take-take (start + n) len zs within in
-    sym (drop-take start n xs) ∙ ap (drop start) (sym (short xs) ∙ ap (take (start + n)) same ∙ short ys) ∙ drop-take start n ys
-
--- what lies in a window of the content is the content's
-pub part_of_window : (buffer content : List ℕ) (from len at n : ℕ) → take len buffer ≡ slice_range content from (from + len) → from ≤ at → at + n ≤ from + len → slice_range buffer (at - from) (at - from + n) ≡ slice_range content at (at + n)
-part_of_window buffer content from len at n same above within =
-    let there : from + (at - from) ≡ at = omega (arith, above) in
-    slice_range_is buffer (at - from) n
-    ∙ front_decides buffer (drop from content) (at - from) n len (omega (arith, above, within)) (same ∙ slice_range_is content from len)
-    ∙ ap (take n) (drop-drop (at - from) from content) ∙ ap (λ k. take n (drop k content)) there ∙ sym (slice_range_is content at n)
-
--- the window begins there, where one is held
-abbrev pub Starts : Buffered → ℕ → Type 0
-Starts code.Nothing from = Unit {0}
-Starts (code.Window at size) from = from ≡ at
-Starts (code.Piece size) from = Unit {0}
+use Rattle.flash_store.proofs.BytesLemmas.{part_of_window}
+use Rattle.flash_store.proofs.DeviceLemmas.{refusals-ok, Calls-at_most, Reads-none, Reads-then}
 
 -- a part of a buffer whose window covers it
-pub part_read : (device : Device) (buffer : List ℕ) (held : Buffered) (from at n : ℕ) → IsTrueTo device (held_in buffer held) → Covers (held_in buffer held) at n → Starts held from → IsTrue device.honest
+pub part_read : (device : Device) (buffer : List ℕ) (held : Buffered) (from size at n : ℕ) → held ≡ code.Window from size → IsTrueTo device (held_in buffer held) → Covers (held_in buffer held) at n → IsTrue device.honest
     → slice_range buffer (at - from) (at - from + n) ≡ slice_range device.content at (at + n)
-part_read device buffer code.Nothing from at n window covers starts h = absurd covers
-part_read device buffer (code.Piece size) from at n window covers starts h = absurd covers
-part_read device buffer (code.Window place size) from at n window covers starts h =
-    let size' : length (take size buffer) ≤ size = omega (arith, length-take size buffer) in
-    let same = sym (take-take (length (take size buffer)) size buffer size') ∙ take-length (take size buffer) ∙ window.same h in
-    rw starts (part_of_window buffer device.content place (length (take size buffer)) at n same covers.0 covers.1)
-
--- what covers a range is no piece
-pub Covers-no_piece : (held : Held) (at n : ℕ) → Covers held at n → HasNoPiece held
-Covers-no_piece Nothing at n covers = tt
-Covers-no_piece (Window from bytes) at n covers = tt
-Covers-no_piece (Piece bytes) at n covers = covers
-
-pub without_piece-none : (held : Held) → HasNoPiece (without_piece held)
-without_piece-none Nothing = tt
-without_piece-none (Window from bytes) = tt
-without_piece-none (Piece bytes) = tt
-
-pub without_piece-true : (device : Device) (held : Held) → IsTrueTo device held → IsTrueTo device (without_piece held)
-without_piece-true device Nothing window = window
-without_piece-true device (Window from bytes) window = window
-without_piece-true device (Piece bytes) window = tt
+part_read device buffer held from size at n is true_to covers h =
+    let window : IsTrueTo device (Window from (take size buffer)) = rw is at true_to in
+    let there : (from ≤ at) × (at + n ≤ from + length (take size buffer)) = rw is at covers in
+    let k = length (take size buffer) in
+    let short : k ≤ size = omega (arith, length-take size buffer) in
+    part_of_window buffer device.content from k at n (sym (take-take k size buffer short) ∙ take-length (take size buffer) ∙ window.1 h) there.0 there.1
 
 -- what covers a range covers its parts
 pub Covers-part : (held : Held) (at n done size : ℕ) → done + size ≤ n → Covers held at n → Covers held (at + done) size
-Covers-part Nothing at n done size within covers = covers
 Covers-part (Window from bytes) at n done size within covers = (omega (arith, covers.0), omega (arith, covers.1, within))
+Covers-part Nothing at n done size within covers = covers
 Covers-part (Piece bytes) at n done size within covers = covers
 
 pub HasRead-none : {F : Type 0} (facts : F → Device) (p : Pages F) → HasRead facts 0 0 p p
@@ -75,14 +39,15 @@ HasRead-then facts n k refused old mid new first second = record {
   window = λ h. second.window (first.window h);
 }
 
-pub HasRead-within : {F : Type 0} (facts : F → Device) (n k refused : ℕ) (old new : Pages F) → n ≤ k → HasRead facts n refused old new → HasRead facts k refused old new
-HasRead-within facts n k refused old new le read = record { device = Reads-within n k refused _ _ le read.device; window = read.window }
+-- the same reads by another bound that they keep
+pub HasRead-at_most : {F : Type 0} (facts : F → Device) (k n refused : ℕ) (old new : Pages F) → (facts new.device).calls ≤ (facts old.device).calls + n → HasRead facts k refused old new → HasRead facts n refused old new
+HasRead-at_most facts k n refused old new few read = record {
+  device = record { calls = Calls-at_most k n refused _ _ few read.device.calls; unchanged = read.device.unchanged };
+  window = read.window;
+}
 
--- no window begins elsewhere
-pub Starts-other : (held : Buffered) (from : ℕ) → ((at size : ℕ) → held ≡ code.Window at size → ⊥) → Starts held from
-Starts-other code.Nothing from other = tt
-Starts-other (code.Window at size) from other = absurd (other at size refl)
-Starts-other (code.Piece size) from other = tt
+pub HasRead-within : {F : Type 0} (facts : F → Device) (n k refused : ℕ) (old new : Pages F) → n ≤ k → HasRead facts n refused old new → HasRead facts k refused old new
+HasRead-within facts n k refused old new le read = HasRead-at_most facts n k refused old new (omega (arith, read.device.calls.no_more, le)) read
 
 -- a window covers a range or doesn't
 pub covered : (held : Held) (at n : ℕ) (P : Type 0) → (Covers held at n → P) → ((Covers held at n → ⊥) → P) → P
@@ -95,7 +60,7 @@ covered (Piece bytes) at n P inside outside = outside (λ c. c)
 
 pub HasScanned-none : {F : Type 0} (facts : F → Device) (start : ℕ) (p : Pages F) → HasScanned facts start start p p
 HasScanned-none facts start p = record {
-  spent = record { above = le_refl start; count = 0; read = HasRead-none facts p; calls = omega arith };
+  spent = record { above = le_refl start; read = HasRead-within facts 0 ((start - start) / 3840 + 1) 0 p p (omega arith) (HasRead-none facts p) };
   paid = λ q n above short within none. omega arith;
 }
 
@@ -106,23 +71,26 @@ ahead_covers (Piece bytes) at q n size above short within covers none = absurd c
 ahead_covers (Window from bytes) at q n size above short within covers none =
     ⊎_elim (λ near. absurd (none (omega (arith, covers.0, above), omega (arith, covers.1, above, near, short, within)))) (λ far. far) (cases_lt q (at + 3840))
 
+-- what was read so far, as far as a later place
+HasSpent-on : {F : Type 0} (facts : F → Device) (start at end refused : ℕ) (old new : Pages F) → at ≤ end → HasSpent facts start at refused old new → HasSpent facts start end refused old new
+HasSpent-on facts start at end refused old new above spent = record {
+  above = omega (arith, spent.above, above);
+  read = HasRead-within facts ((at - start) / 3840 + 1) ((end - start) / 3840 + 1) refused old new (omega (arith, spent.above, above)) spent.read;
+}
+
 -- one read more, whatever it answers
 pub HasSpent-more : {F T E : Type 0} (facts : F → Device) (start at q n : ℕ) (old mid new : Pages F) (result : Result T E) → at ≤ q → n ≤ 256 → q + n ≤ length (facts old.device).content
     → HasScanned facts start at old mid → HasSeen facts q n mid new result → HasSpent facts start q (refusals result) old new
 HasSpent-more facts start at q n old mid new result above short within so_far seen =
     let from : start ≤ q = omega (arith, so_far.spent.above, above) in
     covered mid.held q n (HasSpent facts start q (refusals result) old new)
-    (λ inside. subst (λ p. HasSpent facts start q (refusals result) old p) (sym (seen.free inside)) (record {
-      above = from;
-      count = so_far.spent.count;
-      read = rw (refusals-ok result (seen.answered inside)) so_far.spent.read;
-      calls = omega (arith, so_far.spent.calls, so_far.spent.above, above);
-    }))
+    (λ inside. subst (λ p. HasSpent facts start q (refusals result) old p) (sym (seen.free inside))
+    (rw (refusals-ok result (seen.answered inside)) (HasSpent-on facts start at q 0 old mid above so_far.spent)))
     (λ outside. record {
       above = from;
-      count = so_far.spent.count + 1;
-      read = HasRead-then facts so_far.spent.count 1 (refusals result) old mid new so_far.spent.read seen.read;
-      calls = omega (arith, so_far.paid q n above short within outside, seen.read.device.calls.no_more);
+      read = HasRead-at_most facts ((at - start) / 3840 + 1 + 1) ((q - start) / 3840 + 1) (refusals result) old new
+          (omega (arith, so_far.paid q n above short within outside, seen.read.device.calls.no_more))
+          (HasRead-then facts ((at - start) / 3840 + 1) 1 (refusals result) old mid new so_far.spent.read seen.read);
     })
 
 -- one read more, which was not refused
@@ -132,7 +100,7 @@ HasScanned-more {F} {T} {E} facts start at q n old mid new x above short within 
     let size : length (facts mid.device).content ≡ length (facts old.device).content = so_far.spent.read.device.calls.same_length in record {
       spent = HasSpent-more facts start at q n old mid new (Ok x) above short within so_far seen;
       paid = λ p k later small inside none.
-          covered mid.held q n (3840 * (facts new.device).calls ≤ 3840 * (facts old.device).calls + (p - start))
+          covered mid.held q n ((facts new.device).calls ≤ (facts old.device).calls + (p - start) / 3840)
           (λ has.
           let same : new ≡ mid = seen.free has in
           rw same (so_far.paid p k (omega (arith, above, later)) small inside (rw same at none)))
@@ -141,44 +109,21 @@ HasScanned-more {F} {T} {E} facts start at q n old mid new x above short within 
           omega (arith, so_far.paid q n above short within misses, seen.read.device.calls.no_more, far, so_far.spent.above, above));
     }
 
--- what was read so far, as far as a later place
-pub HasScanned-on : {F : Type 0} (facts : F → Device) (start at end : ℕ) (old new : Pages F) → at ≤ end → HasScanned facts start at old new → HasScanned facts start end old new
-HasScanned-on facts start at end old new above so_far = record {
-  spent = record {
-    above = omega (arith, so_far.spent.above, above);
-    count = so_far.spent.count;
-    read = so_far.spent.read;
-    calls = omega (arith, so_far.spent.calls, so_far.spent.above, above);
-  };
-  paid = λ q n past. so_far.paid q n (omega (arith, above, past));
-}
-
 pub ScansTo-none : {F : Type 0} (facts : F → Device) (at : ℕ) (p : Pages F) → ScansTo facts at at p p
 ScansTo-none facts at p = record { on = λ start first so_far. so_far }
 
 pub ScansTo-on : {F : Type 0} (facts : F → Device) (at end later : ℕ) (old new : Pages F) → end ≤ later → ScansTo facts at end old new → ScansTo facts at later old new
-ScansTo-on facts at end later old new above scans = record { on = λ start first so_far. HasScanned-on facts start end later first new above (scans.on start first so_far) }
+ScansTo-on facts at end later old new above scans = record {
+  on = λ start first so_far.
+      let had = scans.on start first so_far in
+      record { spent = HasSpent-on facts start end later 0 first new above had.spent; paid = λ q n past. had.paid q n (omega (arith, above, past)) };
+}
 
 pub SpendsTo-on : {F : Type 0} (facts : F → Device) (at end later refused : ℕ) (old new : Pages F) → end ≤ later → SpendsTo facts at end refused old new → SpendsTo facts at later refused old new
-SpendsTo-on facts at end later refused old new above spends = record {
-  on = λ start first so_far.
-      let spent : HasSpent facts start end refused first new = spends.on start first so_far in record {
-        above = omega (arith, spent.above, above);
-        count = spent.count;
-        read = spent.read;
-        calls = omega (arith, spent.calls, spent.above, above);
-      };
-}
+SpendsTo-on facts at end later refused old new above spends = record { on = λ start first so_far. HasSpent-on facts start end later refused first new above (spends.on start first so_far) }
 
 pub ScansTo-spends : {F : Type 0} (facts : F → Device) (at end : ℕ) (old new : Pages F) → ScansTo facts at end old new → SpendsTo facts at end 0 old new
 ScansTo-spends facts at end old new scans = record { on = λ start first so_far. (scans.on start first so_far).spent }
-
--- what such reads leave as it was
-pub ScansTo-left : {F : Type 0} (facts : F → Device) (at end : ℕ) (old new : Pages F) → ScansTo facts at end old new → HasSpent facts at end 0 old new
-ScansTo-left facts at end old new scans = (scans.on at old (HasScanned-none facts at old)).spent
-
-pub ScansTo-faults : {F : Type 0} (facts : F → Device) (at end : ℕ) (old new : Pages F) → ScansTo facts at end old new → (facts new.device).faults ≡ (facts old.device).faults
-ScansTo-faults facts at end old new scans = omega (arith, (ScansTo-left facts at end old new scans).read.device.calls.faults)
 
 -- one read more, whatever it answers
 pub SpendsTo-more : {F T E : Type 0} (facts : F → Device) (at end q n : ℕ) (old mid new : Pages F) (result : Result T E) → end ≤ q → n ≤ 256 → q + n ≤ length (facts mid.device).content
@@ -209,16 +154,5 @@ SpendsTo-then facts at place end refused old mid new one two = record { on = λ 
 -- the calls of reads in order, as a number of reads
 pub SpendsTo-reads : {F : Type 0} (facts : F → Device) (at end n refused : ℕ) (old new : Pages F) → end < at + 3840 * n → SpendsTo facts at end refused old new → HasRead facts n refused old new
 SpendsTo-reads facts at end n refused old new few spends =
-    let spent : HasSpent facts at end refused old new = spends.on at old (HasScanned-none facts at old) in record {
-      device = record {
-        calls = record {
-          no_fewer = spent.read.device.calls.no_fewer;
-          no_more = omega (arith, spent.calls, spent.above, few);
-          faults = spent.read.device.calls.faults;
-          same_honesty = spent.read.device.calls.same_honesty;
-          same_length = spent.read.device.calls.same_length;
-        };
-        unchanged = spent.read.device.unchanged;
-      };
-      window = spent.read.window;
-    }
+    let spent : HasSpent facts at end refused old new = spends.on at old (HasScanned-none facts at old) in
+    HasRead-within facts ((end - at) / 3840 + 1) n refused old new (omega (arith, spent.above, few)) spent.read

@@ -33,16 +33,10 @@ held_in buffer code.Nothing = Nothing
 held_in buffer (code.Window at size) = Window at (take size buffer)
 held_in buffer (code.Piece size) = Piece (take size buffer)
 
--- these are bytes of the device from a place on, on an honest device
-pub record IsWindow (device : Device) (at : ℕ) (bytes : List ℕ) : Type 0 where
-  pub inside : at + length bytes ≤ length device.content
-  pub same : IsTrue device.honest → bytes ≡ slice_range device.content at (at + length bytes)
-
--- a window that is held is one of this device
+-- a window that is held lies inside this device, and on an honest one has the bytes that stand there
 abbrev pub IsTrueTo : Device → Held → Type 0
-IsTrueTo device Nothing = Unit {0}
-IsTrueTo device (Window at bytes) = IsWindow device at bytes
-IsTrueTo device (Piece bytes) = Unit {0}
+IsTrueTo device (Window at bytes) = (at + length bytes ≤ length device.content) × (IsTrue device.honest → bytes ≡ slice_range device.content at (at + length bytes))
+IsTrueTo device _ = Unit {0}
 
 -- what is held is no longer than a buffer
 abbrev pub Fits : Buffered → Type 0
@@ -52,39 +46,32 @@ Fits (code.Piece size) = size ≤ 4096
 
 -- a window is held, and has all of the n bytes from a place on
 abbrev pub Covers : Held → ℕ → ℕ → Type 0
-Covers Nothing at n = ⊥
 Covers (Window from bytes) at n = (from ≤ at) × (at + n ≤ from + length bytes)
-Covers (Piece bytes) at n = ⊥
+Covers _ at n = ⊥
 
 -- the same by the window's place and size
 abbrev pub Spans : Buffered → ℕ → ℕ → Type 0
-Spans code.Nothing at n = ⊥
 Spans (code.Window from size) at n = (from ≤ at) × (at + n ≤ from + size)
-Spans (code.Piece size) at n = ⊥
+Spans _ at n = ⊥
 
 -- a piece is held, and it meets P
 abbrev pub HasPiece : Held → (List ℕ → Type 0) → Type 0
-HasPiece Nothing P = ⊥
-HasPiece (Window at bytes) P = ⊥
 HasPiece (Piece bytes) P = P bytes
+HasPiece _ P = ⊥
 
 -- P of the piece, where one is held
 abbrev pub OnPiece : Held → (List ℕ → Type 0) → Type 0
-OnPiece Nothing P = Unit {0}
-OnPiece (Window at bytes) P = Unit {0}
 OnPiece (Piece bytes) P = P bytes
+OnPiece _ P = Unit {0}
 
 -- no piece is held
 abbrev pub HasNoPiece : Held → Type 0
-HasNoPiece Nothing = Unit {0}
-HasNoPiece (Window at bytes) = Unit {0}
-HasNoPiece (Piece bytes) = ⊥
+HasNoPiece held = OnPiece held (λ bytes. ⊥)
 
 -- the window, where one is held
 abbrev pub without_piece : Held → Held
-without_piece Nothing = Nothing
-without_piece (Window at bytes) = Window at bytes
 without_piece (Piece bytes) = Nothing
+without_piece held = held
 
 -- what is left after reading, with at most n calls, of which so many were refused
 pub record HasRead {F : Type 0} (facts : F → Device) (n refused : ℕ) (old new : Pages F) : Type 0 where

@@ -21,9 +21,7 @@ LiesIn region image = region.start + region.size ≤ length image
 -- how many refused calls of the device a refusal tells
 abbrev pub by_device : StoreFault → ℕ
 by_device faults.Device = 1
-by_device faults.NoFmap = 0
-by_device faults.NoRegion = 0
-by_device faults.RegionOutside = 0
+by_device _ = 0
 
 -- the area as a region, where it lies inside an image of so many bytes
 abbrev pub inside : ℕ → Option Area → Result Range StoreFault

@@ -1,5 +1,5 @@
 //! A file that is read ahead.
-ghost use Rattle.std.specs.Prelude.{◌≡◌, ◌+◌, ◌-◌, ◌≤◌, IsTrue, length, take, drop};
+ghost use Rattle.std.specs.Prelude.{◌≡◌, ◌+◌, ◌≤◌, IsTrue, length, take, drop};
 ghost use Rattle.flash_store.specs.Storing.{SameBytes, HasReadSome};
 
 use crate::storage::{Storage, StorageFault};
@@ -24,14 +24,14 @@ pub struct Ahead<S: Storage> {
 }
 
 impl<S: Storage> Model for Ahead<S> {
-    ghost use Rattle.std.specs.Prelude.{◌≡◌, ◌-◌, ◌≤◌, length, take, drop, IsTrue};
+    ghost use Rattle.std.specs.Prelude.{◌≡◌, ◌-◌, ◌≤◌, take, drop, IsTrue};
     ghost use Rattle.flash_store.specs.Storing.{Stored};
 
     ghost Value = { Stored };
 
     ghost view = { λ f. S.facts f.storage };
 
-    ghost invariant = { λ f. (f.from ≤ f.to) × (f.to - f.from ≤ length f.window)
+    ghost invariant = { λ f. (f.from ≤ f.to) × (f.to - f.from ≤ 16384)
         × (IsTrue (S.facts f.storage).faithful →
         take (f.to - f.from) f.window ≡ take (f.to - f.from) (drop f.from (S.facts f.storage).content)) };
 }
@@ -66,11 +66,7 @@ impl<S: Storage> Ahead<S> {
         if at < self.from || at > self.to {
             return &[];
         }
-        part(
-            &self.window,
-            (at - self.from) as usize,
-            (self.to - self.from) as usize,
-        )
+        &self.window[(at - self.from) as usize..(self.to - self.from) as usize]
     }
 
     /// Loads the window from `at` on.
@@ -101,15 +97,6 @@ fn read_front<S: Storage>(
     ensures { HasReadSome at n (S.facts storage.old) (S.facts storage.new) result out.new }
 {
     storage.read_some(at, &mut out[..n])
-}
-
-/// The bytes from one place up to another.
-fn part(bytes: &[u8], from: usize, to: usize) -> &[u8]
-    requires order { from ≤ to }
-    requires inside { to ≤ length bytes.now }
-    ensures { result.now ≡ take (to - from) (drop from bytes.now) }
-{
-    &bytes[from..to]
 }
 
 /// Copies the first bytes, as many as there are and fit, and says how many.

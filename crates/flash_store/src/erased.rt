@@ -62,8 +62,13 @@ impl<S: Storage> Erased<S> {
         ensures erased { IfOk result (λ file. IsTrue file.faithful →
             file.content ≡ replicate (length file.content) 0xff) }
     {
-        write_erased(&mut storage)?;
         let to = storage.len();
+        let mut at = 0;
+        while at < to {
+            let n = (to - at).min(MANY as u64);
+            write_whole(&mut storage, at, &ERASED[..n as usize])?;
+            at += n;
+        }
         Ok(Erased {
             storage,
             from: 0,
@@ -162,22 +167,6 @@ fn longer_rest(from: u64, to: u64, at: u64, end: u64) -> (u64, u64)
     } else {
         (from, from + before)
     }
-}
-
-/// Writes 0xff over all of a file.
-fn write_erased<S: Storage>(storage: &mut S) -> Result<(), StorageFault>
-    ensures after { SameFile (S.facts storage.old) (S.facts storage.new) }
-    ensures erased { IfOk result (λ _. IsTrue (S.facts storage.old).faithful →
-        (S.facts storage.new).content ≡ replicate (length (S.facts storage.old).content) 0xff) }
-{
-    let end = storage.len();
-    let mut at = 0;
-    while at < end {
-        let n = (end - at).min(MANY as u64);
-        write_whole(storage, at, &ERASED[..n as usize])?;
-        at += n;
-    }
-    Ok(())
 }
 
 impl<S: Storage> Storage for Erased<S> {

@@ -1,8 +1,7 @@
 //! A device for tests, which refuses every call after the first few.
-ghost use Rattle.std.specs.Prelude.{◌≡◌, ◌+◌, ◌-◌, ◌<◌, ◌≤◌, length, take, true, false, IsTrue, IsErr, OnOk};
-ghost use Rattle.flash_store.specs.Bytes.{overwritten, SameOutside};
-ghost use Rattle.flash_store.specs.Device.{OneCall, OneRead, OneWrite, OneCommit, refusals};
-ghost use Rattle.flash_store.specs.Failing.{facts_over, Passed, TornOnce, refused_once};
+ghost use Rattle.std.specs.Prelude.{◌≡◌, ◌+◌, ◌-◌, ◌<◌, ◌≤◌, length, take, true, false, IsTrue};
+ghost use Rattle.flash_store.specs.Device.{OneRead, OneWrite, OneCommit};
+ghost use Rattle.flash_store.specs.Failing.{facts_over, PassedOrRefused, RefusedWrite, refused_once};
 
 use crate::counter::Counter;
 use crate::flash::{Flash, FlashFault};
@@ -28,27 +27,13 @@ impl<F: Flash> Model for FailAt<F> {
 
     ghost Value = { Failing F };
 
-    ghost view = { λ f. record {
-      device = f.device;
-      left = f.left;
-      part = f.part;
-      tears = f.tears;
-      calls = f.calls;
-      faults = f.faults;
-    } };
+    ghost view = { λ f. record { device = f.device; left = f.left; part = f.part; tears = f.tears; calls = f.calls; faults = f.faults } };
 }
 
 impl<F: Flash> FailAt<F> {
     /// The first `k` calls pass. Of the first refused write the first `part` bytes are written, or all if it has fewer.
     pub fn new(device: F, k: u64, part: usize) -> FailAt<F>
-        ensures { result ≡ record {
-          device = device;
-          left = k;
-          part = part;
-          tears = true;
-          calls = 0;
-          faults = 0;
-        } }
+        ensures { result ≡ record { device = device; left = k; part = part; tears = true; calls = 0; faults = 0 } }
     {
         FailAt {
             device,
@@ -84,12 +69,11 @@ impl<F: Flash> FailAt<F> {
     }
 
     /// Counts a fault of its own.
-    fn refuse(&mut self) -> Result<(), FlashFault>
-        ensures counted { self.new ≡ record self.old { faults = self.old.faults + 1 } }
-        ensures refused { IsErr result }
+    fn refuse(&mut self) -> FlashFault
+        ensures { self.new ≡ record self.old { faults = self.old.faults + 1 } }
     {
         self.faults.tick();
-        Err(FlashFault)
+        FlashFault
     }
 }
 
@@ -106,15 +90,12 @@ impl<F: Flash> Flash for FailAt<F> {
 
         ensures after { OneRead at (length out.old) (facts_over F.facts self.old)
             (facts_over F.facts self.new) result out.new }
-
-        ensures passed { 0 < self.old.left → Passed F.facts self.old self.new result }
-        ensures refused { self.old.left ≡ 0 → IsErr result }
-        ensures nothing_done { self.old.left ≡ 0 → self.new ≡ refused_once self.old }
+        ensures call { PassedOrRefused F.facts self.old self.new result (self.new ≡ refused_once self.old) }
     {
         if self.admits() {
             self.device.read_at(at, out)
         } else {
-            self.refuse()
+            Err(self.refuse())
         }
     }
 
@@ -122,40 +103,31 @@ impl<F: Flash> Flash for FailAt<F> {
         requires inside { at + length bytes.now ≤ length (F.facts self.old.device).content }
         requires short { length bytes.now ≤ 4096 }
 
-        ensures after { OneWrite at bytes.now (facts_over F.facts self.old)
-            (facts_over F.facts self.new) result }
-
-        ensures passed { 0 < self.old.left → Passed F.facts self.old self.new result }
-        ensures refused { self.old.left ≡ 0 → IsErr result }
-        ensures first_refused { self.old.left ≡ 0 → IsTrue self.old.tears →
-            TornOnce F.facts at bytes.now self.old self.new }
-        ensures nothing_done { self.old.left ≡ 0 → self.old.tears ≡ false →
-            self.new ≡ refused_once self.old }
+        ensures after { OneWrite at bytes.now (facts_over F.facts self.old) (facts_over F.facts self.new) result }
+        ensures call { PassedOrRefused F.facts self.old self.new result
+            (RefusedWrite F.facts at bytes.now self.old self.new) }
     {
         if self.admits() {
             return self.device.write_at(at, bytes);
         }
-        if self.tears {
-            self.tears = false;
-            write_part(&mut self.device, at, bytes, self.part)?;
+        if !self.tears {
+            return Err(self.refuse());
         }
-        self.refuse()
+        self.tears = false;
+        write_part(&mut self.device, at, bytes, self.part)?;
+        Err(self.refuse())
     }
 
     fn commit_at(&mut self, at: u64, bytes: &[u8; HEADER_LENGTH]) -> Result<(), FlashFault>
         requires { at + length bytes.now ≤ length (F.facts self.old.device).content }
 
-        ensures after { OneCommit at bytes.now (facts_over F.facts self.old)
-            (facts_over F.facts self.new) result }
-
-        ensures passed { 0 < self.old.left → Passed F.facts self.old self.new result }
-        ensures refused { self.old.left ≡ 0 → IsErr result }
-        ensures nothing_done { self.old.left ≡ 0 → self.new ≡ refused_once self.old }
+        ensures after { OneCommit at bytes.now (facts_over F.facts self.old) (facts_over F.facts self.new) result }
+        ensures call { PassedOrRefused F.facts self.old self.new result (self.new ≡ refused_once self.old) }
     {
         if self.admits() {
             self.device.commit_at(at, bytes)
         } else {
-            self.refuse()
+            Err(self.refuse())
         }
     }
 }
@@ -170,11 +142,7 @@ fn write_part<F: Flash>(
     requires inside { at + length bytes.now ≤ length (F.facts device.old).content }
     requires short { length bytes.now ≤ 4096 }
 
-    ensures call { OneCall (refusals result) (F.facts device.old) (F.facts device.new) }
-    ensures torn { IsTrue (F.facts device.old).honest →
-        SameOutside at (length bytes.now) (F.facts device.old).content (F.facts device.new).content }
-    ensures written { IsTrue (F.facts device.old).honest →
-        OnOk result ((F.facts device.new).content ≡ overwritten (F.facts device.old).content at (take part bytes.now)) }
+    ensures { OneWrite at (take part bytes.now) (F.facts device.old) (F.facts device.new) result }
 {
     device.write_at(at, &bytes[..part.min(bytes.len())])
 }

@@ -1,7 +1,7 @@
 //! A source for tests, which refuses every read after the first few.
-ghost use Rattle.std.specs.Prelude.{◌≡◌, ◌+◌, ◌-◌, ◌<◌, ◌≤◌, length, IsErr};
+ghost use Rattle.std.specs.Prelude.{◌≡◌, ◌+◌, ◌≤◌, length, false};
 ghost use Rattle.flash_store.specs.Device.{OneRead};
-ghost use Rattle.flash_store.specs.Failing.{source_facts_over, SourcePassed, source_refused_once};
+ghost use Rattle.flash_store.specs.Failing.{facts_over, PassedOrRefused, refused_once};
 
 use crate::counter::Counter;
 use crate::source::{Source, SourceFault};
@@ -18,17 +18,18 @@ pub struct FailSource<S: Source> {
 }
 
 impl<S: Source> Model for FailSource<S> {
-    ghost use Rattle.flash_store.specs.Failing.{FailingSource};
+    ghost use Rattle.std.specs.Prelude.{false};
+    ghost use Rattle.flash_store.specs.Failing.{Failing};
 
-    ghost Value = { FailingSource S };
+    ghost Value = { Failing S };
 
-    ghost view = { λ f. record { source = f.source; left = f.left; calls = f.calls; faults = f.faults } };
+    ghost view = { λ f. record { device = f.source; left = f.left; part = 0; tears = false; calls = f.calls; faults = f.faults } };
 }
 
 impl<S: Source> FailSource<S> {
     /// The first `k` reads pass.
     pub fn new(source: S, k: u64) -> FailSource<S>
-        ensures { result ≡ record { source = source; left = k; calls = 0; faults = 0 } }
+        ensures { result ≡ record { device = source; left = k; part = 0; tears = false; calls = 0; faults = 0 } }
     {
         FailSource {
             source,
@@ -40,22 +41,19 @@ impl<S: Source> FailSource<S> {
 }
 
 impl<S: Source> Source for FailSource<S> {
-    ghost facts = { source_facts_over S.facts };
+    ghost facts = { facts_over S.facts };
 
     fn len(&self) -> u64 {
         self.source.len()
     }
 
     fn read_at(&mut self, at: u64, out: &mut [u8]) -> Result<(), SourceFault>
-        requires inside { at + length out.old ≤ length (S.facts self.old.source).content }
+        requires inside { at + length out.old ≤ length (S.facts self.old.device).content }
         requires short { length out.old ≤ 4096 }
 
-        ensures after { OneRead at (length out.old) (source_facts_over S.facts self.old)
-            (source_facts_over S.facts self.new) result out.new }
-
-        ensures passed { 0 < self.old.left → SourcePassed S.facts self.old self.new result }
-        ensures refused { self.old.left ≡ 0 → IsErr result }
-        ensures nothing_done { self.old.left ≡ 0 → self.new ≡ source_refused_once self.old }
+        ensures after { OneRead at (length out.old) (facts_over S.facts self.old)
+            (facts_over S.facts self.new) result out.new }
+        ensures call { PassedOrRefused S.facts self.old self.new result (self.new ≡ refused_once self.old) }
     {
         self.calls.tick();
         if self.left == 0 {

@@ -17,7 +17,8 @@ pub type FileFlash = StoredFlash<Ahead<Erased<OsFile>>>;
 
 impl StoredFlash<Ahead<Erased<OsFile>>> {
     /// Opens a file for reading and writing, and waits while another command holds its lock. A file that isn't there, may
-    /// not be read or written, or can't tell its length, as a pipe, is `Failed`; one of 2^32 bytes or more is `TooLarge`.
+    /// not be read or written, is a directory, or can't tell its length, as a pipe, is `Failed`; one of 2^32 bytes or more
+    /// is `TooLarge`.
     pub fn open<R: Files<File = File>>(rt: &R, path: &str) -> Result<FileFlash, OpenFault>
         ensures { IfOk result (λ device. (device.calls ≡ 0) × (device.faults ≡ 0)) }
     {

@@ -23,13 +23,7 @@ impl Model for FlakyFile {
 
     ghost Value = { Flaky };
 
-    ghost view = { λ f. record {
-      content = f.bytes.items;
-      most = f.most;
-      between = f.between;
-      before = f.before;
-      left = f.left;
-    } };
+    ghost view = { λ f. record { content = f.bytes.items; most = f.most; between = f.between; before = f.before; left = f.left } };
 
     ghost invariant = { λ f. length f.bytes.items < 2 ^ 32 };
 }
@@ -38,13 +32,7 @@ impl FlakyFile {
     /// The file of these bytes, before any call. Where `between` is 0, every call is interrupted.
     pub fn new(bytes: Vec<u8>, most: usize, between: u64, left: u64) -> FlakyFile
         requires { length bytes.items < 2 ^ 32 }
-        ensures { result ≡ record {
-          content = bytes.items;
-          most = most;
-          between = between;
-          before = between;
-          left = left;
-        } }
+        ensures { result ≡ record { content = bytes.items; most = most; between = between; before = between; left = left } }
     {
         FlakyFile {
             bytes,

@@ -1,9 +1,9 @@
 //! The search for a flashmap and for a region.
-ghost use Rattle.std.specs.Prelude.{◌≡◌, ◌+◌, ◌-◌, ◌*◌, ◌/◌, ◌<◌, ◌≤◌, ◌↔◌, ◌⊎◌, length, drop, IsTrue, OnErr, IfOk, IfSome, IsErrOf};
+ghost use Rattle.std.specs.Prelude.{◌≡◌, ◌+◌, ◌-◌, ◌*◌, ◌/◌, ◌<◌, ◌≤◌, ◌↔◌, ◌⊎◌, length, drop, OnErr, IfOk, IfSome, IsErrOf};
 ghost use Rattle.std.specs.List.{find};
 ghost use Rattle.flash_format.specs.Flashmap.{fmap_head_len, area_len, map_len, area_of, areas_from, is_area};
 ghost use Rattle.flash_store.specs.Device.{Reads, faults_told, refusals};
-ghost use Rattle.flash_store.specs.Pages.{HasRead, HasAnswered};
+ghost use Rattle.flash_store.specs.Pages.{OnHonest, HasRead, HasAnswered};
 ghost use Rattle.flash_store.specs.Fmap.{HasSignatureAt, map_head, map_head_in, found_from, found_in};
 ghost use Rattle.flash_store.specs.Regions.{LiesIn, by_device, inside, region_of};
 ghost use Rattle.memchr.specs.Find.{IsFirst};
@@ -61,8 +61,7 @@ pub fn find_fmap<F: Flash>(paged: &mut Paged<F>) -> Result<Option<FoundMap>, Fla
     ensures after { HasAnswered F.facts (length (F.facts paged.old.device).content / 2 + 8) paged.old paged.new result }
     ensures fits { IfOk result (λ found. IfSome found (λ map.
         map.at + map_len map.head ≤ length (F.facts paged.old.device).content)) }
-    ensures found { IsTrue (F.facts paged.old.device).honest →
-        IfOk result (λ found. found ≡ found_in (F.facts paged.old.device).content) }
+    ensures found { OnHonest F.facts paged.old.device (λ image. IfOk result (λ found. found ≡ found_in image)) }
 {
     find_fmap_from(paged, 0)
 }
@@ -77,8 +76,7 @@ pub fn find_fmap_from<F: Flash>(
     ensures after { HasAnswered F.facts (length (F.facts paged.old.device).content / 2 + 8) paged.old paged.new result }
     ensures fits { IfOk result (λ found. IfSome found (λ map.
         map.at + map_len map.head ≤ length (F.facts paged.old.device).content)) }
-    ensures found { IsTrue (F.facts paged.old.device).honest →
-        IfOk result (λ found. found ≡ found_from from (F.facts paged.old.device).content) }
+    ensures found { OnHonest F.facts paged.old.device (λ image. IfOk result (λ found. found ≡ found_from from image)) }
 {
     let len = paged.len();
     let mut place = from;
@@ -109,8 +107,7 @@ fn signature_in<F: Flash>(
 
     ensures after { HasAnswered F.facts 1 paged.old paged.new result }
     ensures within { IfOk result (λ place. IfSome place (λ q. (at ≤ q) × (q + 8 ≤ at + n))) }
-    ensures first { IsTrue (F.facts paged.old.device).honest → IfOk result (λ place.
-        IsFirst (HasSignatureAt (F.facts paged.old.device).content) at (at + n - 7) place) }
+    ensures first { OnHonest F.facts paged.old.device (λ image. IfOk result (IsFirst (HasSignatureAt image) at (at + n - 7))) }
 {
     paged.places_fit();
     let bytes = paged.piece(at, n)?;
@@ -129,8 +126,7 @@ fn head_at<F: Flash>(
     requires { len ≡ length (F.facts paged.old.device).content }
 
     ensures after { HasAnswered F.facts 1 paged.old paged.new result }
-    ensures head { IsTrue (F.facts paged.old.device).honest →
-        IfOk result (λ found. found ≡ map_head (drop place (F.facts paged.old.device).content)) }
+    ensures head { OnHonest F.facts paged.old.device (λ image. IfOk result (λ found. found ≡ map_head (drop place image))) }
     ensures fits { IfOk result (λ found. IfSome found (λ head. place + map_len head ≤ len)) }
 {
     if len < HEAD_LENGTH || place > len - HEAD_LENGTH {
@@ -160,8 +156,8 @@ pub fn area<F: Flash>(paged: &mut Paged<F>, map: &FoundMap, i: u16) -> Result<Ar
     requires number { i < map.now.head.nareas }
 
     ensures after { HasAnswered F.facts 1 paged.old paged.new result }
-    ensures area { IsTrue (F.facts paged.old.device).honest →
-        IfOk result (λ area. area ≡ area_of (drop (map.now.at + fmap_head_len + area_len * i) (F.facts paged.old.device).content)) }
+    ensures area { OnHonest F.facts paged.old.device (λ image.
+        IfOk result (λ area. area ≡ area_of (drop (map.now.at + fmap_head_len + area_len * i) image))) }
 {
     paged.places_fit();
     let mut bytes = [0; Area::LENGTH];
@@ -179,9 +175,8 @@ fn area_named<F: Flash>(
     requires inside { map.now.at + map_len map.now.head ≤ length (F.facts paged.old.device).content }
 
     ensures after { HasAnswered F.facts map.now.head.nareas paged.old paged.new result }
-    ensures first { IsTrue (F.facts paged.old.device).honest →
-        IfOk result (λ area. area ≡ find (is_area name.now)
-        (areas_from map.now.head.nareas (drop (map.now.at + fmap_head_len) (F.facts paged.old.device).content))) }
+    ensures first { OnHonest F.facts paged.old.device (λ image. IfOk result (λ area. area ≡ find (is_area name.now)
+        (areas_from map.now.head.nareas (drop (map.now.at + fmap_head_len) image)))) }
 {
     for i in 0..map.head.nareas {
         let area = area(paged, map, i)?;
@@ -215,8 +210,8 @@ pub fn region<F: Flash>(paged: &mut Paged<F>, name: &[u8]) -> Result<Region, Sto
     ensures after { HasRead F.facts (length (F.facts paged.old.device).content / 2
         + length (F.facts paged.old.device).content / area_len + 8) (faults_told by_device result) paged.old paged.new }
     ensures inside { IfOk result (λ region. LiesIn region (F.facts paged.old.device).content) }
-    ensures answer { IsTrue (F.facts paged.old.device).honest →
-        IsErrOf result StoreFault.Device ⊎ (result ≡ region_of (F.facts paged.old.device).content name.now) }
+    ensures answer { OnHonest F.facts paged.old.device (λ image.
+        IsErrOf result StoreFault.Device ⊎ (result ≡ region_of image name.now)) }
 {
     let Some(map) = find_fmap(paged)? else {
         return Err(StoreFault::NoFmap);
@@ -229,8 +224,7 @@ pub fn region<F: Flash>(paged: &mut Paged<F>, name: &[u8]) -> Result<Region, Sto
 pub fn map_in_source<S: Source>(source: &mut S) -> Result<Option<FmapHead>, SourceFault>
     ensures calls { Reads 1 (refusals result) (S.facts source.old) (S.facts source.new) }
     ensures fits { IfOk result (λ found. IfSome found (λ head. map_len head ≤ length (S.facts source.old).content)) }
-    ensures head { IsTrue (S.facts source.old).honest →
-        IfOk result (λ found. found ≡ map_head (S.facts source.old).content) }
+    ensures head { OnHonest S.facts source.old (λ content. IfOk result (λ found. found ≡ map_head content)) }
 {
     let len = source.len();
     if len < HEAD_LENGTH {
@@ -251,8 +245,8 @@ pub fn area_in_source<S: Source>(
     requires number { i < head.now.nareas }
 
     ensures calls { Reads 1 (refusals result) (S.facts source.old) (S.facts source.new) }
-    ensures area { IsTrue (S.facts source.old).honest →
-        IfOk result (λ area. area ≡ area_of (drop (fmap_head_len + area_len * i) (S.facts source.old).content)) }
+    ensures area { OnHonest S.facts source.old (λ content.
+        IfOk result (λ area. area ≡ area_of (drop (fmap_head_len + area_len * i) content))) }
 {
     let mut bytes = [0; Area::LENGTH];
     let at = HEAD_LENGTH + AREA_LENGTH * u64::from(i);

@@ -51,10 +51,7 @@ impl MemFlash {
     /// Writes the bytes from `at` on, as one call.
     fn replace(&mut self, at: u64, bytes: &[u8])
         requires { at + length bytes.now ≤ length self.old.content }
-        ensures { self.new ≡ record {
-          content = overwritten self.old.content at bytes.now;
-          calls = self.old.calls + 1;
-        } }
+        ensures { self.new ≡ record { content = overwritten self.old.content at bytes.now; calls = self.old.calls + 1 } }
     {
         self.calls.tick();
         let start = at as usize;

@@ -62,9 +62,10 @@ impl OsFile {
     }
 
     /// Opens a file for reading, and waits for a lock that those who only read share. A pipe isn't opened, since that would
-    /// wait for one who writes.
+    /// wait for one who writes, nor is a directory, whose length depends on its file system.
     pub fn open_shared<R: Files<File = File>>(rt: &R, path: &str) -> Result<OsFile, OpenFault> {
-        if rt.metadata(path)?.file_type().is_fifo() {
+        let kind = rt.metadata(path)?.file_type();
+        if kind.is_fifo() || kind.is_dir() {
             return Err(OpenFault::Failed);
         }
         let mut file = OpenOptions::new().read(true).open(rt, path)?;

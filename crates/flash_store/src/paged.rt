@@ -1,8 +1,7 @@
 //! A device and one buffer, through which everything passes in pieces.
 ghost use Rattle.std.specs.Prelude.{◌≡◌, ℕ, List, ◌++◌, ◌+◌, ◌/◌, ◌^◌, ◌<◌, ◌≤◌, ◌↔◌, length, take, IsTrue, OnOk, IfOk, IsErrOf, slice_range, replicate};
-ghost use Rattle.flash_store.specs.Bytes.{overwritten, SameOutside};
-ghost use Rattle.flash_store.specs.Device.{Calls, OneCall, OneRead, OneWrite, OneCommit, faults_told, refusals};
-ghost use Rattle.flash_store.specs.Copies.{by_device, by_source, HasFilled, HasCopiedIn, HasCopiedOut};
+ghost use Rattle.flash_store.specs.Device.{OneCall, OneRead, OneWrite, OneCommit, refusals};
+ghost use Rattle.flash_store.specs.Copies.{HasFilled, HasCopiedIn, HasCopiedOut};
 ghost use Rattle.flash_store.specs.Output.{AppendsPieces};
 ghost use Rattle.std.specs.Io.KnownBytes.{Keeps};
 
@@ -113,7 +112,7 @@ impl<F: Flash> Model for Paged<F> {
 impl<F: Flash> Paged<F> {
     ghost use Rattle.std.specs.Borrow.{sem};
     ghost use Rattle.std.specs.Io.BufRead.{Rests};
-    ghost use Rattle.flash_store.specs.Pages.{Nothing, HasSeen, HasPulled, HasPiece, OnPiece, Covers, without_piece};
+    ghost use Rattle.flash_store.specs.Pages.{Nothing, OnHonest, HasSeen, HasPulled, HasPiece, OnPiece, Covers, without_piece};
     ghost use Rattle.flash_store.specs.contracts.paged.Paged.{the_row};
 
     /// Nothing is held, and no call is made.
@@ -156,13 +155,6 @@ impl<F: Flash> Paged<F> {
     {
         let Paged { device, .. } = self;
         device
-    }
-
-    /// From here on nothing is held.
-    fn forget(&mut self)
-        ensures { self.new ≡ record self.old { held = Nothing } }
-    {
-        self.held = Buffered::Nothing;
     }
 
     /// From here on no piece is held; a window is kept.
@@ -226,15 +218,15 @@ impl<F: Flash> Paged<F> {
     fn part(&self, at: u64, n: usize) -> &[u8]
         requires { Covers self.now.held at n }
         ensures size { length result.now ≡ n }
-        ensures read { IsTrue (F.facts self.now.device).honest →
-            result.now ≡ slice_range (F.facts self.now.device).content at (at + n) }
+        ensures read { OnHonest F.facts self.now.device (λ image. result.now ≡ slice_range image at (at + n)) }
     {
-        let from = match self.held {
-            Buffered::Window { at: from, .. } => from,
-            _ => at,
-        };
-        let start = (at - from) as usize;
-        &self.buffer[start..start + n]
+        match self.held {
+            Buffered::Window { at: from, .. } => {
+                let start = (at - from) as usize;
+                &self.buffer[start..start + n]
+            }
+            _ => &[],
+        }
     }
 
     /// Loads n bytes of a source, from `from` on, as the piece that `push` writes.
@@ -255,8 +247,7 @@ impl<F: Flash> Paged<F> {
         // From an honest source.
         ensures read { IsTrue (S.facts source.old).honest →
             IfOk result (λ bytes. bytes.now ≡ slice_range (S.facts source.old).content from (from + n)) }
-        ensures unchanged { IsTrue (S.facts source.old).honest →
-            (S.facts source.new).content ≡ (S.facts source.old).content }
+        ensures unchanged { OnHonest S.facts source.old (λ content. (S.facts source.new).content ≡ content) }
     {
         self.held = Buffered::Nothing;
         load_from(source, &mut self.buffer, from, n)?;
@@ -307,8 +298,7 @@ impl<F: Flash> Paged<F> {
         requires inside { at + n ≤ length (F.facts self.old.device).content }
         requires in_source { n ≤ length (S.facts source.old).content }
 
-        ensures after { HasCopiedIn at n (F.facts self.old.device) (F.facts self.new.device)
-            (S.facts source.old) (S.facts source.new) result }
+        ensures after { HasCopiedIn F.facts S.facts at n self.old.device self.new.device source.old source.new result }
         ensures dropped { self.new.held ≡ Nothing }
     {
         self.copy_in_watched(at, n, source, &mut Nobody)
@@ -325,62 +315,14 @@ impl<F: Flash> Paged<F> {
         requires inside { at + n ≤ length (F.facts self.old.device).content }
         requires in_source { n ≤ length (S.facts source.old).content }
 
-        ensures after { HasCopiedIn at n (F.facts self.old.device) (F.facts self.new.device)
-            (S.facts source.old) (S.facts source.new) result }
+        ensures after { HasCopiedIn F.facts S.facts at n self.old.device self.new.device source.old source.new result }
         ensures dropped { self.new.held ≡ Nothing }
         // From an honest source, whatever the device.
         ensures shown { IsTrue (S.facts source.old).honest → (seen : List ℕ) → W.saw watch.old seen →
             OnOk result (W.saw watch.new (seen ++ take n (S.facts source.old).content)) }
     {
-        self.forget();
-        self.places_fit();
-        let mut done = 0;
-        while done < n {
-            let size = (n - done).min(PIECE as u64);
-            self.copy_piece_in(at + done, done, size as usize, source, watch)?;
-            done += size;
-        }
-        Ok(())
-    }
-
-    /// The same of at most 4096 bytes, from a place in the source on.
-    fn copy_piece_in<S: Source, W: Watch>(
-        &mut self,
-        at: u64,
-        from: u64,
-        n: usize,
-        source: &mut S,
-        watch: &mut W,
-    ) -> Result<(), CopyFault>
-        requires inside { at + n ≤ length (F.facts self.old.device).content }
-        requires in_source { from + n ≤ length (S.facts source.old).content }
-        requires short { n ≤ 4096 }
-
-        ensures call { Calls 1 (faults_told by_device result) (F.facts self.old.device)
-            (F.facts self.new.device) }
-        ensures source_call { OneCall (faults_told by_source result) (S.facts source.old)
-            (S.facts source.new) }
-        ensures no_output { IsErrOf result CopyFault.Output → ⊥ }
-        ensures dropped { self.new.held ≡ Nothing }
-        ensures same_source { IsTrue (S.facts source.old).honest →
-            (S.facts source.new).content ≡ (S.facts source.old).content }
-
-        ensures copied { IsTrue (F.facts self.old.device).honest → IsTrue (S.facts source.old).honest →
-            OnOk result ((F.facts self.new.device).content
-            ≡ overwritten (F.facts self.old.device).content at
-            (slice_range (S.facts source.old).content from (from + n))) }
-        ensures stopped { IsTrue (F.facts self.old.device).honest → IsErrOf result CopyFault.Source →
-            (F.facts self.new.device).content ≡ (F.facts self.old.device).content }
-        ensures outside { IsTrue (F.facts self.old.device).honest →
-            SameOutside at n (F.facts self.old.device).content (F.facts self.new.device).content }
-        ensures shown { IsTrue (S.facts source.old).honest → (seen : List ℕ) → W.saw watch.old seen →
-            OnOk result (W.saw watch.new (seen ++ slice_range (S.facts source.old).content from (from + n))) }
-    {
         self.held = Buffered::Nothing;
-        load_from(source, &mut self.buffer, from, n)?;
-        watch.see(&self.buffer[..n]);
-        self.device.write_at(at, &self.buffer[..n])?;
-        Ok(())
+        copy_pieces(&mut self.device, &mut self.buffer, at, n, source, watch)
     }
 
     /// Puts the n bytes from `at` on into a sink. Where it stops, the sink has taken some of the first of them.
@@ -389,9 +331,8 @@ impl<F: Flash> Paged<F> {
 
         ensures after { HasCopiedOut F.facts W.contents W.faults ((n + 4095) / 4096) at n
             self.old self.new out.old out.new result }
-        ensures pieces { IsTrue (F.facts self.old.device).honest → IsErrOf result CopyFault.Device →
-            AppendsPieces (W.contents out.old) (W.contents out.new)
-            (slice_range (F.facts self.old.device).content at (at + n)) }
+        ensures pieces { OnHonest F.facts self.old.device (λ image. IsErrOf result CopyFault.Device →
+            AppendsPieces (W.contents out.old) (W.contents out.new) (slice_range image at (at + n))) }
     {
         self.forget_piece();
         self.places_fit();
@@ -445,6 +386,35 @@ fn load_from<S: Source>(
     ensures { OneRead at n (S.facts source.old) (S.facts source.new) result (take n buffer.new) }
 {
     source.read_at(at, &mut buffer[..n])
+}
+
+/// Writes the first n bytes of a source, piece by piece, each by way of the buffer and in sight of a watcher.
+fn copy_pieces<F: Flash, S: Source, W: Watch>(
+    device: &mut F,
+    buffer: &mut [u8; PIECE],
+    at: u64,
+    n: u64,
+    source: &mut S,
+    watch: &mut W,
+) -> Result<(), CopyFault>
+    requires inside { at + n ≤ length (F.facts device.old).content }
+    requires in_source { n ≤ length (S.facts source.old).content }
+
+    ensures after { HasCopiedIn F.facts S.facts at n device.old device.new source.old source.new result }
+    ensures shown { IsTrue (S.facts source.old).honest → (seen : List ℕ) → W.saw watch.old seen →
+        OnOk result (W.saw watch.new (seen ++ take n (S.facts source.old).content)) }
+{
+    let _len = device.len();
+    let mut done = 0;
+    while done < n {
+        let size = (n - done).min(PIECE as u64);
+        load_from(source, buffer, done, size as usize)?;
+        let piece = &buffer[..size as usize];
+        watch.see(piece);
+        device.write_at(at + done, piece)?;
+        done += size;
+    }
+    Ok(())
 }
 
 /// Writes n bytes, piece by piece, each a prefix of the same 4096 bytes.

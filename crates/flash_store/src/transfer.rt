@@ -1,7 +1,8 @@
-//! Calls of a file made until all of the bytes are moved.
-ghost use Rattle.std.specs.Prelude.{◌≡◌, ◌⊎◌, ◌+◌, ◌<◌, ◌≤◌, length, IsTrue, IfOk, OnOk, slice_range};
-ghost use Rattle.flash_store.specs.Bytes.{overwritten, SameOutside};
-ghost use Rattle.flash_store.specs.Storing.{SameFile, SameBytes, HasReadSome, HasWrittenSome};
+//! Calls of a file made until all of the bytes are moved. What a function leaves is said as one call of a device over the
+//! file.
+ghost use Rattle.std.specs.Prelude.{◌+◌, ◌<◌, ◌≤◌, length, IfOk};
+ghost use Rattle.flash_store.specs.Device.{OneRead, OneWrite, OneCommit, refusals};
+ghost use Rattle.flash_store.specs.Storing.{stored_device, HasReadSome, HasWrittenSome};
 
 use crate::storage::{Storage, StorageFault};
 use flash_format::HEADER_LENGTH;
@@ -11,7 +12,7 @@ const TRIES: u32 = 1000;
 
 /// Reads some of the bytes from `at` on, at least one: one call, made again where it was interrupted.
 fn read_again<S: Storage>(storage: &mut S, at: u64, out: &mut [u8]) -> Result<usize, StorageFault>
-    requires inside { at + length out.old ≤ length (S.facts storage.old).content }
+    requires { at + length out.old ≤ length (S.facts storage.old).content }
 
     ensures after { HasReadSome at (length out.old) (S.facts storage.old) (S.facts storage.new) result out.new }
     ensures moved { IfOk result (λ n. 0 < n) }
@@ -29,7 +30,7 @@ fn read_again<S: Storage>(storage: &mut S, at: u64, out: &mut [u8]) -> Result<us
 
 /// Writes some of the first bytes from `at` on, at least one: one call, made again where it was interrupted.
 fn write_again<S: Storage>(storage: &mut S, at: u64, bytes: &[u8]) -> Result<usize, StorageFault>
-    requires inside { at + length bytes.now ≤ length (S.facts storage.old).content }
+    requires { at + length bytes.now ≤ length (S.facts storage.old).content }
 
     ensures after { HasWrittenSome at bytes.now (S.facts storage.old) (S.facts storage.new) result }
     ensures moved { IfOk result (λ n. 0 < n) }
@@ -47,11 +48,10 @@ fn write_again<S: Storage>(storage: &mut S, at: u64, bytes: &[u8]) -> Result<usi
 
 /// Reads all the bytes from `at` on. After a fault `out` may hold anything.
 pub fn read_whole<S: Storage>(storage: &mut S, at: u64, out: &mut [u8]) -> Result<(), StorageFault>
-    requires inside { at + length out.old ≤ length (S.facts storage.old).content }
+    requires { at + length out.old ≤ length (S.facts storage.old).content }
 
-    ensures after { SameBytes (S.facts storage.old) (S.facts storage.new) }
-    ensures read { IsTrue (S.facts storage.old).faithful → OnOk result
-        (out.new ≡ slice_range (S.facts storage.old).content at (at + length out.old)) }
+    ensures { OneRead at (length out.old) (stored_device (S.facts storage.old) 0 0)
+        (stored_device (S.facts storage.new) 1 (refusals result)) result out.new }
 {
     let _below = storage.len();
     let mut done = 0;
@@ -63,13 +63,10 @@ pub fn read_whole<S: Storage>(storage: &mut S, at: u64, out: &mut [u8]) -> Resul
 
 /// Writes all the bytes from `at` on. Where it fails, the range may hold anything.
 pub fn write_whole<S: Storage>(storage: &mut S, at: u64, bytes: &[u8]) -> Result<(), StorageFault>
-    requires inside { at + length bytes.now ≤ length (S.facts storage.old).content }
+    requires { at + length bytes.now ≤ length (S.facts storage.old).content }
 
-    ensures after { SameFile (S.facts storage.old) (S.facts storage.new) }
-    ensures written { IsTrue (S.facts storage.old).faithful → OnOk result
-        ((S.facts storage.new).content ≡ overwritten (S.facts storage.old).content at bytes.now) }
-    ensures torn { IsTrue (S.facts storage.old).faithful →
-        SameOutside at (length bytes.now) (S.facts storage.old).content (S.facts storage.new).content }
+    ensures { OneWrite at bytes.now (stored_device (S.facts storage.old) 0 0)
+        (stored_device (S.facts storage.new) 1 (refusals result)) result }
 {
     let _below = storage.len();
     let mut done = 0;
@@ -87,12 +84,8 @@ pub fn write_once<S: Storage>(
 ) -> Result<(), StorageFault>
     requires { at + length bytes.now ≤ length (S.facts storage.old).content }
 
-    ensures after { SameFile (S.facts storage.old) (S.facts storage.new) }
-    ensures written { IsTrue (S.facts storage.old).faithful → OnOk result
-        ((S.facts storage.new).content ≡ overwritten (S.facts storage.old).content at bytes.now) }
-    ensures whole { IsTrue (S.facts storage.old).faithful →
-        ((S.facts storage.new).content ≡ (S.facts storage.old).content)
-        ⊎ ((S.facts storage.new).content ≡ overwritten (S.facts storage.old).content at bytes.now) }
+    ensures { OneCommit at bytes.now (stored_device (S.facts storage.old) 0 0)
+        (stored_device (S.facts storage.new) 1 (refusals result)) result }
 {
     if write_again(storage, at, bytes)? < HEADER_LENGTH {
         return Err(StorageFault::Failed);

@@ -3,7 +3,7 @@ use Rattle.std.proofs.Common.{◌≡◌, ◌⊎◌, inl, inr, ⊎_elim, ℕ, zer
 use Rattle.std.specs.Prelude.{Contains, IsSomeAnd}
 use Rattle.std.specs.List.{find, flat_map}
 use Rattle.std.specs.Option.{option_or}
-use Rattle.std.proofs.lemmas.Bool.{and_parts, cases_lt, ltb-false, leb-true, eqb-true}
+use Rattle.std.proofs.lemmas.Bool.{and_parts, or_parts, cases_lt, ltb-false, leb-true, eqb-true}
 use Rattle.std.proofs.lemmas.List.Elements.{All-nil, All-cons, All-contains}
 use Rattle.std.proofs.lemmas.List.Folds.{find-append}
 use Rattle.std.proofs.lemmas.Slice.Eq.{bytes_eq-Decides}
@@ -65,7 +65,8 @@ unnamed a before e = go (find (has_name (text_of a.area.name)) before) e
     go None e = refl
     go (Some b) e = absurd cc
 
-named : (before areas : List NumberedArea) → name_findings before areas ≡ [] → (a : NumberedArea) → Contains areas a → find (has_name (text_of a.area.name)) (before ++ areas) ≡ Some a
+-- each name that none is told to have again finds its area
+pub named : (before areas : List NumberedArea) → name_findings before areas ≡ [] → (a : NumberedArea) → Contains areas a → find (has_name (text_of a.area.name)) (before ++ areas) ≡ Some a
 named before [] e a (k, lt, is) = absurd (omega (arith, lt))
 named before (x ∷ areas) e a (zero, lt, is) =
     let parts = both-none (name_finding x (first_with (text_of x.area.name) before)) (name_findings (before ++ x ∷ []) areas) e in
@@ -80,10 +81,6 @@ named before (x ∷ areas) e a (suc k, lt, is) =
     ap (λ (l : List NumberedArea). find (has_name (text_of a.area.name)) l) (sym (append_assoc before (x ∷ []) areas)) ∙ named (before ++ x ∷ []) areas parts.1 a (k, omega (arith, lt), is)
 
 -- ---- overlaps
-
-or-false : (x y : Bool) → (x || y) ≡ false → (x ≡ false) × (y ≡ false)
-or-false false y e = (refl, e)
-or-false true y e = absurd cc
 
 not_inside : (a b : Area) → ends_inside a b ≡ false → (b.offset ≤ a.offset) ⊎ ((area_end a ≤ b.offset) ⊎ (area_end b ≤ area_end a))
 not_inside a b e = go (nat_lt a.offset b.offset) (nat_lt b.offset (area_end a)) (nat_lt (area_end a) (area_end b)) refl refl refl e
@@ -120,7 +117,7 @@ nested : (areas : List NumberedArea) → overlap_findings areas ≡ [] → (a b 
 nested areas e a b there here =
     let each = flat-none (λ (c : NumberedArea). overlap_finding c (find (overlap c) areas)) areas (compared areas (nat_lt 4096 (length areas)) e) in
     let none = apart a (find (overlap a) areas) (All-contains (λ (c : NumberedArea). overlap_finding c (find (overlap c) areas) ≡ []) areas a each there) in
-    let parts = or-false (ends_inside a.area b.area) (ends_inside b.area a.area) (All-contains (λ (c : NumberedArea). overlap a c ≡ false) areas b (find-none (overlap a) areas none) here) in
+    let parts = or_parts (ends_inside a.area b.area) (ends_inside b.area a.area) (All-contains (λ (c : NumberedArea). overlap a c ≡ false) areas b (find-none (overlap a) areas none) here) in
     nest a.area b.area parts.0 parts.1
 
 -- ---- the whole map

@@ -1,14 +1,30 @@
 //! The areas of a flashmap, read once.
 
-ghost use Rattle.std.specs.Prelude.{◌≡◌, ◌+◌, ◌≤◌, [], ◌∷◌, ◌++◌, length, IfOk, OnOk};
-ghost use Rattle.flash_format.specs.Flashmap.{map_len};
+ghost use Rattle.std.specs.Prelude.{◌≡◌, ◌+◌, ◌/◌, ◌≤◌, [], ◌∷◌, ◌++◌, length, IfOk, OnOk};
+ghost use Rattle.flash_format.specs.Flashmap.{area_len, map_len};
 ghost use Rattle.flash_store.specs.Device.{faults_told};
 ghost use Rattle.flash_store.specs.Pages.{HasRead, OnHonest};
-ghost use Rattle.flashmap_check.specs.MapFindings.{by_device, map_areas};
+ghost use Rattle.flashmap_check.specs.MapFindings.{by_device, image_areas, map_areas};
 
 use crate::finding::{MapCheckFault, NumberedArea};
-use flash_store::{Flash, FoundMap, Paged, area};
+use flash_store::{Flash, FoundMap, Paged, area, find_fmap};
 use std::alloc::{AllocError, Global};
+
+/// All areas of the image's map, in its order; none where the image has no map. `Device` comes exactly where the device
+/// refused a read.
+pub fn image_areas<F: Flash>(
+    alloc: Global,
+    paged: &mut Paged<F>,
+) -> Result<Vec<NumberedArea>, MapCheckFault>
+    ensures after { HasRead F.facts (length (F.facts paged.old.device).content / 2
+        + length (F.facts paged.old.device).content / area_len + 8) (faults_told by_device result) paged.old paged.new }
+    ensures areas { OnHonest F.facts paged.old.device (λ image. IfOk result (λ areas. areas.items ≡ image_areas image)) }
+{
+    match find_fmap(paged)? {
+        Some(map) => map_areas(alloc, paged, &map),
+        None => Ok(Vec::new(alloc)),
+    }
+}
 
 /// All areas of the map, in its order.
 pub fn map_areas<F: Flash>(

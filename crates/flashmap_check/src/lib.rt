@@ -9,6 +9,7 @@ mod laws;
 mod names;
 mod overlaps;
 
+pub use areas::image_areas;
 pub use check::{CheckedMap, check_map, checked_map};
 pub use finding::{MapCheckFault, MapFinding, NumberedArea};
 pub use laws::untold_maps_are_sound;

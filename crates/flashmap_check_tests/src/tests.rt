@@ -1,6 +1,6 @@
 //! Maps written out as bytes, one for each finding, and a device that fails at each call in turn.
 use flash_store::{FailAt, MemFlash, Paged};
-use flashmap_check::{MapCheckFault, MapFinding, check_map};
+use flashmap_check::{MapCheckFault, MapFinding, NumberedArea, check_map, image_areas};
 use std::alloc::{AllocError, Global};
 use std::process::Abort;
 
@@ -113,6 +113,29 @@ fn tells(rt: &(impl Abort + AllocGlobal), image: Vec<u8>, expected: &str) {
     let findings = check_map(rt.alloc(), &mut paged).expect(rt, "findings");
     let text = text_of(rt.alloc(), &findings).expect(rt, "memory");
     assert_eq!(rt; text.as_str(), expected);
+}
+
+/// The number of each area and where it begins, with a comma after each.
+fn areas_text(alloc: Global, areas: &[NumberedArea]) -> Result<String, AllocError> {
+    let mut text = String::new(alloc);
+    for a in areas {
+        text.push_str(&format!(in alloc; "{} {}, ", a.number, a.area.offset)?)?;
+    }
+    Ok(text)
+}
+
+/// These are the areas of an image.
+fn has_areas(rt: &(impl Abort + AllocGlobal), image: Vec<u8>, expected: &str) {
+    let mut paged = Paged::new(MemFlash::new(image).expect(rt, "a device"));
+    let areas = image_areas(rt.alloc(), &mut paged).expect(rt, "areas");
+    let text = areas_text(rt.alloc(), &areas).expect(rt, "memory");
+    assert_eq!(rt; text.as_str(), expected);
+}
+
+#[test]
+fn the_areas_of_an_image(rt: HostRuntime) {
+    has_areas(&rt, image(&rt, 512, &[FMAP, D, E]), "0 0, 1 384, 2 300, ");
+    has_areas(&rt, image(&rt, 55, &[]), "");
 }
 
 #[test]

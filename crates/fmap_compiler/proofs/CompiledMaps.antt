@@ -3,18 +3,19 @@ use Rattle.std.proofs.Common.{List, ℕ, sym, subst}
 use Rattle.flash_store.specs.Bytes.{overwritten}
 use Rattle.flash_store.specs.Laws.{FindsMap, NothingBelow}
 use Rattle.flash_store.proofs.WrittenMaps.{maps_found}
-use Rattle.fmd_lang.specs.Bytes.{table_bytes, table_head}
+use Rattle.fmd_lang.specs.Table.{table_bytes, table_head}
 use Rattle.fmd_lang.proofs.TableBytes.{table_read}
 use Rattle.fmap_compiler.specs.Laws.{CompiledMapsAreFound}
 
 pub compiled_found : CompiledMapsAreFound
 compiled_found text bytes image q (faultless, (tree, is_tree, laid, (table, is_table, same))) inside none =
-    let found = λ (below : NothingBelow (overwritten image q (table_bytes table)) q).
-    maps_found (table_head table) table.areas.items (table_bytes table) image q (λ more. table_read tree text more table faultless is_tree laid is_table) inside below in
+    let read = λ (more : List ℕ). table_read tree text more table faultless is_tree laid is_table in
+    let below = subst (λ (l : List ℕ). NothingBelow (overwritten image q l) q) same none in
+    let found = maps_found (table_head table) table.areas.items (table_bytes table) image q read inside below in
     record {
       tree = tree;
       table = table;
       is_tree = is_tree;
       is_table = is_table;
-      found = subst (λ (l : List ℕ). NothingBelow (overwritten image q l) q → FindsMap (table_head table) table.areas.items (overwritten image q l) q) (sym same) found none;
+      found = subst (λ (l : List ℕ). FindsMap (table_head table) table.areas.items (overwritten image q l) q) (sym same) found;
     }

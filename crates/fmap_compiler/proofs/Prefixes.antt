@@ -1,13 +1,12 @@
 -- What was read, against what the reader had left.
-use Rattle.std.proofs.Common.{◌≡◌, ℕ, ◌≤◌, List, [], ◌++◌, length, take, drop, Option, Some, None, refl, sym, ap, ◌∙◌}
-use Rattle.std.proofs.lemmas.List.{append-nil, drop_at, take_all, take_at}
-use Rattle.std.proofs.KnownBytes.{Consumes-trans}
+use Rattle.std.proofs.Common.{◌≡◌, ℕ, ◌≤◌, List, [], ◌++◌, length, take, Option, Some, None, sym, ap, ◌∙◌}
+use Rattle.std.proofs.lemmas.List.{append-nil, take_all, take_at}
 use Rattle.std.specs.Io.KnownBytes.{Consumes, IsAtEnd}
-use Rattle.fmap_compiler.specs.Outcome.{reading_limit, IsPrefixOf, ReadsPrefix}
+use Rattle.fmap_compiler.specs.Outcome.{reading_limit, IsPrefixOf}
 
 -- a reader that is at its end gave its whole text
-pub IsPrefixOf-end : (old before new : Option (List ℕ)) (read more : List ℕ) →
-    Consumes old before read → Consumes before new more → more ≡ [] → IsAtEnd new → length read ≤ reading_limit → IsPrefixOf old read
+pub IsPrefixOf-end : (old before new : Option (List ℕ)) (read more : List ℕ) → Consumes old before read →
+    Consumes before new more → more ≡ [] → IsAtEnd new → length read ≤ reading_limit → IsPrefixOf old read
 IsPrefixOf-end None before new read more h k none end within = tt
 IsPrefixOf-end (Some text) None new read more h k none end within = absurd h
 IsPrefixOf-end (Some text) (Some rest) None read more h k none end within = absurd k
@@ -17,17 +16,8 @@ IsPrefixOf-end (Some text) (Some rest) (Some left) read more h k none end within
     sym (ap (take reading_limit) whole ∙ take_all reading_limit read within)
 
 -- as much as a run reads was read
-pub IsPrefixOf-full : (old new : Option (List ℕ)) (read : List ℕ) → Consumes old new read → length read ≡ reading_limit → IsPrefixOf old read
+pub IsPrefixOf-full : (old new : Option (List ℕ)) (read : List ℕ) → Consumes old new read → length read ≡ reading_limit →
+    IsPrefixOf old read
 IsPrefixOf-full None new read h full = tt
 IsPrefixOf-full (Some text) None read h full = absurd h
 IsPrefixOf-full (Some text) (Some rest) read h full = sym (ap (take reading_limit) h ∙ take_at read rest reading_limit full)
-
-reads-prefix : (old new : Option (List ℕ)) (read : List ℕ) → Consumes old new read → length read ≤ reading_limit → ReadsPrefix old new
-reads-prefix None new read h within = tt
-reads-prefix (Some text) None read h within = absurd h
-reads-prefix (Some text) (Some left) read h within = (length read, within, sym (ap (drop (length read)) h ∙ drop_at read left (length read) refl))
-
--- after one more read
-pub ReadsPrefix-append : (old before new : Option (List ℕ)) (read more : List ℕ) →
-    Consumes old before read → Consumes before new more → length (read ++ more) ≤ reading_limit → ReadsPrefix old new
-ReadsPrefix-append old before new read more h k within = reads-prefix old new (read ++ more) (Consumes-trans old before new read more h k) within

@@ -5,8 +5,7 @@ use Rattle.flash_store.specs.Laws.{FindsMap, NothingBelow}
 use Rattle.fmd_lang.specs.Words.{words}
 use Rattle.fmd_lang.specs.Tree.{Tree}
 use Rattle.fmd_lang.specs.Grammar.{IsSection}
-use Rattle.fmd_lang.specs.Table.{IsTable}
-use Rattle.fmd_lang.specs.Bytes.{table_head}
+use Rattle.fmd_lang.specs.Table.{IsTable, table_head}
 use Rattle.fmd_lang.specs.declared.table.Table.{Table}
 use Rattle.fmap_compiler.specs.Outcome.{Compiles}
 

@@ -1,14 +1,13 @@
 -- What a run of the compiler writes, and why it is refused.
-use Rattle.std.specs.Prelude.{◌≡◌, ℕ, ◌+◌, ◌≤◌, ◌⊎◌, List, take, drop, Option, Some, None, ⊤}
-use Rattle.std.specs.Io.KnownBytes.{Appends, Keeps}
+use Rattle.std.specs.Prelude.{◌≡◌, ℕ, ◌+◌, ◌≤◌, ◌⊎◌, List, length, take, Option, Some, None, IfSome}
+use Rattle.std.specs.Io.KnownBytes.{Appends, Consumes, Keeps}
 use Rattle.flash_store.specs.Output.{AppendsPart}
 use Rattle.fmd_lang.specs.Words.{words}
 use Rattle.fmd_lang.specs.Tree.{Tree}
 use Rattle.fmd_lang.specs.Grammar.{IsSection}
 use Rattle.fmd_lang.specs.Faults.{first_fault, text_limit}
 use Rattle.fmd_lang.specs.LayoutFaults.{layout_fault}
-use Rattle.fmd_lang.specs.Table.{IsTable}
-use Rattle.fmd_lang.specs.Bytes.{table_bytes}
+use Rattle.fmd_lang.specs.Table.{IsTable, table_bytes}
 use Rattle.fmd_lang.specs.declared.table.Table.{Table}
 use Rattle.fmd_lang.specs.declared.fault.FmdFault.{FmdFault}
 use Rattle.fmd_lang.specs.declared.fault.FmdFault.TheVariants as faults
@@ -32,33 +31,28 @@ Refuses text fault = (first_fault text ≡ Some fault)
 
 -- The same of what a reader has left and a writer holds, where they tell their bytes.
 
+-- the bytes of the table of the text are these
+abbrev pub HasTable : Option (List ℕ) → (List ℕ → Type 0) → Type 0
+HasTable text P = IfSome text (λ t. (bytes : List ℕ) × Compiles t bytes × P bytes)
+
 -- the table of the text is written, and nothing else
 abbrev pub HasCompiled : Option (List ℕ) → Option (List ℕ) → Option (List ℕ) → Type 0
-HasCompiled None old new = ⊤
-HasCompiled (Some text) old new = (bytes : List ℕ) × Compiles text bytes × Appends old new bytes
+HasCompiled text old new = HasTable text (Appends old new)
 
 -- some of the first bytes of the table of the text are written, but not all
 abbrev pub HasCompiledPart : Option (List ℕ) → Option (List ℕ) → Option (List ℕ) → Type 0
-HasCompiledPart None old new = ⊤
-HasCompiledPart (Some text) old new = (bytes : List ℕ) × Compiles text bytes × AppendsPart old new bytes
-
-abbrev pub RefusesKnown : Option (List ℕ) → FmdFault → Type 0
-RefusesKnown None fault = ⊤
-RefusesKnown (Some text) fault = Refuses text fault
+HasCompiledPart text old new = HasTable text (AppendsPart old new)
 
 -- why a run is refused, and what it has written then
 abbrev pub IsRefused : Refusal → Option (List ℕ) → Option (List ℕ) → Option (List ℕ) → Type 0
-IsRefused (refusal.Descriptor fault) text old new = ((fault ≡ faults.Memory) ⊎ RefusesKnown text fault) × Keeps old new
+IsRefused (refusal.Descriptor fault) text old new = ((fault ≡ faults.Memory) ⊎ IfSome text (λ t. Refuses t fault)) × Keeps old new
 IsRefused refusal.Read text old new = Keeps old new
 IsRefused refusal.Output text old new = HasCompiledPart text old new
 
 -- what was read are the first bytes, as many as a run reads
 abbrev pub IsPrefixOf : Option (List ℕ) → List ℕ → Type 0
-IsPrefixOf None read = ⊤
-IsPrefixOf (Some text) read = read ≡ take reading_limit text
+IsPrefixOf text read = IfSome text (λ t. read ≡ take reading_limit t)
 
 -- the first bytes are read, not more than a run reads
 abbrev pub ReadsPrefix : Option (List ℕ) → Option (List ℕ) → Type 0
-ReadsPrefix None new = ⊤
-ReadsPrefix (Some text) None = ⊥
-ReadsPrefix (Some text) (Some left) = (n : ℕ) × (n ≤ reading_limit) × (left ≡ drop n text)
+ReadsPrefix old new = (read : List ℕ) × Consumes old new read × (length read ≤ reading_limit)

@@ -1,231 +1,207 @@
 -- Words without a fault are those of a tree.
-use Rattle.std.proofs.Common.{◌≡◌, ℕ, zero, suc, ◌<◌, ◌≤◌, nat_lt, Bool, true, false, cond, List, [], ◌∷◌, ◌++◌, length, Option, Some, None, refl, sym, ◌∙◌, ap, arith, inl, inr, length-append, append_assoc, subst, All}
+use Rattle.std.proofs.Common.{◌≡◌, ◌≢◌, ℕ, zero, suc, ◌+◌, ◌-◌, ◌≤◌, nat_lt, Bool, true, false, cond, List, [], ◌∷◌, ◌++◌, length, Option, Some, None, refl, sym, ◌∙◌, ap, arith, inl, inr, append_assoc, subst, All}
 use Rattle.std.specs.Int.Bits.{bit_or}
+use Rattle.std.specs.Option.{option_map_or}
 use Rattle.std.specs.Result.{result_err}
+use Rattle.std.proofs.lemmas.Bool.Decides.{nat_tests}
+use Rattle.std.proofs.lemmas.List.{append-nil}
+use Rattle.std.proofs.lemmas.List.Elements.{All-head, All-tail}
 use Rattle.fmd_lang.specs.Words.{Word, words, kind_of, without_comments}
 use Rattle.fmd_lang.specs.Numbers.{number_at, number_value}
 use Rattle.fmd_lang.specs.Tree.{Tree, section, Forest, none, some}
-use Rattle.fmd_lang.specs.Grammar.{Then, One, IsA, IsSection, AreSections, AreAnnotations, HaveFlags, flags_with, IsOffset, IsSize, HasValue, annotation_flag}
-use Rattle.fmd_lang.specs.Faults.{Stage, start, in_annotations, annotated, at_sign, past, own_fault, expected_of, fault_from, first_fault, misplaced}
-use Rattle.fmd_lang.specs.Parsing.{Standing, Reads, AreClosed, EndAnnotations, IsBody}
+use Rattle.fmd_lang.specs.Grammar.{Then, One, IsA, IsName, IsSection, AreSections, AreAnnotations, HaveFlags, IsOffset, IsSize, HasValue, annotation_flag}
+use Rattle.fmd_lang.specs.Faults.{Stage, start, in_annotations, annotated, at_sign, past, own_fault, fault_from, first_fault, next_depth, next_stage, wanted_at}
+use Rattle.fmd_lang.specs.Parsing.{AreClosed, EndAnnotations, IsBody}
 use Rattle.fmd_lang.specs.declared.word.Kind.{Kind}
 use Rattle.fmd_lang.specs.declared.word.Kind.TheVariants.{Name, Number, OpenParen, CloseParen, At, OpenBrace, CloseBrace, End}
 use Rattle.fmd_lang.specs.declared.fault.FmdFault.TheVariants as faults
-use Rattle.std.proofs.lemmas.List.Elements.{All-head}
-use Rattle.fmd_lang.proofs.NameFields.{IsWhole, all-behind, words_whole}
-use Rattle.fmd_lang.proofs.OptionLemmas.{or-none, map-none}
-use Rattle.fmd_lang.proofs.StepLemmas.{reads-word, reads-none, reads-then, reads-as, reads-all, front_kind, pass}
-use Rattle.fmd_lang.proofs.FormLemmas.{IsAnnotation, annotation-name, flags-cons, name-short, section-opens}
+use Rattle.fmd_lang.proofs.NameFields.{IsWhole, words_whole}
+use Rattle.fmd_lang.proofs.OptionLemmas.{or-none}
+use Rattle.fmd_lang.proofs.FormLemmas.{annotation-name, flags-cons, name-short}
 
--- The words in front have the form P of some value.
-record Finds {X : Type 0} (P : X → List Word → Type 0) (before after : Standing) (end : ℕ) (ws : List Word) : Type 0 where
-  value : X
-  behind : List Word
-  reads : Reads (P value) before after end ws behind
+-- ---- what is left of a text
 
--- a word without a fault, and in its place
-clear : (s : Stage) (depth end : ℕ) (w : Word) (ws : List Word) → fault_from s depth end (w ∷ ws) ≡ None →
-    (own_fault depth w ≡ None) × (expected_of s depth (kind_of w.bytes) (annotation_flag w.bytes) ≡ None)
-clear s depth end w ws h =
-    let both = or-none (own_fault depth w) _ h in
-    (both.0, map-none (faults.Expected w.place) (expected_of s depth (kind_of w.bytes) (annotation_flag w.bytes)) (or-none (misplaced s depth w) _ both.1).0)
+abbrev FromBody : List Word → Type 0
+FromBody ws = (parts : Forest) × IsBody parts ws
 
-only_number : (depth : ℕ) (k : Kind) (flag : Option ℕ) → expected_of at_sign depth k flag ≡ None → k ≡ Number
-only_number depth Number flag h = refl
-only_number depth k flag h = cc
+abbrev FromSize : List Word → Type 0
+FromSize ws = (size : Option ℕ) × Then (IsSize size) FromBody ws
 
-only_close : (depth : ℕ) (k : Kind) → expected_of annotated depth k None ≡ None → k ≡ CloseParen
-only_close depth CloseParen h = refl
-only_close depth k h = cc
+abbrev FromOffset : List Word → Type 0
+FromOffset ws = (offset : Option ℕ) × Then (IsOffset offset) FromSize ws
 
-only_end : (k : Kind) (flag : Option ℕ) → expected_of (past 4) 0 k flag ≡ None → k ≡ End
-only_end End flag h = refl
-only_end k flag h = cc
+-- the last so many of the parts that may follow a section's name
+abbrev Ahead : ℕ → List Word → Type 0
+Ahead zero ws = ws ≡ []
+Ahead (suc zero) ws = FromBody ws
+Ahead (suc (suc zero)) ws = FromSize ws
+Ahead (suc (suc (suc zero))) ws = FromOffset ws
+Ahead (suc (suc (suc (suc n)))) ws = (flags : ℕ) × Then (AreAnnotations flags) FromOffset ws
 
-only_name : (depth : ℕ) (k : Kind) (flag : Option ℕ) → expected_of start depth k flag ≡ None → k ≡ Name
-only_name depth Name flag h = refl
-only_name depth k flag h = cc
+-- what is left after a section in so many open braces
+abbrev Behind : ℕ → List Word → Type 0
+Behind zero ws = ws ≡ []
+Behind (suc depth) ws = (ts : Forest) × Then (AreClosed ts) (Behind depth) ws
+
+abbrev Left : Stage → ℕ → List Word → Type 0
+Left start depth ws = (t : Tree) × Then (IsSection t) (Behind depth) ws
+Left in_annotations depth ws =
+    (flags : ℕ) × Then (Then (HaveFlags flags) (One (IsA CloseParen))) (Then (Ahead 3) (Behind depth)) ws
+Left annotated depth ws = (before : ℕ) → (flags : ℕ) × Then (EndAnnotations before flags) (Then (Ahead 3) (Behind depth)) ws
+Left at_sign depth ws = (n : ℕ) × Then (One (HasValue n)) (Then (Ahead 2) (Behind depth)) ws
+Left (past n) depth ws = Then (Ahead (4 - n)) (Behind depth) ws
+
+-- ---- forms
+
+joined : (P Q R : List Word → Type 0) (ws : List Word) → Then P (Then Q R) ws → Then (Then P Q) R ws
+joined P Q R ws (a, r, split, p, (b, c, inner, q, behind)) =
+    (a ++ b, c, split ∙ ap (λ v. a ++ v) inner ∙ sym (append_assoc a b c), (a, b, refl, p, q), behind)
+
+-- A part that isn't there is passed.
+wider : (n : ℕ) (ws : List Word) → Ahead n ws → Ahead (suc n) ws
+wider zero ws h = (none, inl (h, refl))
+wider (suc zero) ws h = (None, ([], ws, refl, refl, h))
+wider (suc (suc zero)) ws h = (None, ([], ws, refl, refl, h))
+wider (suc (suc (suc zero))) ws h = (0, ([], ws, refl, inl (refl, refl), h))
+wider (suc (suc (suc (suc n)))) ws h = h
+
+raise : (more n m : ℕ) (ws : List Word) → n + more ≡ m → Ahead n ws → Ahead m ws
+raise zero n m ws e h = subst (λ i. Ahead i ws) (let same : n ≡ m = omega arith in same) h
+raise (suc more) n m ws e h = raise more (suc n) m ws (omega arith) (wider n ws h)
+
+up : (k n : ℕ) (ws : List Word) → k ≤ 4 - n → Ahead k ws → Ahead (4 - n) ws
+up k n ws few h = raise (4 - n - k) k (4 - n) ws (omega arith) h
+
+-- what is behind a section past all of its parts
+over : (Q : List Word → Type 0) (ws : List Word) → Then (Ahead 0) Q ws → Q ws
+over Q ws (front, behind, split, empty, q) = subst Q (sym (split ∙ ap (λ v. v ++ behind) empty)) q
+
+section-is : (w : Word) (ws : List Word) → IsName w.bytes w → Ahead 4 ws → (t : Tree) × IsSection t (w ∷ ws)
+section-is w ws named (flags, (a, b, split, marked, (offset, (c, d, inner, placed, rest)))) =
+    let (size, (e, f, last, sized, (parts, body))) = rest in (
+      section w.bytes flags offset size parts,
+      (
+        w ∷ [],
+        ws,
+        refl,
+        (w, refl, named),
+        (a, b, split, marked, (c, d, inner, placed, (e, f, last, sized, body))),
+      ),
+    )
+
+one-more : (t : Tree) (ts : Forest) (v : List Word) → Then (IsSection t) (AreClosed ts) v → AreClosed (some t ts) v
+one-more t ts v sections = joined (IsSection t) (AreSections ts) (One (IsA CloseBrace)) v sections
+
+-- ---- one word
 
 -- A number without a fault has a value.
 has-value : (at : ℕ) (value : Option ℕ) → result_err (number_at at value) ≡ None → (n : ℕ) × (value ≡ Some n)
 has-value at None h = cc
 has-value at (Some n) h = (n, refl)
 
-reads-size : (depth end : ℕ) (ws : List Word) → fault_from (past 2) depth end ws ≡ None →
-    Finds IsSize (past 2, depth) (past 3, depth) end ws
-reads-size depth end ws h = go (front_kind ws) ws refl h
+number-is : (depth : ℕ) (w : Word) → IsA Number w → own_fault depth w ≡ None → (n : ℕ) × HasValue n w
+number-is depth w is own = let (n, value) = has-value w.place (number_value w.bytes) (rw is at own) in (n, (is, value))
+
+-- what is left after a word that may stand
+abbrev Rest : Option Stage → ℕ → List Word → Type 0
+Rest None depth ws = ⊥
+Rest (Some t) depth ws = Left t depth ws
+
+-- The first word of a part may stand where the part may still come.
+room : (n m : ℕ) (t : Stage) (depth : ℕ) (ws : List Word) → m ≤ 4 → Rest (cond (nat_lt n m) (Some t) None) depth ws →
+    (5 - m ≤ 4 - n) × Left t depth ws
+room n m t depth ws small rest = go (nat_lt n m) refl rest
   where
-    go : (k : Kind) (ws : List Word) → front_kind ws ≡ k → fault_from (past 2) depth end ws ≡ None →
-        Finds IsSize (past 2, depth) (past 3, depth) end ws
-    go Number [] is h = cc
-    go Number (w ∷ ws) is h =
-        let own = (clear (past 2) depth end w ws h).0 in
-        let (n, value) = has-value w.place (number_value w.bytes) (rw is at own) in
-        record { value = Some n; behind = ws; reads = reads-word (HasValue n) (past 2) depth end w ws Number is own refl (is, value) }
-    go k ws is h = record { value = None; behind = ws; reads = reads-none (IsSize None) _ _ end ws refl (pass 2 3 depth end ws (rw is refl)) }
+    go : (test : Bool) → nat_lt n m ≡ test → Rest (cond test (Some t) None) depth ws → (5 - m ≤ 4 - n) × Left t depth ws
+    go true e left_behind = (let few : suc n ≤ m = grind (arith, nat_tests) in omega arith, left_behind)
+    go false e none_left = absurd none_left
 
--- the number after an `@`
-reads-number : (depth end : ℕ) (ws : List Word) → fault_from at_sign depth end ws ≡ None →
-    Finds (λ n. One (HasValue n)) (at_sign, depth) (past 2, depth) end ws
-reads-number depth end [] h = cc
-reads-number depth end (w ∷ ws) h =
-    let (own, stands) = clear at_sign depth end w ws h in
-    let is = only_number depth (kind_of w.bytes) (annotation_flag w.bytes) stands in
-    let (n, value) = has-value w.place (number_value w.bytes) (rw is at own) in
-    record { value = n; behind = ws; reads = reads-word (HasValue n) at_sign depth end w ws Number is own refl (is, value) }
+-- one word more
+step : (s : Stage) (k : Kind) (flag : Option ℕ) (depth : ℕ) (w : Word) (ws : List Word) → IsA k w → k ≢ End →
+    annotation_flag w.bytes ≡ flag → own_fault depth w ≡ None → Rest (next_stage s depth k flag) (next_depth k depth) ws →
+    Left s depth (w ∷ ws)
+step start Name flag depth w ws is there known own (front, behind, split, ahead, closed) =
+    let (t, one) = section-is w front (is, refl, name-short depth w is own) ahead in
+    (t, (w ∷ front, behind, ap (λ v. w ∷ v) split, one, closed))
+step start k flag depth w ws is there known own rest = absurd rest
+step in_annotations Name (Some flag) depth w ws is there known own rest =
+    let (flags, (a, behind, split, more, ahead)) = rest flag in
+    let all = flags-cons 0 flag flags (w ∷ a) (w ∷ [], a, refl, (w, refl, known), more) in
+    (flags, (w ∷ a, behind, ap (λ v. w ∷ v) split, all, ahead))
+step in_annotations k (Some flag) depth w ws is there known own rest = let name = annotation-name w.bytes flag known in cc
+step in_annotations k None depth w ws is there known own rest = absurd rest
+step annotated CloseParen flag depth w ws is there known own rest =
+    λ before. (before, (w ∷ [], ws, refl, ([], w ∷ [], refl, refl, (w, refl, is)), rest))
+step annotated Name (Some flag) depth w ws is there known own rest = λ before.
+    let (flags, (a, behind, split, more, ahead)) = rest (bit_or before flag) in
+    let (b, c, inner, all, close) = flags-cons before flag flags (w ∷ a) (w ∷ [], a, refl, (w, refl, known), more) in
+    (flags, (w ∷ a, behind, ap (λ v. w ∷ v) split, (b, c, inner, all.1, close), ahead))
+step annotated k (Some flag) depth w ws is there known own rest = let name = annotation-name w.bytes flag known in cc
+step annotated k None depth w ws is there known own rest = absurd rest
+step at_sign Number flag depth w ws is there known own rest =
+    let (n, value) = number-is depth w is own in (n, (w ∷ [], ws, refl, (w, refl, value), rest))
+step at_sign k flag depth w ws is there known own rest = absurd rest
+step (past n) OpenParen flag depth w ws is there known own rest =
+    let (fits, (flags, more)) = room n 1 in_annotations depth ws (omega arith) rest in
+    let (front, behind, split, (a, b, inner, closed, ahead), q) =
+    joined (Then (HaveFlags flags) (One (IsA CloseParen))) (Ahead 3) (Behind depth) ws more in
+    let all = up 4 n (w ∷ front) fits
+    (flags, (w ∷ a, b, ap (λ v. w ∷ v) inner, inr (w ∷ [], a, refl, (w, refl, is), closed), ahead)) in
+    (w ∷ front, behind, ap (λ v. w ∷ v) split, all, q)
+step (past n) At flag depth w ws is there known own rest =
+    let (fits, (place, more)) = room n 2 at_sign depth ws (omega arith) rest in
+    let (front, behind, split, (a, b, inner, at, ahead), q) = joined (One (HasValue place)) (Ahead 2) (Behind depth) ws more in
+    let all = up 3 n (w ∷ front) fits
+    (Some place, (w ∷ a, b, ap (λ v. w ∷ v) inner, (w ∷ [], a, refl, (w, refl, is), at), ahead)) in
+    (w ∷ front, behind, ap (λ v. w ∷ v) split, all, q)
+step (past n) Number flag depth w ws is there known own rest =
+    let (fits, (front, behind, split, ahead, q)) = room n 3 (past 3) depth ws (omega arith) rest in
+    let (size, value) = number-is depth w is own in
+    let all = up 2 n (w ∷ front) fits
+    (Some size, (w ∷ [], front, refl, (w, refl, value), ahead)) in
+    (w ∷ front, behind, ap (λ v. w ∷ v) split, all, q)
+step (past n) OpenBrace flag depth w ws is there known own rest =
+    let (fits, more) = room n 4 (past 4) (suc depth) ws (omega arith) rest in
+    let (parts, (front, behind, split, closed, q)) = over (Behind (suc depth)) ws more in
+    let all = up 1 n (w ∷ front) fits
+    (parts, inr (w ∷ [], front, refl, (w, refl, is), closed)) in
+    (w ∷ front, behind, ap (λ v. w ∷ v) split, all, q)
+step (past n) Name flag (suc depth) w ws is there known own (front, behind, split, ahead, (ts, closed)) =
+    let (t, one) = section-is w front (is, refl, name-short (suc depth) w is own) ahead in
+    let (a, b, whole, sections, outer) =
+    joined (IsSection t) (AreClosed ts) (Behind depth) (w ∷ ws) (w ∷ front, behind, ap (λ v. w ∷ v) split, one, closed) in
+    ([], w ∷ ws, refl, up 0 n [] (omega arith) refl, (some t ts, (a, b, whole, one-more t ts a sections, outer)))
+step (past n) CloseBrace flag (suc depth) w ws is there known own rest = (
+  [],
+  w ∷ ws,
+  refl,
+  up 0 n [] (omega arith) refl,
+  (none, (w ∷ [], ws, refl, ([], w ∷ [], refl, refl, (w, refl, is)), over (Behind depth) ws rest)),
+)
+step (past n) End flag depth w ws is there known own rest = absurd (there refl)
+step (past n) k flag zero w ws is there known own rest = absurd rest
+step (past n) k flag (suc depth) w ws is there known own rest = absurd rest
 
-reads-offset : (depth end : ℕ) (ws : List Word) → fault_from (past 1) depth end ws ≡ None →
-    Finds IsOffset (past 1, depth) (past 2, depth) end ws
-reads-offset depth end ws h = go (front_kind ws) ws refl h
+ends : (s : Stage) (depth end : ℕ) → fault_from s depth end [] ≡ None → Left s depth []
+ends (past n) zero end h = ([], [], refl, up 0 n [] (omega arith) refl, refl)
+ends s depth end h = cc
+
+left : (ws : List Word) (s : Stage) (depth end : ℕ) → All IsWhole ws → fault_from s depth end ws ≡ None → Left s depth ws
+left [] s depth end whole h = ends s depth end h
+left (w ∷ ws) s depth end whole h =
+    let k = kind_of w.bytes in
+    let (own, others) = or-none (own_fault depth w) _ h in
+    let behind = All-tail IsWhole w ws whole in
+    let more = go (next_stage s depth k (annotation_flag w.bytes)) (λ t e. left ws t (next_depth k depth) end behind e) others in
+    step s k (annotation_flag w.bytes) depth w ws refl (All-head IsWhole w ws whole).0 refl own more
   where
-    go : (k : Kind) (ws : List Word) → front_kind ws ≡ k → fault_from (past 1) depth end ws ≡ None →
-        Finds IsOffset (past 1, depth) (past 2, depth) end ws
-    go At [] is h = cc
-    go At (w ∷ ws) is h =
-        let word = reads-word (IsA At) (past 1) depth end w ws At is (clear (past 1) depth end w ws h).0 refl is in
-        let number = reads-number depth end ws (sym word.same ∙ h) in
-        record { value = Some number.value; behind = number.behind; reads = reads-then word number.reads }
-    go k ws is h = record { value = None; behind = ws; reads = reads-none (IsOffset None) _ _ end ws refl (pass 1 2 depth end ws (rw is refl)) }
-
--- annotations after others, and the `)` after them
-reads-more : (flags depth end : ℕ) (ws : List Word) → fault_from annotated depth end ws ≡ None →
-    Finds (EndAnnotations flags) (annotated, depth) (past 1, depth) end ws
-reads-more flags depth end [] h = cc
-reads-more flags depth end (w ∷ ws) h = go (annotation_flag w.bytes) refl (λ joined e. reads-more joined depth end ws e)
-  where
-    go : (o : Option ℕ) → annotation_flag w.bytes ≡ o →
-        ((joined : ℕ) → fault_from annotated depth end ws ≡ None → Finds (EndAnnotations joined) (annotated, depth) (past 1, depth) end ws) →
-        Finds (EndAnnotations flags) (annotated, depth) (past 1, depth) end (w ∷ ws)
-    go None unknown further =
-        let (own, stands) = clear annotated depth end w ws h in
-        let close = only_close depth (kind_of w.bytes) (rw unknown at stands) in
-        let nothing = reads-none (λ vs. flags_with flags vs ≡ Some flags) (annotated, depth) (annotated, depth) end (w ∷ ws) refl refl in
-        record { value = flags; behind = ws; reads = reads-then nothing (reads-word (IsA CloseParen) annotated depth end w ws CloseParen close own refl close) }
-    go (Some flag) known further =
-        let word = reads-word (IsAnnotation flag) annotated depth end w ws Name (annotation-name w.bytes flag known) (clear annotated depth end w ws h).0 (rw known refl) known in
-        let more = further (bit_or flags flag) (sym word.same ∙ h) in
-        record {
-          value = more.value;
-          behind = more.behind;
-          reads = reads-as (λ v f. let (front, back, split, all, close) = flags-cons flags flag more.value v f in (front, back, split, all.1, close)) (reads-then word more.reads);
-        }
-
--- one annotation, and others
-reads-first : (depth end : ℕ) (ws : List Word) → fault_from in_annotations depth end ws ≡ None →
-    Finds (λ flags. Then (HaveFlags flags) (One (IsA CloseParen))) (in_annotations, depth) (past 1, depth) end ws
-reads-first depth end [] h = cc
-reads-first depth end (w ∷ ws) h = go (annotation_flag w.bytes) refl
-  where
-    go : (o : Option ℕ) → annotation_flag w.bytes ≡ o →
-        Finds (λ flags. Then (HaveFlags flags) (One (IsA CloseParen))) (in_annotations, depth) (past 1, depth) end (w ∷ ws)
-    go None unknown = let wrong = rw unknown at (clear in_annotations depth end w ws h).1 in cc
-    go (Some flag) known =
-        let word = reads-word (IsAnnotation flag) in_annotations depth end w ws Name (annotation-name w.bytes flag known) (clear in_annotations depth end w ws h).0 (rw known refl) known in
-        let more = reads-more flag depth end ws (sym word.same ∙ h) in
-        record { value = more.value; behind = more.behind; reads = reads-as (flags-cons 0 flag more.value) (reads-then word more.reads) }
-
-reads-annotations : (depth end : ℕ) (ws : List Word) → fault_from (past 0) depth end ws ≡ None →
-    Finds AreAnnotations (past 0, depth) (past 1, depth) end ws
-reads-annotations depth end ws h = go (front_kind ws) ws refl h
-  where
-    go : (k : Kind) (ws : List Word) → front_kind ws ≡ k → fault_from (past 0) depth end ws ≡ None →
-        Finds AreAnnotations (past 0, depth) (past 1, depth) end ws
-    go OpenParen [] is h = cc
-    go OpenParen (w ∷ ws) is h =
-        let word = reads-word (IsA OpenParen) (past 0) depth end w ws OpenParen is (clear (past 0) depth end w ws h).0 refl is in
-        let inner = reads-first depth end ws (sym word.same ∙ h) in
-        record { value = inner.value; behind = inner.behind; reads = reads-as (λ v f. inr f) (reads-then word inner.reads) }
-    go k ws is h = record { value = 0; behind = ws; reads = reads-none (AreAnnotations 0) _ _ end ws (inl (refl, refl)) (pass 0 1 depth end ws (rw is refl)) }
-
--- what is to be read inside braces of fewer than so many words
-abbrev Further : ℕ → ℕ → ℕ → Type 0
-Further fuel depth end = (ws : List Word) → length ws < fuel → fault_from (past 4) (suc depth) end ws ≡ None →
-    Finds AreClosed (past 4, suc depth) (past 4, depth) end ws
-
-reads-body : (fuel depth end : ℕ) (ws : List Word) → Further fuel depth end → length ws ≤ fuel →
-    fault_from (past 3) depth end ws ≡ None → Finds IsBody (past 3, depth) (past 4, depth) end ws
-reads-body fuel depth end ws further few h = go (front_kind ws) ws refl few h
-  where
-    go : (k : Kind) (ws : List Word) → front_kind ws ≡ k → length ws ≤ fuel → fault_from (past 3) depth end ws ≡ None →
-        Finds IsBody (past 3, depth) (past 4, depth) end ws
-    go OpenBrace [] is few h = cc
-    go OpenBrace (w ∷ ws) is few h =
-        let word = reads-word (IsA OpenBrace) (past 3) depth end w ws OpenBrace is (clear (past 3) depth end w ws h).0 refl is in
-        let inner = further ws (omega arith) (sym word.same ∙ h) in
-        record { value = inner.value; behind = inner.behind; reads = reads-as (λ v f. inr f) (reads-then word inner.reads) }
-    go k ws is few h = record { value = none; behind = ws; reads = reads-none (IsBody none) _ _ end ws (inl (refl, refl)) (pass 3 4 depth end ws (rw is refl)) }
-
--- What is behind is no longer.
-shorter : {P : List Word → Type 0} {before after : Standing} {end : ℕ} {ws behind : List Word} →
-    Reads P before after end ws behind → length behind ≤ length ws
-shorter {ws = ws} {behind = behind} p = omega (arith, ap length p.split, length-append p.front behind)
-
--- a section after its name
-reads-section : (fuel depth end : ℕ) (w : Word) (ws : List Word) → IsA Name w → own_fault depth w ≡ None →
-    Further fuel depth end → length ws ≤ fuel → fault_from (past 0) depth end ws ≡ None →
-    Finds (λ t vs. IsSection t (w ∷ vs)) (past 0, depth) (past 4, depth) end ws
-reads-section fuel depth end w ws is own further few h =
-    let annotations = reads-annotations depth end ws h in
-    let offset = reads-offset depth end annotations.behind (sym annotations.reads.same ∙ h) in
-    let size = reads-size depth end offset.behind (sym offset.reads.same ∙ sym annotations.reads.same ∙ h) in
-    let fewer : length size.behind ≤ fuel =
-    omega (arith, few, shorter annotations.reads, shorter offset.reads, shorter size.reads) in
-    let body = reads-body fuel depth end size.behind further fewer (sym size.reads.same ∙ sym offset.reads.same ∙ sym annotations.reads.same ∙ h) in
-    record {
-      value = section w.bytes annotations.value offset.value size.value body.value;
-      behind = body.behind;
-      reads = reads-as (λ v f. (w ∷ [], v, refl, (w, refl, (is, refl, name-short depth w is own)), f))
-          (reads-then annotations.reads (reads-then offset.reads (reads-then size.reads body.reads)));
-    }
-
-one-more : (t : Tree) (ts : Forest) (v : List Word) → Then (IsSection t) (AreClosed ts) v → AreClosed (some t ts) v
-one-more t ts v (front, rest, split, one, (inside, close, inner, all, end)) =
-    (front ++ inside, close, split ∙ ap (λ u. front ++ u) inner ∙ sym (append_assoc front inside close), (front, inside, refl, one, all), end)
-
--- words inside braces, fewer than so many
-reads-closed : (fuel depth end : ℕ) (ws : List Word) → length ws < fuel → fault_from (past 4) (suc depth) end ws ≡ None →
-    Finds AreClosed (past 4, suc depth) (past 4, depth) end ws
-reads-closed zero depth end ws few h = absurd (omega arith)
-reads-closed (suc fuel) depth end [] few h = cc
-reads-closed (suc fuel) depth end (w ∷ ws) few h =
-    go (kind_of w.bytes) refl (clear (past 4) (suc depth) end w ws h).1 (λ d vs fewer g. reads-closed fuel d end vs fewer g)
-  where
-    own : own_fault (suc depth) w ≡ None
-    own = (clear (past 4) (suc depth) end w ws h).0
-
-    go : (k : Kind) → kind_of w.bytes ≡ k → expected_of (past 4) (suc depth) k (annotation_flag w.bytes) ≡ None →
-        ((d : ℕ) → Further fuel d end) →
-        Finds AreClosed (past 4, suc depth) (past 4, depth) end (w ∷ ws)
-    go CloseBrace is stands further =
-        let nothing = reads-none (AreSections none) (past 4, suc depth) (past 4, suc depth) end (w ∷ ws) refl refl in
-        record { value = none; behind = ws; reads = reads-then nothing (reads-word (IsA CloseBrace) (past 4) (suc depth) end w ws CloseBrace is own refl is) }
-    go Name is stands further =
-        let word = reads-word (λ x. x ≡ w) (past 4) (suc depth) end w ws Name is own refl refl in
-        let one = reads-section fuel (suc depth) end w ws is own (further (suc depth)) (omega arith) (sym word.same ∙ h) in
-        let more = further depth one.behind (omega (arith, few, shorter one.reads)) (sym one.reads.same ∙ sym word.same ∙ h) in
-        record {
-          value = some one.value more.value;
-          behind = more.behind;
-          reads = reads-as (one-more one.value more.value) (reads-then (reads-as (section-opens w one.value) (reads-then word one.reads)) more.reads);
-        }
-    go k is stands further = cc
-
--- Nothing may stand after the root.
-nothing-behind : (end : ℕ) (ws : List Word) → All IsWhole ws → fault_from (past 4) 0 end ws ≡ None → ws ≡ []
-nothing-behind end [] whole h = refl
-nothing-behind end (w ∷ ws) whole h =
-    absurd ((All-head IsWhole w ws whole).0 (only_end (kind_of w.bytes) (annotation_flag w.bytes) (clear (past 4) 0 end w ws h).1))
-
-root-tree : (end : ℕ) (ws : List Word) → All IsWhole ws → fault_from start 0 end ws ≡ None → (t : Tree) × IsSection t ws
-root-tree end [] whole h = cc
-root-tree end (w ∷ ws) whole h =
-    let (own, stands) = clear start 0 end w ws h in
-    let is = only_name 0 (kind_of w.bytes) (annotation_flag w.bytes) stands in
-    let word = reads-word (λ x. x ≡ w) start 0 end w ws Name is own refl refl in
-    let one = reads-section (suc (length ws)) 0 end w ws is own (λ vs few g. reads-closed (suc (length ws)) 0 end vs few g) (omega arith) (sym word.same ∙ h) in
-    let root = reads-as (section-opens w one.value) (reads-then word one.reads) in
-    let behind = all-behind IsWhole root.front one.behind (subst (λ vs. All IsWhole vs) root.split whole) in
-    (one.value, reads-all root (nothing-behind end one.behind behind (sym root.same ∙ h)))
+    go : (o : Option Stage) → ((t : Stage) → fault_from t (next_depth (kind_of w.bytes) depth) end ws ≡ None →
+        Left t (next_depth (kind_of w.bytes) depth) ws) →
+        option_map_or (λ t. fault_from t (next_depth (kind_of w.bytes) depth) end ws) o
+        (Some (faults.Expected w.place (wanted_at s depth (kind_of w.bytes)))) ≡ None →
+        Rest o (next_depth (kind_of w.bytes) depth) ws
+    go None further e = absurd cc
+    go (Some t) further e = further t e
 
 pub faultless-tree : (text : List ℕ) → first_fault text ≡ None → (t : Tree) × IsSection t (words text)
 unfolding first_fault words
@@ -234,4 +210,7 @@ faultless-tree text h = go (nat_lt 1048576 (length text)) h
     go : (b : Bool) → cond b (Some faults.TextTooLong) (fault_from start 0 (length text) (words text)) ≡ None →
         (t : Tree) × IsSection t (words text)
     go true e = cc
-    go false e = root-tree (length text) (words text) (words_whole 0 32 (without_comments false text)) e
+    go false e =
+        let whole = words_whole 0 false (without_comments false text) in
+        let (t, (front, behind, split, is, nothing)) = left (words text) start 0 (length text) whole e in
+        (t, subst (IsSection t) (sym (split ∙ ap (λ v. front ++ v) nothing ∙ append-nil front)) is)

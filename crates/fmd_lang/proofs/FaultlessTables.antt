@@ -1,5 +1,5 @@
 -- The numbers and the areas of the table of a text without a fault fit into its bytes.
-use Rattle.std.proofs.Common.{◌≡◌, ℕ, suc, ◌+◌, ◌^◌, ◌<◌, Bool, true, false, cond, All, List, [], ◌∷◌, ◌++◌, length, Option, Some, None, refl, sym, ◌∙◌, ap, subst, arith, length-append}
+use Rattle.std.proofs.Common.{◌≡◌, ℕ, ◌^◌, ◌<◌, Bool, true, false, cond, All, List, [], ◌∷◌, ◌++◌, length, Option, Some, None, refl, sym, ◌∙◌, ap, subst, arith}
 use Rattle.std.specs.Prelude.{Ok, Err, nat_lt, unwrap_or}
 use Rattle.std.specs.Result.{result_err}
 use Rattle.fmd_lang.specs.Numbers.{number_at}
@@ -7,14 +7,13 @@ use Rattle.std.proofs.lemmas.Bool.Decides.{nat_tests}
 use Rattle.std.proofs.lemmas.List.Elements.{All-nil, All-cons, All-head, All-tail}
 use Rattle.flash_format.specs.declared.flashmap.Area.{Area}
 use Rattle.fmd_lang.specs.Words.{Word, kind_of, words}
-use Rattle.fmd_lang.specs.Tree.{Tree, section, Forest, none, some, names, section_count, sections_count}
+use Rattle.fmd_lang.specs.Tree.{Tree, names}
 use Rattle.fmd_lang.specs.Grammar.{HasValue, IsOffset, IsSection, IsSize}
-use Rattle.fmd_lang.specs.Faults.{first_fault, next_depth, own_fault, text_limit}
-use Rattle.fmd_lang.specs.WordFaults.{first_own_fault}
+use Rattle.fmd_lang.specs.Faults.{first_fault, next_depth, own_fault, text_limit, first_own_fault}
 use Rattle.fmd_lang.specs.LayoutFaults.{layout_fault, names_fault}
 use Rattle.fmd_lang.proofs.LayoutLemmas.{few-sections}
-use Rattle.fmd_lang.specs.Table.{AreasBelow, AreasOf}
-use Rattle.fmd_lang.specs.declared.row.Place.{Place}
+use Rattle.fmd_lang.proofs.PlaceLemmas.{areas-filled}
+use Rattle.fmd_lang.specs.Table.{AreasBelow}
 use Rattle.fmd_lang.specs.declared.fault.FmdFault.TheVariants as faults
 use Rattle.fmd_lang.proofs.TreeLemmas.{text-agrees}
 use Rattle.fmd_lang.proofs.OptionLemmas.{or-none}
@@ -63,21 +62,8 @@ offset_fits (Some n) place after (front, back, shape, (mark, first, is_mark), (w
 
 -- ---- areas
 
-mutual
-  count_below : (t : Tree) (n at size : ℕ) (areas : List Area) → AreasBelow n at size t areas →
-      suc (length areas) ≡ section_count t
-  count_below (section name flags offset given parts) n at size areas (places, laid, are) =
-      ap suc (count_of parts (suc n) at places areas are)
-
-  count_of : (ts : Forest) (n at : ℕ) (qs : List Place) (areas : List Area) → AreasOf n at ts qs areas →
-      length areas ≡ sections_count ts
-  count_of none n at qs areas is = ap length is
-  count_of (some t ts) n at [] areas is = absurd is
-  count_of (some t ts) n at (q ∷ qs) areas (below, after, is, inner, outer) =
-      omega (arith, ap length is, length-append below after, count_below t n (at + q.start) q.size below inner, count_of ts (n + section_count t) at qs after outer)
-
 pub few_areas : (t : Tree) (size : ℕ) (areas : List Area) → layout_fault t ≡ None → AreasBelow 0 0 size t areas →
     length areas < 2 ^ 16
 unfolding layout_fault
 few_areas t size areas fine are =
-    omega (arith, few-sections t (or-none (names_fault (names t)) _ fine).0, count_below t 0 0 size areas are)
+    omega (arith, few-sections t (or-none (names_fault (names t)) _ fine).0, (areas-filled t 0 0 size areas are).1)

@@ -11,8 +11,7 @@ use Rattle.std.specs.Option.{option_and_then}
 use Rattle.std.specs.Str.{bytes_eq}
 use Rattle.fmd_lang.specs.Words.{Word, kind_of}
 use Rattle.fmd_lang.specs.Grammar.{One, Then, IsA, IsSection, AreSections, annotation_flag, flags_with}
-use Rattle.fmd_lang.specs.Tree.{Tree, forest_of, some}
-use Rattle.fmd_lang.specs.View.{view, views}
+use Rattle.fmd_lang.specs.Tree.{Tree, forest_of, some, view, views}
 use Rattle.fmd_lang.specs.declared.section.Section.{Section}
 use Rattle.fmd_lang.specs.declared.word.Kind.TheVariants.{Name, CloseParen}
 
@@ -32,7 +31,8 @@ flags-push : (ws : List Word) (before flags flag : ℕ) (w : Word) → flags_wit
 flags-push [] before flags flag w h is = rw is (ap (option_map (λ n. bit_or n flag)) h)
 flags-push (v ∷ ws) before flags flag w h is = go (annotation_flag v.bytes) (λ joined e. flags-push ws joined flags flag w e is) h
   where
-    go : (o : Option ℕ) → ((joined : ℕ) → flags_with joined ws ≡ Some flags → flags_with joined (ws ++ w ∷ []) ≡ Some (bit_or flags flag)) →
+    go : (o : Option ℕ) →
+        ((joined : ℕ) → flags_with joined ws ≡ Some flags → flags_with joined (ws ++ w ∷ []) ≡ Some (bit_or flags flag)) →
         option_and_then (λ f. flags_with (bit_or before f) ws) o ≡ Some flags →
         option_and_then (λ f. flags_with (bit_or before f) (ws ++ w ∷ [])) o ≡ Some (bit_or flags flag)
     go None further e = cc
@@ -48,7 +48,8 @@ flags-snoc before flags flag v (front, back, split, all, (w, one, is)) =
 pub each-annotation : (P : List ℕ → ℕ → Type 0) → P (codes "CBFS") 0 → P (codes "PRESERVE") 8 → (bytes : List ℕ) (flag : ℕ) →
     annotation_flag bytes ≡ Some flag → P bytes flag
 each-annotation P cbfs preserve bytes flag h =
-    go (bytes_eq bytes (codes "CBFS")) (bytes_eq bytes (codes "PRESERVE")) (bytes_eq-Decides bytes (codes "CBFS")).0 (bytes_eq-Decides bytes (codes "PRESERVE")).0 h
+    go (bytes_eq bytes (codes "CBFS")) (bytes_eq bytes (codes "PRESERVE")) (bytes_eq-Decides bytes (codes "CBFS")).0
+    (bytes_eq-Decides bytes (codes "PRESERVE")).0 h
   where
     known : (name : List ℕ) (value : ℕ) → P name value → bytes ≡ name → Some value ≡ Some flag → P bytes flag
     known name value holds same e = let n : value ≡ flag =

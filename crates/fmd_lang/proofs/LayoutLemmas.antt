@@ -1,25 +1,21 @@
 -- The layout of a tree, one section at a time.
-use Rattle.std.proofs.Common.{◌≡◌, ℕ, suc, ◌+◌, ◌<◌, ◌≤◌, nat_le, nat_lt, Bool, not, true, false, List, [], ◌∷◌, ◌++◌, length, drop, take, min, replicate, get_or, Option, Some, None, option_map, unwrap_or, length-append, refl, ◌∙◌, ap, arith, add-one, append_assoc}
+use Rattle.std.proofs.Common.{◌≡◌, ℕ, suc, ◌+◌, ◌<◌, ◌≤◌, nat_le, nat_lt, Bool, not, true, false, List, [], ◌∷◌, ◌++◌, length, drop, take, min, replicate, get_or, Some, None, option_map, unwrap_or, length-append, refl, sym, subst, ◌∙◌, ap, arith, add-one, append_assoc}
 use Rattle.std.specs.Option.{option_or}
 use Rattle.std.proofs.Math.Nat.{min_comm}
 use Rattle.std.proofs.Math.Seq.{drop-cons}
 use Rattle.std.proofs.lemmas.List.{take_min, drop-replicate}
 use Rattle.std.proofs.lemmas.Bool.{le-leb}
 use Rattle.std.specs.List.{list_all}
-use Rattle.fmd_lang.specs.Tree.{Tree, section, Forest, none, some, section_count, sections_count, parts_of, names, names_of, size_of}
-use Rattle.fmd_lang.specs.View.{view, views, view_step}
+use Rattle.fmd_lang.specs.Tree.{Tree, section, Forest, none, some, section_count, sections_count, parts_of, names, names_of, size_of, view, views, view_step}
 use Rattle.fmd_lang.specs.declared.section.Section.TheFolds.{fold_out-Section}
-use Rattle.fmd_lang.specs.Names.{field_of}
-use Rattle.fmd_lang.specs.Layout.{ambiguous_sibling, siblings, filled, ArePlaced, Laid, end_of}
-use Rattle.fmd_lang.specs.Table.{area_limit, section_area, areas_below, areas_of, AreasBelow, AreasOf, IsTable}
-use Rattle.fmd_lang.specs.LayoutFaults.{areas_fault, flag, is_fmap, parent_fault, parts_fault, layout_fault, names_fault, size_fault, table_fault}
+use Rattle.fmd_lang.specs.Table.{field_of, area_limit, section_area, areas_below, areas_of, AreasBelow, AreasOf, IsTable}
+use Rattle.fmd_lang.specs.Layout.{ambiguous_sibling, siblings, filled, ArePlaced, Laid, end_of, row_fault, misfit_sibling}
+use Rattle.fmd_lang.specs.LayoutFaults.{areas_fault, flag, is_fmap, parent_fault, parts_fault, layout_fault, names_fault, size_fault, table_fault, duplicate}
 use Rattle.fmd_lang.specs.declared.fault.FmdFault.TheVariants as faults
-use Rattle.fmd_lang.specs.Names.{duplicate}
 use Rattle.std.specs.List.{list_any}
 use Rattle.std.proofs.lemmas.Bool.Decides.{nat_tests}
-use Rattle.fmd_lang.specs.Row.{row_fault, misfit_sibling}
 use Rattle.fmd_lang.proofs.OptionLemmas.{map-none, or-none}
-use Rattle.fmd_lang.proofs.RowLemmas.{filled-placed}
+use Rattle.fmd_lang.proofs.RowLemmas.{filled-placed, fits}
 use Rattle.fmd_lang.specs.declared.table.Table.{Table}
 use Rattle.fmd_lang.specs.declared.row.Sibling.{Sibling}
 use Rattle.fmd_lang.specs.declared.row.Place.{Place}
@@ -27,7 +23,8 @@ use Rattle.flash_format.specs.declared.flashmap.Area.{Area}
 use Rattle.fmd_lang.specs.declared.fault.FmdFault.{FmdFault}
 use Rattle.fmd_lang.specs.declared.section.Section.{Section, out-Section}
 
-pub view-is : (s : Section) → view s ≡ section (out-Section s).name.items (out-Section s).flags (out-Section s).offset (out-Section s).size (views (out-Section s).parts.items)
+pub view-is : (s : Section) → view s ≡ section (out-Section s).name.items (out-Section s).flags (out-Section s).offset
+    (out-Section s).size (views (out-Section s).parts.items)
 view-is s = fold_out-Section Tree view_step s
 
 pub count-parts : (t : Tree) → section_count t ≡ suc (sections_count (parts_of t))
@@ -58,52 +55,67 @@ placed-inside [] [] parent from h = refl
 placed-inside [] (q ∷ qs) parent from h = cc
 placed-inside (p ∷ ps) [] parent from h = absurd h
 placed-inside (p ∷ ps) (q ∷ qs) parent from h =
-    let here : nat_le (end_of q) parent ≡ true = le-leb _ _ h.0.inside in
+    let here : nat_le (end_of q) parent ≡ true = le-leb _ _ (fits parent from p q h.0.fits).1 in
     rw here (placed-inside ps qs parent (end_of q) h.2)
-
--- the areas and the faults, one part at a time
--- a part whose area and the areas below it stand before those of the parts behind it
-pub areas-left : (n m j at k : ℕ) (qs : List Place) (ss : List Section) (q : Place) (s : Section) → k < length qs →
-    k < length ss → q ≡ get_or qs k q → s ≡ get_or ss k s →
-    j ≡ n → n + section_count (view s) ≡ m →
-    section_area at q (view s) ∷ areas_below j (at + q.start) q.size (view s) ++ areas_of m at (drop (k + 1) qs) (views (drop (k + 1) ss))
-    ≡ areas_of n at (drop k qs) (views (drop k ss))
-areas-left n m j at k qs ss q s hq hs eq es numbered behind =
-    rw (numbered, ← behind, drop-cons qs k q hq, drop-cons ss k s hs, ← eq, ← es, add-one) refl
-
-pub faults-more : (n k : ℕ) (qs : List Place) (ss : List Section) (q : Place) (s : Section) → k < length qs → k < length ss →
-    q ≡ get_or qs k q → s ≡ get_or ss k s →
-    parts_fault n (drop k qs) (views (drop k ss)) ≡ option_or (parent_fault n q.size (view s)) (parts_fault (n + section_count (view s)) (drop (k + 1) qs) (views (drop (k + 1) ss)))
-faults-more n k qs ss q s hq hs eq es = rw (drop-cons qs k q hq, drop-cons ss k s hs, ← eq, ← es, add-one) refl
-
-pub count-more : (k : ℕ) (ss : List Section) (s : Section) → k < length ss → s ≡ get_or ss k s →
-    sections_count (views (drop k ss)) ≡ section_count (view s) + sections_count (views (drop (k + 1) ss))
-count-more k ss s hs es = rw (drop-cons ss k s hs, ← es, add-one) refl
 
 pub field-is : (name : List ℕ) → take (min (length name) 32) name ++ drop (min (length name) 32) (replicate 32 0) ≡ field_of name
 field-is name =
     let front : take (min (length name) 32) name ≡ take 32 name = rw (min_comm) (take_min 32 name) in
     rw (front, drop-replicate) (ap (λ k. take 32 name ++ replicate k 0) (omega arith))
 
-pub area-is : (at : ℕ) (q : Place) (s : Section) →
-    section_area at q (view s) ≡ record { offset = at + q.start; size = q.size; name = field_of (out-Section s).name.items; flags = (out-Section s).flags }
+-- ---- the areas and the faults, one part at a time
+
+-- The areas below a section are pushed behind others, but for those of the parts that are left, at the places left.
+pub record IsPushed (old areas : List Area) (at size : ℕ) (whole : Tree) (places : List Place) (left : Forest) : Type 0 where
+  pub count : length areas + 1 + sections_count left ≡ length old + section_count whole
+  pub items : areas ++ areas_of (suc (length areas)) at places left ≡ old ++ areas_below (length old) at size whole
+  pub faults : parent_fault (length old) size whole ≡ parts_fault (suc (length areas)) places left
+
+pub next : {X : Type 0} (xs : List X) (k : ℕ) (x : X) → k < length xs → x ≡ get_or xs k x → drop k xs ≡ x ∷ drop (k + 1) xs
+next xs k x there is = rw (drop-cons xs k x there, ← is, add-one) refl
+
+pub area-is : (at : ℕ) (q : Place) (s : Section) → section_area at q (view s) ≡ record {
+  offset = at + q.start;
+  size = q.size;
+  name = field_of (out-Section s).name.items;
+  flags = (out-Section s).flags;
+}
 area-is at q s = rw (view-is s) refl
 
-pub joined : (areas below rest : List Area) (a : Area) → ((areas ++ a ∷ []) ++ below) ++ rest ≡ areas ++ (a ∷ below ++ rest)
+joined : (areas below rest : List Area) (a : Area) → ((areas ++ a ∷ []) ++ below) ++ rest ≡ areas ++ (a ∷ below ++ rest)
 joined areas below rest a = simp append_assoc
 
--- a part that is laid: what is left of the faults
-pub faults-left : (n m k : ℕ) (qs : List Place) (ss : List Section) (q : Place) (s : Section) → k < length qs →
-    k < length ss → q ≡ get_or qs k q → s ≡ get_or ss k s →
-    parent_fault n q.size (view s) ≡ None → n + section_count (view s) ≡ m →
-    parts_fault n (drop k qs) (views (drop k ss)) ≡ parts_fault m (drop (k + 1) qs) (views (drop (k + 1) ss))
-faults-left n m k qs ss q s hq hs eq es clear same =
-    faults-more n k qs ss q s hq hs eq es ∙ rw clear (ap (λ j. parts_fault j (drop (k + 1) qs) (views (drop (k + 1) ss))) same)
+length-push : (areas : List Area) (a : Area) → length (areas ++ a ∷ []) ≡ suc (length areas)
+length-push areas a = omega (arith, length-append areas (a ∷ []))
 
-pub faults-first : (n k : ℕ) (qs : List Place) (ss : List Section) (q : Place) (s : Section) (fault : FmdFault) →
-    k < length qs → k < length ss → q ≡ get_or qs k q → s ≡ get_or ss k s →
-    parent_fault n q.size (view s) ≡ Some fault → parts_fault n (drop k qs) (views (drop k ss)) ≡ Some fault
-faults-first n k qs ss q s fault hq hs eq es first = faults-more n k qs ss q s hq hs eq es ∙ rw first refl
+-- a part that is laid
+pub part-pushed : {old before pushed areas : List Area} {at size : ℕ} {whole t : Tree} {q : Place} {qs : List Place}
+    {ts : Forest} → IsPushed old before at size whole (q ∷ qs) (some t ts) → pushed ≡ before ++ section_area at q t ∷ [] →
+    areas ≡ pushed ++ areas_below (length pushed) (at + q.start) q.size t →
+    length areas + 1 ≡ length pushed + section_count t → parent_fault (length pushed) q.size t ≡ None →
+    IsPushed old areas at size whole qs ts
+part-pushed {before = before} {areas = areas} {at = at} {t = t} {q = q} {qs = qs} {ts = ts} so_far items below count clear =
+    let a = section_area at q t in
+    let len = ap length items ∙ length-push before a in
+    let n = suc (length before) in
+    let inner = areas_below n (at + q.start) q.size t in
+    let behind : n + section_count t ≡ suc (length areas) = omega (arith, len, count) in
+    let fine = rw len at clear in
+    record {
+      count = omega (arith, so_far.count, behind);
+      items = ap (λ xs. xs ++ areas_of (suc (length areas)) at qs ts) (rw len at below ∙ ap (λ xs. xs ++ inner) items)
+          ∙ joined before inner (areas_of (suc (length areas)) at qs ts) a
+          ∙ ap (λ m. before ++ (a ∷ inner ++ areas_of m at qs ts)) (sym behind) ∙ so_far.items;
+      faults = so_far.faults ∙ rw (fine, behind) refl;
+    }
+
+-- the refusal of a part, or of what is below it
+pub part-refused : {old before pushed : List Area} {at size : ℕ} {whole t : Tree} {q : Place} {qs : List Place} {ts : Forest}
+    (fault : FmdFault) → IsPushed old before at size whole (q ∷ qs) (some t ts) → pushed ≡ before ++ section_area at q t ∷ [] →
+    parent_fault (length pushed) q.size t ≡ Some fault → parent_fault (length old) size whole ≡ Some fault
+part-refused {before = before} {at = at} {t = t} {q = q} fault so_far items first =
+    let wrong = rw (ap length items ∙ length-push before (section_area at q t)) at first in
+    so_far.faults ∙ rw wrong refl
 
 -- the names of a tree
 mutual
@@ -126,28 +138,8 @@ few_below ns h = go (nat_lt area_limit (length ns)) refl (or-none (flag (not (li
 pub few-sections : (t : Tree) → names_fault (names t) ≡ None → section_count t ≤ area_limit + 1
 few-sections (section name flags offset size parts) h =
     let ns = names (section name flags offset size parts) in
-    omega (arith, few_below (names_of parts) (or-none (option_map faults.Duplicate (duplicate 0 [] ns)) _ h).1, names_of-length parts)
-
--- a whole tree
-pub fault-names : (t : Tree) (fault : FmdFault) → names_fault (names t) ≡ Some fault → layout_fault t ≡ Some fault
-unfolding layout_fault
-fault-names t fault h = rw h refl
-
-pub fault-size : (t : Tree) (fault : FmdFault) → names_fault (names t) ≡ None → size_fault (size_of t) ≡ Some fault →
-    layout_fault t ≡ Some fault
-unfolding layout_fault
-fault-size t fault h size = rw (h, size) refl
-
-pub fault-parents : (t : Tree) (n : ℕ) (fault : FmdFault) → names_fault (names t) ≡ None → size_fault (size_of t) ≡ None →
-    size_of t ≡ Some n → parent_fault 0 n t ≡ Some fault → layout_fault t ≡ Some fault
-unfolding layout_fault
-fault-parents t n fault h clear size parents = rw (h, clear, size, parents) refl
-
-pub fault-table : (t : Tree) (n : ℕ) (fault : Option FmdFault) → names_fault (names t) ≡ None →
-    size_fault (size_of t) ≡ None → size_of t ≡ Some n → parent_fault 0 n t ≡ None →
-    table_fault n t ≡ fault → layout_fault t ≡ fault
-unfolding layout_fault
-fault-table t n fault h clear size parents table = rw (h, clear, size, parents) table
+    let below = (or-none (option_map faults.Duplicate (duplicate 0 [] ns)) _ h).1 in
+    omega (arith, few_below (names_of parts) below, names_of-length parts)
 
 -- a row without a fault is laid where it is filled
 pub row-laid : (parent : ℕ) (ps : List Sibling) → row_fault parent ps ≡ None → Laid parent ps (filled parent 0 ps)
@@ -161,8 +153,9 @@ mutual
   pub areas-laid : (t : Tree) (n at size : ℕ) → parent_fault n size t ≡ None → AreasBelow n at size t (areas_below n at size t)
   areas-laid (section name flags offset given parts) n at size h =
       let row = siblings (suc n) parts in
-      let both = or-none (row_fault size row) (parts_fault (suc n) (filled size 0 row) parts) h in
-      (filled size 0 row, row-laid size row both.0, parts-laid parts (suc n) at (filled size 0 row) (length-filled row size 0) both.1)
+      let qs = filled size 0 row in
+      let (fine, others) = or-none (row_fault size row) (parts_fault (suc n) qs parts) h in
+      (qs, row-laid size row fine, parts-laid parts (suc n) at qs (length-filled row size 0) others)
 
   parts-laid : (ts : Forest) (n at : ℕ) (qs : List Place) → length qs ≡ length (siblings n ts) → parts_fault n qs ts ≡ None →
       AreasOf n at ts qs (areas_of n at qs ts)
@@ -170,9 +163,10 @@ mutual
   parts-laid (some t ts) n at [] len h = cc
   parts-laid (some t ts) n at (q ∷ qs) len h =
       let m = n + section_count t in
-      let both = or-none (parent_fault n q.size t) (parts_fault m qs ts) h in
+      let (fine, others) = or-none (parent_fault n q.size t) (parts_fault m qs ts) h in
       let fewer : length qs ≡ length (siblings m ts) = cc in
-      (areas_below n (at + q.start) q.size t, areas_of m at qs ts, refl, areas-laid t n (at + q.start) q.size both.0, parts-laid ts m at qs fewer both.1)
+      let below = areas-laid t n (at + q.start) q.size fine in
+      (areas_below n (at + q.start) q.size t, areas_of m at qs ts, refl, below, parts-laid ts m at qs fewer others)
 
 pub table-is : (s : Section) (table : Table) → table.base ≡ unwrap_or (out-Section s).offset 0 →
     (out-Section s).size ≡ Some table.size → table.name ≡ field_of (out-Section s).name.items →
@@ -181,3 +175,19 @@ table-is s table base size name areas = rw (view-is s) (base, size, name, rw (vi
 
 pub view-size : (s : Section) → size_of (view s) ≡ (out-Section s).size
 view-size s = rw (view-is s) refl
+
+-- ---- a whole tree
+
+-- The areas below a root are pushed to none.
+pub root-laid : (t : Tree) (n : ℕ) (old areas : List Area) → old ≡ [] → areas ≡ old ++ areas_below (length old) 0 n t →
+    parent_fault (length old) n t ≡ None →
+    AreasBelow 0 0 n t areas × (areas ≡ areas_below 0 0 n t) × (parent_fault 0 n t ≡ None)
+root-laid t n old areas nothing pushed clear =
+    let fine = subst (λ (xs : List Area). parent_fault (length xs) n t ≡ None) nothing clear in
+    let items = subst (λ (xs : List Area). areas ≡ xs ++ areas_below (length xs) 0 n t) nothing pushed in
+    (subst (AreasBelow 0 0 n t) (sym items) (areas-laid t 0 0 n fine), items, fine)
+
+pub layout_fault-sized : (t : Tree) (n : ℕ) → names_fault (names t) ≡ None → size_fault (size_of t) ≡ None → size_of t ≡ Some n →
+    layout_fault t ≡ option_or (parent_fault 0 n t) (table_fault (areas_below 0 0 n t))
+unfolding layout_fault
+layout_fault-sized t n named given size = rw (named, given, size) refl

@@ -7,7 +7,6 @@ pub mod FaultlessLemmas
 pub mod FormLemmas
 pub mod StepLemmas
 pub mod WordLemmas
-pub mod NumberLemmas
 pub mod RowLemmas
 pub mod NameLemmas
 pub mod LayoutLemmas

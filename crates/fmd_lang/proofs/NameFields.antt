@@ -6,8 +6,8 @@ use Rattle.std.proofs.lemmas.List.Sums.{take_while-cons}
 use Rattle.std.proofs.lemmas.List.Elements.{All-nil, All-cons, All-head, All-tail}
 use Rattle.flash_format.specs.Entry.{is_nul}
 use Rattle.flash_format.specs.Flashmap.{is_named, is_printing, text_of}
-use Rattle.fmd_lang.specs.Words.{Word, word, kind_of, kind_of_byte, is_blank, is_plain, words, words_from, without_comments}
-use Rattle.fmd_lang.specs.Names.{field_of}
+use Rattle.fmd_lang.specs.Words.{Word, word, kind_of, is_blank, is_plain, words, words_from, without_comments}
+use Rattle.fmd_lang.specs.Table.{field_of}
 use Rattle.fmd_lang.specs.Grammar.{IsA}
 use Rattle.fmd_lang.specs.declared.word.Kind.TheVariants.{End, Name}
 
@@ -17,7 +17,7 @@ use Rattle.fmd_lang.specs.declared.word.Kind.TheVariants.{End, Name}
 abbrev pub IsWhole : Word → Type 0
 IsWhole w = (kind_of w.bytes ≢ End) × (kind_of w.bytes ≡ Name → list_all is_plain w.bytes ≡ true)
 
-name_plain : (b : ℕ) → kind_of_byte b ≡ Name → is_plain b ≡ true
+name_plain : (b : ℕ) → kind_of (b ∷ []) ≡ Name → is_plain b ≡ true
 name_plain b h = grind arith
 
 no_end : (b : ℕ) (bs : List ℕ) → kind_of (b ∷ bs) ≢ End
@@ -32,21 +32,27 @@ all_taken (b ∷ s) = ap (λ (l : List ℕ). list_all is_plain l) (take_while-co
     go true e rest = ap (λ c. c && list_all is_plain (take_while is_plain s)) e ∙ rest
     go false e rest = refl
 
-pub words_whole : (place before : ℕ) (s : List ℕ) → All IsWhole (words_from place before s)
-words_whole place before [] = All-nil IsWhole
-words_whole place before (b ∷ s) = go (is_blank b) (is_plain b) refl (is_plain before) (words_whole (suc place) b s)
+pub words_whole : (place : ℕ) (inside : Bool) (s : List ℕ) → All IsWhole (words_from place inside s)
+words_whole place inside [] = All-nil IsWhole
+words_whole place inside (b ∷ s) = go (is_blank b) (is_plain b) refl inside (words_whole (suc place) (is_plain b) s)
   where
     others : List Word
-    others = words_from (suc place) b s
+    others = words_from (suc place) (is_plain b) s
 
-    go : (blank plain : Bool) → is_plain b ≡ plain → (inside : Bool) → All IsWhole others
-        → All IsWhole (cond blank others (cond (not plain) (word place (b ∷ []) ∷ others) (cond inside others (word place (take_while is_plain (b ∷ s)) ∷ others))))
+    row : Word
+    row = word place (take_while is_plain (b ∷ s))
+
+    go : (blank plain : Bool) → is_plain b ≡ plain → (inside : Bool) → All IsWhole others →
+        All IsWhole (cond blank others (cond (not plain) (word place (b ∷ []) ∷ others) (cond inside others (row ∷ others))))
     go true plain e inside rest = rest
-    go false false e inside rest = All-cons IsWhole (word place (b ∷ [])) others (no_end b [], λ h. let f : true ≡ false = sym (name_plain b h) ∙ e in cc) rest
+    go false false e inside rest =
+        All-cons IsWhole (word place (b ∷ [])) others
+        (no_end b [], λ h. let wrong : true ≡ false = sym (name_plain b h) ∙ e in cc) rest
     go false true e true rest = rest
     go false true e false rest =
-        let some : take_while is_plain (b ∷ s) ≡ b ∷ take_while is_plain s = take_while-cons is_plain b s ∙ rw e refl in
-        All-cons IsWhole (word place (take_while is_plain (b ∷ s))) others (λ h. no_end b (take_while is_plain s) (sym (ap kind_of some) ∙ h), λ h. all_taken (b ∷ s)) rest
+        let first : take_while is_plain (b ∷ s) ≡ b ∷ take_while is_plain s = take_while-cons is_plain b s ∙ rw e refl in
+        All-cons IsWhole row others
+        (λ h. no_end b (take_while is_plain s) (sym (ap kind_of first) ∙ h), λ h. all_taken (b ∷ s)) rest
 
 pub all-behind : (P : Word → Type 0) (front behind : List Word) → All P (front ++ behind) → All P behind
 all-behind P [] behind each = each
@@ -62,7 +68,7 @@ pub first_name : (text : List ℕ) (first : Word) (rest : List Word) → words t
 unfolding words
 first_name text first rest is named =
     let whole : All IsWhole (first ∷ rest) =
-    subst (λ (ws : List Word). All IsWhole ws) is (words_whole 0 32 (without_comments false text)) in
+    subst (λ (ws : List Word). All IsWhole ws) is (words_whole 0 false (without_comments false text)) in
     (All-head IsWhole first rest whole).1 named
 
 -- ---- the field of a name
@@ -115,4 +121,7 @@ field_named name short plain =
     ∙ all_printing name plain
 
 pub field_long : (name : List ℕ) → length name < 32 → length (field_of name) ≡ 32
-field_long name short = omega (arith, length-append (take 32 name) (replicate (32 - length name) 0), ap length (take_all 32 name (omega arith)), length-replicate {A = ℕ} (32 - length name) 0)
+field_long name short =
+    let whole = ap length (take_all 32 name (omega arith)) in
+    let filled = length-replicate {A = ℕ} (32 - length name) 0 in
+    omega (arith, length-append (take 32 name) (replicate (32 - length name) 0), whole, filled)

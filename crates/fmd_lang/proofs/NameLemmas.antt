@@ -1,8 +1,8 @@
 -- A set of names.
-use Rattle.std.proofs.Common.{◌≡◌, ℕ, ◌+◌, ◌<◌, not, map, take, drop, get_or, length, add-one, Some, Bool, true, false, ◌||◌, List, [], ◌∷◌, ◌++◌, refl, sym, ap, ◌∙◌, Bor, Ordering}
+use Rattle.std.proofs.Common.{◌≡◌, ℕ, ◌+◌, ◌<◌, map, take, drop, get_or, length, add-one, Some, Bool, true, false, ◌||◌, List, [], ◌∷◌, ◌++◌, refl, sym, ap, ◌∙◌, Bor, Ordering}
 use Rattle.std.proofs.Math.Seq.{drop-cons, take-suc}
 use Rattle.std.proofs.lemmas.List.Folds.{list_any-append}
-use Rattle.fmd_lang.specs.Names.{duplicate}
+use Rattle.fmd_lang.specs.LayoutFaults.{duplicate}
 use Rattle.std.proofs.lemmas.Map.Text.{is_eq-slice_cmp}
 use Rattle.std.proofs.lemmas.Bool.{false≢true}
 use Rattle.std.specs.List.{list_any}
@@ -28,7 +28,8 @@ or-swap false false c = refl
 insert-case : (q : List ℕ) (x y : Bor (List ℕ)) (ks : List (Bor (List ℕ))) (o : Ordering) → name_cmp x y ≡ o →
     has x.now (y ∷ ks) ≡ false →
     (has x.now ks ≡ false → has q (insert_key name_cmp ks x) ≡ (is_eq (slice_cmp nat_cmp q x.now) || has q ks)) →
-    has q (match_ordering o (x ∷ y ∷ ks) (y ∷ ks) (y ∷ insert_key name_cmp ks x)) ≡ (is_eq (slice_cmp nat_cmp q x.now) || has q (y ∷ ks))
+    has q (match_ordering o (x ∷ y ∷ ks) (y ∷ ks) (y ∷ insert_key name_cmp ks x))
+    ≡ (is_eq (slice_cmp nat_cmp q x.now) || has q (y ∷ ks))
 insert-case q x y ks Less e none further = refl
 insert-case q x y ks Equal e none further = absurd (false≢true (sym (rw e at none)))
 insert-case q x y ks Greater e none further =
@@ -58,7 +59,8 @@ take-more names n h = rw (add-one, take-suc names n no_name h) (texts-push (take
 -- a name that no earlier one equals
 pub duplicate-more : (names : List (Bor (List ℕ))) (n : ℕ) → n < length names →
     list_any (bytes_eq (get_or names n no_name).now) (texts (take n names)) ≡ false →
-    duplicate n (texts (take n names)) (texts (drop n names)) ≡ duplicate (n + 1) (texts (take (n + 1) names)) (texts (drop (n + 1) names))
+    duplicate n (texts (take n names)) (texts (drop n names))
+    ≡ duplicate (n + 1) (texts (take (n + 1) names)) (texts (drop (n + 1) names))
 duplicate-more names n h other = rw (take-more names n h, drop-cons names n no_name h, other, add-one) refl
 
 pub duplicate-found : (names : List (Bor (List ℕ))) (n : ℕ) → n < length names →
@@ -82,11 +84,3 @@ has-more names ks n q h new before =
     ∙ or-end (bytes_eq q x.now) (list_any (bytes_eq q) (texts (take n names)))
     ∙ sym (list_any-append (bytes_eq q) (texts (take n names)) (x.now ∷ []))
     ∙ ap (list_any (bytes_eq q)) (sym (take-more names n h))
-
-pub not-false : (a b : Bool) → a ≡ not b → a ≡ false → b ≡ true
-not-false a true e h = refl
-not-false a false e h = absurd (false≢true (sym h ∙ e))
-
-pub not-true : (a b : Bool) → a ≡ not b → a ≡ true → b ≡ false
-not-true a true e h = absurd (false≢true (sym e ∙ h))
-not-true a false e h = refl

@@ -3,24 +3,22 @@ use Rattle.std.proofs.Common.{◌≡◌, ◌≢◌, ℕ, ◌<◌, ◌≤◌, Lis
 use Rattle.std.proofs.lemmas.List.{append-nil}
 use Rattle.fmd_lang.specs.Words.{Word, words_after, kind_of}
 use Rattle.fmd_lang.specs.Grammar.{One, Then, IsA, HasValue, annotation_flag}
-use Rattle.fmd_lang.specs.Faults.{Stage, past, own_fault, expected_of, misplaced, goes_on, next_stage, next_depth, fault_from}
+use Rattle.fmd_lang.specs.Faults.{Stage, own_fault, next_stage, next_depth, fault_after, fault_from, wanted_at}
 use Rattle.fmd_lang.specs.Lexing.{word_of, end_of}
-use Rattle.fmd_lang.specs.Parsing.{Standing, Reads, Parses, ParsesInMemory, IsNext, fault_at}
+use Rattle.fmd_lang.specs.Parsing.{Standing, Reads, Parses, IsNext, fault_at}
 use Rattle.fmd_lang.specs.declared.parser.Token.{Token}
 use Rattle.fmd_lang.specs.declared.word.Kind.{Kind}
 use Rattle.fmd_lang.specs.declared.word.Kind.TheVariants.{End, Number}
 use Rattle.fmd_lang.specs.declared.fault.FmdFault.{FmdFault}
 use Rattle.fmd_lang.specs.declared.fault.FmdFault.TheVariants as faults
-use Rattle.fmd_lang.specs.declared.fault.Expected.{Expected}
 
 -- ---- forms
 
 -- a word in its place
-pub reads-word : (F : Word → Type 0) (s : Stage) (depth end : ℕ) (w : Word) (ws : List Word) (k : Kind) → IsA k w →
-    own_fault depth w ≡ None →
-    expected_of s depth k (annotation_flag w.bytes) ≡ None → F w →
-    Reads (One F) (s, depth) (next_stage s k, next_depth k depth) end (w ∷ ws) ws
-reads-word F s depth end w ws k is own stands form =
+pub reads-word : (F : Word → Type 0) (s t : Stage) (depth end : ℕ) (w : Word) (ws : List Word) (k : Kind) → IsA k w →
+    own_fault depth w ≡ None → next_stage s depth k (annotation_flag w.bytes) ≡ Some t → F w →
+    Reads (One F) (s, depth) (t, next_depth k depth) end (w ∷ ws) ws
+reads-word F s t depth end w ws k is own stands form =
     record { front = w ∷ []; split = refl; form = (w, refl, form); same = rw (own, is, stands) refl }
 
 -- no word
@@ -47,18 +45,6 @@ pub reads-all : {P : List Word → Type 0} {before after : Standing} {end : ℕ}
     Reads P before after end ws behind → behind ≡ [] → P ws
 reads-all {P = P} p none = subst P (sym (p.split ∙ ap (λ v. p.front ++ v) none ∙ append-nil p.front)) p.form
 
--- ---- the kind of what stands first
-
-abbrev pub front_kind : List Word → Kind
-front_kind [] = End
-front_kind (w ∷ ws) = kind_of w.bytes
-
--- A part of a section that isn't there can be passed.
-pub pass : (n m depth end : ℕ) (ws : List Word) → goes_on n (front_kind ws) ≡ goes_on m (front_kind ws) →
-    fault_from (past n) depth end ws ≡ fault_from (past m) depth end ws
-pass n m depth end [] same = refl
-pass n m depth end (w ∷ ws) same = rw same refl
-
 -- ---- tokens
 
 -- a token in its place: one word, up to a place
@@ -67,90 +53,62 @@ pub record Takes (F : Word → Type 0) (before after : Standing) (text : List �
   pub inside : to ≤ length text
   pub reads : Reads (One F) before after (length text) (words_after text from) (words_after text to)
 
-pub token-takes : (F : Word → Type 0) (text : List ℕ) (from depth to : ℕ) (token : Token) (s : Stage) (k : Kind) →
-    IsNext text from depth token → to ≡ end_of token.word →
-    token.kind ≡ k → k ≢ End → expected_of s depth k (annotation_flag token.word.bytes.now) ≡ None → F (word_of token.word) →
-    Takes F (s, depth) (next_stage s k, next_depth k depth) text from to
-token-takes F text from depth to token s k next end kind some stands form =
+pub token-takes : {text : List ℕ} {from depth to : ℕ} {token : Token} (F : Word → Type 0) (s t : Stage) (k : Kind) →
+    IsNext text from depth token → to ≡ end_of token.word → token.kind ≡ k → k ≢ End →
+    next_stage s depth k (annotation_flag token.word.bytes.now) ≡ Some t → F (word_of token.word) →
+    Takes F (s, depth) (t, next_depth k depth) text from to
+token-takes {text = text} {depth = depth} {token = token} F s t k next end kind some stands form =
     let w = word_of token.word in
+    let rest = words_after text (end_of token.word) in
     let is : IsA k w = next.kind ∙ kind in
     elim next.first [
       | inl (none, over) ↦ absurd (some (sym is ∙ ap (λ v. kind_of v.bytes) over))
       | inr (shown, after, ahead, inside) ↦ rw end (record {
         ahead = omega (arith, after, ahead);
         inside = inside;
-        reads = rw shown (reads-word F s depth (length text) w (words_after text (end_of token.word)) k is next.clear stands form);
+        reads = rw shown (reads-word F s t depth (length text) w rest k is next.clear stands form);
       })
     ]
 
-pub token-mark : (text : List ℕ) (from depth to : ℕ) (token : Token) (s : Stage) (k : Kind) → IsNext text from depth token →
-    to ≡ end_of token.word →
-    token.kind ≡ k → k ≢ End → expected_of s depth k (annotation_flag token.word.bytes.now) ≡ None →
-    Takes (IsA k) (s, depth) (next_stage s k, next_depth k depth) text from to
-token-mark text from depth to token s k next end kind some stands =
-    token-takes (IsA k) text from depth to token s k next end kind some stands (next.kind ∙ kind)
+pub token-mark : {text : List ℕ} {from depth to : ℕ} {token : Token} (s t : Stage) (k : Kind) → IsNext text from depth token →
+    to ≡ end_of token.word → token.kind ≡ k → k ≢ End → next_stage s depth k (annotation_flag token.word.bytes.now) ≡ Some t →
+    Takes (IsA k) (s, depth) (t, next_depth k depth) text from to
+token-mark s t k next end kind some stands = token-takes (IsA k) s t k next end kind some stands (next.kind ∙ kind)
 
-pub token-number : (text : List ℕ) (from depth to : ℕ) (token : Token) (s : Stage) (n : ℕ) → IsNext text from depth token →
-    to ≡ end_of token.word →
-    token.value ≡ Some n → expected_of s depth Number (annotation_flag token.word.bytes.now) ≡ None →
-    Takes (HasValue n) (s, depth) (next_stage s Number, depth) text from to
-token-number text from depth to token s n next end number stands =
+pub token-number : {text : List ℕ} {from depth to : ℕ} {token : Token} {n : ℕ} (s t : Stage) → IsNext text from depth token →
+    to ≡ end_of token.word → token.value ≡ Some n → next_stage s depth Number (annotation_flag token.word.bytes.now) ≡ Some t →
+    Takes (HasValue n) (s, depth) (t, depth) text from to
+token-number {token = token} {n = n} s t next end number stands =
     let value : HasValue n (word_of token.word) = rw number at next.value in
-    token-takes (HasValue n) text from depth to token s Number next end (sym next.kind ∙ value.0) (λ e. cc) stands value
+    token-takes (HasValue n) s t Number next end (sym next.kind ∙ value.0) (λ e. cc) stands value
 
 -- a token in a wrong place
-pub token-refuses : (text : List ℕ) (from depth : ℕ) (token : Token) (s : Stage) (what : Expected) →
-    IsNext text from depth token →
-    expected_of s depth token.kind (annotation_flag token.word.bytes.now) ≡ Some what →
-    fault_at (s, depth) text from ≡ Some (faults.Expected token.word.place what)
-token-refuses text from depth token s what next wanted =
-    let w = word_of token.word in
-    let here : misplaced s depth w ≡ Some (faults.Expected w.place what) = rw (next.kind, wanted) refl in
-    elim next.first [
-      | inl (none, over) ↦ ap (fault_from s depth (length text)) none ∙ ap (misplaced s depth) (sym over) ∙ here
-      | inr (shown, after, ahead, inside) ↦ ap (fault_from s depth (length text)) shown ∙ rw (next.clear, here) refl
-    ]
-
-token-kind : (text : List ℕ) (from depth : ℕ) (token : Token) → IsNext text from depth token →
-    front_kind (words_after text from) ≡ token.kind
-token-kind text from depth token next = elim next.first [
-  | inl (none, over) ↦ ap front_kind none ∙ ap (λ v. kind_of v.bytes) (sym over) ∙ next.kind
-  | inr (shown, after, ahead, inside) ↦ ap front_kind shown ∙ next.kind
+pub token-refuses : {text : List ℕ} {from depth : ℕ} {token : Token} (s : Stage) → IsNext text from depth token →
+    next_stage s depth token.kind (annotation_flag token.word.bytes.now) ≡ None →
+    fault_at (s, depth) text from ≡ Some (faults.Expected token.word.place (wanted_at s depth token.kind))
+token-refuses {text = text} {depth = depth} {token = token} s next wrong = elim next.first [
+  | inl (none, over) ↦ ap (fault_from s depth (length text)) none ∙ ap (λ w. fault_after s depth w (λ t. None)) (sym over)
+      ∙ rw (next.kind, wrong) refl
+  | inr (shown, after, ahead, inside) ↦ ap (fault_from s depth (length text)) shown ∙ rw (next.clear, next.kind, wrong) refl
 ]
 
-kind-some : (bytes : List ℕ) → kind_of bytes ≡ End → length bytes ≡ 0
-kind-some [] h = refl
-kind-some (b ∷ bs) h = absurd (grind arith)
-
-pub token-over : (text : List ℕ) (from depth : ℕ) (token : Token) → IsNext text from depth token → token.kind ≡ End →
+pub token-over : {text : List ℕ} {from depth : ℕ} {token : Token} → IsNext text from depth token → token.kind ≡ End →
     words_after text from ≡ []
-token-over text from depth token next end = elim next.first [
+token-over {token = token} next end = elim next.first [
   | inl (none, over) ↦ none
-  | inr (shown, after, ahead, inside) ↦ let empty =
-      kind-some token.word.bytes.now (next.kind ∙ end) in absurd (omega (arith, ahead, empty))
+  | inr (shown, after, ahead, inside) ↦ absurd (omega (arith, ahead, kind-some token.word.bytes.now (next.kind ∙ end)))
 ]
-
--- no part of a section here
-pub token-passes : (P : List Word → Type 0) (text : List ℕ) (from depth n m : ℕ) (token : Token) →
-    IsNext text from depth token → goes_on n token.kind ≡ goes_on m token.kind → P [] →
-    Reads P (past n, depth) (past m, depth) (length text) (words_after text from) (words_after text from)
-token-passes P text from depth n m token next same form =
-    let kind = token-kind text from depth token next in
-    reads-none P (past n, depth) (past m, depth) (length text) (words_after text from) form
-    (pass n m depth (length text) (words_after text from) (ap (goes_on n) kind ∙ same ∙ ap (goes_on m) (sym kind)))
+  where
+    kind-some : (bytes : List ℕ) → kind_of bytes ≡ End → length bytes ≡ 0
+    kind-some [] h = refl
+    kind-some (b ∷ bs) h = absurd (grind arith)
 
 -- a word before what a part of the parser takes
-pub parses-after : {X : Type 0} {F : Word → Type 0} (P Q : X → List Word → Type 0) {before middle : Standing} (after : Standing) (text : List ℕ) (from mid : ℕ) (r : Result (X × ℕ) FmdFault) →
+pub parses-after : {X : Type 0} {F : Word → Type 0} {before middle : Standing} {text : List ℕ} {from mid : ℕ}
+    (P Q : X → List Word → Type 0) (after : Standing) (r : Result (X × ℕ) FmdFault) →
     ((x : X) (v : List Word) → Then (One F) (P x) v → Q x v) → Takes F before middle text from mid →
     Parses P middle after text mid r → Parses Q before after text from r
-parses-after P Q after text from mid (Ok (x, to)) wider word (ahead, reads) =
+parses-after P Q after (Ok (x, to)) wider word (ahead, reads) =
     (omega (arith, word.ahead, ahead), reads-as (wider x) (reads-then word.reads reads))
-parses-after P Q after text from mid (Err fault) wider word same = word.reads.same ∙ same
-
-pub memory-after : {X : Type 0} {F : Word → Type 0} (P Q : X → List Word → Type 0) {before middle : Standing} (after : Standing) (text : List ℕ) (from mid : ℕ) (r : Result (X × ℕ) FmdFault) →
-    ((x : X) (v : List Word) → Then (One F) (P x) v → Q x v) → Takes F before middle text from mid →
-    ParsesInMemory P middle after text mid r → ParsesInMemory Q before after text from r
-memory-after P Q after text from mid (Ok answer) wider word reads =
-    parses-after P Q after text from mid (Ok answer) wider word reads
-memory-after P Q after text from mid (Err fault) wider word (inl memory) = inl memory
-memory-after P Q after text from mid (Err fault) wider word (inr same) = inr (word.reads.same ∙ same)
+parses-after P Q after (Err fault) wider word (inl memory) = inl memory
+parses-after P Q after (Err fault) wider word (inr same) = inr (word.reads.same ∙ same)

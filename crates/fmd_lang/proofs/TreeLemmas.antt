@@ -7,10 +7,9 @@ use Rattle.std.specs.Option.{option_or, option_and_then}
 use Rattle.fmd_lang.specs.Words.{Word, words, kind_of}
 use Rattle.fmd_lang.specs.Numbers.{number_value}
 use Rattle.fmd_lang.specs.Tree.{Tree, section, Forest, none, some}
-use Rattle.fmd_lang.specs.Grammar.{Then, One, Between, IsA, IsSection, AreSections, AreAnnotations, HaveFlags, HasValue, IsName, IsOffset, IsSize, annotation_flag, flags_with}
-use Rattle.fmd_lang.specs.Faults.{Stage, start, in_annotations, annotated, at_sign, past, own_fault_of, expected_of, next_stage, next_depth, fault_from, first_fault}
+use Rattle.fmd_lang.specs.Grammar.{Then, IsA, IsSection, AreSections, AreAnnotations, IsOffset, IsSize, annotation_flag, flags_with}
+use Rattle.fmd_lang.specs.Faults.{Stage, start, in_annotations, annotated, at_sign, past, own_fault_of, next_stage, next_depth, fault_from, first_fault, first_own_fault, first_word_fault}
 use Rattle.fmd_lang.specs.Parsing.{IsBody}
-use Rattle.fmd_lang.specs.WordFaults.{first_own_fault, first_word_fault}
 use Rattle.fmd_lang.specs.declared.word.Kind.{Kind}
 use Rattle.fmd_lang.specs.declared.word.Kind.TheVariants.{Name, Number, OpenParen, CloseParen, At, OpenBrace, CloseBrace}
 use Rattle.fmd_lang.specs.declared.fault.FmdFault.TheVariants as faults
@@ -20,7 +19,7 @@ use Rattle.fmd_lang.proofs.FormLemmas.{annotation-name}
 -- open list; and the sections in each list of braces.
 record Built : Type 0 where
   inside : Bool
-  annotations : List Word
+  marks : List Word
   flags : ℕ
   offset : Option ℕ
   size : Option ℕ
@@ -30,8 +29,8 @@ record Built : Type 0 where
 
 -- what a name has, and the sections behind
 abbrev has : ℕ → Option ℕ → Option ℕ → Forest → List Forest → Built
-has flags offset size parts levels =
-    record { inside = false; annotations = []; flags = flags; offset = offset; size = size; number = None; parts = parts; levels = levels }
+has flags o z parts ls =
+    record { inside = false; marks = []; flags = flags; offset = o; size = z; number = None; parts = parts; levels = ls }
 
 abbrev nothing : List Forest → Built
 nothing levels = has 0 None None none levels
@@ -46,12 +45,12 @@ other_levels (l ∷ ls) = ls
 
 abbrev put_word : Kind → Word → Built → Built
 put_word CloseParen w b = record b { inside = true }
-put_word OpenParen w b = record b { inside = false; annotations = []; flags = unwrap_or (flags_with 0 b.annotations) 0 }
+put_word OpenParen w b = record b { inside = false; marks = []; flags = unwrap_or (flags_with 0 b.marks) 0 }
 put_word Number w b = record b { size = number_value w.bytes; number = b.size }
 put_word At w b = record b { offset = b.size; size = b.number; number = None }
 put_word CloseBrace w b = nothing (none ∷ b.levels)
 put_word OpenBrace w b = record b { parts = first_level b.levels; levels = other_levels b.levels }
-put_word Name w b = if b.inside then record b { annotations = w ∷ b.annotations }
+put_word Name w b = if b.inside then record b { marks = w ∷ b.marks }
     else nothing (some (section w.bytes b.flags b.offset b.size b.parts) (first_level b.levels) ∷ other_levels b.levels)
 put_word k w b = b
 
@@ -68,59 +67,38 @@ record Makes (s : Stage) (depth end : ℕ) (ws : List Word) (b : Built) : Type 0
 abbrev MakesPast : ℕ → ℕ → ℕ → List Word → Built → Type 0
 MakesPast most depth end ws b = (n : ℕ) → n < most → Makes (past n) depth end ws b
 
-abbrev MakesAfter : ℕ → ℕ → List Word → Built → Type 0
-MakesAfter depth end ws b = (n : ℕ) → Makes (past n) depth end ws b
+-- Words of this form before others that make the first make the second.
+abbrev Adds : (List Word → Type 0) → ℕ → ℕ → ℕ → ℕ → Built → Built → Type 0
+Adds P most most_behind depth end behind all = (ws r : List Word) → P ws →
+    MakesPast most_behind depth end r behind → MakesPast most depth end (ws ++ r) all
+
+adds-then : (P Q : List Word → Type 0) (l m n depth end : ℕ) (a b c : Built) → Adds P l m depth end b c →
+    Adds Q m n depth end a b → Adds (Then P Q) l n depth end a c
+adds-then P Q l m n depth end a b c p q ws r (front, back, split, first, second) more k few =
+    rw (split, append_assoc front back r) (p front (back ++ r) first (q back r second more) k few)
 
 -- a word in its place
-makes-word : (s : Stage) (depth end : ℕ) (w : Word) (ws : List Word) (b : Built) (k : Kind) → IsA k w →
-    expected_of s depth k (annotation_flag w.bytes) ≡ None →
-    Makes (next_stage s k) (next_depth k depth) end ws b → Makes s depth end (w ∷ ws) (put_word k w b)
-makes-word s depth end w ws b k is stands more = record {
+makes : {s t : Stage} {depth end : ℕ} {w : Word} {ws : List Word} {b c : Built} (k : Kind) → IsA k w →
+    next_stage s depth k (annotation_flag w.bytes) ≡ Some t → Makes t (next_depth k depth) end ws b →
+    put_word k w b ≡ c → Makes s depth end (w ∷ ws) c
+makes {depth = depth} {w = w} k is stands more same = record {
   agrees = rw (is, stands) (ap (option_or (own_fault_of k depth w)) more.agrees);
-  made = rw is (ap (put_word k w) more.made);
+  made = rw is (ap (put_word k w) more.made) ∙ same;
 }
 
--- words of one form, and others, before more
-then-makes : (G : List Word → Type 0) (P Q : List Word → Type 0) (ws r : List Word) → Then P Q ws →
-    ((front back : List Word) → P front → Q back → G (front ++ (back ++ r))) → G (ws ++ r)
-then-makes G P Q ws r (front, back, split, p, q) further =
-    subst G (sym (ap (λ v. v ++ r) split ∙ append_assoc front back r)) (further front back p q)
+size-adds : (o : Option ℕ) (parts : Forest) (ls : List Forest) (depth end : ℕ) →
+    Adds (IsSize o) 3 4 depth end (has 0 None None parts ls) (has 0 None o parts ls)
+size-adds None parts ls depth end ws r is more n few = rw is (more n (omega arith))
+size-adds (Some z) parts ls depth end ws r (w, one, (is, value)) more n few =
+    rw one (makes Number is (rw (lt-ltb n 3 few) refl) (more 3 (omega arith)) (rw value refl))
 
-one-makes : (G : List Word → Type 0) (F : Word → Type 0) (ws r : List Word) → One F ws → ((w : Word) → F w → G (w ∷ r)) →
-    G (ws ++ r)
-one-makes G F ws r (w, one, f) further = subst G (sym (ap (λ v. v ++ r) one)) (further w f)
-
-none-makes : (G : List Word → Type 0) (ws r : List Word) → ws ≡ [] → G r → G (ws ++ r)
-none-makes G ws r empty g = subst G (sym (ap (λ v. v ++ r) empty)) g
-
-between-makes : (G : List Word → Type 0) (j k : Kind) (P : List Word → Type 0) (ws r : List Word) → Between j k P ws →
-    ((m : Word) (v : List Word) (c : Word) → IsA j m → P v → IsA k c → G (m ∷ (v ++ c ∷ r))) → G (ws ++ r)
-between-makes G j k P ws r is further =
-    then-makes G (One (IsA j)) (Then P (One (IsA k))) ws r is (λ front back opens rest. one-makes G (IsA j) front (back ++ r) opens (λ m mark.
-    then-makes (λ v. G (m ∷ v)) P (One (IsA k)) back r rest (λ v last inner closes. one-makes (λ u. G (m ∷ (v ++ u))) (IsA k) last r closes (λ c close.
-    further m v c mark inner close))))
-
-size-makes : (o : Option ℕ) (parts : Forest) (ls : List Forest) (depth end : ℕ) (ws r : List Word) → IsSize o ws →
-    MakesPast 4 depth end r (has 0 None None parts ls) → MakesPast 3 depth end (ws ++ r) (has 0 None o parts ls)
-size-makes None parts ls depth end ws r is more n few =
-    none-makes (λ v. Makes (past n) depth end v (has 0 None None parts ls)) ws r is (more n (omega arith))
-size-makes (Some z) parts ls depth end ws r is more n few =
-    one-makes (λ v. Makes (past n) depth end v (has 0 None (Some z) parts ls)) (HasValue z) ws r is (λ w value.
-    subst (λ o. Makes (past n) depth end (w ∷ r) (has 0 None o parts ls)) value.1
-    (makes-word (past n) depth end w r (has 0 None None parts ls) Number value.0 (rw (lt-ltb n 3 few) refl) (more 3 (omega arith))))
-
-offset-makes : (o z : Option ℕ) (parts : Forest) (ls : List Forest) (depth end : ℕ) (ws r : List Word) → IsOffset o ws →
-    MakesPast 3 depth end r (has 0 None z parts ls) → MakesPast 2 depth end (ws ++ r) (has 0 o z parts ls)
-offset-makes None z parts ls depth end ws r is more n few =
-    none-makes (λ v. Makes (past n) depth end v (has 0 None z parts ls)) ws r is (more n (omega arith))
-offset-makes (Some a) z parts ls depth end ws r is more n few =
-    let G : List Word → Type 0 = λ v. Makes (past n) depth end v (has 0 (Some a) z parts ls) in
-    then-makes G (One (IsA At)) (One (HasValue a)) ws r is (λ front back at number. one-makes G (IsA At) front (back ++ r) at (λ m mark.
-    one-makes (λ v. G (m ∷ v)) (HasValue a) back r number (λ w value.
-    let after : Makes at_sign depth end (w ∷ r) (put_word Number w (has 0 None z parts ls)) =
-    makes-word at_sign depth end w r (has 0 None z parts ls) Number value.0 refl (more 2 (omega arith)) in
-    subst (λ o. Makes (past n) depth end (m ∷ w ∷ r) (has 0 o z parts ls)) value.1
-    (makes-word (past n) depth end m (w ∷ r) (put_word Number w (has 0 None z parts ls)) At mark (rw (lt-ltb n 2 few) refl) after))))
+offset-adds : (o z : Option ℕ) (parts : Forest) (ls : List Forest) (depth end : ℕ) →
+    Adds (IsOffset o) 2 3 depth end (has 0 None z parts ls) (has 0 o z parts ls)
+offset-adds None z parts ls depth end ws r is more n few = rw is (more n (omega arith))
+offset-adds (Some a) z parts ls depth end ws r (front, back, split, (m, first, at), (w, second, (is, value))) more n few =
+    let number : Makes at_sign depth end (w ∷ r) (put_word Number w (has 0 None z parts ls)) =
+    makes Number is refl (more 2 (omega arith)) refl in
+    rw (split, first, second) (makes At at (rw (lt-ltb n 2 few) refl) number (rw value refl))
 
 pub first-flag : (o : Option ℕ) (f : ℕ → Option ℕ) (flags : ℕ) → option_and_then f o ≡ Some flags →
     (flag : ℕ) × (o ≡ Some flag) × (f flag ≡ Some flags)
@@ -129,35 +107,31 @@ first-flag (Some flag) f flags h = (flag, refl, h)
 
 -- an open list of annotations
 abbrev listed : List Word → Option ℕ → Option ℕ → Forest → List Forest → Built
-listed ws o z parts ls = record (has 0 o z parts ls) { inside = true; annotations = ws }
+listed ws o z parts ls = record (has 0 o z parts ls) { inside = true; marks = ws }
 
-more-make : (before flags depth end : ℕ) (ws : List Word) (c : Word) (r : List Word) (o z : Option ℕ) (parts : Forest) (ls : List Forest) → flags_with before ws ≡ Some flags → IsA CloseParen c →
+more-make : (before flags depth end : ℕ) (ws : List Word) (c : Word) (r : List Word) (o z : Option ℕ) (parts : Forest)
+    (ls : List Forest) → flags_with before ws ≡ Some flags → IsA CloseParen c →
     MakesPast 2 depth end r (has 0 o z parts ls) → Makes annotated depth end (ws ++ c ∷ r) (listed ws o z parts ls)
-more-make before flags depth end [] c r o z parts ls h close more =
-    makes-word annotated depth end c r (has 0 o z parts ls) CloseParen close refl (more 1 (omega arith))
+more-make before flags depth end [] c r o z parts ls h close more = makes CloseParen close refl (more 1 (omega arith)) refl
 more-make before flags depth end (w ∷ ws) c r o z parts ls h close more =
     let (flag, known, rest) = first-flag (annotation_flag w.bytes) (λ f. flags_with (bit_or before f) ws) flags h in
-    makes-word annotated depth end w (ws ++ c ∷ r) (listed ws o z parts ls) Name (annotation-name w.bytes flag known) (rw known refl)
-    (more-make (bit_or before flag) flags depth end ws c r o z parts ls rest close more)
+    makes Name (annotation-name w.bytes flag known) (rw known refl)
+    (more-make (bit_or before flag) flags depth end ws c r o z parts ls rest close more) refl
 
-some-make : (flags depth end : ℕ) (ws : List Word) (c : Word) (r : List Word) (o z : Option ℕ) (parts : Forest) (ls : List Forest) → HaveFlags flags ws → IsA CloseParen c →
-    MakesPast 2 depth end r (has 0 o z parts ls) → Makes in_annotations depth end (ws ++ c ∷ r) (listed ws o z parts ls)
-some-make flags depth end [] c r o z parts ls h close more = absurd (omega (arith, h.0))
-some-make flags depth end (w ∷ ws) c r o z parts ls h close more =
-    let (flag, known, rest) = first-flag (annotation_flag w.bytes) (λ f. flags_with (bit_or 0 f) ws) flags h.1 in
-    makes-word in_annotations depth end w (ws ++ c ∷ r) (listed ws o z parts ls) Name (annotation-name w.bytes flag known) (rw known refl)
-    (more-make flag flags depth end ws c r o z parts ls rest close more)
-
-annotations-make : (flags : ℕ) (o z : Option ℕ) (parts : Forest) (ls : List Forest) (depth end : ℕ) (ws r : List Word) →
-    AreAnnotations flags ws → MakesPast 2 depth end r (has 0 o z parts ls) →
-    MakesPast 1 depth end (ws ++ r) (has flags o z parts ls)
-annotations-make flags o z parts ls depth end ws r (inl (empty, unset)) more n few =
-    none-makes (λ v. Makes (past n) depth end v (has flags o z parts ls)) ws r empty
-    (subst (λ f. Makes (past n) depth end r (has f o z parts ls)) (sym unset) (more n (omega arith)))
-annotations-make flags o z parts ls depth end ws r (inr is) more n few =
-    between-makes (λ v. Makes (past n) depth end v (has flags o z parts ls)) OpenParen CloseParen (HaveFlags flags) ws r is (λ m v c opens flagged close.
-    subst (λ f. Makes (past n) depth end (m ∷ (v ++ c ∷ r)) (has f o z parts ls)) (ap (λ f. unwrap_or f 0) flagged.1)
-    (makes-word (past n) depth end m (v ++ c ∷ r) (listed v o z parts ls) OpenParen opens (rw (lt-ltb n 1 few) refl) (some-make flags depth end v c r o z parts ls flagged close more)))
+annotations-add : (flags : ℕ) (o z : Option ℕ) (parts : Forest) (ls : List Forest) (depth end : ℕ) →
+    Adds (AreAnnotations flags) 1 2 depth end (has 0 o z parts ls) (has flags o z parts ls)
+annotations-add flags o z parts ls depth end ws r (inl (empty, unset)) more n few = rw (empty, unset) (more n (omega arith))
+annotations-add flags o z parts ls depth end ws r (inr (a, b, split, first, ([], c, inner, flagged, closes))) more n few =
+    absurd (omega (arith, flagged.0))
+annotations-add flags o z parts ls depth end ws r (inr (a, b, split, marked, (w ∷ v, d, inner, flagged, closes))) more n few =
+    let (m, first, opens) = marked in
+    let (c, second, close) = closes in
+    let (flag, known, rest) = first-flag (annotation_flag w.bytes) (λ f. flags_with (bit_or 0 f) v) flags flagged.1 in
+    let all : Makes in_annotations depth end (w ∷ (v ++ c ∷ r)) (listed (w ∷ v) o z parts ls) =
+    makes Name (annotation-name w.bytes flag known) (rw known refl)
+    (more-make (bit_or 0 flag) flags depth end v c r o z parts ls rest close more) refl in
+    rw (split, first, inner, second, append_assoc v (c ∷ []) r)
+    (makes OpenParen opens (rw (lt-ltb n 1 few) refl) all (ap (λ o'. has (unwrap_or o' 0) o z parts ls) flagged.1))
 
 -- sections before others
 abbrev join : Forest → Forest → Forest
@@ -168,57 +142,56 @@ join-none : (ts : Forest) → join ts none ≡ ts
 join-none none = refl
 join-none (some t ts) = ap (some t) (join-none ts)
 
-body-makes : (parts : Forest) (ls : List Forest) (depth end : ℕ) (ws r : List Word) → IsBody parts ws →
-    ((v q : List Word) → AreSections parts v → MakesAfter (suc depth) end q (nothing (none ∷ ls)) → MakesAfter (suc depth) end (v ++ q) (nothing (join parts none ∷ ls))) →
-    MakesAfter depth end r (nothing ls) → MakesPast 4 depth end (ws ++ r) (has 0 None None parts ls)
-body-makes parts ls depth end ws r (inl (empty, unset)) further more n few =
-    none-makes (λ v. Makes (past n) depth end v (has 0 None None parts ls)) ws r empty
-    (subst (λ p. Makes (past n) depth end r (has 0 None None p ls)) (sym unset) (more n))
-body-makes parts ls depth end ws r (inr is) further more n few =
-    between-makes (λ v. Makes (past n) depth end v (has 0 None None parts ls)) OpenBrace CloseBrace (AreSections parts) ws r is (λ m v c opens sections close.
-    subst (λ p. Makes (past n) depth end (m ∷ (v ++ c ∷ r)) (has 0 None None p ls)) (join-none parts)
-    (makes-word (past n) depth end m (v ++ c ∷ r) (nothing (join parts none ∷ ls)) OpenBrace opens (rw (lt-ltb n 4 few) refl)
-    (further v (c ∷ r) sections (λ k. makes-word (past k) (suc depth) end c r (nothing ls) CloseBrace close refl (more 4)) 4)))
+body-adds : (parts : Forest) (ls : List Forest) (depth end : ℕ) →
+    Adds (AreSections parts) 5 5 (suc depth) end (nothing (none ∷ ls)) (nothing (join parts none ∷ ls)) →
+    Adds (IsBody parts) 4 5 depth end (nothing ls) (has 0 None None parts ls)
+body-adds parts ls depth end sections ws r (inl (empty, unset)) more n few = rw (empty, unset) (more n (omega arith))
+body-adds parts ls depth end sections ws r (inr (a, b, split, (m, first, opens), (v, d, inner, are, closes))) more n few =
+    let (c, second, close) = closes in
+    let behind : MakesPast 5 (suc depth) end (c ∷ r) (nothing (none ∷ ls)) = λ k below.
+    makes CloseBrace close refl (more 4 (omega arith)) refl in
+    rw (split, first, inner, second, append_assoc v (c ∷ []) r)
+    (makes OpenBrace opens (rw (lt-ltb n 4 few) refl) (sections v (c ∷ r) are behind 4 (omega arith))
+    (ap (λ ts. has 0 None None ts ls) (join-none parts)))
 
 mutual
   -- a section, where a name may stand
   section-makes : (t : Tree) (s : Stage) (depth end : ℕ) (ws r : List Word) (l : Forest) (ls : List Forest) →
-      IsSection t ws → ((flag : Option ℕ) → expected_of s depth Name flag ≡ None) → next_stage s Name ≡ past 0 →
-      MakesAfter depth end r (nothing (l ∷ ls)) → Makes s depth end (ws ++ r) (nothing (some t l ∷ ls))
-  section-makes (section name flags offset size parts) s depth end ws r l ls is stands stage more =
-      let Sized : List Word → Type 0 = Then (IsSize size) (IsBody parts) in
-      let Placed : List Word → Type 0 = Then (IsOffset offset) Sized in
-      let made : Built = has flags offset size parts (l ∷ ls) in
-      let G : List Word → Type 0 = λ v. Makes s depth end v (nothing (some (section name flags offset size parts) l ∷ ls)) in
-      then-makes G (One (IsName name)) (Then (AreAnnotations flags) Placed) ws r is (λ first rest named others. one-makes G (IsName name) first (rest ++ r) named (λ w called.
-      subst (λ n. Makes s depth end (w ∷ (rest ++ r)) (nothing (some (section n flags offset size parts) l ∷ ls))) called.1
-      (makes-word s depth end w (rest ++ r) made Name called.0 (stands (annotation_flag w.bytes)) (subst (λ p. Makes p depth end (rest ++ r) made) (sym stage)
-      (then-makes (λ v. Makes (past 0) depth end v made) (AreAnnotations flags) Placed rest r others (λ a b annotations placed.
-      annotations-make flags offset size parts (l ∷ ls) depth end a (b ++ r) annotations (λ n few.
-      then-makes (λ v. Makes (past n) depth end v (has 0 offset size parts (l ∷ ls))) (IsOffset offset) Sized b r placed (λ c d at sized.
-      offset-makes offset size parts (l ∷ ls) depth end c (d ++ r) at (λ k fewer.
-      then-makes (λ v. Makes (past k) depth end v (has 0 None size parts (l ∷ ls))) (IsSize size) (IsBody parts) d r sized (λ e f number body.
-      size-makes size parts (l ∷ ls) depth end e (f ++ r) number (body-makes parts (l ∷ ls) depth end f r body (λ v q inner after. sections-make parts depth end v q none (l ∷ ls) inner after) more)
-      k fewer)) n few)) 0 (omega arith)))))))
+      IsSection t ws → ((flag : Option ℕ) → next_stage s depth Name flag ≡ Some (past 0)) →
+      MakesPast 5 depth end r (nothing (l ∷ ls)) → Makes s depth end (ws ++ r) (nothing (some t l ∷ ls))
+  section-makes (section name flags offset size parts) s depth end ws r l ls (a, rest, split, named, others) stands more =
+      let (w, one, (is, called, short)) = named in
+      let levels : List Forest = l ∷ ls in
+      let S : List Word → Type 0 = Then (IsSize size) (IsBody parts) in
+      let body = body-adds parts levels depth end (λ v q are behind. sections-make parts depth end v q none levels are behind) in
+      let sized = adds-then (IsSize size) (IsBody parts) 3 4 5 depth end (nothing levels) (has 0 None None parts levels)
+      (has 0 None size parts levels) (size-adds size parts levels depth end) body in
+      let placed = adds-then (IsOffset offset) S 2 3 5 depth end (nothing levels) (has 0 None size parts levels)
+      (has 0 offset size parts levels) (offset-adds offset size parts levels depth end) sized in
+      let all = adds-then (AreAnnotations flags) (Then (IsOffset offset) S) 1 2 5 depth end (nothing levels)
+      (has 0 offset size parts levels) (has flags offset size parts levels)
+      (annotations-add flags offset size parts levels depth end) placed in
+      let behind = all rest r others more 0 (omega arith) in
+      rw (split, one) (makes Name is (stands (annotation_flag w.bytes)) behind (rw called refl))
 
   -- sections inside braces
   sections-make : (ts : Forest) (depth end : ℕ) (ws r : List Word) (l : Forest) (ls : List Forest) → AreSections ts ws →
-      MakesAfter (suc depth) end r (nothing (l ∷ ls)) →
-      MakesAfter (suc depth) end (ws ++ r) (nothing (join ts l ∷ ls))
-  sections-make none depth end ws r l ls is more n =
-      none-makes (λ v. Makes (past n) (suc depth) end v (nothing (l ∷ ls))) ws r is (more n)
-  sections-make (some t ts) depth end ws r l ls is more n =
-      then-makes (λ v. Makes (past n) (suc depth) end v (nothing (some t (join ts l) ∷ ls))) (IsSection t) (AreSections ts) ws r is (λ front back one others.
-      section-makes t (past n) (suc depth) end front (back ++ r) (join ts l) ls one (λ flag. refl) refl (sections-make ts depth end back r l ls others more))
+      MakesPast 5 (suc depth) end r (nothing (l ∷ ls)) → MakesPast 5 (suc depth) end (ws ++ r) (nothing (join ts l ∷ ls))
+  sections-make none depth end ws r l ls is more n few = rw is (more n few)
+  sections-make (some t ts) depth end ws r l ls (front, back, split, one, others) more n few =
+      rw (split, append_assoc front back r)
+      (section-makes t (past n) (suc depth) end front (back ++ r) (join ts l) ls one (λ flag. refl)
+      (sections-make ts depth end back r l ls others more))
 
 root-makes : (t : Tree) (end : ℕ) (ws : List Word) → IsSection t ws → Makes start 0 end ws (nothing (some t none ∷ []))
 root-makes t end ws is =
     subst (λ v. Makes start 0 end v (nothing (some t none ∷ []))) (append-nil ws)
-    (section-makes t start 0 end ws [] none [] is (λ flag. refl) refl (λ n. record { agrees = refl; made = refl }))
+    (section-makes t start 0 end ws [] none [] is (λ flag. refl) (λ n few. record { agrees = refl; made = refl }))
 
 pub text-agrees : (t : Tree) (text : List ℕ) → IsSection t (words text) → first_fault text ≡ first_word_fault text
 unfolding first_fault
-text-agrees t text is = ap (cond (nat_lt 1048576 (length text)) (Some faults.TextTooLong)) (root-makes t (length text) (words text) is).agrees
+text-agrees t text is =
+    ap (cond (nat_lt 1048576 (length text)) (Some faults.TextTooLong)) (root-makes t (length text) (words text) is).agrees
 
 -- two trees of the same words
 pub one-tree : (t u : Tree) (ws : List Word) → IsSection t ws → IsSection u ws → t ≡ u

@@ -1,7 +1,7 @@
 -- The refusal of a descriptor's text: that it is too long, or else the one at the lowest place, where that of the
 -- word by itself comes before that of a word in a wrong place. The order, the texts and the limits are this project's own.
-use Rattle.std.specs.Prelude.{◌≡◌, ◌⊎◌, Result, Ok, Err, ℕ, suc, zero, nat_lt, Bool, false, if◌then◌else◌, List, [], ◌∷◌, length, Option, Some, None, option_map}
-use Rattle.std.specs.Option.{option_or}
+use Rattle.std.specs.Prelude.{◌≡◌, ◌⊎◌, Result, Ok, Err, ℕ, suc, zero, nat_lt, if◌then◌else◌, List, [], ◌∷◌, length, Option, Some, None}
+use Rattle.std.specs.Option.{option_map_or, option_or}
 use Rattle.std.specs.Result.{result_err}
 use Rattle.fmd_lang.specs.Words.{Word, word, words, kind_of}
 use Rattle.fmd_lang.specs.Numbers.{number_at, number_value}
@@ -21,26 +21,33 @@ pub data Stage : Type 0 where
   at_sign : Stage  -- after `@`
   past : ℕ → Stage  -- in a section or after it, past so many of what may follow its name
 
--- What may follow a section's name, in this order: annotations, an offset, a size, braces. Whether a word begins
--- one of them, past so many.
-abbrev pub goes_on : ℕ → Kind → Bool
-goes_on passed OpenParen = nat_lt passed 1
-goes_on passed At = nat_lt passed 2
-goes_on passed Number = nat_lt passed 3
-goes_on passed OpenBrace = nat_lt passed 4
-goes_on passed k = false
+-- Where a text stands after a word of this kind, with this flag as an annotation, while so many `{` are open; None where
+-- no such word may stand. After a section's name may follow, in this order, annotations, an offset, a size, braces; then,
+-- inside braces, another section or the closing brace, and after the root nothing but the end.
+abbrev pub next_stage : Stage → ℕ → Kind → Option ℕ → Option Stage
+next_stage start depth Name flag = Some (past 0)
+next_stage in_annotations depth k (Some flag) = Some annotated
+next_stage annotated depth CloseParen flag = Some (past 1)
+next_stage annotated depth k (Some flag) = Some annotated
+next_stage at_sign depth Number flag = Some (past 2)
+next_stage (past n) depth OpenParen flag = if nat_lt n 1 then Some in_annotations else None
+next_stage (past n) depth At flag = if nat_lt n 2 then Some at_sign else None
+next_stage (past n) depth Number flag = if nat_lt n 3 then Some (past 3) else None
+next_stage (past n) depth OpenBrace flag = if nat_lt n 4 then Some (past 4) else None
+next_stage (past n) (suc depth) Name flag = Some (past 0)
+next_stage (past n) (suc depth) CloseBrace flag = Some (past 4)
+next_stage (past n) zero End flag = Some (past 4)
+next_stage s depth k flag = None
 
--- where a text stands after a word that is in its place
-abbrev pub next_stage : Stage → Kind → Stage
-next_stage in_annotations k = annotated
-next_stage annotated CloseParen = past 1
-next_stage annotated k = annotated
-next_stage at_sign k = past 2
-next_stage s OpenParen = in_annotations
-next_stage s At = at_sign
-next_stage s Number = past 3
-next_stage s Name = past 0
-next_stage s k = past 4
+-- what had to stand in place of a word of this kind, where none may stand
+abbrev pub wanted_at : Stage → ℕ → Kind → Expected
+wanted_at start depth k = wanted.Section
+wanted_at in_annotations depth k = wanted.Annotation
+wanted_at annotated depth Name = wanted.Annotation
+wanted_at annotated depth k = wanted.CloseParen
+wanted_at at_sign depth k = wanted.Number
+wanted_at (past n) zero k = wanted.End
+wanted_at (past n) (suc depth) k = wanted.SectionOrClose
 
 -- how many `{` are open after a word
 abbrev pub next_depth : Kind → ℕ → ℕ
@@ -63,39 +70,17 @@ own_fault_of k depth w = None
 abbrev pub own_fault : ℕ → Word → Option FmdFault
 own_fault depth w = own_fault_of (kind_of w.bytes) depth w
 
--- what had to stand in place of a word that doesn't go on with the section: after the root nothing else may
--- stand, inside braces another section or the closing brace
-abbrev pub expected_next : ℕ → Kind → Option Expected
-expected_next zero End = None
-expected_next zero k = Some wanted.End
-expected_next (suc depth) Name = None
-expected_next (suc depth) CloseBrace = None
-expected_next (suc depth) k = Some wanted.SectionOrClose
-
--- the table: what had to stand in place of a word of this kind, with this flag as an annotation
-abbrev pub expected_of : Stage → ℕ → Kind → Option ℕ → Option Expected
-expected_of start depth Name flag = None
-expected_of start depth k flag = Some wanted.Section
-expected_of in_annotations depth k (Some flag) = None
-expected_of in_annotations depth k None = Some wanted.Annotation
-expected_of annotated depth CloseParen flag = None
-expected_of annotated depth k (Some flag) = None
-expected_of annotated depth Name None = Some wanted.Annotation
-expected_of annotated depth k None = Some wanted.CloseParen
-expected_of at_sign depth Number flag = None
-expected_of at_sign depth k flag = Some wanted.Number
-expected_of (past n) depth k flag = if goes_on n k then None else expected_next depth k
-
--- the refusal of a word, or of the end, at a place where something else had to stand
-abbrev pub misplaced : Stage → ℕ → Word → Option FmdFault
-misplaced s depth w = option_map (faults.Expected w.place) (expected_of s depth (kind_of w.bytes) (annotation_flag w.bytes))
+-- where a word, or the end, may stand, what is refused of what follows; or else its refusal
+abbrev pub fault_after : Stage → ℕ → Word → (Stage → Option FmdFault) → Option FmdFault
+fault_after s depth w further =
+    let refused = faults.Expected w.place (wanted_at s depth (kind_of w.bytes)) in
+    option_map_or further (next_stage s depth (kind_of w.bytes) (annotation_flag w.bytes)) (Some refused)
 
 -- the first refusal of the words left, the text's length being `end`
 abbrev pub fault_from : Stage → ℕ → ℕ → List Word → Option FmdFault
-fault_from s depth end [] = misplaced s depth (word end [])
+fault_from s depth end [] = fault_after s depth (word end []) (λ t. None)
 fault_from s depth end (w ∷ ws) =
-    option_or (own_fault depth w)
-    (option_or (misplaced s depth w) (fault_from (next_stage s (kind_of w.bytes)) (next_depth (kind_of w.bytes) depth) end ws))
+    option_or (own_fault depth w) (fault_after s depth w (λ t. fault_from t (next_depth (kind_of w.bytes) depth) end ws))
 
 -- how many bytes a text may have
 abbrev pub text_limit : ℕ
@@ -111,3 +96,14 @@ first_fault text =
 abbrev pub Refuses : {X : Type 0} → Option FmdFault → Result X FmdFault → Type 0
 Refuses refusal (Ok x) = refusal ≡ None
 Refuses refusal (Err fault) = (fault ≡ faults.Memory) ⊎ (refusal ≡ Some fault)
+
+-- ---- the refusal of a text by itself: it is too long, or a word is refused, whatever the order of the words
+
+-- of the words left, while so many `{` are open
+abbrev pub first_own_fault : ℕ → List Word → Option FmdFault
+first_own_fault depth [] = None
+first_own_fault depth (w ∷ ws) = option_or (own_fault depth w) (first_own_fault (next_depth (kind_of w.bytes) depth) ws)
+
+-- of a text
+abbrev pub first_word_fault : List ℕ → Option FmdFault
+first_word_fault text = if nat_lt text_limit (length text) then Some faults.TextTooLong else first_own_fault 0 (words text)

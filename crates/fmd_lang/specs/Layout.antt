@@ -1,10 +1,13 @@
 -- Where the sections of a descriptor lie: each row of siblings as equations over their places. That an offset counts
 -- from the parent's start, and that a size may be omitted, is coreboot's (Documentation/lib/flashmap.md); which
 -- sizes may be, and what they then are, is this project's own.
-use Rattle.std.specs.Prelude.{◌≡◌, ℕ, ◌+◌, ◌-◌, ◌<◌, ◌≤◌, Bool, true, false, ◌&&◌, not, if◌then◌else◌, List, [], ◌∷◌, Option, Some, None, unwrap_or, is_some, IfSome, IfNone}
+use Rattle.std.specs.Prelude.{◌≡◌, ℕ, ◌+◌, ◌-◌, nat_eq, nat_lt, Bool, true, false, ◌&&◌, not, if◌then◌else◌, List, [], ◌∷◌, Option, Some, None, option_map, unwrap_or, is_some, IfSome, IfNone}
+use Rattle.std.specs.Option.{option_or}
 use Rattle.fmd_lang.specs.Tree.{Tree, section, Forest, none, some, section_count}
 use Rattle.fmd_lang.specs.declared.row.Sibling.{Sibling}
 use Rattle.fmd_lang.specs.declared.row.Place.{Place}
+use Rattle.fmd_lang.specs.declared.fault.FmdFault.{FmdFault}
+use Rattle.fmd_lang.specs.declared.fault.FmdFault.TheVariants as faults
 
 abbrev pub end_of : Place → ℕ
 end_of q = q.start + q.size
@@ -21,13 +24,18 @@ abbrev pub bound : ℕ → List Sibling → ℕ
 bound parent [] = parent
 bound parent (p ∷ ps) = unwrap_or p.offset (bound parent ps)
 
+-- the refusal of a place, where the sibling before ends at `from`
+abbrev pub misfit_of : ℕ → ℕ → Sibling → Place → Option FmdFault
+misfit_of parent from p q =
+    if nat_eq q.size 0 then Some (faults.EmptySection p.number)
+    else (if nat_lt q.start from then Some (faults.Overlap p.number)
+    else (if nat_lt parent (end_of q) then Some (faults.Outside p.number) else None))
+
 -- What holds of one place, where the sibling before it ends at `from`.
 pub record IsPlaced (parent from : ℕ) (p : Sibling) (q : Place) : Type 0 where
   pub offset : q.start ≡ unwrap_or p.offset from
   pub size : IfSome p.size (λ n. q.size ≡ n)
-  pub in_order : from ≤ q.start
-  pub non_empty : 0 < q.size
-  pub inside : end_of q ≤ parent
+  pub fits : misfit_of parent from p q ≡ None
 
 -- The places of siblings. One that omits its size makes its run end at the bound.
 abbrev pub ArePlaced : ℕ → ℕ → List Sibling → List Place → Type 0
@@ -65,6 +73,17 @@ place_of parent from p ps =
 abbrev pub filled : ℕ → ℕ → List Sibling → List Place
 filled parent from [] = []
 filled parent from (p ∷ ps) = place_of parent from p ps ∷ filled parent (end_of (place_of parent from p ps)) ps
+
+-- the first refusal of a place
+abbrev pub misfit_sibling : ℕ → ℕ → List Sibling → Option FmdFault
+misfit_sibling parent from [] = None
+misfit_sibling parent from (p ∷ ps) =
+    let q = place_of parent from p ps in
+    option_or (misfit_of parent from p q) (misfit_sibling parent (end_of q) ps)
+
+-- the first refusal of a row
+abbrev pub row_fault : ℕ → List Sibling → Option FmdFault
+row_fault parent ps = option_or (option_map faults.Ambiguous (ambiguous_sibling false ps)) (misfit_sibling parent 0 ps)
 
 -- a section with this number as one of a row, and the sections of which the first has this number
 abbrev pub sibling : ℕ → Tree → Sibling

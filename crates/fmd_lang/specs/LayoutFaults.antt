@@ -1,14 +1,14 @@
 -- What is refused of the layout of a descriptor, and in which order (this project's own).
-use Rattle.std.specs.Prelude.{ℕ, suc, ◌+◌, nat_lt, nat_eq, Bool, not, if◌then◌else◌, List, [], ◌∷◌, length, ◌-◌, Option, Some, None, unwrap_or, option_map, codes, drop}
+use Rattle.std.specs.Prelude.{ℕ, suc, ◌+◌, ◌*◌, nat_lt, nat_eq, Bool, not, if◌then◌else◌, List, [], ◌∷◌, ◌++◌, length, Option, Some, None, unwrap_or, option_map, codes, drop}
 use Rattle.std.specs.Option.{option_or}
 use Rattle.std.specs.List.{list_any}
 use Rattle.std.specs.Str.{bytes_eq}
+use Rattle.flash_format.specs.Flashmap.{area_len, fmap_head_len}
 use Rattle.fmd_lang.specs.Tree.{Tree, section, Forest, none, some, section_count, names, size_of}
-use Rattle.fmd_lang.specs.Layout.{filled, siblings}
-use Rattle.fmd_lang.specs.Names.{duplicate}
-use Rattle.fmd_lang.specs.Row.{row_fault}
-use Rattle.fmd_lang.specs.Table.{area_limit, areas_below, size_named, table_len}
+use Rattle.fmd_lang.specs.Layout.{filled, row_fault, siblings}
+use Rattle.fmd_lang.specs.Table.{area_limit, areas_below, size_named}
 use Rattle.fmd_lang.specs.declared.row.Place.{Place}
+use Rattle.flash_format.specs.declared.flashmap.Area.{Area}
 use Rattle.fmd_lang.specs.declared.fault.FmdFault.{FmdFault}
 use Rattle.fmd_lang.specs.declared.fault.FmdFault.TheVariants as faults
 
@@ -30,11 +30,18 @@ flag b fault = if b then Some fault else None
 abbrev pub is_fmap : List ℕ → Bool
 is_fmap name = bytes_eq name (codes "FMAP")
 
+-- so many areas are too many
+abbrev pub count_fault : ℕ → Option FmdFault
+count_fault areas = flag (nat_lt area_limit areas) faults.TooManyAreas
+
 -- of the names of the sections but the root: none is FMAP; they are too many
 abbrev pub areas_fault : List (List ℕ) → Option FmdFault
-areas_fault ns =
-    option_or (flag (not (list_any is_fmap ns)) faults.NoFmap)
-    (flag (nat_lt area_limit (length ns)) faults.TooManyAreas)
+areas_fault ns = option_or (flag (not (list_any is_fmap ns)) faults.NoFmap) (count_fault (length ns))
+
+-- the first of these names, numbered from `n`, that an earlier one equals
+abbrev pub duplicate : ℕ → List (List ℕ) → List (List ℕ) → Option ℕ
+duplicate n earlier [] = None
+duplicate n earlier (x ∷ xs) = if list_any (bytes_eq x) earlier then Some n else duplicate (suc n) (earlier ++ x ∷ []) xs
 
 -- of all names in preorder: the lowest that an earlier one equals comes first
 abbrev pub names_fault : List (List ℕ) → Option FmdFault
@@ -45,11 +52,10 @@ abbrev pub size_fault : Option ℕ → Option FmdFault
 size_fault None = Some (faults.Ambiguous 0)
 size_fault (Some n) = flag (nat_eq n 0) (faults.EmptySection 0)
 
--- the section FMAP holds fewer bytes than the table
-abbrev pub table_fault : ℕ → Tree → Option FmdFault
-table_fault size t =
-    let given = size_named (codes "FMAP") (areas_below 0 0 size t) in
-    flag (nat_lt given (table_len (section_count t - 1))) faults.FmapTooSmall
+-- the area FMAP holds fewer bytes than the table of these areas
+abbrev pub table_fault : List Area → Option FmdFault
+table_fault areas =
+    flag (nat_lt (size_named (codes "FMAP") areas) (fmap_head_len + area_len * length areas)) faults.FmapTooSmall
 
 -- the refusal of a layout: by the names, then by the root's size, the parents and the table
 unfoldable pub layout_fault : Tree → Option FmdFault
@@ -57,4 +63,4 @@ layout_fault t =
     option_or (names_fault (names t))
     (option_or (size_fault (size_of t))
     (option_or (parent_fault 0 (unwrap_or (size_of t) 0) t)
-    (table_fault (unwrap_or (size_of t) 0) t)))
+    (table_fault (areas_below 0 0 (unwrap_or (size_of t) 0) t))))

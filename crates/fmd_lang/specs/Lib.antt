@@ -1,15 +1,10 @@
 pub mod Tree
-pub mod View
 pub mod Words
 pub mod Numbers
 pub mod Grammar
 pub mod Faults
 pub mod Layout
 pub mod Table
-pub mod Bytes
 pub mod Lexing
 pub mod Parsing
-pub mod Row
-pub mod Names
-pub mod WordFaults
 pub mod LayoutFaults

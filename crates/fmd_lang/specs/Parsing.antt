@@ -27,17 +27,12 @@ pub record Reads (P : List Word → Type 0) (before after : Standing) (end : ℕ
   pub same : fault_from before.0 before.1 end ws ≡ fault_from after.0 after.1 end behind
 
 -- It took the words up to a place, which are of the form P of its value, and left the text's first refusal as it was;
--- or it met that refusal.
-abbrev pub Parses : {X : Type 0} → (X → List Word → Type 0) → Standing → Standing → List ℕ → ℕ → Result (X × ℕ) FmdFault → Type 0
+-- or it met that refusal, or memory ran out.
+abbrev pub Parses : {X : Type 0} → (X → List Word → Type 0) → Standing → Standing → List ℕ → ℕ → Result (X × ℕ) FmdFault
+    → Type 0
 Parses P before after text from (Ok (x, to)) =
     (from ≤ to) × Reads (P x) before after (length text) (words_after text from) (words_after text to)
-Parses P before after text from (Err fault) = fault_at before text from ≡ Some fault
-
--- the same of a part that takes memory, which may also run out
-abbrev pub ParsesInMemory : {X : Type 0} → (X → List Word → Type 0) → Standing → Standing → List ℕ → ℕ →
-    Result (X × ℕ) FmdFault → Type 0
-ParsesInMemory P before after text from (Ok answer) = Parses P before after text from (Ok answer)
-ParsesInMemory P before after text from (Err fault) = (fault ≡ faults.Memory) ⊎ Parses P before after text from (Err fault)
+Parses P before after text from (Err fault) = (fault ≡ faults.Memory) ⊎ (fault_at before text from ≡ Some fault)
 
 -- what is known of the token at a place, while so many `{` are open
 pub record IsNext (text : List ℕ) (from depth : ℕ) (token : Token) : Type 0 where

@@ -1,22 +1,22 @@
 -- The table of a descriptor: all sections but the root in preorder, with offsets from the root's start.
-use Rattle.std.specs.Prelude.{◌≡◌, ℕ, suc, ◌+◌, ◌*◌, List, [], ◌∷◌, ◌++◌, Some, unwrap_or}
-use Rattle.std.specs.List.{find}
+use Rattle.std.specs.Prelude.{◌≡◌, ℕ, suc, ◌+◌, ◌-◌, List, [], ◌∷◌, ◌++◌, length, take, replicate, Some, unwrap_or}
+use Rattle.std.specs.List.{find, flat_map}
 use Rattle.std.specs.Option.{option_map_or}
-use Rattle.flash_format.specs.Flashmap.{fmap_head_len, area_len, is_area}
+use Rattle.flash_format.specs.Flashmap.{fmap_head_bytes, area_bytes, is_area}
 use Rattle.fmd_lang.specs.Tree.{Tree, section, Forest, none, some, section_count}
-use Rattle.fmd_lang.specs.Names.{field_of}
 use Rattle.fmd_lang.specs.Layout.{Laid, siblings, filled}
 use Rattle.fmd_lang.specs.declared.row.Place.{Place}
 use Rattle.flash_format.specs.declared.flashmap.Area.{Area}
+use Rattle.flash_format.specs.declared.flashmap.FmapHead.{FmapHead}
 use Rattle.fmd_lang.specs.declared.table.Table.{Table}
 
 -- how many areas a head can count
 abbrev pub area_limit : ℕ
 area_limit = 65535
 
--- the bytes of a table with this many areas
-abbrev pub table_len : ℕ → ℕ
-table_len areas = fmap_head_len + area_len * areas
+-- a name of the table: 32 bytes, NULs after the name
+abbrev pub field_of : List ℕ → List ℕ
+field_of name = take 32 name ++ replicate (32 - length name) 0
 
 -- the area of a section at this place of a parent that begins at `at`
 abbrev pub section_area : ℕ → Place → Tree → Area
@@ -58,3 +58,11 @@ abbrev pub IsTable : Tree → Table → Type 0
 IsTable (section name flags offset size parts) table =
     (table.base ≡ unwrap_or offset 0) × (size ≡ Some table.size) × (table.name ≡ field_of name)
     × AreasBelow 0 0 table.size (section name flags offset size parts) table.areas.items
+
+-- ---- the bytes: the head of FMAP 1.1 and the areas after it
+
+abbrev pub table_head : Table → FmapHead
+table_head t = record { major = 1; minor = 1; base = t.base; size = t.size; name = t.name; nareas = length t.areas.items }
+
+abbrev pub table_bytes : Table → List ℕ
+table_bytes t = fmap_head_bytes (table_head t) ++ flat_map area_bytes t.areas.items

@@ -28,23 +28,24 @@ pub record Word : Type 0 where
 abbrev pub word : ℕ → List ℕ → Word
 word place bytes = record { place = place; bytes = bytes }
 
--- The words that begin in these bytes, which stand at a place, after a byte. A word is a mark; a longest row of plain
--- bytes; or one byte that no word may have.
-abbrev pub words_from : ℕ → ℕ → List ℕ → List Word
-words_from place before [] = []
-words_from place before (b ∷ bs) =
-    let others = words_from (suc place) b bs in
+-- The words that begin in these bytes, which stand at a place. A word is a mark; a longest row of plain bytes; or one
+-- byte that no word may have. The flag says that a row goes on.
+abbrev pub words_from : ℕ → Bool → List ℕ → List Word
+words_from place inside [] = []
+words_from place inside (b ∷ bs) =
+    let others = words_from (suc place) (is_plain b) bs in
     if is_blank b then others
     else (if not (is_plain b) then word place (b ∷ []) ∷ others
-    else (if is_plain before then others else word place (take_while is_plain (b ∷ bs)) ∷ others))
+    else (if inside then others else word place (take_while is_plain (b ∷ bs)) ∷ others))
 
 -- the words of a text
 unfoldable pub words : List ℕ → List Word
-words text = words_from 0 32 (without_comments false text)
+words text = words_from 0 false (without_comments false text)
 
--- what begins with a byte
-abbrev pub kind_of_byte : ℕ → Kind
-kind_of_byte b =
+-- What a word of these bytes is, by the first. The end of a text counts as a word of no bytes.
+abbrev pub kind_of : List ℕ → Kind
+kind_of [] = End
+kind_of (b ∷ bs) =
     if nat_eq b 40 then OpenParen
     else (if nat_eq b 41 then CloseParen
     else (if nat_eq b 64 then At
@@ -53,21 +54,13 @@ kind_of_byte b =
     else (if nat_le 48 b && nat_le b 57 then Number
     else (if is_plain b then Name else Bad))))))
 
--- What a word of these bytes is, by the first. The end of a text counts as a word of no bytes.
-abbrev pub kind_of : List ℕ → Kind
-kind_of [] = End
-kind_of (b ∷ bs) = kind_of_byte b
-
 -- the words from a place of the text on, where neither a word nor a comment goes on
 unfoldable pub words_after : List ℕ → ℕ → List Word
-words_after text at = words_from at 32 (without_comments false (drop at text))
+words_after text at = words_from at false (without_comments false (drop at text))
 
 abbrev pub is_comment : ℕ → Bool
 is_comment b = nat_eq b 35
 
--- the plain bytes of the text from a place on, and the words after them, where a word goes on
-unfoldable pub plain_after : List ℕ → ℕ → List ℕ
-plain_after text at = take_while is_plain (without_comments false (drop at text))
-
-unfoldable pub words_inside : List ℕ → ℕ → List Word
-words_inside text at = words_from at 65 (without_comments false (drop at text))
+-- the rest of a row of plain bytes that goes on at a place, and the words after it
+unfoldable pub word_rest : List ℕ → ℕ → List ℕ × List Word
+word_rest text at = let bytes = without_comments false (drop at text) in (take_while is_plain bytes, words_from at true bytes)

@@ -2,13 +2,11 @@
 
 ghost use Rattle.std.specs.Prelude.{◌≡◌, ℕ, List, ◌++◌, None};
 ghost use Rattle.flash_format.specs.Laws.{IsReadAsMap};
-ghost use Rattle.fmd_lang.specs.Bytes.{table_bytes, table_head};
+ghost use Rattle.fmd_lang.specs.Table.{table_bytes, table_head, IsTable};
 ghost use Rattle.fmd_lang.specs.Tree.{Tree};
 ghost use Rattle.fmd_lang.specs.Words.{words};
 ghost use Rattle.fmd_lang.specs.Grammar.{IsSection};
-ghost use Rattle.fmd_lang.specs.Faults.{first_fault};
-ghost use Rattle.fmd_lang.specs.WordFaults.{first_word_fault};
-ghost use Rattle.fmd_lang.specs.Table.{IsTable};
+ghost use Rattle.fmd_lang.specs.Faults.{first_fault, first_word_fault};
 ghost use Rattle.fmd_lang.specs.LayoutFaults.{layout_fault, parent_fault};
 
 use crate::table::Table;
@@ -38,8 +36,7 @@ pub fn laid_sections_have_no_fault(table: &Table)
 /// A tree has at most one table.
 pub fn one_table(one: &Table, other: &Table)
     ensures { (t : Tree) → IsTable t one.now → IsTable t other.now
-        → (one.now.base ≡ other.now.base) × (one.now.size ≡ other.now.size) × (one.now.name ≡ other.now.name)
-        × (one.now.areas.items ≡ other.now.areas.items) }
+        → (table_head one.now ≡ table_head other.now) × (one.now.areas.items ≡ other.now.areas.items) }
 {}
 
 /// The bytes of the table of a text, which has no fault and whose tree has none of its layout, are read as a valid map with

@@ -2,12 +2,11 @@
 
 ghost use Rattle.std.specs.Prelude.{◌≡◌, ◌≤◌, ◌<◌, ◌+◌, ◌*◌, ◌^◌, ◌⊎◌, ◌++◌, [], ℕ, length, map, vec_len, Some, None, suc, codes, OnOk, IfOk, IfErr, IsTrue, nat_le};
 ghost use Rattle.std.specs.List.{list_all, list_any};
+ghost use Rattle.std.specs.Result.{result_err};
 ghost use Rattle.fmd_lang.specs.Faults.{Refuses};
-ghost use Rattle.fmd_lang.specs.Layout.{end_of};
-ghost use Rattle.fmd_lang.specs.Row.{row_fault};
+ghost use Rattle.fmd_lang.specs.Layout.{end_of, row_fault};
 ghost use Rattle.fmd_lang.specs.declared.section.Section.{out-Section};
-ghost use Rattle.fmd_lang.specs.Tree.{section_count, sections_count, parts_of, size_of, names};
-ghost use Rattle.fmd_lang.specs.View.{view, views};
+ghost use Rattle.fmd_lang.specs.Tree.{section_count, sections_count, parts_of, size_of, names, view, views};
 ghost use Rattle.fmd_lang.specs.Layout as spec;
 ghost use Rattle.fmd_lang.specs.Table.{area_limit, areas_below, size_named, IsTable};
 ghost use Rattle.fmd_lang.specs.LayoutFaults as faults;
@@ -24,19 +23,18 @@ use std::alloc::Global;
 /// The table of a tree: where its sections lie. The first refusal is that of the names (a duplicate, no FMAP, too
 /// many), then of the places, parent by parent in preorder, then of the size of FMAP. It goes as deep as the tree,
 /// and a tree that `parse` answers has at most 33 levels.
+#[tactic(auto, unfolding(crate::specs::LayoutFaults::layout_fault))]
 pub fn lay_out(alloc: Global, root: &Section) -> Result<Table, FmdFault>
     ensures table { IfOk result (λ table. IsTable (view root.now) table) }
-    ensures faultless { OnOk result (layout_fault (view root.now) ≡ None) }
     ensures few { IfOk result (λ table. length table.areas.items ≤ area_limit) }
-    ensures refused { IfErr result (λ fault. (fault ≡ FmdFault.Memory) ⊎ (layout_fault (view root.now) ≡ Some fault)) }
+    // A layout that is answered has no fault; a refusal is the first, unless memory ran out.
+    ensures refused { Refuses (layout_fault (view root.now)) result }
 {
     check_names_of(alloc, root)?;
     let size = root_size(root)?;
     let mut areas = Vec::new(alloc);
     push_areas(alloc, root, 0, size, &mut areas)?;
-    if (fmap_size(&areas) as usize) < FmapHead::LENGTH + Area::LENGTH * areas.len() {
-        return Err(FmdFault::FmapTooSmall);
-    }
+    check_fmap(&areas)?;
     Ok(Table {
         base: u64::from(root.offset.unwrap_or(0)),
         size,
@@ -47,9 +45,8 @@ pub fn lay_out(alloc: Global, root: &Section) -> Result<Table, FmdFault>
 
 /// The root's size.
 fn root_size(root: &Section) -> Result<u32, FmdFault>
-    ensures ok { IfOk result (λ size. (size_of (view root.now) ≡ Some size)
-        × (faults.size_fault (size_of (view root.now)) ≡ None)) }
-    ensures err { IfErr result (λ fault. faults.size_fault (size_of (view root.now)) ≡ Some fault) }
+    ensures size { IfOk result (λ size. size_of (view root.now) ≡ Some size) }
+    ensures fault { faults.size_fault (size_of (view root.now)) ≡ result_err result }
 {
     match root.size {
         None => Err(FmdFault::Ambiguous { section: 0 }),
@@ -142,6 +139,17 @@ fn count(section: &Section) -> usize
         all += count(part);
     }
     all
+}
+
+/// Refuses areas of which FMAP is smaller than their table.
+fn check_fmap(areas: &[Area]) -> Result<(), FmdFault>
+    requires { length areas.now ≤ area_limit }
+    ensures { faults.table_fault areas.now ≡ result_err result }
+{
+    if (fmap_size(areas) as usize) < FmapHead::LENGTH + Area::LENGTH * areas.len() {
+        return Err(FmdFault::FmapTooSmall);
+    }
+    Ok(())
 }
 
 /// The size of the area FMAP, and 0 without one.

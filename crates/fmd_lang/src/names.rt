@@ -2,10 +2,10 @@
 
 ghost use Rattle.std.specs.Prelude.{◌≡◌, ◌≤◌, ◌+◌, ◌⊎◌, ◌++◌, [], None, Some, map, length, OnOk, IfOk, IfErr};
 ghost use Rattle.std.specs.List.{list_any};
-ghost use Rattle.fmd_lang.specs.Tree.{names};
-ghost use Rattle.fmd_lang.specs.View.{view};
-ghost use Rattle.fmd_lang.specs.LayoutFaults.{is_fmap, areas_fault, names_fault};
-ghost use Rattle.fmd_lang.specs.Names.{duplicate, field_of};
+ghost use Rattle.std.specs.Result.{result_err};
+ghost use Rattle.fmd_lang.specs.Tree.{names, view};
+ghost use Rattle.fmd_lang.specs.LayoutFaults.{is_fmap, areas_fault, names_fault, duplicate};
+ghost use Rattle.fmd_lang.specs.Table.{field_of};
 ghost use Rattle.fmd_lang.specs.Faults.{Refuses};
 
 use crate::fault::FmdFault;
@@ -68,8 +68,7 @@ fn first_duplicate(alloc: Global, names: &[&[u8]]) -> Result<Option<usize>, FmdF
 
 /// Refuses parts none of which is named FMAP, and too many of them.
 fn check_parts(parts: &[&[u8]]) -> Result<(), FmdFault>
-    ensures clear { OnOk result (areas_fault (map (λ r. r.now) parts.now) ≡ None) }
-    ensures refused { IfErr result (λ fault. areas_fault (map (λ r. r.now) parts.now) ≡ Some fault) }
+    ensures { areas_fault (map (λ r. r.now) parts.now) ≡ result_err result }
 {
     if !has_fmap(parts) {
         return Err(FmdFault::NoFmap);

@@ -1,12 +1,13 @@
 //! The parser: each function reads from a place of the text, and answers a value and the place after it.
 
-ghost use Rattle.std.specs.Prelude.{◌≡◌, ◌≢◌, ◌≤◌, ◌<◌, ◌+◌, ◌⊎◌, ◌∷◌, ℕ, suc, length, Some, None, Err, IfOk, OnOk, IfErr, MatchOption};
+ghost use Rattle.std.specs.Prelude.{◌≡◌, ◌≢◌, ◌≤◌, ◌<◌, ◌+◌, ◌⊎◌, ◌∷◌, ℕ, suc, length, Some, None, Err, IfOk, IfErr, MatchOption, MatchResult};
+ghost use Rattle.std.specs.Result.{result_err};
 ghost use Rattle.fmd_lang.specs.Words.{words, words_after, kind_of};
 ghost use Rattle.fmd_lang.specs.Lexing.{word_of, end_of};
-ghost use Rattle.fmd_lang.specs.Faults.{Stage, depth_limit, own_fault, start, past, at_sign, in_annotations, annotated, expected_of, first_fault};
+ghost use Rattle.fmd_lang.specs.Faults.{Stage, depth_limit, own_fault, Refuses, start, past, at_sign, in_annotations, annotated, wanted_at, first_fault};
 ghost use Rattle.fmd_lang.specs.Grammar.{One, HasValue, HaveFlags, IsA, IsOffset, IsSize, AreAnnotations, IsSection, Then};
-ghost use Rattle.fmd_lang.specs.Parsing.{Parses, ParsesInMemory, fault_at, IsNext, IsBody, AreClosed, EndAnnotations};
-ghost use Rattle.fmd_lang.specs.View.{view, views};
+ghost use Rattle.fmd_lang.specs.Parsing.{Parses, fault_at, IsNext, IsBody, AreClosed, EndAnnotations};
+ghost use Rattle.fmd_lang.specs.Tree.{view, views};
 ghost use Rattle.fmd_lang.specs.Grammar as grammar;
 ghost use Rattle.fmd_lang.specs.declared.word.Kind.TheVariants.{CloseParen, Name, Number};
 
@@ -34,12 +35,12 @@ struct Token<'t> {
 }
 
 /// The tree of a descriptor.
+#[tactic(auto, unfolding(crate::specs::Faults::first_fault, crate::specs::Words::words, crate::specs::Words::words_after))]
 pub fn parse(alloc: Global, text: &[u8]) -> Result<Section, FmdFault>
-    // A tree is the text's, and the text then has no fault.
+    // A tree is the text's.
     ensures tree { IfOk result (λ t. IsSection (view t) (words text.now)) }
-    ensures faultless { IfOk result (λ t. first_fault text.now ≡ None) }
-    // A refusal is the text's first, unless memory ran out.
-    ensures refused { IfErr result (λ fault. (fault ≡ FmdFault.Memory) ⊎ (first_fault text.now ≡ Some fault)) }
+    // The text of a tree that is answered has no fault; a refusal is the text's first, unless memory ran out.
+    ensures refused { Refuses (first_fault text.now) result }
 {
     if text.len() > TEXT_LIMIT {
         return Err(FmdFault::TextTooLong);
@@ -50,8 +51,7 @@ pub fn parse(alloc: Global, text: &[u8]) -> Result<Section, FmdFault>
 /// The tree of a text, whatever its length.
 fn tree(alloc: Global, text: &[u8]) -> Result<Section, FmdFault>
     ensures tree { IfOk result (λ t. IsSection (view t) (words_after text.now 0)) }
-    ensures faultless { IfOk result (λ t. fault_at (start, 0) text.now 0 ≡ None) }
-    ensures refused { IfErr result (λ fault. (fault ≡ FmdFault.Memory) ⊎ (fault_at (start, 0) text.now 0 ≡ Some fault)) }
+    ensures refused { Refuses (fault_at (start, 0) text.now 0) result }
 {
     let (tree, to) = root(alloc, text)?;
     let token = peek(text, to, 0)?;
@@ -63,7 +63,7 @@ fn tree(alloc: Global, text: &[u8]) -> Result<Section, FmdFault>
 
 /// The root, at the text's start, and the place after it.
 fn root(alloc: Global, text: &[u8]) -> Result<(Section, usize), FmdFault>
-    ensures { ParsesInMemory (λ t ws. IsSection (view t) ws) (start, 0) (past 4, 0) text.now 0 result }
+    ensures { Parses (λ t ws. IsSection (view t) ws) (start, 0) (past 4, 0) text.now 0 result }
 {
     let token = peek(text, 0, 0)?;
     match token.kind {
@@ -81,10 +81,9 @@ fn section(
     depth: u32,
 ) -> Result<(Section, usize), FmdFault>
     requires inside { end_of name.now ≤ length text.now }
-    requires name { IsA Name (word_of name.now) }
-    requires clear { own_fault depth (word_of name.now) ≡ None }
+    requires name { IsA Name (word_of name.now) × (own_fault depth (word_of name.now) ≡ None) }
     requires depth { depth ≤ depth_limit }
-    ensures { ParsesInMemory (λ t ws. IsSection (view t) (word_of name.now ∷ ws)) (past 0, depth) (past 4, depth)
+    ensures { Parses (λ t ws. IsSection (view t) (word_of name.now ∷ ws)) (past 0, depth) (past 4, depth)
         text.now (end_of name.now) result }
 {
     let (flags, at) = annotations(text, name.end(), depth)?;
@@ -110,7 +109,7 @@ fn body(
     depth: u32,
 ) -> Result<(Vec<Section>, usize), FmdFault>
     requires depth { depth ≤ depth_limit }
-    ensures { ParsesInMemory (λ v. IsBody (views v.items)) (past 3, depth) (past 4, depth) text.now from result }
+    ensures { Parses (λ v. IsBody (views v.items)) (past 3, depth) (past 4, depth) text.now from result }
 {
     let token = peek(text, from, depth)?;
     match token.kind {
@@ -128,7 +127,7 @@ fn sections(
     depth: u32,
 ) -> Result<(Vec<Section>, usize), FmdFault>
     requires depth { depth < depth_limit }
-    ensures { ParsesInMemory (λ v. AreClosed (views v.items)) (past 4, suc depth) (past 4, depth) text.now from result }
+    ensures { Parses (λ v. AreClosed (views v.items)) (past 4, suc depth) (past 4, depth) text.now from result }
 {
     let mut parts = Vec::new(alloc);
     let mut at = from;
@@ -197,7 +196,7 @@ fn more_annotations(
 
 /// What has to stand after an annotation, in place of a word of this kind.
 fn after_annotation(kind: Kind) -> Expected
-    ensures { (depth : ℕ) → kind ≢ CloseParen → expected_of annotated depth kind None ≡ Some result }
+    ensures { (depth : ℕ) → result ≡ wanted_at annotated depth kind }
 {
     match kind {
         Kind::Name => Expected::Annotation,
@@ -270,9 +269,8 @@ fn peek<'t>(text: &'t [u8], from: usize, depth: u32) -> Result<Token<'t>, FmdFau
 /// The value of a word of this kind, which numbers alone have; or its refusal by itself, while `depth` braces are open.
 fn value_of(word: &Word<'_>, kind: Kind, depth: u32) -> Result<Option<u32>, FmdFault>
     requires { IsA kind (word_of word.now) }
-    ensures clear { OnOk result (own_fault depth (word_of word.now) ≡ None) }
     ensures value { IfOk result (λ value. MatchOption value (kind ≢ Number) (λ n. HasValue n (word_of word.now))) }
-    ensures refused { IfErr result (λ fault. own_fault depth (word_of word.now) ≡ Some fault) }
+    ensures fault { own_fault depth (word_of word.now) ≡ result_err result }
 {
     let at = word.place;
     match kind {
@@ -296,8 +294,7 @@ fn expected<T>(at: usize, what: Expected) -> Result<T, FmdFault>
 
 /// A copy of bytes.
 fn copied(alloc: Global, bytes: &[u8]) -> Result<Vec<u8>, FmdFault>
-    ensures ok { IfOk result (λ v. v.items ≡ bytes.now) }
-    ensures err { IfErr result (λ fault. fault ≡ FmdFault.Memory) }
+    ensures { MatchResult result (λ v. v.items ≡ bytes.now) (λ fault. fault ≡ FmdFault.Memory) }
 {
     match bytes.to_vec(alloc) {
         Ok(copy) => Ok(copy),

@@ -1,8 +1,9 @@
 //! The table of a descriptor, and its bytes.
 
 ghost use Rattle.std.specs.Prelude.{◌≡◌, ◌≤◌, ◌<◌, ◌⊎◌, length, OnOk, IfOk, IfErr};
-ghost use Rattle.fmd_lang.specs.Bytes.{table_bytes};
-ghost use Rattle.fmd_lang.specs.Table.{area_limit};
+ghost use Rattle.fmd_lang.specs.Faults.{Refuses};
+ghost use Rattle.fmd_lang.specs.LayoutFaults.{count_fault};
+ghost use Rattle.fmd_lang.specs.Table.{table_bytes};
 
 use crate::fault::FmdFault;
 use flash_format::{Area, FmapHead};
@@ -29,9 +30,7 @@ pub struct Table {
 /// The bytes of a table: the head of FMAP 1.1, and the areas. More areas than the head can count are refused.
 pub fn encode(alloc: Global, table: &Table) -> Result<Vec<u8>, FmdFault>
     ensures bytes { IfOk result (λ bytes. bytes.items ≡ table_bytes table.now) }
-    ensures few { OnOk result (length table.now.areas.items ≤ area_limit) }
-    ensures refused { IfErr result (λ fault. (fault ≡ FmdFault.Memory)
-        ⊎ ((fault ≡ FmdFault.TooManyAreas) × (area_limit < length table.now.areas.items))) }
+    ensures refused { Refuses (count_fault (length table.now.areas.items)) result }
 {
     let Ok(nareas) = u16::try_from(table.areas.len()) else {
         return Err(FmdFault::TooManyAreas);

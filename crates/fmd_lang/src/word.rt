@@ -1,7 +1,7 @@
 //! The words of a descriptor's text.
 
-ghost use Rattle.std.specs.Prelude.{◌≡◌, ◌≤◌, ◌<◌, ◌+◌, ◌^◌, ◌∷◌, length, true, drop, slice_range};
-ghost use Rattle.fmd_lang.specs.Words.{words_after, words_from, words_inside, without_comments, plain_after, word};
+ghost use Rattle.std.specs.Prelude.{◌≡◌, ◌≤◌, ◌<◌, ◌+◌, ◌^◌, ◌∷◌, length, true, false, drop, slice_range};
+ghost use Rattle.fmd_lang.specs.Words.{words_after, words_from, without_comments, word, word_rest};
 ghost use Rattle.fmd_lang.specs.Words as spec;
 ghost use Rattle.fmd_lang.specs.Lexing.{BeginsWord, IsFirst, end_of};
 
@@ -71,7 +71,7 @@ fn skip_blanks(text: &[u8], from: usize) -> usize
 /// Where the comment ends that goes on at `from`: at its line feed, or at the text's end.
 fn comment_end(text: &[u8], from: usize) -> usize
     ensures ahead { from ≤ result }
-    ensures same { words_from from 32 (without_comments true (drop from text.now)) ≡ words_after text.now result }
+    ensures same { words_from from false (without_comments true (drop from text.now)) ≡ words_after text.now result }
 {
     let mut at = from;
     while at < text.len() && text[at] != b'\n' {
@@ -97,8 +97,7 @@ fn word_end(text: &[u8], place: usize) -> usize
 fn plain_end(text: &[u8], from: usize) -> usize
     requires { from ≤ length text.now }
     ensures inside { (from ≤ result) × (result ≤ length text.now) }
-    ensures row { plain_after text.now from ≡ slice_range text.now from result }
-    ensures same { words_inside text.now from ≡ words_after text.now result }
+    ensures word { word_rest text.now from ≡ (slice_range text.now from result, words_after text.now result) }
 {
     let mut at = from;
     while at < text.len() && is_plain(text[at]) {

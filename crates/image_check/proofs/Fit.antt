@@ -1,55 +1,68 @@
 -- Regions of which nothing bad is told.
-use Rattle.std.proofs.Common.{◌≡◌, ℕ, ◌⊎◌, inl, inr, Bool, true, false, cond, ◌||◌, List, [], ◌∷◌, ◌++◌, Some, None, Contains, length, refl, sym, ap, ◌∙◌, arith}
+use Rattle.std.proofs.Common.{◌≡◌, ◌≢◌, ℕ, ◌+◌, Bool, true, false, cond, List, [], ◌∷◌, ◌++◌, Some, None, Contains, All, length, refl, sym, ap, ◌∙◌}
 use Rattle.std.specs.List.{list_any}
-use Rattle.std.proofs.lemmas.Bool.{false≢true}
-use Rattle.std.proofs.lemmas.List.Elements.{Contains-append_cases, Contains-push_cases}
+use Rattle.std.proofs.lemmas.Bool.{false≢true, or_parts}
+use Rattle.std.proofs.lemmas.List.Elements.{All-nil, All-cons}
+use Rattle.std.proofs.lemmas.List.Folds.{list_any-append, list_any_at}
+use Rattle.flash_format.specs.declared.head.DamageKind.{DamageKind}
+use Rattle.flash_format.specs.Head.{head_of, is_free}
 use Rattle.flash_format.specs.Entry.{entry}
-use Rattle.flash_format.specs.Cut.{cut}
+use Rattle.flash_format.specs.Cut.{End, damage, cut}
+use Rattle.flash_format.specs.Components.{Component, component_at, components_from, cell_name}
 use Rattle.cbfs_walk.specs.Shaped.{place_after}
-use Rattle.cbfs_walk.specs.Shapes.{shape, has_bad_size, is_absent, refused_or}
+use Rattle.cbfs_walk.specs.Shapes.{has_bad_size, is_absent, refused_or}
 use Rattle.cbfs_walk.specs.declared.walk.WalkFault.TheVariants as faults
 use Rattle.cbfs_check.specs.Counts.{counts}
-use Rattle.cbfs_check.specs.RegionFindings.{region_findings, shape_findings, cells_findings, end_finding}
+use Rattle.cbfs_check.specs.RegionFindings.{region_findings, shape_findings, free_findings, name_findings, type_findings, component_findings, cells_findings, end_finding}
 use Rattle.cbfs_check.specs.declared.finding.RegionFinding.TheVariants as findings
 use Rattle.cbfs_check.specs.declared.finding.RegionFinding.{RegionFinding}
+use Rattle.image_check.specs.Laws.{IsIntact, IsWhole}
 use Rattle.image_check.specs.Verdicts.{is_bad_region}
-
-either_true : (a b : Bool) → b ≡ true → (a || b) ≡ true
-either_true true b e = refl
-either_true false b e = e
-
--- a finding is the first one of these, or among the others
-first_or_later : (first : RegionFinding) (told : List RegionFinding) (finding : RegionFinding) → Contains (first ∷ told) finding → (first ≡ finding) ⊎ Contains told finding
-first_or_later first told finding has = go (Contains-append_cases (first ∷ []) told finding has)
-  where
-    one : Contains (let none : List RegionFinding = [] in none) finding ⊎ (first ≡ finding) → (first ≡ finding) ⊎ Contains told finding
-    one (inl none) = absurd (omega (arith, none.1))
-    one (inr same) = inl same
-
-    go : Contains (first ∷ []) finding ⊎ Contains told finding → (first ≡ finding) ⊎ Contains told finding
-    go (inl here) = one (Contains-push_cases [] first finding here)
-    go (inr later) = inr later
-
-bad_first : (first finding : RegionFinding) (told : List RegionFinding) → is_bad_region finding ≡ true → (Contains told finding → list_any is_bad_region told ≡ true) → (first ≡ finding) ⊎ Contains told finding
-    → (is_bad_region first || list_any is_bad_region told) ≡ true
-bad_first first finding told bad more (inl same) = rw (ap is_bad_region same ∙ bad) refl
-bad_first first finding told bad more (inr later) = either_true (is_bad_region first) (list_any is_bad_region told) (more later)
 
 -- a bad finding among these makes them bad
 pub bad_among : (told : List RegionFinding) (finding : RegionFinding) → Contains told finding → is_bad_region finding ≡ true → list_any is_bad_region told ≡ true
-bad_among [] finding has bad = absurd (omega (arith, has.1))
-bad_among (first ∷ told) finding has bad = bad_first first finding told bad (λ later. bad_among told finding later bad) (first_or_later first told finding has)
+bad_among told finding has bad = list_any_at is_bad_region told has.0 finding has.1 (ap is_bad_region has.2 ∙ bad)
+
+-- where none of two lists passes a test, none of either does
+pub none_of : {X : Type 0} (test : X → Bool) (xs ys : List X) → list_any test (xs ++ ys) ≡ false → (list_any test xs ≡ false) × (list_any test ys ≡ false)
+none_of test xs ys none = or_parts (list_any test xs) (list_any test ys) (sym (list_any-append test xs ys) ∙ none)
 
 good_shape : (size absent : Bool) (rest : List RegionFinding)
     → list_any is_bad_region (refused_or shape_findings (cond size (Some faults.RegionShape) (cond absent (Some faults.NotCbfs) None)) rest) ≡ false
-    → cond size (Some faults.RegionShape) (cond absent (Some faults.NotCbfs) None) ≡ None
+    → (cond size (Some faults.RegionShape) (cond absent (Some faults.NotCbfs) None) ≡ None) × (list_any is_bad_region rest ≡ false)
 good_shape true absent rest fit = absurd (false≢true (sym fit))
 good_shape false true rest fit = absurd (false≢true (sym fit))
-good_shape false false rest fit = refl
+good_shape false false rest fit = (refl, fit)
 
--- a region without a bad finding has a good shape
-pub fit_shape : (x : List ℕ) → list_any is_bad_region (region_findings x) ≡ false → shape x ≡ None
+undamaged : (at : ℕ) (end : End) (rest : List RegionFinding) → list_any is_bad_region (end_finding at end ∷ rest) ≡ false → (kind : DamageKind) → end ≢ damage kind
+undamaged at end rest fit kind is = false≢true (sym (rw is at fit))
+
+intact_component : (verbose : Bool) (names : List (List ℕ)) (at : ℕ) (x : List ℕ) → list_any is_bad_region (component_findings verbose names at x) ≡ false → IsIntact (component_at at x)
+intact_component verbose names at x fit stored is =
+    let after_name = none_of is_bad_region (name_findings names at (cell_name x)) _ fit in
+    let state = none_of is_bad_region (type_findings at (cell_name x) (head_of x).kind) _ after_name.1 in
+    false≢true (sym (rw is at state.1))
+
+intact_cell : (verbose : Bool) (names : List (List ℕ)) (at : ℕ) (x : List ℕ) (others : List Component) (free : Bool) → list_any is_bad_region (cond free (free_findings at (head_of x)) (component_findings verbose names at x)) ≡ false → All IsIntact others
+    → All IsIntact (cond free others (component_at at x ∷ others))
+intact_cell verbose names at x others true fit rest = rest
+intact_cell verbose names at x others false fit rest = All-cons IsIntact (component_at at x) others (intact_component verbose names at x fit) rest
+
+intact : (verbose : Bool) (names : List (List ℕ)) (at : ℕ) (cells : List (List ℕ)) → list_any is_bad_region (cells_findings verbose names at cells) ≡ false → All IsIntact (components_from at cells)
+unfolding cells_findings components_from
+intact verbose names at [] fit = All-nil IsIntact
+intact verbose names at (x ∷ cells) fit =
+    let parts = none_of is_bad_region (cond (is_free (head_of x)) (free_findings at (head_of x)) (component_findings verbose names at x)) _ fit in
+    intact_cell verbose names at x (components_from (at + length x) cells) (is_free (head_of x)) parts.0 (intact verbose (cond (is_free (head_of x)) names (cell_name x ∷ names)) (at + length x) cells parts.1)
+
+-- a region without a bad finding is whole
+pub fit_region : (verbose : Bool) (x : List ℕ) → list_any is_bad_region (region_findings verbose x) ≡ false → IsWhole x
 unfolding region_findings
-fit_shape x fit =
-    good_shape (has_bad_size (length x)) (is_absent (entry x))
-    (cells_findings [] 0 (cut x).cells ++ end_finding (place_after 0 (cut x).cells) (cut x).end ∷ findings.Counts (counts x) ∷ []) fit
+fit_region verbose x fit =
+    let told = good_shape (has_bad_size (length x)) (is_absent (entry x)) _ fit in
+    let parts = none_of is_bad_region (cells_findings verbose [] 0 (cut x).cells) _ told.1 in
+    record {
+      shaped = told.0;
+      undamaged = undamaged (place_after 0 (cut x).cells) (cut x).end (findings.Counts (counts x) ∷ []) parts.1;
+      intact = intact verbose [] 0 (cut x).cells parts.0;
+    }

@@ -2,3 +2,4 @@ pub mod Planning
 pub mod Telling
 pub mod NameLemmas
 pub mod Fit
+pub mod FitImages

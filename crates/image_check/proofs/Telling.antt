@@ -83,16 +83,16 @@ length-areas_before (Skip a ∷ choices) later = let rest = length-areas_before 
 -- ---- the loop
 
 -- these choices are left of all
-pub record Checking {F : Type 0} (facts : F → Device) (all choices : List Choice) (before findings : List ImageFinding) (old now : Pages F) : Type 0 where
+pub record Checking {F : Type 0} (facts : F → Device) (verbose : Bool) (all choices : List Choice) (before findings : List ImageFinding) (old now : Pages F) : Type 0 where
   pub at : ℕ
   pub descend : Descend (length (facts old.device).content) choices at
   pub fewer : length choices ≤ length all
   pub read : HasRead facts (at / 16 + 2 * (length all - length choices)) 0 old now
   pub areas : region_areas findings ++ areas_before choices [] ≡ region_areas before ++ areas_before all []
-  pub told : OnHonest facts old.device (λ image. findings ++ told_before image choices [] ≡ before ++ told_before image all [])
+  pub told : OnHonest facts old.device (λ image. findings ++ told_before verbose image choices [] ≡ before ++ told_before verbose image all [])
 
-pub checking_start : {F : Type 0} (facts : F → Device) (all : List Choice) (before : List ImageFinding) (old : Pages F) → Descend (length (facts old.device).content) all 0 → Checking facts all all before before old old
-checking_start facts all before old descend = record {
+pub checking_start : {F : Type 0} (facts : F → Device) (verbose : Bool) (all : List Choice) (before : List ImageFinding) (old : Pages F) → Descend (length (facts old.device).content) all 0 → Checking facts verbose all all before before old old
+checking_start facts verbose all before old descend = record {
   at = 0;
   descend = descend;
   fewer = omega arith;
@@ -101,7 +101,7 @@ checking_start facts all before old descend = record {
   told = λ h. refl;
 }
 
-module _ {F : Type 0} (facts : F → Device) (all choices rest : List Choice) (c : Choice) (before findings : List ImageFinding) (old now : Pages F) (i : Checking facts all choices before findings old now) (popped : choices ≡ rest ++ c ∷ []) where
+module _ {F : Type 0} (facts : F → Device) (verbose : Bool) (all choices rest : List Choice) (c : Choice) (before findings : List ImageFinding) (old now : Pages F) (i : Checking facts verbose all choices before findings old now) (popped : choices ≡ rest ++ c ∷ []) where
   descend : Descend (length (facts old.device).content) (rest ++ c ∷ []) i.at
   descend = rw popped at i.descend
 
@@ -119,8 +119,8 @@ module _ {F : Type 0} (facts : F → Device) (all choices rest : List Choice) (c
       HasRead-within facts (i.at / 16 + 2 * (length all - length choices) + calls_of c) _ refused old new (omega (arith, few, ends, one, i.fewer)) (HasRead-then facts _ _ refused old now new i.read reads)
 
   pub checking_more : (finding : ImageFinding) (next : List ImageFinding) (new : Pages F) → HasRead facts (calls_of c) 0 now new
-      → region_area finding ≡ looked_area c → OnHonest facts now.device (λ image. finding ≡ told_of image c) → next ≡ findings ++ finding ∷ []
-      → Checking facts all rest before next old new
+      → region_area finding ≡ looked_area c → OnHonest facts now.device (λ image. finding ≡ told_of verbose image c) → next ≡ findings ++ finding ∷ []
+      → Checking facts verbose all rest before next old new
   checking_more finding next new reads looked tells pushed = record {
     at = place_after i.at c;
     descend = Descend-rest _ rest c i.at descend;
@@ -135,17 +135,17 @@ module _ {F : Type 0} (facts : F → Device) (all choices rest : List Choice) (c
     told = λ h.
         let image = (facts old.device).content in
         let same = i.read.device.unchanged h in
-        let is : finding ≡ told_of image c = rw same at (tells (honest_still i.read.device.calls.same_honesty h)) in
-        let later = told_before image rest [] in
+        let is : finding ≡ told_of verbose image c = rw same at (tells (honest_still i.read.device.calls.same_honesty h)) in
+        let later = told_before verbose image rest [] in
         ap (λ (l : List ImageFinding). l ++ later) pushed
         ∙ append_assoc findings (finding ∷ []) later
         ∙ ap (λ (f : ImageFinding). findings ++ f ∷ later) is
-        ∙ ap (λ (l : List ImageFinding). findings ++ l) (sym (told_before-more image rest c []) ∙ ap (λ (l : List Choice). told_before image l []) (sym popped))
+        ∙ ap (λ (l : List ImageFinding). findings ++ l) (sym (told_before-more verbose image rest c []) ∙ ap (λ (l : List Choice). told_before verbose image l []) (sym popped))
         ∙ i.told h;
   }
 
 -- or none is left
-module _ {F : Type 0} (facts : F → Device) (all choices : List Choice) (before findings : List ImageFinding) (old now : Pages F) (i : Checking facts all choices before findings old now) (none : length choices ≡ 0) where
+module _ {F : Type 0} (facts : F → Device) (verbose : Bool) (all choices : List Choice) (before findings : List ImageFinding) (old now : Pages F) (i : Checking facts verbose all choices before findings old now) (none : length choices ≡ 0) where
   pub checked_reads : HasRead facts (length (facts old.device).content / 16 + 2 * length all) 0 old now
   checked_reads = HasRead-within facts (i.at / 16 + 2 * (length all - length choices)) _ 0 old now (omega (arith, Descend-ends _ choices i.at i.descend)) i.read
 
@@ -156,16 +156,16 @@ module _ {F : Type 0} (facts : F → Device) (all choices : List Choice) (before
       empty [] e = refl
       empty (c ∷ l) e = absurd (omega arith)
 
-  pub checked_all : OnHonest facts old.device (λ image. findings ≡ before ++ told_before image all [])
+  pub checked_all : OnHonest facts old.device (λ image. findings ≡ before ++ told_before verbose image all [])
   checked_all = λ h. sym (append-nil findings) ∙ ap (λ (l : List ImageFinding). findings ++ l) (sym (empty choices none _)) ∙ i.told h
     where
-      empty : (l : List Choice) → length l ≡ 0 → (image : List ℕ) → told_before image l [] ≡ []
+      empty : (l : List Choice) → length l ≡ 0 → (image : List ℕ) → told_before verbose image l [] ≡ []
       empty [] e image = refl
       empty (c ∷ l) e image = absurd (omega arith)
 
 -- ---- the whole
 
-no_map_areas : (told : List MapFinding) → region_areas (map Map told) ≡ []
+pub no_map_areas : (told : List MapFinding) → region_areas (map Map told) ≡ []
 no_map_areas [] = refl
 no_map_areas (finding ∷ told) = no_map_areas told
 
@@ -173,7 +173,7 @@ no_name_area : (number : ℕ) (b : Bool) → region_areas (cond b [] (NoRegion n
 no_name_area number true = refl
 no_name_area number false = refl
 
-no_name_areas : (areas : List NumberedArea) (number : ℕ) (names : List (List ℕ)) → region_areas (names_findings areas number names) ≡ []
+pub no_name_areas : (areas : List NumberedArea) (number : ℕ) (names : List (List ℕ)) → region_areas (names_findings areas number names) ≡ []
 no_name_areas areas number [] = refl
 no_name_areas areas number (name ∷ names) =
     flat_map-append region_area (name_findings areas number name) (names_findings areas (number + 1) names)
@@ -192,13 +192,13 @@ region_areas-looked of_map areas names choices first second all is same last =
     ∙ same
     ∙ ap (λ (l : List NumberedArea). l ++ looked) (ap region_areas is ∙ no_map_areas of_map)
 
-pub told-image : (image : List ℕ) (names : List (List ℕ)) (of_map : List MapFinding) (areas again : List NumberedArea) (choices : List Choice) (first second all : List ImageFinding)
-    → first ≡ map Map of_map → of_map ≡ map_findings image → told_before image choices [] ≡ (looked image names areas).findings → areas ≡ image_areas image → again ≡ image_areas image
-    → second ≡ first ++ told_before image choices [] → all ≡ second ++ names_findings again 0 names → all ≡ image_findings image names
+pub told-image : (verbose : Bool) (image : List ℕ) (names : List (List ℕ)) (of_map : List MapFinding) (areas again : List NumberedArea) (choices : List Choice) (first second all : List ImageFinding)
+    → first ≡ map Map of_map → of_map ≡ map_findings image → told_before verbose image choices [] ≡ (looked verbose image names areas).findings → areas ≡ image_areas image → again ≡ image_areas image
+    → second ≡ first ++ told_before verbose image choices [] → all ≡ second ++ names_findings again 0 names → all ≡ image_findings verbose image names
 unfolding image_findings
-told-image image names of_map areas again choices first second all is from_map told listed listed_again same last =
+told-image verbose image names of_map areas again choices first second all is from_map told listed listed_again same last =
     last
-    ∙ ap (λ (l : List ImageFinding). l ++ names_findings again 0 names) (same ∙ ap (λ (l : List ImageFinding). l ++ told_before image choices []) (is ∙ ap (map Map) from_map))
-    ∙ append_assoc (map Map (map_findings image)) (told_before image choices []) (names_findings again 0 names)
-    ∙ ap (λ (l : List ImageFinding). map Map (map_findings image) ++ (l ++ names_findings again 0 names)) (told ∙ ap (λ (l : List NumberedArea). (looked image names l).findings) listed)
-    ∙ ap (λ (l : List NumberedArea). map Map (map_findings image) ++ ((looked image names (image_areas image)).findings ++ names_findings l 0 names)) listed_again
+    ∙ ap (λ (l : List ImageFinding). l ++ names_findings again 0 names) (same ∙ ap (λ (l : List ImageFinding). l ++ told_before verbose image choices []) (is ∙ ap (map Map) from_map))
+    ∙ append_assoc (map Map (map_findings image)) (told_before verbose image choices []) (names_findings again 0 names)
+    ∙ ap (λ (l : List ImageFinding). map Map (map_findings image) ++ (l ++ names_findings again 0 names)) (told ∙ ap (λ (l : List NumberedArea). (looked verbose image names l).findings) listed)
+    ∙ ap (λ (l : List NumberedArea). map Map (map_findings image) ++ ((looked verbose image names (image_areas image)).findings ++ names_findings l 0 names)) listed_again

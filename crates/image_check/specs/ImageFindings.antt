@@ -31,20 +31,20 @@ pub record Looked : Type 0 where
   pub lowest : ℕ
 
 -- with a wanted area before them, which is looked at where it ends at or before the lowest
-abbrev pub look : List ℕ → NumberedArea → Looked → Looked
-look image a later =
+abbrev pub look : Bool → List ℕ → NumberedArea → Looked → Looked
+look verbose image a later =
     if nat_le (area_end a.area) later.lowest
-    then record { findings = Region a (region_findings (bytes_of image a)) ∷ later.findings; lowest = a.area.offset }
+    then record { findings = Region a (region_findings verbose (bytes_of image a)) ∷ later.findings; lowest = a.area.offset }
     else record { findings = Skipped a ∷ later.findings; lowest = later.lowest }
 
 -- with any area before them
-abbrev pub look_if_wanted : List ℕ → List (List ℕ) → NumberedArea → Looked → Looked
-look_if_wanted image names a later = if is_wanted image names a then look image a later else later
+abbrev pub look_if_wanted : Bool → List ℕ → List (List ℕ) → NumberedArea → Looked → Looked
+look_if_wanted verbose image names a later = if is_wanted image names a then look verbose image a later else later
 
 -- what is told of these areas, which is decided from the last one on
-unfoldable pub looked : List ℕ → List (List ℕ) → List NumberedArea → Looked
-looked image names [] = record { findings = []; lowest = length image }
-looked image names (a ∷ areas) = look_if_wanted image names a (looked image names areas)
+unfoldable pub looked : Bool → List ℕ → List (List ℕ) → List NumberedArea → Looked
+looked verbose image names [] = record { findings = []; lowest = length image }
+looked verbose image names (a ∷ areas) = look_if_wanted verbose image names a (looked verbose image names areas)
 
 -- that no area has the name of this number
 abbrev pub name_findings : List NumberedArea → ℕ → List ℕ → List ImageFinding
@@ -55,9 +55,10 @@ abbrev pub names_findings : List NumberedArea → ℕ → List (List ℕ) → Li
 names_findings areas number [] = []
 names_findings areas number (name ∷ names) = name_findings areas number name ++ names_findings areas (number + 1) names
 
--- what is told of an image, in which areas of these names are looked at whatever they hold
-unfoldable pub image_findings : List ℕ → List (List ℕ) → List ImageFinding
-image_findings image names =
+-- what is told of an image, in which areas of these names are looked at whatever they hold; that a component has no digest
+-- a verbose check alone tells
+unfoldable pub image_findings : Bool → List ℕ → List (List ℕ) → List ImageFinding
+image_findings verbose image names =
     map Map (map_findings image)
-    ++ ((looked image names (image_areas image)).findings
+    ++ ((looked verbose image names (image_areas image)).findings
     ++ names_findings (image_areas image) 0 names)

@@ -1,5 +1,5 @@
 -- What a plan says of the last areas of a map.
-use Rattle.std.specs.Prelude.{◌≡◌, ℕ, ◌+◌, ◌/◌, ◌≤◌, List, [], ◌∷◌, ◌++◌}
+use Rattle.std.specs.Prelude.{◌≡◌, ℕ, Bool, ◌+◌, ◌/◌, ◌≤◌, List, [], ◌∷◌, ◌++◌}
 use Rattle.flash_store.specs.Regions.{bytes_in}
 use Rattle.flashmap_check.specs.declared.finding.NumberedArea.{NumberedArea}
 use Rattle.cbfs_check.specs.RegionFindings.{region_findings}
@@ -11,18 +11,18 @@ use Rattle.image_check.specs.declared.plan.Plan.{Plan}
 use Rattle.image_check.specs.ImageFindings.{Looked, range_of}
 
 -- what an area tells of which so much is decided
-abbrev pub told_of : List ℕ → Choice → ImageFinding
-told_of image (Look a region) = Region a (region_findings (bytes_in region image))
-told_of image (Skip a) = Skipped a
+abbrev pub told_of : Bool → List ℕ → Choice → ImageFinding
+told_of verbose image (Look a region) = Region a (region_findings verbose (bytes_in region image))
+told_of verbose image (Skip a) = Skipped a
 
 -- what these tell from the last one on, before what is told already
-abbrev pub told_before : List ℕ → List Choice → List ImageFinding → List ImageFinding
-told_before image [] later = later
-told_before image (c ∷ choices) later = told_before image choices (told_of image c ∷ later)
+abbrev pub told_before : Bool → List ℕ → List Choice → List ImageFinding → List ImageFinding
+told_before verbose image [] later = later
+told_before verbose image (c ∷ choices) later = told_before verbose image choices (told_of verbose image c ∷ later)
 
 -- the plan tells what these areas tell
-pub record IsPlanOf (image : List ℕ) (plan : Plan) (later : Looked) : Type 0 where
-  pub told : told_before image plan.choices.items [] ≡ later.findings
+pub record IsPlanOf (verbose : Bool) (image : List ℕ) (plan : Plan) (later : Looked) : Type 0 where
+  pub told : told_before verbose image plan.choices.items [] ≡ later.findings
   pub lowest : plan.lowest ≡ later.lowest
 
 -- the area that is looked at

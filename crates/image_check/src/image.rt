@@ -1,5 +1,5 @@
 //! The check of an image.
-ghost use Rattle.std.specs.Prelude.{◌≡◌, ℕ, ◌+◌, ◌*◌, ◌/◌, ◌≤◌, [], ◌∷◌, ◌++◌, length, map, ◌||◌, OnOk, IfOk};
+ghost use Rattle.std.specs.Prelude.{◌≡◌, ℕ, Bool, ◌+◌, ◌*◌, ◌/◌, ◌≤◌, [], ◌∷◌, ◌++◌, length, map, ◌||◌, OnOk, IfOk};
 ghost use Rattle.flash_format.specs.Flashmap.{area_len};
 ghost use Rattle.flash_store.specs.Device.{faults_told};
 ghost use Rattle.flash_store.specs.Pages.{HasRead, HasAnswered, OnHonest, OnHonestIn};
@@ -48,8 +48,9 @@ fn plan_area<F: Flash>(
     plan: &mut Plan,
 ) -> Result<(), ImageCheckFault>
     ensures after { HasRead F.facts 1 (faults_told by_device result) paged.old paged.new }
-    ensures told { OnHonest F.facts paged.old.device (λ image. (later : Looked) → IsPlanOf image plan.old later →
-        OnOk result (IsPlanOf image plan.new (look_if_wanted image (map (λ n. n.now) names.now) area later))) }
+    ensures told { OnHonest F.facts paged.old.device (λ image. (verbose : Bool) (later : Looked) →
+        IsPlanOf verbose image plan.old later → OnOk result
+        (IsPlanOf verbose image plan.new (look_if_wanted verbose image (map (λ n. n.now) names.now) area later))) }
     ensures descend { (end : ℕ) → Descend end plan.old.choices.items plan.old.lowest → OnOk result
         (Descend end plan.new.choices.items plan.new.lowest) }
     ensures count { OnOk result (length plan.new.choices.items ≤ length plan.old.choices.items + 1) }
@@ -73,8 +74,8 @@ fn planned<F: Flash>(
     areas: &[NumberedArea],
 ) -> Result<Vec<Choice>, ImageCheckFault>
     ensures after { HasRead F.facts (length areas.now) (faults_told by_device result) paged.old paged.new }
-    ensures told { OnHonest F.facts paged.old.device (λ image. IfOk result (λ choices.
-        told_before image choices.items [] ≡ (looked image (map (λ n. n.now) names.now) areas.now).findings)) }
+    ensures told { OnHonest F.facts paged.old.device (λ image. (verbose : Bool) → IfOk result (λ choices.
+        told_before verbose image choices.items [] ≡ (looked verbose image (map (λ n. n.now) names.now) areas.now).findings)) }
     ensures descend { IfOk result (λ choices. Descend (length (F.facts paged.old.device).content) choices.items 0) }
     ensures count { IfOk result (λ choices. length choices.items ≤ length areas.now) }
 {
@@ -92,16 +93,17 @@ fn check_choice<F: Flash>(
     alloc: Global,
     paged: &mut Paged<F>,
     choice: Choice,
+    is_verbose: bool,
 ) -> Result<ImageFinding, ImageCheckFault>
     requires { LiesBelow (length (F.facts paged.old.device).content) choice }
 
     ensures after { HasRead F.facts (calls_of choice) (faults_told by_device result) paged.old paged.new }
     ensures area { IfOk result (λ finding. region_area finding ≡ looked_area choice) }
-    ensures told { OnHonest F.facts paged.old.device (λ image. IfOk result (λ finding. finding ≡ told_of image choice)) }
+    ensures told { OnHonest F.facts paged.old.device (λ image. IfOk result (λ finding. finding ≡ told_of is_verbose image choice)) }
 {
     match choice {
         Choice::Look { area, region } => {
-            let findings = RegionFindings::new(check_region(alloc, paged, region)?);
+            let findings = RegionFindings::new(check_region(alloc, paged, region, is_verbose)?);
             Ok(ImageFinding::Region { area, findings })
         }
         Choice::Skip(area) => Ok(ImageFinding::Skipped(area)),
@@ -123,6 +125,7 @@ fn check_planned<F: Flash>(
     paged: &mut Paged<F>,
     choices: Vec<Choice>,
     findings: &mut Vec<ImageFinding>,
+    is_verbose: bool,
 ) -> Result<(), ImageCheckFault>
     requires { Descend (length (F.facts paged.old.device).content) choices.items 0 }
 
@@ -131,11 +134,11 @@ fn check_planned<F: Flash>(
     ensures areas { OnOk result (region_areas findings.new.items
         ≡ region_areas findings.old.items ++ areas_before choices.items []) }
     ensures told { OnHonest F.facts paged.old.device (λ image. OnOk result
-        (findings.new.items ≡ findings.old.items ++ told_before image choices.items [])) }
+        (findings.new.items ≡ findings.old.items ++ told_before is_verbose image choices.items [])) }
 {
     let mut choices = choices;
     while let Some(choice) = choices.pop() {
-        let finding = check_choice(alloc, paged, choice)?;
+        let finding = check_choice(alloc, paged, choice, is_verbose)?;
         push(findings, finding)?;
     }
     Ok(())
@@ -152,7 +155,7 @@ fn map_part(alloc: Global, told: &[MapFinding]) -> Result<Vec<ImageFinding>, All
     Ok(findings)
 }
 
-/// The areas of an image's map, and all that is told of the image.
+/// The areas of an image's map, and what is told of the image.
 #[derive(Debug, Drop)]
 pub struct CheckedImage {
     /// All areas of the map, in its order; none where the image has no map.
@@ -165,6 +168,7 @@ pub fn checked_image<F: Flash>(
     alloc: Global,
     paged: &mut Paged<F>,
     names: &[&[u8]],
+    is_verbose: bool,
 ) -> Result<CheckedImage, ImageCheckFault>
     // On any device.
     ensures after { HasRead F.facts (2 * length (F.facts paged.old.device).content + 64)
@@ -177,14 +181,14 @@ pub fn checked_image<F: Flash>(
 
     // On an honest device.
     ensures findings { OnHonest F.facts paged.old.device (λ image. IfOk result (λ checked.
-        checked.findings.items ≡ image_findings image (map (λ n. n.now) names.now))) }
+        checked.findings.items ≡ image_findings is_verbose image (map (λ n. n.now) names.now))) }
     ensures areas { OnHonest F.facts paged.old.device (λ image. IfOk result (λ checked.
         checked.areas.items ≡ image_areas image)) }
 {
     let map = checked_map(alloc, paged)?;
     let mut findings = map_part(alloc, &map.findings)?;
     let choices = planned(alloc, paged, names, &map.areas)?;
-    check_planned(alloc, paged, choices, &mut findings)?;
+    check_planned(alloc, paged, choices, &mut findings, is_verbose)?;
     push_missing(&mut findings, names, &map.areas)?;
     Ok(CheckedImage {
         areas: map.areas,
@@ -192,14 +196,15 @@ pub fn checked_image<F: Flash>(
     })
 }
 
-/// All that is told of an image: of its flashmap, of each area in it that has one of the names or begins with an entry, in
-/// the map's order, and of each name that no area has.
+/// What is told of an image: of its flashmap, of each area in it that has one of the names or begins with an entry, in the
+/// map's order, and of each name that no area has; that a component has no digest in a verbose check alone.
 /// `Device` comes exactly where the device refused a read, and `Memory` where an allocation was refused; then nothing is
 /// told.
 pub fn check_image<F: Flash>(
     alloc: Global,
     paged: &mut Paged<F>,
     names: &[&[u8]],
+    is_verbose: bool,
 ) -> Result<Vec<ImageFinding>, ImageCheckFault>
     // On any device.
     ensures after { HasRead F.facts (2 * length (F.facts paged.old.device).content + 64)
@@ -207,8 +212,8 @@ pub fn check_image<F: Flash>(
 
     // On an honest device.
     ensures findings { OnHonest F.facts paged.old.device (λ image. IfOk result (λ findings.
-        findings.items ≡ image_findings image (map (λ n. n.now) names.now))) }
+        findings.items ≡ image_findings is_verbose image (map (λ n. n.now) names.now))) }
 {
-    let checked = checked_image(alloc, paged, names)?;
+    let checked = checked_image(alloc, paged, names, is_verbose)?;
     Ok(checked.findings)
 }

@@ -14,5 +14,5 @@ mod verdict;
 pub use fault::ImageCheckFault;
 pub use finding::{ImageFinding, RegionFindings};
 pub use image::{CheckedImage, check_image, checked_image};
-pub use laws::fit_regions_lose_nothing;
+pub use laws::{fit_images_are_whole, fit_regions_are_whole, fit_regions_lose_nothing};
 pub use verdict::{has_bad, is_bad, is_bad_map, is_bad_region};

@@ -1,5 +1,5 @@
 //! Which areas are looked at.
-ghost use Rattle.std.specs.Prelude.{◌≡◌, ℕ, ◌+◌, List, [], length, OnOk};
+ghost use Rattle.std.specs.Prelude.{◌≡◌, ℕ, Bool, ◌+◌, List, [], length, OnOk};
 ghost use Rattle.image_check.specs.ImageFindings.{Looked, range_of, look};
 ghost use Rattle.image_check.specs.Plans.{IsPlanOf, Descend};
 
@@ -39,8 +39,8 @@ impl Plan {
     pub fn add(&mut self, area: NumberedArea, region: Region) -> Result<(), AllocError>
         requires { region ≡ range_of area }
 
-        ensures told { (image : List ℕ) (later : Looked) → IsPlanOf image self.old later → OnOk result
-            (IsPlanOf image self.new (look image area later)) }
+        ensures told { (verbose : Bool) (image : List ℕ) (later : Looked) → IsPlanOf verbose image self.old later → OnOk result
+            (IsPlanOf verbose image self.new (look verbose image area later)) }
         ensures descend { (end : ℕ) → Descend end self.old.choices.items self.old.lowest → OnOk result
             (Descend end self.new.choices.items self.new.lowest) }
         ensures count { OnOk result (length self.new.choices.items ≡ length self.old.choices.items + 1) }

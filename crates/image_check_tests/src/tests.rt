@@ -29,6 +29,10 @@ const OUTER: [u8; 42] =
 /// Free space of 256 bytes, as a region is formatted.
 const NULL_256: [u8; 28] = *b"LARCHIVE\0\0\0\xe4\xff\xff\xff\xff\0\0\0\0\0\0\0\x1c\0\0\0\0";
 
+/// The component `a` of 216 bytes, without a digest.
+const COMPONENT_256: [u8; 40] =
+    *b"LARCHIVE\0\0\0\xd8\0\0\0\x50\0\0\0\0\0\0\0\x28a\0\0\0\0\0\0\0\0\0\0\0\0\0\0\0";
+
 /// Writes these bytes from a place on, as far as they lie inside.
 fn put(bytes: &mut [u8], at: usize, part: &[u8]) {
     for (i, byte) in part.iter().enumerate() {
@@ -53,6 +57,7 @@ fn image(rt: &(impl Abort + AllocGlobal), areas: &[[u8; 42]]) -> Vec<u8> {
 fn region_finding_text(alloc: Global, finding: &RegionFinding) -> Result<String, AllocError> {
     match finding {
         RegionFinding::NotCbfs => format!(in alloc; " not CBFS"),
+        RegionFinding::Component { .. } => format!(in alloc; " component"),
         RegionFinding::Complete => format!(in alloc; " complete"),
         RegionFinding::Counts(counts) => {
             format!(in alloc; " {} {}", counts.components, counts.free)
@@ -108,7 +113,7 @@ fn tells(
     is_bad: bool,
 ) {
     let mut paged = Paged::new(MemFlash::new(image).expect(rt, "a device"));
-    let findings = check_image(rt.alloc(), &mut paged, names).expect(rt, "findings");
+    let findings = check_image(rt.alloc(), &mut paged, names, true).expect(rt, "findings");
     let text = text_of(rt.alloc(), &findings).expect(rt, "memory");
     assert_eq!(rt; text.as_str(), expected);
     assert_eq!(rt; has_bad(&findings), is_bad);
@@ -155,9 +160,25 @@ fn an_image_without_a_map(rt: HostRuntime) {
 }
 
 #[test]
+fn a_missing_digest_is_told_where_it_is_asked_for(rt: HostRuntime) {
+    let mut bytes = image(&rt, &[FMAP, A]);
+    put(&mut bytes, 256, &COMPONENT_256);
+    let mut paged = Paged::new(MemFlash::new(bytes).expect(&rt, "a device"));
+    for (is_verbose, expected) in [
+        (false, "map 0, region 1 complete 1 0, "),
+        (true, "map 0, region 1 component complete 1 0, "),
+    ] {
+        let findings = check_image(rt.alloc(), &mut paged, &[], is_verbose).expect(&rt, "findings");
+        let text = text_of(rt.alloc(), &findings).expect(&rt, "memory");
+        assert_eq!(&rt; text.as_str(), expected);
+    }
+}
+
+#[test]
 fn an_image_with_its_areas(rt: HostRuntime) {
     let device = MemFlash::new(image(&rt, &[FMAP, OUTER, A])).expect(&rt, "a device");
-    let checked = checked_image(rt.alloc(), &mut Paged::new(device), &[]).expect(&rt, "findings");
+    let mut paged = Paged::new(device);
+    let checked = checked_image(rt.alloc(), &mut paged, &[], true).expect(&rt, "findings");
     let text = text_of(rt.alloc(), &checked.findings).expect(&rt, "memory");
     assert_eq!(&rt;
         text.as_str(),

@@ -132,7 +132,7 @@ fn tells(rt: &(impl Abort + AllocGlobal), old: MemFlash, new: MemFlash, expected
     let mut old = Paged::new(old);
     let mut new = Paged::new(new);
     let map = checked_map(rt.alloc(), &mut old).expect(rt, "a map");
-    let checked = checked_image(rt.alloc(), &mut new, &[]).expect(rt, "findings");
+    let checked = checked_image(rt.alloc(), &mut new, &[], false).expect(rt, "findings");
     let changes = region_changes(
         rt.alloc(),
         &mut old,
@@ -230,7 +230,7 @@ fn fault_at(rt: &(impl Abort + AllocGlobal), old: u64, new: u64) -> Option<Chang
     let map = checked_map(rt.alloc(), &mut first).expect(rt, "a map");
     let mut old = Paged::new(FailAt::new(image_of(rt, 8192, &areas, parts), old, 0));
     let mut new = Paged::new(FailAt::new(image_of(rt, 8192, &areas, parts), new, 0));
-    let checked = checked_image(rt.alloc(), &mut new, &[]).expect(rt, "findings");
+    let checked = checked_image(rt.alloc(), &mut new, &[], false).expect(rt, "findings");
     region_changes(
         rt.alloc(),
         &mut old,

@@ -1,5 +1,17 @@
-use Rattle.cbfs_changes.proofs.FirstLemmas.{notes-more}
+use Rattle.std.proofs.Common.{◌-◌, arith}
+use Rattle.cbfs_changes.proofs.FirstLemmas.{notes-more, notes-none}
 use Rattle.cbfs_changes.proofs.first.with_firsts.Goals as goal
 
-pub loop-listed-preserved : goal.loop-listed-preserved
-loop-listed-preserved c = notes-more c.args.all.now c.loop-listed.listed-index c.listed-item.result c.loop-listed.first c.note.new.first c.loop-listed-test.true c.listed-item.is c.in_ok-note.ensures c.loop-listed.invariant
+pub loop-left-init : goal.loop-left-init
+loop-left-init c = record {
+  inside = omega arith;
+  notes = notes-none c.with_hasher-first.result c.args.all.now c.with_hasher-first.ensures.empty;
+}
+
+pub loop-left-preserved : goal.loop-left-preserved
+loop-left-preserved c =
+    let had = c.loop-left.invariant in
+    record {
+      inside = omega (arith, had.inside);
+      notes = notes-more c.loop-left.first c.note.new.first c.args.all.now c.loop-left.left (c.loop-left.left - 1) c.index-all-left.result (omega arith) had.inside c.index-all-left.is c.in_ok-note.ensures had.notes;
+    }

@@ -1,6 +1,12 @@
-use Rattle.std.proofs.Common.{take}
+use Rattle.std.specs.Prelude.{◌≤◌, length, drop}
 use Rattle.cbfs_changes.specs.Firsts.{Notes}
 use Rattle.cbfs_changes.proofs.first.with_firsts.Given as goal
 
-abbrev pub invariant-loop-listed : goal.invariant-loop-listed
-invariant-loop-listed l = Notes l.first (take l.listed-index l.all)
+abbrev pub invariant-loop-left : goal.invariant-loop-left
+invariant-loop-left l = record {
+  inside : l.left ≤ length l.all;
+  notes : Notes l.first (drop l.left l.all);
+}
+
+abbrev pub decreases-loop-left : goal.decreases-loop-left
+decreases-loop-left l = l.left

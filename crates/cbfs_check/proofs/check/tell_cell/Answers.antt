@@ -13,4 +13,4 @@ returns-clause-told g c = λ h stands.
     let x : List ℕ = cell_in (bytes_in c.args.region image) cell in
     let known = c.cells_stand_in_their_image.ensures c.args.region image cell c.requires.region c.requires.cell stands in
     let used : is_free (head_of x) ≡ false = ap (λ (k : Head). is_free k) known.head ∙ sym c.if-is_free.ensures in
-    used_told c.args.report.now c.tell_component.new.report c.tell_component.result cell.at x used (c.tell_component.ensures.told h stands)
+    used_told c.args.report.now c.tell_component.new.report c.tell_component.result c.args.is_verbose cell.at x used (c.tell_component.ensures.told h stands)

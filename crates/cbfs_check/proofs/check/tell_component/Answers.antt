@@ -20,4 +20,4 @@ returns-clause-told g c = λ h stands.
     let there = subst (λ (l : List ℕ). StandsIn (bytes_in r l) cell) (sym same) stands in
     let state = subst (λ (l : List ℕ). c.in_ok-state.state ≡ hash_state (cell_attributes (cell_in (bytes_in r l) cell)) (cell_content (cell_in (bytes_in r l) cell))) same
     (c.in_ok-state.ensures.state (honest_still named.after.read.device.calls.same_honesty h) there) in
-    component_told c.args.report.now c.tell_named.new.self c.tell_named.result cell.at x _ cell.head c.in_ok-state.state (named.name h stands) (sym known.head) state c.tell_named.ensures.told
+    component_told c.args.report.now c.tell_named.new.self c.tell_named.result c.args.is_verbose cell.at x _ cell.head c.in_ok-state.state (named.name h stands) (sym known.head) state c.tell_named.ensures.told

@@ -1,4 +1,4 @@
-use Rattle.std.proofs.Common.{◌∙◌, sym, ap, [], rules}
+use Rattle.std.proofs.Common.{◌∙◌, sym, ap, []}
 use Rattle.flash_format.specs.declared.head.Head.{Head}
 use Rattle.flash_format.specs.Components.{cell_name, cell_attributes, packing}
 use Rattle.flash_store.specs.Regions.{bytes_in}
@@ -16,6 +16,3 @@ returns-then-is_free-clause-row g c = λ h.
     c.set_row_text.ensures
     ∙ row_text-free cell.at cell.head [] (cell_name x) 0 (packing (cell_attributes x)) (sym c.if-is_free.ensures)
     ∙ ap (λ (head : Head). row_text cell.at head (cell_name x) (packing (cell_attributes x))) (sym known.head)
-
-pub returns-clause-row : goal.returns-clause-row
-returns-clause-row g c = search rules

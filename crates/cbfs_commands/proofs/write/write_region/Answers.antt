@@ -1,12 +1,11 @@
--- Goals that the must-fail edits break, which then fail at once.
-use Rattle.std.proofs.Common.{rules}
+use Rattle.std.proofs.Common.{arith, rules}
+use Rattle.std.proofs.lemmas.Grind.{common_steps}
 use Rattle.cbfs_commands.proofs.write.write_region.Goals as goal
 
-pub returns-in_err-copy_in-clause-kept : goal.returns-in_err-copy_in-clause-kept
-returns-in_err-copy_in-clause-kept g c = search rules
+pub returns-in_err-copy_in : goal.returns-in_err-copy_in
+returns-in_err-copy_in g c =
+    record { after = search rules; spares = search rules; refused = search rules; left = search rules; stopped = grind (arith, common_steps) }
 
-pub returns-clause-kept : goal.returns-clause-kept
-returns-clause-kept g c = search rules
-
-pub returns-clause-stopped : goal.returns-clause-stopped
-returns-clause-stopped g c = search rules
+pub returns : goal.returns
+returns g c =
+    record { after = search rules; spares = search rules; refused = search rules; left = grind (arith, common_steps); stopped = search rules }

@@ -1,18 +1,12 @@
-use Rattle.std.proofs.Common.{inl, inr, IsTrue, Err, Some, ap, ◌∙◌, sym, rules, arith}
+use Rattle.std.proofs.Common.{inl, inr, IsTrue, Err, Some, ap, ◌∙◌, sym, refl, arith}
 use Rattle.flash_store.specs.Regions.{bytes_in}
 use Rattle.flash_store.proofs.DeviceLemmas.{honest_still}
 use Rattle.cbfs_edit.specs.Additions.{new_component, placed_of}
 use Rattle.cbfs_edit.specs.declared.fault.EditFault.TheVariants as faults
-use Rattle.cbfs_edit.proofs.Added.{own-is}
-use Rattle.cbfs_edit.proofs.Adding.{told, digest-sized, found_in, place_found, written, source_leaves, device_leaves}
+use Rattle.cbfs_edit.specs.declared.place.Wanted.{Wanted}
+use Rattle.cbfs_edit.proofs.Added.{own-is, told, digest-sized, found_in, place_found, written, source_leaves, device_leaves}
 use Rattle.cbfs_edit.proofs.Removals.{image_of}
 use Rattle.cbfs_edit.proofs.addition.add.Goals as goal
-
-pub returns-in-Ok-insert-clause-before : goal.returns-in-Ok-insert-clause-before
-returns-in-Ok-insert-clause-before g c = search rules
-
-pub returns-in-Ok-insert-clause-stopped : goal.returns-in-Ok-insert-clause-stopped
-returns-in-Ok-insert-clause-stopped g c = search rules
 
 pub returns-in-Some-clause-answer : goal.returns-in-Some-clause-answer
 returns-in-Some-clause-answer g c honest =
@@ -21,20 +15,23 @@ returns-in-Some-clause-answer g c honest =
 
 pub returns-in-Err-clause-answer : goal.returns-in-Err-clause-answer
 returns-in-Err-clause-answer g c honest =
-    elim (found_in (bytes_in c.args.region (g.F.Flash.facts c.args.paged.now.device).content) c.args.name.now c.args.kind c.args.hash (g.S.Source.facts c.args.source.now).content c.args.spot _ _ _ _ c.in_default.not-Some c.own_fault.ensures c.attribute_len.ensures.is c.meta_len.ensures c.len.ensures.length (Err c.in-Err.fault) (c.in-Err.ensures.answer honest)) [
+    let new = new_component c.args.name.now c.args.kind c.args.hash (g.S.Source.facts c.args.source.now).content in
+    elim (found_in _ new c.args.spot _ _ c.in_default.not-Some c.own_fault.ensures (c.wanted_of-wanted.ensures new.content c.len.ensures.length) (Err c.in-Err.fault) (c.in-Err.ensures.answer honest)) [
       | inl failed ↦ inl (told c.in-Err.fault faults.Device failed)
       | inr is ↦ inr (inr (ap placed_of is))
     ]
 
 pub returns-in-Ok-insert-clause-answer : goal.returns-in-Ok-insert-clause-answer
-returns-in-Ok-insert-clause-answer g c honest = inr (inr (sym (ap placed_of (place_found (bytes_in c.args.region (g.F.Flash.facts c.args.paged.now.device).content) c.args.name.now c.args.kind c.args.hash (g.S.Source.facts c.args.source.now).content c.args.spot _ _ _ _ c.in_default.not-Some c.own_fault.ensures c.attribute_len.ensures.is c.meta_len.ensures c.len.ensures.length c.in-Ok.place (c.in-Ok.ensures.answer honest)))))
+returns-in-Ok-insert-clause-answer g c honest =
+    let new = new_component c.args.name.now c.args.kind c.args.hash (g.S.Source.facts c.args.source.now).content in
+    inr (inr (sym (ap placed_of (place_found _ new c.args.spot _ _ c.in_default.not-Some c.own_fault.ensures (c.wanted_of-wanted.ensures new.content c.len.ensures.length) c.in-Ok.place (c.in-Ok.ensures.answer honest)))))
 
 pub returns-in-Ok-insert-clause-added : goal.returns-in-Ok-insert-clause-added
 returns-in-Ok-insert-clause-added g c honest source_honest =
     let new = new_component c.args.name.now c.args.kind c.args.hash (g.S.Source.facts c.args.source.now).content in
     let still = honest_still c.find_place.ensures.after.device.calls.same_honesty honest in
     let same = c.find_place.ensures.after.device.unchanged honest in
-    let is = place_found (bytes_in c.args.region (g.F.Flash.facts c.args.paged.now.device).content) c.args.name.now c.args.kind c.args.hash (g.S.Source.facts c.args.source.now).content c.args.spot _ _ _ _ c.in_default.not-Some c.own_fault.ensures c.attribute_len.ensures.is c.meta_len.ensures c.len.ensures.length c.in-Ok.place (c.in-Ok.ensures.answer honest) in
+    let is = place_found _ new c.args.spot _ _ c.in_default.not-Some c.own_fault.ensures (c.wanted_of-wanted.ensures new.content c.len.ensures.length) c.in-Ok.place (c.in-Ok.ensures.answer honest) in
     written c.args.region new c.args.spot c.in-Ok.place _ _ _ same is (c.in-Ok-insert.ensures.added still source_honest)
 
 pub returns-in-Ok-insert-clause-image : goal.returns-in-Ok-insert-clause-image
@@ -42,7 +39,7 @@ returns-in-Ok-insert-clause-image g c honest source_honest =
     let new = new_component c.args.name.now c.args.kind c.args.hash (g.S.Source.facts c.args.source.now).content in
     let still = honest_still c.find_place.ensures.after.device.calls.same_honesty honest in
     let same = c.find_place.ensures.after.device.unchanged honest in
-    let is = place_found (bytes_in c.args.region (g.F.Flash.facts c.args.paged.now.device).content) c.args.name.now c.args.kind c.args.hash (g.S.Source.facts c.args.source.now).content c.args.spot _ _ _ _ c.in_default.not-Some c.own_fault.ensures c.attribute_len.ensures.is c.meta_len.ensures c.len.ensures.length c.in-Ok.place (c.in-Ok.ensures.answer honest) in
+    let is = place_found _ new c.args.spot _ _ c.in_default.not-Some c.own_fault.ensures (c.wanted_of-wanted.ensures new.content c.len.ensures.length) c.in-Ok.place (c.in-Ok.ensures.answer honest) in
     image_of c.args.region _ _ _ _ c.requires same c.insert.ensures.after.calls.same_length (c.insert.ensures.after.outside still) (written c.args.region new c.args.spot c.in-Ok.place _ _ _ same is (c.in-Ok-insert.ensures.added still source_honest))
 
 pub returns-in-Err-Device-clause-stopped : goal.returns-in-Err-Device-clause-stopped
@@ -50,18 +47,15 @@ returns-in-Err-Device-clause-stopped g c honest source_honest =
     let new = new_component c.args.name.now c.args.kind c.args.hash (g.S.Source.facts c.args.source.now).content in
     let still = honest_still c.find_place.ensures.after.device.calls.same_honesty honest in
     let same = c.find_place.ensures.after.device.unchanged honest in
-    let is = place_found (bytes_in c.args.region (g.F.Flash.facts c.args.paged.now.device).content) c.args.name.now c.args.kind c.args.hash (g.S.Source.facts c.args.source.now).content c.args.spot _ _ _ _ c.in_default.not-Some c.own_fault.ensures c.attribute_len.ensures.is c.meta_len.ensures c.len.ensures.length c.in-Ok.place (c.in-Ok.ensures.answer honest) in
-    λ failed. device_leaves c.args.region new c.args.spot c.in-Ok.place _ _ _ (IsTrue (g.S.Source.facts c.args.source.now).honest) c.insert.result c.requires c.places_fit.ensures c.ranges.kind.fits (omega (arith, c.len.ensures))
-    (digest-sized c.args.hash (g.S.Source.facts c.args.source.now).content) same is (c.insert.ensures.stopped still) source_honest
+    let is = place_found _ new c.args.spot _ _ c.in_default.not-Some c.own_fault.ensures (c.wanted_of-wanted.ensures new.content c.len.ensures.length) c.in-Ok.place (c.in-Ok.ensures.answer honest) in
+    λ failed. device_leaves c.args.region new c.args.spot c.in-Ok.place _ _ _ (IsTrue (g.S.Source.facts c.args.source.now).honest) _ _ c.requires c.places_fit.ensures c.ranges.kind.fits (omega (arith, c.len.ensures)) (ap (λ (w : Wanted). w.len) (c.wanted_of-wanted.ensures new.content c.len.ensures.length))
+    (digest-sized c.args.hash new.content) same is ((rw c.in-Err-Device.field-0-is at c.in-Err-Device.ensures.stopped) still) source_honest
 
 pub returns-in-Err-Source-clause-before : goal.returns-in-Err-Source-clause-before
 returns-in-Err-Source-clause-before g c honest =
     let new = new_component c.args.name.now c.args.kind c.args.hash (g.S.Source.facts c.args.source.now).content in
     let still = honest_still c.find_place.ensures.after.device.calls.same_honesty honest in
     let same = c.find_place.ensures.after.device.unchanged honest in
-    let is = place_found (bytes_in c.args.region (g.F.Flash.facts c.args.paged.now.device).content) c.args.name.now c.args.kind c.args.hash (g.S.Source.facts c.args.source.now).content c.args.spot _ _ _ _ c.in_default.not-Some c.own_fault.ensures c.attribute_len.ensures.is c.meta_len.ensures c.len.ensures.length c.in-Ok.place (c.in-Ok.ensures.answer honest) in
-    λ failed. source_leaves c.args.region new c.args.spot c.in-Ok.place _ _ _ (IsTrue (g.S.Source.facts c.args.source.now).honest) c.insert.result c.requires c.places_fit.ensures c.ranges.kind.fits (omega (arith, c.len.ensures))
-    (digest-sized c.args.hash (g.S.Source.facts c.args.source.now).content) same is (c.insert.ensures.stopped still) (search rules)
-
-pub returns-in-Err-Source-clause-after : goal.returns-in-Err-Source-clause-after
-returns-in-Err-Source-clause-after g c = search rules
+    let is = place_found _ new c.args.spot _ _ c.in_default.not-Some c.own_fault.ensures (c.wanted_of-wanted.ensures new.content c.len.ensures.length) c.in-Ok.place (c.in-Ok.ensures.answer honest) in
+    λ failed. source_leaves c.args.region new c.args.spot c.in-Ok.place _ _ _ (IsTrue (g.S.Source.facts c.args.source.now).honest) _ _ c.requires c.places_fit.ensures c.ranges.kind.fits (omega (arith, c.len.ensures)) (ap (λ (w : Wanted). w.len) (c.wanted_of-wanted.ensures new.content c.len.ensures.length))
+    (digest-sized c.args.hash new.content) same is ((rw c.in-Err-Source.field-0-is at c.in-Err-Source.ensures.stopped) still) refl

@@ -1,5 +1,5 @@
 use Rattle.std.proofs.Common.{rules}
-use Rattle.cbfs_edit.proofs.StepLemmas.{addition_step, removal_step}
+use Rattle.cbfs_edit.proofs.EditLists.{addition_step, removal_step}
 use Rattle.cbfs_edit.proofs.edit.apply.Goals as goal
 
 pub returns-in-Ok-clause-answered : goal.returns-in-Ok-clause-answered

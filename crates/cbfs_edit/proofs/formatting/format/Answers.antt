@@ -14,12 +14,12 @@ pub returns-in-Ok-clause-formatted : goal.returns-in-Ok-clause-formatted
 returns-in-Ok-clause-formatted g c honest =
     let content = (g.F.Flash.facts c.args.paged.now.device).content in
     format_done (bytes_in c.args.region content) _ c.size-end.result
-    (omega (arith, length-bytes_in c.args.region content c.requires, c.size-end.ensures)) (omega arith) (c.in-Ok.ensures.removed honest)
+    (omega (arith, length-bytes_in c.args.region content c.requires, c.size-end.ensures)) (omega arith) (c.in-Ok.ensures.written honest)
 
 pub returns-in-Err-clause-stopped : goal.returns-in-Err-clause-stopped
 returns-in-Err-clause-stopped g c honest = λ is.
     let content = (g.F.Flash.facts c.args.paged.now.device).content in
-    format_stopped (bytes_in c.args.region content) _ c.size-end.result
-    (omega (arith, length-bytes_in c.args.region content c.requires, c.size-end.ensures)) (omega arith) (omega arith)
+    format_stopped (bytes_in c.args.region content) _ c.size-end.result c.args.region.size
+    (omega (arith, length-bytes_in c.args.region content c.requires, c.size-end.ensures)) (omega (arith, c.size-end.ensures)) (omega arith) (omega arith)
     (omega (arith, c.requires, c.places_fit.ensures, c.size-end.ensures))
-    (c.write_empty_entry.ensures.stopped honest (omega (arith, c.size-end.ensures)))
+    (c.write_empty_entry.ensures.left honest)

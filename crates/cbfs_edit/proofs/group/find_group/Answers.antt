@@ -2,8 +2,7 @@ use Rattle.std.proofs.Common.{inr, refl, arith, rules}
 use Rattle.flash_store.specs.Regions.{bytes_in}
 use Rattle.cbfs_edit.specs.Removals.{removal_in}
 use Rattle.cbfs_edit.specs.Searches.{IsBefore}
-use Rattle.cbfs_edit.proofs.CellSearches.{surveying_start, surveying_more, surveying_last, surveying_err}
-use Rattle.cbfs_edit.proofs.Surveys.{group_search, group_searched}
+use Rattle.cbfs_edit.proofs.Searches.{surveying_start, surveying_more, surveying_last, surveying_err, group_search, group_searched}
 use Rattle.cbfs_edit.proofs.group.find_group.Goals as goal
 
 pub loop-cell-init : goal.loop-cell-init

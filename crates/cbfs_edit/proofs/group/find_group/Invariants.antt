@@ -2,8 +2,7 @@ use Rattle.std.proofs.Common.{◌-◌}
 use Rattle.flash_store.specs.Regions.{bytes_in}
 use Rattle.cbfs_edit.specs.Searches.{IsBefore}
 use Rattle.cbfs_edit.specs.Removals.{removal_in}
-use Rattle.cbfs_edit.proofs.CellSearches.{Surveying}
-use Rattle.cbfs_edit.proofs.Surveys.{group_search}
+use Rattle.cbfs_edit.proofs.Searches.{Surveying, group_search}
 use Rattle.cbfs_edit.proofs.group.find_group.Given as goal
 
 abbrev pub invariant-loop-cell : goal.invariant-loop-cell

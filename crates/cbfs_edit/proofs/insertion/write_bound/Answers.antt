@@ -1,9 +1,18 @@
-use Rattle.std.proofs.Common.{◌-◌, rules}
-use Rattle.flash_store.specs.Regions.{bytes_in}
-use Rattle.cbfs_edit.proofs.Changes.{bound-within}
+use Rattle.std.proofs.Common.{◌-◌, ◌∙◌, sym, rules}
+use Rattle.std.proofs.lemmas.Result.{on_ok_weaker}
+use Rattle.flash_store.proofs.DeviceLemmas.{length-bytes_in}
+use Rattle.cbfs_edit.proofs.Changes.{bound-is, bound-within}
 use Rattle.cbfs_edit.proofs.insertion.write_bound.Goals as goal
 
-pub returns-clause-torn : goal.returns-clause-torn
-returns-clause-torn g c honest =
-    bound-within c.args.region.size c.args.place c.args.end (c.args.place.content - c.args.place.header) c.requires.room (bytes_in c.args.region (g.F.Flash.facts c.args.paged.now.device).content) (bytes_in c.args.region (g.F.Flash.facts c.write_in.new.paged.device).content)
-    _ (search rules) c.if-end-place.false (c.write_in.ensures.torn honest)
+pub returns : goal.returns
+returns g c =
+    let metadata = c.args.place.content - c.args.place.header in
+    record {
+      after = search rules;
+      written = λ honest.
+          on_ok_weaker c.write_in.result
+          (bound-is c.args.region.size c.args.place c.args.end metadata c.requires.room _ _ c.empty_header-header.result c.size.result
+          (c.size.ensures ∙ sym (length-bytes_in c.args.region _ c.requires.region)) c.empty_header-header.ensures c.if-end-place.false)
+          (c.write_in.ensures.written honest);
+      left = λ honest. bound-within c.args.region.size c.args.place c.args.end metadata c.requires.room _ _ _ (search rules) c.if-end-place.false (c.write_in.ensures.left honest);
+    }

@@ -1,4 +1,4 @@
-use Rattle.cbfs_edit.proofs.FreeRuns.{emptied_runs}
+use Rattle.cbfs_edit.proofs.Runs.{emptied_runs}
 use Rattle.cbfs_edit.proofs.laws.emptied_runs_keep_the_components.Goals as goal
 
 pub returns : goal.returns

@@ -1,4 +1,4 @@
-use Rattle.cbfs_edit.proofs.Taken.{removal_takes_one}
+use Rattle.cbfs_edit.proofs.Removals.{removal_takes_one}
 use Rattle.cbfs_edit.proofs.laws.removals_take_one_component.Goals as goal
 
 pub returns : goal.returns

@@ -3,8 +3,7 @@ use Rattle.flash_store.specs.Regions.{bytes_in}
 use Rattle.flash_store.proofs.DeviceLemmas.{length-bytes_in}
 use Rattle.cbfs_edit.specs.Places.{placing_in}
 use Rattle.cbfs_edit.specs.Placings.{IsSurvey}
-use Rattle.cbfs_edit.proofs.CellSearches.{surveying_start, surveying_more, surveying_last, surveying_err}
-use Rattle.cbfs_edit.proofs.PlaceSurveys.{place_search, place_searched}
+use Rattle.cbfs_edit.proofs.Searches.{surveying_start, surveying_more, surveying_last, surveying_err, place_search, place_searched}
 use Rattle.cbfs_edit.proofs.place.find_place.Goals as goal
 
 pub loop-cell-init : goal.loop-cell-init
@@ -12,7 +11,7 @@ loop-cell-init g c =
     let r = c.args.region in
     let x = bytes_in r (g.F.Flash.facts c.args.paged.now.device).content in
     rw c.new-walk.ensures (surveying_start g.F.Flash.facts r (place_search c.args.name.now c.args.wanted r.size) (placing_in x c.args.name.now c.args.wanted) (IsSurvey c.args.wanted r.size) c.args.paged.now
-    (record { here = refl; order = omega arith; inside = omega arith; start_aligned = refl; end_aligned = refl; place = tt })
+    (record { asked = c.requires.wanted; small = omega (arith, c.requires.region, c.places_fit.ensures); here = refl; order = omega arith; inside = omega arith; start_aligned = refl; end_aligned = refl; place = tt })
     (place_searched x c.args.name.now c.args.wanted r.size (length-bytes_in r _ c.requires.region)))
 
 pub loop-cell-preserved : goal.loop-cell-preserved

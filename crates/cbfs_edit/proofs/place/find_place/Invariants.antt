@@ -2,8 +2,7 @@ use Rattle.std.proofs.Common.{◌-◌}
 use Rattle.flash_store.specs.Regions.{bytes_in}
 use Rattle.cbfs_edit.specs.Places.{placing_in}
 use Rattle.cbfs_edit.specs.Placings.{IsSurvey}
-use Rattle.cbfs_edit.proofs.CellSearches.{Surveying}
-use Rattle.cbfs_edit.proofs.PlaceSurveys.{place_search}
+use Rattle.cbfs_edit.proofs.Searches.{Surveying, place_search}
 use Rattle.cbfs_edit.proofs.place.find_place.Given as goal
 
 abbrev pub invariant-loop-cell : goal.invariant-loop-cell

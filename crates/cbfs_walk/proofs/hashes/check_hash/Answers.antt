@@ -2,43 +2,35 @@ use Rattle.std.proofs.Common.{arith, le_refl, rules}
 use Rattle.flash_store.proofs.WindowLemmas.{HasRead-within}
 use Rattle.std.proofs.lemmas.Result.{err_from_is_err_and}
 use Rattle.cbfs_walk.proofs.Reading.{Passes-then, Passes-answers}
-use Rattle.cbfs_walk.proofs.Hashing.{compared_is_told, state_found}
+use Rattle.cbfs_walk.proofs.Hashing.{compared_is_told, state_found, read_to_content}
 use Rattle.cbfs_walk.proofs.hashes.check_hash.Goals as goal
 
 pub returns-in_err-stored-in-Some-clause-after : goal.returns-in_err-stored-in-Some-clause-after
 returns-in_err-stored-in-Some-clause-after g c =
-    let attribute = (rw c.in-Some.is at c.in_ok-at.ensures.attribute).attribute in
-    let first = rw c.in-Some.is at c.in_ok-at.ensures.passes in
     rw (err_from_is_err_and c.from_residual-in_err-stored-in-Some.result c.from_residual-in_err-stored-in-Some.ensures.1).1
-    (Passes-answers (Passes-then first c.in_err-stored-in-Some.ensures.passes (le_refl _) (omega arith) (le_refl _)) (omega (arith, attribute.head, attribute.inside)))
+    (Passes-answers (read_to_content c.args.cell.now _ _ _ c.in-Some.is c.in_ok-at.ensures.attribute c.in_ok-at.ensures.passes c.in_err-stored-in-Some.ensures.passes) (omega arith))
 
 pub returns-in-None-2-clause-after : goal.returns-in-None-2-clause-after
 returns-in-None-2-clause-after g c =
-    let attribute = (rw c.in-Some.is at c.in_ok-at.ensures.attribute).attribute in
-    let first = rw c.in-Some.is at c.in_ok-at.ensures.passes in
-    Passes-answers (Passes-then first c.in_ok-stored-in-Some.ensures.passes (le_refl _) (omega arith) (le_refl _)) (omega (arith, attribute.head, attribute.inside))
+    Passes-answers (read_to_content c.args.cell.now _ _ _ c.in-Some.is c.in_ok-at.ensures.attribute c.in_ok-at.ensures.passes c.in_ok-stored-in-Some.ensures.passes) (omega arith)
 
 pub returns-in-None-2-clause-unread : goal.returns-in-None-2-clause-unread
 returns-in-None-2-clause-unread g c = λ told.
-    let attribute = (rw c.in-Some.is at c.in_ok-at.ensures.attribute).attribute in
-    let first = rw c.in-Some.is at c.in_ok-at.ensures.passes in
-    HasRead-within _ _ _ 0 _ _ (omega (arith, attribute.head, attribute.inside)) (Passes-then first c.in_ok-stored-in-Some.ensures.passes (le_refl _) (omega arith) (le_refl _)).read
+    HasRead-within _ _ _ 0 _ _ (omega arith) (read_to_content c.args.cell.now _ _ _ c.in-Some.is c.in_ok-at.ensures.attribute c.in_ok-at.ensures.passes c.in_ok-stored-in-Some.ensures.passes).read
 
 pub returns-in_ok-computed-in-Some-2-clause-unread : goal.returns-in_ok-computed-in-Some-2-clause-unread
 returns-in_ok-computed-in-Some-2-clause-unread g c = λ told. absurd (compared_is_told c.in-Some-2.stored c.in_ok-computed-in-Some-2.computed c.compared.result c.compared.ensures told)
 
 pub returns-in_err-computed-in-Some-2-clause-after : goal.returns-in_err-computed-in-Some-2-clause-after
 returns-in_err-computed-in-Some-2-clause-after g c =
-    let attribute = (rw c.in-Some.is at c.in_ok-at.ensures.attribute).attribute in
-    let first = rw c.in-Some.is at c.in_ok-at.ensures.passes in
+    let first = read_to_content c.args.cell.now _ _ _ c.in-Some.is c.in_ok-at.ensures.attribute c.in_ok-at.ensures.passes c.in_ok-stored-in-Some.ensures.passes in
     rw (err_from_is_err_and c.from_residual-in_err-computed-in-Some-2.result c.from_residual-in_err-computed-in-Some-2.ensures.1).1
-    (Passes-answers (Passes-then (Passes-then first c.in_ok-stored-in-Some.ensures.passes (le_refl _) (omega arith) (le_refl _)) c.in_err-computed-in-Some-2.ensures.passes (le_refl _) (omega (arith, attribute.head, attribute.inside)) (le_refl _)) (omega (arith, attribute.head, attribute.inside)))
+    (Passes-answers (Passes-then first c.in_err-computed-in-Some-2.ensures.passes (le_refl _) (le_refl _) (le_refl _)) (omega arith))
 
 pub returns-in_ok-computed-in-Some-2-clause-after : goal.returns-in_ok-computed-in-Some-2-clause-after
 returns-in_ok-computed-in-Some-2-clause-after g c =
-    let attribute = (rw c.in-Some.is at c.in_ok-at.ensures.attribute).attribute in
-    let first = rw c.in-Some.is at c.in_ok-at.ensures.passes in
-    Passes-answers (Passes-then (Passes-then first c.in_ok-stored-in-Some.ensures.passes (le_refl _) (omega arith) (le_refl _)) c.in_ok-computed-in-Some-2.ensures.passes (le_refl _) (omega (arith, attribute.head, attribute.inside)) (le_refl _)) (omega (arith, attribute.head, attribute.inside))
+    let first = read_to_content c.args.cell.now _ _ _ c.in-Some.is c.in_ok-at.ensures.attribute c.in_ok-at.ensures.passes c.in_ok-stored-in-Some.ensures.passes in
+    Passes-answers (Passes-then first c.in_ok-computed-in-Some-2.ensures.passes (le_refl _) (le_refl _) (le_refl _)) (omega arith)
 
 pub returns-in_ok-computed-in-Some-2-clause-value : goal.returns-in_ok-computed-in-Some-2-clause-value
 returns-in_ok-computed-in-Some-2-clause-value g c = search rules

@@ -1,5 +1,10 @@
-use Rattle.cbfs_walk.proofs.CellNames.{nul_in_field}
+use Rattle.std.proofs.Common.{arith, ap, ◌∙◌}
+use Rattle.std.specs.List.{list_any}
+use Rattle.flash_format.specs.Entry.{is_nul, name_end}
+use Rattle.flash_store.specs.Regions.{bytes_in}
+use Rattle.cbfs_walk.proofs.Parts.{name_read}
 use Rattle.cbfs_walk.proofs.names.has_name_end.Goals as goal
 
 pub returns-clause-ends : goal.returns-clause-ends
-returns-clause-ends g c = λ h. nul_in_field _ c.args.at _ c.name_room.result c.min-n.result c.text_len.result _ c.text_len.ensures c.in_ok-bytes.ensures.size (c.in_ok-bytes.ensures.read h) c.name_room.ensures c.min-n.ensures
+returns-clause-ends g c = λ h.
+    name_read (bytes_in c.args.region (g.F.Flash.facts c.args.paged.now.device).content) c.args.at (name_end c.args.head.now) c.min-n.result c.has_nul.result (c.has_nul.ensures ∙ ap (list_any is_nul) (c.in_ok-bytes.ensures.read h)) c.requires.order (omega (arith, c.name_room.ensures, c.min-n.ensures))

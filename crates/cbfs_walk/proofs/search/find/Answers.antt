@@ -1,4 +1,4 @@
-use Rattle.std.proofs.Common.{inr, refl}
+use Rattle.std.proofs.Common.{inr}
 use Rattle.cbfs_walk.proofs.Searching.{searching_start, searching_more, found_first, found_answer, searching_end, searching_tail, searching_err}
 use Rattle.cbfs_walk.proofs.search.find.Goals as goal
 
@@ -7,31 +7,18 @@ loop-cell-init g c = rw c.new-walk.ensures (searching_start _ c.args.region c.ar
 
 pub loop-cell-preserved : goal.loop-cell-preserved
 loop-cell-preserved g c =
-    let is = c.in-Ok-Cell.field-0-is in
-    let given = rw is at c.in-Ok-Cell.ensures.cell in
-    let reads = rw is at c.in-Ok-Cell.ensures.after in
-    let answer = rw is at c.in-Ok-Cell.ensures.answer in
-    let moved = rw is at c.in-Ok-Cell.ensures.moved in
-    searching_more _ c.args.region c.args.name.now c.loop-cell.walk _ _ c.requires c.loop-cell.invariant c.in-Ok-Cell.cell _ _ c.in-Ok-false.field-0
-    given reads answer c.in-Ok-false.ensures.named _ _ c.in-Ok-false.field-0-test moved refl c.in-Ok-false.ensures.after.read
+    searching_more _ c.args.region c.args.name.now c.loop-cell.walk _ _ c.requires c.loop-cell.invariant _ c.in-Ok-Cell.cell _ c.in-Ok-false.field-0 c.in-Ok-Cell.field-0-is
+    c.in-Ok-Cell.ensures.cell c.in-Ok-Cell.ensures.after c.in-Ok-Cell.ensures.answer c.in-Ok-false.ensures.named _ _ c.in-Ok-false.field-0-test c.in-Ok-Cell.ensures.moved c.in-Ok-false.ensures.after.read
 
 pub returns-in-Ok-true-clause-answer : goal.returns-in-Ok-true-clause-answer
 returns-in-Ok-true-clause-answer g c = λ h.
-    let is = c.in-Ok-Cell.field-0-is in
-    let given = rw is at c.in-Ok-Cell.ensures.cell in
-    let reads = rw is at c.in-Ok-Cell.ensures.after in
-    let answer = rw is at c.in-Ok-Cell.ensures.answer in
-    inr (found_answer _ c.args.region c.args.name.now c.loop-cell.walk _ _ c.requires c.loop-cell.invariant c.in-Ok-Cell.cell _ _ c.in-Ok-true.field-0
-    given reads answer c.in-Ok-true.ensures.named c.in-Ok-true.field-0-test h)
+    inr (found_answer _ c.args.region c.args.name.now c.loop-cell.walk _ _ c.requires c.loop-cell.invariant _ c.in-Ok-Cell.cell _ c.in-Ok-true.field-0 c.in-Ok-Cell.field-0-is
+    c.in-Ok-Cell.ensures.cell c.in-Ok-Cell.ensures.after c.in-Ok-Cell.ensures.answer c.in-Ok-true.ensures.named c.in-Ok-true.field-0-test h)
 
 pub returns-in-Ok-true-clause-first : goal.returns-in-Ok-true-clause-first
 returns-in-Ok-true-clause-first g c = λ h.
-    let is = c.in-Ok-Cell.field-0-is in
-    let given = rw is at c.in-Ok-Cell.ensures.cell in
-    let reads = rw is at c.in-Ok-Cell.ensures.after in
-    let answer = rw is at c.in-Ok-Cell.ensures.answer in
-    found_first _ c.args.region c.args.name.now c.loop-cell.walk _ _ c.requires c.loop-cell.invariant c.in-Ok-Cell.cell _ _ c.in-Ok-true.field-0
-    given reads answer c.in-Ok-true.ensures.named c.in-Ok-true.field-0-test h
+    found_first _ c.args.region c.args.name.now c.loop-cell.walk _ _ c.requires c.loop-cell.invariant _ c.in-Ok-Cell.cell _ c.in-Ok-true.field-0 c.in-Ok-Cell.field-0-is
+    c.in-Ok-Cell.ensures.cell c.in-Ok-Cell.ensures.after c.in-Ok-Cell.ensures.answer c.in-Ok-true.ensures.named c.in-Ok-true.field-0-test h
 
 pub returns-in-Ok-Tail-clause-answer : goal.returns-in-Ok-Tail-clause-answer
 returns-in-Ok-Tail-clause-answer g c = λ h.

@@ -6,5 +6,5 @@ use Rattle.check_report.proofs.image.report_image.Goals as goal
 pub returns-clause-answer : goal.returns-clause-answer
 returns-clause-answer g c = λ h.
     c.in_ok-of.ensures _ _ (c.in_ok-tell_findings.ensures _ _ c.new-report.ensures)
-    ∙ ap (λ fs. answer_of c.args.request.form (finding_rows c.args.request.is_verbose (map (λ n. n.now) c.args.request.areas.now) fs))
+    ∙ ap (λ fs. answer_of c.args.request.form (finding_rows (map (λ n. n.now) c.args.request.areas.now) fs))
     (c.deref.ensures.value ∙ c.in_ok-findings.ensures.findings h)

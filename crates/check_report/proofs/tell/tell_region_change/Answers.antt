@@ -1,4 +1,3 @@
-use Rattle.std.proofs.Common.{map}
 use Rattle.check_report.proofs.tell.tell_region_change.Goals as goal
 
 pub returns-in-NotCompared : goal.returns-in-NotCompared

@@ -1,4 +1,4 @@
-use Rattle.std.proofs.Common.{◌≡◌, ◌++◌, List, map, take}
+use Rattle.std.proofs.Common.{◌++◌, List, map, take}
 use Rattle.check_rows.specs.declared.report.Form.{Form}
 use Rattle.check_rows.specs.Rows.{SeenRow}
 use Rattle.check_rows.specs.Reports.{HasTold}

@@ -8,4 +8,4 @@ use Rattle.finding_rows.proofs.region.tell_region.Given as goal
 
 abbrev pub invariant-loop-finding : goal.invariant-loop-finding
 invariant-loop-finding l = (form : Form) (told : List SeenRow) → HasTold form told l.initial.report
-    → HasTold form (told ++ flat_map (region_rows l.is_verbose l.region) (take l.finding-index l.findings)) l.report
+    → HasTold form (told ++ flat_map (region_rows l.region) (take l.finding-index l.findings)) l.report

@@ -7,4 +7,4 @@ use Rattle.finding_rows.proofs.tell.tell_findings.Given as goal
 
 abbrev pub invariant-loop-finding : goal.invariant-loop-finding
 invariant-loop-finding l = (form : Form) (told : List SeenRow) → HasTold form told l.initial.report
-    → HasTold form (told ++ finding_rows l.is_verbose (map (λ n. n.now) l.names) (take l.finding-index l.findings)) l.report
+    → HasTold form (told ++ finding_rows (map (λ n. n.now) l.names) (take l.finding-index l.findings)) l.report

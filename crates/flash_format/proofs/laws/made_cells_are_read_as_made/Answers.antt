@@ -1,5 +1,5 @@
-use Rattle.flash_format.proofs.MadeLaws.{metadata_is_read, made_is_read, made_alone, made_as_long, room_is_least}
+use Rattle.flash_format.proofs.MadeLaws.{metadata_is_read, made_is_read, made_as_long, room_is_least}
 use Rattle.flash_format.proofs.laws.made_cells_are_read_as_made.Goals as goal
 
 pub returns : goal.returns
-returns c = record { metadata = metadata_is_read; whole = made_is_read; alone = made_alone; len = made_as_long; room = room_is_least }
+returns c = record { metadata = metadata_is_read; whole = made_is_read; len = made_as_long; room = room_is_least }

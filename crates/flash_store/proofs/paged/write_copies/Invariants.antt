@@ -1,6 +1,6 @@
-use Rattle.std.specs.Prelude.{◌≡◌, ◌≤◌, ◌-◌, IsTrue, replicate}
+use Rattle.std.specs.Prelude.{◌≡◌, ◌+◌, ◌<◌, ◌≤◌, ◌-◌, ◌/◌, ◌%◌, IsTrue, replicate, take}
 use Rattle.flash_store.specs.Bytes.{overwritten}
-use Rattle.flash_store.proofs.CopyLemmas.{CallsSoFar}
+use Rattle.flash_store.specs.Device.{Calls}
 use Rattle.flash_store.proofs.paged.write_copies.Given as goal
 
 abbrev pub invariant-loop-done : goal.invariant-loop-done
@@ -9,8 +9,9 @@ invariant-loop-done g l =
     let new = g.F.Flash.facts l.device in
     record {
       within : l.done ≤ l.n;
-      calls : CallsSoFar l.done l.n old new;
-      filled : IsTrue old.honest → new.content ≡ overwritten old.content l.at (replicate l.done l.byte);
+      whole : l.done < l.n → l.done % 4096 ≡ 0;
+      calls : Calls ((l.done + 4095) / 4096) 0 old new;
+      filled : IsTrue old.honest → new.content ≡ overwritten old.content l.at (take l.done (replicate l.n l.byte));
     }
 
 abbrev pub decreases-loop-done : goal.decreases-loop-done

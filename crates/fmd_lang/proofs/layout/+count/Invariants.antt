@@ -1,6 +1,5 @@
 use Rattle.std.proofs.Common.{◌≡◌, ◌+◌, drop}
-use Rattle.fmd_lang.specs.Tree.{section_count, sections_count}
-use Rattle.fmd_lang.specs.View.{view, views}
+use Rattle.fmd_lang.specs.Tree.{section_count, sections_count, view, views}
 use Rattle.fmd_lang.proofs.layout.+count.Given as goal
 
 abbrev pub invariant-loop-part : goal.invariant-loop-part

@@ -1,10 +1,8 @@
 use Rattle.std.proofs.Common.{◌≡◌, ◌⊎◌, ◌∙◌, ap, arith, length, rules, subst, suc, Some}
-use Rattle.fmd_lang.specs.Row.{row_fault}
-use Rattle.fmd_lang.specs.Tree.{parts_of}
+use Rattle.fmd_lang.specs.Layout.{row_fault, filled, siblings}
+use Rattle.fmd_lang.specs.Tree.{parts_of, view, views}
 use Rattle.fmd_lang.specs.declared.fault.FmdFault.TheVariants as faults
 use Rattle.fmd_lang.specs.declared.section.Section.{out-Section}
-use Rattle.fmd_lang.specs.Layout.{filled, siblings}
-use Rattle.fmd_lang.specs.View.{view, views}
 use Rattle.fmd_lang.proofs.LayoutLemmas.{length-siblings, length-le-count, placed-inside, length-filled, row-laid, view-count, view-parts}
 use Rattle.fmd_lang.proofs.layout.places.Goals as goal
 
@@ -12,7 +10,8 @@ pub lay_row-requires : goal.lay_row-requires
 lay_row-requires c =
     let parts = (out-Section c.args.section.now).parts.items in
     let row : c.deref-2.result.now ≡ siblings (suc c.args.number) (views parts) = search rules in
-    omega (arith, ap length row, length-siblings (suc c.args.number) parts, length-le-count parts, view-count c.args.section.now, c.requires)
+    let count = view-count c.args.section.now in
+    omega (arith, ap length row, length-siblings (suc c.args.number) parts, length-le-count parts, count, c.requires)
 
 pub returns-in-Ok-clause-len : goal.returns-in-Ok-clause-len
 returns-in-Ok-clause-len c =

@@ -1,5 +1,6 @@
-use Rattle.std.proofs.Common.{◌≡◌, ◌∙◌, sym, ap, true, false, get_or}
-use Rattle.fmd_lang.proofs.NameLemmas.{has, no_name, not-false, not-true, duplicate-found, duplicate-more, has-more}
+use Rattle.std.proofs.Common.{◌∙◌, sym, ap, get_or}
+use Rattle.std.proofs.lemmas.Bool.{not-false, not-true}
+use Rattle.fmd_lang.proofs.NameLemmas.{has, no_name, duplicate-found, duplicate-more, has-more}
 use Rattle.fmd_lang.proofs.names.first_duplicate.Goals as goal
 
 pub returns-in-Ok-false-clause-ok : goal.returns-in-Ok-false-clause-ok
@@ -7,7 +8,7 @@ returns-in-Ok-false-clause-ok c =
     let names = c.args.names.now in
     let n = c.loop-number.number in
     let x = (get_or names n no_name).now in
-    let there : has x c.loop-number.seen.keys ≡ true = not-false _ _ c.in-Ok-false.ensures.added c.in-Ok-false.field-0-test in
+    let there = not-false (has x c.loop-number.seen.keys) (sym c.in-Ok-false.ensures.added ∙ c.in-Ok-false.field-0-test) in
     sym (c.loop-number.invariant.1 ∙ duplicate-found names n c.loop-number-test.true (sym (c.loop-number.invariant.0 x) ∙ there))
 
 pub loop-number-preserved : goal.loop-number-preserved
@@ -15,7 +16,7 @@ loop-number-preserved c =
     let names = c.args.names.now in
     let n = c.loop-number.number in
     let x = (get_or names n no_name).now in
-    let new : has x c.loop-number.seen.keys ≡ false = not-true _ _ c.in-Ok-true.ensures.added c.in-Ok-true.field-0-test in (
+    let new = not-true (has x c.loop-number.seen.keys) (sym c.in-Ok-true.ensures.added ∙ c.in-Ok-true.field-0-test) in (
       λ q. ap (has q) c.in-Ok-true.ensures.keys
           ∙ has-more names c.loop-number.seen.keys n q c.loop-number-test.true new (c.loop-number.invariant.0 q),
       c.loop-number.invariant.1 ∙ duplicate-more names n c.loop-number-test.true (sym (c.loop-number.invariant.0 x) ∙ new),

@@ -1,9 +1,16 @@
-use Rattle.std.proofs.Common.{◌≡◌, ◌∙◌, ◌*◌, ◌^◌, sym, ap, arith, option_map, Some, min}
-use Rattle.std.proofs.lemmas.Grind.{common_steps}
+use Rattle.std.proofs.Common.{◌≡◌, ℕ, ◌∙◌, ◌*◌, ◌^◌, sym, ap, Option, Result, option_map, unwrap_or, Some, None, min}
 use Rattle.fmd_lang.specs.Numbers as spec
 use Rattle.fmd_lang.specs.Numbers.{number_at, number_value}
-use Rattle.fmd_lang.proofs.NumberLemmas.{number_at-scaled}
+use Rattle.fmd_lang.specs.declared.fault.FmdFault.{FmdFault}
 use Rattle.fmd_lang.proofs.number.read_number.Goals as goal
+
+-- What a product of a capped value says of the value itself.
+number_at-scaled : (at : ℕ) (exact : Option ℕ) (value unit : ℕ) (answer : Result ℕ FmdFault) →
+    Some value ≡ option_map (min (2 ^ 32)) exact →
+    ((n : ℕ) → value ≡ min (2 ^ 32) n → answer ≡ number_at at (Some (n * unit))) →
+    answer ≡ number_at at (option_map (λ n. n * unit) exact)
+number_at-scaled at None value unit answer h scaled = cc
+number_at-scaled at (Some n) value unit answer h scaled = scaled n (ap (λ o. unwrap_or o 0) h)
 
 pub returns-in-Some : goal.returns-in-Some
 unfolding number_value
@@ -15,7 +22,3 @@ returns-in-Some c =
     ∙ ap (λ front. option_map (min (2 ^ 32)) (spec.plain_value front)) c.split_unit-unit.ensures.front in
     number_at-scaled c.args.at (spec.plain_value (spec.front_of bytes)) c.in-Some.value unit c.scaled.result value
     (λ n e. c.scaled.ensures n e ∙ ap (λ u. number_at c.args.at (Some (n * u))) c.split_unit-unit.ensures.unit)
-
-pub returns-in-None : goal.returns-in-None
-unfolding number_value
-returns-in-None c = grind (arith, common_steps)

@@ -1,5 +1,5 @@
 use Rattle.std.proofs.Common.{refl, sym, ◌∙◌}
-use Rattle.fmd_lang.specs.Faults.{in_annotations}
+use Rattle.fmd_lang.specs.Faults.{annotated, in_annotations}
 use Rattle.fmd_lang.specs.Grammar.{HaveFlags, IsA, One, Then}
 use Rattle.fmd_lang.specs.Parsing.{EndAnnotations}
 use Rattle.fmd_lang.specs.declared.word.Kind.TheVariants.{CloseParen, Name}
@@ -14,5 +14,7 @@ returns-in-Some c =
     let next = c.in_ok-token.ensures.next in
     let known = sym c.annotation_flag.ensures ∙ c.in-Some.is in
     let name = sym next.kind ∙ annotation-name token.word.bytes.now flag known in
-    let word = token-takes (IsAnnotation flag) c.args.text.now c.args.from c.args.depth c.end.result token in_annotations Name next c.end.ensures name (λ e. cc) (rw known refl) known in
-    parses-after (EndAnnotations flag) (λ flags. Then (HaveFlags flags) (One (IsA CloseParen))) _ c.args.text.now c.args.from c.end.result c.more_annotations.result (flags-cons 0 flag) word c.more_annotations.ensures
+    let word =
+    token-takes (IsAnnotation flag) in_annotations annotated Name next c.end.ensures name (λ e. cc) (rw known refl) known in
+    parses-after (EndAnnotations flag) (λ flags. Then (HaveFlags flags) (One (IsA CloseParen))) _ c.more_annotations.result
+    (flags-cons 0 flag) word c.more_annotations.ensures

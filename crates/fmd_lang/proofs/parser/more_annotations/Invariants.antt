@@ -7,7 +7,8 @@ use Rattle.fmd_lang.proofs.parser.more_annotations.Given as goal
 
 abbrev pub invariant-loop-token : goal.invariant-loop-token
 invariant-loop-token l = (l.from ≤ l.at)
-    × Reads (λ ws. flags_with l.first ws ≡ Some l.flags) (annotated, l.depth) (annotated, l.depth) (length l.text) (words_after l.text l.from) (words_after l.text l.at)
+    × Reads (λ ws. flags_with l.first ws ≡ Some l.flags) (annotated, l.depth) (annotated, l.depth) (length l.text)
+    (words_after l.text l.from) (words_after l.text l.at)
 
 abbrev pub decreases-loop-token : goal.decreases-loop-token
 decreases-loop-token l = length l.text - l.at

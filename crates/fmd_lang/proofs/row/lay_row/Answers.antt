@@ -1,8 +1,7 @@
 use Rattle.std.proofs.Common.{◌≡◌, ◌∙◌, ◌++◌, sym, ap, refl, arith, None, false}
 use Rattle.std.proofs.lemmas.List.{append-nil, drop_all}
 use Rattle.std.proofs.lemmas.Grind.{common_steps}
-use Rattle.fmd_lang.specs.Layout.{ambiguous_sibling, filled}
-use Rattle.fmd_lang.specs.Row.{misfit_sibling}
+use Rattle.fmd_lang.specs.Layout.{ambiguous_sibling, filled, misfit_sibling}
 use Rattle.fmd_lang.proofs.row.lay_row.Goals as goal
 
 pub returns-clause-filled : goal.returns-clause-filled

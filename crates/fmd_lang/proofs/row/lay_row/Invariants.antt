@@ -1,6 +1,5 @@
 use Rattle.std.proofs.Common.{◌≡◌, ◌≤◌, ◌++◌, drop}
-use Rattle.fmd_lang.specs.Layout.{filled}
-use Rattle.fmd_lang.specs.Row.{misfit_sibling}
+use Rattle.fmd_lang.specs.Layout.{filled, misfit_sibling}
 use Rattle.fmd_lang.proofs.row.lay_row.Given as goal
 
 abbrev pub invariant-loop-index : goal.invariant-loop-index

@@ -1,7 +1,7 @@
 use Rattle.std.proofs.Common.{◌≡◌, ◌++◌, drop}
 use Rattle.std.specs.List.{flat_map}
 use Rattle.flash_format.specs.Flashmap.{area_bytes}
-use Rattle.fmd_lang.specs.Bytes.{table_bytes}
+use Rattle.fmd_lang.specs.Table.{table_bytes}
 use Rattle.fmd_lang.proofs.table.encode.Given as goal
 
 abbrev pub invariant-loop-area : goal.invariant-loop-area

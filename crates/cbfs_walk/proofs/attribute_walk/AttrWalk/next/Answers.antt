@@ -1,4 +1,4 @@
-use Rattle.std.proofs.Common.{◌∙◌, ap, sym, ◌+◌, rules}
+use Rattle.std.proofs.Common.{◌∙◌, ap, sym, ◌+◌}
 use Rattle.std.proofs.lemmas.Result.{err_from_is_err_and}
 use Rattle.cbfs_walk.specs.declared.attribute_walk.Listed.TheVariants as listed
 use Rattle.cbfs_walk.proofs.Listing.{walk_step, gives_none}
@@ -22,9 +22,6 @@ returns-in_default-clause-head g c = λ h all left.
 pub returns-in_default-clause-rest : goal.returns-in_default-clause-rest
 returns-in_default-clause-rest g c = λ h all left.
     (gives_none _ c.self.inside.cell c.self.inside.at all c.in_ok-head.field-0 c.in_default.not-Attribute (walk_step c.args.region (g.F.Flash.facts c.args.paged.now.device).content c.self.inside.cell c.self.inside.at _ _ c.args.self.now c.in_ok-head.field-0 c.requires.region c.requires.inside (sym c.self.view_is) (ap (λ n. c.self.inside.cell.at + n) c.from.ensures) (ap (λ n. c.self.inside.cell.at + n) c.from-2.ensures) (c.in_ok-head.ensures.listed h) all left)).1
-
-pub returns-in_err-head-clause-moved : goal.returns-in_err-head-clause-moved
-returns-in_err-head-clause-moved g c = search rules
 
 pub returns-in_err-head-clause-passes : goal.returns-in_err-head-clause-passes
 returns-in_err-head-clause-passes g c =

@@ -1,4 +1,4 @@
-use Rattle.std.proofs.Common.{◌∙◌, ◌-◌, ◌≤◌, length, take, drop, arith, sym, ap, length-take}
+use Rattle.std.proofs.Common.{◌∙◌, ◌-◌, ◌≤◌, length, take, drop, arith, sym, length-take}
 use Rattle.std.proofs.Math.Seq.{take-length}
 use Rattle.flash_store.proofs.StoringLemmas.{Held-part}
 use Rattle.flash_store.proofs.ahead.Ahead.held_from.Goals as goal
@@ -8,7 +8,6 @@ returns g c = rw (← c.self.view_is) (λ h.
     let window = c.self.inside.window in
     let held = c.self.inside.to - c.self.inside.from in
     let skip = c.args.at - c.self.inside.from in
-    let k = length c.part.result.now in
-    let short : k ≤ held - skip = omega (arith, ap length c.part.ensures, length-take (held - skip) (drop skip window)) in
-    sym (take-length c.part.result.now) ∙ ap (take k) c.part.ensures
-    ∙ Held-part window _ c.self.inside.from held c.args.at k c.if-at-self.false (omega (arith, c.if-at-self-2.false)) short (c.self.invariant.2 h))
+    let part = take (held - skip) (drop skip window) in
+    let short : length part ≤ held - skip = omega (arith, length-take (held - skip) (drop skip window)) in
+    sym (take-length part) ∙ Held-part window _ c.self.inside.from held c.args.at (length part) c.if-at-self.false (omega (arith, c.if-at-self-2.false)) short (c.self.invariant.2 h))

@@ -6,16 +6,12 @@ use Rattle.flash_store.proofs.StoringLemmas.{IsErased-apart, IsErased-inside}
 use Rattle.flash_store.proofs.erased.ErasedStorage.write_some.Goals as goal
 
 pub returns-then-has-clause-after : goal.returns-then-has-clause-after
-returns-then-has-clause-after g c = record {
-  after = search rules;
-  short = search rules;
-  written = λ h.
-      let bytes = c.args.bytes.now in
-      let x = c.args.self.now.content in
-      sym (ap (overwritten x c.args.at) (take-length bytes ∙ sym (c.has.ensures c.if-has.true h)) ∙ overwritten-same x c.args.at (length bytes) c.requires.inside);
-  torn = search rules;
-  whole = search rules;
-}
+returns-then-has-clause-after g c =
+    let bytes = c.args.bytes.now in
+    let x = c.args.self.now.content in
+    let written = λ (h : IsTrue c.args.self.now.faithful).
+    sym (ap (overwritten x c.args.at) (take-length bytes ∙ sym (c.has.ensures c.if-has.true h)) ∙ overwritten-same x c.args.at (length bytes) c.requires.inside) in
+    search (rules, written)
 
 pub invariant_of-self : goal.invariant_of-self
 invariant_of-self g c =

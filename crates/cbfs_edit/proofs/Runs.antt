@@ -1,0 +1,201 @@
+-- The runs are exactly the maximal rows of neighbouring free cells, in their order, and an empty entry over one keeps the components.
+use Rattle.std.proofs.Common.{◌≡◌, ℕ, ◌+◌, ◌<◌, ◌⊎◌, inl, inr, zero, suc, List, [], ◌∷◌, ◌++◌, length, sym, ◌∙◌, ap, subst, refl, arith, All, Contains, append_assoc, length-append, ◌≤◌, ◌%◌}
+use Rattle.std.specs.Prelude.{nat_lt}
+use Rattle.std.specs.List.{concat, AllPairs}
+use Rattle.std.proofs.lemmas.Bool.{cases_Bool, lt-ltb, ltb-true, cond_both}
+use Rattle.std.proofs.lemmas.List.Elements.{All-nil, All-head, All-tail, All-push, All-cons}
+use Rattle.flash_format.specs.Head.{head_of, is_free}
+use Rattle.flash_format.specs.Cut.{cut, IsCell}
+use Rattle.cbfs_edit.specs.Groups.{IsFree, EndsWithComponent, BeginsWithComponent, IsCellRange}
+use Rattle.cbfs_edit.specs.Runs.{add_run, runs, runs_from, IsRunOf}
+use Rattle.cbfs_edit.specs.Laws.{RunsAreExact, RunsAscend, EmptiedRunsKeepTheComponents}
+use Rattle.cbfs_edit.specs.declared.group.Freed.{Freed}
+use Rattle.cbfs_edit.proofs.Groups.{length-concat-push, ends_after, ends_push, not_alone, between}
+use Rattle.flash_format.proofs.Splices.{concat-append, AllFree, components-free, group-components}
+use Rattle.std.proofs.lemmas.List.Kept.{AllPairs-cons}
+use Rattle.flash_format.proofs.CutSteps.{cell_span}
+use Rattle.flash_format.proofs.CutLaws.{cut_exists}
+use Rattle.std.proofs.lemmas.List.{append-nil}
+use Rattle.flash_format.specs.Components.{Component, components_from}
+use Rattle.flash_format.specs.Splices.{CellsBetween}
+use Rattle.cbfs_edit.proofs.Emptied.{group_range, emptied-components, emptied-end}
+
+-- ---- each run is one
+
+-- a run that ends here
+closed : (start at : ℕ) (done row others : List (List ℕ)) (run : Freed) → EndsWithComponent done → All IsFree row → BeginsWithComponent others → length (concat done) ≡ start → start + length (concat row) ≡ at
+    → start < at → record { start = start; end = at } ≡ run → IsRunOf (done ++ (row ++ others)) run
+closed start at done row others run ends free begins begun is some here = subst (λ (r : Freed). IsRunOf (done ++ (row ++ others)) r) here (record {
+  before = done;
+  row = row;
+  after = others;
+  whole = refl;
+  free = free;
+  some = some;
+  no_more_before = ends;
+  no_more_after = begins;
+  start_is = begun;
+  end_is = is;
+})
+
+Contains-cases : {X : Type 0} (y : X) (ys : List X) (x : X) → Contains (y ∷ ys) x → (y ≡ x) ⊎ Contains ys x
+Contains-cases y ys x (zero, below, is) = inl is
+Contains-cases y ys x (suc k, below, is) = inr (k, omega arith, is)
+
+run-cases : (start end : ℕ) (others : List Freed) (run : Freed) → Contains (add_run start end others) run → ((start < end) × (record { start = start; end = end } ≡ run)) ⊎ Contains others run
+run-cases start end others run has = elim (cases_Bool (nat_lt start end)) [
+  | inl some ↦ elim (Contains-cases (record { start = start; end = end }) others run (rw some at has)) [
+    | inl here ↦ inl (ltb-true start end some, here)
+    | inr there ↦ inr there
+  ]
+  | inr none ↦ inr (rw none at has)
+]
+
+maximal : (start at : ℕ) (done row cells : List (List ℕ)) (run : Freed) → EndsWithComponent done → All IsFree row → length (concat done) ≡ start → start + length (concat row) ≡ at
+    → Contains (runs_from start at cells) run → IsRunOf (done ++ (row ++ cells)) run
+unfolding runs_from
+maximal start at done row [] run ends free begun is has = elim (run-cases start at [] run has) [
+  | inl here ↦ closed start at done row [] run ends free tt begun is here.0 here.1
+  | inr there ↦ absurd (omega (arith, there.1))
+]
+maximal start at done row (c ∷ cells) run ends free begun is has =
+    let next = at + length c in
+    let moved : done ++ ((row ++ c ∷ []) ++ cells) ≡ done ++ (row ++ c ∷ cells) = ap (λ (l : List (List ℕ)). done ++ l) (append_assoc row (c ∷ []) cells) in
+    let passed : ((done ++ row) ++ c ∷ []) ++ ([] ++ cells) ≡ done ++ (row ++ c ∷ cells) = append_assoc (done ++ row) (c ∷ []) cells ∙ append_assoc done row (c ∷ cells) in
+    let longer : start + length (concat (row ++ c ∷ [])) ≡ next = omega (arith, length-concat-push row c) in
+    let before : length (concat ((done ++ row) ++ c ∷ [])) ≡ next = omega (arith, length-concat-push (done ++ row) c, ap length (concat-append done row), length-append (concat done) (concat row)) in
+    elim (cases_Bool (is_free (head_of c))) [
+      | inl e ↦ subst (λ (l : List (List ℕ)). IsRunOf l run) moved (maximal start next done (row ++ c ∷ []) cells run ends (All-push IsFree row c free e) begun longer (rw e at has))
+      | inr e ↦ elim (run-cases start at (runs_from next next cells) run (rw e at has)) [
+        | inl here ↦ closed start at done row (c ∷ cells) run ends free e begun is here.0 here.1
+        | inr there ↦ subst (λ (l : List (List ℕ)). IsRunOf l run) passed (maximal next next ((done ++ row) ++ c ∷ []) [] cells run (ends_push (done ++ row) c e) (All-nil IsFree) before (omega arith) there)
+      ]
+    ]
+
+pub run_maximal : (x : List ℕ) (run : Freed) → Contains (runs x) run → IsRunOf (cut x).cells run
+run_maximal x run has = maximal 0 0 [] [] _ run tt (All-nil IsFree) refl refl has
+
+-- ---- and each such group is a run
+
+-- what is there after the first is there
+later_is : (run : Freed) (others : List Freed) (start end : ℕ) → Contains others run → Contains (add_run start end others) run
+later_is run others start end has = elim (cases_Bool (nat_lt start end)) [
+  | inl some ↦ rw some (suc has.0, omega (arith, has.1), has.2)
+  | inr none ↦ rw none has
+]
+
+here_is : (start end : ℕ) (others : List Freed) → start < end → Contains (add_run start end others) (record { start = start; end = end })
+here_is start end others some = rw (lt-ltb start end some) (0, omega arith, refl)
+
+-- over free cells the run grows
+over_row : (start at : ℕ) (row cells : List (List ℕ)) → All IsFree row → runs_from start at (row ++ cells) ≡ runs_from start (at + length (concat row)) cells
+unfolding runs_from
+over_row start at [] cells free = ap (λ n. runs_from start n cells) (let e : at ≡ at + 0 = omega arith in e)
+over_row start at (c ∷ row) cells free =
+    let next : (at + length c) + length (concat row) ≡ at + length (concat (c ∷ row)) = omega (arith, length-append c (concat row)) in
+    rw (All-head IsFree c row free) (over_row start (at + length c) row cells (All-tail IsFree c row free) ∙ ap (λ n. runs_from start n cells) next)
+
+-- a run that begins at the place
+from_here : (start : ℕ) (row after : List (List ℕ)) (end : ℕ) → All IsFree row → BeginsWithComponent after → start + length (concat row) ≡ end → start < end
+    → Contains (runs_from start start (row ++ after)) (record { start = start; end = end })
+unfolding runs_from
+from_here start row after end free begins is some =
+    subst (λ (l : List Freed). Contains l (record { start = start; end = end })) (sym (over_row start start row after free ∙ ap (λ n. runs_from start n after) is)) (by_after after begins)
+  where
+    by_after : (others : List (List ℕ)) → BeginsWithComponent others → Contains (runs_from start end others) (record { start = start; end = end })
+    by_after [] b = here_is start end [] some
+    by_after (c ∷ others) b = rw b (here_is start end (runs_from (end + length c) (end + length c) others) some)
+
+-- after the cells before it
+there : (start at : ℕ) (before row after : List (List ℕ)) (run : Freed) → (before ≡ [] → start ≡ at) → EndsWithComponent before → All IsFree row → BeginsWithComponent after
+    → at + length (concat before) ≡ run.start → run.start + length (concat row) ≡ run.end → run.start < run.end → Contains (runs_from start at (before ++ (row ++ after))) run
+unfolding runs_from
+there start at [] row after run fresh ends free begins begun is some =
+    let here : at ≡ run.start = omega (arith, begun) in
+    rw (fresh refl, here) (from_here run.start row after run.end free begins is some)
+there start at (c ∷ before) row after run fresh ends free begins begun is some =
+    let next = at + length c in
+    let begun_next : next + length (concat before) ≡ run.start = omega (arith, begun, length-append c (concat before)) in
+    let later : List Freed = runs_from next next (before ++ (row ++ after)) in
+    elim (cases_Bool (is_free (head_of c))) [
+      | inl e ↦ rw e (there start next before row after run (λ none. absurd (not_alone c before e ends none)) (ends_after c before ends) free begins begun_next is some)
+      | inr e ↦ rw e (later_is run later start at (there next next before row after run (λ none. refl) (ends_after c before ends) free begins begun_next is some))
+    ]
+
+pub runs_exact : RunsAreExact
+runs_exact x run = (
+  run_maximal x run,
+  λ is.
+      subst (λ (cs : List (List ℕ)). Contains (runs_from 0 0 cs) run) (sym is.whole)
+      (there 0 0 is.before is.row is.after run (λ none. refl) is.no_more_before is.free is.no_more_after (omega (arith, is.start_is)) is.end_is is.some),
+)
+
+-- ---- the runs stand in order, with a cell between each and the next
+
+abbrev Apart : Freed → Freed → Type 0
+Apart a b = a.end < b.start
+
+none_apart : AllPairs Apart []
+none_apart = λ i j d first second. absurd (omega (arith, second))
+
+abbrev BeginsAfter : ℕ → List Freed → Type 0
+BeginsAfter low runs = All (λ (r : Freed). low < r.start) runs
+
+-- a range, unless it is empty, and others behind it
+add_after : (low start end : ℕ) (others : List Freed) → low < start → BeginsAfter low others → BeginsAfter low (add_run start end others)
+add_after low start end others here rest = cond_both (nat_lt start end) _ others (BeginsAfter low) (λ e. All-cons (λ (r : Freed). low < r.start) _ others here rest) (λ e. rest)
+
+add_apart : (start end : ℕ) (others : List Freed) → BeginsAfter end others → AllPairs Apart others → AllPairs Apart (add_run start end others)
+add_apart start end others later rest = cond_both (nat_lt start end) _ others (AllPairs Apart) (λ e. AllPairs-cons Apart _ others later rest) (λ e. rest)
+
+-- all runs begin behind a place before the first
+begin_after : (low start at : ℕ) (cells : List (List ℕ)) → low < start → start ≤ at → BeginsAfter low (runs_from start at cells)
+unfolding runs_from
+begin_after low start at [] before order = add_after low start at [] before (All-nil (λ (r : Freed). low < r.start))
+begin_after low start at (c ∷ cells) before order =
+    let next = at + length c in
+    cond_both (is_free (head_of c)) (runs_from start next cells) (add_run start at (runs_from next next cells)) (BeginsAfter low)
+    (λ e. begin_after low start next cells before (omega (arith, order)))
+    (λ e. add_after low start at (runs_from next next cells) before (begin_after low next next cells (omega (arith, before, order)) (omega arith)))
+
+apart : (start at : ℕ) (cells : List (List ℕ)) → start ≤ at → All IsCell cells → AllPairs Apart (runs_from start at cells)
+unfolding runs_from
+apart start at [] order each = add_apart start at [] (All-nil (λ (r : Freed). at < r.start)) none_apart
+apart start at (c ∷ cells) order each =
+    let next = at + length c in
+    let some : 64 ≤ length c = (cell_span c (length c) (All-head IsCell c cells each)).positive in
+    let rest : All IsCell cells = All-tail IsCell c cells each in
+    cond_both (is_free (head_of c)) (runs_from start next cells) (add_run start at (runs_from next next cells)) (AllPairs Apart)
+    (λ e. apart start next cells (omega (arith, order)) rest)
+    (λ e. add_apart start at (runs_from next next cells) (begin_after at next next cells (omega (arith, some)) (omega arith)) (apart next next cells (omega arith) rest))
+
+pub runs_ascend : RunsAscend
+runs_ascend x aligned = apart 0 0 (cut x).cells (omega arith) (cut_exists x aligned).1.each
+
+-- ---- each run is a group of free cells of its region, and an empty entry's header over it keeps the components
+
+pub record IsRun (x : List ℕ) (run : Freed) : Type 0 where
+  pub cells : CellsBetween x run.start run.end
+  pub free : AllFree cells.group
+  pub range : IsCellRange run (length x)
+
+pub run_of : (x : List ℕ) (run : Freed) → length x % 64 ≡ 0 → Contains (runs x) run → IsRun x run
+run_of x run aligned has =
+    let r = run_maximal x run has in
+    let cells : CellsBetween x run.start run.end = between x run r.before r.row r.after aligned r.whole r.start_is r.end_is in
+    record { cells = cells; free = r.free; range = group_range x run cells r.some }
+
+pub emptied_runs : EmptiedRunsKeepTheComponents
+emptied_runs x run y aligned small has is =
+    let r = run_of x run aligned has in
+    let g = r.cells in
+    record {
+      components =
+          emptied-components x run r.range y is g small
+          ∙ sym (
+          group-components x run.start run.end g
+          ∙ ap (λ (l : List Component). components_from 0 g.before ++ l ++ components_from run.end g.after) (components-free run.start g.group r.free)
+          ∙ ap (λ (l : List Component). l ++ components_from run.end g.after) (append-nil (components_from 0 g.before))
+          );
+      end = emptied-end x run r.range y is g small;
+    }

@@ -1,0 +1,28 @@
+use Rattle.std.proofs.Common.{arith, ◌+◌}
+use Rattle.flash_store.specs.Regions.{bytes_in}
+use Rattle.std.proofs.lemmas.Result.{err_from_is_err_and}
+use Rattle.cbfs_walk.proofs.Reading.{Passes-within}
+use Rattle.cbfs_walk.proofs.Scanning.{scanned, lies_still}
+use Rattle.cbfs_walk.proofs.Hashing.{taking_more, content_taken}
+use Rattle.cbfs_walk.proofs.hashes.hash_content.Goals as goal
+
+pub piece_in-requires-clause-region : goal.piece_in-requires-clause-region
+piece_in-requires-clause-region g c = lies_still c.loop-at.invariant c.requires.region
+
+pub returns-in_err-bytes-clause-passes : goal.returns-in_err-bytes-clause-passes
+returns-in_err-bytes-clause-passes g c =
+    rw (err_from_is_err_and c.from_residual.result c.from_residual.ensures.1).1 (Passes-within (scanned c.loop-at.invariant (rw c.in_err-bytes.was at c.piece_in.follows.holds-at-none)) (omega arith) (omega arith))
+
+pub loop-at-preserved : goal.loop-at-preserved
+loop-at-preserved g c =
+    let passes = rw c.in_ok-bytes.was at c.piece_in.follows.holds-at-none in
+    taking_more _ g.D.Digest.holds c.args.region _ _ c.loop-at.at c.min-n.result _ _ _ c.loop-at.hasher c.update.new.self _ c.loop-at.invariant (omega (arith, c.min-n.ensures, c.loop-at-test.true)) passes c.in_ok-bytes.ensures.read c.update.ensures
+
+pub returns-clause-passes : goal.returns-clause-passes
+returns-clause-passes g c = Passes-within c.loop-at.invariant.passed (omega arith) (omega (arith, c.loop-at.invariant.high))
+
+pub returns-clause-digest : goal.returns-clause-digest
+returns-clause-digest g c = λ h.
+    let x = bytes_in c.args.region (g.F.Flash.facts c.args.paged.now.device).content in
+    let all = content_taken x c.args.cell.now (c.args.cell.now.at + c.from.result) c.loop-at.at (omega arith) (omega (arith, c.loop-at.invariant.high)) in
+    c.finalize.ensures _ (rw all at (c.loop-at.invariant.asked h))

@@ -1,0 +1,9 @@
+use Rattle.std.proofs.Common.{◌-◌}
+use Rattle.cbfs_walk.proofs.Hashing.{Taking}
+use Rattle.cbfs_walk.proofs.hashes.hash_content.Given as goal
+
+abbrev pub invariant-loop-at : goal.invariant-loop-at
+invariant-loop-at g l = Taking g.F.Flash.facts g.D.Digest.holds l.region l.initial.at l.end l.at l.fn.paged l.paged l.hasher
+
+abbrev pub decreases-loop-at : goal.decreases-loop-at
+decreases-loop-at g l = l.end - l.at

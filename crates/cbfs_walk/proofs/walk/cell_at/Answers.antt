@@ -1,0 +1,29 @@
+use Rattle.std.proofs.Common.{arith, inr, le_refl, sym, drop}
+use Rattle.flash_store.specs.Regions.{bytes_in}
+use Rattle.cbfs_walk.proofs.Checks.{checks_give}
+use Rattle.cbfs_walk.proofs.Reading.{Passes-none, Passes-within}
+use Rattle.cbfs_walk.proofs.Answering.{answer_free, answer_damaged, answer_whole}
+use Rattle.cbfs_walk.proofs.walk.cell_at.Goals as goal
+
+pub damage_in-requires-clause-inside : goal.damage_in-requires-clause-inside
+damage_in-requires-clause-inside g c = let k = checks_give _ _ _ c.requires.cell in omega (arith, k.room, k.inside)
+
+pub damage_in-requires-clause-room : goal.damage_in-requires-clause-room
+damage_in-requires-clause-room g c = (checks_give _ _ _ c.requires.cell).name_low (sym c.if-is_free.ensures)
+
+pub damage_in-requires-clause-placed : goal.damage_in-requires-clause-placed
+damage_in-requires-clause-placed g c = (checks_give _ _ _ c.requires.cell).name_high (sym c.if-is_free.ensures)
+
+pub returns-then-is_free-clause-passes : goal.returns-then-is_free-clause-passes
+returns-then-is_free-clause-passes g c = Passes-within (Passes-none _ c.args.region c.args.cell.now.at _) (le_refl _) (omega arith)
+
+pub returns-then-is_free-clause-answer : goal.returns-then-is_free-clause-answer
+returns-then-is_free-clause-answer g c = λ h head. inr (answer_free _ c.args.cell.now head c.if-is_free.ensures)
+
+pub returns-in-Ok-Some-clause-answer : goal.returns-in-Ok-Some-clause-answer
+returns-in-Ok-Some-clause-answer g c = λ h head.
+    let rest = drop c.args.cell.now.at (bytes_in c.args.region (g.F.Flash.facts c.args.paged.now.device).content) in
+    inr (answer_damaged rest c.args.cell.now c.in-Ok-Some.kind c.if-is_free.ensures (rw c.in-Ok-Some.field-0-is at (c.in-Ok-Some.ensures.damage h)))
+
+pub returns-in-Ok-None-clause-answer : goal.returns-in-Ok-None-clause-answer
+returns-in-Ok-None-clause-answer g c = λ h head. inr (answer_whole _ c.args.cell.now head c.if-is_free.ensures (rw c.in-Ok-None.field-0-is at (c.in-Ok-None.ensures.damage h)))
