@@ -5,7 +5,7 @@ function __cbfscheck_lacks
     not string match -q -- "$argv[1]*" (commandline -opc)[2..]
 end
 
-# Whether the words before have fewer than two images.
+# Whether the words before have fewer than two images, and the last one isn't an option that wants a name.
 function __cbfscheck_wants_image
     set -l text no
     set -l images 0
@@ -22,7 +22,7 @@ function __cbfscheck_wants_image
                 set images (math $images + 1)
         end
     end
-    test $images -lt 2
+    test $text = no -a $images -lt 2
 end
 
 complete -c cbfscheck -f
