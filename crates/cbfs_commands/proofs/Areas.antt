@@ -3,10 +3,10 @@ use Rattle.std.proofs.Common.{◌≡◌, ℕ, ◌+◌, ◌-◌, ◌*◌, ◌<◌
 use Rattle.std.specs.List.{flat_map}
 use Rattle.std.specs.Option.{option_map, option_map_or}
 use Rattle.std.proofs.lemmas.List.{drop-drop}
-use Rattle.flash_format.specs.Flashmap.{area_of, areas_from, map_of, fmap_head_of}
+use Rattle.flash_format.specs.Flashmap.{area_of, areas_at, areas_from, map_of, fmap_head_of}
 use Rattle.flash_store.specs.Fmap.{found_in}
 use Rattle.flash_store.specs.declared.fmap.FoundMap.{FoundMap}
-use Rattle.cbfs_commands.specs.Layouts.{area_row, map_row, layout, layout_text}
+use Rattle.cbfs_commands.specs.Layouts.{area_row, map_row, layout}
 use Rattle.cbfs_commands.specs.Told.{Told, refuses, shows, text_then}
 use Rattle.cbfs_commands.specs.declared.refusal.Refusal.TheVariants as refusals
 
@@ -47,7 +47,7 @@ unfolding layout
 layout-is image map is = go (map_of image) is
   where
     go : (o : Option ℕ) → Some map ≡ option_map (λ q. let found : FoundMap = record { at = q; head = fmap_head_of (drop q image) } in found) o
-        → option_map_or (λ q. shows (layout_text image q)) o (refuses refusals.NoFmap) ≡ text_then (map_row map.at map.head) (shows (rows_of image map.head.nareas (map.at + 56)))
+        → option_map_or (λ q. shows (map_row q (fmap_head_of (drop q image)) ++ flat_map area_row (areas_at image q))) o (refuses refusals.NoFmap) ≡ text_then (map_row map.at map.head) (shows (rows_of image map.head.nareas (map.at + 56)))
     go None is = absurd cc
     go (Some q) is =
         let same : (let found : FoundMap = record { at = q; head = fmap_head_of (drop q image) } in found) ≡ map = cc in

@@ -1,12 +1,13 @@
 -- No outcome's own answer blames a side: each of its refusals is one of the image, the command or the source as they are.
-use Rattle.std.proofs.Common.{◌≡◌, ℕ, Bool, true, false, cond, List, [], ◌∷◌, length, nat_lt, ◌+◌, ◌==◌, ◌&&◌, is_some, Option, Some, None, Result, Ok, Err, sym, subst}
+use Rattle.std.proofs.Common.{◌≡◌, ℕ, Bool, true, false, cond, List, [], ◌∷◌, ◌++◌, drop, length, nat_lt, ◌+◌, ◌==◌, ◌&&◌, is_some, Option, Some, None, Result, Ok, Err, sym, subst}
+use Rattle.std.specs.List.{flat_map}
 use Rattle.std.specs.Option.{ok_or, option_map_or}
 use Rattle.std.specs.Prelude.{⊤}
 use Rattle.flash_format.specs.declared.flashmap.Area.{Area}
 use Rattle.flash_format.specs.Components.{Component, components, is_packed}
 use Rattle.flash_format.specs.Cut.{End, complete, tail, damage, cut}
 use Rattle.flash_format.specs.Entry.{entry}
-use Rattle.flash_format.specs.Flashmap.{map_len, map_of, area_in}
+use Rattle.flash_format.specs.Flashmap.{areas_at, fmap_head_of, map_len, map_of, area_in}
 use Rattle.flash_store.specs.Fmap.{map_head}
 use Rattle.flash_store.specs.Regions.{Range, bytes_in, inside, region_of, region_under}
 use Rattle.flash_store.specs.declared.fmap.StoreFault.{StoreFault}
@@ -26,9 +27,9 @@ use Rattle.cbfs_commands.specs.declared.plan.Plan.{Plan}
 use Rattle.cbfs_commands.specs.declared.refusal.Refusal.{Refusal}
 use Rattle.cbfs_commands.specs.declared.refusal.Refusal.TheVariants as refusals
 use Rattle.cbfs_commands.specs.Creations.{head_for, map_place, plan_for, plan_of, region_place, region_places, some_overlap}
-use Rattle.cbfs_commands.specs.Deeds.{deed, outcome}
-use Rattle.cbfs_commands.specs.Layouts.{layout, layout_text}
-use Rattle.cbfs_commands.specs.Outcomes.{add_region, changing, create, end_answer, extract, extract_region, made_in, print, print_region, read, remove_region, told_found, told_in, write_region}
+use Rattle.cbfs_commands.specs.Deeds.{deed, outcome, removes, replaces}
+use Rattle.cbfs_commands.specs.Layouts.{area_row, layout, map_row}
+use Rattle.cbfs_commands.specs.Outcomes.{add_region, changing, end_answer, extract, extract_region, made_in, print, print_region, read, told_component, told_in}
 use Rattle.cbfs_commands.specs.Refusals.{HasNoFault, and_then, edit_refusal, itself, store_refusal, walk_refusal}
 use Rattle.cbfs_commands.specs.Requests.{Request}
 use Rattle.cbfs_commands.specs.Requests as requests
@@ -172,7 +173,7 @@ end_answer-blameless at complete = tt
 end_answer-blameless at tail = tt
 end_answer-blameless at (damage kind) = tt
 
-told_found-blameless : (c : Option Component) → Blameless itself (told_found c).answer
+told_found-blameless : (c : Option Component) → Blameless itself (option_map_or told_component c (refuses refusals.NotFound)).answer
 told_found-blameless None = tt
 told_found-blameless (Some c) = elim (is_packed c.attributes) as (λ b. Blameless itself (let t : Told = cond b (refuses refusals.Compressed) (shows c.content) in t).answer) [ true ↦ tt | false ↦ tt ]
 
@@ -185,18 +186,18 @@ edited image name make each =
     made-blameless image _ (next-blameless store_refusal _ _ (region_of-blameless image name) (λ region. next-blameless itself _ _ (each region (bytes_in region image)) (λ bytes. tt)))
 
 own_answer : (r : Request) (image source : List ℕ) → Blameless itself (outcome (deed r) image source).answer
-unfolding print print_region layout extract read create
+unfolding print print_region layout extract read
 own_answer (requests.print region verbose) image source =
     by_region image region (λ x. print_region x verbose) (λ x. unless-misshapen (λ (t : Told). Blameless itself t.answer) (λ fault. refuses (walk_refusal fault)) x _ tt tt (end_answer-blameless (place_after 0 (cut x).cells) (cut x).end))
-own_answer requests.layout image source = elim (map_of image) as (λ o. Blameless itself (option_map_or (λ q. shows (layout_text image q)) o (refuses refusals.NoFmap)).answer) [ None ↦ tt | Some q ↦ tt ]
-own_answer (requests.extract region name) image source = by_region image region (λ x. extract_region x name) (λ x. told-blameless walk_refusal (component_in x name) told_found (component_in-blameless x name) told_found-blameless)
+own_answer requests.layout image source = elim (map_of image) as (λ o. Blameless itself (option_map_or (λ q. shows (map_row q (fmap_head_of (drop q image)) ++ flat_map area_row (areas_at image q))) o (refuses refusals.NoFmap)).answer) [ None ↦ tt | Some q ↦ tt ]
+own_answer (requests.extract region name) image source = by_region image region (λ x. extract_region x name) (λ x. told-blameless walk_refusal (component_in x name) _ (component_in-blameless x name) told_found-blameless)
 own_answer (requests.add region name kind hash spot) image source =
     let new : NewComponent = new_component name kind hash source in
     edited image region (λ found x. add_region x new spot) (λ found x. next-blameless edit_refusal (addition_in x new spot) (λ place. Ok (added x new place)) (addition_in-blameless x new spot) (λ place. tt))
 own_answer (requests.remove region name) image source =
-    edited image region (λ found x. remove_region x name) (λ found x. next-blameless edit_refusal (removal_in x name) (λ group. Ok (removed x group)) (removal_in-blameless x name) (λ group. tt))
+    edited image region (λ found x. (removes name).made found x source) (λ found x. next-blameless edit_refusal (removal_in x name) (λ group. Ok (removed x group)) (removal_in-blameless x name) (λ group. tt))
 own_answer (requests.read region) image source = by_region image region shows (λ x. tt)
-own_answer (requests.write region) image source = edited image region (λ found x. write_region found source) (λ found x. when itself (length source == found.size) (Ok source) (Err refusals.SourceSize) tt tt)
+own_answer (requests.write region) image source = edited image region (λ found x. replaces.made found x source) (λ found x. when itself (length source == found.size) (Ok source) (Err refusals.SourceSize) tt tt)
 own_answer (requests.create names) image source = made-blameless image _ (next-blameless itself _ _ (plan_for-blameless (length image) names source) (λ plan. tt))
 
 -- ---- the law

@@ -3,10 +3,10 @@ use Rattle.std.proofs.Common.{◌≡◌, ℕ, List, Some, Result, Ok, Err, refl,
 use Rattle.flash_store.specs.Regions.{Range, bytes_in, region_of}
 use Rattle.cbfs_edit.specs.Additions.{new_component}
 use Rattle.cbfs_commands.specs.declared.refusal.Refusal.{Refusal}
-use Rattle.cbfs_commands.specs.Deeds.{deed, outcome}
+use Rattle.cbfs_commands.specs.Deeds.{deed, outcome, removes, replaces}
 use Rattle.cbfs_commands.specs.Requests.{Request}
 use Rattle.cbfs_commands.specs.Requests as requests
-use Rattle.cbfs_commands.specs.Outcomes.{add_region, changing, extract, extract_region, in_place, made_in, print, print_region, read, reading, remove_region, told_in, write_region}
+use Rattle.cbfs_commands.specs.Outcomes.{add_region, changing, extract, extract_region, in_place, made_in, print, print_region, read, reading, told_in}
 use Rattle.cbfs_commands.specs.Told.{Told, shows}
 use Rattle.cbfs_commands.specs.Laws.{EndAlike, OutcomesAreOfTheRegion, region_name}
 use Rattle.cbfs_commands.proofs.RegionPlaces.{alike_over, region_lies}
@@ -37,9 +37,9 @@ module _ (name : List ℕ) (region : Range) (image other : List ℕ) (here : reg
   each (requests.add asked component kind hash spot) source is =
       let e : asked ≡ name = cc in
       rw e (made (λ r x. add_region x (new_component component kind hash source) spot))
-  each (requests.remove asked component) source is = let e : asked ≡ name = cc in rw e (made (λ r x. remove_region x component))
+  each (requests.remove asked component) source is = let e : asked ≡ name = cc in rw e (made (λ r x. (removes component).made r x source))
   each (requests.read asked) source is = let e : asked ≡ name = cc in rw e (told shows)
-  each (requests.write asked) source is = let e : asked ≡ name = cc in rw e (made (λ r x. write_region r source))
+  each (requests.write asked) source is = let e : asked ≡ name = cc in rw e (made (λ r x. replaces.made r x source))
   each (requests.create names) source is = absurd cc
 
 pub outcomes_of_region : OutcomesAreOfTheRegion

@@ -1,15 +1,15 @@
 -- The lines of a component's attributes, one by one.
-use Rattle.std.proofs.Common.{◌≡◌, List, [], ◌∷◌, Option, Some, None, sym, ap, ◌∙◌}
+use Rattle.std.proofs.Common.{◌≡◌, List, [], ◌∷◌, map, Option, Some, None, sym, ap, ◌∙◌}
 use Rattle.std.specs.List.{flat_map}
 use Rattle.flash_format.specs.declared.attribute.AttrHead.{AttrHead}
 use Rattle.flash_format.specs.Attributes.{Attribute}
 use Rattle.cbfs_walk.specs.AttrWalks.{first_head, after_first, head_of_attribute}
-use Rattle.cbfs_commands.specs.Details.{attribute_line, attribute_text}
+use Rattle.cbfs_commands.specs.Details.{attribute_line}
 use Rattle.cbfs_commands.specs.Told.{Told, shows, text_then}
 
 -- the lines of attributes
 abbrev pub lines : List Attribute → Told
-lines all = shows (flat_map attribute_line all)
+lines all = shows (flat_map attribute_line (map head_of_attribute all))
 
 -- the same of those that are left; none where one of them is malformed
 abbrev pub lines_left : Option (List Attribute) → Told
@@ -18,11 +18,11 @@ lines_left (Some all) = lines all
 
 -- the line of the first that is left, and then the others
 pub lines-first : (o p : Option (List Attribute)) (all : List Attribute) (head : AttrHead) → o ≡ Some all → Some head ≡ first_head all → p ≡ Some (after_first all)
-    → lines_left o ≡ text_then (attribute_text head.tag head.len) (lines_left p)
+    → lines_left o ≡ text_then (attribute_line head) (lines_left p)
 lines-first o p [] head left is next = absurd cc
 lines-first o p (a ∷ others) head left is next =
     let same : head_of_attribute a ≡ head = cc in
-    ap lines_left left ∙ ap (λ (h : AttrHead). text_then (attribute_text h.tag h.len) (lines others)) same ∙ ap (λ (q : Option (List Attribute)). text_then (attribute_text head.tag head.len) (lines_left q)) (sym next)
+    ap lines_left left ∙ ap (λ (h : AttrHead). text_then (attribute_line h) (lines others)) same ∙ ap (λ (q : Option (List Attribute)). text_then (attribute_line head) (lines_left q)) (sym next)
 
 pub lines-none : (o : Option (List Attribute)) (all : List Attribute) → o ≡ Some all → None ≡ first_head all → lines_left o ≡ shows []
 lines-none o [] left is = ap lines_left left

@@ -1,5 +1,5 @@
 -- A plan that isn't refused fits its image, and its areas lie apart.
-use Rattle.std.proofs.Common.{◌≡◌, inl, inr, ℕ, ◌+◌, ◌≤◌, ◌==◌, ◌&&◌, ◌||◌, Bool, true, false, cond, All, List, [], ◌∷◌, length, Option, Some, None, Result, Ok, Err, refl, sym, ap, subst, arith}
+use Rattle.std.proofs.Common.{◌≡◌, inl, inr, ℕ, ◌+◌, ◌≤◌, ◌==◌, ◌&&◌, Bool, true, false, cond, All, List, [], ◌∷◌, length, Option, Some, None, Result, Ok, Err, refl, sym, ap, subst, arith}
 use Rattle.std.specs.Prelude.{IfOk, nat_le, nat_lt}
 use Rattle.std.specs.List.{AllPairs, list_any}
 use Rattle.std.specs.Option.{ok_or}
@@ -132,4 +132,4 @@ planned n names source plan is =
 pub plans_laid : PlansAreLaid
 plans_laid n names source plan is =
     let k = planned n names source plan is in
-    record { fits = k.fits; apart = all_apart (plan.map ∷ plan.regions.items) k.none }
+    (k.fits, all_apart (plan.map ∷ plan.regions.items) k.none)

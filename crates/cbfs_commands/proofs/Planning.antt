@@ -8,7 +8,7 @@ use Rattle.flash_format.specs.declared.flashmap.Area.{Area}
 use Rattle.flash_format.specs.Flashmap.{area_of, areas_from, is_area}
 use Rattle.flash_store.specs.Regions.{Range}
 use Rattle.cbfs_commands.specs.declared.refusal.Refusal.{Refusal}
-use Rattle.cbfs_commands.specs.Creations.{first_area, first_areas}
+use Rattle.cbfs_commands.specs.Creations.{first_area}
 
 -- ---- what is kept for each name
 
@@ -55,7 +55,7 @@ noted-here seen name area here e is = ap (λ b. cond b (Some area) None) is ∙ 
     go (Some a) e = absurd cc
 
 -- before the first area nothing is kept
-pub none-found : (ns : List (List ℕ)) (n k : ℕ) → length ns + k ≡ n → replicate n (let o : Option Area = None in o) ≡ first_areas [] ns ++ replicate k None
+pub none-found : (ns : List (List ℕ)) (n k : ℕ) → length ns + k ≡ n → replicate n (let o : Option Area = None in o) ≡ map (first_area []) ns ++ replicate k None
 none-found [] n k e = let same : n ≡ k = omega (arith, e) in ap (λ m. replicate m (let o : Option Area = None in o)) same
 none-found (name ∷ ns) zero k e = absurd (omega (arith, e))
 none-found (name ∷ ns) (suc n) k e = ap (λ (l : List (Option Area)). None ∷ l) (none-found ns n k (omega (arith, e)))

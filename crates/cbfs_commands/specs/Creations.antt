@@ -19,28 +19,13 @@ use Rattle.cbfs_commands.specs.Refusals.{and_then, itself, store_refusal}
 
 -- ---- the table
 
--- the head of the table that a source begins with
-abbrev pub table_head : List ℕ → Result FmapHead Refusal
-table_head source = ok_or (map_head source) refusals.TableBad
-
--- the size that it states
-abbrev pub stated_size : List ℕ → Result ℕ Refusal
-stated_size source = and_then itself (table_head source) (λ head. Ok head.size)
-
--- the head, where it states n bytes
+-- the head of the table that a source begins with, where it states n bytes
 abbrev pub head_for : ℕ → List ℕ → Result FmapHead Refusal
-head_for n source = and_then itself (table_head source) (λ head. if head.size == n then Ok head else Err refusals.TableBad)
+head_for n source = and_then itself (ok_or (map_head source) refusals.TableBad) (λ head. if head.size == n then Ok head else Err refusals.TableBad)
 
 -- the first of these areas with the name
 abbrev pub first_area : List Area → List ℕ → Option Area
 first_area areas name = find (is_area name) areas
-
-abbrev pub first_areas : List Area → List (List ℕ) → List (Option Area)
-first_areas areas names = map (first_area areas) names
-
--- the name of the area that holds the map itself
-abbrev pub map_area_name : List ℕ
-map_area_name = codes "FMAP"
 
 -- ---- the places
 
@@ -80,7 +65,7 @@ unfoldable pub plan_for : ℕ → List (List ℕ) → List ℕ → Result Plan R
 plan_for n names source =
     and_then itself (head_for n source) (λ head.
     let areas = areas_from head.nareas (drop fmap_head_len source) in
-    plan_of n (map_len head) (first_area areas map_area_name) (first_areas areas names))
+    plan_of n (map_len head) (first_area areas (codes "FMAP")) (map (first_area areas) names))
 
 -- a region of an image of n bytes, with the size of a CBFS
 pub record IsPlace (n : ℕ) (place : Range) : Type 0 where

@@ -1,5 +1,5 @@
 -- What a command is to an image: its outcome, what it may change, which sides it uses, and what a stop leaves.
-use Rattle.std.specs.Prelude.{◌≡◌, ℕ, ◌+◌, ◌/◌, ◌⊎◌, Bool, true, false, List, [], length, Option, Some, None, is_some, unwrap_or, Result, Ok, Err, IsErrOf, IsTrue}
+use Rattle.std.specs.Prelude.{◌≡◌, ℕ, ◌+◌, ◌/◌, ◌⊎◌, Bool, true, false, List, [], length, Option, Some, None, is_some, unwrap_or, Result, Ok, Err, IsErrOf, IsTrue, ◌==◌, if◌then◌else◌}
 use Rattle.std.specs.Option.{option_map}
 use Rattle.std.specs.Result.{result_ok}
 use Rattle.flash_format.specs.Flashmap.{area_len}
@@ -8,15 +8,18 @@ use Rattle.flash_store.specs.Device.{Device}
 use Rattle.flash_store.specs.Pages.{Pages, OnHonest}
 use Rattle.flash_store.specs.Regions.{Range, bytes_in, region_of}
 use Rattle.cbfs_edit.specs.Additions.{new_component}
+use Rattle.cbfs_edit.specs.Removals.{removal_in, removed}
 use Rattle.cbfs_edit.specs.Stops.{LeavesWhole}
 use Rattle.cbfs_edit.specs.declared.addition.HashChoice.{HashChoice}
 use Rattle.cbfs_edit.specs.declared.place.Spot.{Spot}
 use Rattle.cbfs_commands.specs.declared.refusal.Refusal.{Refusal}
 use Rattle.cbfs_commands.specs.declared.refusal.Refusal.TheVariants as refusals
+use Rattle.cbfs_commands.specs.Creations.{created, plan_for}
 use Rattle.cbfs_commands.specs.Layouts.{layout}
+use Rattle.cbfs_commands.specs.Refusals.{and_then, edit_refusal, itself}
 use Rattle.cbfs_commands.specs.Requests.{Request}
 use Rattle.cbfs_commands.specs.Requests as requests
-use Rattle.cbfs_commands.specs.Outcomes.{Outcome, StopsIn, AddStopsIn, HasWritten, LeavesOr, changing, reading, made_in, in_place, print, extract, add_region, remove_region, read, write_region, create}
+use Rattle.cbfs_commands.specs.Outcomes.{Outcome, StopsIn, AddStopsIn, HasWritten, LeavesOr, changing, reading, made_in, in_place, print, extract, add_region, read}
 use Rattle.cbfs_commands.specs.Told.{Answer, Told}
 
 -- A change of the image: what it makes of the image and the source, the region that it may change, by how many calls of the
@@ -89,9 +92,9 @@ edits name e = record {
   Stopped = λ image source answer now. (region : Range) → region_of image name ≡ Ok region → e.Stops region image source answer now;
 }
 
--- the source is put in place of a region
+-- the source, which has its size, is put in place of a region
 abbrev pub replaces : Edit
-replaces = record { made = λ region x source. write_region region source; source_calls = Some copying_calls; Stops = StopsIn }
+replaces = record { made = λ region x source. if length source == region.size then Ok source else Err refusals.SourceSize; source_calls = Some copying_calls; Stops = StopsIn }
 
 -- the source is added to a region as a component
 abbrev pub adds : List ℕ → ℕ → HashChoice → Spot → Edit
@@ -101,18 +104,18 @@ adds name kind hash spot = record {
   Stops = λ region image source answer now. AddStopsIn region image (new_component name kind hash source) spot answer now;
 }
 
--- a component is removed from a region
+-- the first component of a name is removed from a region: one empty entry stands in place of it and the free space that touches it
 abbrev pub removes : List ℕ → Edit
 removes name = record {
-  made = λ region x source. remove_region x name;
+  made = λ region x source. and_then edit_refusal (removal_in x name) (λ group. Ok (removed x group));
   source_calls = None;
   Stops = λ region image source answer now. IsErrOf answer refusals.Device → LeavesWhole (bytes_in region image) name (bytes_in region now);
 }
 
--- the whole image is made from the source: of a stop only the size is promised
+-- the whole image is made by the flashmap that the source begins with: of a stop only the size is promised
 abbrev pub creates : List (List ℕ) → Change
 creates names = record {
-  made = λ image source. create image names source;
+  made = λ image source. and_then itself (plan_for (length image) names source) (λ plan. Ok (created (length image) plan source));
   target = λ image. Some (record { start = 0; size = length image });
   source_calls = Some (λ n. n / area_len + n / 4096 + 3);
   Stopped = λ image source answer now. length now ≡ length image;

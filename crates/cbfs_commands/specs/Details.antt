@@ -1,13 +1,14 @@
 -- What `print -v` adds after a component's row: a line for each attribute, and one for its digest. The forms of the texts
 -- are this project's own.
-use Rattle.std.specs.Prelude.{ℕ, ◌+◌, ◌/◌, Bool, not, ◌&&◌, List, [], ◌∷◌, ◌++◌, length, if◌then◌else◌}
+use Rattle.std.specs.Prelude.{ℕ, ◌+◌, ◌/◌, Bool, not, ◌&&◌, List, [], ◌∷◌, ◌++◌, length, map, if◌then◌else◌}
 use Rattle.std.specs.List.{flat_map}
 use Rattle.std.specs.Fmt.{decimal}
 use lib.Chars.{codes}
 use Rattle.byteorder.specs.Endian.{big_bytes}
 use Rattle.hex.specs.Hex.{encode_lower}
 use Rattle.flash_format.specs.Head.{head_of, is_free}
-use Rattle.flash_format.specs.Attributes.{Attribute}
+use Rattle.flash_format.specs.declared.attribute.AttrHead.{AttrHead}
+use Rattle.cbfs_walk.specs.AttrWalks.{head_of_attribute}
 use Rattle.flash_format.specs.Components.{cell_attributes, cell_content}
 use Rattle.flash_format.specs.Made.{digest_bytes}
 use Rattle.flash_format.specs.declared.digest.Digest.{Digest}
@@ -18,12 +19,9 @@ use Rattle.cbfs_walk.specs.declared.hashes.HashState.TheVariants.{Absent, Valid,
 use Rattle.printed_fields.specs.Printed.{tab, line_feed}
 use Rattle.cbfs_commands.specs.Rows.{row}
 
--- the line of an attribute: its tag with eight digits, and its length, which counts its head
-unfoldable pub attribute_text : ℕ → ℕ → List ℕ
-attribute_text tag len = codes "\tattr\t0x" ++ encode_lower (big_bytes 4 tag) ++ tab ++ decimal len ++ line_feed
-
-abbrev pub attribute_line : Attribute → List ℕ
-attribute_line a = attribute_text a.tag (8 + length a.contents)
+-- the line of an attribute's head: its tag with eight digits, and its length, which counts the head
+unfoldable pub attribute_line : AttrHead → List ℕ
+attribute_line head = codes "\tattr\t0x" ++ encode_lower (big_bytes 4 head.tag) ++ tab ++ decimal head.len ++ line_feed
 
 abbrev pub algorithm_name : Digest → List ℕ
 algorithm_name (digests.Sha256 bytes) = codes "sha256"
@@ -46,7 +44,7 @@ hash_text x = hash_line (hash_state (cell_attributes x) (cell_content x))
 
 -- all lines of a component
 abbrev pub details : List ℕ → List ℕ
-details x = flat_map attribute_line (cell_attributes x) ++ hash_text x
+details x = flat_map attribute_line (map head_of_attribute (cell_attributes x)) ++ hash_text x
 
 -- the row of a cell of these bytes at a place, with the lines after it
 abbrev pub shown_cell : Bool → ℕ → List ℕ → List ℕ

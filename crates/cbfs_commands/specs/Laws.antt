@@ -10,8 +10,8 @@ use Rattle.cbfs_edit.specs.declared.place.Place.{Place}
 use Rattle.cbfs_edit.specs.declared.place.Spot.{Spot}
 use Rattle.cbfs_commands.specs.declared.plan.Plan.{Plan}
 use Rattle.cbfs_commands.specs.Creations.{Fits, created, plan_for}
-use Rattle.cbfs_commands.specs.Deeds.{deed, outcome}
-use Rattle.cbfs_commands.specs.Outcomes.{Outcome, add, changing, extract, extract_region, read, write}
+use Rattle.cbfs_commands.specs.Deeds.{deed, edits, outcome, replaces}
+use Rattle.cbfs_commands.specs.Outcomes.{Outcome, add_region, changing, extract, extract_region, made_in, read}
 use Rattle.cbfs_commands.specs.Refusals.{HasNoFault}
 use Rattle.cbfs_commands.specs.Requests.{Request}
 use Rattle.cbfs_commands.specs.Requests as requests
@@ -23,7 +23,7 @@ OutcomesHaveNoFault = (r : Request) (image source : List ℕ) → HasNoFault (ou
 
 -- what `read` tells of a region is what `write` may put back, and the image stays as it is
 abbrev pub WritingBackChangesNothing : Type 0
-WritingBackChangesNothing = (image name bytes : List ℕ) → read image name ≡ shows bytes → write image name bytes ≡ Ok image
+WritingBackChangesNothing = (image name bytes : List ℕ) → read image name ≡ shows bytes → (edits name replaces).made image bytes ≡ Ok image
 
 -- the name of the region that a command reads or changes; `layout` and `create` have none
 abbrev pub region_name : Request → Option (List ℕ)
@@ -48,14 +48,9 @@ OutcomesAreOfTheRegion = (r : Request) (name : List ℕ) (region : Range) (image
     → region_name r ≡ Some name → region_of image name ≡ Ok region → region_of other name ≡ Ok region → bytes_in region other ≡ bytes_in region image
     → EndAlike region (outcome (deed r) image source) (outcome (deed r) other source)
 
--- what every plan meets, and its map's area and its regions have no byte in common
-pub record IsLaid (n m : ℕ) (plan : Plan) : Type 0 where
-  pub fits : Fits n m plan
-  pub apart : AllPairs LieApart (plan.map ∷ plan.regions.items)
-
--- each area of a plan that isn't refused lies in the image, and no two of them have a byte in common
+-- a plan that isn't refused meets what every plan meets, and its map's area and its regions have no byte in common
 abbrev pub PlansAreLaid : Type 0
-PlansAreLaid = (n : ℕ) (names : List (List ℕ)) (source : List ℕ) (plan : Plan) → plan_for n names source ≡ Ok plan → IsLaid n (length source) plan
+PlansAreLaid = (n : ℕ) (names : List (List ℕ)) (source : List ℕ) (plan : Plan) → plan_for n names source ≡ Ok plan → Fits n (length source) plan × AllPairs LieApart (plan.map ∷ plan.regions.items)
 
 -- each region that `create` formats is one free cell
 abbrev pub CreatedRegionsAreFree : Type 0
@@ -69,5 +64,5 @@ AdditionsAreExtracted = (x : List ℕ) (new : NewComponent) (spot : Spot) (place
 -- and so it is of an image, where its map still gives the name the same region
 abbrev pub AddedFilesAreExtracted : Type 0
 AddedFilesAreExtracted = (image name : List ℕ) (new : NewComponent) (spot : Spot) (region : Range) (place : Place) → region_of image name ≡ Ok region → IsAdded (bytes_in region image) new spot place
-    → let now = (changing image (add image name new spot)).image in
+    → let now = (changing image (made_in image name (λ found x. add_region x new spot))).image in
     region_of now name ≡ Ok region → extract now name new.name ≡ shows new.content

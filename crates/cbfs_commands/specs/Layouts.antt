@@ -19,9 +19,5 @@ map_row q h = codes "fmap" ++ tab ++ hexadecimal q ++ tab ++ printed_name (text_
 unfoldable pub area_row : Area → List ℕ
 area_row a = printed_name (text_of a.name) ++ tab ++ hexadecimal a.offset ++ tab ++ decimal a.size ++ tab ++ hexadecimal a.flags ++ line_feed
 
--- the text of the map at a place
-abbrev pub layout_text : List ℕ → ℕ → List ℕ
-layout_text image q = map_row q (fmap_head_of (drop q image)) ++ flat_map area_row (areas_at image q)
-
 unfoldable pub layout : List ℕ → Told
-layout image = option_map_or (λ q. shows (layout_text image q)) (map_of image) (refuses refusals.NoFmap)
+layout image = option_map_or (λ q. shows (map_row q (fmap_head_of (drop q image)) ++ flat_map area_row (areas_at image q))) (map_of image) (refuses refusals.NoFmap)

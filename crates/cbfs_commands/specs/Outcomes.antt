@@ -1,16 +1,16 @@
 -- What each command writes, leaves behind and answers, as a function of the whole image, the command and the source.
-use Rattle.std.specs.Prelude.{◌≡◌, ◌≢◌, ℕ, ◌⊎◌, Bool, List, [], length, Option, None, Some, Result, Ok, Err, IsErrOf, ◌==◌, if◌then◌else◌}
+use Rattle.std.specs.Prelude.{◌≡◌, ◌≢◌, ℕ, ◌⊎◌, Bool, List, [], length, Option, Result, Ok, Err, IsErrOf, if◌then◌else◌}
+use Rattle.std.specs.Option.{option_map_or}
 use Rattle.std.specs.Result.{result_map_both, result_unwrap_or}
 use Rattle.std.specs.Io.KnownBytes.{Appends}
 use Rattle.flash_format.specs.Components.{Component, is_packed}
-use Rattle.flash_format.specs.Cut.{Cut, End, complete, tail, damage, cut}
+use Rattle.flash_format.specs.Cut.{Cut, End, damage, cut}
 use Rattle.flash_store.specs.Bytes.{overwritten, FirstWritten, PartWritten}
 use Rattle.flash_store.specs.Device.{Device, Calls, faults_told}
 use Rattle.flash_store.specs.Output.{AppendsPart}
 use Rattle.flash_store.specs.Pages.{Pages}
 use Rattle.flash_store.specs.Regions.{Range, bytes_in, region_of}
 use Rattle.cbfs_edit.specs.Stops.{AddLeavesBefore, AddLeavesWhole}
-use Rattle.cbfs_edit.specs.Removals.{removal_in, removed}
 use Rattle.cbfs_edit.specs.Additions.{NewComponent, added, addition_in}
 use Rattle.cbfs_edit.specs.declared.place.Spot.{Spot}
 use Rattle.cbfs_walk.specs.Finding.{component_in}
@@ -18,7 +18,6 @@ use Rattle.cbfs_walk.specs.Shaped.{place_after}
 use Rattle.cbfs_walk.specs.Shapes.{shape, refused_or}
 use Rattle.cbfs_commands.specs.declared.refusal.Refusal.{Refusal}
 use Rattle.cbfs_commands.specs.declared.refusal.Refusal.TheVariants as refusals
-use Rattle.cbfs_commands.specs.Creations.{created, plan_for}
 use Rattle.cbfs_commands.specs.Refusals.{and_then, by_device, by_source, edit_refusal, itself, store_refusal, walk_refusal}
 use Rattle.cbfs_commands.specs.Details.{rows_from}
 use Rattle.cbfs_commands.specs.Told.{Answer, Told, shows, refuses, told_of, AppendsPrefix}
@@ -53,9 +52,8 @@ made_in image name make = and_then store_refusal (region_of image name) (λ regi
 -- ---- print
 
 abbrev pub end_answer : ℕ → End → Answer
-end_answer at complete = Ok tt
-end_answer at tail = Ok tt
 end_answer at (damage kind) = Err (refusals.Damaged at kind)
+end_answer at _ = Ok tt
 
 -- a row for each cell, then the damage that ends them, at the place after them
 abbrev pub print_cut : Bool → ℕ → Cut → Told
@@ -74,22 +72,12 @@ print image name verbose = told_in image name (λ x. print_region x verbose)
 abbrev pub told_component : Component → Told
 told_component c = if is_packed c.attributes then refuses refusals.Compressed else shows c.content
 
-abbrev pub told_found : Option Component → Told
-told_found None = refuses refusals.NotFound
-told_found (Some c) = told_component c
-
 abbrev pub extract_region : List ℕ → List ℕ → Told
-extract_region x name = told_of walk_refusal (component_in x name) told_found
+extract_region x name = told_of walk_refusal (component_in x name) (λ found. option_map_or told_component found (refuses refusals.NotFound))
 
 -- the content of the first component of the name in the region
 unfoldable pub extract : List ℕ → List ℕ → List ℕ → Told
 extract image region name = told_in image region (λ x. extract_region x name)
-
--- ---- remove
-
--- one empty entry in place of the first component of the name, with the free space that touches it
-abbrev pub remove_region : List ℕ → List ℕ → Result (List ℕ) Refusal
-remove_region x name = and_then edit_refusal (removal_in x name) (λ group. Ok (removed x group))
 
 -- ---- add
 
@@ -97,27 +85,11 @@ remove_region x name = and_then edit_refusal (removal_in x name) (λ group. Ok (
 abbrev pub add_region : List ℕ → NewComponent → Spot → Result (List ℕ) Refusal
 add_region x new spot = and_then edit_refusal (addition_in x new spot) (λ place. Ok (added x new place))
 
-unfoldable pub add : List ℕ → List ℕ → NewComponent → Spot → Result (List ℕ) Refusal
-add image region new spot = made_in image region (λ found x. add_region x new spot)
-
--- ---- read and write
+-- ---- read
 
 -- the region's bytes
 unfoldable pub read : List ℕ → List ℕ → Told
 read image name = told_in image name shows
-
--- the source in place of the region's bytes
-abbrev pub write_region : Range → List ℕ → Result (List ℕ) Refusal
-write_region region source = if length source == region.size then Ok source else Err refusals.SourceSize
-
-unfoldable pub write : List ℕ → List ℕ → List ℕ → Result (List ℕ) Refusal
-write image name source = made_in image name (λ region x. write_region region source)
-
--- ---- create
-
--- the whole image by the flashmap that the source begins with
-unfoldable pub create : List ℕ → List (List ℕ) → List ℕ → Result (List ℕ) Refusal
-create image names source = and_then itself (plan_for (length image) names source) (λ plan. Ok (created (length image) plan source))
 
 -- ---- what a call does
 

@@ -68,7 +68,6 @@ fn write_plan<F: Flash, S: Source>(
 
 /// Makes the whole image from the flashmap that the source begins with: 0xff throughout, the table in the area FMAP, and each
 /// named region one empty entry. Nothing is written before everything is checked.
-#[tactic(auto, unfolding(crate::specs::Outcomes::create))]
 pub fn create<F: Flash, S: Source>(
     paged: &mut Paged<F>,
     names: &[&[u8]],

@@ -1,6 +1,6 @@
 //! The lines that a verbose listing has of a component, after its row.
 
-ghost use Rattle.std.specs.Prelude.{◌≡◌, ◌+◌, ◌/◌, ◌≤◌, ◌++◌, false, length};
+ghost use Rattle.std.specs.Prelude.{◌≡◌, ◌+◌, ◌/◌, ◌≤◌, ◌++◌, false, length, map};
 ghost use Rattle.std.specs.List.{flat_map};
 ghost use Rattle.byteorder.specs.Endian.{big_bytes};
 ghost use Rattle.hex.specs.Hex.{encode_lower};
@@ -9,8 +9,9 @@ ghost use Rattle.flash_format.specs.Head.{is_free};
 ghost use Rattle.flash_format.specs.Made.{digest_bytes};
 ghost use Rattle.flash_format.specs.Components.{cell_attributes, cell_content};
 ghost use Rattle.printed_fields.specs.Printed.{Pushes};
+ghost use Rattle.cbfs_walk.specs.AttrWalks.{head_of_attribute};
 ghost use Rattle.cbfs_walk.specs.Hashes.{hash_state};
-ghost use Rattle.cbfs_commands.specs.Details.{algorithm_name, attribute_line, attribute_text, details, digest_line, hash_line, hash_text};
+ghost use Rattle.cbfs_commands.specs.Details.{algorithm_name, attribute_line, details, digest_line, hash_line, hash_text};
 ghost use Rattle.cbfs_commands.specs.Told.{HasTold, IsCellOf, cell_of, shows};
 
 use crate::refusal::Refusal;
@@ -34,9 +35,9 @@ fn push_tag(row: &mut Row, tag: u32)
 }
 
 /// The line of an attribute.
-#[tactic(auto, unfolding(crate::specs::Details::attribute_text))]
+#[tactic(auto, unfolding(crate::specs::Details::attribute_line))]
 fn set_attribute_row(row: &mut Row, head: &AttrHead)
-    ensures { row.new.items ≡ attribute_text head.now.tag head.now.len }
+    ensures { row.new.items ≡ attribute_line head.now }
 {
     row.clear();
     push_text(row, b"\tattr\t0x");
@@ -110,7 +111,7 @@ fn print_attributes<F: Flash, W: Sink>(
     requires component { is_free cell.now.head ≡ false }
 
     ensures { HasTold F.facts W.contents W.faults (cell.now.head.offset / 8) paged.old paged.new out.old out.new result
-        (λ image. shows (flat_map attribute_line (cell_attributes (cell_of region cell.now image)))) }
+        (λ image. shows (flat_map attribute_line (map head_of_attribute (cell_attributes (cell_of region cell.now image))))) }
 {
     let mut walk = attributes(cell);
     loop {

@@ -1,10 +1,13 @@
 //! The flashmap that an image is made from: a table at the start of a source.
 
 ghost use Rattle.std.specs.Prelude.{◌≡◌, ◌⊎◌, ◌<◌, ◌≤◌, ◌++◌, ◌∷◌, [], List, Option, length, map, take, drop, IsTrue, IsErrOf, IfOk, IfErr};
+ghost use Rattle.std.specs.Option.{ok_or, option_map};
+ghost use lib.Chars.{codes};
 ghost use Rattle.flash_format.specs.declared.flashmap.Area.{Area};
 ghost use Rattle.flash_format.specs.Flashmap.{fmap_head_len, map_len, areas_from};
 ghost use Rattle.flash_store.specs.Device.{Reads, faults_told, refusals};
-ghost use Rattle.cbfs_commands.specs.Creations.{head_for, first_area, first_areas, map_area_name, stated_size};
+ghost use Rattle.flash_store.specs.Fmap.{map_head};
+ghost use Rattle.cbfs_commands.specs.Creations.{head_for, first_area};
 ghost use Rattle.cbfs_commands.specs.Refusals.{by_source};
 
 use crate::refusal::Refusal;
@@ -23,7 +26,7 @@ pub fn create_size<S: Source>(source: &mut S) -> Result<u32, Refusal>
     ensures calls { Reads 1 (faults_told by_source result) (S.facts source.old) (S.facts source.new) }
     ensures refusals { IfErr result (λ refusal. (refusal ≡ Refusal.Source) ⊎ (refusal ≡ Refusal.TableBad)) }
     ensures size { IsTrue (S.facts source.old).honest →
-        IsErrOf result Refusal.Source ⊎ (result ≡ stated_size (S.facts source.old).content) }
+        IsErrOf result Refusal.Source ⊎ (result ≡ ok_or (option_map (λ head. head.size) (map_head (S.facts source.old).content)) Refusal.TableBad) }
 {
     match map_in_source(source)? {
         Some(head) => Ok(head.size),
@@ -70,8 +73,8 @@ fn noted(before: Option<Area>, name: &[u8], area: &Area) -> Option<Area>
 fn note_each(found: &mut [Option<Area>; MOST_REGIONS], names: &[&[u8]], area: &Area)
     requires { length names.now ≤ MOST_REGIONS }
     ensures { (seen : List Area) (rest : List (Option Area)) →
-        found.old ≡ first_areas seen (map (λ n. n.now) names.now) ++ rest →
-        found.new ≡ first_areas (seen ++ area.now ∷ []) (map (λ n. n.now) names.now) ++ rest }
+        found.old ≡ map (first_area seen) (map (λ n. n.now) names.now) ++ rest →
+        found.new ≡ map (first_area (seen ++ area.now ∷ [])) (map (λ n. n.now) names.now) ++ rest }
 {
     for i in 0..names.len() {
         found[i] = noted(found[i], names[i], area);
@@ -91,9 +94,9 @@ pub fn first_areas<S: Source>(
 
     // From an honest source.
     ensures map { IsTrue (S.facts source.old).honest → IfOk result (λ found. found.map ≡ first_area
-        (areas_from head.now.nareas (drop fmap_head_len (S.facts source.old).content)) map_area_name) }
+        (areas_from head.now.nareas (drop fmap_head_len (S.facts source.old).content)) (codes "FMAP")) }
     ensures regions { IsTrue (S.facts source.old).honest → IfOk result (λ found. take (length names.now) found.regions
-        ≡ first_areas (areas_from head.now.nareas (drop fmap_head_len (S.facts source.old).content))
+        ≡ map (first_area (areas_from head.now.nareas (drop fmap_head_len (S.facts source.old).content)))
         (map (λ n. n.now) names.now)) }
 {
     let mut found = FoundAreas {

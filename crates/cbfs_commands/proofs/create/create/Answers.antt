@@ -1,10 +1,8 @@
 use Rattle.std.proofs.Common.{rules}
-use Rattle.cbfs_commands.specs.Outcomes.{create}
 use Rattle.cbfs_commands.proofs.Meeting.{whole-image}
 use Rattle.cbfs_commands.proofs.create.create.Goals as goal
 
 pub returns : goal.returns
-unfolding create
 returns g c = record {
   after = search rules;
   spares = λ h. whole-image _ _ c.write_plan.ensures.after.calls.same_length;

@@ -1,9 +1,10 @@
 use Rattle.std.proofs.Common.{◌++◌, ◌-◌, List, Option, None, length, map, drop, replicate, refl, ap, ◌∙◌, arith}
 use Rattle.std.proofs.lemmas.List.{length-map}
+use lib.Chars.{codes}
 use Rattle.flash_format.specs.declared.flashmap.Area.{Area}
 use Rattle.flash_format.specs.Flashmap.{areas_from}
 use Rattle.flash_store.proofs.DeviceLemmas.{honest_still, Reads-none, Reads-then}
-use Rattle.cbfs_commands.specs.Creations.{first_area, first_areas, map_area_name}
+use Rattle.cbfs_commands.specs.Creations.{first_area}
 use Rattle.cbfs_commands.proofs.Planning.{areas-and, none-found}
 use Rattle.cbfs_commands.proofs.table.first_areas.Goals as goal
 
@@ -21,7 +22,7 @@ loop-i-preserved g c =
           let rest : List (Option Area) = replicate (16 - length c.args.names.now) None in
           let before = c.loop-i.invariant.1 h in
           let more = areas-and c.loop-i.i _ _ c.in_ok-area.area (reads.unchanged h) (read.area (honest_still reads.calls.same_honesty h)) in (
-            c.noted-found.ensures seen before.0 ∙ ap (λ (areas : List Area). first_area areas map_area_name) more,
-            c.note_each.ensures seen rest before.1 ∙ ap (λ (areas : List Area). first_areas areas (map (λ n. n.now) c.args.names.now) ++ rest) more,
+            c.noted-found.ensures seen before.0 ∙ ap (λ (areas : List Area). first_area areas (codes "FMAP")) more,
+            c.note_each.ensures seen rest before.1 ∙ ap (λ (areas : List Area). map (first_area areas) (map (λ n. n.now) c.args.names.now) ++ rest) more,
           ),
     )
