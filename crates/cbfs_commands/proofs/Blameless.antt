@@ -1,5 +1,5 @@
 -- No outcome's own answer blames a side: each of its refusals is one of the image, the command or the source as they are.
-use Rattle.std.proofs.Common.{◌≡◌, ℕ, Bool, true, false, cond, List, [], ◌∷◌, ◌++◌, drop, length, nat_lt, ◌+◌, ◌==◌, ◌&&◌, is_some, Option, Some, None, Result, Ok, Err, sym, subst}
+use Rattle.std.proofs.Common.{◌≡◌, inl, inr, ℕ, Bool, true, false, cond, List, [], ◌∷◌, ◌++◌, drop, length, nat_lt, ◌+◌, ◌==◌, ◌&&◌, is_some, Option, Some, None, Result, Ok, Err, sym, subst}
 use Rattle.std.specs.List.{flat_map}
 use Rattle.std.specs.Option.{ok_or, option_map_or}
 use Rattle.std.specs.Prelude.{⊤}
@@ -29,7 +29,7 @@ use Rattle.cbfs_commands.specs.declared.refusal.Refusal.TheVariants as refusals
 use Rattle.cbfs_commands.specs.Creations.{head_for, map_place, plan_for, plan_of, region_place, region_places, some_overlap}
 use Rattle.cbfs_commands.specs.Deeds.{deed, outcome, removes, replaces}
 use Rattle.cbfs_commands.specs.Layouts.{area_row, layout, map_row}
-use Rattle.cbfs_commands.specs.Outcomes.{add_region, changing, end_answer, extract, extract_region, made_in, print, print_region, read, told_component, told_in}
+use Rattle.cbfs_commands.specs.Outcomes.{add_region, changing, end_answer, extract, extract_region, made_in, print, print_region, told_component, told_in}
 use Rattle.cbfs_commands.specs.Refusals.{HasNoFault, and_then, edit_refusal, itself, store_refusal, walk_refusal}
 use Rattle.cbfs_commands.specs.Requests.{Request}
 use Rattle.cbfs_commands.specs.Requests as requests
@@ -49,11 +49,9 @@ Blameless tell (Err fault) = BlamesNone (tell fault)
 
 -- it is no fault of a side
 no_fault : {T : Type 0} (answer : Result T Refusal) → Blameless itself answer → HasNoFault answer
-no_fault {T} answer own = record {
-  device = λ blamed. subst (λ (a : Result T Refusal). Blameless itself a) blamed own;
-  output = λ blamed. subst (λ (a : Result T Refusal). Blameless itself a) blamed own;
-  source = λ blamed. subst (λ (a : Result T Refusal). Blameless itself a) blamed own;
-}
+no_fault {T} answer own (inl blamed) = subst (λ (a : Result T Refusal). Blameless itself a) blamed own
+no_fault {T} answer own (inr (inl blamed)) = subst (λ (a : Result T Refusal). Blameless itself a) blamed own
+no_fault {T} answer own (inr (inr blamed)) = subst (λ (a : Result T Refusal). Blameless itself a) blamed own
 
 -- one of two answers
 when : {T E : Type 0} (tell : E → Refusal) (b : Bool) (x y : Result T E) → Blameless tell x → Blameless tell y → Blameless tell (cond b x y)
@@ -74,7 +72,7 @@ told-blameless : {T E : Type 0} (tell : E → Refusal) (r : Result T E) (next : 
 told-blameless tell (Err fault) next own each = own
 told-blameless tell (Ok value) next own each = each value
 
-made-blameless : (image : List ℕ) (made : Result (List ℕ) Refusal) → Blameless itself made → Blameless itself (changing image made).answer
+made-blameless : (image : List ℕ) (made : Result (List ℕ) Refusal) → Blameless itself made → Blameless itself (changing image made).told.answer
 made-blameless image (Err refusal) own = own
 made-blameless image (Ok now) own = own
 
@@ -181,12 +179,12 @@ told_found-blameless (Some c) = elim (is_packed c.attributes) as (λ b. Blameles
 by_region : (image name : List ℕ) (tell : List ℕ → Told) → ((x : List ℕ) → Blameless itself (tell x).answer) → Blameless itself (told_in image name tell).answer
 by_region image name tell each = told-blameless store_refusal _ _ (region_of-blameless image name) (λ region. each (bytes_in region image))
 
-edited : (image name : List ℕ) (make : Range → List ℕ → Result (List ℕ) Refusal) → ((region : Range) (x : List ℕ) → Blameless itself (make region x)) → Blameless itself (changing image (made_in image name make)).answer
+edited : (image name : List ℕ) (make : Range → List ℕ → Result (List ℕ) Refusal) → ((region : Range) (x : List ℕ) → Blameless itself (make region x)) → Blameless itself (changing image (made_in image name make)).told.answer
 edited image name make each =
     made-blameless image _ (next-blameless store_refusal _ _ (region_of-blameless image name) (λ region. next-blameless itself _ _ (each region (bytes_in region image)) (λ bytes. tt)))
 
-own_answer : (r : Request) (image source : List ℕ) → Blameless itself (outcome (deed r) image source).answer
-unfolding print print_region layout extract read
+own_answer : (r : Request) (image source : List ℕ) → Blameless itself (outcome (deed r) image source).told.answer
+unfolding print print_region layout extract
 own_answer (requests.print region verbose) image source =
     by_region image region (λ x. print_region x verbose) (λ x. unless-misshapen (λ (t : Told). Blameless itself t.answer) (λ fault. refuses (walk_refusal fault)) x _ tt tt (end_answer-blameless (place_after 0 (cut x).cells) (cut x).end))
 own_answer requests.layout image source = elim (map_of image) as (λ o. Blameless itself (option_map_or (λ q. shows (map_row q (fmap_head_of (drop q image)) ++ flat_map area_row (areas_at image q))) o (refuses refusals.NoFmap)).answer) [ None ↦ tt | Some q ↦ tt ]
@@ -202,5 +200,5 @@ own_answer (requests.create names) image source = made-blameless image _ (next-b
 
 -- ---- the law
 
-pub outcome-blameless : (r : Request) (image source : List ℕ) → HasNoFault (outcome (deed r) image source).answer
-outcome-blameless r image source = no_fault (outcome (deed r) image source).answer (own_answer r image source)
+pub outcome-blameless : (r : Request) (image source : List ℕ) → HasNoFault (outcome (deed r) image source).told.answer
+outcome-blameless r image source = no_fault (outcome (deed r) image source).told.answer (own_answer r image source)

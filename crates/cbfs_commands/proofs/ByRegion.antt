@@ -1,12 +1,12 @@
 -- The outcome of a command on a region depends on the region's bytes alone.
-use Rattle.std.proofs.Common.{◌≡◌, ℕ, List, Some, Result, Ok, Err, refl, sym, ◌∙◌, ap}
+use Rattle.std.proofs.Common.{◌≡◌, ℕ, List, Some, Result, Ok, Err, refl, sym, ◌∙◌}
 use Rattle.flash_store.specs.Regions.{Range, bytes_in, region_of}
 use Rattle.cbfs_edit.specs.Additions.{new_component}
 use Rattle.cbfs_commands.specs.declared.refusal.Refusal.{Refusal}
 use Rattle.cbfs_commands.specs.Deeds.{deed, outcome, removes, replaces}
 use Rattle.cbfs_commands.specs.Requests.{Request}
 use Rattle.cbfs_commands.specs.Requests as requests
-use Rattle.cbfs_commands.specs.Outcomes.{add_region, changing, extract, extract_region, in_place, made_in, print, print_region, read, reading, told_in}
+use Rattle.cbfs_commands.specs.Outcomes.{add_region, changing, extract, extract_region, in_place, made_in, print, print_region, reading, told_in}
 use Rattle.cbfs_commands.specs.Told.{Told, shows}
 use Rattle.cbfs_commands.specs.Laws.{EndAlike, OutcomesAreOfTheRegion, region_name}
 use Rattle.cbfs_commands.proofs.RegionPlaces.{alike_over, region_lies}
@@ -18,19 +18,18 @@ module _ (name : List ℕ) (region : Range) (image other : List ℕ) (here : reg
   told tell =
       let first : told_in image name tell ≡ tell (bytes_in region image) = rw here refl in
       let last : told_in other name tell ≡ tell (bytes_in region image) = rw (there, same) refl in
-      let alike = last ∙ sym first in
-      record { written = ap (λ (t : Told). t.written) alike; answer = ap (λ (t : Told). t.answer) alike; bytes = same }
+      record { told = last ∙ sym first; bytes = same }
 
   -- the same is made of them
   made : (make : Range → List ℕ → Result (List ℕ) Refusal) → EndAlike region (changing image (made_in image name make)) (changing other (made_in other name make))
   made make = rw (here, there, same) (go (make region (bytes_in region image)))
     where
       go : (r : Result (List ℕ) Refusal) → EndAlike region (changing image (in_place image region r)) (changing other (in_place other region r))
-      go (Err refusal) = record { written = refl; answer = refl; bytes = same }
-      go (Ok bytes) = record { written = refl; answer = refl; bytes = alike_over region image other bytes (region_lies image name region here) (region_lies other name region there) same }
+      go (Err refusal) = record { told = refl; bytes = same }
+      go (Ok bytes) = record { told = refl; bytes = alike_over region image other bytes (region_lies image name region here) (region_lies other name region there) same }
 
   each : (r : Request) (source : List ℕ) → region_name r ≡ Some name → EndAlike region (outcome (deed r) image source) (outcome (deed r) other source)
-  unfolding print extract read
+  unfolding print extract
   each (requests.print asked verbose) source is = let e : asked ≡ name = cc in rw e (told (λ x. print_region x verbose))
   each requests.layout source is = absurd cc
   each (requests.extract asked component) source is = let e : asked ≡ name = cc in rw e (told (λ x. extract_region x component))

@@ -15,7 +15,7 @@ whole-image image now same = record {
 }
 
 -- a command without output that left what is made
-pub left-met : (out : Option (List ℕ)) (image now : List ℕ) (answer : Answer) (made : Result (List ℕ) Refusal) → LeavesOr image now answer made → Meets out out now answer (changing image made)
+pub left-met : (out : Option (List ℕ)) (image now : List ℕ) (answer : Answer) (made : Result (List ℕ) Refusal) → LeavesOr now answer (changing image made) → Meets out out now answer (changing image made)
 left-met out image now answer made (inl done) = inl (done.0, Appends-nil out, done.1)
-left-met out image now answer made (inr (inl device)) = inr (inr (inl (device, (0, omega arith, Appends-nil out))))
-left-met out image now answer made (inr (inr source)) = inr (inr (inr (source, (0, omega arith, Appends-nil out))))
+left-met out image now answer made (inr (inl device)) = inr (inr (inr (device, (0, omega arith, Appends-nil out))))
+left-met out image now answer made (inr (inr source)) = inr (inl (source, (0, omega arith, Appends-nil out)))

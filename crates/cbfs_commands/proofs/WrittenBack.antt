@@ -7,13 +7,12 @@ use Rattle.flash_store.proofs.DeviceLemmas.{length-bytes_in}
 use Rattle.cbfs_commands.specs.declared.refusal.Refusal.{Refusal}
 use Rattle.cbfs_commands.specs.Deeds.{replaces}
 use Rattle.cbfs_commands.specs.Refusals.{and_then, store_refusal}
-use Rattle.cbfs_commands.specs.Outcomes.{in_place, read}
+use Rattle.cbfs_commands.specs.Outcomes.{in_place}
 use Rattle.cbfs_commands.specs.Told.{Answer, Told, shows, told_of}
 use Rattle.cbfs_commands.specs.Laws.{WritingBackChangesNothing}
 use Rattle.cbfs_commands.proofs.RegionPlaces.{region_lies, same_over}
 
 pub written_back : WritingBackChangesNothing
-unfolding read
 written_back image name bytes told = go (region_of image name) refl told
   where
     back : (region : Range) → LiesIn region image → (u : List ℕ) → bytes_in region image ≡ u → in_place image region (replaces.made region (bytes_in region image) u) ≡ Ok image

@@ -1,6 +1,6 @@
 -- What a command is to an image: its outcome, what it may change, which sides it uses, and what a stop leaves.
-use Rattle.std.specs.Prelude.{◌≡◌, ℕ, ◌+◌, ◌/◌, ◌⊎◌, Bool, true, false, List, [], length, Option, Some, None, is_some, unwrap_or, Result, Ok, Err, IsErrOf, IsTrue, ◌==◌, if◌then◌else◌}
-use Rattle.std.specs.Option.{option_map}
+use Rattle.std.specs.Prelude.{◌≡◌, ℕ, ◌+◌, ◌/◌, ◌⊎◌, Bool, true, false, List, [], length, Option, Some, None, is_some, Result, Ok, Err, IsErrOf, IsTrue, ◌==◌, if◌then◌else◌}
+use Rattle.std.specs.Option.{option_map_or}
 use Rattle.std.specs.Result.{result_ok}
 use Rattle.flash_format.specs.Flashmap.{area_len}
 use Rattle.flash_store.specs.Bytes.{SameOutside}
@@ -19,8 +19,8 @@ use Rattle.cbfs_commands.specs.Layouts.{layout}
 use Rattle.cbfs_commands.specs.Refusals.{and_then, edit_refusal, itself}
 use Rattle.cbfs_commands.specs.Requests.{Request}
 use Rattle.cbfs_commands.specs.Requests as requests
-use Rattle.cbfs_commands.specs.Outcomes.{Outcome, StopsIn, AddStopsIn, HasWritten, LeavesOr, changing, reading, made_in, in_place, print, extract, add_region, read}
-use Rattle.cbfs_commands.specs.Told.{Answer, Told}
+use Rattle.cbfs_commands.specs.Outcomes.{Outcome, StopsIn, AddStopsIn, HasWritten, LeavesOr, changing, reading, made_in, in_place, print, extract, add_region, told_in}
+use Rattle.cbfs_commands.specs.Told.{Answer, Told, shows}
 
 -- A change of the image: what it makes of the image and the source, the region that it may change, by how many calls of the
 -- source, by its length, where it reads one, and what a stop leaves, by the image, the source, the answer and what is left.
@@ -41,25 +41,20 @@ abbrev pub outcome : Deed → List ℕ → List ℕ → Outcome
 outcome (tells told) image source = reading image (told image)
 outcome (changes c) image source = changing image (c.made image source)
 
-abbrev pub target : Deed → List ℕ → Option Range
-target (tells told) image = None
-target (changes c) image = c.target image
-
-abbrev pub Stopped : Deed → List ℕ → List ℕ → Answer → List ℕ → Type 0
-Stopped (tells told) image source answer now = now ≡ image
-Stopped (changes c) image source answer now = c.Stopped image source answer now
+-- its change; one that tells changes nothing, and reads no source
+abbrev pub change_of : Deed → Change
+change_of (tells told) = record { made = λ image source. Ok image; target = λ image. None; source_calls = None; Stopped = λ image source answer now. now ≡ image }
+change_of (changes c) = c
 
 abbrev pub writes_output : Deed → Bool
 writes_output (tells told) = true
 writes_output (changes c) = false
 
 abbrev pub reads_source : Deed → Bool
-reads_source (tells told) = false
-reads_source (changes c) = is_some c.source_calls
+reads_source d = is_some (change_of d).source_calls
 
 abbrev pub source_calls : Deed → ℕ → ℕ
-source_calls (tells told) n = 0
-source_calls (changes c) n = unwrap_or (option_map (λ calls. calls n) c.source_calls) 0
+source_calls d n = option_map_or (λ calls. calls n) (change_of d).source_calls 0
 
 -- ---- the commands
 
@@ -128,7 +123,7 @@ deed requests.layout = tells layout
 deed (requests.extract region name) = tells (λ image. extract image region name)
 deed (requests.add region name kind hash spot) = changes (edits region (adds name kind hash spot))
 deed (requests.remove region name) = changes (edits region (removes name))
-deed (requests.read region) = tells (λ image. read image region)
+deed (requests.read region) = tells (λ image. told_in image region shows)
 deed (requests.write region) = changes (edits region replaces)
 deed (requests.create names) = changes (creates names)
 
@@ -156,5 +151,5 @@ pub record HasChanged {F : Type 0} (facts : F → Device) (n : ℕ) (change : Ch
   pub after : HasWritten facts n (source_calls (changes change) (length source.content)) old new source source_now answer
   pub spares : OnHonest facts old.device (λ image. SparesOutside (change.target image) image (facts new.device).content)
   pub refused : OnHonest facts old.device (λ image. MayHaveWritten answer ⊎ ((facts new.device).content ≡ image))
-  pub left : OnHonest facts old.device (λ image. Serves (changes change) source → LeavesOr image (facts new.device).content answer (change.made image source.content))
+  pub left : OnHonest facts old.device (λ image. Serves (changes change) source → LeavesOr (facts new.device).content answer (changing image (change.made image source.content)))
   pub stopped : OnHonest facts old.device (λ image. Serves (changes change) source → change.Stopped image source.content answer (facts new.device).content)

@@ -11,7 +11,7 @@ use Rattle.cbfs_edit.specs.declared.place.Spot.{Spot}
 use Rattle.cbfs_commands.specs.declared.plan.Plan.{Plan}
 use Rattle.cbfs_commands.specs.Creations.{Fits, created, plan_for}
 use Rattle.cbfs_commands.specs.Deeds.{deed, edits, outcome, replaces}
-use Rattle.cbfs_commands.specs.Outcomes.{Outcome, add_region, changing, extract, extract_region, made_in, read}
+use Rattle.cbfs_commands.specs.Outcomes.{Outcome, add_region, changing, extract, extract_region, made_in, told_in}
 use Rattle.cbfs_commands.specs.Refusals.{HasNoFault}
 use Rattle.cbfs_commands.specs.Requests.{Request}
 use Rattle.cbfs_commands.specs.Requests as requests
@@ -19,11 +19,11 @@ use Rattle.cbfs_commands.specs.Told.{shows}
 
 -- an outcome's own answer blames no side, since it is a function of the image, the command and the source alone
 abbrev pub OutcomesHaveNoFault : Type 0
-OutcomesHaveNoFault = (r : Request) (image source : List ℕ) → HasNoFault (outcome (deed r) image source).answer
+OutcomesHaveNoFault = (r : Request) (image source : List ℕ) → HasNoFault (outcome (deed r) image source).told.answer
 
--- what `read` tells of a region is what `write` may put back, and the image stays as it is
+-- the bytes that are shown of a region may be put in place of it, and the image stays as it is
 abbrev pub WritingBackChangesNothing : Type 0
-WritingBackChangesNothing = (image name bytes : List ℕ) → read image name ≡ shows bytes → (edits name replaces).made image bytes ≡ Ok image
+WritingBackChangesNothing = (image name bytes : List ℕ) → told_in image name shows ≡ shows bytes → (edits name replaces).made image bytes ≡ Ok image
 
 -- the name of the region that a command reads or changes; `layout` and `create` have none
 abbrev pub region_name : Request → Option (List ℕ)
@@ -36,10 +36,9 @@ region_name (requests.read region) = Some region
 region_name (requests.write region) = Some region
 region_name (requests.create names) = None
 
--- two outcomes write and answer the same, and leave the same bytes in a region
+-- two outcomes tell the same, and leave the same bytes in a region
 pub record EndAlike (region : Range) (a b : Outcome) : Type 0 where
-  pub written : b.written ≡ a.written
-  pub answer : b.answer ≡ a.answer
+  pub told : b.told ≡ a.told
   pub bytes : bytes_in region b.image ≡ bytes_in region a.image
 
 -- where two images have the same region of a name, with the same bytes, a command on it does the same

@@ -7,7 +7,6 @@ use Rattle.flash_format.specs.Components.{Component, is_packed}
 use Rattle.flash_format.specs.Cut.{Cut, End, damage, cut}
 use Rattle.flash_store.specs.Bytes.{overwritten, FirstWritten, PartWritten}
 use Rattle.flash_store.specs.Device.{Device, Calls, faults_told}
-use Rattle.flash_store.specs.Output.{AppendsPart}
 use Rattle.flash_store.specs.Pages.{Pages}
 use Rattle.flash_store.specs.Regions.{Range, bytes_in, region_of}
 use Rattle.cbfs_edit.specs.Stops.{AddLeavesBefore, AddLeavesWhole}
@@ -20,20 +19,20 @@ use Rattle.cbfs_commands.specs.declared.refusal.Refusal.{Refusal}
 use Rattle.cbfs_commands.specs.declared.refusal.Refusal.TheVariants as refusals
 use Rattle.cbfs_commands.specs.Refusals.{and_then, by_device, by_source, edit_refusal, itself, store_refusal, walk_refusal}
 use Rattle.cbfs_commands.specs.Details.{rows_from}
-use Rattle.cbfs_commands.specs.Told.{Answer, Told, shows, refuses, told_of, AppendsPrefix}
+use Rattle.cbfs_commands.specs.Told.{Answer, Told, shows, refuses, told_of, AppendsPrefix, StopsWriting}
 
+-- what a command tells, and the image that it leaves
 pub record Outcome : Type 0 where
-  pub written : List ℕ
+  pub told : Told
   pub image : List ℕ
-  pub answer : Answer
 
 -- a command that changes nothing
 abbrev pub reading : List ℕ → Told → Outcome
-reading image t = record { written = t.written; image = image; answer = t.answer }
+reading image t = record { told = t; image = image }
 
 -- a command that only changes the image, by what it leaves of it or why it is refused
 abbrev pub changing : List ℕ → Result (List ℕ) Refusal → Outcome
-changing image made = record { written = []; image = result_unwrap_or made image; answer = result_map_both (λ now. tt) itself made }
+changing image made = record { told = record { written = []; answer = result_map_both (λ now. tt) itself made }; image = result_unwrap_or made image }
 
 -- ---- on the region of a name
 
@@ -85,22 +84,14 @@ extract image region name = told_in image region (λ x. extract_region x name)
 abbrev pub add_region : List ℕ → NewComponent → Spot → Result (List ℕ) Refusal
 add_region x new spot = and_then edit_refusal (addition_in x new spot) (λ place. Ok (added x new place))
 
--- ---- read
-
--- the region's bytes
-unfoldable pub read : List ℕ → List ℕ → Told
-read image name = told_in image name shows
-
 -- ---- what a call does
 
--- The call has answered, written and left what the outcome says; or the writer failed, with a proper prefix of
--- the text written; or the device or the source failed, with some prefix of it written.
+-- the call has answered, written and left what the outcome says, or the source failed, with some prefix of the text
+-- written, or the call has stopped writing it
 abbrev pub Meets : Option (List ℕ) → Option (List ℕ) → List ℕ → Answer → Outcome → Type 0
 Meets old new image answer o =
-    ((answer ≡ o.answer) × Appends old new o.written × (image ≡ o.image))
-    ⊎ ((answer ≡ Err refusals.Output) × AppendsPart old new o.written)
-    ⊎ ((answer ≡ Err refusals.Device) × AppendsPrefix old new o.written)
-    ⊎ ((answer ≡ Err refusals.Source) × AppendsPrefix old new o.written)
+    ((answer ≡ o.told.answer) × Appends old new o.told.written × (image ≡ o.image))
+    ⊎ ((answer ≡ Err refusals.Source) × AppendsPrefix old new o.told.written) ⊎ StopsWriting old new answer o.told.written
 
 -- What a region holds once a write into it was stopped: a prefix of the source, and the old bytes; between them after a
 -- fault of the device one piece that may hold anything. A source of another size changes nothing.
@@ -115,12 +106,9 @@ pub record AddStopsIn (region : Range) (image : List ℕ) (new : NewComponent) (
   pub by_device : answer ≡ Err refusals.Device → AddLeavesWhole (bytes_in region image) new spot (bytes_in region now)
   pub by_source : answer ≡ Err refusals.Source → AddLeavesBefore (bytes_in region image) new spot (bytes_in region now)
 
--- the call has left what a change makes of the image and is done, or is refused as it is and has left the image, or the
--- device or the source failed
-abbrev pub LeavesOr : List ℕ → List ℕ → Answer → Result (List ℕ) Refusal → Type 0
-LeavesOr image now answer made =
-    let o = changing image made in
-    ((answer ≡ o.answer) × (now ≡ o.image)) ⊎ (answer ≡ Err refusals.Device) ⊎ (answer ≡ Err refusals.Source)
+-- the call has answered and left what the outcome says, or the device or the source failed
+abbrev pub LeavesOr : List ℕ → Answer → Outcome → Type 0
+LeavesOr now answer o = ((answer ≡ o.told.answer) × (now ≡ o.image)) ⊎ (answer ≡ Err refusals.Device) ⊎ (answer ≡ Err refusals.Source)
 
 -- What a call leaves that writes to the device, by at most n calls, from a source, by at most m: each fault is told only
 -- where that side failed.

@@ -1,5 +1,5 @@
 -- The refusals of the layers below, as a command answers them, and answers that blame no side.
-use Rattle.std.specs.Prelude.{ℕ, Result, Ok, Err, IsErrOf}
+use Rattle.std.specs.Prelude.{ℕ, ◌⊎◌, Result, Ok, Err, IsErrOf}
 use Rattle.flash_store.specs.declared.fmap.StoreFault.{StoreFault}
 use Rattle.flash_store.specs.declared.fmap.StoreFault.TheVariants as store
 use Rattle.flash_store.specs.declared.paged.CopyFault.{CopyFault}
@@ -60,7 +60,5 @@ by_source refusals.Source = 1
 by_source _ = 0
 
 -- the answer blames no side: not the device, the output or the source
-pub record HasNoFault {T : Type 0} (answer : Result T Refusal) : Type 0 where
-  pub device : IsErrOf answer refusals.Device → ⊥
-  pub output : IsErrOf answer refusals.Output → ⊥
-  pub source : IsErrOf answer refusals.Source → ⊥
+abbrev pub HasNoFault : {T : Type 0} → Result T Refusal → Type 0
+HasNoFault answer = IsErrOf answer refusals.Device ⊎ IsErrOf answer refusals.Output ⊎ IsErrOf answer refusals.Source → ⊥

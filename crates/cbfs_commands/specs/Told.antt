@@ -40,13 +40,13 @@ text_then text t = record { written = text ++ t.written; answer = t.answer }
 abbrev pub AppendsPrefix : Option (List ℕ) → Option (List ℕ) → List ℕ → Type 0
 AppendsPrefix old new bs = (n : ℕ) × (n ≤ length bs) × Appends old new (take n bs)
 
--- The call has answered and written what is told; or the writer failed, with a proper prefix of it written; or the
--- device failed, with some prefix of it written.
+-- the writer failed, with a proper prefix of a text written, or the device failed, with some prefix of it written
+abbrev pub StopsWriting : Option (List ℕ) → Option (List ℕ) → Answer → List ℕ → Type 0
+StopsWriting old new answer text = ((answer ≡ Err refusals.Output) × AppendsPart old new text) ⊎ ((answer ≡ Err refusals.Device) × AppendsPrefix old new text)
+
+-- the call has answered and written what is told, or has stopped writing it
 abbrev pub Tells : Option (List ℕ) → Option (List ℕ) → Answer → Told → Type 0
-Tells old new answer t =
-    ((answer ≡ t.answer) × Appends old new t.written)
-    ⊎ ((answer ≡ Err refusals.Output) × AppendsPart old new t.written)
-    ⊎ ((answer ≡ Err refusals.Device) × AppendsPrefix old new t.written)
+Tells old new answer t = ((answer ≡ t.answer) × Appends old new t.written) ⊎ StopsWriting old new answer t.written
 
 -- A cell of a region of a device: both lie where they have to, and the cell stands there where the device is honest.
 pub record IsCellOf {F : Type 0} (facts : F → Device) (r : Range) (c : Cell) (device : F) : Type 0 where

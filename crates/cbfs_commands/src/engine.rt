@@ -2,7 +2,7 @@
 
 ghost use Rattle.std.specs.Prelude.{◌≡◌, ◌+◌, ◌*◌, ◌/◌, ◌<◌, ◌≤◌, ◌⊎◌, false, length, IsTrue, IsErrOf};
 ghost use Rattle.flash_store.specs.Device.{Calls, faults_told};
-ghost use Rattle.cbfs_commands.specs.Deeds.{MayHaveWritten, Serves, SparesOutside, Stopped, deed, outcome, reads_source, source_calls, target, writes_output};
+ghost use Rattle.cbfs_commands.specs.Deeds.{MayHaveWritten, Serves, SparesOutside, change_of, deed, outcome, reads_source, source_calls, writes_output};
 ghost use Rattle.cbfs_commands.specs.Requests.{request_of};
 ghost use Rattle.cbfs_commands.specs.Outcomes.{Meets};
 ghost use Rattle.cbfs_commands.specs.Refusals.{by_device, by_source};
@@ -46,7 +46,7 @@ pub fn run<F: Flash, S: Source, W: Sink>(
 
     // On an honest device, however the command ends, and from any source.
     ensures spares { IsTrue (F.facts paged.old.device).honest →
-        SparesOutside (target (deed (request_of command.now)) (F.facts paged.old.device).content)
+        SparesOutside ((change_of (deed (request_of command.now))).target (F.facts paged.old.device).content)
         (F.facts paged.old.device).content (F.facts paged.new.device).content }
     ensures refused { IsTrue (F.facts paged.old.device).honest →
         MayHaveWritten result ⊎ ((F.facts paged.new.device).content ≡ (F.facts paged.old.device).content) }
@@ -56,7 +56,7 @@ pub fn run<F: Flash, S: Source, W: Sink>(
         Meets (W.contents out.old) (W.contents out.new) (F.facts paged.new.device).content result
         (outcome (deed (request_of command.now)) (F.facts paged.old.device).content (S.facts source.old).content) }
     ensures stopped { IsTrue (F.facts paged.old.device).honest → Serves (deed (request_of command.now)) (S.facts source.old) →
-        Stopped (deed (request_of command.now)) (F.facts paged.old.device).content (S.facts source.old).content result
+        (change_of (deed (request_of command.now))).Stopped (F.facts paged.old.device).content (S.facts source.old).content result
         (F.facts paged.new.device).content }
 {
     match command {

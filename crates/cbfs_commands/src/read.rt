@@ -1,7 +1,7 @@
 //! The command `read`.
 
 ghost use Rattle.std.specs.Prelude.{◌≡◌, ◌+◌, ◌*◌, ◌/◌, ◌<◌, ◌≤◌, length, slice_range};
-ghost use Rattle.cbfs_commands.specs.Outcomes.{read};
+ghost use Rattle.cbfs_commands.specs.Outcomes.{told_in};
 ghost use Rattle.cbfs_commands.specs.Told.{HasTold, shows};
 
 use crate::refusal::Refusal;
@@ -24,14 +24,13 @@ pub fn copy_out<F: Flash, W: Sink>(
 }
 
 /// Writes the bytes of a region.
-#[tactic(auto, unfolding(crate::specs::Outcomes::read))]
 pub fn read<F: Flash, W: Sink>(
     paged: &mut Paged<F>,
     name: &[u8],
     out: &mut W,
 ) -> Result<(), Refusal>
     ensures { HasTold F.facts W.contents W.faults (2 * length (F.facts paged.old.device).content + 64)
-        paged.old paged.new out.old out.new result (λ image. read image name.now) }
+        paged.old paged.new out.old out.new result (λ image. told_in image name.now shows) }
 {
     let region = flash_store::region(paged, name)?;
     copy_out(paged, region.start(), region.size(), out)
