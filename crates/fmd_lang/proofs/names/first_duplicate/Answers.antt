@@ -1,6 +1,6 @@
-use Rattle.std.proofs.Common.{◌∙◌, sym, ap, get_or}
+use Rattle.std.proofs.Common.{◌∙◌, sym, true, false, get_or}
 use Rattle.std.proofs.lemmas.Bool.{not-false, not-true}
-use Rattle.fmd_lang.proofs.NameLemmas.{has, no_name, duplicate-found, duplicate-more, has-more}
+use Rattle.fmd_lang.proofs.NameLemmas.{has, no_name, duplicate-at, has-more}
 use Rattle.fmd_lang.proofs.names.first_duplicate.Goals as goal
 
 pub returns-in-Ok-false-clause-ok : goal.returns-in-Ok-false-clause-ok
@@ -9,7 +9,7 @@ returns-in-Ok-false-clause-ok c =
     let n = c.loop-number.number in
     let x = (get_or names n no_name).now in
     let there = not-false (has x c.loop-number.seen.keys) (sym c.in-Ok-false.ensures.added ∙ c.in-Ok-false.field-0-test) in
-    sym (c.loop-number.invariant.1 ∙ duplicate-found names n c.loop-number-test.true (sym (c.loop-number.invariant.0 x) ∙ there))
+    sym (c.loop-number.invariant.1 ∙ duplicate-at names n true c.loop-number-test.true (sym (c.loop-number.invariant.0 x) ∙ there))
 
 pub loop-number-preserved : goal.loop-number-preserved
 loop-number-preserved c =
@@ -17,7 +17,7 @@ loop-number-preserved c =
     let n = c.loop-number.number in
     let x = (get_or names n no_name).now in
     let new = not-true (has x c.loop-number.seen.keys) (sym c.in-Ok-true.ensures.added ∙ c.in-Ok-true.field-0-test) in (
-      λ q. ap (has q) c.in-Ok-true.ensures.keys
-          ∙ has-more names c.loop-number.seen.keys n q c.loop-number-test.true new (c.loop-number.invariant.0 q),
-      c.loop-number.invariant.1 ∙ duplicate-more names n c.loop-number-test.true (sym (c.loop-number.invariant.0 x) ∙ new),
+      λ q. has-more names n q _ _ c.loop-number-test.true (c.in-Ok-true.ensures.updates.0 (record no_name { now = q }))
+          (c.loop-number.invariant.0 q),
+      c.loop-number.invariant.1 ∙ duplicate-at names n false c.loop-number-test.true (sym (c.loop-number.invariant.0 x) ∙ new),
     )
