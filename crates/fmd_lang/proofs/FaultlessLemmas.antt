@@ -9,14 +9,14 @@ use Rattle.std.proofs.lemmas.List.Elements.{All-head, All-tail}
 use Rattle.fmd_lang.specs.Words.{Word, words, kind_of, without_comments}
 use Rattle.fmd_lang.specs.Numbers.{number_at, number_value}
 use Rattle.fmd_lang.specs.Tree.{Tree, section, Forest, none, some}
-use Rattle.fmd_lang.specs.Grammar.{Then, One, IsA, IsName, IsSection, AreSections, AreAnnotations, HaveFlags, IsOffset, IsSize, HasValue, annotation_flag}
+use Rattle.fmd_lang.specs.Grammar.{Then, One, IsA, IsName, IsSection, AreSections, AreAnnotations, HaveFlags, IsOffset, IsSize, HasValue, Until, annotation_flag, flags_with}
 use Rattle.fmd_lang.specs.Faults.{Stage, start, in_annotations, annotated, at_sign, past, own_fault, fault_from, first_fault, next_depth, next_stage, wanted_at}
-use Rattle.fmd_lang.specs.Parsing.{AreClosed, EndAnnotations, IsBody}
+use Rattle.fmd_lang.specs.Parsing.{IsBody}
 use Rattle.fmd_lang.specs.declared.word.Kind.{Kind}
 use Rattle.fmd_lang.specs.declared.word.Kind.TheVariants.{Name, Number, OpenParen, CloseParen, At, OpenBrace, CloseBrace, End}
 use Rattle.fmd_lang.specs.declared.fault.FmdFault.TheVariants as faults
 use Rattle.fmd_lang.proofs.NameFields.{IsWhole, words_whole}
-use Rattle.fmd_lang.proofs.OptionLemmas.{or-none}
+use Rattle.fmd_lang.proofs.OptionLemmas.{cond-none, or-none}
 use Rattle.fmd_lang.proofs.FormLemmas.{annotation-name, flags-cons, name-short}
 
 -- ---- what is left of a text
@@ -41,13 +41,14 @@ Ahead (suc (suc (suc (suc n)))) ws = (flags : ℕ) × Then (AreAnnotations flags
 -- what is left after a section in so many open braces
 abbrev Behind : ℕ → List Word → Type 0
 Behind zero ws = ws ≡ []
-Behind (suc depth) ws = (ts : Forest) × Then (AreClosed ts) (Behind depth) ws
+Behind (suc depth) ws = (ts : Forest) × Then (Until CloseBrace (AreSections ts)) (Behind depth) ws
 
 abbrev Left : Stage → ℕ → List Word → Type 0
 Left start depth ws = (t : Tree) × Then (IsSection t) (Behind depth) ws
 Left in_annotations depth ws =
-    (flags : ℕ) × Then (Then (HaveFlags flags) (One (IsA CloseParen))) (Then (Ahead 3) (Behind depth)) ws
-Left annotated depth ws = (before : ℕ) → (flags : ℕ) × Then (EndAnnotations before flags) (Then (Ahead 3) (Behind depth)) ws
+    (flags : ℕ) × Then (Until CloseParen (HaveFlags flags)) (Then (Ahead 3) (Behind depth)) ws
+Left annotated depth ws =
+    (before : ℕ) → (flags : ℕ) × Then (Until CloseParen (λ v. flags_with before v ≡ Some flags)) (Then (Ahead 3) (Behind depth)) ws
 Left at_sign depth ws = (n : ℕ) × Then (One (HasValue n)) (Then (Ahead 2) (Behind depth)) ws
 Left (past n) depth ws = Then (Ahead (4 - n)) (Behind depth) ws
 
@@ -88,9 +89,6 @@ section-is w ws named (flags, (a, b, split, marked, (offset, (c, d, inner, place
         (a, b, split, marked, (c, d, inner, placed, (e, f, last, sized, body))),
       ),
     )
-
-one-more : (t : Tree) (ts : Forest) (v : List Word) → Then (IsSection t) (AreClosed ts) v → AreClosed (some t ts) v
-one-more t ts v sections = joined (IsSection t) (AreSections ts) (One (IsA CloseBrace)) v sections
 
 -- ---- one word
 
@@ -144,7 +142,7 @@ step at_sign k flag depth w ws is there known own rest = absurd rest
 step (past n) OpenParen flag depth w ws is there known own rest =
     let (fits, (flags, more)) = room n 1 in_annotations depth ws (omega arith) rest in
     let (front, behind, split, (a, b, inner, closed, ahead), q) =
-    joined (Then (HaveFlags flags) (One (IsA CloseParen))) (Ahead 3) (Behind depth) ws more in
+    joined (Until CloseParen (HaveFlags flags)) (Ahead 3) (Behind depth) ws more in
     let all = up 4 n (w ∷ front) fits
     (flags, (w ∷ a, b, ap (λ v. w ∷ v) inner, inr (w ∷ [], a, refl, (w, refl, is), closed), ahead)) in
     (w ∷ front, behind, ap (λ v. w ∷ v) split, all, q)
@@ -169,8 +167,8 @@ step (past n) OpenBrace flag depth w ws is there known own rest =
 step (past n) Name flag (suc depth) w ws is there known own (front, behind, split, ahead, (ts, closed)) =
     let (t, one) = section-is w front (is, refl, name-short (suc depth) w is own) ahead in
     let (a, b, whole, sections, outer) =
-    joined (IsSection t) (AreClosed ts) (Behind depth) (w ∷ ws) (w ∷ front, behind, ap (λ v. w ∷ v) split, one, closed) in
-    ([], w ∷ ws, refl, up 0 n [] (omega arith) refl, (some t ts, (a, b, whole, one-more t ts a sections, outer)))
+    joined (IsSection t) (Until CloseBrace (AreSections ts)) (Behind depth) (w ∷ ws) (w ∷ front, behind, ap (λ v. w ∷ v) split, one, closed) in
+    ([], w ∷ ws, refl, up 0 n [] (omega arith) refl, (some t ts, (a, b, whole, joined (IsSection t) (AreSections ts) (One (IsA CloseBrace)) a sections, outer)))
 step (past n) CloseBrace flag (suc depth) w ws is there known own rest = (
   [],
   w ∷ ws,
@@ -205,12 +203,8 @@ left (w ∷ ws) s depth end whole h =
 
 pub faultless-tree : (text : List ℕ) → first_fault text ≡ None → (t : Tree) × IsSection t (words text)
 unfolding first_fault words
-faultless-tree text h = go (nat_lt 1048576 (length text)) h
-  where
-    go : (b : Bool) → cond b (Some faults.TextTooLong) (fault_from start 0 (length text) (words text)) ≡ None →
-        (t : Tree) × IsSection t (words text)
-    go true e = cc
-    go false e =
-        let whole = words_whole 0 false (without_comments false text) in
-        let (t, (front, behind, split, is, nothing)) = left (words text) start 0 (length text) whole e in
-        (t, subst (IsSection t) (sym (split ∙ ap (λ v. front ++ v) nothing ∙ append-nil front)) is)
+faultless-tree text h =
+    let whole = words_whole 0 false (without_comments false text) in
+    let none = cond-none (nat_lt 1048576 (length text)) faults.TextTooLong (fault_from start 0 (length text) (words text)) h in
+    let (t, (front, behind, split, is, nothing)) = left (words text) start 0 (length text) whole none in
+    (t, subst (IsSection t) (sym (split ∙ ap (λ v. front ++ v) nothing ∙ append-nil front)) is)

@@ -1,9 +1,8 @@
 -- The numbers and the areas of the table of a text without a fault fit into its bytes.
-use Rattle.std.proofs.Common.{◌≡◌, ℕ, ◌^◌, ◌<◌, Bool, true, false, cond, All, List, [], ◌∷◌, ◌++◌, length, Option, Some, None, refl, sym, ◌∙◌, ap, subst, arith}
-use Rattle.std.specs.Prelude.{Ok, Err, nat_lt, unwrap_or}
+use Rattle.std.proofs.Common.{◌≡◌, ℕ, ◌^◌, ◌<◌, All, List, [], ◌∷◌, ◌++◌, length, Option, Some, None, sym, ◌∙◌, ap, subst, arith}
+use Rattle.std.specs.Prelude.{nat_lt, unwrap_or}
 use Rattle.std.specs.Result.{result_err}
 use Rattle.fmd_lang.specs.Numbers.{number_at}
-use Rattle.std.proofs.lemmas.Bool.Decides.{nat_tests}
 use Rattle.std.proofs.lemmas.List.Elements.{All-nil, All-cons, All-head, All-tail}
 use Rattle.flash_format.specs.declared.flashmap.Area.{Area}
 use Rattle.fmd_lang.specs.Words.{Word, kind_of, words}
@@ -16,7 +15,7 @@ use Rattle.fmd_lang.proofs.PlaceLemmas.{areas-filled}
 use Rattle.fmd_lang.specs.Table.{AreasBelow}
 use Rattle.fmd_lang.specs.declared.fault.FmdFault.TheVariants as faults
 use Rattle.fmd_lang.proofs.TreeLemmas.{text-agrees}
-use Rattle.fmd_lang.proofs.OptionLemmas.{or-none}
+use Rattle.fmd_lang.proofs.OptionLemmas.{cond-none, or-none}
 
 -- ---- numbers
 
@@ -25,11 +24,8 @@ Fits w = (n : ℕ) → HasValue n w → n < 2 ^ 32
 
 number_fits : (depth : ℕ) (w : Word) → own_fault depth w ≡ None → Fits w
 number_fits depth w fine n (is, value) =
-    go (nat_lt n (2 ^ 32)) refl (ap (λ o. result_err (number_at w.place o)) (sym value) ∙ rw is at fine)
-  where
-    go : (b : Bool) → nat_lt n (2 ^ 32) ≡ b → result_err (cond b (Ok n) (Err (faults.NumberTooLarge w.place))) ≡ None → n < 2 ^ 32
-    go true e f = grind (arith, nat_tests)
-    go false e f = absurd cc
+    let small : result_err (number_at w.place (Some n)) ≡ None = ap (λ o. result_err (number_at w.place o)) (sym value) ∙ rw is at fine in
+    grind arith
 
 all_fit : (depth : ℕ) (ws : List Word) → first_own_fault depth ws ≡ None → All Fits ws
 all_fit depth [] fine = All-nil Fits
@@ -38,11 +34,9 @@ all_fit depth (w ∷ ws) fine =
     All-cons Fits w ws (number_fits depth w parts.0) (all_fit (next_depth (kind_of w.bytes) depth) ws parts.1)
 
 pub numbers_fit : (t : Tree) (text : List ℕ) → IsSection t (words text) → first_fault text ≡ None → All Fits (words text)
-numbers_fit t text is fine = go (nat_lt text_limit (length text)) (sym (text-agrees t text is) ∙ fine)
-  where
-    go : (b : Bool) → cond b (Some faults.TextTooLong) (first_own_fault 0 (words text)) ≡ None → All Fits (words text)
-    go true e = absurd cc
-    go false e = all_fit 0 (words text) e
+numbers_fit t text is fine =
+    let own = sym (text-agrees t text is) ∙ fine in
+    all_fit 0 (words text) (cond-none (nat_lt text_limit (length text)) faults.TextTooLong (first_own_fault 0 (words text)) own)
 
 pub size_fits : (size : Option ℕ) (n : ℕ) (number after : List Word) → size ≡ Some n → IsSize size number →
     All Fits (number ++ after) → n < 2 ^ 32

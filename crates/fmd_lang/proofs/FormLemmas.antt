@@ -1,17 +1,15 @@
 -- Annotations and sections, one word or one section at a time.
-use Rattle.std.proofs.Common.{◌≡◌, ℕ, ◌<◌, Bool, cond, nat_lt, true, false, List, [], ◌∷◌, ◌++◌, length, map, codes, Option, Some, None, option_map, refl, sym, ◌∙◌, ap, subst, arith, append_assoc}
-use Rattle.std.proofs.lemmas.List.{append-nil}
+use Rattle.std.proofs.Common.{◌≡◌, ℕ, ◌<◌, Bool, cond, if◌then◌else◌, nat_lt, true, false, List, [], ◌∷◌, ◌++◌, length, map, codes, Option, Some, None, option_map, refl, sym, ◌∙◌, ap, subst, arith, append_assoc}
+use Rattle.std.proofs.lemmas.List.{append-nil, map-append}
 use Rattle.std.proofs.lemmas.Slice.Eq.{bytes_eq-Decides}
-use Rattle.std.proofs.lemmas.Bool.Decides.{nat_tests}
 use Rattle.fmd_lang.specs.Faults.{own_fault}
-use Rattle.fmd_lang.specs.declared.fault.FmdFault.{FmdFault}
 use Rattle.fmd_lang.specs.declared.fault.FmdFault.TheVariants as faults
 use Rattle.std.specs.Int.Bits.{bit_or}
 use Rattle.std.specs.Option.{option_and_then}
 use Rattle.std.specs.Str.{bytes_eq}
 use Rattle.fmd_lang.specs.Words.{Word, kind_of}
 use Rattle.fmd_lang.specs.Grammar.{One, Then, IsA, IsSection, AreSections, annotation_flag, flags_with}
-use Rattle.fmd_lang.specs.Tree.{Tree, forest_of, some, view, views}
+use Rattle.fmd_lang.specs.Tree.{Tree, forest_of, view, views}
 use Rattle.fmd_lang.specs.declared.section.Section.{Section}
 use Rattle.fmd_lang.specs.declared.word.Kind.TheVariants.{Name, CloseParen}
 
@@ -76,20 +74,13 @@ sections-push [] t ws more none one = (more, [], rw (none) (sym (append-nil more
 sections-push (u ∷ ts) t ws more (first, rest, split, head, tail) one =
     (first, rest ++ more, rw split (append_assoc first rest more), head, sections-push ts t rest more tail one)
 
-views-push : (parts : List Section) (part : Section) → views (parts ++ part ∷ []) ≡ forest_of (map view parts ++ view part ∷ [])
-views-push [] part = refl
-views-push (p ∷ parts) part = ap (λ ts. some (view p) ts) (views-push parts part)
-
 -- one more section at the end
 pub sections-snoc : (parts : List Section) (part : Section) (v : List Word) →
     Then (AreSections (views parts)) (IsSection (view part)) v → AreSections (views (parts ++ part ∷ [])) v
 sections-snoc parts part v (front, back, split, all, one) =
-    rw (views-push parts part, split) (sections-push (map view parts) (view part) front back all one)
+    rw (map-append view parts (part ∷ []), split) (sections-push (map view parts) (view part) front back all one)
 
 pub name-short : (depth : ℕ) (w : Word) → IsA Name w → own_fault depth w ≡ None → length w.bytes < 32
-name-short depth w is own = go (nat_lt (length w.bytes) 32) refl (rw is at own)
-  where
-    go : (b : Bool) → nat_lt (length w.bytes) 32 ≡ b →
-        (let o : Option FmdFault = cond b None (Some (faults.NameTooLong w.place)) in o) ≡ None → length w.bytes < 32
-    go true e h = grind (arith, nat_tests)
-    go false e h = absurd cc
+name-short depth w is own =
+    let fits : (if nat_lt (length w.bytes) 32 then None else Some (faults.NameTooLong w.place)) ≡ None = rw is at own in
+    grind arith

@@ -1,19 +1,18 @@
 -- The layout of a tree, one section at a time.
-use Rattle.std.proofs.Common.{◌≡◌, ℕ, suc, ◌+◌, ◌<◌, ◌≤◌, nat_le, nat_lt, Bool, not, true, false, List, [], ◌∷◌, ◌++◌, length, drop, take, min, replicate, get_or, Some, None, option_map, unwrap_or, length-append, refl, sym, subst, ◌∙◌, ap, arith, add-one, append_assoc}
+use Rattle.std.proofs.Common.{◌≡◌, ℕ, suc, ◌+◌, ◌<◌, ◌≤◌, nat_le, not, true, false, List, [], ◌∷◌, ◌++◌, length, drop, take, min, replicate, get_or, Some, None, option_map, unwrap_or, length-append, refl, sym, subst, ◌∙◌, ap, arith, add-one, append_assoc}
 use Rattle.std.specs.Option.{option_or}
 use Rattle.std.proofs.Math.Nat.{min_comm}
 use Rattle.std.proofs.Math.Seq.{drop-cons}
 use Rattle.std.proofs.lemmas.List.{take_min, drop-replicate}
 use Rattle.std.proofs.lemmas.Bool.{le-leb}
 use Rattle.std.specs.List.{list_all}
-use Rattle.fmd_lang.specs.Tree.{Tree, section, Forest, none, some, section_count, sections_count, parts_of, names, names_of, size_of, view, views, view_step}
+use Rattle.fmd_lang.specs.Tree.{Tree, section, Forest, none, some, section_count, parts_of, names, names_of, size_of, view, views, view_step}
 use Rattle.fmd_lang.specs.declared.section.Section.TheFolds.{fold_out-Section}
 use Rattle.fmd_lang.specs.Table.{field_of, area_limit, section_area, areas_below, areas_of, AreasBelow, AreasOf, IsTable}
 use Rattle.fmd_lang.specs.Layout.{ambiguous_sibling, siblings, filled, ArePlaced, Laid, end_of, row_fault, misfit_sibling}
-use Rattle.fmd_lang.specs.LayoutFaults.{areas_fault, flag, is_fmap, parent_fault, parts_fault, layout_fault, names_fault, size_fault, table_fault, duplicate}
+use Rattle.fmd_lang.specs.LayoutFaults.{count_fault, flag, is_fmap, parent_fault, parts_fault, layout_fault, names_fault, size_fault, table_fault, duplicate}
 use Rattle.fmd_lang.specs.declared.fault.FmdFault.TheVariants as faults
 use Rattle.std.specs.List.{list_any}
-use Rattle.std.proofs.lemmas.Bool.Decides.{nat_tests}
 use Rattle.fmd_lang.proofs.OptionLemmas.{map-none, or-none}
 use Rattle.fmd_lang.proofs.RowLemmas.{filled-placed, fits}
 use Rattle.fmd_lang.specs.declared.table.Table.{Table}
@@ -27,22 +26,23 @@ pub view-is : (s : Section) → view s ≡ section (out-Section s).name.items (o
     (out-Section s).size (views (out-Section s).parts.items)
 view-is s = fold_out-Section Tree view_step s
 
-pub count-parts : (t : Tree) → section_count t ≡ suc (sections_count (parts_of t))
-count-parts (section name flags offset size parts) = refl
+some-names : (t : Tree) → 0 < section_count t
+some-names (section name flags offset size parts) = omega arith
 
 pub length-siblings : (n : ℕ) (ss : List Section) → length (siblings n (views ss)) ≡ length ss
 length-siblings n [] = refl
 length-siblings n (s ∷ ss) = ap suc (length-siblings (n + section_count (view s)) ss)
 
-pub length-le-count : (ss : List Section) → length ss ≤ sections_count (views ss)
+pub length-le-count : (ss : List Section) → length ss ≤ length (names_of (views ss))
 length-le-count [] = omega arith
-length-le-count (s ∷ ss) = omega (arith, count-parts (view s), length-le-count ss)
+length-le-count (s ∷ ss) =
+    omega (arith, length-append (names (view s)) (names_of (views ss)), some-names (view s), length-le-count ss)
 
 pub length-filled : (ps : List Sibling) (parent from : ℕ) → length (filled parent from ps) ≡ length ps
 length-filled [] parent from = refl
 length-filled (p ∷ ps) parent from = ap suc (length-filled ps parent _)
 
-pub view-count : (s : Section) → section_count (view s) ≡ suc (sections_count (views (out-Section s).parts.items))
+pub view-count : (s : Section) → section_count (view s) ≡ suc (length (names_of (views (out-Section s).parts.items)))
 view-count s = rw (view-is s) refl
 
 pub view-parts : (s : Section) → parts_of (view s) ≡ views (out-Section s).parts.items
@@ -67,11 +67,11 @@ field-is name =
 
 -- The areas below a section are pushed behind others, but for those of the parts that are left, at the places left.
 pub record IsPushed (old areas : List Area) (at size : ℕ) (whole : Tree) (places : List Place) (left : Forest) : Type 0 where
-  pub count : length areas + 1 + sections_count left ≡ length old + section_count whole
+  pub count : length areas + 1 + length (names_of left) ≡ length old + section_count whole
   pub items : areas ++ areas_of (suc (length areas)) at places left ≡ old ++ areas_below (length old) at size whole
   pub faults : parent_fault (length old) size whole ≡ parts_fault (suc (length areas)) places left
 
-pub next : {X : Type 0} (xs : List X) (k : ℕ) (x : X) → k < length xs → x ≡ get_or xs k x → drop k xs ≡ x ∷ drop (k + 1) xs
+next : {X : Type 0} (xs : List X) (k : ℕ) (x : X) → k < length xs → x ≡ get_or xs k x → drop k xs ≡ x ∷ drop (k + 1) xs
 next xs k x there is = rw (drop-cons xs k x there, ← is, add-one) refl
 
 pub area-is : (at : ℕ) (q : Place) (s : Section) → section_area at q (view s) ≡ record {
@@ -88,13 +88,22 @@ joined areas below rest a = simp append_assoc
 length-push : (areas : List Area) (a : Area) → length (areas ++ a ∷ []) ≡ suc (length areas)
 length-push areas a = omega (arith, length-append areas (a ∷ []))
 
+-- the part at an index, and its place
+pub part-at : {old areas : List Area} {at size : ℕ} {whole : Tree} (qs : List Place) (ss shown : List Section) (k : ℕ) (q : Place)
+    (s : Section) → IsPushed old areas at size whole (drop k qs) (views (drop k ss)) → shown ≡ ss → k < length shown →
+    s ≡ get_or shown k s → length qs ≡ length ss → q ≡ get_or qs k q →
+    IsPushed old areas at size whole (q ∷ drop (k + 1) qs) (some (view s) (views (drop (k + 1) ss)))
+part-at qs ss shown k q s pushed same left part len place =
+    let room : k < length qs = omega (arith, ap length same, left, len) in
+    rw (next qs k q room place, next ss k s (rw same at left) (rw same at part)) at pushed
+
 -- a part that is laid
-pub part-pushed : {old before pushed areas : List Area} {at size : ℕ} {whole t : Tree} {q : Place} {qs : List Place}
-    {ts : Forest} → IsPushed old before at size whole (q ∷ qs) (some t ts) → pushed ≡ before ++ section_area at q t ∷ [] →
+pub part-pushed : {old before areas : List Area} {at size : ℕ} {whole t : Tree} {q : Place} {qs : List Place}
+    {ts : Forest} (pushed : List Area) → IsPushed old before at size whole (q ∷ qs) (some t ts) → pushed ≡ before ++ section_area at q t ∷ [] →
     areas ≡ pushed ++ areas_below (length pushed) (at + q.start) q.size t →
     length areas + 1 ≡ length pushed + section_count t → parent_fault (length pushed) q.size t ≡ None →
     IsPushed old areas at size whole qs ts
-part-pushed {before = before} {areas = areas} {at = at} {t = t} {q = q} {qs = qs} {ts = ts} so_far items below count clear =
+part-pushed {before = before} {areas = areas} {at = at} {t = t} {q = q} {qs = qs} {ts = ts} pushed so_far items below count clear =
     let a = section_area at q t in
     let len = ap length items ∙ length-push before a in
     let n = suc (length before) in
@@ -102,7 +111,7 @@ part-pushed {before = before} {areas = areas} {at = at} {t = t} {q = q} {qs = qs
     let behind : n + section_count t ≡ suc (length areas) = omega (arith, len, count) in
     let fine = rw len at clear in
     record {
-      count = omega (arith, so_far.count, behind);
+      count = omega (arith, so_far.count, behind, length-append (names t) (names_of ts));
       items = ap (λ xs. xs ++ areas_of (suc (length areas)) at qs ts) (rw len at below ∙ ap (λ xs. xs ++ inner) items)
           ∙ joined before inner (areas_of (suc (length areas)) at qs ts) a
           ∙ ap (λ m. before ++ (a ∷ inner ++ areas_of m at qs ts)) (sym behind) ∙ so_far.items;
@@ -110,36 +119,20 @@ part-pushed {before = before} {areas = areas} {at = at} {t = t} {q = q} {qs = qs
     }
 
 -- the refusal of a part, or of what is below it
-pub part-refused : {old before pushed : List Area} {at size : ℕ} {whole t : Tree} {q : Place} {qs : List Place} {ts : Forest}
-    (fault : FmdFault) → IsPushed old before at size whole (q ∷ qs) (some t ts) → pushed ≡ before ++ section_area at q t ∷ [] →
+pub part-refused : {old before : List Area} {at size : ℕ} {whole t : Tree} {q : Place} {qs : List Place} {ts : Forest}
+    (pushed : List Area) (fault : FmdFault) → IsPushed old before at size whole (q ∷ qs) (some t ts) → pushed ≡ before ++ section_area at q t ∷ [] →
     parent_fault (length pushed) q.size t ≡ Some fault → parent_fault (length old) size whole ≡ Some fault
-part-refused {before = before} {at = at} {t = t} {q = q} fault so_far items first =
+part-refused {before = before} {at = at} {t = t} {q = q} pushed fault so_far items first =
     let wrong = rw (ap length items ∙ length-push before (section_area at q t)) at first in
     so_far.faults ∙ rw wrong refl
-
--- the names of a tree
-mutual
-  pub names-length : (t : Tree) → length (names t) ≡ section_count t
-  names-length (section name flags offset size parts) = ap suc (names_of-length parts)
-
-  pub names_of-length : (ts : Forest) → length (names_of ts) ≡ sections_count ts
-  names_of-length none = refl
-  names_of-length (some t ts) = length-append (names t) (names_of ts) ∙ ap (λ n. n + length (names_of ts)) (names-length t)
-      ∙ ap (λ n. section_count t + n) (names_of-length ts)
-
--- names without a refusal are few
-few_below : (ns : List (List ℕ)) → areas_fault ns ≡ None → length ns ≤ area_limit
-few_below ns h = go (nat_lt area_limit (length ns)) refl (or-none (flag (not (list_any is_fmap ns)) faults.NoFmap) _ h).1
-  where
-    go : (b : Bool) → nat_lt area_limit (length ns) ≡ b → flag b faults.TooManyAreas ≡ None → length ns ≤ area_limit
-    go true e f = absurd cc
-    go false e f = grind (arith, nat_tests)
 
 pub few-sections : (t : Tree) → names_fault (names t) ≡ None → section_count t ≤ area_limit + 1
 few-sections (section name flags offset size parts) h =
     let ns = names (section name flags offset size parts) in
     let below = (or-none (option_map faults.Duplicate (duplicate 0 [] ns)) _ h).1 in
-    omega (arith, few_below (names_of parts) below, names_of-length parts)
+    let few : count_fault (length (names_of parts)) ≡ None =
+    (or-none (flag (not (list_any is_fmap (names_of parts))) faults.NoFmap) _ below).1 in
+    grind arith
 
 -- a row without a fault is laid where it is filled
 pub row-laid : (parent : ℕ) (ps : List Sibling) → row_fault parent ps ≡ None → Laid parent ps (filled parent 0 ps)
@@ -178,16 +171,18 @@ view-size s = rw (view-is s) refl
 
 -- ---- a whole tree
 
--- The areas below a root are pushed to none.
-pub root-laid : (t : Tree) (n : ℕ) (old areas : List Area) → old ≡ [] → areas ≡ old ++ areas_below (length old) 0 n t →
-    parent_fault (length old) n t ≡ None →
-    AreasBelow 0 0 n t areas × (areas ≡ areas_below 0 0 n t) × (parent_fault 0 n t ≡ None)
-root-laid t n old areas nothing pushed clear =
-    let fine = subst (λ (xs : List Area). parent_fault (length xs) n t ≡ None) nothing clear in
-    let items = subst (λ (xs : List Area). areas ≡ xs ++ areas_below (length xs) 0 n t) nothing pushed in
-    (subst (AreasBelow 0 0 n t) (sym items) (areas-laid t 0 0 n fine), items, fine)
-
 pub layout_fault-sized : (t : Tree) (n : ℕ) → names_fault (names t) ≡ None → size_fault (size_of t) ≡ None → size_of t ≡ Some n →
     layout_fault t ≡ option_or (parent_fault 0 n t) (table_fault (areas_below 0 0 n t))
 unfolding layout_fault
 layout_fault-sized t n named given size = rw (named, given, size) refl
+
+-- The areas below a root are pushed to none.
+pub root-laid : (t : Tree) (n : ℕ) (old areas shown : List Area) → names_fault (names t) ≡ None → size_fault (size_of t) ≡ None →
+    size_of t ≡ Some n → old ≡ [] → areas ≡ old ++ areas_below (length old) 0 n t → parent_fault (length old) n t ≡ None →
+    shown ≡ areas → AreasBelow 0 0 n t areas × (layout_fault t ≡ table_fault shown)
+root-laid t n old areas shown named given size nothing pushed clear same =
+    let fine = subst (λ (xs : List Area). parent_fault (length xs) n t ≡ None) nothing clear in
+    let items = subst (λ (xs : List Area). areas ≡ xs ++ areas_below (length xs) 0 n t) nothing pushed in (
+      subst (AreasBelow 0 0 n t) (sym items) (areas-laid t 0 0 n fine),
+      layout_fault-sized t n named given size ∙ rw fine (ap table_fault (sym (same ∙ items))),
+    )

@@ -1,5 +1,8 @@
 -- The field of a name that a descriptor gives is a good name of a map.
-use Rattle.std.proofs.Common.{◌≡◌, ◌≢◌, ℕ, suc, ◌+◌, ◌-◌, ◌<◌, ◌&&◌, ◌||◌, not, Bool, true, false, cond, All, List, [], ◌∷◌, ◌++◌, length, take, replicate, refl, sym, ◌∙◌, ap, subst, arith, length-append}
+use Rattle.std.proofs.Common.{◌≡◌, ◌≢◌, ℕ, suc, ◌+◌, ◌-◌, ◌<◌, ◌&&◌, not, Bool, true, false, cond, All, List, [], ◌∷◌, ◌++◌, length, take, replicate, refl, sym, ◌∙◌, ap, subst, arith, length-append}
+use Rattle.std.proofs.Math.Bool.{or-true}
+use Rattle.std.specs.Cmp.{first_so, second_so}
+use Rattle.std.specs.Cmp.Derive.{both_true}
 use Rattle.std.specs.List.{list_all, list_any, position_or_len, take_while}
 use Rattle.std.proofs.lemmas.List.{take_all, take_at, length-replicate}
 use Rattle.std.proofs.lemmas.List.Sums.{take_while-cons}
@@ -58,10 +61,6 @@ pub all-behind : (P : Word → Type 0) (front behind : List Word) → All P (fro
 all-behind P [] behind each = each
 all-behind P (w ∷ front) behind each = all-behind P front behind (All-tail P w (front ++ behind) each)
 
-is_both : (a b : Bool) → (a && b) ≡ true → (a ≡ true) × (b ≡ true)
-is_both true b e = (refl, e)
-is_both false b e = absurd cc
-
 -- the first word of a text, where it is a name
 pub first_name : (text : List ℕ) (first : Word) (rest : List Word) → words text ≡ first ∷ rest → IsA Name first →
     list_all is_plain first.bytes ≡ true
@@ -73,37 +72,27 @@ first_name text first rest is named =
 
 -- ---- the field of a name
 
-plain_printing : (b : ℕ) → is_plain b ≡ true → is_printing b ≡ true
-plain_printing b plain = (is_both _ _ plain).0
-
 plain_no_nul : (b : ℕ) → is_plain b ≡ true → is_nul b ≡ false
 plain_no_nul b plain = grind arith
-
-or_later : (a b : Bool) → b ≡ true → (a || b) ≡ true
-or_later true b e = refl
-or_later false b e = e
 
 -- a name, and so many NULs
 some_nul : (name : List ℕ) (k : ℕ) → list_any is_nul (name ++ replicate (suc k) 0) ≡ true
 some_nul [] k = refl
-some_nul (b ∷ name) k = or_later (is_nul b) _ (some_nul name k)
-
-one_more : (n : ℕ) → 1 + n ≡ suc n
-one_more n = omega arith
+some_nul (b ∷ name) k = rw (some_nul name k) (or-true (is_nul b))
 
 before_nul : (name : List ℕ) (k : ℕ) → list_all is_plain name ≡ true →
     position_or_len is_nul (name ++ replicate (suc k) 0) ≡ length name
 before_nul [] k plain = refl
 before_nul (b ∷ name) k plain =
-    let parts = is_both (is_plain b) (list_all is_plain name) plain in
-    ap (λ c. cond (not c) (1 + position_or_len is_nul (name ++ replicate (suc k) 0)) 0) (plain_no_nul b parts.0)
-    ∙ ap (λ n. 1 + n) (before_nul name k parts.1) ∙ one_more (length name)
+    ap (λ c. cond (not c) (1 + position_or_len is_nul (name ++ replicate (suc k) 0)) 0)
+    (plain_no_nul b (first_so (is_plain b) (list_all is_plain name) plain))
+    ∙ omega (arith, before_nul name k (second_so (is_plain b) (list_all is_plain name) plain))
 
 all_printing : (name : List ℕ) → list_all is_plain name ≡ true → list_all is_printing name ≡ true
 all_printing [] plain = refl
 all_printing (b ∷ name) plain =
-    let parts = is_both (is_plain b) (list_all is_plain name) plain in
-    ap (λ c. c && list_all is_printing name) (plain_printing b parts.0) ∙ all_printing name parts.1
+    both_true (first_so _ _ (first_so (is_plain b) (list_all is_plain name) plain))
+    (all_printing name (second_so (is_plain b) (list_all is_plain name) plain))
 
 pub field_named : (name : List ℕ) → length name < 32 → list_all is_plain name ≡ true → is_named (field_of name) ≡ true
 field_named name short plain =
@@ -116,9 +105,7 @@ field_named name short plain =
     ap (λ n. take n (name ++ replicate (suc k) 0)) (before_nul name k plain)
     ∙ take_at name (replicate (suc k) 0) (length name) refl in
     ap is_named shape
-    ∙ ap (λ c. c && list_all is_printing (text_of (name ++ replicate (suc k) 0))) (some_nul name k)
-    ∙ ap (λ (l : List ℕ). list_all is_printing l) text
-    ∙ all_printing name plain
+    ∙ both_true (some_nul name k) (ap (λ (l : List ℕ). list_all is_printing l) text ∙ all_printing name plain)
 
 pub field_long : (name : List ℕ) → length name < 32 → length (field_of name) ≡ 32
 field_long name short =

@@ -1,7 +1,7 @@
 -- The places of a row that is laid are the filled ones, and a tree that is laid has no fault.
 use Rattle.std.proofs.Common.{◌≡◌, ℕ, suc, ◌+◌, Bool, true, false, List, [], ◌∷◌, ◌++◌, length, length-append, Option, Some, None, refl, sym, subst, ◌∙◌, ap, arith, IfNone}
 use Rattle.std.specs.Option.{option_or}
-use Rattle.fmd_lang.specs.Tree.{Tree, section, Forest, none, some, section_count, sections_count}
+use Rattle.fmd_lang.specs.Tree.{Tree, section, Forest, none, some, section_count, names, names_of}
 use Rattle.fmd_lang.specs.Layout.{ambiguous_sibling, bound, run_end, place_of, filled, end_of, IsPlaced, ArePlaced, Laid, siblings, misfit_sibling, misfit_of, row_fault}
 use Rattle.fmd_lang.specs.Table.{section_area, areas_below, areas_of, AreasBelow, AreasOf, IsTable, table_head}
 use Rattle.fmd_lang.specs.LayoutFaults.{parent_fault, parts_fault}
@@ -60,7 +60,7 @@ mutual
       (filled_rows ∙ ap (λ qs. areas_of (suc n) at qs parts) same, ap suc count, rw (fine, ← same) clear)
 
   parts-filled : (ts : Forest) (n at : ℕ) (qs : List Place) (areas : List Area) → AreasOf n at ts qs areas →
-      (areas ≡ areas_of n at qs ts) × (length areas ≡ sections_count ts) × (parts_fault n qs ts ≡ None)
+      (areas ≡ areas_of n at qs ts) × (length areas ≡ length (names_of ts)) × (parts_fault n qs ts ≡ None)
   parts-filled none n at qs areas h = (h, ap length h, refl)
   parts-filled (some t ts) n at [] areas h = absurd h
   parts-filled (some t ts) n at (q ∷ qs) areas (below, after, shape, first, others) =
@@ -68,7 +68,7 @@ mutual
       let (outer, rest, fine) = parts-filled ts (n + section_count t) at qs after others in
       let a = section_area at q t in (
         shape ∙ ap (λ xs. a ∷ xs ++ after) inner ∙ ap (λ xs. a ∷ areas_below n (at + q.start) q.size t ++ xs) outer,
-        omega (arith, ap length shape, length-append below after, count, rest),
+        omega (arith, ap length shape, length-append below after, length-append (names t) (names_of ts), count, rest),
         rw clear fine,
       )
 

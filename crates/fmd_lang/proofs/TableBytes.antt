@@ -49,9 +49,6 @@ area_fits (section name flags offset given parts) ws at q (a, b, split, (w, one,
       flags = small_flags flags marks annotated;
     }
 
-no_areas : (areas : List Area) → areas ≡ [] → All IsAreaInBytes areas
-no_areas areas none_there = subst (λ (l : List Area). All IsAreaInBytes l) (sym none_there) (All-nil IsAreaInBytes)
-
 parts-are : (t : Tree) (ws : List Word) → IsSection t ws → (inner : List Word) × AreSections (parts_of t) inner
 parts-are (section name flags offset given parts) ws (a, b, split, named, (c, d, more, annotated, (e, f, last, placed, rest))) =
     let (g, h, shape, sized, body) = rest in
@@ -70,7 +67,8 @@ mutual
 
   parts_fit : (ts : Forest) (ws : List Word) (n at size from : ℕ) (qs : List Place) (areas : List Area) → AreSections ts ws →
       at + size < 2 ^ 32 → ArePlaced size from (siblings n ts) qs → AreasOf n at ts qs areas → All IsAreaInBytes areas
-  parts_fit none ws n at size from qs areas sections small placed are = no_areas areas are
+  parts_fit none ws n at size from qs areas sections small placed are =
+      subst (λ (l : List Area). All IsAreaInBytes l) (sym are) (All-nil IsAreaInBytes)
   parts_fit (some t ts) ws n at size from [] areas sections small placed are = absurd are
   parts_fit (some t ts) ws n at size from (q ∷ qs) areas (front, rest, shape, one, others) small placed are =
       let (here, last, later) = placed in

@@ -1,21 +1,21 @@
 -- The words of a text, one byte at a time.
-use Rattle.std.proofs.Common.{◌≡◌, ℕ, suc, ◌+◌, ◌-◌, ◌<◌, ◌≤◌, true, false, cond, List, [], ◌∷◌, ◌++◌, length, get_or, drop, take, refl, sym, ◌∙◌, arith, slice_index, slice_range, add-one, append_assoc}
+use Rattle.std.proofs.Common.{◌≡◌, ℕ, suc, ◌+◌, ◌-◌, ◌<◌, ◌≤◌, nat_eq, true, false, cond, List, [], ◌∷◌, ◌++◌, length, get_or, drop, take, refl, sym, ◌∙◌, arith, slice_index, slice_range, add-one, append_assoc}
 use Rattle.std.proofs.Math.Seq.{drop-cons}
 use Rattle.std.proofs.lemmas.List.{append-nil, drop_all, take_more}
 use Rattle.std.proofs.lemmas.Grind.{common_steps}
 use Rattle.std.proofs.lemmas.List.Sums.{take_while-cons}
 use Rattle.std.specs.List.{take_while}
-use Rattle.fmd_lang.specs.Words.{words_from, without_comments, words_after, word, word_rest, is_blank, is_plain, is_comment}
+use Rattle.fmd_lang.specs.Words.{words_from, without_comments, words_after, word, word_rest, is_blank, is_plain}
 
 -- the text at a place: its byte, and the rest
 pub here : (text : List ℕ) (at : ℕ) → at < length text → drop at text ≡ slice_index text at ∷ drop (at + 1) text
 here text at h = rw add-one (drop-cons text at 0 h)
 
 -- A blank, a plain byte and a `#` are three.
-blank-alone : (b : ℕ) → is_blank b ≡ true → (is_comment b ≡ false) × (is_plain b ≡ false)
+blank-alone : (b : ℕ) → is_blank b ≡ true → (nat_eq b 35 ≡ false) × (is_plain b ≡ false)
 blank-alone b h = (grind arith, grind arith)
 
-plain-alone : (b : ℕ) → is_plain b ≡ true → (is_comment b ≡ false) × (is_blank b ≡ false)
+plain-alone : (b : ℕ) → is_plain b ≡ true → (nat_eq b 35 ≡ false) × (is_blank b ≡ false)
 plain-alone b h = (grind arith, grind arith)
 
 pub words_after-blank : (text : List ℕ) (at : ℕ) → at < length text → is_blank (slice_index text at) ≡ true →
@@ -25,7 +25,7 @@ words_after-blank text at h blank =
     let (no_comment, no_plain) = blank-alone (slice_index text at) blank in
     rw (here text at h, no_comment, blank, no_plain, add-one) refl
 
-pub words_after-comment : (text : List ℕ) (at : ℕ) → at < length text → is_comment (slice_index text at) ≡ true →
+pub words_after-comment : (text : List ℕ) (at : ℕ) → at < length text → nat_eq (slice_index text at) 35 ≡ true →
     words_after text at ≡ words_from (at + 1) false (without_comments true (drop (at + 1) text))
 unfolding words_after
 words_after-comment text at h comment = rw (here text at h, comment, add-one) refl
@@ -55,7 +55,7 @@ words_after-plain text at h plain =
     rw (here text at h, no_comment, add-one, no_blank, row, plain) refl
 
 pub words_after-single : (text : List ℕ) (at : ℕ) → at < length text → is_plain (slice_index text at) ≡ false →
-    is_blank (slice_index text at) ≡ false → is_comment (slice_index text at) ≡ false →
+    is_blank (slice_index text at) ≡ false → nat_eq (slice_index text at) 35 ≡ false →
     words_after text at ≡ word at (slice_index text at ∷ []) ∷ words_after text (at + 1)
 unfolding words_after
 words_after-single text at h plain blank comment = rw (here text at h, comment, add-one, blank, plain) refl
@@ -108,7 +108,7 @@ rest-other text at h plain =
     let b = slice_index text at in
     let rest = drop (at + 1) text in
     let Ends : List ℕ → Type 0 = λ s. (take_while is_plain s ≡ []) × (words_from at true s ≡ words_from at false s) in
-    let ends : Ends (without_comments false (b ∷ rest)) = elim (is_comment b)
+    let ends : Ends (without_comments false (b ∷ rest)) = elim (nat_eq b 35)
     as (λ v. Ends (cond v (32 ∷ without_comments true rest) (b ∷ without_comments false rest)))
     [ true ↦ (refl, refl) | false ↦ (rw plain refl, rw plain refl) ] in
     rw (here text at h, ends.0, ends.1) refl

@@ -2,7 +2,7 @@
 --   section = name [ "(" annotation+ ")" ] [ "@" number ] [ number ] [ "{" section* "}" ]
 -- (coreboot's Documentation/lib/flashmap.md; that the braces may be empty, and that the root is read as any other
 -- section, is this project's own).
-use Rattle.std.specs.Prelude.{◌≡◌, ℕ, ◌<◌, ◌⊎◌, if◌then◌else◌, List, [], ◌∷◌, ◌++◌, length, Option, Some, None, codes}
+use Rattle.std.specs.Prelude.{◌≡◌, ℕ, ◌<◌, ◌⊎◌, if◌then◌else◌, List, [], ◌∷◌, ◌++◌, length, Option, Some, None, MatchOption, codes}
 use Rattle.std.specs.Int.Bits.{bit_or}
 use Rattle.std.specs.Option.{option_and_then}
 use Rattle.std.specs.Str.{bytes_eq}
@@ -28,9 +28,13 @@ Else Q P ws = ((ws ≡ []) × Q) ⊎ P ws
 abbrev pub IsA : Kind → Word → Type 0
 IsA k w = kind_of w.bytes ≡ k
 
+-- words of one form, and then a word of this kind
+abbrev pub Until : Kind → (List Word → Type 0) → List Word → Type 0
+Until last P = Then P (One (IsA last))
+
 -- words of one form between words of two kinds
 abbrev pub Between : Kind → Kind → (List Word → Type 0) → List Word → Type 0
-Between first last P = Then (One (IsA first)) (Then P (One (IsA last)))
+Between first last P = Then (One (IsA first)) (Until last P)
 
 -- what an annotation adds to the flags of an area: the bit 8 is PRESERVE
 abbrev pub annotation_flag : List ℕ → Option ℕ
@@ -58,13 +62,11 @@ HasValue n w = IsA Number w × (number_value w.bytes ≡ Some n)
 
 -- `@` and a number; or nothing
 abbrev pub IsOffset : Option ℕ → List Word → Type 0
-IsOffset None ws = ws ≡ []
-IsOffset (Some n) ws = Then (One (IsA At)) (One (HasValue n)) ws
+IsOffset offset ws = MatchOption offset (ws ≡ []) (λ n. Then (One (IsA At)) (One (HasValue n)) ws)
 
 -- a number; or nothing
 abbrev pub IsSize : Option ℕ → List Word → Type 0
-IsSize None ws = ws ≡ []
-IsSize (Some n) ws = One (HasValue n) ws
+IsSize size ws = MatchOption size (ws ≡ []) (λ n. One (HasValue n) ws)
 
 -- a section's name
 abbrev pub IsName : List ℕ → Word → Type 0

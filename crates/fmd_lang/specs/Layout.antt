@@ -15,9 +15,8 @@ end_of q = q.start + q.size
 -- A run is the first sibling, or one with an offset, and the siblings after it without one. This is
 -- where the run goes on to, whose places before these end at `at`.
 abbrev pub run_end : ℕ → List Sibling → List Place → ℕ
-run_end at [] qs = at
-run_end at (p ∷ ps) [] = at
 run_end at (p ∷ ps) (q ∷ qs) = if is_some p.offset then at else run_end (end_of q) ps qs
+run_end at ps qs = at
 
 -- the bound of the run that goes on with these: the start of the next run, or the parent's size
 abbrev pub bound : ℕ → List Sibling → ℕ

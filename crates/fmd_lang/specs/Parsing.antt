@@ -2,11 +2,11 @@
 use Rattle.std.specs.Prelude.{◌≡◌, ◌≢◌, ℕ, ◌≤◌, ◌⊎◌, List, ◌++◌, Option, Some, None, Result, Ok, Err, MatchOption, length}
 use Rattle.fmd_lang.specs.Words.{Word, words_after, kind_of}
 use Rattle.fmd_lang.specs.Faults.{Stage, fault_from, own_fault}
-use Rattle.fmd_lang.specs.Grammar.{Between, Else, One, Then, AreSections, HasValue, IsA, flags_with}
+use Rattle.fmd_lang.specs.Grammar.{Between, Else, AreSections, HasValue}
 use Rattle.fmd_lang.specs.Lexing.{word_of, IsFirst}
 use Rattle.fmd_lang.specs.Tree.{Forest, none}
 use Rattle.fmd_lang.specs.declared.parser.Token.{Token}
-use Rattle.fmd_lang.specs.declared.word.Kind.TheVariants.{Number, OpenBrace, CloseBrace, CloseParen}
+use Rattle.fmd_lang.specs.declared.word.Kind.TheVariants.{Number, OpenBrace, CloseBrace}
 use Rattle.fmd_lang.specs.declared.fault.FmdFault.{FmdFault}
 use Rattle.fmd_lang.specs.declared.fault.FmdFault.TheVariants as faults
 
@@ -44,11 +44,3 @@ pub record IsNext (text : List ℕ) (from depth : ℕ) (token : Token) : Type 0 
 -- sections in braces, or none
 abbrev pub IsBody : Forest → List Word → Type 0
 IsBody parts = Else (parts ≡ none) (Between OpenBrace CloseBrace (AreSections parts))
-
--- sections and the `}` after them
-abbrev pub AreClosed : Forest → List Word → Type 0
-AreClosed parts = Then (AreSections parts) (One (IsA CloseBrace))
-
--- annotations after others, of these flags, and the `)` after them
-abbrev pub EndAnnotations : ℕ → ℕ → List Word → Type 0
-EndAnnotations before flags = Then (λ ws. flags_with before ws ≡ Some flags) (One (IsA CloseParen))

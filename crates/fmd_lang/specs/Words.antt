@@ -58,9 +58,6 @@ kind_of (b ∷ bs) =
 unfoldable pub words_after : List ℕ → ℕ → List Word
 words_after text at = words_from at false (without_comments false (drop at text))
 
-abbrev pub is_comment : ℕ → Bool
-is_comment b = nat_eq b 35
-
 -- the rest of a row of plain bytes that goes on at a place, and the words after it
 unfoldable pub word_rest : List ℕ → ℕ → List ℕ × List Word
 word_rest text at = let bytes = without_comments false (drop at text) in (take_while is_plain bytes, words_from at true bytes)

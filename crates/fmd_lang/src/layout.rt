@@ -6,7 +6,7 @@ ghost use Rattle.std.specs.Result.{result_err};
 ghost use Rattle.fmd_lang.specs.Faults.{Refuses};
 ghost use Rattle.fmd_lang.specs.Layout.{end_of, row_fault};
 ghost use Rattle.fmd_lang.specs.declared.section.Section.{out-Section};
-ghost use Rattle.fmd_lang.specs.Tree.{section_count, sections_count, parts_of, size_of, names, view, views};
+ghost use Rattle.fmd_lang.specs.Tree.{section_count, parts_of, size_of, names, names_of, view, views};
 ghost use Rattle.fmd_lang.specs.Layout as spec;
 ghost use Rattle.fmd_lang.specs.Table.{area_limit, areas_below, size_named, IsTable};
 ghost use Rattle.fmd_lang.specs.LayoutFaults as faults;
@@ -109,7 +109,7 @@ fn places(
 
 /// The parts as a row of siblings, the first having this number.
 fn siblings(alloc: Global, first: usize, parts: &[Section]) -> Result<Vec<Sibling>, FmdFault>
-    requires { first + sections_count (views parts.now) < 2 ^ 64 }
+    requires { first + length (names_of (views parts.now)) < 2 ^ 64 }
     ensures ok { IfOk result (λ row. row.items ≡ spec.siblings first (views parts.now)) }
     ensures err { IfErr result (λ fault. fault ≡ FmdFault.Memory) }
 {

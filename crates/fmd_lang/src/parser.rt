@@ -5,11 +5,11 @@ ghost use Rattle.std.specs.Result.{result_err};
 ghost use Rattle.fmd_lang.specs.Words.{words, words_after, kind_of};
 ghost use Rattle.fmd_lang.specs.Lexing.{word_of, end_of};
 ghost use Rattle.fmd_lang.specs.Faults.{Stage, depth_limit, own_fault, Refuses, start, past, at_sign, in_annotations, annotated, wanted_at, first_fault};
-ghost use Rattle.fmd_lang.specs.Grammar.{One, HasValue, HaveFlags, IsA, IsOffset, IsSize, AreAnnotations, IsSection, Then};
-ghost use Rattle.fmd_lang.specs.Parsing.{Parses, fault_at, IsNext, IsBody, AreClosed, EndAnnotations};
+ghost use Rattle.fmd_lang.specs.Grammar.{One, HasValue, HaveFlags, IsA, IsOffset, IsSize, AreAnnotations, AreSections, IsSection, Until, flags_with};
+ghost use Rattle.fmd_lang.specs.Parsing.{Parses, fault_at, IsNext, IsBody};
 ghost use Rattle.fmd_lang.specs.Tree.{view, views};
 ghost use Rattle.fmd_lang.specs.Grammar as grammar;
-ghost use Rattle.fmd_lang.specs.declared.word.Kind.TheVariants.{CloseParen, Name, Number};
+ghost use Rattle.fmd_lang.specs.declared.word.Kind.TheVariants.{CloseBrace, CloseParen, Name, Number};
 
 use crate::fault::{Expected, FmdFault};
 use crate::number::read_number;
@@ -127,7 +127,7 @@ fn sections(
     depth: u32,
 ) -> Result<(Vec<Section>, usize), FmdFault>
     requires depth { depth < depth_limit }
-    ensures { Parses (λ v. AreClosed (views v.items)) (past 4, suc depth) (past 4, depth) text.now from result }
+    ensures { Parses (λ v. Until CloseBrace (AreSections (views v.items))) (past 4, suc depth) (past 4, depth) text.now from result }
 {
     let mut parts = Vec::new(alloc);
     let mut at = from;
@@ -160,7 +160,7 @@ fn annotations(text: &[u8], from: usize, depth: u32) -> Result<(u16, usize), Fmd
 
 /// One annotation, which has to stand here, and more.
 fn first_annotation(text: &[u8], from: usize, depth: u32) -> Result<(u16, usize), FmdFault>
-    ensures { Parses (λ flags. Then (HaveFlags flags) (One (IsA CloseParen))) (in_annotations, depth) (past 1, depth)
+    ensures { Parses (λ flags. Until CloseParen (HaveFlags flags)) (in_annotations, depth) (past 1, depth)
         text.now from result }
 {
     let token = peek(text, from, depth)?;
@@ -177,7 +177,7 @@ fn more_annotations(
     depth: u32,
     first: u16,
 ) -> Result<(u16, usize), FmdFault>
-    ensures { Parses (EndAnnotations first) (annotated, depth) (past 1, depth) text.now from result }
+    ensures { Parses (λ flags. Until CloseParen (λ ws. flags_with first ws ≡ Some flags)) (annotated, depth) (past 1, depth) text.now from result }
 {
     let mut flags = first;
     let mut at = from;

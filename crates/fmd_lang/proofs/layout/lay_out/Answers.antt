@@ -1,7 +1,7 @@
 use Rattle.std.proofs.Common.{◌∙◌, sym, ap, refl, inl, inr, rules, arith, length}
 use Rattle.std.proofs.lemmas.Result.{err_from_is_err_and}
 use Rattle.fmd_lang.specs.Tree.{view}
-use Rattle.fmd_lang.specs.LayoutFaults.{parent_fault, table_fault}
+use Rattle.fmd_lang.specs.LayoutFaults.{parent_fault}
 use Rattle.fmd_lang.proofs.LayoutLemmas.{few-sections, layout_fault-sized, root-laid, table-is, view-size}
 use Rattle.fmd_lang.proofs.layout.lay_out.Goals as goal
 
@@ -19,29 +19,25 @@ returns-in_err-push_areas-clause-refused c =
 
 pub returns-in_err-check_fmap-clause-refused : goal.returns-in_err-check_fmap-clause-refused
 returns-in_err-check_fmap-clause-refused c =
-    let t = view c.args.root.now in
     let size = c.in_ok-size in
     let pushed = c.in_ok-push_areas.ensures in
     let p = err_from_is_err_and c.from_residual-in_err-check_fmap.result c.from_residual-in_err-check_fmap.ensures.1 in
-    let sized = layout_fault-sized t size.size c.in_ok-check_names_of.ensures size.ensures.fault size.ensures.size in
-    let laid = root-laid t size.size _ c.push_areas.new.areas.items c.new-areas.ensures.items pushed.ok pushed.refused in
-    let same = ap table_fault (sym laid.1 ∙ sym c.deref.ensures.value) in
-    rw (p.1, p.2) (inr (sized ∙ rw (laid.2) (same ∙ c.in_err-check_fmap.ensures)))
+    let laid = root-laid (view c.args.root.now) size.size _ _ _ c.in_ok-check_names_of.ensures size.ensures.fault
+    size.ensures.size c.new-areas.ensures.items pushed.ok pushed.refused c.deref.ensures.value in
+    rw (p.1, p.2) (inr (laid.1 ∙ c.in_err-check_fmap.ensures))
 
 pub returns : goal.returns
 returns c =
-    let t = view c.args.root.now in
     let size = c.in_ok-size in
     let pushed = c.in_ok-push_areas.ensures in
-    let sized = layout_fault-sized t size.size c.in_ok-check_names_of.ensures size.ensures.fault size.ensures.size in
-    let laid = root-laid t size.size _ c.push_areas.new.areas.items c.new-areas.ensures.items pushed.ok pushed.refused in
-    let same = ap table_fault (sym laid.1 ∙ sym c.deref.ensures.value) in
-    let few = few-sections t c.in_ok-check_names_of.ensures in
+    let laid = root-laid (view c.args.root.now) size.size _ _ _ c.in_ok-check_names_of.ensures size.ensures.fault
+    size.ensures.size c.new-areas.ensures.items pushed.ok pushed.refused c.deref.ensures.value in
+    let few = few-sections (view c.args.root.now) c.in_ok-check_names_of.ensures in
     let given = sym (view-size c.args.root.now) ∙ size.ensures.size in
     record {
       table = table-is c.args.root.now _ (search rules) given (search rules) laid.0;
       few = omega (arith, ap length c.new-areas.ensures.items, pushed.count, few);
-      refused = sized ∙ rw (laid.2) (same ∙ c.in_ok-check_fmap.ensures);
+      refused = laid.1 ∙ c.in_ok-check_fmap.ensures;
     }
 
 pub push_areas-requires-clause-count : goal.push_areas-requires-clause-count

@@ -1,7 +1,8 @@
 use Rattle.std.proofs.Common.{◌≡◌, ◌<◌, length, ◌∷◌, [], sym, refl, rules, arith, inr, add-one, ◌++◌}
 use Rattle.fmd_lang.specs.Faults.{past}
 use Rattle.fmd_lang.specs.Lexing.{word_of, end_of}
-use Rattle.fmd_lang.specs.Parsing.{AreClosed, IsBody}
+use Rattle.fmd_lang.specs.Grammar.{AreSections, Until}
+use Rattle.fmd_lang.specs.Parsing.{IsBody}
 use Rattle.fmd_lang.specs.Tree.{Tree, view, views, view_step}
 use Rattle.fmd_lang.specs.declared.section.Section.TheFolds.{fold-roll-Section}
 use Rattle.fmd_lang.specs.declared.word.Kind.TheVariants.{CloseBrace, Name, OpenBrace}
@@ -12,7 +13,7 @@ use Rattle.fmd_lang.proofs.parser.+section.Goals as goal
 pub body-returns-in-OpenBrace : goal.body-returns-in-OpenBrace
 body-returns-in-OpenBrace t c =
     let word = token-mark (past 3) (past 4) OpenBrace c.in_ok-token.ensures.next c.end.ensures c.in-OpenBrace.is (λ e. cc) refl in
-    parses-after (λ v. AreClosed (views v.items)) (λ v. IsBody (views v.items)) _ c.sections.result (λ v ws h. inr h) word
+    parses-after (λ v. Until CloseBrace (AreSections (views v.items))) (λ v. IsBody (views v.items)) _ c.sections.result (λ v ws h. inr h) word
     c.sections.ensures
 
 pub section-returns : goal.section-returns

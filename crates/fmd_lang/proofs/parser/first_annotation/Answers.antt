@@ -1,7 +1,6 @@
-use Rattle.std.proofs.Common.{refl, sym, ◌∙◌}
+use Rattle.std.proofs.Common.{◌≡◌, refl, sym, ◌∙◌, Some}
 use Rattle.fmd_lang.specs.Faults.{annotated, in_annotations}
-use Rattle.fmd_lang.specs.Grammar.{HaveFlags, IsA, One, Then}
-use Rattle.fmd_lang.specs.Parsing.{EndAnnotations}
+use Rattle.fmd_lang.specs.Grammar.{HaveFlags, Until, flags_with}
 use Rattle.fmd_lang.specs.declared.word.Kind.TheVariants.{CloseParen, Name}
 use Rattle.fmd_lang.proofs.FormLemmas.{IsAnnotation, annotation-name, flags-cons}
 use Rattle.fmd_lang.proofs.StepLemmas.{parses-after, token-takes}
@@ -16,5 +15,5 @@ returns-in-Some c =
     let name = sym next.kind ∙ annotation-name token.word.bytes.now flag known in
     let word =
     token-takes (IsAnnotation flag) in_annotations annotated Name next c.end.ensures name (λ e. cc) (rw known refl) known in
-    parses-after (EndAnnotations flag) (λ flags. Then (HaveFlags flags) (One (IsA CloseParen))) _ c.more_annotations.result
-    (flags-cons 0 flag) word c.more_annotations.ensures
+    parses-after (λ flags. Until CloseParen (λ ws. flags_with flag ws ≡ Some flags)) (λ flags. Until CloseParen (HaveFlags flags))
+    _ c.more_annotations.result (flags-cons 0 flag) word c.more_annotations.ensures
