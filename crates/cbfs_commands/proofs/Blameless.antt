@@ -179,7 +179,7 @@ told_found-blameless (Some c) = elim (is_packed c.attributes) as (λ b. Blameles
 by_region : (image name : List ℕ) (tell : List ℕ → Told) → ((x : List ℕ) → Blameless itself (tell x).answer) → Blameless itself (told_in image name tell).answer
 by_region image name tell each = told-blameless store_refusal _ _ (region_of-blameless image name) (λ region. each (bytes_in region image))
 
-edited : (image name : List ℕ) (make : Range → List ℕ → Result (List ℕ) Refusal) → ((region : Range) (x : List ℕ) → Blameless itself (make region x)) → Blameless itself (changing image (made_in image name make)).told.answer
+edited : (image name : List ℕ) (make : Range → List ℕ → Result (List ℕ) Refusal) → ((region : Range) (x : List ℕ) → Blameless itself (make region x)) → Blameless itself (changing image (made_in image (region_of image name) make)).told.answer
 edited image name make each =
     made-blameless image _ (next-blameless store_refusal _ _ (region_of-blameless image name) (λ region. next-blameless itself _ _ (each region (bytes_in region image)) (λ bytes. tt)))
 

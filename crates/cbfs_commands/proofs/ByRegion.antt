@@ -21,7 +21,7 @@ module _ (name : List ℕ) (region : Range) (image other : List ℕ) (here : reg
       record { told = last ∙ sym first; bytes = same }
 
   -- the same is made of them
-  made : (make : Range → List ℕ → Result (List ℕ) Refusal) → EndAlike region (changing image (made_in image name make)) (changing other (made_in other name make))
+  made : (make : Range → List ℕ → Result (List ℕ) Refusal) → EndAlike region (changing image (made_in image (region_of image name) make)) (changing other (made_in other (region_of other name) make))
   made make = rw (here, there, same) (go (make region (bytes_in region image)))
     where
       go : (r : Result (List ℕ) Refusal) → EndAlike region (changing image (in_place image region r)) (changing other (in_place other region r))

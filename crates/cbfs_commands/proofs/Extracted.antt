@@ -5,7 +5,7 @@ use Rattle.flash_format.specs.Components.{is_packed}
 use Rattle.flash_format.specs.Made.{made_attributes}
 use Rattle.flash_format.specs.declared.digest.Digest.{Digest}
 use Rattle.flash_store.specs.Bytes.{overwritten}
-use Rattle.flash_store.specs.Regions.{Range, bytes_in}
+use Rattle.flash_store.specs.Regions.{Range, bytes_in, region_of}
 use Rattle.flash_store.specs.declared.fmap.StoreFault.{StoreFault}
 use Rattle.flash_store.proofs.DeviceLemmas.{length-bytes_in}
 use Rattle.cbfs_edit.specs.Additions.{added}
@@ -35,10 +35,10 @@ files_extracted image name new spot region place asked is still =
     let x : List ℕ = bytes_in region image in
     let y : List ℕ = added x new place in
     let make : Range → List ℕ → Result (List ℕ) Refusal = λ found x. add_region x new spot in
-    let now : List ℕ = (changing image (made_in image name make)).image in
+    let now : List ℕ = (changing image (made_in image (region_of image name) make)).image in
     let lies = region_lies image name region asked in
     let long : length y ≡ region.size = added_length x new spot place is.region is.kind is.content is.digest is.placed ∙ length-bytes_in region image lies in
-    let made : made_in image name make ≡ Ok (overwritten image region.start y) = rw (asked, is.placed) refl in
+    let made : made_in image (region_of image name) make ≡ Ok (overwritten image region.start y) = rw (asked, is.placed) refl in
     let left : now ≡ overwritten image region.start y = ap (λ (r : Result (List ℕ) Refusal). (changing image r).image) made in
     let holds : bytes_in region now ≡ y = ap (λ (l : List ℕ). bytes_in region l) left ∙ whole_over region image y lies long in
     ap (λ (r : Result Range StoreFault). told_of store_refusal r (λ found. extract_region (bytes_in found now) new.name)) still ∙ ap (λ (l : List ℕ). extract_region l new.name) holds ∙ additions_extracted x new spot place is

@@ -1,12 +1,13 @@
 -- What a command is to an image: its outcome, what it may change, which sides it uses, and what a stop leaves.
 use Rattle.std.specs.Prelude.{◌≡◌, ℕ, ◌+◌, ◌/◌, ◌⊎◌, Bool, true, false, List, [], length, Option, Some, None, is_some, Result, Ok, Err, IsErrOf, IsTrue, ◌==◌, if◌then◌else◌}
 use Rattle.std.specs.Option.{option_map_or}
-use Rattle.std.specs.Result.{result_ok}
+use Rattle.std.specs.Result.{ForOk, result_ok}
 use Rattle.flash_format.specs.Flashmap.{area_len}
 use Rattle.flash_store.specs.Bytes.{SameOutside}
 use Rattle.flash_store.specs.Device.{Device}
 use Rattle.flash_store.specs.Pages.{Pages, OnHonest}
 use Rattle.flash_store.specs.Regions.{Range, bytes_in, region_of}
+use Rattle.flash_store.specs.declared.fmap.StoreFault.{StoreFault}
 use Rattle.cbfs_edit.specs.Additions.{new_component}
 use Rattle.cbfs_edit.specs.Removals.{removal_in, removed}
 use Rattle.cbfs_edit.specs.Stops.{LeavesWhole}
@@ -19,7 +20,7 @@ use Rattle.cbfs_commands.specs.Layouts.{layout}
 use Rattle.cbfs_commands.specs.Refusals.{and_then, edit_refusal, itself}
 use Rattle.cbfs_commands.specs.Requests.{Request}
 use Rattle.cbfs_commands.specs.Requests as requests
-use Rattle.cbfs_commands.specs.Outcomes.{Outcome, StopsIn, AddStopsIn, HasWritten, LeavesOr, changing, reading, made_in, in_place, print, extract, add_region, told_in}
+use Rattle.cbfs_commands.specs.Outcomes.{Outcome, StopsIn, AddStopsIn, HasWritten, LeavesOr, changing, reading, made_in, print, extract, add_region, told_in}
 use Rattle.cbfs_commands.specs.Told.{Answer, Told, shows}
 
 -- A change of the image: what it makes of the image and the source, the region that it may change, by how many calls of the
@@ -69,23 +70,21 @@ pub record Edit : Type 1 where
   pub source_calls : Option (ℕ → ℕ)
   pub Stops : Range → List ℕ → List ℕ → Answer → List ℕ → Type 0
 
--- the edit of this region
-abbrev pub edits_in : Range → Edit → Change
-edits_in region e = record {
-  made = λ image source. in_place image region (e.made region (bytes_in region image) source);
-  target = λ image. Some region;
+-- the edit of the region that is found in an image
+abbrev pub edits_found : (List ℕ → Result Range StoreFault) → Edit → Change
+edits_found found e = record {
+  made = λ image source. made_in image (found image) (λ region x. e.made region x source);
+  target = λ image. result_ok (found image);
   source_calls = e.source_calls;
-  Stopped = e.Stops region;
+  Stopped = λ image source answer now. ForOk (found image) (λ region. e.Stops region image source answer now);
 }
 
--- the edit of the region of a name
+-- the edit of this region, and of that of a name
+abbrev pub edits_in : Range → Edit → Change
+edits_in region e = edits_found (λ image. Ok region) e
+
 abbrev pub edits : List ℕ → Edit → Change
-edits name e = record {
-  made = λ image source. made_in image name (λ region x. e.made region x source);
-  target = λ image. result_ok (region_of image name);
-  source_calls = e.source_calls;
-  Stopped = λ image source answer now. (region : Range) → region_of image name ≡ Ok region → e.Stops region image source answer now;
-}
+edits name e = edits_found (λ image. region_of image name) e
 
 -- the source, which has its size, is put in place of a region
 abbrev pub replaces : Edit

@@ -63,5 +63,5 @@ AdditionsAreExtracted = (x : List ℕ) (new : NewComponent) (spot : Spot) (place
 -- and so it is of an image, where its map still gives the name the same region
 abbrev pub AddedFilesAreExtracted : Type 0
 AddedFilesAreExtracted = (image name : List ℕ) (new : NewComponent) (spot : Spot) (region : Range) (place : Place) → region_of image name ≡ Ok region → IsAdded (bytes_in region image) new spot place
-    → let now = (changing image (made_in image name (λ found x. add_region x new spot))).image in
+    → let now = (changing image (made_in image (region_of image name) (λ found x. add_region x new spot))).image in
     region_of now name ≡ Ok region → extract now name new.name ≡ shows new.content

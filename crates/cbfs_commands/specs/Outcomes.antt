@@ -9,6 +9,7 @@ use Rattle.flash_store.specs.Bytes.{overwritten, FirstWritten, PartWritten}
 use Rattle.flash_store.specs.Device.{Device, Calls, faults_told}
 use Rattle.flash_store.specs.Pages.{Pages}
 use Rattle.flash_store.specs.Regions.{Range, bytes_in, region_of}
+use Rattle.flash_store.specs.declared.fmap.StoreFault.{StoreFault}
 use Rattle.cbfs_edit.specs.Stops.{AddLeavesBefore, AddLeavesWhole}
 use Rattle.cbfs_edit.specs.Additions.{NewComponent, added, addition_in}
 use Rattle.cbfs_edit.specs.declared.place.Spot.{Spot}
@@ -44,9 +45,9 @@ told_in image name tell = told_of store_refusal (region_of image name) (λ regio
 abbrev pub in_place : List ℕ → Range → Result (List ℕ) Refusal → Result (List ℕ) Refusal
 in_place image region made = and_then itself made (λ bytes. Ok (overwritten image region.start bytes))
 
--- what a command makes of it and its bytes, in place of them
-abbrev pub made_in : List ℕ → List ℕ → (Range → List ℕ → Result (List ℕ) Refusal) → Result (List ℕ) Refusal
-made_in image name make = and_then store_refusal (region_of image name) (λ region. in_place image region (make region (bytes_in region image)))
+-- what a command makes of a region that is found and its bytes, in place of them
+abbrev pub made_in : List ℕ → Result Range StoreFault → (Range → List ℕ → Result (List ℕ) Refusal) → Result (List ℕ) Refusal
+made_in image found make = and_then store_refusal found (λ region. in_place image region (make region (bytes_in region image)))
 
 -- ---- print
 
