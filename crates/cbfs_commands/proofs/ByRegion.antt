@@ -6,7 +6,7 @@ use Rattle.cbfs_commands.specs.declared.refusal.Refusal.{Refusal}
 use Rattle.cbfs_commands.specs.Deeds.{deed, outcome, removes, replaces}
 use Rattle.cbfs_commands.specs.Requests.{Request}
 use Rattle.cbfs_commands.specs.Requests as requests
-use Rattle.cbfs_commands.specs.Outcomes.{add_region, changing, extract, extract_region, in_place, made_in, print, print_region, reading, told_in}
+use Rattle.cbfs_commands.specs.Outcomes.{add_region, changing, extract, extract_region, made_in, print, print_region, told_in}
 use Rattle.cbfs_commands.specs.Told.{Told, shows}
 use Rattle.cbfs_commands.specs.Laws.{EndAlike, OutcomesAreOfTheRegion, region_name}
 use Rattle.cbfs_commands.proofs.RegionPlaces.{alike_over, region_lies}
@@ -14,7 +14,7 @@ use Rattle.cbfs_commands.proofs.RegionPlaces.{alike_over, region_lies}
 -- two images with the same bytes in a region
 module _ (name : List ℕ) (region : Range) (image other : List ℕ) (here : region_of image name ≡ Ok region) (there : region_of other name ≡ Ok region) (same : bytes_in region other ≡ bytes_in region image) where
   -- the same is told of them
-  told : (tell : List ℕ → Told) → EndAlike region (reading image (told_in image name tell)) (reading other (told_in other name tell))
+  told : (tell : List ℕ → Told) → EndAlike region (record { told = told_in image name tell; image = image }) (record { told = told_in other name tell; image = other })
   told tell =
       let first : told_in image name tell ≡ tell (bytes_in region image) = rw here refl in
       let last : told_in other name tell ≡ tell (bytes_in region image) = rw (there, same) refl in
@@ -24,7 +24,7 @@ module _ (name : List ℕ) (region : Range) (image other : List ℕ) (here : reg
   made : (make : Range → List ℕ → Result (List ℕ) Refusal) → EndAlike region (changing image (made_in image (region_of image name) make)) (changing other (made_in other (region_of other name) make))
   made make = rw (here, there, same) (go (make region (bytes_in region image)))
     where
-      go : (r : Result (List ℕ) Refusal) → EndAlike region (changing image (in_place image region r)) (changing other (in_place other region r))
+      go : (r : Result (List ℕ) Refusal) → EndAlike region (changing image (made_in image (Ok region) (λ k x. r))) (changing other (made_in other (Ok region) (λ k x. r)))
       go (Err refusal) = record { told = refl; bytes = same }
       go (Ok bytes) = record { told = refl; bytes = alike_over region image other bytes (region_lies image name region here) (region_lies other name region there) same }
 

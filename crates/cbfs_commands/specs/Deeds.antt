@@ -20,7 +20,7 @@ use Rattle.cbfs_commands.specs.Layouts.{layout}
 use Rattle.cbfs_commands.specs.Refusals.{and_then, edit_refusal, itself}
 use Rattle.cbfs_commands.specs.Requests.{Request}
 use Rattle.cbfs_commands.specs.Requests as requests
-use Rattle.cbfs_commands.specs.Outcomes.{Outcome, StopsIn, AddStopsIn, HasWritten, LeavesOr, changing, reading, made_in, print, extract, add_region, told_in}
+use Rattle.cbfs_commands.specs.Outcomes.{Outcome, StopsIn, AddStopsIn, HasWritten, LeavesOr, changing, made_in, print, extract, add_region, told_in}
 use Rattle.cbfs_commands.specs.Told.{Answer, Told, shows}
 
 -- A change of the image: what it makes of the image and the source, the region that it may change, by how many calls of the
@@ -39,7 +39,7 @@ pub data Deed : Type 1 where
 -- ---- what a deed is to an image
 
 abbrev pub outcome : Deed → List ℕ → List ℕ → Outcome
-outcome (tells told) image source = reading image (told image)
+outcome (tells told) image source = record { told = told image; image = image }
 outcome (changes c) image source = changing image (c.made image source)
 
 -- its change; one that tells changes nothing, and reads no source

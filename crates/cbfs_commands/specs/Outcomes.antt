@@ -27,10 +27,6 @@ pub record Outcome : Type 0 where
   pub told : Told
   pub image : List ℕ
 
--- a command that changes nothing
-abbrev pub reading : List ℕ → Told → Outcome
-reading image t = record { told = t; image = image }
-
 -- a command that only changes the image, by what it leaves of it or why it is refused
 abbrev pub changing : List ℕ → Result (List ℕ) Refusal → Outcome
 changing image made = record { told = record { written = []; answer = result_map_both (λ now. tt) itself made }; image = result_unwrap_or made image }
@@ -41,13 +37,9 @@ changing image made = record { told = record { written = []; answer = result_map
 abbrev pub told_in : List ℕ → List ℕ → (List ℕ → Told) → Told
 told_in image name tell = told_of store_refusal (region_of image name) (λ region. tell (bytes_in region image))
 
--- other bytes in place of those of a region
-abbrev pub in_place : List ℕ → Range → Result (List ℕ) Refusal → Result (List ℕ) Refusal
-in_place image region made = and_then itself made (λ bytes. Ok (overwritten image region.start bytes))
-
 -- what a command makes of a region that is found and its bytes, in place of them
 abbrev pub made_in : List ℕ → Result Range StoreFault → (Range → List ℕ → Result (List ℕ) Refusal) → Result (List ℕ) Refusal
-made_in image found make = and_then store_refusal found (λ region. in_place image region (make region (bytes_in region image)))
+made_in image found make = and_then store_refusal found (λ region. and_then itself (make region (bytes_in region image)) (λ bytes. Ok (overwritten image region.start bytes)))
 
 -- ---- print
 
