@@ -1,8 +1,9 @@
 -- Words without a fault are those of a tree.
-use Rattle.std.proofs.Common.{◌≡◌, ◌≢◌, ℕ, zero, suc, ◌+◌, ◌-◌, ◌≤◌, nat_lt, Bool, true, false, cond, List, [], ◌∷◌, ◌++◌, length, Option, Some, None, refl, sym, ◌∙◌, ap, arith, inl, inr, append_assoc, subst, All}
+use Rattle.std.proofs.Common.{◌≡◌, ◌≢◌, ℕ, zero, suc, ◌+◌, ◌-◌, ◌≤◌, nat_lt, false, cond, List, [], ◌∷◌, ◌++◌, length, Option, Some, None, refl, sym, ◌∙◌, ap, arith, inl, inr, append_assoc, subst, All}
 use Rattle.std.specs.Int.Bits.{bit_or}
 use Rattle.std.specs.Option.{option_map_or}
 use Rattle.std.specs.Result.{result_err}
+use Rattle.std.proofs.lemmas.Bool.{cond_both}
 use Rattle.std.proofs.lemmas.Bool.Decides.{nat_tests}
 use Rattle.std.proofs.lemmas.List.{append-nil}
 use Rattle.std.proofs.lemmas.List.Elements.{All-head, All-tail}
@@ -108,11 +109,9 @@ Rest (Some t) depth ws = Left t depth ws
 -- The first word of a part may stand where the part may still come.
 room : (n m : ℕ) (t : Stage) (depth : ℕ) (ws : List Word) → m ≤ 4 → Rest (cond (nat_lt n m) (Some t) None) depth ws →
     (5 - m ≤ 4 - n) × Left t depth ws
-room n m t depth ws small rest = go (nat_lt n m) refl rest
-  where
-    go : (test : Bool) → nat_lt n m ≡ test → Rest (cond test (Some t) None) depth ws → (5 - m ≤ 4 - n) × Left t depth ws
-    go true e left_behind = (let few : suc n ≤ m = grind (arith, nat_tests) in omega arith, left_behind)
-    go false e none_left = absurd none_left
+room n m t depth ws small =
+    cond_both (nat_lt n m) (Some t) None (λ o. Rest o depth ws → (5 - m ≤ 4 - n) × Left t depth ws)
+    (λ fits rest. (let few : suc n ≤ m = grind (arith, nat_tests) in omega arith, rest)) (λ over none_left. absurd none_left)
 
 -- one word more
 step : (s : Stage) (k : Kind) (flag : Option ℕ) (depth : ℕ) (w : Word) (ws : List Word) → IsA k w → k ≢ End →

@@ -1,11 +1,13 @@
 -- Annotations and sections, one word or one section at a time.
-use Rattle.std.proofs.Common.{◌≡◌, ℕ, ◌<◌, Bool, cond, if◌then◌else◌, nat_lt, true, false, List, [], ◌∷◌, ◌++◌, length, map, codes, Option, Some, None, option_map, refl, sym, ◌∙◌, ap, subst, arith, append_assoc}
+use Rattle.std.proofs.Common.{◌≡◌, ℕ, ◌<◌, if◌then◌else◌, nat_lt, true, List, [], ◌∷◌, ◌++◌, length, map, codes, Option, Some, None, option_map, refl, sym, ◌∙◌, ap, subst, arith, append_assoc}
 use Rattle.std.proofs.lemmas.List.{append-nil, map-append}
+use Rattle.std.proofs.lemmas.Bool.{cond_both}
+use Rattle.std.proofs.lemmas.Option.{cond_some}
 use Rattle.std.proofs.lemmas.Slice.Eq.{bytes_eq-Decides}
 use Rattle.fmd_lang.specs.Faults.{own_fault}
 use Rattle.fmd_lang.specs.declared.fault.FmdFault.TheVariants as faults
+use Rattle.fmd_lang.proofs.OptionLemmas.{and-then-some}
 use Rattle.std.specs.Int.Bits.{bit_or}
-use Rattle.std.specs.Option.{option_and_then}
 use Rattle.std.specs.Str.{bytes_eq}
 use Rattle.fmd_lang.specs.Words.{Word, kind_of}
 use Rattle.fmd_lang.specs.Grammar.{One, Then, IsA, IsSection, AreSections, annotation_flag, flags_with}
@@ -27,14 +29,9 @@ flags-cons before flag flags v (front, back, split, (w, one, is), (annotations, 
 flags-push : (ws : List Word) (before flags flag : ℕ) (w : Word) → flags_with before ws ≡ Some flags → IsAnnotation flag w →
     flags_with before (ws ++ w ∷ []) ≡ Some (bit_or flags flag)
 flags-push [] before flags flag w h is = rw is (ap (option_map (λ n. bit_or n flag)) h)
-flags-push (v ∷ ws) before flags flag w h is = go (annotation_flag v.bytes) (λ joined e. flags-push ws joined flags flag w e is) h
-  where
-    go : (o : Option ℕ) →
-        ((joined : ℕ) → flags_with joined ws ≡ Some flags → flags_with joined (ws ++ w ∷ []) ≡ Some (bit_or flags flag)) →
-        option_and_then (λ f. flags_with (bit_or before f) ws) o ≡ Some flags →
-        option_and_then (λ f. flags_with (bit_or before f) (ws ++ w ∷ [])) o ≡ Some (bit_or flags flag)
-    go None further e = cc
-    go (Some f) further e = further (bit_or before f) e
+flags-push (v ∷ ws) before flags flag w h is =
+    let (f, known, rest) = and-then-some (annotation_flag v.bytes) (λ n. flags_with (bit_or before n) ws) flags h in
+    rw known (flags-push ws (bit_or before f) flags flag w rest is)
 
 -- one more annotation at the end
 pub flags-snoc : (before flags flag : ℕ) (v : List Word) →
@@ -45,19 +42,15 @@ flags-snoc before flags flag v (front, back, split, all, (w, one, is)) =
 -- what holds of each annotation
 pub each-annotation : (P : List ℕ → ℕ → Type 0) → P (codes "CBFS") 0 → P (codes "PRESERVE") 8 → (bytes : List ℕ) (flag : ℕ) →
     annotation_flag bytes ≡ Some flag → P bytes flag
-each-annotation P cbfs preserve bytes flag h =
-    go (bytes_eq bytes (codes "CBFS")) (bytes_eq bytes (codes "PRESERVE")) (bytes_eq-Decides bytes (codes "CBFS")).0
-    (bytes_eq-Decides bytes (codes "PRESERVE")).0 h
+each-annotation P cbfs preserve bytes flag =
+    cond_both (bytes_eq bytes (codes "CBFS")) (Some 0) (if bytes_eq bytes (codes "PRESERVE") then Some 8 else None)
+    (λ (o : Option ℕ). o ≡ Some flag → P bytes flag) (λ same e. known (codes "CBFS") 0 cbfs same e) (λ other e.
+    let p = cond_some (bytes_eq bytes (codes "PRESERVE")) 8 flag e in known (codes "PRESERVE") 8 preserve p.0 (ap Some p.1))
   where
-    known : (name : List ℕ) (value : ℕ) → P name value → bytes ≡ name → Some value ≡ Some flag → P bytes flag
-    known name value holds same e = let n : value ≡ flag =
-        cc in subst (λ v. P bytes v) n (subst (λ v. P v value) (sym same) holds)
-
-    go : (c p : Bool) → (c ≡ true → bytes ≡ codes "CBFS") → (p ≡ true → bytes ≡ codes "PRESERVE") →
-        (let o : Option ℕ = cond c (Some 0) (cond p (Some 8) None) in o) ≡ Some flag → P bytes flag
-    go true p is_cbfs is_preserve e = known (codes "CBFS") 0 cbfs (is_cbfs refl) e
-    go false true is_cbfs is_preserve e = known (codes "PRESERVE") 8 preserve (is_preserve refl) e
-    go false false is_cbfs is_preserve e = absurd cc
+    known : (name : List ℕ) (value : ℕ) → P name value → bytes_eq bytes name ≡ true → Some value ≡ Some flag → P bytes flag
+    known name value holds same e =
+        let n : value ≡ flag = cc in
+        subst (λ v. P bytes v) n (subst (λ v. P v value) (sym ((bytes_eq-Decides bytes name).0 same)) holds)
 
 -- An annotation is a name.
 pub annotation-name : (bytes : List ℕ) (flag : ℕ) → annotation_flag bytes ≡ Some flag → kind_of bytes ≡ Name

@@ -1,16 +1,17 @@
 -- The layout of a tree, one section at a time.
 use Rattle.std.proofs.Common.{◌≡◌, ℕ, suc, ◌+◌, ◌<◌, ◌≤◌, nat_le, not, true, false, List, [], ◌∷◌, ◌++◌, length, drop, take, min, replicate, get_or, Some, None, option_map, unwrap_or, length-append, refl, sym, subst, ◌∙◌, ap, arith, add-one, append_assoc}
+use Rattle.std.specs.Bool.{then_some}
 use Rattle.std.specs.Option.{option_or}
 use Rattle.std.proofs.Math.Nat.{min_comm}
 use Rattle.std.proofs.Math.Seq.{drop-cons}
 use Rattle.std.proofs.lemmas.List.{take_min, drop-replicate}
 use Rattle.std.proofs.lemmas.Bool.{le-leb}
 use Rattle.std.specs.List.{list_all}
-use Rattle.fmd_lang.specs.Tree.{Tree, section, Forest, none, some, section_count, parts_of, names, names_of, size_of, view, views, view_step}
+use Rattle.fmd_lang.specs.Tree.{Tree, section, Forest, none, some, section_count, names, names_of, size_of, view, views, view_step}
 use Rattle.fmd_lang.specs.declared.section.Section.TheFolds.{fold_out-Section}
 use Rattle.fmd_lang.specs.Table.{field_of, area_limit, section_area, areas_below, areas_of, AreasBelow, AreasOf, IsTable}
 use Rattle.fmd_lang.specs.Layout.{ambiguous_sibling, siblings, filled, ArePlaced, Laid, end_of, row_fault, misfit_sibling}
-use Rattle.fmd_lang.specs.LayoutFaults.{count_fault, flag, is_fmap, parent_fault, parts_fault, layout_fault, names_fault, size_fault, table_fault, duplicate}
+use Rattle.fmd_lang.specs.LayoutFaults.{count_fault, is_fmap, parent_fault, parts_fault, layout_fault, names_fault, size_fault, table_fault, duplicate}
 use Rattle.fmd_lang.specs.declared.fault.FmdFault.TheVariants as faults
 use Rattle.std.specs.List.{list_any}
 use Rattle.fmd_lang.proofs.OptionLemmas.{map-none, or-none}
@@ -45,9 +46,6 @@ length-filled (p ∷ ps) parent from = ap suc (length-filled ps parent _)
 pub view-count : (s : Section) → section_count (view s) ≡ suc (length (names_of (views (out-Section s).parts.items)))
 view-count s = rw (view-is s) refl
 
-pub view-parts : (s : Section) → parts_of (view s) ≡ views (out-Section s).parts.items
-view-parts s = rw (view-is s) refl
-
 -- every place lies in the parent
 pub placed-inside : (ps : List Sibling) (qs : List Place) (parent from : ℕ) → ArePlaced parent from ps qs →
     list_all (λ q. nat_le (end_of q) parent) qs ≡ true
@@ -68,8 +66,8 @@ field-is name =
 -- The areas below a section are pushed behind others, but for those of the parts that are left, at the places left.
 pub record IsPushed (old areas : List Area) (at size : ℕ) (whole : Tree) (places : List Place) (left : Forest) : Type 0 where
   pub count : length areas + 1 + length (names_of left) ≡ length old + section_count whole
-  pub items : areas ++ areas_of (suc (length areas)) at places left ≡ old ++ areas_below (length old) at size whole
-  pub faults : parent_fault (length old) size whole ≡ parts_fault (suc (length areas)) places left
+  pub items : areas ++ areas_of (suc (length areas)) at left places ≡ old ++ areas_below (length old) at size whole
+  pub faults : parent_fault (length old) size whole ≡ parts_fault (suc (length areas)) left places
 
 next : {X : Type 0} (xs : List X) (k : ℕ) (x : X) → k < length xs → x ≡ get_or xs k x → drop k xs ≡ x ∷ drop (k + 1) xs
 next xs k x there is = rw (drop-cons xs k x there, ← is, add-one) refl
@@ -112,9 +110,9 @@ part-pushed {before = before} {areas = areas} {at = at} {t = t} {q = q} {qs = qs
     let fine = rw len at clear in
     record {
       count = omega (arith, so_far.count, behind, length-append (names t) (names_of ts));
-      items = ap (λ xs. xs ++ areas_of (suc (length areas)) at qs ts) (rw len at below ∙ ap (λ xs. xs ++ inner) items)
-          ∙ joined before inner (areas_of (suc (length areas)) at qs ts) a
-          ∙ ap (λ m. before ++ (a ∷ inner ++ areas_of m at qs ts)) (sym behind) ∙ so_far.items;
+      items = ap (λ xs. xs ++ areas_of (suc (length areas)) at ts qs) (rw len at below ∙ ap (λ xs. xs ++ inner) items)
+          ∙ joined before inner (areas_of (suc (length areas)) at ts qs) a
+          ∙ ap (λ m. before ++ (a ∷ inner ++ areas_of m at ts qs)) (sym behind) ∙ so_far.items;
       faults = so_far.faults ∙ rw (fine, behind) refl;
     }
 
@@ -131,7 +129,7 @@ few-sections (section name flags offset size parts) h =
     let ns = names (section name flags offset size parts) in
     let below = (or-none (option_map faults.Duplicate (duplicate 0 [] ns)) _ h).1 in
     let few : count_fault (length (names_of parts)) ≡ None =
-    (or-none (flag (not (list_any is_fmap (names_of parts))) faults.NoFmap) _ below).1 in
+    (or-none (then_some (not (list_any is_fmap (names_of parts))) faults.NoFmap) _ below).1 in
     grind arith
 
 -- a row without a fault is laid where it is filled
@@ -147,19 +145,19 @@ mutual
   areas-laid (section name flags offset given parts) n at size h =
       let row = siblings (suc n) parts in
       let qs = filled size 0 row in
-      let (fine, others) = or-none (row_fault size row) (parts_fault (suc n) qs parts) h in
+      let (fine, others) = or-none (row_fault size row) (parts_fault (suc n) parts qs) h in
       (qs, row-laid size row fine, parts-laid parts (suc n) at qs (length-filled row size 0) others)
 
-  parts-laid : (ts : Forest) (n at : ℕ) (qs : List Place) → length qs ≡ length (siblings n ts) → parts_fault n qs ts ≡ None →
-      AreasOf n at ts qs (areas_of n at qs ts)
+  parts-laid : (ts : Forest) (n at : ℕ) (qs : List Place) → length qs ≡ length (siblings n ts) → parts_fault n ts qs ≡ None →
+      AreasOf n at ts qs (areas_of n at ts qs)
   parts-laid none n at qs len h = refl
   parts-laid (some t ts) n at [] len h = cc
   parts-laid (some t ts) n at (q ∷ qs) len h =
       let m = n + section_count t in
-      let (fine, others) = or-none (parent_fault n q.size t) (parts_fault m qs ts) h in
+      let (fine, others) = or-none (parent_fault n q.size t) (parts_fault m ts qs) h in
       let fewer : length qs ≡ length (siblings m ts) = cc in
       let below = areas-laid t n (at + q.start) q.size fine in
-      (areas_below n (at + q.start) q.size t, areas_of m at qs ts, refl, below, parts-laid ts m at qs fewer others)
+      (areas_below n (at + q.start) q.size t, areas_of m at ts qs, refl, below, parts-laid ts m at qs fewer others)
 
 pub table-is : (s : Section) (table : Table) → table.base ≡ unwrap_or (out-Section s).offset 0 →
     (out-Section s).size ≡ Some table.size → table.name ≡ field_of (out-Section s).name.items →

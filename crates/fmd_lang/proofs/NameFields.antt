@@ -1,6 +1,7 @@
 -- The field of a name that a descriptor gives is a good name of a map.
-use Rattle.std.proofs.Common.{◌≡◌, ◌≢◌, ℕ, suc, ◌+◌, ◌-◌, ◌<◌, ◌&&◌, not, Bool, true, false, cond, All, List, [], ◌∷◌, ◌++◌, length, take, replicate, refl, sym, ◌∙◌, ap, subst, arith, length-append}
+use Rattle.std.proofs.Common.{◌≡◌, ◌≢◌, ℕ, suc, ◌+◌, ◌-◌, ◌<◌, not, Bool, true, false, cond, All, List, [], ◌∷◌, ◌++◌, length, take, replicate, refl, sym, ◌∙◌, ap, subst, arith, length-append}
 use Rattle.std.proofs.Math.Bool.{or-true}
+use Rattle.std.proofs.lemmas.Bool.{cond_both}
 use Rattle.std.specs.Cmp.{first_so, second_so}
 use Rattle.std.specs.Cmp.Derive.{both_true}
 use Rattle.std.specs.List.{list_all, list_any, position_or_len, take_while}
@@ -28,12 +29,10 @@ no_end b bs h = grind arith
 
 all_taken : (s : List ℕ) → list_all is_plain (take_while is_plain s) ≡ true
 all_taken [] = refl
-all_taken (b ∷ s) = ap (λ (l : List ℕ). list_all is_plain l) (take_while-cons is_plain b s) ∙ go (is_plain b) refl (all_taken s)
-  where
-    go : (p : Bool) → is_plain b ≡ p → list_all is_plain (take_while is_plain s) ≡ true →
-        list_all is_plain (cond p (b ∷ take_while is_plain s) []) ≡ true
-    go true e rest = ap (λ c. c && list_all is_plain (take_while is_plain s)) e ∙ rest
-    go false e rest = refl
+all_taken (b ∷ s) =
+    ap (λ (l : List ℕ). list_all is_plain l) (take_while-cons is_plain b s)
+    ∙ cond_both (is_plain b) (b ∷ take_while is_plain s) [] (λ (l : List ℕ). list_all is_plain l ≡ true)
+    (λ plain. both_true plain (all_taken s)) (λ other. refl)
 
 pub words_whole : (place : ℕ) (inside : Bool) (s : List ℕ) → All IsWhole (words_from place inside s)
 words_whole place inside [] = All-nil IsWhole

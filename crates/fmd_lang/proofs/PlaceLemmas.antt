@@ -57,10 +57,10 @@ mutual
   areas-filled (section name flags offset given parts) n at size areas (places, laid, are) =
       let (same, fine) = laid-filled size (siblings (suc n) parts) places laid in
       let (filled_rows, count, clear) = parts-filled parts (suc n) at places areas are in
-      (filled_rows ∙ ap (λ qs. areas_of (suc n) at qs parts) same, ap suc count, rw (fine, ← same) clear)
+      (filled_rows ∙ ap (λ qs. areas_of (suc n) at parts qs) same, ap suc count, rw (fine, ← same) clear)
 
   parts-filled : (ts : Forest) (n at : ℕ) (qs : List Place) (areas : List Area) → AreasOf n at ts qs areas →
-      (areas ≡ areas_of n at qs ts) × (length areas ≡ length (names_of ts)) × (parts_fault n qs ts ≡ None)
+      (areas ≡ areas_of n at ts qs) × (length areas ≡ length (names_of ts)) × (parts_fault n ts qs ≡ None)
   parts-filled none n at qs areas h = (h, ap length h, refl)
   parts-filled (some t ts) n at [] areas h = absurd h
   parts-filled (some t ts) n at (q ∷ qs) areas (below, after, shape, first, others) =

@@ -1,6 +1,6 @@
 -- The bytes of a table are read as a valid map.
 use Rattle.std.proofs.Common.{suc, ◌≡◌, inl, inr, ℕ, ◌+◌, ◌^◌, ◌<◌, ◌≤◌, true, All, List, [], ◌∷◌, ◌++◌, length, refl, sym, ◌∙◌, ap, subst, arith}
-use Rattle.std.specs.Prelude.{Some, None, unwrap_or}
+use Rattle.std.specs.Prelude.{Option, Some, None, unwrap_or}
 use Rattle.std.specs.Int.Bits.{bit_or}
 use Rattle.std.proofs.lemmas.Nat.{or_lt}
 use Rattle.std.proofs.lemmas.List.Elements.{All-nil, All-cons, All-append}
@@ -11,7 +11,7 @@ use Rattle.flash_format.proofs.MapBytes.{maps_read_back}
 use Rattle.fmd_lang.specs.Words.{Word, words}
 use Rattle.fmd_lang.specs.Faults.{first_fault}
 use Rattle.fmd_lang.specs.LayoutFaults.{layout_fault}
-use Rattle.fmd_lang.specs.Tree.{Tree, section, Forest, none, some, parts_of, section_count}
+use Rattle.fmd_lang.specs.Tree.{Tree, section, Forest, none, some, section_count}
 use Rattle.fmd_lang.specs.Grammar.{AreAnnotations, AreSections, IsSection, annotation_flag, flags_with}
 use Rattle.fmd_lang.specs.Layout.{ArePlaced, end_of, sibling, siblings}
 use Rattle.fmd_lang.specs.Table.{field_of, AreasBelow, AreasOf, IsTable, section_area, table_bytes, table_head}
@@ -21,7 +21,7 @@ use Rattle.fmd_lang.proofs.FaultlessTables.{Fits, few_areas, numbers_fit, offset
 use Rattle.fmd_lang.proofs.RowLemmas.{fits}
 use Rattle.fmd_lang.proofs.NameFields.{all-behind, field_long, field_named, first_name}
 use Rattle.fmd_lang.proofs.FormLemmas.{each-annotation}
-use Rattle.fmd_lang.proofs.TreeLemmas.{first-flag}
+use Rattle.fmd_lang.proofs.OptionLemmas.{and-then-some}
 
 -- ---- the areas
 
@@ -31,7 +31,7 @@ few_flags = each-annotation (λ bytes flag. flag < 2 ^ 16) (omega arith) (omega 
 joined_flags : (ws : List Word) (before flags : ℕ) → before < 2 ^ 16 → flags_with before ws ≡ Some flags → flags < 2 ^ 16
 joined_flags [] before flags few h = omega (arith, ap (λ o. unwrap_or o 0) h)
 joined_flags (w ∷ ws) before flags few h =
-    let (flag, known, rest) = first-flag (annotation_flag w.bytes) (λ f. flags_with (bit_or before f) ws) flags h in
+    let (flag, known, rest) = and-then-some (annotation_flag w.bytes) (λ f. flags_with (bit_or before f) ws) flags h in
     joined_flags ws (bit_or before flag) flags (or_lt 16 before flag few (few_flags w.bytes flag known)) rest
 
 small_flags : (flags : ℕ) (ws : List Word) → AreAnnotations flags ws → flags < 2 ^ 16
@@ -49,8 +49,9 @@ area_fits (section name flags offset given parts) ws at q (a, b, split, (w, one,
       flags = small_flags flags marks annotated;
     }
 
-parts-are : (t : Tree) (ws : List Word) → IsSection t ws → (inner : List Word) × AreSections (parts_of t) inner
-parts-are (section name flags offset given parts) ws (a, b, split, named, (c, d, more, annotated, (e, f, last, placed, rest))) =
+parts-are : (name : List ℕ) (flags : ℕ) (offset given : Option ℕ) (parts : Forest) (ws : List Word) →
+    IsSection (section name flags offset given parts) ws → (inner : List Word) × AreSections parts inner
+parts-are name flags offset given parts ws (a, b, split, named, (c, d, more, annotated, (e, f, last, placed, rest))) =
     let (g, h, shape, sized, body) = rest in
     elim body [
       | inl empty ↦ ([], rw (empty.1) refl)
@@ -62,7 +63,7 @@ mutual
   areas_fit : (t : Tree) (ws : List Word) (n at size : ℕ) (areas : List Area) → IsSection t ws → at + size < 2 ^ 32 →
       AreasBelow n at size t areas → All IsAreaInBytes areas
   areas_fit (section name flags offset given parts) ws n at size areas is small (places, laid, are) =
-      let (inner, sections) = parts-are (section name flags offset given parts) ws is in
+      let (inner, sections) = parts-are name flags offset given parts ws is in
       parts_fit parts inner (suc n) at size 0 places areas sections small laid.1 are
 
   parts_fit : (ts : Forest) (ws : List Word) (n at size from : ℕ) (qs : List Place) (areas : List Area) → AreSections ts ws →

@@ -3,7 +3,7 @@ use Rattle.std.proofs.Common.{◌≡◌, ℕ, suc, ◌<◌, nat_lt, Bool, true, 
 use Rattle.std.proofs.lemmas.Bool.{lt-ltb}
 use Rattle.std.proofs.lemmas.List.{append-nil}
 use Rattle.std.specs.Int.Bits.{bit_or}
-use Rattle.std.specs.Option.{option_or, option_and_then}
+use Rattle.std.specs.Option.{option_or}
 use Rattle.fmd_lang.specs.Words.{Word, words, kind_of}
 use Rattle.fmd_lang.specs.Numbers.{number_value}
 use Rattle.fmd_lang.specs.Tree.{Tree, section, Forest, none, some}
@@ -14,6 +14,7 @@ use Rattle.fmd_lang.specs.declared.word.Kind.{Kind}
 use Rattle.fmd_lang.specs.declared.word.Kind.TheVariants.{Name, Number, OpenParen, CloseParen, At, OpenBrace, CloseBrace}
 use Rattle.fmd_lang.specs.declared.fault.FmdFault.TheVariants as faults
 use Rattle.fmd_lang.proofs.FormLemmas.{annotation-name}
+use Rattle.fmd_lang.proofs.OptionLemmas.{and-then-some}
 
 -- What the words of a text make, from the last to the first: what the name before them has, or the annotations of an
 -- open list; and the sections in each list of braces.
@@ -100,11 +101,6 @@ offset-adds (Some a) z parts ls depth end ws r (front, back, split, (m, first, a
     makes Number is refl (more 2 (omega arith)) refl in
     rw (split, first, second) (makes At at (rw (lt-ltb n 2 few) refl) number (rw value refl))
 
-pub first-flag : (o : Option ℕ) (f : ℕ → Option ℕ) (flags : ℕ) → option_and_then f o ≡ Some flags →
-    (flag : ℕ) × (o ≡ Some flag) × (f flag ≡ Some flags)
-first-flag None f flags h = cc
-first-flag (Some flag) f flags h = (flag, refl, h)
-
 -- an open list of annotations
 abbrev listed : List Word → Option ℕ → Option ℕ → Forest → List Forest → Built
 listed ws o z parts ls = record (has 0 o z parts ls) { inside = true; marks = ws }
@@ -114,7 +110,7 @@ more-make : (before flags depth end : ℕ) (ws : List Word) (c : Word) (r : List
     MakesPast 2 depth end r (has 0 o z parts ls) → Makes annotated depth end (ws ++ c ∷ r) (listed ws o z parts ls)
 more-make before flags depth end [] c r o z parts ls h close more = makes CloseParen close refl (more 1 (omega arith)) refl
 more-make before flags depth end (w ∷ ws) c r o z parts ls h close more =
-    let (flag, known, rest) = first-flag (annotation_flag w.bytes) (λ f. flags_with (bit_or before f) ws) flags h in
+    let (flag, known, rest) = and-then-some (annotation_flag w.bytes) (λ f. flags_with (bit_or before f) ws) flags h in
     makes Name (annotation-name w.bytes flag known) (rw known refl)
     (more-make (bit_or before flag) flags depth end ws c r o z parts ls rest close more) refl
 
@@ -126,7 +122,7 @@ annotations-add flags o z parts ls depth end ws r (inr (a, b, split, first, ([],
 annotations-add flags o z parts ls depth end ws r (inr (a, b, split, marked, (w ∷ v, d, inner, flagged, closes))) more n few =
     let (m, first, opens) = marked in
     let (c, second, close) = closes in
-    let (flag, known, rest) = first-flag (annotation_flag w.bytes) (λ f. flags_with (bit_or 0 f) v) flags flagged.1 in
+    let (flag, known, rest) = and-then-some (annotation_flag w.bytes) (λ f. flags_with (bit_or 0 f) v) flags flagged.1 in
     let all : Makes in_annotations depth end (w ∷ (v ++ c ∷ r)) (listed (w ∷ v) o z parts ls) =
     makes Name (annotation-name w.bytes flag known) (rw known refl)
     (more-make (bit_or 0 flag) flags depth end v c r o z parts ls rest close more) refl in

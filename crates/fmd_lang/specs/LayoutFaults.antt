@@ -1,10 +1,11 @@
 -- What is refused of the layout of a descriptor, and in which order (this project's own).
 use Rattle.std.specs.Prelude.{ℕ, suc, ◌+◌, ◌*◌, nat_lt, nat_eq, Bool, not, if◌then◌else◌, List, [], ◌∷◌, ◌++◌, length, Option, Some, None, unwrap_or, option_map, codes, drop}
+use Rattle.std.specs.Bool.{then_some}
 use Rattle.std.specs.Option.{option_or}
 use Rattle.std.specs.List.{list_any}
 use Rattle.std.specs.Str.{bytes_eq}
 use Rattle.flash_format.specs.Flashmap.{area_len, fmap_head_len}
-use Rattle.fmd_lang.specs.Tree.{Tree, section, Forest, none, some, section_count, names, size_of}
+use Rattle.fmd_lang.specs.Tree.{Tree, section, Forest, some, section_count, names, size_of}
 use Rattle.fmd_lang.specs.Layout.{filled, row_fault, siblings}
 use Rattle.fmd_lang.specs.Table.{area_limit, areas_below, size_named}
 use Rattle.fmd_lang.specs.declared.row.Place.{Place}
@@ -17,26 +18,22 @@ abbrev mutual
   pub parent_fault : ℕ → ℕ → Tree → Option FmdFault
   parent_fault n size (section name flags offset given parts) =
       let row = siblings (suc n) parts in
-      option_or (row_fault size row) (parts_fault (suc n) (filled size 0 row) parts)
+      option_or (row_fault size row) (parts_fault (suc n) parts (filled size 0 row))
 
-  pub parts_fault : ℕ → List Place → Forest → Option FmdFault
-  parts_fault n qs none = None
-  parts_fault n [] (some t ts) = None
-  parts_fault n (q ∷ qs) (some t ts) = option_or (parent_fault n q.size t) (parts_fault (n + section_count t) qs ts)
-
-abbrev pub flag : Bool → FmdFault → Option FmdFault
-flag b fault = if b then Some fault else None
+  pub parts_fault : ℕ → Forest → List Place → Option FmdFault
+  parts_fault n (some t ts) (q ∷ qs) = option_or (parent_fault n q.size t) (parts_fault (n + section_count t) ts qs)
+  parts_fault n ts qs = None
 
 abbrev pub is_fmap : List ℕ → Bool
 is_fmap name = bytes_eq name (codes "FMAP")
 
 -- so many areas are too many
 abbrev pub count_fault : ℕ → Option FmdFault
-count_fault areas = flag (nat_lt area_limit areas) faults.TooManyAreas
+count_fault areas = then_some (nat_lt area_limit areas) faults.TooManyAreas
 
 -- of the names of the sections but the root: none is FMAP; they are too many
 abbrev pub areas_fault : List (List ℕ) → Option FmdFault
-areas_fault ns = option_or (flag (not (list_any is_fmap ns)) faults.NoFmap) (count_fault (length ns))
+areas_fault ns = option_or (then_some (not (list_any is_fmap ns)) faults.NoFmap) (count_fault (length ns))
 
 -- the first of these names, numbered from `n`, that an earlier one equals
 abbrev pub duplicate : ℕ → List (List ℕ) → List (List ℕ) → Option ℕ
@@ -50,12 +47,12 @@ names_fault ns = option_or (option_map faults.Duplicate (duplicate 0 [] ns)) (ar
 -- the root's size
 abbrev pub size_fault : Option ℕ → Option FmdFault
 size_fault None = Some (faults.Ambiguous 0)
-size_fault (Some n) = flag (nat_eq n 0) (faults.EmptySection 0)
+size_fault (Some n) = then_some (nat_eq n 0) (faults.EmptySection 0)
 
 -- the area FMAP holds fewer bytes than the table of these areas
 abbrev pub table_fault : List Area → Option FmdFault
 table_fault areas =
-    flag (nat_lt (size_named (codes "FMAP") areas) (fmap_head_len + area_len * length areas)) faults.FmapTooSmall
+    then_some (nat_lt (size_named (codes "FMAP") areas) (fmap_head_len + area_len * length areas)) faults.FmapTooSmall
 
 -- the refusal of a layout: by the names, then by the root's size, the parents and the table
 unfoldable pub layout_fault : Tree → Option FmdFault

@@ -1,18 +1,14 @@
 -- What a number of the text stands for (the suffixes of coreboot's Documentation/lib/flashmap.md; the rest is own).
-use Rattle.std.specs.Prelude.{ℕ, ◌-◌, ◌*◌, ◌^◌, nat_eq, nat_lt, if◌then◌else◌, List, [], ◌∷◌, length, take, slice_index, Option, Some, None, Result, Ok, Err, option_map}
+use Rattle.std.specs.Prelude.{ℕ, ◌-◌, ◌*◌, ◌^◌, nat_eq, nat_lt, if◌then◌else◌, List, ◌∷◌, length, take, slice_index, Option, Some, None, Result, Ok, Err, option_map}
 use Rattle.flash_format.specs.Numbers.{digits_value}
 use Rattle.fmd_lang.specs.declared.fault.FmdFault.{FmdFault}
 use Rattle.fmd_lang.specs.declared.fault.FmdFault.TheVariants as faults
 
--- what may stand after a `0`: nothing, or `x` and at least one hexadecimal digit
-abbrev pub value_after_zero : List ℕ → Option ℕ
-value_after_zero [] = Some 0
-value_after_zero (x ∷ digits) = if nat_eq x 120 then digits_value 16 digits else None
-
--- `0`; `0x` and hexadecimal digits; a digit 1 to 9 and more digits
+-- a `0` or digits that begin with none; or `0x` and hexadecimal digits
 abbrev pub plain_value : List ℕ → Option ℕ
-plain_value [] = None
-plain_value (b ∷ bs) = if nat_eq b 48 then value_after_zero bs else digits_value 10 (b ∷ bs)
+plain_value (b ∷ x ∷ digits) = if nat_eq b 48 then (if nat_eq x 120 then digits_value 16 digits else None)
+    else digits_value 10 (b ∷ x ∷ digits)
+plain_value bytes = digits_value 10 bytes
 
 -- K, M and G, and 1 for any other byte
 abbrev pub unit_value : ℕ → ℕ

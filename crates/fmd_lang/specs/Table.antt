@@ -41,13 +41,12 @@ abbrev mutual
 abbrev mutual
   pub areas_below : ℕ → ℕ → ℕ → Tree → List Area
   areas_below n at size (section name flags offset given parts) =
-      areas_of (suc n) at (filled size 0 (siblings (suc n) parts)) parts
+      areas_of (suc n) at parts (filled size 0 (siblings (suc n) parts))
 
-  pub areas_of : ℕ → ℕ → List Place → Forest → List Area
-  areas_of n at qs none = []
-  areas_of n at [] (some t ts) = []
-  areas_of n at (q ∷ qs) (some t ts) =
-      section_area at q t ∷ areas_below n (at + q.start) q.size t ++ areas_of (n + section_count t) at qs ts
+  pub areas_of : ℕ → ℕ → Forest → List Place → List Area
+  areas_of n at (some t ts) (q ∷ qs) =
+      section_area at q t ∷ areas_below n (at + q.start) q.size t ++ areas_of (n + section_count t) at ts qs
+  areas_of n at ts qs = []
 
 -- the size of the first area of this name, and 0 without one
 abbrev pub size_named : List ℕ → List Area → ℕ

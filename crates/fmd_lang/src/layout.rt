@@ -6,7 +6,7 @@ ghost use Rattle.std.specs.Result.{result_err};
 ghost use Rattle.fmd_lang.specs.Faults.{Refuses};
 ghost use Rattle.fmd_lang.specs.Layout.{end_of, row_fault};
 ghost use Rattle.fmd_lang.specs.declared.section.Section.{out-Section};
-ghost use Rattle.fmd_lang.specs.Tree.{section_count, parts_of, size_of, names, names_of, view, views};
+ghost use Rattle.fmd_lang.specs.Tree.{section_count, size_of, names, names_of, view, views};
 ghost use Rattle.fmd_lang.specs.Layout as spec;
 ghost use Rattle.fmd_lang.specs.Table.{area_limit, areas_below, size_named, IsTable};
 ghost use Rattle.fmd_lang.specs.LayoutFaults as faults;
@@ -95,10 +95,10 @@ fn places(
     size: u32,
 ) -> Result<Vec<Place>, FmdFault>
     requires { number + section_count (view section.now) ≤ area_limit + 1 }
-    ensures ok { IfOk result (λ row. row.items ≡ spec.filled size 0 (spec.siblings (suc number) (parts_of (view section.now)))) }
+    ensures ok { IfOk result (λ row. row.items ≡ spec.filled size 0 (spec.siblings (suc number) (views (out-Section section.now).parts.items))) }
     ensures len { IfOk result (λ row. length row.items ≡ length (out-Section section.now).parts.items) }
     ensures inside { IfOk result (λ row. IsTrue (list_all (λ q. nat_le (end_of q) size) row.items)) }
-    ensures refused { Refuses (row_fault size (spec.siblings (suc number) (parts_of (view section.now)))) result }
+    ensures refused { Refuses (row_fault size (spec.siblings (suc number) (views (out-Section section.now).parts.items))) result }
 {
     let row = siblings(alloc, number + 1, &section.parts)?;
     match lay_row(alloc, size, &row) {

@@ -1,9 +1,8 @@
-use Rattle.std.proofs.Common.{◌≡◌, ◌⊎◌, ◌∙◌, ap, arith, length, rules, subst, suc, Some}
-use Rattle.fmd_lang.specs.Layout.{row_fault, filled, siblings}
-use Rattle.fmd_lang.specs.Tree.{parts_of, view, views}
-use Rattle.fmd_lang.specs.declared.fault.FmdFault.TheVariants as faults
+use Rattle.std.proofs.Common.{◌≡◌, ◌∙◌, ap, arith, length, rules, suc}
+use Rattle.fmd_lang.specs.Layout.{filled, siblings}
+use Rattle.fmd_lang.specs.Tree.{views}
 use Rattle.fmd_lang.specs.declared.section.Section.{out-Section}
-use Rattle.fmd_lang.proofs.LayoutLemmas.{length-siblings, length-le-count, placed-inside, length-filled, row-laid, view-count, view-parts}
+use Rattle.fmd_lang.proofs.LayoutLemmas.{length-siblings, length-le-count, placed-inside, length-filled, row-laid, view-count}
 use Rattle.fmd_lang.proofs.layout.places.Goals as goal
 
 pub lay_row-requires : goal.lay_row-requires
@@ -28,6 +27,6 @@ returns-in-Ok-clause-inside c =
 
 pub returns-clause-refused : goal.returns-clause-refused
 returns-clause-refused c =
-    let row : c.deref-2.result.now ≡ siblings (suc c.args.number) (parts_of (view c.args.section.now)) =
-    rw (view-parts c.args.section.now) (search rules) in
-    subst (λ r. (c.in-Err.fault ≡ faults.Memory) ⊎ (row_fault c.args.size r ≡ Some c.in-Err.fault)) row c.in-Err.ensures.refused
+    let row : c.deref-2.result.now ≡ siblings (suc c.args.number) (views (out-Section c.args.section.now).parts.items) =
+    search rules in
+    rw (← row) c.in-Err.ensures.refused
