@@ -1,7 +1,6 @@
 -- Words without a fault are those of a tree.
 use Rattle.std.proofs.Common.{◌≡◌, ◌≢◌, ℕ, zero, suc, ◌+◌, ◌-◌, ◌≤◌, nat_lt, false, cond, List, [], ◌∷◌, ◌++◌, length, Option, Some, None, refl, sym, ◌∙◌, ap, arith, inl, inr, append_assoc, subst, All}
 use Rattle.std.specs.Int.Bits.{bit_or}
-use Rattle.std.specs.Option.{option_map_or}
 use Rattle.std.specs.Result.{result_err}
 use Rattle.std.proofs.lemmas.Bool.{cond_both}
 use Rattle.std.proofs.lemmas.Bool.Decides.{nat_tests}
@@ -17,7 +16,7 @@ use Rattle.fmd_lang.specs.declared.word.Kind.{Kind}
 use Rattle.fmd_lang.specs.declared.word.Kind.TheVariants.{Name, Number, OpenParen, CloseParen, At, OpenBrace, CloseBrace, End}
 use Rattle.fmd_lang.specs.declared.fault.FmdFault.TheVariants as faults
 use Rattle.fmd_lang.proofs.NameFields.{IsWhole, words_whole}
-use Rattle.fmd_lang.proofs.OptionLemmas.{cond-none, or-none}
+use Rattle.fmd_lang.proofs.OptionLemmas.{cond-none, map_or-none, or-none}
 use Rattle.fmd_lang.proofs.FormLemmas.{annotation-name, flags-cons, name-short}
 
 -- ---- what is left of a text
@@ -189,16 +188,10 @@ left (w ∷ ws) s depth end whole h =
     let k = kind_of w.bytes in
     let (own, others) = or-none (own_fault depth w) _ h in
     let behind = All-tail IsWhole w ws whole in
-    let more = go (next_stage s depth k (annotation_flag w.bytes)) (λ t e. left ws t (next_depth k depth) end behind e) others in
-    step s k (annotation_flag w.bytes) depth w ws refl (All-head IsWhole w ws whole).0 refl own more
-  where
-    go : (o : Option Stage) → ((t : Stage) → fault_from t (next_depth (kind_of w.bytes) depth) end ws ≡ None →
-        Left t (next_depth (kind_of w.bytes) depth) ws) →
-        option_map_or (λ t. fault_from t (next_depth (kind_of w.bytes) depth) end ws) o
-        (Some (faults.Expected w.place (wanted_at s depth (kind_of w.bytes)))) ≡ None →
-        Rest o (next_depth (kind_of w.bytes) depth) ws
-    go None further e = absurd cc
-    go (Some t) further e = further t e
+    let (t, stands, fine) = map_or-none (λ t. fault_from t (next_depth k depth) end ws)
+    (next_stage s depth k (annotation_flag w.bytes)) (faults.Expected w.place (wanted_at s depth k)) others in
+    step s k (annotation_flag w.bytes) depth w ws refl (All-head IsWhole w ws whole).0 refl own
+    (rw stands (left ws t (next_depth k depth) end behind fine))
 
 pub faultless-tree : (text : List ℕ) → first_fault text ≡ None → (t : Tree) × IsSection t (words text)
 unfolding first_fault words

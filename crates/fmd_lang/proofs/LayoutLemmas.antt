@@ -10,7 +10,7 @@ use Rattle.std.specs.List.{list_all}
 use Rattle.fmd_lang.specs.Tree.{Tree, section, Forest, none, some, section_count, names, names_of, size_of, view, views, view_step}
 use Rattle.fmd_lang.specs.declared.section.Section.TheFolds.{fold_out-Section}
 use Rattle.fmd_lang.specs.Table.{field_of, area_limit, section_area, areas_below, areas_of, AreasBelow, AreasOf, IsTable}
-use Rattle.fmd_lang.specs.Layout.{ambiguous_sibling, siblings, filled, ArePlaced, Laid, end_of, row_fault, misfit_sibling}
+use Rattle.fmd_lang.specs.Layout.{ambiguous_sibling, siblings, filled, ArePlaced, Laid, end_of, row_fault, first_misfit}
 use Rattle.fmd_lang.specs.LayoutFaults.{count_fault, is_fmap, parent_fault, parts_fault, layout_fault, names_fault, size_fault, table_fault, duplicate}
 use Rattle.fmd_lang.specs.declared.fault.FmdFault.TheVariants as faults
 use Rattle.std.specs.List.{list_any}
@@ -135,7 +135,7 @@ few-sections (section name flags offset size parts) h =
 -- a row without a fault is laid where it is filled
 pub row-laid : (parent : ℕ) (ps : List Sibling) → row_fault parent ps ≡ None → Laid parent ps (filled parent 0 ps)
 row-laid parent ps h =
-    let both = or-none (option_map faults.Ambiguous (ambiguous_sibling false ps)) (misfit_sibling parent 0 ps) h in
+    let both = or-none (option_map faults.Ambiguous (ambiguous_sibling false ps)) (first_misfit parent 0 ps (filled parent 0 ps)) h in
     let clear = map-none faults.Ambiguous (ambiguous_sibling false ps) both.0 in
     (clear, filled-placed parent 0 false ps clear both.1)
 

@@ -1,6 +1,6 @@
 -- Refusals that aren't there.
 use Rattle.std.proofs.Common.{◌≡◌, Option, Some, None, option_map, refl, Bool, true, false, cond}
-use Rattle.std.specs.Option.{option_or, option_and_then}
+use Rattle.std.specs.Option.{option_or, option_and_then, option_map_or}
 
 pub or-none : {A : Type 0} (a b : Option A) → option_or a b ≡ None → (a ≡ None) × (b ≡ None)
 or-none None b h = (refl, h)
@@ -18,3 +18,8 @@ pub and-then-some : {A B : Type 0} (o : Option A) (f : A → Option B) (y : B) �
     (x : A) × (o ≡ Some x) × (f x ≡ Some y)
 and-then-some None f y h = cc
 and-then-some (Some x) f y h = (x, refl, h)
+
+pub map_or-none : {A B : Type 0} (f : A → Option B) (o : Option A) (y : B) → option_map_or f o (Some y) ≡ None →
+    (x : A) × (o ≡ Some x) × (f x ≡ None)
+map_or-none f None y h = absurd cc
+map_or-none f (Some x) y h = (x, refl, h)

@@ -1,8 +1,7 @@
 -- The places of a row that is laid are the filled ones, and a tree that is laid has no fault.
 use Rattle.std.proofs.Common.{◌≡◌, ℕ, suc, ◌+◌, Bool, true, false, List, [], ◌∷◌, ◌++◌, length, length-append, Option, Some, None, refl, sym, subst, ◌∙◌, ap, arith, IfNone}
-use Rattle.std.specs.Option.{option_or}
 use Rattle.fmd_lang.specs.Tree.{Tree, section, Forest, none, some, section_count, names, names_of}
-use Rattle.fmd_lang.specs.Layout.{ambiguous_sibling, bound, run_end, place_of, filled, end_of, IsPlaced, ArePlaced, Laid, siblings, misfit_sibling, misfit_of, row_fault}
+use Rattle.fmd_lang.specs.Layout.{ambiguous_sibling, bound, run_end, place_of, filled, end_of, IsPlaced, ArePlaced, Laid, siblings, first_misfit, row_fault}
 use Rattle.fmd_lang.specs.Table.{section_area, areas_below, areas_of, AreasBelow, AreasOf, IsTable, table_head}
 use Rattle.fmd_lang.specs.LayoutFaults.{parent_fault, parts_fault}
 use Rattle.fmd_lang.specs.declared.row.Sibling.{Sibling}
@@ -32,7 +31,7 @@ place-is parent from n o (Some s) q ps qs flag clear omitted placed ends rest =
 -- The places of a clear row are the filled ones, and none is refused.
 placed-filled : (parent from : ℕ) (omitted : Bool) (ps : List Sibling) (qs : List Place) →
     ambiguous_sibling omitted ps ≡ None → ArePlaced parent from ps qs →
-    (qs ≡ filled parent from ps) × (misfit_sibling parent from ps ≡ None)
+    (qs ≡ filled parent from ps) × (first_misfit parent from ps qs ≡ None)
 placed-filled parent from omitted [] qs clear h = (h, refl)
 placed-filled parent from omitted (p ∷ ps) [] clear h = absurd h
 placed-filled parent from omitted (p ∷ ps) (q ∷ qs) clear (placed, ends, others) =
@@ -40,15 +39,14 @@ placed-filled parent from omitted (p ∷ ps) (q ∷ qs) clear (placed, ends, oth
     let here = place-is parent from p.number p.offset p.size q ps qs flag further given placed ends others in
     let (same, fine) = placed-filled parent (end_of q) flag ps qs further others in (
       ap (λ rs. q ∷ rs) same ∙ ap (λ r. r ∷ filled parent (end_of r) ps) here,
-      subst (λ r. option_or (misfit_of parent from p r) (misfit_sibling parent (end_of r) ps) ≡ None) here
-          (rw (placed.fits) fine),
+      rw (placed.fits) fine,
     )
 
 -- A row that is laid is filled, and has no fault.
 laid-filled : (parent : ℕ) (ps : List Sibling) (qs : List Place) → Laid parent ps qs →
     (qs ≡ filled parent 0 ps) × (row_fault parent ps ≡ None)
 laid-filled parent ps qs (clear, placed) =
-    let (same, fine) = placed-filled parent 0 false ps qs clear placed in (same, rw (clear, fine) refl)
+    let (same, fine) = placed-filled parent 0 false ps qs clear placed in (same, rw (clear, ← same, fine) refl)
 
 mutual
   -- The areas of a tree that is laid are those of its filled rows, one for each section below the root; it has no fault.

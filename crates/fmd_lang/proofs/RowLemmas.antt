@@ -1,6 +1,6 @@
 -- Filled places obey the equations, where none is refused.
 use Rattle.std.proofs.Common.{◌≡◌, ℕ, ◌+◌, ◌<◌, ◌≤◌, Bool, true, false, ◌&&◌, not, cond, is_some, List, [], ◌∷◌, Option, Some, None, refl, subst, arith, IfNone}
-use Rattle.fmd_lang.specs.Layout.{ambiguous_sibling, bound, run_end, sizes_ahead, place_of, filled, end_of, IsPlaced, ArePlaced, misfit_sibling, misfit_of}
+use Rattle.fmd_lang.specs.Layout.{ambiguous_sibling, bound, run_end, sizes_ahead, place_of, filled, end_of, IsPlaced, ArePlaced, first_misfit, misfit_of}
 use Rattle.fmd_lang.proofs.OptionLemmas.{or-none}
 use Rattle.fmd_lang.specs.declared.row.Sibling.{Sibling}
 use Rattle.fmd_lang.specs.declared.row.Place.{Place}
@@ -21,21 +21,12 @@ clear_rest omitted n o z ps h = go (omitted && not (is_some o)) z h
     go true None e = cc
     go false None e = (true, e, λ given. refl)
 
-run_case : (parent at n : ℕ) (o z : Option ℕ) (q : Place) (ps : List Sibling) (qs : List Place) →
-    IsPlaced parent at (make n o z) q →
-    (ambiguous_sibling true ps ≡ None → run_end (end_of q) ps qs ≡ end_of q + sizes_ahead ps) →
-    ambiguous_sibling true (make n o z ∷ ps) ≡ None → run_end at (make n o z ∷ ps) (q ∷ qs) ≡ at + sizes_ahead (make n o z ∷ ps)
-run_case parent at n (Some b) z q ps qs placed further clear = omega arith
-run_case parent at n None None q ps qs placed further clear = cc
-run_case parent at n None (Some s) q ps qs placed further clear = omega (arith, further clear)
-
 -- In a run that has omitted a size already, the sizes ahead are given, and it ends after them.
 pub run_end-placed : (parent at : ℕ) (ps : List Sibling) (qs : List Place) → ambiguous_sibling true ps ≡ None →
     ArePlaced parent at ps qs → run_end at ps qs ≡ at + sizes_ahead ps
 run_end-placed parent at [] qs clear h = omega arith
 run_end-placed parent at (p ∷ ps) [] clear h = absurd h
-run_end-placed parent at (p ∷ ps) (q ∷ qs) clear h =
-    run_case parent at p.number p.offset p.size q ps qs h.0 (λ e. run_end-placed parent (end_of q) ps qs e h.2) clear
+run_end-placed parent at (p ∷ ps) (q ∷ qs) clear h = grind (arith, run_end-placed parent (end_of q) ps qs, h.0.offset, h.0.size)
 
 pub fits : (parent from : ℕ) (p : Sibling) (q : Place) → misfit_of parent from p q ≡ None → (0 < q.size) × (end_of q ≤ parent)
 fits parent from p q h = (grind arith, grind arith)
@@ -58,14 +49,14 @@ ends_well parent from n o (Some s) ps qs flag clear omitted some rest = tt
 
 -- Filled places obey the equations, where the row is clear and none is refused.
 pub filled-placed : (parent from : ℕ) (omitted : Bool) (ps : List Sibling) → ambiguous_sibling omitted ps ≡ None →
-    misfit_sibling parent from ps ≡ None →
+    first_misfit parent from ps (filled parent from ps) ≡ None →
     ArePlaced parent from ps (filled parent from ps)
 filled-placed parent from omitted [] clear fitting = refl
 filled-placed parent from omitted (p ∷ ps) clear fitting =
     let q = place_of parent from p ps in
-    let (fine, others) = or-none (misfit_of parent from p q) (misfit_sibling parent (end_of q) ps) fitting in
+    let rest = filled parent (end_of q) ps in
+    let (fine, others) = or-none (misfit_of parent from p q) (first_misfit parent (end_of q) ps rest) fitting in
     let (flag, further, given) = clear_rest omitted p.number p.offset p.size ps clear in
     let behind = filled-placed parent (end_of q) flag ps further others in
-    let rest = filled parent (end_of q) ps in
     let ends = ends_well parent from p.number p.offset p.size ps rest flag further given (fits parent from p q fine).0 behind in
     (placed_one parent from p.number p.offset p.size ps fine, ends, behind)

@@ -1,5 +1,5 @@
 -- The words of a tree: no word is misplaced, and they make no other tree.
-use Rattle.std.proofs.Common.{◌≡◌, ℕ, suc, ◌<◌, nat_lt, Bool, true, false, cond, List, [], ◌∷◌, ◌++◌, length, Option, Some, None, unwrap_or, if◌then◌else◌, refl, sym, subst, ◌∙◌, ap, arith, inl, inr, append_assoc}
+use Rattle.std.proofs.Common.{◌≡◌, ℕ, suc, ◌<◌, Bool, true, false, List, [], ◌∷◌, ◌++◌, length, Option, Some, None, unwrap_or, if◌then◌else◌, refl, sym, subst, ◌∙◌, ap, arith, inl, inr, append_assoc}
 use Rattle.std.proofs.lemmas.Bool.{lt-ltb}
 use Rattle.std.proofs.lemmas.List.{append-nil}
 use Rattle.std.specs.Int.Bits.{bit_or}
@@ -8,11 +8,10 @@ use Rattle.fmd_lang.specs.Words.{Word, words, kind_of}
 use Rattle.fmd_lang.specs.Numbers.{number_value}
 use Rattle.fmd_lang.specs.Tree.{Tree, section, Forest, none, some}
 use Rattle.fmd_lang.specs.Grammar.{Then, IsA, IsSection, AreSections, AreAnnotations, IsOffset, IsSize, annotation_flag, flags_with}
-use Rattle.fmd_lang.specs.Faults.{Stage, start, in_annotations, annotated, at_sign, past, own_fault_of, next_stage, next_depth, fault_from, first_fault, first_own_fault, first_word_fault}
+use Rattle.fmd_lang.specs.Faults.{Stage, start, in_annotations, annotated, at_sign, past, own_fault_of, next_stage, next_depth, fault_from, first_fault, first_own_fault, first_word_fault, unless_long}
 use Rattle.fmd_lang.specs.Parsing.{IsBody}
 use Rattle.fmd_lang.specs.declared.word.Kind.{Kind}
 use Rattle.fmd_lang.specs.declared.word.Kind.TheVariants.{Name, Number, OpenParen, CloseParen, At, OpenBrace, CloseBrace}
-use Rattle.fmd_lang.specs.declared.fault.FmdFault.TheVariants as faults
 use Rattle.fmd_lang.proofs.FormLemmas.{annotation-name}
 use Rattle.fmd_lang.proofs.OptionLemmas.{and-then-some}
 
@@ -187,7 +186,7 @@ root-makes t end ws is =
 pub text-agrees : (t : Tree) (text : List ℕ) → IsSection t (words text) → first_fault text ≡ first_word_fault text
 unfolding first_fault
 text-agrees t text is =
-    ap (cond (nat_lt 1048576 (length text)) (Some faults.TextTooLong)) (root-makes t (length text) (words text) is).agrees
+    ap (unless_long text) (root-makes t (length text) (words text) is).agrees
 
 -- two trees of the same words
 pub one-tree : (t u : Tree) (ws : List Word) → IsSection t ws → IsSection u ws → t ≡ u

@@ -44,16 +44,18 @@ pub words_after-over : (text : List ℕ) (at : ℕ) → length text ≤ at → w
 unfolding words_after
 words_after-over text at h = rw (drop_all at text h) refl
 
--- a word of plain bytes, and one of a single byte
-pub words_after-plain : (text : List ℕ) (at : ℕ) → at < length text → is_plain (slice_index text at) ≡ true →
-    words_after text at ≡ word at (slice_index text at ∷ (word_rest text (at + 1)).0) ∷ (word_rest text (at + 1)).1
+-- A plain byte begins a word, and goes on with one.
+pub plain-at : (text : List ℕ) (at : ℕ) → at < length text → is_plain (slice_index text at) ≡ true →
+    (words_after text at ≡ word at (slice_index text at ∷ (word_rest text (at + 1)).0) ∷ (word_rest text (at + 1)).1)
+    × (word_rest text at ≡ (slice_index text at ∷ (word_rest text (at + 1)).0, (word_rest text (at + 1)).1))
 unfolding words_after word_rest
-words_after-plain text at h plain =
+plain-at text at h plain =
     let b = slice_index text at in
     let (no_comment, no_blank) = plain-alone b plain in
     let row = take_while-cons is_plain b (without_comments false (drop (suc at) text)) in
-    rw (here text at h, no_comment, add-one, no_blank, row, plain) refl
+    rw (here text at h, no_comment, add-one, no_blank, row, plain) (refl, refl)
 
+-- a word of a single byte
 pub words_after-single : (text : List ℕ) (at : ℕ) → at < length text → is_plain (slice_index text at) ≡ false →
     is_blank (slice_index text at) ≡ false → nat_eq (slice_index text at) 35 ≡ false →
     words_after text at ≡ word at (slice_index text at ∷ []) ∷ words_after text (at + 1)
@@ -86,19 +88,10 @@ range-one text at h =
 abbrev pub IsRowTo : List ℕ → ℕ → ℕ → Type 0
 IsRowTo text from at = word_rest text from ≡ (slice_range text from at ++ (word_rest text at).0, (word_rest text at).1)
 
-rest-plain : (text : List ℕ) (at : ℕ) → at < length text → is_plain (slice_index text at) ≡ true →
-    word_rest text at ≡ (slice_index text at ∷ (word_rest text (at + 1)).0, (word_rest text (at + 1)).1)
-unfolding word_rest
-rest-plain text at h plain =
-    let b = slice_index text at in
-    let (no_comment, no_blank) = plain-alone b plain in
-    let row = take_while-cons is_plain b (without_comments false (drop (suc at) text)) in
-    rw (here text at h, no_comment, add-one, no_blank, row, plain) refl
-
 pub row-more : (text : List ℕ) (from at : ℕ) → IsRowTo text from at → from ≤ at → at < length text →
     is_plain (slice_index text at) ≡ true → IsRowTo text from (at + 1)
 row-more text from at row low high plain =
-    row ∙ rw (rest-plain text at high plain, range-more text from at (word_rest text (at + 1)).0 low high) refl
+    row ∙ rw ((plain-at text at high plain).1, range-more text from at (word_rest text (at + 1)).0 low high) refl
 
 -- A row ends at a byte that isn't plain, and with the text.
 pub rest-other : (text : List ℕ) (at : ℕ) → at < length text → is_plain (slice_index text at) ≡ false →

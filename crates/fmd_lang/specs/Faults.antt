@@ -86,11 +86,13 @@ fault_from s depth end (w ∷ ws) =
 abbrev pub text_limit : ℕ
 text_limit = 1048576
 
+-- that a text is too long, or else a refusal of its words
+abbrev pub unless_long : List ℕ → Option FmdFault → Option FmdFault
+unless_long text refusal = if nat_lt text_limit (length text) then Some faults.TextTooLong else refusal
+
 -- the refusal of a text
 unfoldable pub first_fault : List ℕ → Option FmdFault
-first_fault text =
-    if nat_lt text_limit (length text) then Some faults.TextTooLong
-    else fault_from start 0 (length text) (words text)
+first_fault text = unless_long text (fault_from start 0 (length text) (words text))
 
 -- it is done where there is no refusal; or this refusal comes, unless memory ran out
 abbrev pub Refuses : {X : Type 0} → Option FmdFault → Result X FmdFault → Type 0
@@ -106,4 +108,4 @@ first_own_fault depth (w ∷ ws) = option_or (own_fault depth w) (first_own_faul
 
 -- of a text
 abbrev pub first_word_fault : List ℕ → Option FmdFault
-first_word_fault text = if nat_lt text_limit (length text) then Some faults.TextTooLong else first_own_fault 0 (words text)
+first_word_fault text = unless_long text (first_own_fault 0 (words text))

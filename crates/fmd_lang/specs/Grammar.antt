@@ -38,10 +38,8 @@ Between first last P = Then (One (IsA first)) (Until last P)
 
 -- what an annotation adds to the flags of an area: the bit 8 is PRESERVE
 abbrev pub annotation_flag : List ℕ → Option ℕ
-annotation_flag bytes =
-    if bytes_eq bytes (codes "CBFS") then Some 0
-    else (if bytes_eq bytes (codes "PRESERVE") then Some 8
-    else None)
+annotation_flag bytes = if bytes_eq bytes (codes "CBFS") then Some 0
+    else (if bytes_eq bytes (codes "PRESERVE") then Some 8 else None)
 
 -- the flags with those of these annotations; None where a word is none
 abbrev pub flags_with : ℕ → List Word → Option ℕ

@@ -73,16 +73,15 @@ abbrev pub filled : ℕ → ℕ → List Sibling → List Place
 filled parent from [] = []
 filled parent from (p ∷ ps) = place_of parent from p ps ∷ filled parent (end_of (place_of parent from p ps)) ps
 
--- the first refusal of a place
-abbrev pub misfit_sibling : ℕ → ℕ → List Sibling → Option FmdFault
-misfit_sibling parent from [] = None
-misfit_sibling parent from (p ∷ ps) =
-    let q = place_of parent from p ps in
-    option_or (misfit_of parent from p q) (misfit_sibling parent (end_of q) ps)
+-- the first refusal of these places
+abbrev pub first_misfit : ℕ → ℕ → List Sibling → List Place → Option FmdFault
+first_misfit parent from (p ∷ ps) (q ∷ qs) = option_or (misfit_of parent from p q) (first_misfit parent (end_of q) ps qs)
+first_misfit parent from ps qs = None
 
 -- the first refusal of a row
 abbrev pub row_fault : ℕ → List Sibling → Option FmdFault
-row_fault parent ps = option_or (option_map faults.Ambiguous (ambiguous_sibling false ps)) (misfit_sibling parent 0 ps)
+row_fault parent ps = option_or (option_map faults.Ambiguous (ambiguous_sibling false ps))
+    (first_misfit parent 0 ps (filled parent 0 ps))
 
 -- a section with this number as one of a row, and the sections of which the first has this number
 abbrev pub sibling : ℕ → Tree → Sibling
