@@ -1,8 +1,9 @@
 -- The table of a new image, area by area, and the places that it gives to its regions.
-use Rattle.std.proofs.Common.{◌≡◌, ℕ, zero, suc, ◌+◌, ◌*◌, ◌<◌, ◌≤◌, Bool, cond, List, [], ◌∷◌, ◌++◌, length, map, drop, set, get_or, replicate, Option, Some, None, Result, Ok, Err, refl, sym, ap, ◌∙◌, arith}
+use Rattle.std.proofs.Common.{◌≡◌, ℕ, zero, suc, ◌+◌, ◌*◌, ◌<◌, ◌≤◌, Bool, cond, List, [], ◌∷◌, ◌++◌, length, map, take, drop, set, append_assoc, get_or, replicate, Option, Some, None, Result, Ok, Err, refl, sym, ap, ◌∙◌, arith}
 use Rattle.std.specs.List.{find}
 use Rattle.std.specs.Option.{option_or}
-use Rattle.std.proofs.lemmas.List.{drop-drop}
+use Rattle.std.proofs.Math.Seq.{get_or-append_seam, set-append_seam}
+use Rattle.std.proofs.lemmas.List.{drop-drop, drop_all, drop_more, length-map, length-take-le, map-append, take_all, take_more}
 use Rattle.std.proofs.lemmas.List.Folds.{find-append}
 use Rattle.flash_format.specs.declared.flashmap.Area.{Area}
 use Rattle.flash_format.specs.Flashmap.{area_of, areas_from, is_area}
@@ -13,31 +14,28 @@ use Rattle.cbfs_commands.specs.Creations.{first_area}
 -- ---- what is kept for each name
 
 -- an area for each name, by f for the first i names and by g for the others, and then more of them
-abbrev pub partly : (List ℕ → Option Area) → (List ℕ → Option Area) → ℕ → List (List ℕ) → List (Option Area) → List (Option Area)
-partly f g i [] rest = rest
-partly f g zero (n ∷ ns) rest = g n ∷ partly f g zero ns rest
-partly f g (suc i) (n ∷ ns) rest = f n ∷ partly f g i ns rest
+module _ (f g : List ℕ → Option Area) (ns : List (List ℕ)) (rest : List (Option Area)) where
+  abbrev pub partly : ℕ → List (Option Area)
+  partly i = map f (take i ns) ++ (map g (drop i ns) ++ rest)
 
-pub partly-none : (f g : List ℕ → Option Area) (ns : List (List ℕ)) (rest : List (Option Area)) → partly f g 0 ns rest ≡ map g ns ++ rest
-partly-none f g [] rest = refl
-partly-none f g (n ∷ ns) rest = ap (λ (l : List (Option Area)). g n ∷ l) (partly-none f g ns rest)
+  pub partly-all : (i : ℕ) → length ns ≤ i → partly i ≡ map f ns ++ rest
+  partly-all i le = rw (take_all i ns le, drop_all i ns le) refl
 
-pub partly-all : (f g : List ℕ → Option Area) (i : ℕ) (ns : List (List ℕ)) (rest : List (Option Area)) → length ns ≤ i → partly f g i ns rest ≡ map f ns ++ rest
-partly-all f g i [] rest le = refl
-partly-all f g zero (n ∷ ns) rest le = absurd (omega (arith, le))
-partly-all f g (suc i) (n ∷ ns) rest le = ap (λ (l : List (Option Area)). f n ∷ l) (partly-all f g i ns rest (omega (arith, le)))
+  module _ (i : ℕ) (d : List ℕ) (lt : i < length ns) where
+    size : i ≡ length (map f (take i ns))
+    size = sym (length-map (take i ns) f ∙ length-take-le i ns (omega (arith, lt)))
 
-pub partly-at : (f g : List ℕ → Option Area) (i : ℕ) (ns : List (List ℕ)) (rest : List (Option Area)) (e : Option Area) (d : List ℕ) → i < length ns → get_or (partly f g i ns rest) i e ≡ g (get_or ns i d)
-partly-at f g i [] rest e d lt = absurd (omega (arith, lt))
-partly-at f g zero (n ∷ ns) rest e d lt = refl
-partly-at f g (suc i) (n ∷ ns) rest e d lt = partly-at f g i ns rest e d (omega (arith, lt))
+    next : partly i ≡ map f (take i ns) ++ g (get_or ns i d) ∷ (map g (drop (i + 1) ns) ++ rest)
+    next = ap (λ (l : List (List ℕ)). map f (take i ns) ++ (map g l ++ rest)) (drop_more ns i d lt)
 
-pub partly-more : (f g : List ℕ → Option Area) (i : ℕ) (ns : List (List ℕ)) (rest : List (Option Area)) (d : List ℕ) → i < length ns → set (partly f g i ns rest) i (f (get_or ns i d)) ≡ partly f g (i + 1) ns rest
-partly-more f g i [] rest d lt = absurd (omega (arith, lt))
-partly-more f g zero (n ∷ ns) rest d lt = refl
-partly-more f g (suc i) (n ∷ ns) rest d lt =
-    let next : suc (i + 1) ≡ suc i + 1 = omega arith in
-    ap (λ (l : List (Option Area)). f n ∷ l) (partly-more f g i ns rest d (omega (arith, lt))) ∙ ap (λ k. partly f g k (n ∷ ns) rest) next
+    pub partly-at : (e : Option Area) → get_or (partly i) i e ≡ g (get_or ns i d)
+    partly-at e = ap (λ (l : List (Option Area)). get_or l i e) next ∙ ap (λ k. get_or (map f (take i ns) ++ g (get_or ns i d) ∷ (map g (drop (i + 1) ns) ++ rest)) k e) size ∙ get_or-append_seam (map f (take i ns)) (g (get_or ns i d)) (map g (drop (i + 1) ns) ++ rest) e
+
+    pub partly-more : set (partly i) i (f (get_or ns i d)) ≡ partly (i + 1)
+    partly-more =
+        let others : List (Option Area) = map g (drop (i + 1) ns) ++ rest in
+        ap (λ (l : List (Option Area)). set l i (f (get_or ns i d))) next ∙ ap (λ k. set (map f (take i ns) ++ g (get_or ns i d) ∷ others) k (f (get_or ns i d))) size ∙ set-append_seam _ _ _ (f (get_or ns i d))
+        ∙ sym (ap (λ (l : List (List ℕ)). map f l ++ others) (take_more ns i d lt) ∙ ap (λ (l : List (Option Area)). l ++ others) (map-append f (take i ns) (get_or ns i d ∷ [])) ∙ append_assoc (map f (take i ns)) (f (get_or ns i d) ∷ []) others)
 
 -- the first area of a name, of those seen and one more
 pub noted-first : (seen : List Area) (name : List ℕ) (area first : Area) → Some first ≡ first_area seen name → Some first ≡ first_area (seen ++ area ∷ []) name

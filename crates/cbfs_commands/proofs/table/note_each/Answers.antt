@@ -3,11 +3,11 @@ use Rattle.std.specs.Borrow.{Bor}
 use Rattle.std.proofs.lemmas.List.{length-map, get_or-map}
 use Rattle.flash_format.specs.declared.flashmap.Area.{Area}
 use Rattle.cbfs_commands.specs.Creations.{first_area}
-use Rattle.cbfs_commands.proofs.Planning.{partly, partly-none, partly-all, partly-at, partly-more}
+use Rattle.cbfs_commands.proofs.Planning.{partly, partly-all, partly-at, partly-more}
 use Rattle.cbfs_commands.proofs.table.note_each.Goals as goal
 
 pub loop-i-init : goal.loop-i-init
-loop-i-init c = λ seen rest is. is ∙ sym (partly-none _ (first_area seen) _ rest)
+loop-i-init c = λ seen rest is. is
 
 pub loop-i-preserved : goal.loop-i-preserved
 loop-i-preserved c = λ seen rest is.
@@ -19,12 +19,12 @@ loop-i-preserved c = λ seen rest is.
     let short : i < length names = omega (arith, c.loop-i-test.true, length-map c.args.names.now bytes) in
     let name = get_or-map bytes c.args.names.now i _ [] c.loop-i-test.true in
     let found = c.loop-i.invariant seen rest is in
-    let before = ap (λ (l : List (Option Area)). get_or l i None) found ∙ partly-at f g i names rest None [] short ∙ ap g name in
+    let before = ap (λ (l : List (Option Area)). get_or l i None) found ∙ partly-at f g names rest i [] short None ∙ ap g name in
     ap (λ (l : List (Option Area)). set l i c.noted.result) found
-    ∙ ap (λ (o : Option Area). set (partly f g i names rest) i o) (c.noted.ensures seen before ∙ ap f (sym name))
-    ∙ partly-more f g i names rest [] short
+    ∙ ap (λ (o : Option Area). set (partly f g names rest i) i o) (c.noted.ensures seen before ∙ ap f (sym name))
+    ∙ partly-more f g names rest i [] short
 
 pub returns : goal.returns
 returns c = λ seen rest is.
     let bytes : Bor (List ℕ) → List ℕ = λ n. n.now in
-    c.loop-i.invariant seen rest is ∙ partly-all _ (first_area seen) _ _ rest (omega (arith, c.loop-i-test.false, length-map c.args.names.now bytes))
+    c.loop-i.invariant seen rest is ∙ partly-all _ (first_area seen) _ rest _ (omega (arith, c.loop-i-test.false, length-map c.args.names.now bytes))

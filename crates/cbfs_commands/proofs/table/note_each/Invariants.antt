@@ -6,4 +6,4 @@ use Rattle.cbfs_commands.proofs.table.note_each.Given as goal
 
 abbrev pub invariant-loop-i : goal.invariant-loop-i
 invariant-loop-i l = (seen : List Area) (rest : List (Option Area)) → l.initial.found ≡ map (first_area seen) (map (λ n. n.now) l.names) ++ rest
-    → l.found ≡ partly (first_area (seen ++ l.area ∷ [])) (first_area seen) l.i (map (λ n. n.now) l.names) rest
+    → l.found ≡ partly (first_area (seen ++ l.area ∷ [])) (first_area seen) (map (λ n. n.now) l.names) rest l.i
