@@ -18,7 +18,7 @@ use change_rows::{tell_area_changes, tell_image_changes, tell_missing};
 use check_rows::Report;
 use finding_rows::tell_findings;
 use flash_store::{Flash, Paged};
-use flashmap_changes::{AreaChange, area_changes, different_blocks};
+use flashmap_changes::{AreaChange, image_changes};
 use flashmap_check::{NumberedArea, image_areas};
 use image_check::{CheckedImage, checked_image};
 use region_changes::{RegionChange, region_changes};
@@ -53,15 +53,14 @@ fn changes_to<F: Flash, G: Flash>(
         IfOk result (AreChanges x y checked.now.areas.items checked.now.findings.items))) }
 {
     let old_areas = image_areas(alloc, old)?;
-    let blocks = different_blocks(old, new)?;
-    let areas = area_changes(alloc, old, &old_areas, new, &checked.areas)?;
+    let changes = image_changes(alloc, old, &old_areas, new, &checked.areas)?;
     let regions = region_changes(alloc, old, &old_areas, new, &checked.findings)?;
     Ok(Changes {
         old_len: old.len(),
         new_len: new.len(),
-        blocks,
+        blocks: changes.blocks,
         old_areas,
-        areas,
+        areas: changes.areas,
         regions,
     })
 }

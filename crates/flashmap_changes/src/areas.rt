@@ -1,10 +1,12 @@
 //! What changes between the areas of two images.
-ghost use Rattle.std.specs.Prelude.{◌≡◌, ◌+◌, ◌-◌, ◌*◌, ◌/◌, ◌≤◌, ◌++◌, length, false, true, MatchOption, IfOk, OnOk};
-ghost use Rattle.flashmap_changes.specs.AreaChanges.{range_of, is_compared, left_after_both, left_after, content_changes, changes_of, changes_in, area_changes};
+ghost use Rattle.std.specs.Prelude.{◌≡◌, ◌+◌, ◌-◌, ◌*◌, ◌/◌, ◌≤◌, ◌++◌, length, min, false, true, MatchOption, IfOk, OnOk};
+ghost use Rattle.flashmap_changes.specs.AreaChanges.{range_of, is_compared, left_after_both, left_after, content_changes, changes_of, changes_in};
+ghost use Rattle.flashmap_changes.specs.AreaChanges as areas;
 ghost use Rattle.flashmap_changes.specs.Blocks.{blocks_of, KnowsBlocks};
+ghost use Rattle.flashmap_changes.specs.Blocks as spec;
 ghost use Rattle.flashmap_changes.specs.Images.{HasCompared, OnBoth};
 
-use crate::blocks::{different_in, known_blocks};
+use crate::blocks::{different_blocks, different_in, known_blocks};
 use crate::change::{AreaChange, ChangeFault, push_if};
 use crate::pairs::{Pair, pairs, push_gone};
 use flash_store::{Flash, Paged, Region};
@@ -130,32 +132,67 @@ fn push_changes<F: Flash, G: Flash>(
     Ok(())
 }
 
-/// What changes between the areas of an old image and those of a new one: of each area of the new map that its name
-/// reaches, in the map's order, whether it is added, moved or resized and in how many blocks its bytes differ; then which
-/// areas of the old map are gone.
-/// `OldDevice` comes exactly where the device with the old image refused a read, and `NewDevice` where the other one did;
-/// then nothing is told.
-pub fn area_changes<'a, F: Flash, G: Flash>(
+/// What changes between the areas of an old image and those of a new one, of whose blocks some are known: of each area of the
+/// new map that its name reaches, in the map's order, whether it is added, moved or resized and in how many blocks its bytes
+/// differ; then which areas of the old map are gone.
+fn area_changes<'a, F: Flash, G: Flash>(
     alloc: Global,
+    known: &[bool],
     old_image: &mut Paged<F>,
     old_areas: &'a [NumberedArea],
     new_image: &mut Paged<G>,
     new_areas: &'a [NumberedArea],
 ) -> Result<Vec<AreaChange>, ChangeFault>
-    // On any devices.
-    ensures after { HasCompared F.facts G.facts (9 * length (G.facts new_image.old.device).content / 4096 + length new_areas.now)
-        old_image.old old_image.new new_image.old new_image.new result }
+    requires { OnBoth F.facts old_image.old.device G.facts new_image.old.device (λ x y. KnowsBlocks x y known.now) }
 
-    // On honest devices.
+    ensures after { HasCompared F.facts G.facts (8 * length (G.facts new_image.old.device).content / 4096 + length new_areas.now)
+        old_image.old old_image.new new_image.old new_image.new result }
     ensures changes { OnBoth F.facts old_image.old.device G.facts new_image.old.device (λ x y.
-        IfOk result (λ changes. changes.items ≡ area_changes x old_areas.now y new_areas.now)) }
+        IfOk result (λ changes. changes.items ≡ areas.area_changes x old_areas.now y new_areas.now)) }
 {
     let old_names = AreaNames::of(alloc, old_areas)?;
     let new_names = AreaNames::of(alloc, new_areas)?;
     let pairs = pairs(alloc, &old_names, &new_names, new_areas)?;
     let mut changes = Vec::new(alloc);
-    let known = known_blocks(alloc, old_image, new_image)?;
-    push_changes(&mut changes, &known, old_image, new_image, &pairs)?;
+    push_changes(&mut changes, known, old_image, new_image, &pairs)?;
     push_gone(&mut changes, &old_names, &new_names, old_areas)?;
     Ok(changes)
+}
+
+/// What changes from an old image to a new one.
+#[derive(Debug, Drop)]
+pub struct ImageChanges {
+    /// In how many blocks, of 4096 bytes from their starts on, they differ. The blocks of the longer one behind the end of the
+    /// shorter one are among them.
+    pub blocks: u32,
+    /// Of each area of the new map that its name reaches, in the map's order, whether it is added, moved or resized and in how
+    /// many blocks its bytes differ; then which areas of the old map are gone.
+    pub areas: Vec<AreaChange>,
+}
+
+/// What changes from an old image to a new one, as wholes and between their areas, for which each block of both is read once.
+/// `OldDevice` comes exactly where the device with the old image refused a read, and `NewDevice` where the other one did;
+/// then nothing is told.
+pub fn image_changes<'a, F: Flash, G: Flash>(
+    alloc: Global,
+    old_image: &mut Paged<F>,
+    old_areas: &'a [NumberedArea],
+    new_image: &mut Paged<G>,
+    new_areas: &'a [NumberedArea],
+) -> Result<ImageChanges, ChangeFault>
+    // On any devices.
+    ensures after { HasCompared F.facts G.facts (blocks_of (min (length (F.facts old_image.old.device).content) (length (G.facts new_image.old.device).content))
+        + (9 * length (G.facts new_image.old.device).content / 4096 + length new_areas.now))
+        old_image.old old_image.new new_image.old new_image.new result }
+
+    // On honest devices.
+    ensures blocks { OnBoth F.facts old_image.old.device G.facts new_image.old.device (λ x y.
+        IfOk result (λ changes. changes.blocks ≡ spec.different_blocks x y)) }
+    ensures areas { OnBoth F.facts old_image.old.device G.facts new_image.old.device (λ x y.
+        IfOk result (λ changes. changes.areas.items ≡ areas.area_changes x old_areas.now y new_areas.now)) }
+{
+    let known = known_blocks(alloc, old_image, new_image)?;
+    let blocks = different_blocks(&known, old_image, new_image)?;
+    let areas = area_changes(alloc, &known, old_image, old_areas, new_image, new_areas)?;
+    Ok(ImageChanges { blocks, areas })
 }

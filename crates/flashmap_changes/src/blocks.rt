@@ -148,23 +148,21 @@ pub fn different_in<F: Flash, G: Flash>(
     Ok((count + (longer - common)) as u32)
 }
 
-/// In how many blocks, of 4096 bytes from their starts on, two images differ. The blocks of the longer one behind the end
-/// of the shorter one are among them.
-/// `OldDevice` comes exactly where the device with the old image refused a read, and `NewDevice` where the other one did.
+/// In how many blocks two images differ, of which some are known.
 pub fn different_blocks<F: Flash, G: Flash>(
+    known: &[bool],
     old_image: &mut Paged<F>,
     new_image: &mut Paged<G>,
 ) -> Result<u32, ChangeFault>
-    // On any devices.
+    requires { OnBoth F.facts old_image.old.device G.facts new_image.old.device (λ x y. KnowsBlocks x y known.now) }
+
     ensures after { HasCompared F.facts G.facts
         (blocks_of (min (length (F.facts old_image.old.device).content) (length (G.facts new_image.old.device).content)))
         old_image.old old_image.new new_image.old new_image.new result }
-
-    // On honest devices.
     ensures different { OnBoth F.facts old_image.old.device G.facts new_image.old.device (λ x y.
         IfOk result (λ n. n ≡ different_blocks x y)) }
 {
     let old_region = whole(old_image.len());
     let new_region = whole(new_image.len());
-    different_in(&[], old_image, old_region, new_image, new_region)
+    different_in(known, old_image, old_region, new_image, new_region)
 }

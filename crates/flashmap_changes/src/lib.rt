@@ -6,6 +6,5 @@ mod blocks;
 mod change;
 mod pairs;
 
-pub use areas::area_changes;
-pub use blocks::different_blocks;
+pub use areas::{ImageChanges, image_changes};
 pub use change::{AreaChange, ChangeFault};

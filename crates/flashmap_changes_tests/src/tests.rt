@@ -1,7 +1,7 @@
 //! Areas written out as bytes, images that differ at a few places, and devices that fail.
 use flash_format::Area;
 use flash_store::{FailAt, MemFlash, Paged};
-use flashmap_changes::{AreaChange, ChangeFault, area_changes, different_blocks};
+use flashmap_changes::{AreaChange, ChangeFault, image_changes};
 use flashmap_check::{NumberedArea, checked_map};
 use std::alloc::{AllocError, Global};
 use std::process::Abort;
@@ -128,19 +128,21 @@ fn tells(
     let mut new_image = paged(rt, new);
     let olds = numbered(rt, old_areas);
     let news = numbered(rt, new_areas);
-    let changes = area_changes(rt.alloc(), &mut old_image, &olds, &mut new_image, &news).expect(
+    let changes = image_changes(rt.alloc(), &mut old_image, &olds, &mut new_image, &news).expect(
         rt, "changes",
     );
-    let text = text_of(rt.alloc(), &changes).expect(rt, "memory");
+    let text = text_of(rt.alloc(), &changes.areas).expect(rt, "memory");
     assert_eq!(rt; text.as_str(), expected);
 }
 
 /// In so many blocks these images differ.
-fn differ(rt: &impl Abort, old: Vec<u8>, new: Vec<u8>, expected: u32) {
+fn differ(rt: &(impl Abort + AllocGlobal), old: Vec<u8>, new: Vec<u8>, expected: u32) {
     let mut old_image = paged(rt, old);
     let mut new_image = paged(rt, new);
-    let blocks = different_blocks(&mut old_image, &mut new_image).expect(rt, "a count");
-    assert_eq!(rt; blocks, expected);
+    let changes = image_changes(rt.alloc(), &mut old_image, &[], &mut new_image, &[]).expect(
+        rt, "changes",
+    );
+    assert_eq!(rt; changes.blocks, expected);
 }
 
 #[test]
@@ -313,7 +315,7 @@ fn images_with_maps(rt: HostRuntime) {
     let mut new_image = paged(&rt, mapped(&rt, 4000));
     let old = checked_map(rt.alloc(), &mut old_image).expect(&rt, "a map");
     let new = checked_map(rt.alloc(), &mut new_image).expect(&rt, "a map");
-    let changes = area_changes(
+    let changes = image_changes(
         rt.alloc(),
         &mut old_image,
         &old.areas,
@@ -321,8 +323,9 @@ fn images_with_maps(rt: HostRuntime) {
         &new.areas,
     )
     .expect(&rt, "changes");
-    let text = text_of(rt.alloc(), &changes).expect(&rt, "memory");
+    let text = text_of(rt.alloc(), &changes.areas).expect(&rt, "memory");
     assert_eq!(rt; text.as_str(), "differs 0 1, ");
+    assert_eq!(rt; changes.blocks, 1);
 }
 
 /// Devices that refuse all calls behind the first ones tell this of areas that hold both blocks, and each of them.
@@ -337,7 +340,7 @@ fn told_after(
     let mut old_image = Paged::new(FailAt::new(old, old_calls, 0));
     let mut new_image = Paged::new(FailAt::new(new, new_calls, 0));
     let areas = numbered(rt, &[WHOLE[0], A, B]);
-    let told = area_changes(rt.alloc(), &mut old_image, &areas, &mut new_image, &areas);
+    let told = image_changes(rt.alloc(), &mut old_image, &areas, &mut new_image, &areas);
     assert!(rt; told.err() == expected);
 }
 
