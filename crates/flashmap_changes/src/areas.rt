@@ -170,7 +170,8 @@ pub struct ImageChanges {
     pub areas: Vec<AreaChange>,
 }
 
-/// What changes from an old image to a new one, as wholes and between their areas, for which each block of both is read once.
+/// What changes from an old image to a new one, as wholes and between their areas. The count of blocks takes no pass over
+/// the images of its own.
 /// `OldDevice` comes exactly where the device with the old image refused a read, and `NewDevice` where the other one did;
 /// then nothing is told.
 pub fn image_changes<'a, F: Flash, G: Flash>(
