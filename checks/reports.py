@@ -6,6 +6,7 @@ Component = collections.namedtuple("Component", "at name type content attributes
 
 BLOCK = 4096
 MOST_COMPARED = 4096
+MOST_TRIED = 8
 SHAPES = {"bad region size": "size is 0 or no multiple of 64", "not a CBFS region": "no CBFS"}
 
 
@@ -84,19 +85,39 @@ def of_overlaps(areas):
 
 # ---- of the areas
 
-def looked(areas, names, image):
-    """The numbers of the areas that are looked at, and of those that are passed over."""
-    lowest, at, over = len(image), set(), set()
+def looked(areas, names, image, rows_of):
+    """The numbers of the areas that are looked at, and of those that are passed over, by the rows of some."""
+    lowest, at, over, tried = len(image), set(), set(), 0
     for number, area in reversed(list(enumerate(areas))):
         begins = area.size >= 24 and image[area.offset:area.offset + 8] == b"LARCHIVE"
         if ends(area) > len(image) or not (area.name in names or begins):
             continue
-        if ends(area) <= lowest:
-            at.add(number)
-            lowest = area.offset
-        else:
-            over.add(number)
+        met = {other for other in at if areas[other].offset < ends(area)}
+        if ends(area) > lowest:
+            is_tried = area.offset <= lowest and tried < MOST_TRIED
+            tried += is_tried
+            if not is_tried or not takes_place(areas, names, number, met, rows_of):
+                over.add(number)
+                continue
+        at, over, lowest = at - met | {number}, over | met, area.offset
     return at, over
+
+
+def takes_place(areas, names, number, met, rows_of):
+    """Whether an area takes the place of those that it meets."""
+    if any(areas[other].name in names for other in met):
+        return False
+    if areas[number].name in names:
+        return True
+    return any(map(has_bad, map(rows_of, met))) and is_filled(rows_of(number)) and not has_bad(rows_of(number))
+
+
+def has_bad(rows):
+    return any(row.verdict == "bad" for row in rows)
+
+
+def is_filled(rows):
+    return any(row.what == "complete" for row in rows)
 
 
 def hash_text(row):

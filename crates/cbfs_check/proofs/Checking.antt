@@ -50,7 +50,7 @@ last end at n = end_finding at end ∷ findings.Counts n ∷ []
 joined : (told here later end : List RegionFinding) → told ++ ((here ++ later) ++ end) ≡ (told ++ here) ++ (later ++ end)
 joined told here later end = ap (λ (l : List RegionFinding). told ++ l) (append_assoc here later end) ∙ sym (append_assoc told here (later ++ end))
 
-cell_more : (verbose : Bool) (at : ℕ) (x : List ℕ) (k : Cut) (t : Told) → tell_cut verbose at (after x k) t ≡ tell_cut verbose (at + length x) k (told_cell verbose t at x)
+cell_more : (verbose : Bool) (at : ℕ) (x : List ℕ) (k : Cut) (t : Told) → tell_cut verbose at (after (x ∷ []) k) t ≡ tell_cut verbose (at + length x) k (told_cell verbose t at x)
 unfolding tell_cut cells_findings last
 cell_more verbose at x k t =
     ap (λ (n : RegionCounts). t.findings ++ ((cell_findings verbose t.names at x ++ cells_findings verbose (names_after t.names x) (at + length x) k.cells) ++ last k.end (place_after (at + length x) k.cells) n)) (count_more t.count at x k.cells)

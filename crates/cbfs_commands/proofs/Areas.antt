@@ -6,40 +6,33 @@ use Rattle.std.proofs.lemmas.List.{drop-drop}
 use Rattle.flash_format.specs.Flashmap.{area_of, areas_at, areas_from, map_of, fmap_head_of}
 use Rattle.flash_store.specs.Fmap.{found_in}
 use Rattle.flash_store.specs.declared.fmap.FoundMap.{FoundMap}
-use Rattle.cbfs_commands.specs.Layouts.{area_row, map_row, layout}
-use Rattle.cbfs_commands.specs.Told.{Told, refuses, shows, text_then}
+use Rattle.cbfs_commands.specs.Rows.{area_row, map_row, layout}
+use Rattle.cbfs_commands.proofs.Telling.{text_then}
+use Rattle.cbfs_commands.specs.Told.{Told, refuses, shows}
 use Rattle.cbfs_commands.specs.declared.refusal.Refusal.TheVariants as refusals
 
 -- the rows of n areas from a place on
 abbrev pub rows_of : List ℕ → ℕ → ℕ → List ℕ
 rows_of image n at = flat_map area_row (areas_from n (drop at image))
 
-rows_of-more : (image : List ℕ) (n i at : ℕ) → i < n → rows_of image (n - i) at ≡ area_row (area_of (drop at image)) ++ rows_of image (n - (i + 1)) (at + 42)
-unfolding areas_from
-rows_of-more image n i at lt =
-    let k : n - i ≡ suc (n - (i + 1)) = omega arith in
-    ap (λ j. rows_of image j at) k ∙ ap (λ l. area_row (area_of (drop at image)) ++ flat_map area_row (areas_from (n - (i + 1)) l)) (drop-drop 42 at image)
-
-rows_of-none : (image : List ℕ) (n i at : ℕ) → n ≤ i → rows_of image (n - i) at ≡ []
-unfolding areas_from
-rows_of-none image n i at le = let k : n - i ≡ 0 = omega arith in ap (λ j. rows_of image j at) k
-
 -- what is told of the areas from one on
 abbrev pub rows_left : List ℕ → ℕ → ℕ → ℕ → Told
 rows_left image at n i = shows (rows_of image (n - i) (at + 42 * i))
 
 pub one_less : (image : List ℕ) (at n i : ℕ) → i < n → rows_left image at n i ≡ text_then (area_row (area_of (drop (at + 42 * i) image))) (rows_left image at n (i + 1))
+unfolding areas_from
 one_less image at n i lt =
-    let row = area_row (area_of (drop (at + 42 * i) image)) in
+    let more : n - i ≡ suc (n - (i + 1)) = omega arith in
     let next : at + 42 * i + 42 ≡ at + 42 * (i + 1) = omega arith in
-    ap (λ l. shows l) (rows_of-more image n i (at + 42 * i) lt ∙ ap (λ q. row ++ rows_of image (n - (i + 1)) q) next)
+    ap (λ j. shows (rows_of image j (at + 42 * i))) more
+    ∙ ap (λ (l : List ℕ). shows (area_row (area_of (drop (at + 42 * i) image)) ++ flat_map area_row (areas_from (n - (i + 1)) l))) (drop-drop 42 (at + 42 * i) image ∙ ap (λ q. drop q image) next)
 
 pub every : (image : List ℕ) (at n : ℕ) → shows (rows_of image n at) ≡ rows_left image at n 0
-every image at n = ap (λ q. shows (rows_of image n q)) {x = at} {y = at + 42 * 0} (omega arith)
-    ∙ ap (λ k. shows (rows_of image k (at + 42 * 0))) {x = n} {y = n - 0} (omega arith)
+every image at n = let none : at ≡ at + 42 * 0 = omega arith in let all : n ≡ n - 0 = omega arith in cc
 
 pub none_left : (image : List ℕ) (at n i : ℕ) → n ≤ i → rows_left image at n i ≡ shows []
-none_left image at n i le = ap (λ (l : List ℕ). shows l) (rows_of-none image n i (at + 42 * i) le)
+unfolding areas_from
+none_left image at n i le = let none : n - i ≡ 0 = omega arith in ap (λ j. shows (rows_of image j (at + 42 * i))) none
 
 -- the row of the map that was found, and then those of its areas
 pub layout-is : (image : List ℕ) (map : FoundMap) → Some map ≡ found_in image → layout image ≡ text_then (map_row map.at map.head) (shows (rows_of image map.head.nareas (map.at + 56)))

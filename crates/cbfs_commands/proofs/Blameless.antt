@@ -1,5 +1,5 @@
 -- No outcome's own answer blames a side: each of its refusals is one of the image, the command or the source as they are.
-use Rattle.std.proofs.Common.{◌≡◌, inl, inr, ℕ, Bool, true, false, cond, List, [], ◌∷◌, ◌++◌, drop, length, nat_lt, ◌+◌, ◌==◌, ◌&&◌, is_some, Option, Some, None, Result, Ok, Err, sym, subst}
+use Rattle.std.proofs.Common.{◌≡◌, inl, inr, ℕ, Bool, true, false, cond, List, [], ◌∷◌, ◌++◌, drop, length, nat_lt, if◌then◌else◌, ◌+◌, ◌==◌, ◌&&◌, is_some, Option, Some, None, Result, Ok, Err, sym, subst}
 use Rattle.std.specs.List.{flat_map}
 use Rattle.std.specs.Option.{ok_or, option_map_or}
 use Rattle.std.specs.Prelude.{⊤}
@@ -16,10 +16,11 @@ use Rattle.cbfs_walk.specs.Shaped.{place_after}
 use Rattle.cbfs_walk.specs.Shapes.{has_bad_size, is_absent, refused_or, shape}
 use Rattle.cbfs_walk.specs.declared.walk.WalkFault.{WalkFault}
 use Rattle.cbfs_walk.specs.declared.walk.WalkFault.TheVariants as walk
-use Rattle.cbfs_edit.specs.Additions.{NewComponent, added, addition_in, is_bad_align, is_bad_name, is_bad_type, new_component, unless_faulty, wanted_for}
+use Rattle.cbfs_edit.specs.Additions.{NewComponent, added, addition_in, is_bad_name, is_bad_type, new_component, wanted_for}
 use Rattle.cbfs_edit.specs.Groups.{group_of}
-use Rattle.cbfs_edit.specs.Places.{place_of, placing_in}
+use Rattle.cbfs_edit.specs.Places.{first_place, is_bad_align, placing_in}
 use Rattle.cbfs_edit.specs.Removals.{removal_in, removed, unless_damaged, unless_unsound}
+use Rattle.cbfs_edit.specs.Runs.{runs}
 use Rattle.cbfs_edit.specs.declared.fault.EditFault.{EditFault}
 use Rattle.cbfs_edit.specs.declared.fault.EditFault.TheVariants as edit
 use Rattle.cbfs_edit.specs.declared.place.Spot.{Spot}
@@ -27,13 +28,13 @@ use Rattle.cbfs_commands.specs.declared.plan.Plan.{Plan}
 use Rattle.cbfs_commands.specs.declared.refusal.Refusal.{Refusal}
 use Rattle.cbfs_commands.specs.declared.refusal.Refusal.TheVariants as refusals
 use Rattle.cbfs_commands.specs.Creations.{head_for, map_place, plan_for, plan_of, region_place, region_places, some_overlap}
-use Rattle.cbfs_commands.specs.Deeds.{deed, outcome, removes, replaces}
-use Rattle.cbfs_commands.specs.Layouts.{area_row, layout, map_row}
-use Rattle.cbfs_commands.specs.Outcomes.{add_region, changing, end_answer, extract, extract_region, made_in, print, print_region, told_component, told_in}
-use Rattle.cbfs_commands.specs.Refusals.{HasNoFault, and_then, edit_refusal, itself, store_refusal, walk_refusal}
+use Rattle.cbfs_commands.specs.Deeds.{changes, deed, edits, outcome}
+use Rattle.cbfs_commands.specs.Rows.{area_row, layout, map_row}
+use Rattle.cbfs_commands.specs.Outcomes.{StopsIn, extract_region, print_region, told_component, told_in}
+use Rattle.cbfs_commands.specs.Refusals.{HasNoFault, edit_refusal, fault_or, store_refusal, walk_refusal}
 use Rattle.cbfs_commands.specs.Requests.{Request}
 use Rattle.cbfs_commands.specs.Requests as requests
-use Rattle.cbfs_commands.specs.Told.{Told, refuses, shows, told_of}
+use Rattle.cbfs_commands.specs.Told.{Told, refuses, shows}
 
 -- a refusal that blames no side
 abbrev BlamesNone : Refusal → Type 0
@@ -41,6 +42,10 @@ BlamesNone refusals.Device = ⊥
 BlamesNone refusals.Output = ⊥
 BlamesNone refusals.Source = ⊥
 BlamesNone _ = ⊤
+
+-- a refusal of a command, as it is
+abbrev itself : Refusal → Refusal
+itself refusal = refusal
 
 -- the same of an answer, by the refusal that its fault is told as
 abbrev Blameless : {T E : Type 0} → (E → Refusal) → Result T E → Type 0
@@ -64,17 +69,13 @@ given tell None fault own = own
 given tell (Some value) fault own = tt
 
 -- what comes of a value
-next-blameless : {T U E : Type 0} (tell : E → Refusal) (r : Result T E) (next : T → Result U Refusal) → Blameless tell r → ((value : T) → Blameless itself (next value)) → Blameless itself (and_then tell r next)
+next-blameless : {T U E : Type 0} (tell : E → Refusal) (r : Result T E) (next : T → Result U Refusal) → Blameless tell r → ((value : T) → Blameless itself (next value)) → Blameless itself (fault_or (λ fault. Err (tell fault)) r next)
 next-blameless tell (Err fault) next own each = own
 next-blameless tell (Ok value) next own each = each value
 
-told-blameless : {T E : Type 0} (tell : E → Refusal) (r : Result T E) (next : T → Told) → Blameless tell r → ((value : T) → Blameless itself (next value).answer) → Blameless itself (told_of tell r next).answer
+told-blameless : {T E : Type 0} (tell : E → Refusal) (r : Result T E) (next : T → Told) → Blameless tell r → ((value : T) → Blameless itself (next value).answer) → Blameless itself (fault_or (λ fault. refuses (tell fault)) r next).answer
 told-blameless tell (Err fault) next own each = own
 told-blameless tell (Ok value) next own each = each value
-
-made-blameless : (image : List ℕ) (made : Result (List ℕ) Refusal) → Blameless itself made → Blameless itself (changing image made).told.answer
-made-blameless image (Err refusal) own = own
-made-blameless image (Ok now) own = own
 
 -- ---- regions, their shape and their cells
 
@@ -127,11 +128,11 @@ addition_in-blameless : (x : List ℕ) (new : NewComponent) (spot : Spot) → Bl
 unfolding addition_in placing_in
 addition_in-blameless x new spot = go (is_bad_name new.name) (is_bad_type new.kind) (is_bad_align spot)
   where
-    go : (name kind align : Bool) → Blameless edit_refusal (unless_faulty (cond name (Some edit.BadName) (cond kind (Some edit.BadType) (cond align (Some edit.BadAlign) None))) (placing_in x new.name (wanted_for new spot)))
+    go : (name kind align : Bool) → Blameless edit_refusal (option_map_or (λ fault. Err fault) (cond name (Some edit.BadName) (cond kind (Some edit.BadType) (cond align (Some edit.BadAlign) None))) (placing_in x new.name (wanted_for new spot)))
     go true kind align = tt
     go false true align = tt
     go false false true = tt
-    go false false false = unsound-blameless x _ (when edit_refusal (is_some (first_named new.name (components x))) _ _ tt (given edit_refusal (place_of x (wanted_for new spot)) edit.NoSpace tt))
+    go false false false = unsound-blameless x _ (when edit_refusal (is_some (first_named new.name (components x))) _ _ tt (given edit_refusal (first_place (wanted_for new spot) (length x) (runs x)) edit.NoSpace tt))
 
 -- ---- plans
 
@@ -166,11 +167,6 @@ plan_for-blameless n names source = next-blameless itself _ _ (head_for-blameles
 
 -- ---- commands
 
-end_answer-blameless : (at : ℕ) (end : End) → Blameless itself (end_answer at end)
-end_answer-blameless at complete = tt
-end_answer-blameless at tail = tt
-end_answer-blameless at (damage kind) = tt
-
 told_found-blameless : (c : Option Component) → Blameless itself (option_map_or told_component c (refuses refusals.NotFound)).answer
 told_found-blameless None = tt
 told_found-blameless (Some c) = elim (is_packed c.attributes) as (λ b. Blameless itself (let t : Told = cond b (refuses refusals.Compressed) (shows c.content) in t).answer) [ true ↦ tt | false ↦ tt ]
@@ -179,24 +175,24 @@ told_found-blameless (Some c) = elim (is_packed c.attributes) as (λ b. Blameles
 by_region : (image name : List ℕ) (tell : List ℕ → Told) → ((x : List ℕ) → Blameless itself (tell x).answer) → Blameless itself (told_in image name tell).answer
 by_region image name tell each = told-blameless store_refusal _ _ (region_of-blameless image name) (λ region. each (bytes_in region image))
 
-edited : (image name : List ℕ) (make : Range → List ℕ → Result (List ℕ) Refusal) → ((region : Range) (x : List ℕ) → Blameless itself (make region x)) → Blameless itself (changing image (made_in image (region_of image name) make)).told.answer
-edited image name make each =
-    made-blameless image _ (next-blameless store_refusal _ _ (region_of-blameless image name) (λ region. next-blameless itself _ _ (each region (bytes_in region image)) (λ bytes. tt)))
+edited : (image name source : List ℕ) (make : Range → List ℕ → List ℕ → Result (List ℕ) Refusal) → ((region : Range) (x : List ℕ) → Blameless itself (make region x source)) → Blameless itself (outcome (changes (edits name false make StopsIn)) image source).told.answer
+edited image name source make each =
+    next-blameless itself _ _ (next-blameless store_refusal _ _ (region_of-blameless image name) (λ region. next-blameless itself _ _ (each region (bytes_in region image)) (λ bytes. tt))) (λ now. tt)
 
 own_answer : (r : Request) (image source : List ℕ) → Blameless itself (outcome (deed r) image source).told.answer
-unfolding print print_region layout extract
-own_answer (requests.print region verbose) image source =
-    by_region image region (λ x. print_region x verbose) (λ x. unless-misshapen (λ (t : Told). Blameless itself t.answer) (λ fault. refuses (walk_refusal fault)) x _ tt tt (end_answer-blameless (place_after 0 (cut x).cells) (cut x).end))
+unfolding print_region layout
+own_answer (requests.on_region region (requests.print verbose)) image source =
+    by_region image region (λ x. print_region x verbose) (λ x. unless-misshapen (λ (t : Told). Blameless itself t.answer) (λ fault. refuses (walk_refusal fault)) x _ tt tt (next-blameless walk_refusal _ _ (found-blameless None (place_after 0 (cut x).cells) (cut x).end) (λ none. tt)))
 own_answer requests.layout image source = elim (map_of image) as (λ o. Blameless itself (option_map_or (λ q. shows (map_row q (fmap_head_of (drop q image)) ++ flat_map area_row (areas_at image q))) o (refuses refusals.NoFmap)).answer) [ None ↦ tt | Some q ↦ tt ]
-own_answer (requests.extract region name) image source = by_region image region (λ x. extract_region x name) (λ x. told-blameless walk_refusal (component_in x name) _ (component_in-blameless x name) told_found-blameless)
-own_answer (requests.add region name kind hash spot) image source =
+own_answer (requests.on_region region (requests.extract name)) image source = by_region image region (λ x. extract_region x name) (λ x. told-blameless walk_refusal (component_in x name) _ (component_in-blameless x name) told_found-blameless)
+own_answer (requests.on_region region (requests.add name kind hash spot)) image source =
     let new : NewComponent = new_component name kind hash source in
-    edited image region (λ found x. add_region x new spot) (λ found x. next-blameless edit_refusal (addition_in x new spot) (λ place. Ok (added x new place)) (addition_in-blameless x new spot) (λ place. tt))
-own_answer (requests.remove region name) image source =
-    edited image region (λ found x. (removes name).made found x source) (λ found x. next-blameless edit_refusal (removal_in x name) (λ group. Ok (removed x group)) (removal_in-blameless x name) (λ group. tt))
-own_answer (requests.read region) image source = by_region image region shows (λ x. tt)
-own_answer (requests.write region) image source = edited image region (λ found x. replaces.made found x source) (λ found x. when itself (length source == found.size) (Ok source) (Err refusals.SourceSize) tt tt)
-own_answer (requests.create names) image source = made-blameless image _ (next-blameless itself _ _ (plan_for-blameless (length image) names source) (λ plan. tt))
+    edited image region source (λ found x s. fault_or (λ fault. Err (edit_refusal fault)) (addition_in x new spot) (λ place. Ok (added x new place))) (λ found x. next-blameless edit_refusal (addition_in x new spot) (λ place. Ok (added x new place)) (addition_in-blameless x new spot) (λ place. tt))
+own_answer (requests.on_region region (requests.remove name)) image source =
+    edited image region source (λ found x s. fault_or (λ fault. Err (edit_refusal fault)) (removal_in x name) (λ group. Ok (removed x group))) (λ found x. next-blameless edit_refusal (removal_in x name) (λ group. Ok (removed x group)) (removal_in-blameless x name) (λ group. tt))
+own_answer (requests.on_region region requests.read) image source = by_region image region shows (λ x. tt)
+own_answer (requests.on_region region requests.write) image source = edited image region source (λ found x s. if length s == found.size then Ok s else Err refusals.SourceSize) (λ found x. when itself (length source == found.size) (Ok source) (Err refusals.SourceSize) tt tt)
+own_answer (requests.create names) image source = next-blameless itself _ _ (next-blameless itself _ _ (plan_for-blameless (length image) names source) (λ plan. tt)) (λ now. tt)
 
 -- ---- the law
 

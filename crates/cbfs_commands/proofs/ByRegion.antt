@@ -1,45 +1,57 @@
 -- The outcome of a command on a region depends on the region's bytes alone.
-use Rattle.std.proofs.Common.{◌≡◌, ℕ, List, Some, Result, Ok, Err, refl, sym, ◌∙◌}
+use Rattle.std.proofs.Common.{◌≡◌, ℕ, false, List, [], length, Result, Ok, Err, ◌==◌, refl, sym, ◌∙◌}
+use Rattle.std.specs.Prelude.{if◌then◌else◌}
+use Rattle.std.specs.Result.{result_unwrap_or}
+use Rattle.flash_store.specs.Bytes.{overwritten}
 use Rattle.flash_store.specs.Regions.{Range, bytes_in, region_of}
-use Rattle.cbfs_edit.specs.Additions.{new_component}
+use Rattle.cbfs_edit.specs.Additions.{NewComponent, added, addition_in, new_component}
+use Rattle.cbfs_edit.specs.Removals.{removal_in, removed}
 use Rattle.cbfs_commands.specs.declared.refusal.Refusal.{Refusal}
-use Rattle.cbfs_commands.specs.Deeds.{deed, outcome, removes, replaces}
-use Rattle.cbfs_commands.specs.Requests.{Request}
-use Rattle.cbfs_commands.specs.Requests as requests
-use Rattle.cbfs_commands.specs.Outcomes.{add_region, changing, extract, extract_region, made_in, print, print_region, told_in}
+use Rattle.cbfs_commands.specs.declared.refusal.Refusal.TheVariants as refusals
+use Rattle.cbfs_commands.specs.Deeds.{changes, deed, edits, outcome}
+use Rattle.cbfs_commands.specs.Requests.{Task, on_region}
+use Rattle.cbfs_commands.specs.Requests as tasks
+use Rattle.cbfs_commands.specs.Refusals.{edit_refusal, fault_or}
+use Rattle.cbfs_commands.specs.Outcomes.{Outcome, StopsIn, extract_region, print_region, told_in}
 use Rattle.cbfs_commands.specs.Told.{Told, shows}
-use Rattle.cbfs_commands.specs.Laws.{EndAlike, OutcomesAreOfTheRegion, region_name}
+use Rattle.cbfs_commands.specs.Laws.{OutcomesAreOfTheRegion}
 use Rattle.cbfs_commands.proofs.RegionPlaces.{alike_over, region_lies}
 
 -- two images with the same bytes in a region
 module _ (name : List ℕ) (region : Range) (image other : List ℕ) (here : region_of image name ≡ Ok region) (there : region_of other name ≡ Ok region) (same : bytes_in region other ≡ bytes_in region image) where
+  -- the same is told, and the same bytes are left in the region
+  abbrev Alike : Outcome → Outcome → Type 0
+  Alike a b = (b.told ≡ a.told) × (bytes_in region b.image ≡ bytes_in region a.image)
+
   -- the same is told of them
-  told : (tell : List ℕ → Told) → EndAlike region (record { told = told_in image name tell; image = image }) (record { told = told_in other name tell; image = other })
+  told : (tell : List ℕ → Told) → Alike (record { told = told_in image name tell; image = image }) (record { told = told_in other name tell; image = other })
   told tell =
       let first : told_in image name tell ≡ tell (bytes_in region image) = rw here refl in
       let last : told_in other name tell ≡ tell (bytes_in region image) = rw (there, same) refl in
-      record { told = last ∙ sym first; bytes = same }
+      (last ∙ sym first, same)
 
   -- the same is made of them
-  made : (make : Range → List ℕ → Result (List ℕ) Refusal) → EndAlike region (changing image (made_in image (region_of image name) make)) (changing other (made_in other (region_of other name) make))
-  made make = rw (here, there, same) (go (make region (bytes_in region image)))
+  made : (source : List ℕ) (make : Range → List ℕ → List ℕ → Result (List ℕ) Refusal) → let d = changes (edits name false make StopsIn) in Alike (outcome d image source) (outcome d other source)
+  made source make = rw (here, there, same) (go (make region (bytes_in region image) source))
     where
-      go : (r : Result (List ℕ) Refusal) → EndAlike region (changing image (made_in image (Ok region) (λ k x. r))) (changing other (made_in other (Ok region) (λ k x. r)))
-      go (Err refusal) = record { told = refl; bytes = same }
-      go (Ok bytes) = record { told = refl; bytes = alike_over region image other bytes (region_lies image name region here) (region_lies other name region there) same }
+      over : List ℕ → Result (List ℕ) Refusal → Outcome
+      over whole r =
+          let made : Result (List ℕ) Refusal = fault_or Err r (λ bytes. Ok (overwritten whole region.start bytes)) in
+          record { told = record { written = []; answer = fault_or Err made (λ now. Ok tt) }; image = result_unwrap_or made whole }
 
-  each : (r : Request) (source : List ℕ) → region_name r ≡ Some name → EndAlike region (outcome (deed r) image source) (outcome (deed r) other source)
-  unfolding print extract
-  each (requests.print asked verbose) source is = let e : asked ≡ name = cc in rw e (told (λ x. print_region x verbose))
-  each requests.layout source is = absurd cc
-  each (requests.extract asked component) source is = let e : asked ≡ name = cc in rw e (told (λ x. extract_region x component))
-  each (requests.add asked component kind hash spot) source is =
-      let e : asked ≡ name = cc in
-      rw e (made (λ r x. add_region x (new_component component kind hash source) spot))
-  each (requests.remove asked component) source is = let e : asked ≡ name = cc in rw e (made (λ r x. (removes component).made r x source))
-  each (requests.read asked) source is = let e : asked ≡ name = cc in rw e (told shows)
-  each (requests.write asked) source is = let e : asked ≡ name = cc in rw e (made (λ r x. replaces.made r x source))
-  each (requests.create names) source is = absurd cc
+      go : (r : Result (List ℕ) Refusal) → Alike (over image r) (over other r)
+      go (Err refusal) = (refl, same)
+      go (Ok bytes) = (refl, alike_over region image other bytes (region_lies image name region here) (region_lies other name region there) same)
+
+  each : (task : Task) (source : List ℕ) → let d = deed (on_region name task) in Alike (outcome d image source) (outcome d other source)
+  each (tasks.print verbose) source = told (λ x. print_region x verbose)
+  each (tasks.extract component) source = told (λ x. extract_region x component)
+  each (tasks.add component kind hash spot) source =
+      let new : NewComponent = new_component component kind hash source in
+      made source (λ found x s. fault_or (λ fault. Err (edit_refusal fault)) (addition_in x new spot) (λ place. Ok (added x new place)))
+  each (tasks.remove component) source = made source (λ found x s. fault_or (λ fault. Err (edit_refusal fault)) (removal_in x component) (λ group. Ok (removed x group)))
+  each tasks.read source = told shows
+  each tasks.write source = made source (λ found x s. if length s == found.size then Ok s else Err refusals.SourceSize)
 
 pub outcomes_of_region : OutcomesAreOfTheRegion
-outcomes_of_region r name region image other source asked here there same = each name region image other here there same r source asked
+outcomes_of_region name task region image other source here there same = each name region image other here there same task source

@@ -7,7 +7,7 @@ use Rattle.std.proofs.lemmas.List.{length-replicate}
 use Rattle.std.proofs.lemmas.List.Elements.{All-nil, All-cons, All-head, All-tail}
 use Rattle.flash_format.proofs.Placed.{empty_is_space}
 use Rattle.flash_store.specs.Bytes.{overwritten}
-use Rattle.flash_store.specs.Laws.{LieApart}
+use Rattle.flash_store.specs.Laws.{LieApart, edited}
 use Rattle.flash_store.specs.Regions.{Range, LiesIn, bytes_in}
 use Rattle.flash_store.proofs.BytesLemmas.{length-overwritten}
 use Rattle.flash_store.proofs.DeviceLemmas.{length-bytes_in}
@@ -17,75 +17,74 @@ use Rattle.cbfs_walk.proofs.Answering.{good_size}
 use Rattle.cbfs_edit.specs.Formats.{IsOneFreeCell, formatted}
 use Rattle.cbfs_edit.specs.Removals.{last_four}
 use Rattle.cbfs_edit.proofs.FormatLemmas.{formatted_free}
-use Rattle.cbfs_commands.specs.Creations.{IsPlace, formatted_at, overlap, some_overlap}
+use Rattle.cbfs_commands.specs.Creations.{IsPlace, overlap, some_overlap}
 use Rattle.cbfs_commands.specs.Laws.{CreatedRegionsAreFree}
 use Rattle.cbfs_commands.proofs.RegionPlaces.{whole_over}
 use Rattle.cbfs_commands.proofs.Planned.{lie_apart, planned}
 
-record IsSized (n : ℕ) (place : Range) : Type 0 where
-  some : 64 ≤ place.size
-  whole : place.size % 64 ≡ 0
+positive : (size : ℕ) → has_bad_size size ≡ false → 0 < size
+positive zero good = absurd cc
+positive (suc size) good = omega arith
 
-sized : (n : ℕ) (place : Range) → IsPlace n place → IsSized n place
-sized n place is =
-    let whole : place.size % 64 ≡ 0 = good_size place.size (sym is.size) in
-    record { some = omega (arith, whole, positive place.size is.size); whole = whole }
-  where
-    positive : (size : ℕ) → has_bad_size size ≡ false → 0 < size
-    positive zero good = absurd cc
-    positive (suc size) good = omega arith
+-- the regions in order, each as one empty entry
+abbrev all_formatted : List ℕ → List Range → List ℕ
+all_formatted image places = fold (λ x place. edited place formatted x) image places
 
 module _ (n : ℕ) (image : List ℕ) (long : length image ≡ n) (place : Range) (is : IsPlace n place) where
   lies : LiesIn place image
   lies = omega (arith, is.inside, long)
+
+  whole : place.size % 64 ≡ 0
+  whole = good_size place.size (sym is.size)
+
+  some : 64 ≤ place.size
+  some = omega (arith, whole, positive place.size is.size)
 
   region_long : length (bytes_in place image) ≡ place.size
   region_long = length-bytes_in place image lies
 
   formatted_long : length (formatted (bytes_in place image)) ≡ place.size
   formatted_long =
-      let size = sized n place is in
-      let four : length (last_four (bytes_in place image)) ≡ 4 = omega (arith, length-drop (length (bytes_in place image) - 4) (bytes_in place image), region_long, size.some) in
-      (empty_is_space (length (bytes_in place image)) (Some (last_four (bytes_in place image))) (omega (arith, region_long, size.some)) four).long ∙ region_long
+      let four : length (last_four (bytes_in place image)) ≡ 4 = omega (arith, length-drop (length (bytes_in place image) - 4) (bytes_in place image), region_long, some) in
+      (empty_is_space (length (bytes_in place image)) (Some (last_four (bytes_in place image))) (omega (arith, region_long, some)) four).long ∙ region_long
 
-  image_long : length (formatted_at image place) ≡ n
+  image_long : length (edited place formatted image) ≡ n
   image_long = length-overwritten image place.start (formatted (bytes_in place image)) (omega (arith, formatted_long, is.inside, long)) ∙ long
 
   -- the region itself
-  here : bytes_in place (formatted_at image place) ≡ formatted (bytes_in place image)
+  here : bytes_in place (edited place formatted image) ≡ formatted (bytes_in place image)
   here = whole_over place image (formatted (bytes_in place image)) lies formatted_long
 
   -- and any other
-  beside : (other : Range) → LieApart other place → bytes_in other (formatted_at image place) ≡ bytes_in other image
+  beside : (other : Range) → LieApart other place → bytes_in other (edited place formatted image) ≡ bytes_in other image
   beside other apart = written_beside other image place.start (formatted (bytes_in place image)) (omega (arith, is.inside, long)) (where_it_is apart)
     where
       where_it_is : LieApart other place → (place.start + length (formatted (bytes_in place image)) ≤ other.start) ⊎ (other.start + other.size ≤ place.start)
       where_it_is (inl before) = inr before
       where_it_is (inr after) = inl (omega (arith, after, formatted_long))
 
-  free : n < 2 ^ 32 → IsOneFreeCell (bytes_in place (formatted_at image place))
+  free : n < 2 ^ 32 → IsOneFreeCell (bytes_in place (edited place formatted image))
   free small =
-      let size = sized n place is in
       subst (λ (l : List ℕ). IsOneFreeCell l) (sym here)
-      (formatted_free (bytes_in place image) (omega (arith, region_long, size.some)) (ap (λ k. k % 64) region_long ∙ size.whole) (omega (arith, region_long, is.inside, small)))
+      (formatted_free (bytes_in place image) (omega (arith, region_long, some)) (ap (λ k. k % 64) region_long ∙ whole) (omega (arith, region_long, is.inside, small)))
 
 -- what is formatted after it leaves a region as it is
-untouched : (n : ℕ) (image : List ℕ) (other : Range) (places : List Range) → length image ≡ n → All (IsPlace n) places → list_any (overlap other) places ≡ false → bytes_in other (fold formatted_at image places) ≡ bytes_in other image
+untouched : (n : ℕ) (image : List ℕ) (other : Range) (places : List Range) → length image ≡ n → All (IsPlace n) places → list_any (overlap other) places ≡ false → bytes_in other (all_formatted image places) ≡ bytes_in other image
 untouched n image other [] long each none = refl
 untouched n image other (place ∷ places) long each none =
     let is : IsPlace n place = All-head (IsPlace n) place places each in
     let parts = or_parts (overlap other place) (list_any (overlap other) places) none in
-    untouched n (formatted_at image place) other places (image_long n image long place is) (All-tail (IsPlace n) place places each) parts.1 ∙ beside n image long place is other (lie_apart other place parts.0)
+    untouched n (edited place formatted image) other places (image_long n image long place is) (All-tail (IsPlace n) place places each) parts.1 ∙ beside n image long place is other (lie_apart other place parts.0)
 
-all_free : (n : ℕ) (image : List ℕ) (places : List Range) → n < 2 ^ 32 → length image ≡ n → All (IsPlace n) places → some_overlap places ≡ false → All (λ (place : Range). IsOneFreeCell (bytes_in place (fold formatted_at image places))) places
+all_free : (n : ℕ) (image : List ℕ) (places : List Range) → n < 2 ^ 32 → length image ≡ n → All (IsPlace n) places → some_overlap places ≡ false → All (λ (place : Range). IsOneFreeCell (bytes_in place (all_formatted image places))) places
 all_free n image [] small long each none = All-nil (λ (place : Range). IsOneFreeCell (bytes_in place image))
 all_free n image (place ∷ places) small long each none =
     let is : IsPlace n place = All-head (IsPlace n) place places each in
     let others : All (IsPlace n) places = All-tail (IsPlace n) place places each in
     let parts = or_parts (list_any (overlap place) places) (some_overlap places) none in
-    let next : List ℕ = formatted_at image place in
-    let long_next : length (formatted_at image place) ≡ n = image_long n image long place is in
-    All-cons (λ (p : Range). IsOneFreeCell (bytes_in p (fold formatted_at next places))) place places
+    let next : List ℕ = edited place formatted image in
+    let long_next : length (edited place formatted image) ≡ n = image_long n image long place is in
+    All-cons (λ (p : Range). IsOneFreeCell (bytes_in p (all_formatted next places))) place places
     (subst (λ (l : List ℕ). IsOneFreeCell l) (sym (untouched n next place places long_next others parts.0)) (free n image long place is small))
     (all_free n next places small long_next others parts.1)
 

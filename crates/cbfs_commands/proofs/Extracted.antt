@@ -1,22 +1,21 @@
 -- What was added is extracted.
-use Rattle.std.proofs.Common.{◌≡◌, ℕ, false, cond, List, length, Option, Some, None, Result, Ok, refl, ◌∙◌, ap}
+use Rattle.std.proofs.Common.{◌≡◌, ℕ, false, cond, List, length, Option, Some, None, Result, refl, ◌∙◌, ap}
 use Rattle.std.specs.Option.{option_map_or}
 use Rattle.flash_format.specs.Components.{is_packed}
 use Rattle.flash_format.specs.Made.{made_attributes}
 use Rattle.flash_format.specs.declared.digest.Digest.{Digest}
 use Rattle.flash_store.specs.Bytes.{overwritten}
-use Rattle.flash_store.specs.Regions.{Range, bytes_in, region_of}
+use Rattle.flash_store.specs.Regions.{Range, bytes_in}
 use Rattle.flash_store.specs.declared.fmap.StoreFault.{StoreFault}
 use Rattle.flash_store.proofs.DeviceLemmas.{length-bytes_in}
 use Rattle.cbfs_edit.specs.Additions.{added}
 use Rattle.cbfs_edit.proofs.Added.{added_length}
 use Rattle.cbfs_edit.proofs.FoundAgain.{additions_found}
 use Rattle.cbfs_walk.specs.Finding.{Found}
-use Rattle.cbfs_commands.specs.declared.refusal.Refusal.{Refusal}
 use Rattle.cbfs_commands.specs.declared.refusal.Refusal.TheVariants as refusals
-use Rattle.cbfs_commands.specs.Refusals.{store_refusal, walk_refusal}
-use Rattle.cbfs_commands.specs.Outcomes.{add_region, changing, extract, extract_region, made_in, told_component}
-use Rattle.cbfs_commands.specs.Told.{Told, refuses, shows, told_of}
+use Rattle.cbfs_commands.specs.Refusals.{fault_or, store_refusal, walk_refusal}
+use Rattle.cbfs_commands.specs.Outcomes.{extract_region, told_component}
+use Rattle.cbfs_commands.specs.Told.{Told, refuses, shows}
 use Rattle.cbfs_commands.specs.Laws.{AddedFilesAreExtracted, AdditionsAreExtracted}
 use Rattle.cbfs_commands.proofs.RegionPlaces.{region_lies, whole_over}
 
@@ -27,18 +26,13 @@ plain (Some digest) = refl
 
 pub additions_extracted : AdditionsAreExtracted
 additions_extracted x new spot place is =
-    ap (λ (f : Found). told_of walk_refusal f (λ found. option_map_or told_component found (refuses refusals.NotFound))) (additions_found x new spot place is) ∙ ap (λ b. let t : Told = cond b (refuses refusals.Compressed) (shows new.content) in t) (plain new.digest)
+    ap (λ (f : Found). fault_or (λ fault. refuses (walk_refusal fault)) f (λ found. option_map_or told_component found (refuses refusals.NotFound))) (additions_found x new spot place is) ∙ ap (λ b. let t : Told = cond b (refuses refusals.Compressed) (shows new.content) in t) (plain new.digest)
 
 pub files_extracted : AddedFilesAreExtracted
-unfolding extract
 files_extracted image name new spot region place asked is still =
     let x : List ℕ = bytes_in region image in
-    let y : List ℕ = added x new place in
-    let make : Range → List ℕ → Result (List ℕ) Refusal = λ found x. add_region x new spot in
-    let now : List ℕ = (changing image (made_in image (region_of image name) make)).image in
+    let now : List ℕ = overwritten image region.start (added x new place) in
     let lies = region_lies image name region asked in
-    let long : length y ≡ region.size = added_length x new spot place is.region is.kind is.content is.digest is.placed ∙ length-bytes_in region image lies in
-    let made : made_in image (region_of image name) make ≡ Ok (overwritten image region.start y) = rw (asked, is.placed) refl in
-    let left : now ≡ overwritten image region.start y = ap (λ (r : Result (List ℕ) Refusal). (changing image r).image) made in
-    let holds : bytes_in region now ≡ y = ap (λ (l : List ℕ). bytes_in region l) left ∙ whole_over region image y lies long in
-    ap (λ (r : Result Range StoreFault). told_of store_refusal r (λ found. extract_region (bytes_in found now) new.name)) still ∙ ap (λ (l : List ℕ). extract_region l new.name) holds ∙ additions_extracted x new spot place is
+    let long : length (added x new place) ≡ region.size = added_length x new spot place is ∙ length-bytes_in region image lies in
+    ap (λ (r : Result Range StoreFault). fault_or (λ fault. refuses (store_refusal fault)) r (λ found. extract_region (bytes_in found now) new.name)) still
+    ∙ ap (λ (l : List ℕ). extract_region l new.name) (whole_over region image (added x new place) lies long) ∙ additions_extracted x new spot place is

@@ -1,4 +1,3 @@
-mod RowLemmas
 mod Telling
 mod Areas
 mod Listing

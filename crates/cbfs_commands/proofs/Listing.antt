@@ -5,7 +5,8 @@ use Rattle.flash_format.specs.declared.attribute.AttrHead.{AttrHead}
 use Rattle.flash_format.specs.Attributes.{Attribute}
 use Rattle.cbfs_walk.specs.AttrWalks.{first_head, after_first, head_of_attribute}
 use Rattle.cbfs_commands.specs.Details.{attribute_line}
-use Rattle.cbfs_commands.specs.Told.{Told, shows, text_then}
+use Rattle.cbfs_commands.proofs.Telling.{text_then}
+use Rattle.cbfs_commands.specs.Told.{Told, shows}
 
 -- the lines of attributes
 abbrev pub lines : List Attribute → Told

@@ -20,11 +20,11 @@ use Rattle.cbfs_commands.specs.declared.refusal.Refusal.{Refusal}
 use Rattle.cbfs_commands.specs.declared.refusal.Refusal.TheVariants as refusals
 use Rattle.cbfs_commands.specs.Creations.{Fits, IsPlace, head_for, map_place, overlap, plan_for, plan_of, region_place, region_places, some_overlap}
 use Rattle.cbfs_commands.specs.Laws.{PlansAreLaid}
-use Rattle.cbfs_commands.specs.Refusals.{and_then, itself, store_refusal}
+use Rattle.cbfs_commands.specs.Refusals.{fault_or, store_refusal}
 use Rattle.cbfs_commands.proofs.RegionPlaces.{inside_lies}
 
 -- what was done, step by step
-done : {T U E : Type 0} (tell : E → Refusal) (r : Result T E) (next : T → Result U Refusal) (x : U) → and_then tell r next ≡ Ok x → (value : T) × (r ≡ Ok value) × (next value ≡ Ok x)
+done : {T U E : Type 0} (tell : E → Refusal) (r : Result T E) (next : T → Result U Refusal) (x : U) → fault_or (λ fault. Err (tell fault)) r next ≡ Ok x → (value : T) × (r ≡ Ok value) × (next value ≡ Ok x)
 done tell (Err fault) next x is = absurd cc
 done tell (Ok value) next x is = (value, refl, is)
 
@@ -45,8 +45,8 @@ are_places n [] places is =
     let same : [] ≡ places = cc in
     subst (λ (l : List Range). All (IsPlace n) l) same (All-nil (IsPlace n))
 are_places n (area ∷ areas) places is =
-    let first = done itself (region_place n area) _ places is in
-    let others = done itself (region_places n areas) _ places first.2 in
+    let first = done (λ refusal. refusal) (region_place n area) _ places is in
+    let others = done (λ refusal. refusal) (region_places n areas) _ places first.2 in
     let last = others.2 in
     let same : first.0 ∷ others.0 ≡ places = cc in
     subst (λ (l : List Range). All (IsPlace n) l) same (All-cons (IsPlace n) first.0 others.0 (is_place n area first.0 first.1) (are_places n areas others.0 others.1))
@@ -91,10 +91,10 @@ pub record IsPlanned (n m : ℕ) (plan : Plan) : Type 0 where
 planned_of : (n m len : ℕ) (area : Option Area) (areas : List (Option Area)) (plan : Plan) → len ≤ m → plan_of n len area areas ≡ Ok plan → IsPlanned n m plan
 unfolding plan_of
 planned_of n m len area areas plan in_source is =
-    let map = done itself (map_place n len area) _ plan is in
+    let map = done (λ refusal. refusal) (map_place n len area) _ plan is in
     let found = done (λ fault. refusals.FmapArea) (inside n area) _ map.0 map.1 in
     let roomy = passed (nat_lt found.0.size len) _ found.0 map.0 found.2 in
-    let regions = done itself (region_places n areas) _ plan map.2 in
+    let regions = done (λ refusal. refusal) (region_places n areas) _ plan map.2 in
     let apart = passed (some_overlap (map.0 ∷ regions.0)) _ _ plan regions.2 in
     let lies = inside_lies n area found.0 found.1 in
     let size : found.0.size ≡ map.0.size = ap (λ (r : Range). r.size) roomy.1 in
@@ -115,19 +115,16 @@ fitting_plan n m len area areas (Ok plan) in_source is = (planned_of n m len are
 pub planned : (n : ℕ) (names : List (List ℕ)) (source : List ℕ) (plan : Plan) → plan_for n names source ≡ Ok plan → IsPlanned n (length source) plan
 unfolding plan_for
 planned n names source plan is =
-    let head = done itself (head_for n source) _ plan is in
-    planned_of n (length source) (map_len head.0) _ _ plan (fits head.0 head.1) head.2
+    let head = done (λ refusal. refusal) (head_for n source) _ plan is in
+    planned_of n (length source) (map_len head.0) _ _ plan (known head.0 (map_head source) refl head.1) head.2
   where
-    known : (head : FmapHead) (o : Option FmapHead) → map_head source ≡ o → and_then itself (ok_or o refusals.TableBad) (λ head. cond (head.size == n) (Ok head) (Err refusals.TableBad)) ≡ Ok head → map_len head ≤ length source
+    known : (head : FmapHead) (o : Option FmapHead) → map_head source ≡ o → fault_or Err (ok_or o refusals.TableBad) (λ head. cond (head.size == n) (Ok head) (Err refusals.TableBad)) ≡ Ok head → map_len head ≤ length source
     known head None e p = absurd cc
     known head (Some own) e p = by_size (own.size == n) p
       where
         by_size : (b : Bool) → (let r : Result FmapHead Refusal = cond b (Ok own) (Err refusals.TableBad) in r) ≡ Ok head → map_len head ≤ length source
         by_size true q = let same : own ≡ head = cc in subst (λ (h : FmapHead). map_len h ≤ length source) same (table_fits source own e)
         by_size false q = absurd cc
-
-    fits : (head : FmapHead) → head_for n source ≡ Ok head → map_len head ≤ length source
-    fits head p = known head (map_head source) refl p
 
 pub plans_laid : PlansAreLaid
 plans_laid n names source plan is =

@@ -1,6 +1,5 @@
 -- The table of a new image, area by area, and the places that it gives to its regions.
 use Rattle.std.proofs.Common.{◌≡◌, ℕ, zero, suc, ◌+◌, ◌*◌, ◌<◌, ◌≤◌, Bool, cond, List, [], ◌∷◌, ◌++◌, length, map, take, drop, set, append_assoc, get_or, replicate, Option, Some, None, Result, Ok, Err, refl, sym, ap, ◌∙◌, arith}
-use Rattle.std.specs.List.{find}
 use Rattle.std.specs.Option.{option_or}
 use Rattle.std.proofs.Math.Seq.{get_or-append_seam, set-append_seam}
 use Rattle.std.proofs.lemmas.List.{drop-drop, drop_all, drop_more, length-map, length-take-le, map-append, take_all, take_more}
@@ -38,19 +37,8 @@ module _ (f g : List ℕ → Option Area) (ns : List (List ℕ)) (rest : List (O
         ∙ sym (ap (λ (l : List (List ℕ)). map f l ++ others) (take_more ns i d lt) ∙ ap (λ (l : List (Option Area)). l ++ others) (map-append f (take i ns) (get_or ns i d ∷ [])) ∙ append_assoc (map f (take i ns)) (f (get_or ns i d) ∷ []) others)
 
 -- the first area of a name, of those seen and one more
-pub noted-first : (seen : List Area) (name : List ℕ) (area first : Area) → Some first ≡ first_area seen name → Some first ≡ first_area (seen ++ area ∷ []) name
-noted-first seen name area first e = e ∙ go (first_area seen name) e ∙ sym (find-append (is_area name) seen (area ∷ []))
-  where
-    go : (o : Option Area) → Some first ≡ o → o ≡ option_or o (find (is_area name) (area ∷ []))
-    go None e = absurd cc
-    go (Some a) e = refl
-
-pub noted-here : (seen : List Area) (name : List ℕ) (area : Area) (here : Bool) → None ≡ first_area seen name → here ≡ is_area name area → cond here (Some area) None ≡ first_area (seen ++ area ∷ []) name
-noted-here seen name area here e is = ap (λ b. cond b (Some area) None) is ∙ go (first_area seen name) e ∙ sym (find-append (is_area name) seen (area ∷ []))
-  where
-    go : (o : Option Area) → None ≡ o → cond (is_area name area) (Some area) None ≡ option_or o (find (is_area name) (area ∷ []))
-    go None e = refl
-    go (Some a) e = absurd cc
+pub noted-is : (seen : List Area) (name : List ℕ) (area : Area) (o : Option Area) (here : Bool) → o ≡ first_area seen name → here ≡ is_area name area → option_or o (cond here (Some area) None) ≡ first_area (seen ++ area ∷ []) name
+noted-is seen name area o here e is = cc (e, is) ∙ sym (find-append (is_area name) seen (area ∷ []))
 
 -- before the first area nothing is kept
 pub none-found : (ns : List (List ℕ)) (n k : ℕ) → length ns + k ≡ n → replicate n (let o : Option Area = None in o) ≡ map (first_area []) ns ++ replicate k None

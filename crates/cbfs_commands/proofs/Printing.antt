@@ -1,13 +1,13 @@
 -- What is printed of a region from a place on, cell by cell.
-use Rattle.std.proofs.Common.{◌≡◌, ℕ, ◌+◌, ◌/◌, ◌%◌, ◌-◌, ◌≤◌, ◌⊎◌, inl, inr, Bool, true, false, List, [], Option, Ok, Err, refl, sym, ap, ◌∙◌, arith, subst}
-use Rattle.std.specs.Prelude.{IsErrOf}
-use Rattle.std.proofs.KnownBytes.{Appends-nil}
-use Rattle.flash_store.specs.Device.{Device}
-use Rattle.flash_store.specs.Pages.{Pages, HasRead, OnHonest}
+use Rattle.std.proofs.Common.{◌≡◌, ℕ, ◌+◌, ◌/◌, ◌%◌, ◌-◌, ◌≤◌, ◌⊎◌, inl, inr, Bool, true, false, List, [], Option, None, Ok, Err, refl, sym, ap, ◌∙◌, arith, subst}
+use Rattle.std.specs.Prelude.{IsErrOf, if◌then◌else◌}
+use Rattle.std.specs.Result.{IsErrAnd}
+use Rattle.flash_store.specs.Device.{Device, faults_told}
+use Rattle.flash_store.specs.Pages.{Pages, HasRead, OnHonest, OnHonestIn}
 use Rattle.flash_store.specs.Regions.{Range, LiesIn, bytes_in}
-use Rattle.cbfs_walk.specs.Cells.{cell_in}
+use Rattle.cbfs_walk.specs.Cells.{IsCellIn}
 use Rattle.cbfs_walk.specs.Shaped.{shaped, ReadsCells, by_answer}
-use Rattle.cbfs_walk.specs.Walks.{Walking, walk_of, answer_at, StandsIn}
+use Rattle.cbfs_walk.specs.Walks.{Walking, GivesCell, answer_at, moved, reads_at}
 use Rattle.cbfs_walk.specs.Walks as walks
 use Rattle.cbfs_walk.specs.declared.cell.Cell.{Cell}
 use Rattle.cbfs_walk.specs.declared.walk.Step.{Step}
@@ -15,11 +15,13 @@ use Rattle.cbfs_walk.specs.declared.walk.Step.TheVariants as steps
 use Rattle.cbfs_walk.specs.declared.walk.WalkFault.{WalkFault}
 use Rattle.cbfs_walk.specs.declared.walk.WalkFault.TheVariants as faults
 use Rattle.cbfs_walk.proofs.Shapes.{shaped_step}
+use Rattle.cbfs_commands.specs.declared.refusal.Refusal.{Refusal}
 use Rattle.cbfs_commands.specs.declared.refusal.Refusal.TheVariants as refusals
 use Rattle.cbfs_commands.specs.Outcomes.{print_cut, print_region}
 use Rattle.cbfs_commands.specs.Refusals.{by_device, walk_refusal}
-use Rattle.cbfs_commands.specs.Details.{cell_reads, region_reads, rows_from, shown_cell}
-use Rattle.cbfs_commands.specs.Told.{Answer, HasTold, Told, cell_of, shows, refuses, text_then, Tells}
+use Rattle.cbfs_commands.specs.Details.{rows_from, shown_cell}
+use Rattle.cbfs_commands.specs.Told.{Answer, HasTold, Told, cell_of, shows, refuses}
+use Rattle.cbfs_commands.proofs.Telling.{ToldSoFar, so_far-ends, so_far-more, text_then, told-after, told-none, told-refusal, told-stopped}
 use Rattle.flash_store.proofs.DeviceLemmas.{length-bytes_in}
 
 -- what is printed of a region from a place on
@@ -30,67 +32,38 @@ pub print_region-from : (verbose : Bool) (x : List ℕ) → print_region x verbo
 unfolding print_region shaped
 print_region-from verbose x = refl
 
-each_row : Bool → List ℕ → Cell → Told → Told
+abbrev each_row : Bool → List ℕ → Cell → Told → Told
 each_row verbose c given t = text_then (shown_cell verbose given.at c) t
 
 law : (verbose : Bool) → ReadsCells (print_cut verbose) (each_row verbose)
-unfolding rows_from each_row
+unfolding rows_from
 law verbose at c k = refl
 
 -- what is printed where the walk gives this answer
-abbrev pub print_by : Bool → List ℕ → walks.Answer → Told
-print_by verbose x (Ok (steps.Cell c)) = text_then (shown_cell verbose c.at (cell_in x c)) (print_from verbose x (c.at + c.span))
-print_by verbose x (Ok steps.End) = shows []
-print_by verbose x (Ok (steps.Tail at)) = shows []
-print_by verbose x (Err fault) = refuses (walk_refusal fault)
+abbrev print_by : Bool → List ℕ → walks.Answer → Told
+print_by verbose x a = by_answer (λ fault. refuses (walk_refusal fault)) (print_cut verbose) (each_row verbose) x a
 
-by_row : (verbose : Bool) (x : List ℕ) (a : walks.Answer) → by_answer (λ fault. refuses (walk_refusal fault)) (print_cut verbose) (each_row verbose) x a ≡ print_by verbose x a
-unfolding rows_from each_row
-by_row verbose x (Ok (steps.Cell c)) = refl
-by_row verbose x (Ok steps.End) = refl
-by_row verbose x (Ok (steps.Tail at)) = refl
-by_row verbose x (Err faults.Device) = refl
-by_row verbose x (Err _) = refl
+refused_by : (verbose : Bool) (x : List ℕ) (fault : WalkFault) → print_by verbose x (Err fault) ≡ refuses (walk_refusal fault)
+unfolding rows_from
+refused_by verbose x faults.Device = refl
+refused_by verbose x _ = refl
 
--- the answer of a walk says what is printed from its place on
-pub printed : (verbose : Bool) (r : Range) (image : List ℕ) (w : Walking) (a : walks.Answer) → w.region ≡ r → w.at ≤ r.size → w.at % 64 ≡ 0 → LiesIn r image
-    → a ≡ answer_at (bytes_in w.region image) w.at → print_from verbose (bytes_in r image) w.at ≡ print_by verbose (bytes_in r image) a
-printed verbose r image w a same inside aligned lies is =
-    let x : List ℕ = bytes_in r image in
-    let here : answer_at x w.at ≡ a = ap (λ (k : Range). answer_at (bytes_in k image) w.at) (sym same) ∙ sym is in
-    shaped_step (λ fault. refuses (walk_refusal fault)) (print_cut verbose) (each_row verbose) (law verbose) x w.at (omega (arith, length-bytes_in r image lies, inside)) aligned
-    ∙ by_row verbose x (answer_at x w.at) ∙ ap (print_by verbose x) here
+-- how many calls show so many bytes of a region
+abbrev region_reads : Bool → ℕ → ℕ
+region_reads verbose n = if verbose then n / 4 else n / 16
 
--- the same of a cell, and what is printed after it
-pub printed-cell : (verbose : Bool) (r : Range) (image : List ℕ) (w : Walking) (next : ℕ) (c : Cell) → w.region ≡ r → w.at ≤ r.size → w.at % 64 ≡ 0 → LiesIn r image → c.at ≡ w.at → next ≡ w.at + c.span
-    → Ok (steps.Cell c) ≡ answer_at (bytes_in w.region image) w.at
-    → print_from verbose (bytes_in r image) w.at ≡ text_then (shown_cell verbose c.at (cell_of r c image)) (print_from verbose (bytes_in r image) next)
-printed-cell verbose r image w next c same inside aligned lies at later is =
-    printed verbose r image w (Ok (steps.Cell c)) same inside aligned lies is
-    ∙ ap (λ q. text_then (shown_cell verbose c.at (cell_of r c image)) (print_from verbose (bytes_in r image) q)) {x = c.at + c.span} {y = next} (omega arith)
-
--- how many calls show what is before a cell, and the cell
-pub reads_with : (verbose : Bool) (at span end : ℕ) → at % 64 ≡ 0 → span % 64 ≡ 0 → 64 ≤ span → at + span ≤ end
-    → region_reads verbose at + (1 + span / 3840 + cell_reads verbose span) ≤ region_reads verbose end
+-- how many show what is before a cell, and the cell
+reads_with : (verbose : Bool) (at span end : ℕ) → at % 64 ≡ 0 → span % 64 ≡ 0 → 64 ≤ span → at + span ≤ end
+    → region_reads verbose at + (1 + span / 3840 + (2 + span / 3840 + (if verbose then 1 + span / 8 + span / 3840 else 0))) ≤ region_reads verbose end
 reads_with true at span end a s some inside = omega arith
 reads_with false at span end a s some inside = omega arith
 
 -- and what is behind the last one
-pub reads_left : (verbose : Bool) (at size : ℕ) → at ≤ size → region_reads verbose at + (1 + (size - at) / 3840) ≤ region_reads verbose size + 2
+reads_left : (verbose : Bool) (at size : ℕ) → at ≤ size → region_reads verbose at + (1 + (size - at) / 3840) ≤ region_reads verbose size + 2
 reads_left true at size inside = omega arith
 reads_left false at size inside = omega arith
 
--- a step is no fault of the device
-pub step_told : (s : Step) (b : walks.Answer) → (let a : walks.Answer = Ok s in IsErrOf a faults.Device ⊎ (a ≡ b)) → Ok s ≡ b
-step_told s b (inl e) = absurd cc
-step_told s b (inr e) = e
-
--- a fault of the walk is told: the device's, or the region's
-told_by : (fault : WalkFault) (rest : Told) (out : Option (List ℕ)) → (let a : walks.Answer = Err fault in IsErrOf a faults.Device) ⊎ (rest ≡ refuses (walk_refusal fault))
-    → Tells out out (Err (walk_refusal fault)) rest
-told_by fault rest out (inl device) = let is : fault ≡ faults.Device = cc in rw is (inr (inr (refl, (0, omega arith, Appends-nil out))))
-told_by fault rest out (inr is) = rw is (inl (refl, Appends-nil out))
-
+-- a fault of the walk blames the device or no side
 counted : (fault : WalkFault) → walks.by_device fault ≡ by_device (walk_refusal fault)
 counted faults.Device = refl
 counted _ = refl
@@ -99,14 +72,93 @@ blames_no_other : (fault : WalkFault) → (walk_refusal fault ≡ refusals.Outpu
 blames_no_other faults.Device = (λ e. cc, λ e. cc)
 blames_no_other _ = (λ e. cc, λ e. cc)
 
-pub told-fault : {F W : Type 0} {facts : F → Device} {contents : W → Option (List ℕ)} {sinks : W → ℕ} {k : ℕ} {old new : Pages F} {out : W} (fault : WalkFault) (answer : Answer) (rest : List ℕ → Told)
-    → HasRead facts k (walks.by_device fault) old new → answer ≡ Err (walk_refusal fault)
-    → OnHonest facts old.device (λ image. (let a : walks.Answer = Err fault in IsErrOf a faults.Device) ⊎ (rest image ≡ refuses (walk_refusal fault)))
-    → HasTold facts contents sinks k old new out out answer rest
-told-fault {facts = facts} {contents = contents} {sinks = sinks} {k = k} {old = old} {new = new} {out = out} fault answer rest read is told = subst (λ (a : Answer). HasTold facts contents sinks k old new out out a rest) (sym is) (record {
-  read = subst (λ n. HasRead facts k n old new) (counted fault) read;
-  sink = omega arith;
-  output = λ failed. absurd ((blames_no_other fault).0 cc);
-  no_source = λ failed. (blames_no_other fault).1 cc;
-  told = λ h. told_by fault (rest (facts old.device).content) (contents out) (told h);
-})
+-- ---- the loop over a region's cells
+
+-- a walk stands at a place of the region, and what is printed of the cells before it is told
+pub record PrintedTo {F W : Type 0} (facts : F → Device) (contents : W → Option (List ℕ)) (sinks : W → ℕ) (verbose : Bool) (r : Range) (old now : Pages F) (before after : W) (w : Walking) : Type 0 where
+  pub region : w.region ≡ r
+  pub going : w.ended ≡ None
+  pub inside : w.at ≤ r.size
+  pub aligned : w.at % 64 ≡ 0
+  pub told : ToldSoFar facts contents sinks (region_reads verbose w.at) (λ image. print_region (bytes_in r image) verbose) (λ image. print_from verbose (bytes_in r image) w.at) old now before after
+
+-- and the walk answers
+module _ {F W : Type 0} {facts : F → Device} {contents : W → Option (List ℕ)} {sinks : W → ℕ} {verbose : Bool} {r : Range} {old now next : Pages F} {before after : W} {w : Walking}
+    (p : PrintedTo facts contents sinks verbose r old now before after w) (lies : LiesIn r (facts old.device).content) (a : walks.Answer)
+    (read : HasRead facts (reads_at w.region.size w.at a) (faults_told walks.by_device a) now next)
+    (answer : OnHonestIn facts now.device w.region (λ x. w.ended ≡ None → IsErrOf a faults.Device ⊎ (a ≡ answer_at x w.at))) where
+  abbrev Printed : Pages F → W → Answer → Type 0
+  Printed new out result = HasTold facts contents sinks (region_reads verbose r.size + 2) old new before out result (λ image. print_region (bytes_in r image) verbose)
+
+  size : w.region.size ≡ r.size
+  size = ap (λ (q : Range). q.size) p.region
+
+  -- what is printed from there on
+  rest : OnHonest facts now.device (λ image. IsErrOf a faults.Device ⊎ (print_from verbose (bytes_in r image) w.at ≡ print_by verbose (bytes_in r image) a))
+  rest h = elim (answer h p.going) [
+    | inl device ↦ inl device
+    | inr is ↦ inr (
+        let image : List ℕ = (facts now.device).content in
+        let x : List ℕ = bytes_in r image in
+        let lies_now : LiesIn r image = omega (arith, lies, p.told.reads.device.calls.same_length) in
+        let here : answer_at x w.at ≡ a = ap (λ (k : Range). answer_at (bytes_in k image) w.at) (sym p.region) ∙ sym is in
+        shaped_step (λ fault. refuses (walk_refusal fault)) (print_cut verbose) (each_row verbose) (law verbose) x w.at (omega (arith, length-bytes_in r image lies_now, p.inside)) p.aligned
+        ∙ ap (print_by verbose x) here)
+  ]
+
+  -- a step is no fault of the device
+  rest-step : (s : Step) → a ≡ Ok s → OnHonest facts now.device (λ image. print_from verbose (bytes_in r image) w.at ≡ print_by verbose (bytes_in r image) (Ok s))
+  rest-step s is h = elim (rw is at (rest h)) [
+    | inl device ↦ absurd cc
+    | inr e ↦ e
+  ]
+
+  module _ (c : Cell) (is : a ≡ Ok (steps.Cell c)) (cell : GivesCell w.region.size w.at a) where
+    abbrev few : ℕ
+    few = 2 + c.span / 3840 + (if verbose then 1 + c.span / 8 + c.span / 3840 else 0)
+
+    abbrev Shown : ℕ → Pages F → Pages F → W → Answer → Type 0
+    Shown n from new out result = HasTold facts contents sinks n from new after out result (λ image. shows (shown_cell verbose c.at (cell_of r c image)))
+
+    given : IsCellIn w.region.size c × (c.at ≡ w.at)
+    given = rw is at cell
+
+    others : OnHonest facts now.device (λ image. print_from verbose (bytes_in r image) w.at ≡ text_then (shown_cell verbose c.at (cell_of r c image)) (print_from verbose (bytes_in r image) (w.at + c.span)))
+    others h = let image : List ℕ = (facts now.device).content in rest-step (steps.Cell c) is h ∙ ap (λ q. text_then (shown_cell verbose c.at (cell_of r c image)) (print_from verbose (bytes_in r image) (q + c.span))) given.1
+
+    -- its lines are put after the walk's reads
+    lines : {new : Pages F} {out : W} {result : Answer} → Shown few next new out result → Shown (1 + c.span / 3840 + few) now new out result
+    lines told = told-after told _ (rw is at read) (omega arith)
+
+    pub printed-more : {new : Pages F} {out : W} → Shown few next new out (Ok tt) → (v : Walking) → v ≡ moved w a → PrintedTo facts contents sinks verbose r old new before out v
+    printed-more {new} {out} told v is_moved = subst (λ (u : Walking). PrintedTo facts contents sinks verbose r old new before out u) (sym (rw is at is_moved)) (record {
+      region = p.region;
+      going = p.going;
+      inside = omega (arith, given.0.inside, given.1, size);
+      aligned = omega (arith, p.aligned, given.0.whole);
+      told = so_far-more p.told _ _ (lines told) others (reads_with verbose w.at c.span (w.at + c.span) p.aligned given.0.whole given.0.positive (omega arith));
+    })
+
+    pub printed-stops : {new : Pages F} {out : W} {refusal : Refusal} {result : Answer} → Shown few next new out (Err refusal) → IsErrAnd result (λ x. x ≡ refusal) → Printed new out result
+    printed-stops told stopped =
+        so_far-ends p.told _ (told-stopped (λ image. print_from verbose (bytes_in r image) (w.at + c.span)) (lines told) stopped) others
+        (omega (arith, reads_with verbose w.at c.span r.size p.aligned given.0.whole given.0.positive (omega (arith, given.0.inside, given.1, size))))
+
+  ends : (s : Step) → a ≡ Ok s → ((x : List ℕ) → print_by verbose x (Ok s) ≡ shows []) → HasRead facts (1 + (w.region.size - w.at) / 3840) 0 now next → Printed next after (Ok tt)
+  ends s is none few =
+      so_far-ends p.told _ (told-after (told-none next after) (1 + (w.region.size - w.at) / 3840) few (omega arith)) (λ h. rest-step s is h ∙ none _)
+      (omega (arith, reads_left verbose w.at r.size p.inside, size))
+
+  pub printed-done : (s : Step) → a ≡ Ok s → ((c : Cell) → s ≡ steps.Cell c → ⊥) → Printed next after (Ok tt)
+  unfolding rows_from
+  printed-done (steps.Cell c) is not = absurd (not c refl)
+  printed-done steps.End is not = ends steps.End is (λ x. refl) (rw is at read)
+  printed-done (steps.Tail at) is not = ends (steps.Tail at) is (λ x. refl) (rw is at read)
+
+  pub printed-failed : (fault : WalkFault) → a ≡ Err fault → {result : Answer} → IsErrAnd result (λ x. x ≡ walk_refusal fault) → Printed next after result
+  printed-failed fault is failed =
+      let none = blames_no_other fault in
+      so_far-ends p.told _ (told-refusal (λ image. print_from verbose (bytes_in r image) w.at) failed (rw (is, counted fault) at read) none.0 none.1 (λ h. elim (rw is at (rest h)) [
+        | inl device ↦ inl (let same : fault ≡ faults.Device = cc in ap walk_refusal same)
+        | inr e ↦ inr (e ∙ refused_by verbose (bytes_in r (facts now.device).content) fault)
+      ])) (λ h. refl) (omega (arith, reads_left verbose w.at r.size p.inside, size))

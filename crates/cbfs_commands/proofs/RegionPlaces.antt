@@ -1,18 +1,17 @@
 -- A region of a name lies in its image, and what is written over it depends on its own bytes alone.
-use Rattle.std.proofs.Common.{◌≡◌, inl, inr, ℕ, ◌+◌, ◌≤◌, Bool, true, false, cond, List, ◌++◌, length, take, drop, Option, Some, None, Result, Ok, Err, refl, sym, ◌∙◌, ap, arith}
-use Rattle.std.specs.Prelude.{nat_lt}
+use Rattle.std.proofs.Common.{◌≡◌, inl, inr, ℕ, ◌+◌, ◌≤◌, Bool, true, false, cond, List, length, take, drop, Option, Some, None, Result, Ok, Err, refl, sym, ◌∙◌, ap, arith}
+use Rattle.std.specs.Prelude.{nat_lt, slice_range}
 use Rattle.std.proofs.lemmas.Bool.{cases_lt}
 use Rattle.std.proofs.lemmas.Bool.Decides.{nat_tests}
-use Rattle.std.proofs.lemmas.List.{append-nil, drop_all, drop_at, take-append-le, length-take-le}
+use Rattle.std.proofs.lemmas.List.{take-take}
 use Rattle.flash_format.specs.declared.flashmap.Area.{Area}
 use Rattle.flash_format.specs.Flashmap.{map_of, area_in}
 use Rattle.flash_store.specs.Bytes.{overwritten}
 use Rattle.flash_store.specs.Regions.{Range, LiesIn, bytes_in, inside, region_of, region_under}
 use Rattle.flash_store.specs.declared.fmap.StoreFault.{StoreFault}
 use Rattle.flash_store.specs.declared.fmap.StoreFault.TheVariants as faults
-use Rattle.flash_store.proofs.BytesLemmas.{slice_range_is}
-use Rattle.flash_store.proofs.DeviceLemmas.{length-bytes_in}
-use Rattle.flash_store.proofs.RegionLemmas.{image_is, written_in}
+use Rattle.flash_store.proofs.BytesLemmas.{overwritten-range, slice_range_is}
+use Rattle.flash_store.proofs.RegionLemmas.{written_in}
 
 range_size : (r : Range) (start size : ℕ) → (let p : Range = record { start = start; size = size } in p) ≡ r → r.start + r.size ≡ start + size
 range_size r start size is = ap (λ (p : Range). p.start + p.size) (sym is)
@@ -38,17 +37,11 @@ region_lies image name r is = go (map_of image) is
 
 -- ---- bytes over a region
 
--- a region's own bytes over it
-pub same_over : (r : Range) (image : List ℕ) → LiesIn r image → overwritten image r.start (bytes_in r image) ≡ image
-same_over r image lies = sym (image_is r image image (bytes_in r image) lies refl (record { before = refl; after = refl }) refl)
-
--- bytes that are longer than the region
+-- those that are longer than the region
 longer : (r : Range) (image u : List ℕ) → LiesIn r image → r.size ≤ length u → bytes_in r (overwritten image r.start u) ≡ take r.size u
 longer r image u lies long =
-    let rest : List ℕ = drop (r.start + length u) image in
-    slice_range_is (overwritten image r.start u) r.start r.size
-    ∙ ap (λ (l : List ℕ). take r.size l) (drop_at (take r.start image) (u ++ rest) r.start (length-take-le r.start image (omega (arith, lies))))
-    ∙ take-append-le r.size u rest long
+    slice_range_is (overwritten image r.start u) r.start r.size ∙ sym (take-take r.size (length u) (drop r.start (overwritten image r.start u)) long)
+    ∙ ap (λ (l : List ℕ). take r.size l) (sym (slice_range_is (overwritten image r.start u) r.start (length u)) ∙ overwritten-range image r.start u (omega (arith, lies)))
 
 shorter : (r : Range) (image u : List ℕ) → LiesIn r image → length u ≤ r.size → bytes_in r (overwritten image r.start u) ≡ overwritten (bytes_in r image) 0 u
 shorter r image u lies short =
@@ -61,10 +54,6 @@ alike_over r image other u lies lies_other same = elim (cases_lt r.size (length 
   | inr short ↦ shorter r other u lies_other short ∙ ap (λ (l : List ℕ). overwritten l 0 u) same ∙ sym (shorter r image u lies short)
 ]
 
--- bytes over a whole list
-overwritten-whole : (x u : List ℕ) → length u ≡ length x → overwritten x 0 u ≡ u
-overwritten-whole x u size = ap (λ (l : List ℕ). u ++ l) (drop_all (0 + length u) x (omega arith)) ∙ append-nil u
-
--- and over a whole region
+-- those over a whole region
 pub whole_over : (r : Range) (image u : List ℕ) → LiesIn r image → length u ≡ r.size → bytes_in r (overwritten image r.start u) ≡ u
-whole_over r image u lies size = shorter r image u lies (omega (arith, size)) ∙ overwritten-whole (bytes_in r image) u (size ∙ sym (length-bytes_in r image lies))
+whole_over r image u lies size = ap (λ n. slice_range (overwritten image r.start u) r.start (r.start + n)) (sym size) ∙ overwritten-range image r.start u (omega (arith, lies))

@@ -1,5 +1,5 @@
 -- What is told piece by piece: a text that was written, and then what the rest of a call does.
-use Rattle.std.proofs.Common.{◌≡◌, ℕ, ◌+◌, ◌<◌, ◌≤◌, IsTrue, inl, inr, List, [], ◌++◌, length, take, Option, Ok, Err, refl, sym, ap, ◌∙◌, subst, arith, length-append, append_assoc}
+use Rattle.std.proofs.Common.{◌≡◌, ℕ, ◌+◌, ◌<◌, ◌≤◌, ◌⊎◌, IsTrue, inl, inr, List, [], ◌++◌, length, take, Option, Ok, Err, refl, sym, ap, ◌∙◌, subst, arith, length-append, append_assoc}
 use Rattle.std.specs.Prelude.{OnErr}
 use Rattle.std.proofs.lemmas.List.{take-append-le}
 use Rattle.std.proofs.Math.Seq.{take-append-add}
@@ -15,7 +15,12 @@ use Rattle.cbfs_walk.specs.Walks.{StandsIn}
 use Rattle.cbfs_walk.specs.declared.cell.Cell.{Cell}
 use Rattle.cbfs_commands.specs.declared.refusal.Refusal.{Refusal}
 use Rattle.cbfs_commands.specs.declared.refusal.Refusal.TheVariants as refusals
-use Rattle.cbfs_commands.specs.Told.{Answer, HasTold, IsCellOf, Told, shows, text_then, Tells}
+use Rattle.cbfs_commands.specs.Refusals.{by_device}
+use Rattle.cbfs_commands.specs.Told.{Answer, HasTold, IsCellOf, Told, refuses, shows, Tells}
+
+-- a text, and then what is told
+abbrev pub text_then : List ℕ → Told → Told
+text_then text t = record { written = text ++ t.written; answer = t.answer }
 
 -- a text was written, and then some of the first of another
 first_of_both : (old mid new : Option (List ℕ)) (text rest : List ℕ) (n : ℕ) → Appends old mid text → Appends mid new (take n rest)
@@ -85,14 +90,6 @@ module _ {F W : Type 0} {facts : F → Device} {contents : W → Option (List �
   }
 
   module _ {n : ℕ} {whole rest : List ℕ → Told} {old mid : Pages F} {a b : W} (p : ToldSoFar facts contents faults n whole rest old mid a b) where
-    -- what is told of the rest is told of the whole
-    pub so_far-told : (c : W) (answer : Answer) → OnHonest facts mid.device (λ image. Tells (contents b) (contents c) answer (rest image))
-        → OnHonest facts old.device (λ image. Tells (contents a) (contents c) answer (whole image))
-    so_far-told c answer told h =
-        let so_far = p.told h in
-        let here = subst (λ (l : List ℕ). Tells (contents b) (contents c) answer (rest l)) (p.reads.device.unchanged h) (told (honest_still p.reads.device.calls.same_honesty h)) in
-        subst (λ (u : Told). Tells (contents a) (contents c) answer u) (sym so_far.is) (tells-then _ _ _ answer so_far.text _ so_far.written here)
-
     module _ {k : ℕ} {new : Pages F} {c : W} where
       -- one text more
       pub so_far-more : {text : List ℕ → List ℕ} (m : ℕ) (next : List ℕ → Told) → HasTold facts contents faults k mid new b c (Ok tt) (λ image. shows (text image))
@@ -122,7 +119,12 @@ module _ {F W : Type 0} {facts : F → Device} {contents : W → Option (List �
         sink = omega (arith, p.sink, last.sink);
         output = λ failed. omega (arith, p.sink, last.output failed);
         no_source = last.no_source;
-        told = so_far-told c answer (λ h. subst (λ (u : Told). Tells (contents b) (contents c) answer u) (sym (is h)) (last.told h));
+        told = λ h.
+            let so_far = p.told h in
+            let still = honest_still p.reads.device.calls.same_honesty h in
+            let here = subst (λ (u : Told). Tells (contents b) (contents c) answer u) (sym (is still)) (last.told still) in
+            subst (λ (u : Told). Tells (contents a) (contents c) answer u) (sym so_far.is)
+            (tells-then _ _ _ answer so_far.text _ so_far.written (subst (λ (l : List ℕ). Tells (contents b) (contents c) answer (rest l)) (p.reads.device.unchanged h) here));
       }
 
   module _ {k : ℕ} {old mid new : Pages F} {a b : W} {answer : Answer} {t : List ℕ → Told} (told : HasTold facts contents faults k mid new a b answer t) where
@@ -176,15 +178,19 @@ module _ {F W : Type 0} {facts : F → Device} {contents : W → Option (List �
     told = λ h. inl (refl, Appends-nil (contents out));
   }
 
-  -- the device has failed
-  pub told-failed : {k : ℕ} {old new : Pages F} (out : W) (t : List ℕ → Told) → HasRead facts k 1 old new → HasTold facts contents faults k old new out out (Err refusals.Device) t
-  told-failed out t read = record {
+  -- nothing is told but a refusal: the device's, or the one that is all there is to tell
+  pub told-refusal : {k : ℕ} {old new : Pages F} {out : W} {refusal : Refusal} {answer : Answer} (t : List ℕ → Told) → IsErrAnd answer (λ r. r ≡ refusal) → HasRead facts k (by_device refusal) old new
+      → (refusal ≡ refusals.Output → ⊥) → (refusal ≡ refusals.Source → ⊥) → OnHonest facts old.device (λ image. (refusal ≡ refusals.Device) ⊎ (t image ≡ refuses refusal)) → HasTold facts contents faults k old new out out answer t
+  told-refusal {k} {old} {new} {out} {refusal} {answer} t is read no_output no_source told = subst (λ (r : Answer). HasTold facts contents faults k old new out out r t) (handed answer refusal is) (record {
     read = read;
     sink = omega arith;
-    output = λ failed. absurd cc;
-    no_source = λ failed. absurd cc;
-    told = λ h. inr (inr (refl, (0, omega arith, Appends-nil (contents out))));
-  }
+    output = λ failed. absurd (no_output cc);
+    no_source = λ failed. no_source cc;
+    told = λ h. elim (told h) [
+      | inl device ↦ rw device (inr (inr (refl, (0, omega arith, Appends-nil (contents out)))))
+      | inr only ↦ rw only (inl (refl, Appends-nil (contents out)))
+    ];
+  })
 
 -- a cell stands where it stood before reads
 pub still_cell : {F : Type 0} {facts : F → Device} {region : Range} {cell : Cell} {n refused : ℕ} {old new : Pages F} → HasRead facts n refused old new

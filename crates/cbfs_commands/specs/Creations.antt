@@ -9,19 +9,20 @@ use Rattle.flash_format.specs.declared.flashmap.Area.{Area}
 use Rattle.flash_format.specs.Flashmap.{fmap_head_len, map_len, areas_from, is_area}
 use Rattle.flash_store.specs.Bytes.{overwritten}
 use Rattle.flash_store.specs.Fmap.{map_head}
-use Rattle.flash_store.specs.Regions.{Range, bytes_in, inside}
+use Rattle.flash_store.specs.Laws.{edited}
+use Rattle.flash_store.specs.Regions.{Range, inside}
 use Rattle.cbfs_walk.specs.Shapes.{has_bad_size}
 use Rattle.cbfs_edit.specs.Formats.{formatted}
 use Rattle.cbfs_commands.specs.declared.plan.Plan.{Plan}
 use Rattle.cbfs_commands.specs.declared.refusal.Refusal.{Refusal}
 use Rattle.cbfs_commands.specs.declared.refusal.Refusal.TheVariants as refusals
-use Rattle.cbfs_commands.specs.Refusals.{and_then, itself, store_refusal}
+use Rattle.cbfs_commands.specs.Refusals.{fault_or, store_refusal}
 
 -- ---- the table
 
 -- the head of the table that a source begins with, where it states n bytes
 abbrev pub head_for : ℕ → List ℕ → Result FmapHead Refusal
-head_for n source = and_then itself (ok_or (map_head source) refusals.TableBad) (λ head. if head.size == n then Ok head else Err refusals.TableBad)
+head_for n source = fault_or Err (ok_or (map_head source) refusals.TableBad) (λ head. if head.size == n then Ok head else Err refusals.TableBad)
 
 -- the first of these areas with the name
 abbrev pub first_area : List Area → List ℕ → Option Area
@@ -31,16 +32,16 @@ first_area areas name = find (is_area name) areas
 
 -- where the map's area lies in an image of n bytes; it has room for a table of this length
 abbrev pub map_place : ℕ → ℕ → Option Area → Result Range Refusal
-map_place n len area = and_then (λ fault. refusals.FmapArea) (inside n area) (λ place. if nat_lt place.size len then Err refusals.FmapArea else Ok place)
+map_place n len area = fault_or (λ fault. Err refusals.FmapArea) (inside n area) (λ place. if nat_lt place.size len then Err refusals.FmapArea else Ok place)
 
 -- where a region's area lies in an image of n bytes; it has the size of a CBFS
 abbrev pub region_place : ℕ → Option Area → Result Range Refusal
-region_place n area = and_then store_refusal (inside n area) (λ place. if has_bad_size place.size then Err refusals.RegionShape else Ok place)
+region_place n area = fault_or (λ fault. Err (store_refusal fault)) (inside n area) (λ place. if has_bad_size place.size then Err refusals.RegionShape else Ok place)
 
 -- where they all lie, or the first refusal
 abbrev pub region_places : ℕ → List (Option Area) → Result (List Range) Refusal
 region_places n [] = Ok []
-region_places n (area ∷ areas) = and_then itself (region_place n area) (λ place. and_then itself (region_places n areas) (λ places. Ok (place ∷ places)))
+region_places n (area ∷ areas) = fault_or Err (region_place n area) (λ place. fault_or Err (region_places n areas) (λ places. Ok (place ∷ places)))
 
 -- two ranges have a byte in common
 abbrev pub overlap : Range → Range → Bool
@@ -56,14 +57,14 @@ some_overlap (place ∷ places) = list_any (overlap place) places || some_overla
 -- the plan of an image of n bytes, by the length of its table, the map's area and those of the regions
 unfoldable pub plan_of : ℕ → ℕ → Option Area → List (Option Area) → Result Plan Refusal
 plan_of n len area areas =
-    and_then itself (map_place n len area) (λ map.
-    and_then itself (region_places n areas) (λ regions.
+    fault_or Err (map_place n len area) (λ map.
+    fault_or Err (region_places n areas) (λ regions.
     if some_overlap (map ∷ regions) then Err refusals.FmapArea else Ok (record { map = map; map_len = len; regions = record { items = regions } })))
 
 -- the plan of an image of n bytes with these regions, by the table that the source begins with
 unfoldable pub plan_for : ℕ → List (List ℕ) → List ℕ → Result Plan Refusal
 plan_for n names source =
-    and_then itself (head_for n source) (λ head.
+    fault_or Err (head_for n source) (λ head.
     let areas = areas_from head.nareas (drop fmap_head_len source) in
     plan_of n (map_len head) (first_area areas (codes "FMAP")) (map (first_area areas) names))
 
@@ -82,10 +83,6 @@ pub record Fits (n m : ℕ) (plan : Plan) : Type 0 where
 
 -- ---- the image
 
--- the image with one empty entry over a region
-abbrev pub formatted_at : List ℕ → Range → List ℕ
-formatted_at image place = overwritten image place.start (formatted (bytes_in place image))
-
--- 0xff throughout, then the table in its area, then the regions in order
+-- 0xff throughout, then the table in its area, then the regions in order, each as one empty entry
 abbrev pub created : ℕ → Plan → List ℕ → List ℕ
-created n plan source = fold formatted_at (overwritten (replicate n 0xff) plan.map.start (take plan.map_len source)) plan.regions.items
+created n plan source = fold (λ image place. edited place formatted image) (overwritten (replicate n 0xff) plan.map.start (take plan.map_len source)) plan.regions.items

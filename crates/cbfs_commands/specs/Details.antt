@@ -1,6 +1,6 @@
 -- What `print -v` adds after a component's row: a line for each attribute, and one for its digest. The forms of the texts
 -- are this project's own.
-use Rattle.std.specs.Prelude.{ℕ, ◌+◌, ◌/◌, Bool, not, ◌&&◌, List, [], ◌∷◌, ◌++◌, length, map, if◌then◌else◌}
+use Rattle.std.specs.Prelude.{ℕ, ◌+◌, Bool, not, ◌&&◌, List, [], ◌∷◌, ◌++◌, length, map, if◌then◌else◌}
 use Rattle.std.specs.List.{flat_map}
 use Rattle.std.specs.Fmt.{decimal}
 use lib.Chars.{codes}
@@ -10,9 +10,8 @@ use Rattle.flash_format.specs.Head.{head_of, is_free}
 use Rattle.flash_format.specs.declared.attribute.AttrHead.{AttrHead}
 use Rattle.cbfs_walk.specs.AttrWalks.{head_of_attribute}
 use Rattle.flash_format.specs.Components.{cell_attributes, cell_content}
-use Rattle.flash_format.specs.Made.{digest_bytes}
+use Rattle.flash_format.specs.Made.{algorithm_row, algorithm, digest_bytes}
 use Rattle.flash_format.specs.declared.digest.Digest.{Digest}
-use Rattle.flash_format.specs.declared.digest.Digest.TheVariants as digests
 use Rattle.cbfs_walk.specs.Hashes.{hash_state}
 use Rattle.cbfs_walk.specs.declared.hashes.HashState.{HashState}
 use Rattle.cbfs_walk.specs.declared.hashes.HashState.TheVariants.{Absent, Valid, Invalid, Unsupported}
@@ -23,13 +22,9 @@ use Rattle.cbfs_commands.specs.Rows.{row}
 unfoldable pub attribute_line : AttrHead → List ℕ
 attribute_line head = codes "\tattr\t0x" ++ encode_lower (big_bytes 4 head.tag) ++ tab ++ decimal head.len ++ line_feed
 
-abbrev pub algorithm_name : Digest → List ℕ
-algorithm_name (digests.Sha256 bytes) = codes "sha256"
-algorithm_name (digests.Sha512 bytes) = codes "sha512"
-
 -- the line of a digest: its algorithm, its digits, and whether it is the content's
 abbrev pub digest_line : Digest → List ℕ → List ℕ
-digest_line d verdict = codes "\thash\t" ++ algorithm_name d ++ tab ++ encode_lower (digest_bytes d) ++ tab ++ verdict ++ line_feed
+digest_line d verdict = codes "\thash\t" ++ (algorithm_row (algorithm d)).name ++ tab ++ encode_lower (digest_bytes d) ++ tab ++ verdict ++ line_feed
 
 -- the line of what the first hash attribute says, where there is one
 unfoldable pub hash_line : HashState → List ℕ
@@ -54,13 +49,3 @@ shown_cell verbose at x = row at x ++ (if verbose && not (is_free (head_of x)) t
 unfoldable pub rows_from : Bool → ℕ → List (List ℕ) → List ℕ
 rows_from verbose at [] = []
 rows_from verbose at (x ∷ cells) = shown_cell verbose at x ++ rows_from verbose (at + length x) cells
-
--- ---- counts
-
--- how many calls show a cell of so many bytes
-abbrev pub cell_reads : Bool → ℕ → ℕ
-cell_reads verbose span = 2 + span / 3840 + (if verbose then 1 + span / 8 + span / 3840 else 0)
-
--- how many show so many bytes of a region
-abbrev pub region_reads : Bool → ℕ → ℕ
-region_reads verbose n = if verbose then n / 4 else n / 16

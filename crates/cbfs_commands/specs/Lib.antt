@@ -3,7 +3,6 @@ pub mod Refusals
 pub mod Rows
 pub mod Details
 pub mod Told
-pub mod Layouts
 pub mod Creations
 pub mod Outcomes
 pub mod Deeds

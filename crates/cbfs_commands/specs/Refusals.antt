@@ -5,7 +5,7 @@ use Rattle.flash_store.specs.declared.fmap.StoreFault.TheVariants as store
 use Rattle.flash_store.specs.declared.paged.CopyFault.{CopyFault}
 use Rattle.flash_store.specs.declared.paged.CopyFault.TheVariants as copy
 use Rattle.cbfs_walk.specs.declared.walk.WalkFault.{WalkFault}
-use Rattle.cbfs_walk.specs.declared.walk.WalkFault.TheVariants as walk
+use Rattle.cbfs_edit.specs.Refusals.{refusal_of}
 use Rattle.cbfs_edit.specs.declared.fault.EditFault.{EditFault}
 use Rattle.cbfs_edit.specs.declared.fault.EditFault.TheVariants as edit
 use Rattle.cbfs_commands.specs.declared.refusal.Refusal.{Refusal}
@@ -22,12 +22,6 @@ copy_refusal copy.Device = refusals.Device
 copy_refusal copy.Output = refusals.Output
 copy_refusal copy.Source = refusals.Source
 
-abbrev pub walk_refusal : WalkFault → Refusal
-walk_refusal walk.Device = refusals.Device
-walk_refusal walk.RegionShape = refusals.RegionShape
-walk_refusal walk.NotCbfs = refusals.NotCbfs
-walk_refusal (walk.Damaged at kind) = refusals.Damaged at kind
-
 abbrev pub edit_refusal : EditFault → Refusal
 edit_refusal edit.Device = refusals.Device
 edit_refusal edit.Source = refusals.Source
@@ -41,14 +35,14 @@ edit_refusal edit.BadName = refusals.BadName
 edit_refusal edit.BadType = refusals.BadType
 edit_refusal edit.BadAlign = refusals.BadAlign
 
--- a refusal of a command, as it is
-abbrev pub itself : Refusal → Refusal
-itself refusal = refusal
+-- an edit is refused as the walk that it stands on
+abbrev pub walk_refusal : WalkFault → Refusal
+walk_refusal fault = edit_refusal (refusal_of fault)
 
--- what comes of a value, or the refusal that its fault is told as
-abbrev pub and_then : {T U E : Type 0} → (E → Refusal) → Result T E → (T → Result U Refusal) → Result U Refusal
-and_then tell (Err fault) next = Err (tell fault)
-and_then tell (Ok value) next = next value
+-- what a fault is answered, or else what comes of the value
+abbrev pub fault_or : {T E A : Type 0} → (E → A) → Result T E → (T → A) → A
+fault_or refuse (Err fault) next = refuse fault
+fault_or refuse (Ok value) next = next value
 
 -- how many refused calls of the device a refusal tells, and how many of the source
 abbrev pub by_device : Refusal → ℕ

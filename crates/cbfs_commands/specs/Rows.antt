@@ -1,12 +1,20 @@
--- What `print` writes: a row for each cell of a region. The forms of the texts are this project's own.
-use Rattle.std.specs.Prelude.{ℕ, List, ◌++◌, ◌==◌, if◌then◌else◌, unwrap_or}
+-- What `print` writes, a row for each cell of a region, and `layout`: the place of an image's map, and its areas. The forms of
+-- the texts are this project's own.
+use Rattle.std.specs.Prelude.{ℕ, List, ◌++◌, ◌==◌, drop, if◌then◌else◌, Option, Some, None, unwrap_or}
+use Rattle.std.specs.List.{flat_map}
+use Rattle.std.specs.Option.{option_map_or}
 use Rattle.std.specs.Fmt.{decimal}
 use lib.Chars.{codes}
 use Rattle.flash_format.specs.Head.{head_of, is_free}
 use Rattle.flash_format.specs.Components.{cell_name, cell_attributes, packing}
 use Rattle.flash_format.specs.TypeNames.{name_of_type}
+use Rattle.flash_format.specs.Flashmap.{fmap_head_of, text_of, map_of, areas_at}
+use Rattle.flash_format.specs.declared.flashmap.FmapHead.{FmapHead}
+use Rattle.flash_format.specs.declared.flashmap.Area.{Area}
 use Rattle.flash_format.specs.declared.head.Head.{Head}
 use Rattle.printed_fields.specs.Printed.{hexadecimal, printed_name, tab, line_feed}
+use Rattle.cbfs_commands.specs.Told.{Told, shows, refuses}
+use Rattle.cbfs_commands.specs.declared.refusal.Refusal.TheVariants as refusals
 
 -- a type by its name, or else by its number
 unfoldable pub printed_type : ℕ → List ℕ
@@ -16,19 +24,25 @@ printed_type kind = unwrap_or (name_of_type kind) (hexadecimal kind)
 unfoldable pub printed_packing : ℕ → List ℕ
 printed_packing n = if n == 0 then codes "none" else (if n == 1 then codes "LZMA" else (if n == 2 then codes "LZ4" else hexadecimal n))
 
--- the first field of a row
-unfoldable pub label : Head → List ℕ → List ℕ
-label h name = if is_free h then codes "(empty)" else printed_name name
+-- The row of a cell at a place, by its head, its name where it has one, and the value of its compression: name, position,
+-- type, length of the content, and compression.
+unfoldable pub row_text : ℕ → Head → Option (List ℕ) → ℕ → List ℕ
+row_text at h name n =
+    option_map_or printed_name name (codes "(empty)") ++ tab ++ hexadecimal at ++ tab ++ printed_type h.kind ++ tab ++ decimal h.len ++ tab ++ printed_packing n ++ line_feed
 
--- the last field of a row
-unfoldable pub compression : Head → ℕ → List ℕ
-compression h n = if is_free h then codes "none" else printed_packing n
-
--- The row of a cell at a place, by its head, its name and the value of its compression: name, position, type, length
--- of the content, and compression.
-unfoldable pub row_text : ℕ → Head → List ℕ → ℕ → List ℕ
-row_text at h name n = label h name ++ tab ++ hexadecimal at ++ tab ++ printed_type h.kind ++ tab ++ decimal h.len ++ tab ++ compression h n ++ line_feed
-
--- the row of a cell of these bytes
+-- the row of a cell of these bytes; free space has neither a name nor a compression
 abbrev pub row : ℕ → List ℕ → List ℕ
-row at x = row_text at (head_of x) (cell_name x) (packing (cell_attributes x))
+row at x = if is_free (head_of x) then row_text at (head_of x) None 0 else row_text at (head_of x) (Some (cell_name x)) (packing (cell_attributes x))
+
+-- ---- layout
+
+-- the row of a map: its place, its name, its size and the number of its areas
+unfoldable pub map_row : ℕ → FmapHead → List ℕ
+map_row q h = codes "fmap" ++ tab ++ hexadecimal q ++ tab ++ printed_name (text_of h.name) ++ tab ++ decimal h.size ++ tab ++ decimal h.nareas ++ line_feed
+
+-- the row of an area: its name, its offset, its size and its flags
+unfoldable pub area_row : Area → List ℕ
+area_row a = printed_name (text_of a.name) ++ tab ++ hexadecimal a.offset ++ tab ++ decimal a.size ++ tab ++ hexadecimal a.flags ++ line_feed
+
+unfoldable pub layout : List ℕ → Told
+layout image = option_map_or (λ q. shows (map_row q (fmap_head_of (drop q image)) ++ flat_map area_row (areas_at image q))) (map_of image) (refuses refusals.NoFmap)

@@ -1,5 +1,5 @@
 -- What a command that changes nothing writes and answers, and what a call did of it.
-use Rattle.std.specs.Prelude.{◌≡◌, ℕ, ◌<◌, ◌≤◌, ◌⊎◌, IsErrOf, List, [], ◌++◌, Option, Result, Ok, Err, length, take}
+use Rattle.std.specs.Prelude.{◌≡◌, ℕ, ◌<◌, ◌≤◌, ◌⊎◌, IsErrOf, List, [], Option, Result, Ok, Err, length, take}
 use Rattle.std.specs.Io.KnownBytes.{Appends}
 use Rattle.flash_store.specs.Device.{Device, faults_told}
 use Rattle.flash_store.specs.Pages.{Pages, HasRead, OnHonest, OnHonestIn}
@@ -27,22 +27,10 @@ shows text = record { written = text; answer = Ok tt }
 abbrev pub refuses : Refusal → Told
 refuses refusal = record { written = []; answer = Err refusal }
 
--- what is told of a value, or the refusal that its fault is told as
-abbrev pub told_of : {T E : Type 0} → (E → Refusal) → Result T E → (T → Told) → Told
-told_of tell (Err fault) next = refuses (tell fault)
-told_of tell (Ok value) next = next value
-
--- a text, and then what is told
-abbrev pub text_then : List ℕ → Told → Told
-text_then text t = record { written = text ++ t.written; answer = t.answer }
-
--- known bytes grow by some of the first of bs, or by all of them
-abbrev pub AppendsPrefix : Option (List ℕ) → Option (List ℕ) → List ℕ → Type 0
-AppendsPrefix old new bs = (n : ℕ) × (n ≤ length bs) × Appends old new (take n bs)
-
 -- the writer failed, with a proper prefix of a text written, or the device failed, with some prefix of it written
 abbrev pub StopsWriting : Option (List ℕ) → Option (List ℕ) → Answer → List ℕ → Type 0
-StopsWriting old new answer text = ((answer ≡ Err refusals.Output) × AppendsPart old new text) ⊎ ((answer ≡ Err refusals.Device) × AppendsPrefix old new text)
+StopsWriting old new answer text =
+    ((answer ≡ Err refusals.Output) × AppendsPart old new text) ⊎ ((answer ≡ Err refusals.Device) × ((n : ℕ) × (n ≤ length text) × Appends old new (take n text)))
 
 -- the call has answered and written what is told, or has stopped writing it
 abbrev pub Tells : Option (List ℕ) → Option (List ℕ) → Answer → Told → Type 0

@@ -1,14 +1,15 @@
 //! The command `create`.
 
-ghost use Rattle.std.specs.Prelude.{◌≡◌, ◌+◌, ◌*◌, ◌/◌, ◌≤◌, All, fold, length, map, IsTrue, OnOk, OnErr, Err};
+ghost use Rattle.std.specs.Prelude.{◌≡◌, ◌+◌, ◌*◌, ◌/◌, ◌≤◌, All, fold, length, map, OnOk, OnErr, Err};
 ghost use Rattle.flash_store.specs.Device.{Calls, refusals};
+ghost use Rattle.flash_store.specs.Laws.{edited};
 ghost use Rattle.flash_store.specs.Pages.{OnHonest};
+ghost use Rattle.cbfs_edit.specs.Formats.{formatted};
 ghost use Rattle.cbfs_commands.specs.declared.table.TheConstants.{MOST_REGIONS};
-ghost use Rattle.cbfs_commands.specs.Creations.{Fits, IsPlace, created, formatted_at};
-ghost use Rattle.cbfs_commands.specs.Deeds.{HasChanged, MayHaveWritten, creates};
-ghost use Rattle.cbfs_commands.specs.Outcomes.{HasWritten};
+ghost use Rattle.cbfs_commands.specs.Creations.{IsPlace};
+ghost use Rattle.cbfs_commands.specs.Deeds.{HasChanged, creates};
 
-use crate::plan::{Plan, read_plan};
+use crate::plan::read_plan;
 use crate::refusal::Refusal;
 use cbfs_edit::{EditFault, format};
 use flash_store::{Flash, Paged, Region, Source};
@@ -21,7 +22,7 @@ fn format_place<F: Flash>(paged: &mut Paged<F>, place: Region) -> Result<(), Ref
         (F.facts paged.old.device) (F.facts paged.new.device) }
     ensures is { OnErr result (result ≡ Err Refusal.Device) }
     ensures formatted { OnHonest F.facts paged.old.device (λ image.
-        OnOk result ((F.facts paged.new.device).content ≡ formatted_at image place)) }
+        OnOk result ((F.facts paged.new.device).content ≡ edited place formatted image)) }
 {
     match format(paged, place) {
         Ok(()) => Ok(()),
@@ -37,33 +38,13 @@ fn format_all<F: Flash>(paged: &mut Paged<F>, mut places: &[Region]) -> Result<(
         (refusals result) (F.facts paged.old.device) (F.facts paged.new.device) }
     ensures is { OnErr result (result ≡ Err Refusal.Device) }
     ensures formatted { OnHonest F.facts paged.old.device (λ image.
-        OnOk result ((F.facts paged.new.device).content ≡ fold formatted_at image places.entry.now)) }
+        OnOk result ((F.facts paged.new.device).content ≡ fold (λ x place. edited place formatted x) image places.entry.now)) }
 {
     while let [place, rest @ ..] = places {
         format_place(paged, *place)?;
         places = rest;
     }
     Ok(())
-}
-
-/// Writes the image that is planned.
-fn write_plan<F: Flash, S: Source>(
-    paged: &mut Paged<F>,
-    plan: &Plan,
-    source: &mut S,
-) -> Result<(), Refusal>
-    requires { Fits (length (F.facts paged.old.device).content) (length (S.facts source.old).content) plan.now }
-
-    ensures after { HasWritten F.facts (length (F.facts paged.old.device).content / 128 + 34)
-        (length (S.facts source.old).content / 4096 + 1) paged.old paged.new (S.facts source.old) (S.facts source.new) result }
-    ensures is { MayHaveWritten result }
-    ensures created { OnHonest F.facts paged.old.device (λ image. IsTrue (S.facts source.old).honest →
-        OnOk result ((F.facts paged.new.device).content ≡ created (length image) plan.now (S.facts source.old).content)) }
-{
-    let image_len = paged.len();
-    paged.fill(0, image_len, 0xff)?;
-    paged.copy_in(plan.map.start(), plan.map_len, source)?;
-    format_all(paged, plan.regions.as_slice())
 }
 
 /// Makes the whole image from the flashmap that the source begins with: 0xff throughout, the table in the area FMAP, and each
@@ -79,5 +60,8 @@ pub fn create<F: Flash, S: Source>(
 {
     let image_len = paged.len();
     let plan = read_plan(names, source, image_len)?;
-    write_plan(paged, &plan, source)
+    paged.fill(0, image_len, 0xff)?;
+    paged.copy_in(plan.map.start(), plan.map_len, source)?;
+    format_all(paged, plan.regions.as_slice())?;
+    Ok(())
 }

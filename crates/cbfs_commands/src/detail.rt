@@ -11,7 +11,7 @@ ghost use Rattle.flash_format.specs.Components.{cell_attributes, cell_content};
 ghost use Rattle.printed_fields.specs.Printed.{Pushes};
 ghost use Rattle.cbfs_walk.specs.AttrWalks.{head_of_attribute};
 ghost use Rattle.cbfs_walk.specs.Hashes.{hash_state};
-ghost use Rattle.cbfs_commands.specs.Details.{algorithm_name, attribute_line, details, digest_line, hash_line, hash_text};
+ghost use Rattle.cbfs_commands.specs.Details.{attribute_line, details, digest_line, hash_line, hash_text};
 ghost use Rattle.cbfs_commands.specs.Told.{HasTold, IsCellOf, cell_of, shows};
 
 use crate::refusal::Refusal;
@@ -47,17 +47,6 @@ fn set_attribute_row(row: &mut Row, head: &AttrHead)
     push_text(row, b"\n");
 }
 
-/// The name of a digest's algorithm.
-fn push_algorithm(row: &mut Row, digest: &Digest)
-    requires { array_vec_len row.old + 6 ≤ ROW_LEN }
-    ensures { Pushes row.old (algorithm_name digest.now) 6 row.new }
-{
-    match digest {
-        Digest::Sha256(_) => push_text(row, b"sha256"),
-        Digest::Sha512(_) => push_text(row, b"sha512"),
-    }
-}
-
 /// The digits of a digest.
 fn push_digest(row: &mut Row, digest: &Digest)
     requires { array_vec_len row.old + 128 ≤ ROW_LEN }
@@ -75,7 +64,7 @@ fn set_digest_row(row: &mut Row, digest: &Digest, verdict: &[u8])
 {
     row.clear();
     push_text(row, b"\thash\t");
-    push_algorithm(row, digest);
+    push_text(row, digest.algorithm().name().as_bytes());
     push_text(row, b"\t");
     push_digest(row, digest);
     push_text(row, b"\t");
@@ -114,15 +103,11 @@ fn print_attributes<F: Flash, W: Sink>(
         (λ image. shows (flat_map attribute_line (map head_of_attribute (cell_attributes (cell_of region cell.now image))))) }
 {
     let mut walk = attributes(cell);
-    loop {
-        match walk.next(paged, region)? {
-            Some(head) => {
-                set_attribute_row(row, &head);
-                put_row(out, row)?;
-            }
-            None => return Ok(()),
-        }
+    while let Some(head) = walk.next(paged, region)? {
+        set_attribute_row(row, &head);
+        put_row(out, row)?;
     }
+    Ok(())
 }
 
 /// Writes the line of a component's digest.

@@ -2,9 +2,8 @@
 
 ghost use Rattle.std.specs.Prelude.{◌≡◌, ◌+◌, ◌*◌, ◌/◌, ◌<◌, ◌≤◌, ◌⊎◌, false, length, IsTrue, IsErrOf};
 ghost use Rattle.flash_store.specs.Device.{Calls, faults_told};
-ghost use Rattle.cbfs_commands.specs.Deeds.{MayHaveWritten, Serves, SparesOutside, change_of, deed, outcome, reads_source, source_calls, writes_output};
+ghost use Rattle.cbfs_commands.specs.Deeds.{Meets, MayHaveWritten, Serves, SparesOutside, change_of, deed, reads_source, source_calls, writes_output};
 ghost use Rattle.cbfs_commands.specs.Requests.{request_of};
-ghost use Rattle.cbfs_commands.specs.Outcomes.{Meets};
 ghost use Rattle.cbfs_commands.specs.Refusals.{by_device, by_source};
 
 use crate::add::add;
@@ -53,8 +52,8 @@ pub fn run<F: Flash, S: Source, W: Sink>(
 
     // On an honest device; where the command reads the source, from an honest one.
     ensures outcome { IsTrue (F.facts paged.old.device).honest → Serves (deed (request_of command.now)) (S.facts source.old) →
-        Meets (W.contents out.old) (W.contents out.new) (F.facts paged.new.device).content result
-        (outcome (deed (request_of command.now)) (F.facts paged.old.device).content (S.facts source.old).content) }
+        Meets (deed (request_of command.now)) (W.contents out.old) (W.contents out.new)
+        (F.facts paged.old.device).content (S.facts source.old).content (F.facts paged.new.device).content result }
     ensures stopped { IsTrue (F.facts paged.old.device).honest → Serves (deed (request_of command.now)) (S.facts source.old) →
         (change_of (deed (request_of command.now))).Stopped (F.facts paged.old.device).content (S.facts source.old).content result
         (F.facts paged.new.device).content }

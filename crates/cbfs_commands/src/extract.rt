@@ -3,8 +3,7 @@
 ghost use Rattle.std.specs.Prelude.{◌≡◌, ◌+◌, ◌*◌, ◌/◌, ◌<◌, ◌≤◌, false, length};
 ghost use Rattle.flash_format.specs.Components.{component_at};
 ghost use Rattle.flash_format.specs.Head.{is_free};
-ghost use Rattle.flash_store.specs.Regions.{LiesIn, bytes_in};
-ghost use Rattle.cbfs_commands.specs.Outcomes.{extract, extract_region, told_component};
+ghost use Rattle.cbfs_commands.specs.Outcomes.{extract_region, told_component, told_in};
 ghost use Rattle.cbfs_commands.specs.Told.{HasTold, IsCellOf, cell_of};
 
 use crate::read::copy_out;
@@ -34,26 +33,7 @@ fn extract_component<F: Flash, W: Sink>(
     copy_out(paged, start, u64::from(cell.head.len), out)
 }
 
-/// Writes the content of the first component of the name in a region, and walks no further than that component.
-fn extract_region<F: Flash, W: Sink>(
-    paged: &mut Paged<F>,
-    region: Region,
-    name: &[u8],
-    out: &mut W,
-) -> Result<(), Refusal>
-    requires { LiesIn region (F.facts paged.old.device).content }
-
-    ensures { HasTold F.facts W.contents W.faults (region.size / 16 + region.size / 3840 + 2)
-        paged.old paged.new out.old out.new result (λ image. extract_region (bytes_in region image) name.now) }
-{
-    match find(paged, region, name)? {
-        Some(cell) => extract_component(paged, region, &cell, out),
-        None => Err(Refusal::NotFound),
-    }
-}
-
-/// Writes the content of the first component of the name.
-#[tactic(auto, unfolding(crate::specs::Outcomes::extract))]
+/// Writes the content of the first component of the name, and walks no further than that component.
 pub fn extract<F: Flash, W: Sink>(
     paged: &mut Paged<F>,
     region: &[u8],
@@ -61,8 +41,11 @@ pub fn extract<F: Flash, W: Sink>(
     out: &mut W,
 ) -> Result<(), Refusal>
     ensures { HasTold F.facts W.contents W.faults (2 * length (F.facts paged.old.device).content + 64)
-        paged.old paged.new out.old out.new result (λ image. extract image region.now name.now) }
+        paged.old paged.new out.old out.new result (λ image. told_in image region.now (λ x. extract_region x name.now)) }
 {
     let region = flash_store::region(paged, region)?;
-    extract_region(paged, region, name, out)
+    match find(paged, region, name)? {
+        Some(cell) => extract_component(paged, region, &cell, out),
+        None => Err(Refusal::NotFound),
+    }
 }

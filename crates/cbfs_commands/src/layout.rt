@@ -3,7 +3,7 @@
 ghost use Rattle.std.specs.Prelude.{◌≡◌, ◌+◌, ◌*◌, ◌/◌, ◌<◌, ◌≤◌, length, drop, Ok, Err};
 ghost use Rattle.std.specs.List.{flat_map};
 ghost use Rattle.flash_format.specs.Flashmap.{fmap_head_len, area_len, map_len, area_of, areas_from};
-ghost use Rattle.cbfs_commands.specs.Layouts.{layout, map_row, area_row};
+ghost use Rattle.cbfs_commands.specs.Rows.{layout, map_row, area_row};
 ghost use Rattle.cbfs_commands.specs.Told.{HasTold, shows};
 
 use crate::refusal::Refusal;
@@ -13,7 +13,7 @@ use flash_format::Area;
 use flash_store::{Flash, FoundMap, Paged, Sink, area, find_fmap};
 use printed_fields::{push_hexadecimal, push_name, push_text};
 
-#[tactic(auto, unfolding(crate::specs::Layouts::map_row))]
+#[tactic(auto, unfolding(crate::specs::Rows::map_row))]
 fn set_map_row(row: &mut Row, map: &FoundMap)
     ensures { row.new.items ≡ map_row map.now.at map.now.head }
 {
@@ -30,7 +30,7 @@ fn set_map_row(row: &mut Row, map: &FoundMap)
     push_text(row, b"\n");
 }
 
-#[tactic(auto, unfolding(crate::specs::Layouts::area_row))]
+#[tactic(auto, unfolding(crate::specs::Rows::area_row))]
 fn set_area_row(row: &mut Row, area: &Area)
     ensures { row.new.items ≡ area_row area.now }
 {
@@ -83,7 +83,7 @@ fn list_areas<F: Flash, W: Sink>(
 }
 
 /// Writes the place of the image's map, and its areas.
-#[tactic(auto, unfolding(crate::specs::Layouts::layout))]
+#[tactic(auto, unfolding(crate::specs::Rows::layout))]
 pub fn layout<F: Flash, W: Sink>(paged: &mut Paged<F>, out: &mut W) -> Result<(), Refusal>
     ensures { HasTold F.facts W.contents W.faults (length (F.facts paged.old.device).content / 2
         + length (F.facts paged.old.device).content / area_len + 8) paged.old paged.new out.old out.new result layout }

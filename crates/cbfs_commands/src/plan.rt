@@ -6,7 +6,7 @@ ghost use Rattle.std.specs.Result.{result_map_both};
 ghost use Rattle.flash_format.specs.Flashmap.{area_len, map_len};
 ghost use Rattle.flash_store.specs.Device.{Reads, faults_told};
 ghost use Rattle.cbfs_commands.specs.Creations.{Fits, map_place, overlap, plan_for, plan_of, region_place, region_places, some_overlap};
-ghost use Rattle.cbfs_commands.specs.Refusals.{by_source, itself};
+ghost use Rattle.cbfs_commands.specs.Refusals.{by_source};
 
 use crate::refusal::Refusal;
 use crate::table::{MOST_REGIONS, first_areas, head_for};
@@ -52,7 +52,7 @@ fn region_places(
     image_len: u64,
 ) -> Result<ArrayVec<Region, MOST_REGIONS>, Refusal>
     requires { length areas.now ≤ MOST_REGIONS }
-    ensures { result_map_both (λ places. places.items) itself result ≡ region_places image_len areas.now }
+    ensures { result_map_both (λ places. places.items) (λ refusal. refusal) result ≡ region_places image_len areas.now }
 {
     let mut places = ArrayVec::new();
     for i in 0..areas.len() {

@@ -1,10 +1,10 @@
 //! The command `print`.
 
-ghost use Rattle.std.specs.Prelude.{◌≡◌, ◌+◌, ◌*◌, ◌/◌, ◌<◌, ◌≤◌, length, OnOk};
+ghost use Rattle.std.specs.Prelude.{◌≡◌, ◌+◌, ◌*◌, ◌/◌, ◌<◌, ◌≤◌, length, OnOk, if◌then◌else◌};
 ghost use Rattle.flash_store.specs.Pages.{HasAnswered, OnHonest};
 ghost use Rattle.flash_store.specs.Regions.{LiesIn, bytes_in};
-ghost use Rattle.cbfs_commands.specs.Outcomes.{print, print_region};
-ghost use Rattle.cbfs_commands.specs.Details.{cell_reads, region_reads, shown_cell};
+ghost use Rattle.cbfs_commands.specs.Outcomes.{print_region, told_in};
+ghost use Rattle.cbfs_commands.specs.Details.{shown_cell};
 ghost use Rattle.cbfs_commands.specs.Rows.{row};
 ghost use Rattle.cbfs_commands.specs.Told.{HasTold, IsCellOf, cell_of, shows};
 
@@ -30,13 +30,13 @@ fn set_cell_row<F: Flash>(
 {
     cells_stand_in_their_image();
     if cell.head.is_free() {
-        set_row_text(buffer, cell.at, &cell.head, &[], 0);
+        set_row_text(buffer, cell.at, &cell.head, None, 0);
         return Ok(());
     }
     let mut field = [0; 256];
     let len = name(paged, region, cell, &mut field)?;
     let value = packing(paged, region, cell)?;
-    set_row_text(buffer, cell.at, &cell.head, &field[..len], value);
+    set_row_text(buffer, cell.at, &cell.head, Some(&field[..len]), value);
     Ok(())
 }
 
@@ -68,8 +68,9 @@ fn print_cell<F: Flash, W: Sink>(
 ) -> Result<(), Refusal>
     requires { IsCellOf F.facts region cell.now paged.old.device }
 
-    ensures { HasTold F.facts W.contents W.faults (cell_reads verbose cell.now.span) paged.old paged.new out.old out.new result
-        (λ image. shows (shown_cell verbose cell.now.at (cell_of region cell.now image))) }
+    ensures { HasTold F.facts W.contents W.faults
+        (2 + cell.now.span / 3840 + (if verbose then 1 + cell.now.span / 8 + cell.now.span / 3840 else 0))
+        paged.old paged.new out.old out.new result (λ image. shows (shown_cell verbose cell.now.at (cell_of region cell.now image))) }
 {
     cells_stand_in_their_image();
     print_row(paged, region, cell, buffer, out)?;
@@ -88,22 +89,18 @@ fn print_region<F: Flash, W: Sink>(
 ) -> Result<(), Refusal>
     requires { LiesIn region (F.facts paged.old.device).content }
 
-    ensures { HasTold F.facts W.contents W.faults (region_reads verbose region.size + 2)
+    ensures { HasTold F.facts W.contents W.faults ((if verbose then region.size / 4 else region.size / 16) + 2)
         paged.old paged.new out.old out.new result (λ image. print_region (bytes_in region image) verbose) }
 {
     let mut buffer = ArrayVec::new();
     let mut walk = Walk::new(region);
-    loop {
-        match walk.next(paged)? {
-            Step::Cell(cell) => print_cell(paged, region, &cell, verbose, &mut buffer, out)?,
-            Step::Tail(_) => return Ok(()),
-            Step::End => return Ok(()),
-        }
+    while let Step::Cell(cell) = walk.next(paged)? {
+        print_cell(paged, region, &cell, verbose, &mut buffer, out)?;
     }
+    Ok(())
 }
 
 /// Lists the cells of a region.
-#[tactic(auto, unfolding(crate::specs::Outcomes::print))]
 pub fn print<F: Flash, W: Sink>(
     paged: &mut Paged<F>,
     name: &[u8],
@@ -111,7 +108,7 @@ pub fn print<F: Flash, W: Sink>(
     out: &mut W,
 ) -> Result<(), Refusal>
     ensures { HasTold F.facts W.contents W.faults (2 * length (F.facts paged.old.device).content + 64)
-        paged.old paged.new out.old out.new result (λ image. print image name.now verbose) }
+        paged.old paged.new out.old out.new result (λ image. told_in image name.now (λ x. print_region x verbose)) }
 {
     let region = flash_store::region(paged, name)?;
     print_region(paged, region, verbose, out)

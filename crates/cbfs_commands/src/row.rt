@@ -2,9 +2,11 @@
 
 ghost use Rattle.std.specs.Prelude.{◌≡◌, ◌+◌, ◌<◌, ◌≤◌, length, Err, OnErr};
 ghost use Rattle.std.specs.Fmt.{decimal};
+ghost use Rattle.std.specs.Option.{ForSome, option_copied, option_map_or};
+ghost use lib.Chars.{codes};
 ghost use Rattle.arrayvec.specs.ArrayVec.{array_vec_len};
-ghost use Rattle.printed_fields.specs.Printed.{Pushes};
-ghost use Rattle.cbfs_commands.specs.Rows.{printed_type, printed_packing, label, compression, row_text};
+ghost use Rattle.printed_fields.specs.Printed.{Pushes, printed_name};
+ghost use Rattle.cbfs_commands.specs.Rows.{printed_type, printed_packing, row_text};
 ghost use Rattle.cbfs_commands.specs.Told.{Tells, shows};
 
 use crate::refusal::Refusal;
@@ -52,40 +54,27 @@ fn push_packing(row: &mut Row, packing: u32)
     }
 }
 
-#[tactic(auto, unfolding(crate::specs::Rows::label))]
-fn push_label(row: &mut Row, head: &Head, name: &[u8])
+/// The name of a component, or what stands in place of one.
+fn push_label(row: &mut Row, name: Option<&[u8]>)
     requires room { array_vec_len row.old + 1020 ≤ ROW_LEN }
-    requires short { length name.now ≤ 255 }
-    ensures { Pushes row.old (label head.now name.now) 1020 row.new }
+    requires short { ForSome name (λ n. length n.now ≤ 255) }
+    ensures { Pushes row.old (option_map_or printed_name (option_copied name.entry) (codes "(empty)")) 1020 row.new }
 {
-    if head.is_free() {
-        push_text(row, b"(empty)");
-    } else {
-        push_name(row, name);
+    match name {
+        Some(name) => push_name(row, name),
+        None => push_text(row, b"(empty)"),
     }
 }
 
-#[tactic(auto, unfolding(crate::specs::Rows::compression))]
-fn push_compression(row: &mut Row, head: &Head, packing: u32)
-    requires { array_vec_len row.old + 18 ≤ ROW_LEN }
-    ensures { Pushes row.old (compression head.now packing) 18 row.new }
-{
-    if head.is_free() {
-        push_text(row, b"none");
-    } else {
-        push_packing(row, packing);
-    }
-}
-
-/// Makes this the row of the cell with this head at a place: its name, and the value of its first compression attribute.
-/// Of a free cell neither is looked at. What the row held before is dropped.
+/// Makes this the row of the cell with this head at a place: its name, where it has one, and the value of its compression.
+/// What the row held before is dropped.
 #[tactic(auto, unfolding(crate::specs::Rows::row_text))]
-pub fn set_row_text(row: &mut Row, at: u64, head: &Head, name: &[u8], packing: u32)
-    requires { length name.now ≤ 255 }
-    ensures { row.new.items ≡ row_text at head.now name.now packing }
+pub fn set_row_text(row: &mut Row, at: u64, head: &Head, name: Option<&[u8]>, packing: u32)
+    requires { ForSome name (λ n. length n.now ≤ 255) }
+    ensures { row.new.items ≡ row_text at head.now (option_copied name.entry) packing }
 {
     row.clear();
-    push_label(row, head, name);
+    push_label(row, name);
     push_text(row, b"\t");
     push_hexadecimal(row, at);
     push_text(row, b"\t");
@@ -93,7 +82,7 @@ pub fn set_row_text(row: &mut Row, at: u64, head: &Head, name: &[u8], packing: u
     push_text(row, b"\t");
     push_decimal(row, head.len);
     push_text(row, b"\t");
-    push_compression(row, head, packing);
+    push_packing(row, packing);
     push_text(row, b"\n");
 }
 

@@ -1,5 +1,5 @@
 -- An accepted addition: where it stands, what the region has after it, and what its calls have answered.
-use Rattle.std.proofs.Common.{◌≡◌, ◌≢◌, inl, inr, ℕ, ◌+◌, ◌-◌, ◌%◌, ◌^◌, ◌<◌, ◌≤◌, Bool, true, false, cond, eqb, ltb, ◌||◌, List, [], ◌∷◌, ◌++◌, length, drop, Contains, Option, Some, None, Ok, sym, ◌∙◌, ap, subst, refl, arith, length-append, ◌⊎◌, ⊎_elim, Result, Err}
+use Rattle.std.proofs.Common.{◌≡◌, inl, inr, ℕ, ◌+◌, ◌-◌, ◌%◌, ◌^◌, ◌<◌, ◌≤◌, Bool, true, false, cond, eqb, ltb, ◌||◌, List, [], ◌∷◌, ◌++◌, length, drop, Contains, Option, Some, None, Ok, sym, ◌∙◌, ap, subst, refl, arith, length-append, ◌⊎◌, ⊎_elim, Result, Err}
 use Rattle.std.specs.Prelude.{◌==◌, IsErrOf}
 use Rattle.std.specs.List.{list_any}
 use Rattle.std.proofs.lemmas.Bool.{cond_both, eqb-false, eqb-true, ltb-false, or_parts}
@@ -10,9 +10,8 @@ use Rattle.flash_format.specs.EmptyEntries.{empty_entry, padding}
 use Rattle.flash_format.specs.Cut.{cut}
 use Rattle.flash_format.specs.Components.{components}
 use Rattle.flash_format.specs.Splices.{spliced}
-use Rattle.flash_format.specs.Made.{IsDigest, IsMade, hash_len, meta_length, made_metadata}
-use Rattle.flash_format.specs.Placings.{HasOneMore, IsSpace, IsPlacing, made_component, space_cells}
-use Rattle.flash_format.specs.declared.digest.Digest.{Digest}
+use Rattle.flash_format.specs.Made.{IsDigest, IsMade, meta_length, made_metadata}
+use Rattle.flash_format.specs.Placings.{HasOneMore, IsSpace, IsPlacing, space_cells}
 use Rattle.flash_format.proofs.MadeLaws.{length-metadata, hash_as_long, made_as_long, made_alone}
 use Rattle.flash_format.proofs.Placed.{empty_is_space, components_placed}
 use Rattle.flash_store.specs.Bytes.{SameOutside}
@@ -20,22 +19,22 @@ use Rattle.flash_store.proofs.BytesLemmas.{SameOutside-overwritten, further, len
 use Rattle.cbfs_edit.specs.Groups.{IsCellRange}
 use Rattle.cbfs_edit.specs.Runs.{runs}
 use Rattle.cbfs_edit.specs.Removals.{kept_at, space_end}
-use Rattle.cbfs_edit.specs.Places.{IsWanted, IsFirstPlace, IsPlaceAmong, placing_in}
-use Rattle.cbfs_edit.specs.Placings.{Fits}
+use Rattle.cbfs_edit.specs.Places.{is_bad_align, IsWanted, IsFirstPlace, IsPlaceAmong, placing_in}
+use Rattle.cbfs_edit.specs.Places.{Fits}
 use Rattle.cbfs_edit.specs.Stops.{AddLeavesWhole, AddLeavesBefore, IsOldOrEmptied, written_to, IsInsertStop}
-use Rattle.cbfs_edit.specs.Additions.{NewComponent, AddsOne, added, addition_in, empty_between, cell_end, header_of, is_bad_align, is_bad_name, is_bad_type, kept_from, made_at, own_fault, unless_faulty, wanted_for, added_to, digest_of}
-use Rattle.cbfs_edit.specs.Laws.{AdditionsAddOneComponent}
+use Rattle.cbfs_edit.specs.Additions.{NewComponent, AddsOne, added, added_component, addition_in, empty_between, cell_end, header_of, is_bad_name, is_bad_type, kept_from, made_at, own_fault, wanted_for, added_to, digest_of}
+use Rattle.cbfs_edit.specs.Laws.{AdditionsAddOneComponent, IsAdded}
 use Rattle.cbfs_edit.specs.declared.fault.EditFault.{EditFault}
 use Rattle.cbfs_edit.specs.declared.group.Freed.{Freed}
 use Rattle.cbfs_edit.specs.declared.place.Spot.{Spot}
-use Rattle.cbfs_edit.specs.declared.place.Spot.TheVariants.{Aligned}
 use Rattle.cbfs_edit.specs.declared.place.Wanted.{Wanted}
 use Rattle.cbfs_edit.specs.declared.place.Place.{Place}
-use Rattle.cbfs_edit.proofs.Places.{IsAnsweredPlace, answered_place, fits_there, place_among-right}
+use Rattle.cbfs_edit.proofs.Places.{IsAnsweredPlace, answered_place, fits_there, first_place-right}
 use Rattle.cbfs_edit.proofs.Lists.{content_at}
 use Rattle.cbfs_edit.proofs.Runs.{IsRun, run_of, emptied_runs}
 use Rattle.cbfs_edit.proofs.Emptied.{emptied-wider, space_end-below, space_end-near, as_splice, emptied-stopped}
 use Rattle.cbfs_edit.proofs.Changes.{keeps}
+use Rattle.cbfs_edit.proofs.Insertions.{hash_short}
 use Rattle.std.specs.Option.{option_map_or}
 use Rattle.std.specs.Result.{result_ok}
 use Rattle.flash_store.specs.Regions.{Range, LiesIn, bytes_in}
@@ -46,18 +45,13 @@ use Rattle.sha2.proofs.Facts512.{length-sha512}
 use Rattle.cbfs_walk.specs.Hashes.{sha256_of, sha512_of}
 use Rattle.cbfs_edit.specs.declared.addition.HashChoice.{HashChoice}
 use Rattle.cbfs_edit.specs.declared.addition.HashChoice.TheVariants.{Plain, Sha256, Sha512}
-use Rattle.flash_format.specs.declared.digest.Digest.TheVariants as digests
 use Rattle.cbfs_edit.specs.declared.fault.EditFault.TheVariants as faults
 use Rattle.flash_store.specs.declared.paged.CopyFault.TheVariants as copies
 
 -- once the caller's own faults are looked at
-pub own-is : (x : List ℕ) (new : NewComponent) (spot : Spot) (own : Option EditFault) → own ≡ own_fault new.name new.kind spot → unless_faulty own (placing_in x new.name (wanted_for new spot)) ≡ addition_in x new spot
+pub own-is : (x : List ℕ) (new : NewComponent) (spot : Spot) (own : Option EditFault) → own ≡ own_fault new.name new.kind spot → option_map_or (λ fault. Err fault) own (placing_in x new.name (wanted_for new spot)) ≡ addition_in x new spot
 unfolding addition_in
-own-is x new spot own is = ap (λ (o : Option EditFault). unless_faulty o (placing_in x new.name (wanted_for new spot))) is
-
-good_spot : (spot : Spot) → is_bad_align spot ≡ false → (let none : Spot = Aligned 0 in spot ≢ none)
-good_spot (Aligned unit) good = λ e. absurd (let same : unit ≡ 0 = cc in eqb-false unit 0 good same)
-good_spot other good = λ e. absurd cc
+own-is x new spot own is = ap (λ (o : Option EditFault). option_map_or (λ fault. Err fault) o (placing_in x new.name (wanted_for new spot))) is
 
 -- ---- an accepted addition
 
@@ -65,7 +59,7 @@ record IsAccepted (x : List ℕ) (new : NewComponent) (spot : Spot) (place : Pla
   name_short : length new.name ≤ 127
   name_plain : list_any is_nul new.name ≡ false
   kind_good : is_bad_type new.kind ≡ false
-  spot_good : (let none : Spot = Aligned 0 in spot ≢ none)
+  spot_good : is_bad_align spot ≡ false
   placed : placing_in x new.name (wanted_for new spot) ≡ Ok place
 
 accepted : (x : List ℕ) (new : NewComponent) (spot : Spot) (place : Place) → addition_in x new spot ≡ Ok place → IsAccepted x new spot place
@@ -73,7 +67,7 @@ unfolding addition_in
 accepted x new spot place is = go (is_bad_name new.name) (is_bad_type new.kind) (is_bad_align spot) refl refl refl is
   where
     go : (n k s : Bool) → is_bad_name new.name ≡ n → is_bad_type new.kind ≡ k → is_bad_align spot ≡ s
-        → unless_faulty (cond n (Some faults.BadName) (cond k (Some faults.BadType) (cond s (Some faults.BadAlign) None))) (placing_in x new.name (wanted_for new spot)) ≡ Ok place → IsAccepted x new spot place
+        → option_map_or (λ fault. Err fault) (cond n (Some faults.BadName) (cond k (Some faults.BadType) (cond s (Some faults.BadAlign) None))) (placing_in x new.name (wanted_for new spot)) ≡ Ok place → IsAccepted x new spot place
     go true k s e f h p = absurd cc
     go false true s e f h p = absurd cc
     go false false true e f h p = absurd cc
@@ -83,7 +77,7 @@ accepted x new spot place is = go (is_bad_name new.name) (is_bad_type new.kind) 
           name_short = ltb-false 127 (length new.name) (or_parts (eqb (length new.name) 0) (ltb 127 (length new.name)) name.0).1;
           name_plain = name.1;
           kind_good = f;
-          spot_good = good_spot spot h;
+          spot_good = h;
           placed = p;
         }
 
@@ -97,30 +91,24 @@ space x start end order start_aligned end_aligned some =
     (λ e. let same : start ≡ end = eqb-true start end e in record { long = omega arith; header = λ positive. absurd (omega (arith, positive, same)) })
     (λ e. empty_is_space (end - start) (kept_at x end) (omega (arith, eqb-false start end e, order, start_aligned, end_aligned)) (keeps x end some))
 
-hash_short : (d : Option Digest) → hash_len d ≤ 76
-hash_short None = omega arith
-hash_short (Some (digests.Sha256 bytes)) = omega arith
-hash_short (Some (digests.Sha512 bytes)) = omega arith
-
-module _ (x : List ℕ) (new : NewComponent) (spot : Spot) (place : Place) (small : length x < 2 ^ 32) (kind_small : new.kind < 2 ^ 32) (content_small : length new.content < 2 ^ 32) (digest : IsDigest new.digest)
-    (is : addition_in x new spot ≡ Ok place) where
+module _ (x : List ℕ) (new : NewComponent) (spot : Spot) (place : Place) (is : IsAdded x new spot place) where
   abbrev wanted : Wanted
   wanted = wanted_for new spot
 
   abbrev end : ℕ
-  end = cell_end place (length new.content)
+  end = cell_end new place
 
   fine : IsAccepted x new spot place
-  fine = accepted x new spot place is
+  fine = accepted x new spot place is.placed
 
   pub there : IsAnsweredPlace x new.name wanted place
   there = answered_place x new.name wanted place fine.placed
 
   is_wanted : IsWanted wanted
-  is_wanted = record { header = omega (arith, hash_short new.digest, fine.name_short); len = content_small; spot = fine.spot_good }
+  is_wanted = record { header = omega (arith, hash_short new.digest, fine.name_short); len = is.content; spot = fine.spot_good }
 
   first : IsFirstPlace wanted (length x) (runs x) place
-  first = subst (λ (o : Option Place). IsPlaceAmong wanted (length x) (runs x) o) there.found (place_among-right wanted (length x) (runs x) is_wanted)
+  first = subst (λ (o : Option Place). IsPlaceAmong wanted (length x) (runs x) o) there.found (first_place-right wanted (length x) (runs x) is_wanted)
 
   is_run : Contains (runs x) place.run
   is_run = subst (λ (l : List Freed). Contains l place.run) (sym first.whole) (Contains-append_right first.before (place.run ∷ first.later) place.run (0, omega arith, refl))
@@ -132,18 +120,18 @@ module _ (x : List ℕ) (new : NewComponent) (spot : Spot) (place : Place) (smal
   range = the_run.range
 
   fits : Fits wanted (length x) place
-  fits = fits_there wanted (length x) place range first.content first.header
+  fits = fits_there wanted (length x) place range first.allowed.after_header first.allowed.ends first.header
 
   some : 4 ≤ length x
   some = omega (arith, range.some, range.inside)
 
   cell_long : length (made_at x new place) ≡ end - place.header
-  cell_long = made_as_long new.name new.kind new.digest (place.content - place.header - header_of new) new.content (kept_at x end) digest (keeps x end some) ∙ omega (arith, fits.header.aligned, fits.header.room)
+  cell_long = made_as_long new.name new.kind new.digest (place.content - place.header - header_of new) new.content (kept_at x end) is.digest (keeps x end some) ∙ omega (arith, fits.header.aligned, fits.header.room)
 
   metadata_long : length (made_metadata new.name new.kind new.digest (place.content - place.header - header_of new) (length new.content)) ≡ place.content - place.header
   metadata_long =
       length-metadata new.name new.kind new.digest (place.content - place.header - header_of new) (length new.content)
-      ∙ ap (λ n. meta_length (length new.name) n + (place.content - place.header - header_of new)) (hash_as_long new.digest digest)
+      ∙ ap (λ n. meta_length (length new.name) n + (place.content - place.header - header_of new)) (hash_as_long new.digest is.digest)
       ∙ omega (arith, fits.header.room)
 
   abbrev metadata : List ℕ
@@ -156,10 +144,10 @@ module _ (x : List ℕ) (new : NewComponent) (spot : Spot) (place : Place) (smal
   is_made = record {
     name_short = fine.name_short;
     name_plain = fine.name_plain;
-    kind_small = kind_small;
+    kind_small = is.kind;
     kind_used = fine.kind_good;
-    digest_long = digest;
-    small = omega (arith, metadata_long, fits.inside, range.inside, small, fits.header.room);
+    digest_long = is.digest;
+    small = omega (arith, metadata_long, fits.inside, range.inside, is.region, fits.header.room);
   }
 
   abbrev before : List ℕ
@@ -178,7 +166,7 @@ module _ (x : List ℕ) (new : NewComponent) (spot : Spot) (place : Place) (smal
         aligned = fits.header.aligned;
         from_start = fits.start_below;
         to_end = omega (arith, to_end, end_below);
-        small = omega (arith, range.inside, small);
+        small = omega (arith, range.inside, is.region);
         space_before = space x place.run.start place.header fits.start_below range.start_aligned fits.header.aligned some;
         space_after = subst (λ n. IsSpace (place.run.end - n) after) (sym to_end) (space x end place.run.end end_below (omega arith) range.end_aligned some);
       }
@@ -204,7 +192,7 @@ module _ (x : List ℕ) (new : NewComponent) (spot : Spot) (place : Place) (smal
       record {
         cells = the_run.cells;
         free = the_run.free;
-        more = subst (λ (l : List ℕ). HasOneMore x place.run.start place.run.end the_run.cells (space_cells before ++ (made_at x new place ∷ []) ++ space_cells after) (made_component place.header new.name new.kind new.digest new.content (made_at x new place)) l) (sym as_spliced) more;
+        more = subst (λ (l : List ℕ). HasOneMore x place.run.start place.run.end the_run.cells (space_cells before ++ (made_at x new place ∷ []) ++ space_cells after) (added_component x new place) l) (sym as_spliced) more;
         content = content_at x before metadata new.content pad after place.run.start place.content (omega (arith, range.some, range.inside)) (omega (arith, placing.space_before.long, metadata_long, fits.start_below, fits.header.room));
       }
 
@@ -220,9 +208,9 @@ module _ (x : List ℕ) (new : NewComponent) (spot : Spot) (place : Place) (smal
   add_leaves_before y (inr emptied) =
       let within : to ≤ place.run.end = omega (arith, near, fits.inside) in
       let whole = emptied-wider x place.run range to y emptied place.run.end within in
-      let kept = emptied_runs x place.run y there.sound.whole small is_run whole in
+      let kept = emptied_runs x place.run y there.sound.whole is.region is_run whole in
       let below = space_end-below (length x) place.run.end range.inside range.end_aligned there.sound.whole in
-      (inr (place, is, emptied-stopped x place.run range to y emptied (added x new place) (kept_from x new place) (omega (arith, near, range.some)) within (omega (arith, below)) (inl kept.components) kept.end), kept.components)
+      (inr (place, is.placed, emptied-stopped x place.run range to y emptied (added x new place) (kept_from x new place) (omega (arith, near, range.some)) within (omega (arith, below)) (inl kept.components) kept.end), kept.components)
 
   -- and after it
   pub add_leaves_done : (y : List ℕ) → y ≡ added x new place → drop to y ≡ drop to x → AddLeavesWhole x new spot y
@@ -231,7 +219,7 @@ module _ (x : List ℕ) (new : NewComponent) (spot : Spot) (place : Place) (smal
       let below = space_end-below (length x) place.run.end range.inside range.end_aligned there.sound.whole in
       inr (
         place,
-        is,
+        is.placed,
         record {
           components = inr (ap (λ (l : List ℕ). components l) done);
           end = ap (λ (l : List ℕ). (cut l).end) done ∙ adds_one.more.same_end;
@@ -244,7 +232,7 @@ module _ (x : List ℕ) (new : NewComponent) (spot : Spot) (place : Place) (smal
       )
 
 pub additions_add_one : AdditionsAddOneComponent
-additions_add_one x new spot place small kind_small content_small digest is = adds_one x new spot place small kind_small content_small digest is
+additions_add_one = adds_one
 
 -- ---- the steps of an addition: its own checks, the search for a place, the writes
 
@@ -298,8 +286,8 @@ module _ (r : Range) (new : NewComponent) (spot : Spot) (place : Place) (old mid
   size : length x ≡ r.size
   size = length-bytes_in r old lies
 
-  x_small : length x < 2 ^ 32
-  x_small = omega (arith, size, lies, small)
+  added_there : IsAdded x new spot place
+  added_there = record { region = omega (arith, size, lies, small); kind = kind_small; content = content_small; digest = digest; placed = is }
 
   abbrev Stop : List ℕ → ℕ → ℕ → Type 0
   Stop l k m = IsInsertStop place.run (written_to k m place) ((IsErrOf result copies.Source → ⊥) × (honest → y ≡ added (bytes_in r l) new place)) (bytes_in r l) y
@@ -308,7 +296,7 @@ module _ (r : Range) (new : NewComponent) (spot : Spot) (place : Place) (old mid
   stop = subst (λ m. Stop old (length x) m) len (subst (λ k. Stop old k n) (sym size) (subst (λ (l : List ℕ). Stop l r.size n) same stopped))
 
   left_before : IsOldOrEmptied place.run (written_to (length x) (length new.content) place) x y → AddLeavesBefore x new spot y
-  left_before before = add_leaves_before x new spot place x_small kind_small content_small digest is y before
+  left_before before = add_leaves_before x new spot place added_there y before
 
   -- after a fault of the source
   pub source_leaves : IsErrOf result copies.Source → AddLeavesBefore x new spot y
@@ -317,4 +305,4 @@ module _ (r : Range) (new : NewComponent) (spot : Spot) (place : Place) (old mid
   -- after one of the device
   pub device_leaves : honest → AddLeavesWhole x new spot y
   device_leaves true_source =
-      ⊎_elim (λ before. (left_before before).0) (λ shown. add_leaves_done x new spot place x_small kind_small content_small digest is y (shown.0.1 true_source) shown.1) stop
+      ⊎_elim (λ before. (left_before before).0) (λ shown. add_leaves_done x new spot place added_there y (shown.0.1 true_source) shown.1) stop

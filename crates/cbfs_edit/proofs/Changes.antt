@@ -54,7 +54,7 @@ module _ (size : ℕ) (place : Place) (end metadata : ℕ) (room : HasRoom size 
       let held : (place.run.start + header_length ≤ place.header + held_back place) × (held_back place ≤ header_length) =
       cond_both (place.header == place.run.start) header_length 0 (λ k. (place.run.start + header_length ≤ place.header + k) × (k ≤ header_length))
       (λ e. (omega (arith, eqb-true place.header place.run.start e), omega arith))
-      (λ e. (omega (arith, eqb-false place.header place.run.start e, room.start_below, room.run.start_aligned, room.header_aligned), omega arith)) in
+      (λ e. (omega (arith, eqb-false place.header place.run.start e, room.start_below, room.run.start_aligned, room.cell.start_aligned), omega arith)) in
       within y z at n (place.run.start + header_length) (max place.content (place.run.end - 4)) (omega (arith, held, is)) (omega (arith, held, is, long, room.metadata_is, room.metadata_long)) same
 
   -- the header of the empty entry after the component
@@ -68,4 +68,4 @@ module _ (size : ℕ) (place : Place) (end metadata : ℕ) (room : HasRoom size 
   bound-within n long other same =
       within y z end n (place.run.start + header_length) (max place.content (place.run.end - 4))
       (omega (arith, room.start_below, room.metadata_is, room.metadata_long, room.content_below))
-      (omega (arith, long, other, room.end_below, room.end_aligned, room.run.end_aligned)) same
+      (omega (arith, long, other, room.cell.inside, room.cell.end_aligned, room.run.end_aligned)) same

@@ -1,12 +1,14 @@
 -- Edits' steps, and lists of them.
-use Rattle.std.proofs.Common.{◌≡◌, ◌≢◌, ◌⊎◌, inl, inr, ⊎_elim, List, ℕ, Result, Ok, Err, ap, refl, sym, ◌+◌, ◌<◌, All, [], ◌∷◌, ◌++◌, length, take, drop, set, get_or, IsTrue, subst, ◌∙◌, arith, rules}
+use Rattle.std.proofs.Common.{◌≡◌, ◌≢◌, ◌⊎◌, ⊎_elim, List, ℕ, Result, Ok, Err, ap, refl, sym, ◌+◌, ◌<◌, [], ◌∷◌, ◌++◌, length, take, drop, set, get_or, IsTrue, subst, ◌∙◌, arith, rules}
+use Rattle.std.specs.Borrow.{Bor}
 use Rattle.std.specs.Prelude.{IsErrOf, IfErr, IfOk, OnOk, sum_by}
 use Rattle.flash_store.specs.Regions.{Range, bytes_in}
-use Rattle.cbfs_edit.specs.Additions.{NewComponent, addition_in, added_to, placed_of}
-use Rattle.cbfs_edit.specs.Refusals.{ByFault, by_device}
+use Rattle.cbfs_edit.specs.Additions.{new_component, addition_in, added_to, placed_of}
+use Rattle.cbfs_edit.specs.Refusals.{by_fault, by_device}
 use Rattle.cbfs_edit.specs.Removals.{removed, removal_in}
-use Rattle.cbfs_edit.specs.Steps.{AdditionReply, RemovalReply, Answered, HasHonestSource, Run, State, Step, edit_calls, faults_of, state_of}
+use Rattle.cbfs_edit.specs.Steps.{IsReply, Run, Step, edit_calls, faults_of}
 use Rattle.cbfs_edit.specs.Stops.{LeavesWhole, AddLeavesWhole, AddLeavesBefore}
+use Rattle.cbfs_edit.specs.declared.addition.HashChoice.{HashChoice}
 use Rattle.cbfs_edit.specs.declared.addition.Placed.{Placed}
 use Rattle.cbfs_edit.specs.declared.edit.Reply.{Reply}
 use Rattle.cbfs_edit.specs.declared.fault.EditFault.{EditFault}
@@ -19,15 +21,15 @@ use Rattle.std.proofs.Math.ListN.{length-set}
 use Rattle.std.proofs.lemmas.List.Sums.{sum_by_more, sum_by-append}
 use Rattle.flash_store.specs.Device.{Device}
 use Rattle.flash_store.specs.Pages.{Pages, HasChanged}
-use Rattle.flash_store.proofs.DeviceLemmas.{honest_still}
 use Rattle.cbfs_edit.specs.declared.edit.Edit.{Edit}
+use Rattle.cbfs_edit.specs.declared.edit.Edit.TheVariants.{Add, Remove}
 use Rattle.cbfs_edit.specs.declared.edit.Reply.TheVariants as replies
 use Rattle.cbfs_edit.specs.declared.fault.EditFault.TheVariants as faults
 
 -- ---- an edit's step, from what its clauses say one by one
 
 -- what is said of a fault
-by-fault : (fault : EditFault) (A B C : Type 0) → (fault ≡ faults.Device → A) → (fault ≡ faults.Source → B) → (fault ≢ faults.Device → fault ≢ faults.Source → C) → ByFault fault A B C
+by-fault : (fault : EditFault) (A B C : Type 0) → (fault ≡ faults.Device → A) → (fault ≡ faults.Source → B) → (fault ≢ faults.Device → fault ≢ faults.Source → C) → by_fault fault A B C
 by-fault faults.Device A B C a b c = a refl
 by-fault faults.Source A B C a b c = b refl
 by-fault other A B C a b c = c (λ e. absurd cc) (λ e. absurd cc)
@@ -40,43 +42,42 @@ abbrev addition_reply : Result Placed EditFault → Reply
 addition_reply (Ok placed) = replies.Placed placed
 addition_reply (Err fault) = replies.Refused fault
 
-pub removal_step : (name : List ℕ) (r : Range) (old now : List ℕ) (result : Result Freed EditFault)
+pub removal_step : {S : Type 0} (facts : S → Device) (name : Bor (List ℕ)) (r : Range) (honest : Type 0) (old now : List ℕ) (result : Result Freed EditFault)
     → (IsErrOf result faults.Source → ⊥)
-    → IsErrOf result faults.Device ⊎ (result ≡ removal_in (bytes_in r old) name)
-    → IfOk result (λ group. bytes_in r now ≡ removed (bytes_in r old) group)
-    → IfErr result (λ fault. fault ≢ faults.Device → now ≡ old)
-    → (IsErrOf result faults.Device → LeavesWhole (bytes_in r old) name (bytes_in r now))
-    → RemovalReply name (bytes_in r old) (removal_reply result) (bytes_in r now)
-removal_step name r old now (Ok group) no_source (inl failed) changed refused stopped = absurd cc
-removal_step name r old now (Ok group) no_source (inr is) changed refused stopped = (sym is, changed)
-removal_step name r old now (Err fault) no_source answer changed refused stopped =
+    → (honest → IsErrOf result faults.Device ⊎ (result ≡ removal_in (bytes_in r old) name.now))
+    → (honest → IfOk result (λ group. bytes_in r now ≡ removed (bytes_in r old) group))
+    → (honest → IfErr result (λ fault. fault ≢ faults.Device → now ≡ old))
+    → (honest → IsErrOf result faults.Device → LeavesWhole (bytes_in r old) name.now (bytes_in r now))
+    → IsReply facts (Remove name) (removal_reply result) honest (bytes_in r old) (bytes_in r now)
+removal_step facts name r honest old now (Ok group) no_source answer changed refused stopped = λ h. (⊎_elim (λ failed. absurd cc) (λ is. sym is) (answer h), changed h)
+removal_step facts name r honest old now (Err fault) no_source answer changed refused stopped = λ h.
     by-fault fault _ _ _
-    (λ e. stopped (told_as fault faults.Device e))
+    (λ e. stopped h (told_as fault faults.Device e))
     (λ e. no_source (told_as fault faults.Source e))
-    (λ other _. (⊎_elim (λ failed. absurd (other (same_fault fault faults.Device failed))) (λ is. sym is) answer, ap (λ (l : List ℕ). bytes_in r l) (refused other)))
+    (λ other _. (⊎_elim (λ failed. absurd (other (same_fault fault faults.Device failed))) (λ is. sym is) (answer h), ap (λ (l : List ℕ). bytes_in r l) (refused h other)))
 
 -- an addition is refused as its place is
 placed-refused : (place : Result Place EditFault) (fault : EditFault) → Err fault ≡ placed_of place → place ≡ Err fault
 placed-refused (Ok place) fault is = absurd cc
 placed-refused (Err other) fault is = ap (λ (e : EditFault). Err e) (sym (same_fault fault other is))
 
-pub addition_step : (new : NewComponent) (spot : Spot) (r : Range) (old now : List ℕ) (result : Result Placed EditFault)
-    → IsErrOf result faults.Device ⊎ (IsErrOf result faults.Source ⊎ (result ≡ placed_of (addition_in (bytes_in r old) new spot)))
-    → OnOk result (bytes_in r now ≡ added_to (bytes_in r old) new spot)
-    → IfErr result (λ fault. fault ≢ faults.Device → fault ≢ faults.Source → now ≡ old)
-    → (IsErrOf result faults.Device → AddLeavesWhole (bytes_in r old) new spot (bytes_in r now))
-    → (IsErrOf result faults.Source → AddLeavesBefore (bytes_in r old) new spot (bytes_in r now))
-    → AdditionReply new spot (bytes_in r old) (addition_reply result) (bytes_in r now)
-addition_step new spot r old now (Ok placed) (inl failed) changed refused stopped before = absurd cc
-addition_step new spot r old now (Ok placed) (inr (inl failed)) changed refused stopped before = absurd cc
-addition_step new spot r old now (Ok placed) (inr (inr is)) changed refused stopped before = (sym is, changed)
-addition_step new spot r old now (Err fault) answer changed refused stopped before =
+pub addition_step : {S : Type 0} (facts : S → Device) (name : Bor (List ℕ)) (kind : ℕ) (hash : HashChoice) (spot : Spot) (source : S) (r : Range) (honest : Type 0) (old now : List ℕ) (result : Result Placed EditFault)
+    → let new = new_component name.now kind hash (facts source).content in
+    (honest → IsErrOf result faults.Device ⊎ (IsErrOf result faults.Source ⊎ (result ≡ placed_of (addition_in (bytes_in r old) new spot))))
+    → (honest → IsTrue (facts source).honest → OnOk result (bytes_in r now ≡ added_to (bytes_in r old) new spot))
+    → (honest → IfErr result (λ fault. fault ≢ faults.Device → fault ≢ faults.Source → now ≡ old))
+    → (honest → IsTrue (facts source).honest → IsErrOf result faults.Device → AddLeavesWhole (bytes_in r old) new spot (bytes_in r now))
+    → (honest → IsErrOf result faults.Source → AddLeavesBefore (bytes_in r old) new spot (bytes_in r now))
+    → IsReply facts (Add name kind hash spot source) (addition_reply result) honest (bytes_in r old) (bytes_in r now)
+addition_step facts name kind hash spot source r honest old now (Ok placed) answer changed refused stopped before = λ h true_source.
+    (⊎_elim (λ failed. absurd cc) (λ rest. ⊎_elim (λ failed. absurd cc) (λ is. sym is) rest) (answer h), changed h true_source)
+addition_step facts name kind hash spot source r honest old now (Err fault) answer changed refused stopped before = λ h true_source.
     by-fault fault _ _ _
-    (λ e. stopped (told_as fault faults.Device e))
-    (λ e. before (told_as fault faults.Source e))
+    (λ e. stopped h true_source (told_as fault faults.Device e))
+    (λ e. before h (told_as fault faults.Source e))
     (λ other not_source. (
-      ⊎_elim (λ failed. absurd (other (same_fault fault faults.Device failed))) (λ rest. ⊎_elim (λ failed. absurd (not_source (same_fault fault faults.Source failed))) (λ is. placed-refused _ fault is) rest) answer,
-      ap (λ (l : List ℕ). bytes_in r l) (refused other not_source),
+      ⊎_elim (λ failed. absurd (other (same_fault fault faults.Device failed))) (λ rest. ⊎_elim (λ failed. absurd (not_source (same_fault fault faults.Source failed))) (λ is. placed-refused _ fault is) rest) (answer h),
+      ap (λ (l : List ℕ). bytes_in r l) (refused h other not_source),
     ))
 
 -- ---- lists of edits: a run goes on by one step
@@ -85,17 +86,17 @@ addition_step new spot r old now (Err fault) answer changed refused stopped befo
 pub changed_more : {F : Type 0} (facts : F → Device) (region : Range) (n k r q : ℕ) (a b c : Pages F) → HasChanged facts region n r a b → HasChanged facts region k q b c → HasChanged facts region (n + k) (r + q) a c
 changed_more facts region n k r q a b c first second = search rules
 
-module _ {S : Type 0} (step : Edit S → Edit S → State → Reply → State → Type 0) where
-  run-push : (olds news : List (Edit S)) (replies : List Reply) (before mid after : State) (old new : Edit S) (reply : Reply) → Run step olds news replies before mid → step old new mid reply after
-      → Run step (olds ++ old ∷ []) (news ++ new ∷ []) (replies ++ reply ∷ []) before after
-  run-push [] [] [] before mid after old new reply run one = (after, subst (λ (s : State). step old new s reply after) run one, refl)
+module _ {S : Type 0} (facts : S → Device) (region : Range) where
+  run-push : (olds news : List (Edit S)) (replies : List Reply) (before mid after : Device) (old new : Edit S) (reply : Reply) → Run facts region olds news replies before mid → Step facts region old new mid reply after
+      → Run facts region (olds ++ old ∷ []) (news ++ new ∷ []) (replies ++ reply ∷ []) before after
+  run-push [] [] [] before mid after old new reply run one = (after, subst (λ (s : Device). Step facts region old new s reply after) run one, refl)
   run-push (e ∷ olds) (f ∷ news) (r ∷ replies) before mid after old new reply run one = (run.0, run.1, run-push olds news replies run.0 mid after old new reply run.2 one)
   run-push olds news replies before mid after old new reply run one = absurd run
 
   -- the first edits have gone by, and the next one goes by
-  run_more : (olds edits : List (Edit S)) (replies : List Reply) (i : ℕ) (d f : Edit S) (reply : Reply) (before mid after : State) → i < length olds → i < length edits → i < length replies
-      → Run step (take i olds) (take i edits) (take i replies) before mid → step (get_or olds i d) f mid reply after
-      → Run step (take (i + 1) olds) (take (i + 1) (set edits i f)) (take (i + 1) (set replies i reply)) before after
+  run_more : (olds edits : List (Edit S)) (replies : List Reply) (i : ℕ) (d f : Edit S) (reply : Reply) (before mid after : Device) → i < length olds → i < length edits → i < length replies
+      → Run facts region (take i olds) (take i edits) (take i replies) before mid → Step facts region (get_or olds i d) f mid reply after
+      → Run facts region (take (i + 1) olds) (take (i + 1) (set edits i f)) (take (i + 1) (set replies i reply)) before after
   run_more olds edits replies i d f reply before mid after in_olds in_edits in_replies run one =
       rw (take_more olds i d in_olds, take_more_set edits i f in_edits, take_more_set replies i reply in_replies)
       (run-push (take i olds) (take i edits) (take i replies) before mid after (get_or olds i d) f reply run one)
@@ -107,8 +108,7 @@ module _ {F S : Type 0} (device : F → Device) (facts : S → Device) where
     pub as_many : length edits ≡ length olds
     pub replied : length replies ≡ length olds
     pub others : drop i edits ≡ drop i olds
-    pub answered : Run (Answered facts) (take i olds) (take i edits) (take i replies) (state_of region (device old.device)) (state_of region (device now.device))
-    pub run : IsTrue (device old.device).honest → All (HasHonestSource facts) olds → Run (Step facts) (take i olds) (take i edits) (take i replies) (state_of region (device old.device)) (state_of region (device now.device))
+    pub run : Run facts region (take i olds) (take i edits) (take i replies) (device old.device) (device now.device)
 
   same_edit : (olds edits : List (Edit S)) (i : ℕ) (d : Edit S) → drop i edits ≡ drop i olds → get_or edits i d ≡ get_or olds i d
   same_edit olds edits i d same =
@@ -120,10 +120,9 @@ module _ {F S : Type 0} (device : F → Device) (facts : S → Device) where
       → i < length edits
       → e ≡ get_or edits i e
       → HasChanged device region (edit_calls region.size e) (faults_of by_device reply) now new
-      → Answered facts e f (state_of region (device now.device)) reply (state_of region (device new.device))
-      → (IsTrue (device now.device).honest → HasHonestSource facts e → Step facts e f (state_of region (device now.device)) reply (state_of region (device new.device)))
+      → Step facts region e f (device now.device) reply (device new.device)
       → Applied region olds (set edits i f) (set replies i reply) (i + 1) old new
-  applied_more region olds edits replies i e f old now new reply so_far in_edits is after answered step =
+  applied_more region olds edits replies i e f old now new reply so_far in_edits is after step =
       let was : e ≡ get_or olds i e = is ∙ same_edit olds edits i e so_far.others in
       let in_olds : i < length olds = omega (arith, in_edits, so_far.as_many) in
       let in_replies : i < length replies = omega (arith, in_olds, so_far.replied) in
@@ -139,11 +138,7 @@ module _ {F S : Type 0} (device : F → Device) (facts : S → Device) where
         others =
             let next : i < i + 1 = omega arith in
             drop-set-lt (i + 1) edits i f next ∙ sym (drop-drop 1 i edits) ∙ ap (λ (l : List (Edit S)). drop 1 l) so_far.others ∙ drop-drop 1 i olds;
-        answered =
-            run_more (Answered facts) olds edits replies i e f reply (state_of region (device old.device)) (state_of region (device now.device)) (state_of region (device new.device)) in_olds in_edits in_replies so_far.answered
-            (subst (λ (k : Edit S). Answered facts k f (state_of region (device now.device)) reply (state_of region (device new.device))) was answered);
-        run = λ h all.
-            let honest : HasHonestSource facts e = subst (λ (k : Edit S). HasHonestSource facts k) (sym was) (all i e in_olds) in
-            run_more (Step facts) olds edits replies i e f reply (state_of region (device old.device)) (state_of region (device now.device)) (state_of region (device new.device)) in_olds in_edits in_replies (so_far.run h all)
-            (subst (λ (k : Edit S). Step facts k f (state_of region (device now.device)) reply (state_of region (device new.device))) was (step (honest_still so_far.after.calls.same_honesty h) honest));
+        run =
+            run_more facts region olds edits replies i e f reply (device old.device) (device now.device) (device new.device) in_olds in_edits in_replies so_far.run
+            (subst (λ (k : Edit S). Step facts region k f (device now.device) reply (device new.device)) was step);
       }

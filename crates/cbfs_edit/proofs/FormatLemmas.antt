@@ -1,5 +1,5 @@
 -- A region that becomes one empty entry.
-use Rattle.std.proofs.Common.{◌≡◌, inl, inr, ℕ, ◌+◌, ◌-◌, ◌%◌, ◌^◌, ◌<◌, ◌≤◌, Bool, true, cond, Some, None, List, [], ◌∷◌, ◌++◌, length, drop, sym, ◌∙◌, ap, refl, arith, length-append}
+use Rattle.std.proofs.Common.{◌≡◌, ◌⊎◌, inl, inr, ℕ, ◌+◌, ◌-◌, ◌%◌, ◌^◌, ◌<◌, ◌≤◌, Bool, true, cond, Some, None, List, [], ◌∷◌, ◌++◌, length, drop, sym, ◌∙◌, ap, refl, arith, length-append}
 use Rattle.std.specs.Prelude.{◌==◌}
 use Rattle.std.proofs.lemmas.List.{append-nil, drop_all}
 use Rattle.std.proofs.lemmas.Bool.{eq-eqb}
@@ -16,7 +16,7 @@ use Rattle.flash_store.proofs.BytesLemmas.{further}
 use Rattle.cbfs_edit.specs.Groups.{IsCellRange}
 use Rattle.cbfs_edit.specs.Removals.{removed, last_four, kept_at, space_end}
 use Rattle.cbfs_edit.specs.Stops.{IsOldOrEmptied}
-use Rattle.cbfs_edit.specs.Formats.{formatted, IsOneFreeCell, IsFormatStop}
+use Rattle.cbfs_edit.specs.Formats.{formatted, IsOneFreeCell}
 use Rattle.cbfs_edit.specs.Laws.{FormattedIsOneFreeCell}
 use Rattle.cbfs_edit.specs.declared.group.Freed.{Freed}
 use Rattle.cbfs_edit.proofs.Emptied.{emptied-bytes, emptied-outside, emptied-wider, space_end-below, space_end-near}
@@ -64,8 +64,8 @@ format_done x y size long some is =
     ∙ overwritten-whole x (formatted x) wide
 
 -- a stop at one of the writes
-pub format_stopped : (x y : List ℕ) (size told : ℕ) → length x ≡ size → told ≡ size → 64 ≤ size → size % 64 ≡ 0 → size < 2 ^ 32 → IsOldOrEmptied (whole_range size) (space_end told size) x y → IsFormatStop x y
-format_stopped x y size told long is_told some whole small (inl same) = record { cells = inl same; last_four = ap (λ (l : List ℕ). last_four l) same }
+pub format_stopped : (x y : List ℕ) (size told : ℕ) → length x ≡ size → told ≡ size → 64 ≤ size → size % 64 ≡ 0 → size < 2 ^ 32 → IsOldOrEmptied (whole_range size) (space_end told size) x y → ((y ≡ x) ⊎ IsOneFreeCell y) × (last_four y ≡ last_four x)
+format_stopped x y size told long is_told some whole small (inl same) = (inl same, ap (λ (l : List ℕ). last_four l) same)
 format_stopped x y size told long is_told some whole small (inr emptied) =
     let group : Freed = whole_range size in
     let range : IsCellRange group (length x) = record { some = some; start_aligned = refl; end_aligned = whole; inside = omega arith } in
@@ -77,8 +77,7 @@ format_stopped x y size told long is_told some whole small (inr emptied) =
     let wide : length (header ++ is.0) ≡ length x = omega (arith, length-append header is.0, length-empty_header (size - 0) (size == length x)) in
     let bytes : y ≡ empty_header size (size == length x) ++ is.0 =
     is.2 ∙ overwritten-whole x (header ++ is.0) wide ∙ ap (λ n. empty_header n (size == length x) ++ is.0) (let e : size - 0 ≡ size = omega arith in e) in
-    let below : to ≤ size - 4 = omega (arith, space_end-below told size (omega arith) whole (omega (arith, whole))) in
-    record {
-      cells = inr (one_free_cell y is.0 size (size == length x) some whole small room bytes);
-      last_four = ap (λ n. drop (n - 4) y) emptied.same_length ∙ further x y (0 + (to - 0)) (length x - 4) (omega (arith, below, long)) (emptied-outside x group range to y emptied (omega (arith, near.1, some))).after;
-    }
+    let below : to ≤ size - 4 = omega (arith, space_end-below told size (omega arith) whole (omega (arith, whole))) in (
+      inr (one_free_cell y is.0 size (size == length x) some whole small room bytes),
+      ap (λ n. drop (n - 4) y) emptied.same_length ∙ further x y (0 + (to - 0)) (length x - 4) (omega (arith, below, long)) (emptied-outside x group range to y emptied (omega (arith, near.1, some))).after,
+    )

@@ -1,5 +1,6 @@
 -- What was added is found by its name, can be removed, and all others are kept.
 use Rattle.std.proofs.Common.{◌≡◌, ℕ, ◌%◌, ◌<◌, ◌≤◌, All, append_assoc, length-append, false, List, [], ◌∷◌, ◌++◌, length, None, refl, sym, ◌∙◌, ap, arith, true, Option, Some, Ok, Err, subst, Contains, inl, inr, suc}
+use Rattle.std.specs.Prelude.{ok_or}
 use Rattle.std.specs.Str.{bytes_eq}
 use Rattle.std.proofs.lemmas.List.Elements.{All-nil, All-cons, All-head, All-tail, All-weaker, All-contains, Contains-append_right, Contains-append_left, Contains-append_cases}
 use Rattle.std.proofs.lemmas.Bool.{eq-eqb, ne_eqb, both_ways}
@@ -7,13 +8,13 @@ use Rattle.flash_format.specs.Entry.{Entry, absent, damaged, cell, entry}
 use Rattle.flash_format.specs.Cut.{Cut, cut, End}
 use Rattle.flash_format.specs.Components.{Component, components, components_from}
 use Rattle.flash_format.specs.Placings.{space_cells}
-use Rattle.flash_format.proofs.CutSteps.{cut_absent}
+use Rattle.flash_format.proofs.CutSteps.{cut_step}
 use Rattle.flash_format.proofs.CutLaws.{cut_unique}
 use Rattle.cbfs_walk.specs.Finding.{IsFirstOf, first_named}
 use Rattle.cbfs_walk.specs.Shapes.{has_bad_size, is_absent, shape, refused_or}
 use Rattle.cbfs_walk.proofs.FirstNamed.{first_found, none_named, same_name}
-use Rattle.cbfs_edit.specs.Additions.{NewComponent, AddsOne, added, empty_between, cell_end, made_at}
-use Rattle.cbfs_edit.specs.Laws.{IsAdded, AdditionsAreFound, added_component, AdditionsAreUndone, AdditionsKeepAll, RemovalsKeepOthers}
+use Rattle.cbfs_edit.specs.Additions.{NewComponent, AddsOne, added, added_component, empty_between, cell_end, made_at}
+use Rattle.cbfs_edit.specs.Laws.{IsAdded, AdditionsAreFound, AdditionsAreUndone, AdditionsKeepAll, RemovalsKeepOthers}
 use Rattle.cbfs_edit.specs.declared.place.Spot.{Spot}
 use Rattle.cbfs_edit.specs.declared.place.Place.{Place}
 use Rattle.cbfs_edit.proofs.Added.{accepted_size, added_length, additions_add_one, there, region_some}
@@ -21,7 +22,8 @@ use Rattle.cbfs_walk.specs.Shaped.{place_after}
 use Rattle.cbfs_walk.specs.declared.walk.WalkFault.{WalkFault}
 use Rattle.cbfs_edit.specs.Groups.{group_of}
 use Rattle.cbfs_edit.specs.Refusals.{refusal_of}
-use Rattle.cbfs_edit.specs.Removals.{LosesOne, found, removed, removal_in, unless_damaged}
+use Rattle.cbfs_edit.specs.Removals.{LosesOne, removed, removal_in, unless_damaged}
+use Rattle.cbfs_edit.specs.declared.fault.EditFault.TheVariants as faults
 use Rattle.cbfs_edit.specs.declared.group.Freed.{Freed}
 use Rattle.cbfs_edit.proofs.Groups.{group_none}
 use Rattle.cbfs_edit.proofs.Lists.{one_split}
@@ -42,7 +44,7 @@ cell_there x c cells more some is = go (entry x) refl
   where
     go : (e : Entry) → entry x ≡ e → is_absent e ≡ false
     go absent e =
-        let same : [] ≡ cells ++ (c ∷ more) = sym (ap (λ (k : Cut). k.cells) (cut_absent x some e)) ∙ is in
+        let same : [] ≡ cells ++ (c ∷ more) = sym (ap (λ (k : Cut). k.cells) (cut_step x absent some e)) ∙ is in
         absurd (omega (arith, ap length same, length-append cells (c ∷ more)))
     go (damaged kind) e = refl
     go (cell span) e = refl
@@ -54,13 +56,13 @@ good_shape x good there = rw (good, there) refl
 
 module _ (x : List ℕ) (new : NewComponent) (spot : Spot) (place : Place) (is : IsAdded x new spot place) where
   pub one_more : AddsOne x new place
-  one_more = additions_add_one x new spot place is.region is.kind is.content is.digest is.placed
+  one_more = additions_add_one x new spot place is
 
   abbrev space_before : List (List ℕ)
   space_before = space_cells (empty_between x place.run.start place.header)
 
   abbrev space_after : List (List ℕ)
-  space_after = space_cells (empty_between x (cell_end place (length new.content)) place.run.end)
+  space_after = space_cells (empty_between x (cell_end new place) place.run.end)
 
   cells_after : (cut (added x new place)).cells ≡ (one_more.cells.before ++ space_before) ++ (made_at x new place ∷ (space_after ++ one_more.cells.after))
   cells_after =
@@ -73,8 +75,8 @@ module _ (x : List ℕ) (new : NewComponent) (spot : Spot) (place : Place) (is :
 
   pub shape_after : shape (added x new place) ≡ None
   shape_after =
-      let long : length (added x new place) ≡ length x = added_length x new spot place is.region is.kind is.content is.digest is.placed in
-      let some : 64 ≤ length x = region_some x new spot place is.region is.kind is.content is.digest is.placed in
+      let long : length (added x new place) ≡ length x = added_length x new spot place is in
+      let some : 64 ≤ length x = region_some x new spot place is in
       let whole : length x % 64 ≡ 0 = accepted_size x new spot place is.placed in
       good_shape (added x new place) (fine_size (length (added x new place)) (omega arith) (ap (λ n. n % 64) long ∙ whole))
       (cell_there (added x new place) (made_at x new place) (one_more.cells.before ++ space_before) (space_after ++ one_more.cells.after) (omega arith) cells_after)
@@ -88,7 +90,7 @@ module _ (x : List ℕ) (new : NewComponent) (spot : Spot) (place : Place) (is :
   -- none of the others has the name
   others_after : All (λ (c : Component). bytes_eq c.name new.name ≡ false) (before ++ after)
   others_after =
-      let none : first_named new.name (components x) ≡ None = (there x new spot place is.region is.kind is.content is.digest is.placed).no_other in
+      let none : first_named new.name (components x) ≡ None = (there x new spot place is).no_other in
       none_named new.name (before ++ after) (sym (ap (λ (l : List Component). first_named new.name l) one_more.more.old_components) ∙ none)
 
   pub none_before : All (λ (c : Component). bytes_eq c.name new.name ≡ false) before
@@ -114,9 +116,9 @@ IsNamed name c = bytes_eq c.name name ≡ true
 unnamed : (name : List ℕ) (cs : List Component) → All (λ (c : Component). bytes_eq c.name name ≡ false) cs → All (λ c. IsNamed name c → ⊥) cs
 unnamed name cs none = All-weaker (λ (c : Component). bytes_eq c.name name ≡ false) (λ c. IsNamed name c → ⊥) (λ (c : Component) other. both_ways (bytes_eq c.name name) other) cs none
 
-removal_is : (y name : List ℕ) → shape y ≡ None → unless_damaged (place_after 0 (cut y).cells) (cut y).end (found (group_of y name)) ≡ found (group_of y name) → removal_in y name ≡ found (group_of y name)
+removal_is : (y name : List ℕ) → shape y ≡ None → unless_damaged (place_after 0 (cut y).cells) (cut y).end (ok_or (group_of y name) faults.NotFound) ≡ ok_or (group_of y name) faults.NotFound → removal_in y name ≡ ok_or (group_of y name) faults.NotFound
 unfolding removal_in
-removal_is y name good through = ap (λ (o : Option WalkFault). refused_or (λ fault. Err (refusal_of fault)) o (unless_damaged (place_after 0 (cut y).cells) (cut y).end (found (group_of y name)))) good ∙ through
+removal_is y name good through = ap (λ (o : Option WalkFault). refused_or (λ fault. Err (refusal_of fault)) o (unless_damaged (place_after 0 (cut y).cells) (cut y).end (ok_or (group_of y name) faults.NotFound))) good ∙ through
 
 -- where a component has the name there is a group
 some_group : (y name : List ℕ) (c : Component) → IsFirstOf name (components y) c → (group : Freed) × (group_of y name ≡ Some group)
@@ -136,19 +138,20 @@ additions_undone x new spot place is =
     let more = one_more x new spot place is in
     let some = some_group y new.name (added_component x new place) (added_first x new spot place is) in
     let group : Freed = some.0 in
-    let sound = (there x new spot place is.region is.kind is.content is.digest is.placed).sound in
+    let sound = (there x new spot place is).sound in
     let at = place_after 0 (cut y).cells in
     let removes : removal_in y new.name ≡ Ok group =
-    removal_is y new.name (shape_after x new spot place is) (ap (λ (e : End). unless_damaged at e (found (group_of y new.name))) more.more.same_end ∙ sound.undamaged at (found (group_of y new.name))) ∙ ap (λ (o : Option Freed). found o) some.1 in
-    let long : length y ≡ length x = added_length x new spot place is.region is.kind is.content is.digest is.placed in
+    removal_is y new.name (shape_after x new spot place is) (ap (λ (e : End). unless_damaged at e (ok_or (group_of y new.name) faults.NotFound)) more.more.same_end ∙ sound.undamaged at (ok_or (group_of y new.name) faults.NotFound)) ∙ ap (λ (o : Option Freed). ok_or o faults.NotFound) some.1 in
+    let long : length y ≡ length x = added_length x new spot place is in
     let loses : LosesOne new.name y (removed y group) = removal_takes_one y new.name group (omega (arith, long, is.region)) removes in
-    let once = one_split (IsNamed new.name) loses.before loses.after (before x new spot place is) (after x new spot place is) loses.component (added_component x new place) loses.named (same_name new.name)
-    (unnamed new.name loses.before loses.first) (unnamed new.name (before x new spot place is) (none_before x new spot place is))
-    (sym loses.was ∙ more.more.new_components) in (
+    let was = loses.was in
+    let once = one_split (IsNamed new.name) was.before was.after (before x new spot place is) (after x new spot place is) loses.component (added_component x new place) was.named (same_name new.name)
+    (unnamed new.name was.before was.none_before) (unnamed new.name (before x new spot place is) (none_before x new spot place is))
+    (sym was.whole ∙ more.more.new_components) in (
       group,
       removes,
       record {
-        components = loses.is ∙ ap (λ (l : List Component). l ++ loses.after) once.first ∙ ap (λ (l : List Component). before x new spot place is ++ l) once.last ∙ sym more.more.old_components;
+        components = loses.is ∙ ap (λ (l : List Component). l ++ was.after) once.first ∙ ap (λ (l : List Component). before x new spot place is ++ l) once.last ∙ sym more.more.old_components;
         end = loses.same_end ∙ more.more.same_end;
       },
     )
@@ -176,5 +179,5 @@ additions_keep x new spot place is c has =
 pub removals_keep : RemovalsKeepOthers
 removals_keep x name group small is c has other =
     let loses = removal_takes_one x name group small is in
-    let differs : loses.component ≡ c → ⊥ = λ e. absurd (let k : true ≡ false = sym loses.named ∙ ap (λ (d : Component). bytes_eq d.name name) e ∙ other in cc) in
-    subst (λ (l : List Component). Contains l c) (sym loses.is) (one_less loses.before loses.after loses.component c differs (subst (λ (l : List Component). Contains l c) loses.was has))
+    let differs : loses.component ≡ c → ⊥ = λ e. absurd (let k : true ≡ false = sym loses.was.named ∙ ap (λ (d : Component). bytes_eq d.name name) e ∙ other in cc) in
+    subst (λ (l : List Component). Contains l c) (sym loses.is) (one_less loses.was.before loses.was.after loses.component c differs (subst (λ (l : List Component). Contains l c) loses.was.whole has))

@@ -1,6 +1,7 @@
 -- The group of a name is exactly the first component of it with all free cells that touch it.
-use Rattle.std.proofs.Common.{◌≡◌, ℕ, ◌+◌, ◌%◌, List, [], ◌∷◌, ◌++◌, length, sym, ◌∙◌, ap, subst, append_assoc, length-append, inl, inr, ◌<◌, refl, arith, All, Some, None, true}
-use Rattle.std.specs.List.{concat}
+use Rattle.std.proofs.Common.{◌≡◌, ℕ, ◌+◌, ◌%◌, List, [], ◌∷◌, ◌++◌, length, sym, ◌∙◌, ap, subst, append_assoc, length-append, inl, inr, ◌<◌, refl, arith, All, Contains, Option, Some, None, true}
+use Rattle.std.specs.List.{concat, last_or, slice_get}
+use Rattle.std.specs.Prelude.{IfSome}
 use Rattle.std.proofs.lemmas.List.{append-nil}
 use Rattle.flash_format.specs.Cut.{cut, IsCut}
 use Rattle.flash_format.specs.Splices.{CellsBetween}
@@ -9,29 +10,42 @@ use Rattle.flash_format.proofs.Splices.{concat-append}
 use Rattle.cbfs_edit.specs.declared.group.Freed.{Freed}
 use Rattle.std.specs.Str.{bytes_eq}
 use Rattle.std.proofs.lemmas.Bool.{both_ways, cases_Bool}
-use Rattle.std.proofs.lemmas.List.Elements.{All-nil, All-cons, All-push, All-append, All-weaker, All-head, All-tail}
+use Rattle.std.proofs.lemmas.List.Elements.{All-nil, All-cons, All-push, All-append, All-weaker, All-head, All-tail, All-contains, Contains-append_right}
 use Rattle.flash_format.specs.Head.{head_of, is_free}
 use Rattle.flash_format.specs.Components.{cell_name}
-use Rattle.cbfs_edit.specs.Groups.{free_prefix, group_from, group_of, IsFree, IsComponent, EndsWithComponent, BeginsWithComponent, IsNot, IsGroupOf}
+use Rattle.cbfs_edit.specs.Groups.{by_rows, group_from, group_of, row_end, IsComponent, IsNot, IsRangeAmong, IsGroupOf}
 use Rattle.cbfs_edit.specs.Laws.{GroupsAreExact}
+
+abbrev pub IsFree : List ℕ → Type 0
+IsFree c = is_free (head_of c) ≡ true
+
+-- the last of these cells, where there is one, is a component
+abbrev pub EndsWithComponent : List (List ℕ) → Type 0
+EndsWithComponent cells = IfSome (last_or None cells) IsComponent
+
+-- the first of these cells, where there is one, is a component
+abbrev pub BeginsWithComponent : List (List ℕ) → Type 0
+BeginsWithComponent cells = IfSome (slice_get cells 0) IsComponent
 
 -- ---- a range of cells, among the cells of its region
 
 -- the cells of a range, between the others
-abbrev pub between : (x : List ℕ) (range : Freed) (before group after : List (List ℕ)) → length x % 64 ≡ 0 → (cut x).cells ≡ before ++ (group ++ after) → length (concat before) ≡ range.start
-    → range.start + length (concat group) ≡ range.end → CellsBetween x range.start range.end
-between x range before group after aligned whole starts ends =
+abbrev pub between : (x : List ℕ) (range : Freed) → length x % 64 ≡ 0 → IsRangeAmong (cut x).cells range → CellsBetween x range.start range.end
+between x range aligned r =
     let all = cut_exists x aligned in
     record {
-      before = before;
-      group = group;
-      after = after;
+      before = r.before;
+      group = r.row;
+      after = r.after;
       rest = all.0;
       ending = (cut x).end;
-      is = subst (λ (cells : List (List ℕ)). IsCut x cells all.0 (cut x).end) (whole ∙ sym (append_assoc before group after)) all.1;
-      start_is = starts;
-      end_is = ends;
+      is = subst (λ (cells : List (List ℕ)). IsCut x cells all.0 (cut x).end) (r.whole ∙ sym (append_assoc r.before r.row r.after)) all.1;
+      start_is = r.start_is;
+      end_is = r.end_is;
     }
+
+length-group : (row : List (List ℕ)) (c : List ℕ) (more : List (List ℕ)) → length (concat (row ++ c ∷ more)) ≡ length (concat row) + length c + length (concat more)
+length-group row c more = omega (arith, ap length (concat-append row (c ∷ more)), length-append (concat row) (c ++ concat more), length-append c (concat more))
 
 pub length-concat-push : (row : List (List ℕ)) (c : List ℕ) → length (concat (row ++ c ∷ [])) ≡ length (concat row) + length c
 length-concat-push row c = ap length (concat-append row (c ∷ [])) ∙ length-append (concat row) (c ++ []) ∙ ap (λ (l : List ℕ). length (concat row) + length l) (append-nil c)
@@ -52,6 +66,21 @@ pub not_alone : (c : List ℕ) (cells : List (List ℕ)) → IsFree c → EndsWi
 not_alone c [] free ends none = both_ways (is_free (head_of c)) ends free
 not_alone c (d ∷ cells) free ends none = absurd cc
 
+-- free cells change nothing but the place
+pub over_row : {A : Type 0} (last : ℕ → ℕ → A) (each : ℕ → ℕ → List ℕ → List (List ℕ) → A → A) (start at : ℕ) (row cells : List (List ℕ)) → All IsFree row
+    → by_rows last each start at (row ++ cells) ≡ by_rows last each start (at + length (concat row)) cells
+unfolding by_rows
+over_row last each start at [] cells free = ap (λ n. by_rows last each start n cells) (let e : at ≡ at + 0 = omega arith in e)
+over_row last each start at (c ∷ row) cells free =
+    let place : at + length c + length (concat row) ≡ at + length (concat (c ∷ row)) = omega (arith, length-append c (concat row)) in
+    rw (All-head IsFree c row free) (over_row last each start (at + length c) row cells (All-tail IsFree c row free) ∙ ap (λ n. by_rows last each start n cells) place)
+
+-- free cells that no other free cell follows
+row_ends : (at : ℕ) (row after : List (List ℕ)) → All IsFree row → BeginsWithComponent after → row_end at (row ++ after) ≡ at + length (concat row)
+unfolding by_rows
+row_ends at row [] free begins = over_row (λ s e. e) (λ s e c cells later. e) 0 at row [] free
+row_ends at row (c ∷ after) free begins = over_row (λ s e. e) (λ s e c cells later. e) 0 at row (c ∷ after) free ∙ rw begins refl
+
 -- the free cells at the begin, and the others, which begin with a component
 record FreeRow (cells : List (List ℕ)) : Type 0 where
   row : List (List ℕ)
@@ -59,11 +88,9 @@ record FreeRow (cells : List (List ℕ)) : Type 0 where
   whole : cells ≡ row ++ others
   free : All IsFree row
   no_more : BeginsWithComponent others
-  size : length (concat row) ≡ free_prefix cells
 
 free_row : (cells : List (List ℕ)) → FreeRow cells
-unfolding free_prefix
-free_row [] = record { row = []; others = []; whole = refl; free = All-nil IsFree; no_more = tt; size = refl }
+free_row [] = record { row = []; others = []; whole = refl; free = All-nil IsFree; no_more = tt }
 free_row (c ∷ cells) =
     let later : FreeRow cells = free_row cells in
     elim (cases_Bool (is_free (head_of c))) [
@@ -73,9 +100,8 @@ free_row (c ∷ cells) =
         whole = ap (λ (l : List (List ℕ)). c ∷ l) later.whole;
         free = All-cons IsFree c later.row e later.free;
         no_more = later.no_more;
-        size = rw e (length-append c (concat later.row) ∙ ap (λ n. length c + n) later.size);
       }
-      | inr e ↦ record { row = []; others = c ∷ cells; whole = refl; free = All-nil IsFree; no_more = e; size = rw e refl }
+      | inr e ↦ record { row = []; others = c ∷ cells; whole = refl; free = All-nil IsFree; no_more = e }
     ]
 
 -- free cells are no component of any name
@@ -88,7 +114,7 @@ some-inj a b is = cc
 -- among the cells that are left, after others and a row of free ones
 exact : (name : List ℕ) (start at : ℕ) (done row cells : List (List ℕ)) (group : Freed) → All (IsNot name) done → EndsWithComponent done → All IsFree row
     → length (concat done) ≡ start → start + length (concat row) ≡ at → group_from name start at cells ≡ Some group → IsGroupOf name (done ++ (row ++ cells)) group
-unfolding group_from
+unfolding by_rows
 exact name start at done row [] group none ends free begun is found = absurd cc
 exact name start at done row (c ∷ cells) group none ends free begun is found =
     let next = at + length c in
@@ -100,22 +126,27 @@ exact name start at done row (c ∷ cells) group none ends free begun is found =
       | inr used ↦ elim (cases_Bool (bytes_eq (cell_name c) name)) [
         | inl named ↦
             let r : FreeRow cells = free_row cells in
+            let ends_there = ap (row_end next) r.whole ∙ row_ends next r.row r.others r.free r.no_more in
             subst (λ (g : Freed). IsGroupOf name (done ++ (row ++ c ∷ cells)) g) (some-inj _ group (rw (used, named) at found)) (record {
-              before = done;
+              range = record {
+                before = done;
+                row = row ++ c ∷ r.row;
+                after = r.others;
+                whole = ap (λ (l : List (List ℕ)). done ++ (row ++ c ∷ l)) r.whole ∙ ap (λ (l : List (List ℕ)). done ++ l) (sym (append_assoc row (c ∷ r.row) r.others));
+                no_more_before = ends;
+                no_more_after = r.no_more;
+                start_is = begun;
+                end_is = omega (arith, is, ends_there, length-group row c r.row);
+              };
               row_before = row;
               component = c;
               row_after = r.row;
-              after = r.others;
-              whole = ap (λ (l : List (List ℕ)). done ++ (row ++ c ∷ l)) r.whole;
+              row_is = refl;
               is_component = used;
               named = named;
               first = none;
               row_before_free = free;
               row_after_free = r.free;
-              no_more_before = ends;
-              no_more_after = r.no_more;
-              start_is = begun;
-              end_is = omega (arith, is, r.size);
             })
         | inr other ↦
             let before : length (concat ((done ++ row) ++ c ∷ [])) ≡ next = omega (arith, length-concat-push (done ++ row) c, ap length (concat-append done row), length-append (concat done) (concat row)) in
@@ -130,7 +161,7 @@ group_exact x name group found = exact name 0 0 [] [] (cut x).cells group (All-n
 
 -- without a group no cell is a component of the name
 none_left : (name : List ℕ) (start at : ℕ) (cells : List (List ℕ)) → group_from name start at cells ≡ None → All (IsNot name) cells
-unfolding group_from
+unfolding by_rows
 none_left name start at [] none = All-nil (IsNot name)
 none_left name start at (c ∷ cells) none =
     let next = at + length c in
@@ -145,11 +176,12 @@ none_left name start at (c ∷ cells) none =
 pub group_none : (x name : List ℕ) → group_of x name ≡ None → All (IsNot name) (cut x).cells
 group_none x name none = none_left name 0 0 (cut x).cells none
 
--- the cells of a group, between the others
-abbrev pub cells_of : (x name : List ℕ) (group : Freed) → length x % 64 ≡ 0 → IsGroupOf name (cut x).cells group → CellsBetween x group.start group.end
-cells_of x name group aligned g =
-    between x group g.before (g.row_before ++ (g.component ∷ g.row_after)) g.after aligned (g.whole ∙ ap (λ (l : List (List ℕ)). g.before ++ l) (sym (append_assoc g.row_before (g.component ∷ g.row_after) g.after))) g.start_is
-    (omega (arith, g.end_is, ap length (concat-append g.row_before (g.component ∷ g.row_after)), length-append (concat g.row_before) (g.component ++ concat g.row_after), length-append g.component (concat g.row_after)))
+-- the cells of a group one after the other, and where it ends
+pub whole_of : (name : List ℕ) (cells : List (List ℕ)) (group : Freed) (g : IsGroupOf name cells group) → cells ≡ g.range.before ++ (g.row_before ++ (g.component ∷ (g.row_after ++ g.range.after)))
+whole_of name cells group g = g.range.whole ∙ ap (λ (row : List (List ℕ)). g.range.before ++ (row ++ g.range.after)) g.row_is ∙ ap (λ (l : List (List ℕ)). g.range.before ++ l) (append_assoc g.row_before (g.component ∷ g.row_after) g.range.after)
+
+pub end_of : (name : List ℕ) (cells : List (List ℕ)) (group : Freed) (g : IsGroupOf name cells group) → group.start + length (concat g.row_before) + length g.component + length (concat g.row_after) ≡ group.end
+end_of name cells group g = omega (arith, g.range.end_is, ap (λ (row : List (List ℕ)). length (concat row)) g.row_is, length-group g.row_before g.component g.row_after)
 
 -- a component has bytes
 component_some : (c : List ℕ) → IsComponent c → 0 < length c
@@ -158,36 +190,20 @@ component_some [] is = absurd cc
 component_some (b ∷ c) is = omega arith
 
 pub group_some : (x name : List ℕ) (group : Freed) → IsGroupOf name (cut x).cells group → group.start < group.end
-group_some x name group g = omega (arith, g.end_is, component_some g.component g.is_component)
+group_some x name group g = omega (arith, end_of name (cut x).cells group g, component_some g.component g.is_component)
 
 -- ---- and each such group is what a removal takes
 
--- a row of free cells at the begin, which no other free cell follows
-prefix_row : (row after : List (List ℕ)) → All IsFree row → BeginsWithComponent after → free_prefix (row ++ after) ≡ length (concat row)
-unfolding free_prefix
-prefix_row [] [] free begins = refl
-prefix_row [] (c ∷ after) free begins = rw begins refl
-prefix_row (c ∷ row) after free begins =
-    rw (All-head IsFree c row free) (ap (λ n. length c + n) (prefix_row row after (All-tail IsFree c row free) begins) ∙ sym (length-append c (concat row)))
-
--- over free cells the group grows
-over_row : (name : List ℕ) (start at : ℕ) (row cells : List (List ℕ)) → All IsFree row → group_from name start at (row ++ cells) ≡ group_from name start (at + length (concat row)) cells
-unfolding group_from
-over_row name start at [] cells free = ap (λ n. group_from name start n cells) (let e : at ≡ at + 0 = omega arith in e)
-over_row name start at (c ∷ row) cells free =
-    let place : at + length c + length (concat row) ≡ at + length (concat (c ∷ row)) = omega (arith, length-append c (concat row)) in
-    rw (All-head IsFree c row free) (over_row name start (at + length c) row cells (All-tail IsFree c row free) ∙ ap (λ n. group_from name start n cells) place)
-
 -- a component of the name ends the search
 at_component : (name : List ℕ) (start at : ℕ) (c : List ℕ) (cells : List (List ℕ)) → IsComponent c → bytes_eq (cell_name c) name ≡ true
-    → group_from name start at (c ∷ cells) ≡ Some (record { start = start; end = at + length c + free_prefix cells })
-unfolding group_from
+    → group_from name start at (c ∷ cells) ≡ Some (record { start = start; end = row_end (at + length c) cells })
+unfolding by_rows
 at_component name start at c cells used named = rw (used, named) refl
 
 -- cells of which none has the name, and the last is a component
 over_others : (name : List ℕ) (start at : ℕ) (before cells : List (List ℕ)) → (before ≡ [] → start ≡ at) → EndsWithComponent before → All (IsNot name) before
     → group_from name start at (before ++ cells) ≡ group_from name (at + length (concat before)) (at + length (concat before)) cells
-unfolding group_from
+unfolding by_rows
 over_others name start at [] cells fresh ends others =
     ap (λ n. group_from name n at cells) (fresh refl) ∙ ap (λ n. group_from name n n cells) (let e : at ≡ at + 0 = omega arith in e)
 over_others name start at (c ∷ before) cells fresh ends others =
@@ -202,16 +218,26 @@ over_others name start at (c ∷ before) cells fresh ends others =
 
 one_group : (x name : List ℕ) (group : Freed) → IsGroupOf name (cut x).cells group → group_of x name ≡ Some group
 one_group x name group is =
-    let behind : List (List ℕ) = is.row_after ++ is.after in
-    let first : 0 + length (concat is.before) ≡ group.start = omega (arith, is.start_is) in
-    let last : group.start + length (concat is.row_before) + length is.component + free_prefix behind ≡ group.end =
-    omega (arith, prefix_row is.row_after is.after is.row_after_free is.no_more_after, is.end_is) in
-    ap (λ (cells : List (List ℕ)). group_from name 0 0 cells) is.whole
-    ∙ over_others name 0 0 is.before (is.row_before ++ (is.component ∷ behind)) (λ none. refl) is.no_more_before is.first
+    let behind : List (List ℕ) = is.row_after ++ is.range.after in
+    let first : 0 + length (concat is.range.before) ≡ group.start = omega (arith, is.range.start_is) in
+    let next = group.start + length (concat is.row_before) + length is.component in
+    let last : row_end next behind ≡ group.end = row_ends next is.row_after is.range.after is.row_after_free is.range.no_more_after ∙ end_of name (cut x).cells group is in
+    ap (λ (cells : List (List ℕ)). group_from name 0 0 cells) (whole_of name (cut x).cells group is)
+    ∙ over_others name 0 0 is.range.before (is.row_before ++ (is.component ∷ behind)) (λ none. refl) is.range.no_more_before is.first
     ∙ ap (λ n. group_from name n n (is.row_before ++ (is.component ∷ behind))) first
-    ∙ over_row name group.start group.start is.row_before (is.component ∷ behind) is.row_before_free
+    ∙ over_row _ _ group.start group.start is.row_before (is.component ∷ behind) is.row_before_free
     ∙ at_component name group.start (group.start + length (concat is.row_before)) is.component behind is.is_component is.named
     ∙ ap (λ n. Some (let r : Freed = record { start = group.start; end = n } in r)) last
 
+-- where no component has the name
+no_group : (x name : List ℕ) (found : Option Freed) → group_of x name ≡ found → All (IsNot name) (cut x).cells → None ≡ found
+no_group x name None is none = refl
+no_group x name (Some group) is none =
+    let g = group_exact x name group is in
+    let behind : List (List ℕ) = g.component ∷ (g.row_after ++ g.range.after) in
+    let here : Contains (cut x).cells g.component = subst (λ (l : List (List ℕ)). Contains l g.component) (sym (whole_of name (cut x).cells group g)) (Contains-append_right g.range.before (g.row_before ++ behind) g.component (Contains-append_right g.row_before behind g.component (0, omega arith, refl))) in
+    absurd (both_ways (bytes_eq (cell_name g.component) name) (All-contains (IsNot name) (cut x).cells g.component none here g.is_component) g.named)
+
 pub groups_exact : GroupsAreExact
-groups_exact x name group = (group_exact x name group, one_group x name group)
+groups_exact x name None = (no_group x name (group_of x name) refl, λ none. group_none x name (sym none))
+groups_exact x name (Some group) = (λ is. sym (one_group x name group is), λ same. group_exact x name group (sym same))

@@ -1,18 +1,18 @@
 -- The writes of a component: what they come to, and what the region holds where they stop.
-use Rattle.std.proofs.Common.{◌≡◌, ⊎_elim, ℕ, ◌+◌, ◌-◌, ◌≤◌, true, false, List, [], ◌++◌, length, take, drop, replicate, Option, None, sym, ◌∙◌, ap, arith, rules, append_assoc, length-append, length-drop, take-append-drop, ◌⊎◌, inl, inr, ◌^◌, ◌<◌, Result, Ok, Err, subst, refl}
-use Rattle.std.specs.Prelude.{◌==◌, is_some, max, OnErr}
+use Rattle.std.proofs.Common.{◌≡◌, ⊎_elim, ℕ, ◌+◌, ◌-◌, ◌≤◌, true, false, List, [], ◌++◌, length, take, drop, replicate, Option, Some, None, sym, ◌∙◌, ap, arith, rules, append_assoc, length-append, length-drop, take-append-drop, ◌⊎◌, inl, inr, ◌^◌, ◌<◌, Result, Ok, Err, subst, refl}
+use Rattle.std.specs.Prelude.{◌==◌, is_some, max, OnErr, option_copied}
 use Rattle.std.proofs.lemmas.Bool.{cases_eq, eq-eqb, ne_eqb, cond_both, eqb-false}
 use Rattle.std.proofs.lemmas.List.{append-nil, length-replicate, length-take-le}
 use Rattle.flash_format.specs.Head.{header_length, round64}
 use Rattle.flash_format.specs.EmptyEntries.{empty_header, empty_entry, padding}
-use Rattle.flash_format.specs.Made.{KeepsFour, hash_len, meta_length, made, made_metadata, described, described_len, pointed}
+use Rattle.flash_format.specs.Made.{KeepsFour, hash_len, made, made_metadata, described, described_len}
 use Rattle.flash_format.proofs.EmptyEntryLaws.{length-empty_header}
 use Rattle.flash_format.proofs.MadeLaws.{length-padding}
 use Rattle.flash_store.specs.Bytes.{overwritten, SameOutside}
 use Rattle.flash_store.proofs.BytesLemmas.{length-overwritten, drop-overwritten, further}
 use Rattle.cbfs_edit.specs.declared.place.Place.{Place}
 use Rattle.cbfs_edit.specs.Removals.{last_four, kept_at, removed, space_end}
-use Rattle.cbfs_edit.specs.Additions.{empty_between, NewComponent, added, attribute_len, digest_of, header_of, labelled, wanted_for}
+use Rattle.cbfs_edit.specs.Additions.{empty_between, NewComponent, added, digest_of, header_of, labelled, wanted_for}
 use Rattle.cbfs_edit.specs.Insertions.{HasRoom, held_back, with_metadata, bounded, shown_by, finished, IsUnfinished}
 use Rattle.cbfs_edit.proofs.Changes.{is_some-cond, keeps, kept-none}
 use Rattle.cbfs_edit.proofs.Lists.{over_part, padding-begins, padding-split}
@@ -20,11 +20,9 @@ use Rattle.flash_format.specs.declared.digest.Digest.{Digest}
 use Rattle.flash_format.specs.declared.meta.Meta.{Meta}
 use Rattle.flash_store.specs.Regions.{Range, LiesIn, bytes_in}
 use Rattle.flash_store.proofs.DeviceLemmas.{length-bytes_in}
-use Rattle.cbfs_walk.specs.Hashes.{sha256_of, sha512_of}
-use Rattle.cbfs_edit.specs.Placings.{Fits}
+use Rattle.cbfs_edit.specs.Places.{Fits}
 use Rattle.cbfs_edit.specs.Stops.{IsEmptied, IsInsertStop, IsOldOrEmptied, written_to}
-use Rattle.cbfs_edit.specs.declared.addition.HashChoice.{HashChoice}
-use Rattle.cbfs_edit.specs.declared.addition.HashChoice.TheVariants.{Plain}
+use Rattle.flash_format.specs.declared.digest.Digest.TheVariants as digests
 use Rattle.cbfs_edit.specs.declared.addition.Label.{Label}
 use Rattle.cbfs_edit.specs.declared.group.Freed.{Freed}
 use Rattle.cbfs_edit.specs.declared.place.Wanted.{Wanted}
@@ -66,17 +64,17 @@ module _ (x : List ℕ) (place : Place) (end : ℕ) (metadata : List ℕ) (room 
 
   later : (h ≡ s → ⊥) → HasMetadata x place metadata
   later other =
-      let apart : s + 64 ≤ h = omega (arith, other, room.start_below, room.run.start_aligned, room.header_aligned) in
+      let apart : s + 64 ≤ h = omega (arith, other, room.start_below, room.run.start_aligned, room.cell.start_aligned) in
       let there : (h == s) ≡ false = ne_eqb h s other in
       let some : (s == h) ≡ false = ne_eqb s h (λ q. absurd (omega (arith, q, apart))) in
-      let nothing : kept_at x h ≡ None = kept-none x h (omega (arith, room.metadata_is, room.metadata_long, room.content_below, room.end_below, room.run.inside)) in
+      let nothing : kept_at x h ≡ None = kept-none x h (omega (arith, room.metadata_is, room.metadata_long, room.content_below, room.cell.inside, room.run.inside)) in
       record {
         space = h - s - header_length;
         rest_at = rw there (omega (arith, apart));
         begin_long = rw there (length-empty_header (h - s) false);
         rest_long = rw there (omega (arith, room.metadata_is, apart));
         whole = rw (there, some, nothing) (sym (append_assoc (empty_header (h - s) false) (replicate (h - s - header_length) 0xff) metadata));
-        room = omega (arith, apart, room.metadata_is, room.metadata_long, room.content_below, room.end_below);
+        room = omega (arith, apart, room.metadata_is, room.metadata_long, room.content_below, room.cell.inside);
       }
 
   pub has_metadata : HasMetadata x place metadata
@@ -106,7 +104,7 @@ module _ (x : List ℕ) (place : Place) (end : ℕ) (metadata : List ℕ) (room 
 
     bound_other : (y : List ℕ) (p : List ℕ) → length p ≡ d - s → (end ≡ e → ⊥) → y ≡ overwritten x s (p ++ tail) → bounded y end e ≡ overwritten x s (p ++ after)
     bound_other y p long other is =
-        let apart : end + 64 ≤ e = omega (arith, other, room.end_below, room.end_aligned, room.run.end_aligned) in
+        let apart : end + 64 ≤ e = omega (arith, other, room.cell.inside, room.cell.end_aligned, room.run.end_aligned) in
         let n = e - end - header_length in
         let gap : List ℕ = replicate (end - d) 0xff in
         let q : List ℕ = take header_length (padding (header_length + n) last) in
@@ -149,7 +147,7 @@ module _ (x : List ℕ) (place : Place) (end : ℕ) (metadata : List ℕ) (room 
         let space : List ℕ = replicate g 0xff in
         let u1 : List ℕ = take v (padding b last) in
         let u2 : List ℕ = take (length content) (padding (length content + (e - d)) last) in
-        let sum : size - header_length ≡ g + b = omega (arith, f.rest_long, f.room, fits, room.end_below, room.run.some) in
+        let sum : size - header_length ≡ g + b = omega (arith, f.rest_long, f.room, fits, room.cell.inside, room.run.some) in
         let enough : 4 ≤ b = omega (arith, sum, f.room, room.run.some) in
         let pad : padding (size - header_length) last ≡ space ++ (u1 ++ (u2 ++ tail)) =
         ap (λ k. padding k last) sum
@@ -187,28 +185,24 @@ module _ (x : List ℕ) (place : Place) (end : ℕ) (metadata : List ℕ) (room 
 -- ---- the stages: the empty entry over the run, the content, the metadata with what shows it
 
 -- the attribute of a digest
-pub attribute-is : (hash : HashChoice) (content : List ℕ) → attribute_len hash ≡ hash_len (digest_of hash content)
-unfolding sha256_of sha512_of
-attribute-is Plain content = refl
-attribute-is other content = refl
-
-pub attribute-short : (hash : HashChoice) → attribute_len hash ≤ 76
-attribute-short Plain = omega arith
-attribute-short other = omega arith
+pub hash_short : (d : Option Digest) → hash_len d ≤ 76
+hash_short None = omega arith
+hash_short (Some (digests.Sha256 bytes)) = omega arith
+hash_short (Some (digests.Sha512 bytes)) = omega arith
 
 -- a description by its parts
-pub described-is : (m : Meta) (name : List ℕ) (kind : ℕ) (digest : Option Digest) (gap n : ℕ) → m.name.now ≡ name → m.kind ≡ kind → pointed m.digest ≡ digest → m.gap ≡ gap → m.len ≡ n
+pub described-is : (m : Meta) (name : List ℕ) (kind : ℕ) (digest : Option Digest) (gap n : ℕ) → m.name.now ≡ name → m.kind ≡ kind → option_copied m.digest ≡ digest → m.gap ≡ gap → m.len ≡ n
     → described m ≡ made_metadata name kind digest gap n
 described-is m name kind digest gap n is_name is_kind is_digest is_gap is_len = rw (is_name, is_kind, is_digest, is_gap, is_len) refl
 
 -- where a component fits there is room for its metadata
 pub room-for : (size : ℕ) (label : Label) (content : List ℕ) (wanted : Wanted) (place : Place) (m : Meta) (digest : Option Digest) → size < 2 ^ 32 → Fits wanted size place → length label.name.now ≤ 127
-    → wanted ≡ wanted_for (labelled label content) wanted.spot → m.name.now ≡ label.name.now → pointed m.digest ≡ digest → m.gap ≡ place.content - place.header - wanted.header → hash_len digest ≡ attribute_len label.hash
+    → wanted ≡ wanted_for (labelled label content) wanted.spot → m.name.now ≡ label.name.now → option_copied m.digest ≡ digest → m.gap ≡ place.content - place.header - wanted.header → hash_len digest ≡ hash_len (digest_of label.hash content)
     → HasRoom size place (round64 (place.content + wanted.len)) (described_len m)
 room-for size label content wanted place m digest small fits short is is_name is_digest is_gap digest_len =
-    let header : wanted.header ≡ meta_length (length label.name.now) (attribute_len label.hash) = ap (λ (w : Wanted). w.header) is ∙ ap (λ n. meta_length (length label.name.now) n) (sym (attribute-is label.hash content)) in
+    let header : wanted.header ≡ header_of (labelled label content) = ap (λ (w : Wanted). w.header) is in
     let long : described_len m ≡ wanted.header + (place.content - place.header - wanted.header) = rw (is_name, is_digest, is_gap, digest_len, header) refl in
-    let few : attribute_len label.hash ≤ 76 = attribute-short label.hash in
+    let few = hash_short (digest_of label.hash content) in
     search rules
 
 -- what is left by any error
@@ -223,15 +217,15 @@ finished-last z place end to metadata room content last =
     let at = place.header + held_back place in
     let rest : List ℕ = drop (held_back place) metadata in
     let f : List ℕ = overwritten z at rest in
-    let f_size : length f ≡ length z = length-overwritten z at rest (omega (arith, k.rest_at, k.rest_long, room.content_below, room.end_below, room.run.inside)) in
+    let f_size : length f ≡ length z = length-overwritten z at rest (omega (arith, k.rest_at, k.rest_long, room.content_below, room.cell.inside, room.run.inside)) in
     let header : List ℕ = empty_header (place.run.end - end) (place.run.end == length f) in
     let long : length header ≡ header_length = length-empty_header (place.run.end - end) (place.run.end == length f) in
-    let there : end ≤ length f = omega (arith, f_size, room.end_below, room.run.inside) in
+    let there : end ≤ length f = omega (arith, f_size, room.cell.inside, room.run.inside) in
     let IsAlike : List ℕ → Type 0 = λ l. (drop to l ≡ drop to z) × (place.run.start ≤ length l) in
-    let first : IsAlike f = (drop-overwritten z at rest to (omega (arith, k.rest_at, k.rest_long, content)) (omega (arith, k.rest_at, k.rest_long, room.content_below, room.end_below, room.run.inside)), omega (arith, f_size, room.run.some, room.run.inside)) in
+    let first : IsAlike f = (drop-overwritten z at rest to (omega (arith, k.rest_at, k.rest_long, content)) (omega (arith, k.rest_at, k.rest_long, room.content_below, room.cell.inside, room.run.inside)), omega (arith, f_size, room.run.some, room.run.inside)) in
     let second : IsAlike (bounded f end place.run.end) =
     cond_both (end == place.run.end) f (overwritten f end header) IsAlike (λ e. first)
-    (λ e. let fits : end + header_length ≤ place.run.end - 4 = omega (arith, eqb-false end place.run.end e, room.end_below, room.end_aligned, room.run.end_aligned) in
+    (λ e. let fits : end + header_length ≤ place.run.end - 4 = omega (arith, eqb-false end place.run.end e, room.cell.inside, room.cell.end_aligned, room.run.end_aligned) in
     (drop-overwritten f end header to (omega (arith, long, fits, last)) there ∙ first.0, omega (arith, length-overwritten f end header (omega (arith, long, fits, f_size, room.run.inside)), first.1))) in
     drop-overwritten (bounded f end place.run.end) place.run.start (shown_by place metadata) to (omega (arith, k.begin_long, room.start_below, room.metadata_is, room.metadata_long, content)) second.1 ∙ second.0
 
@@ -249,8 +243,8 @@ module _ (r : Range) (old : List ℕ) (label : Label) (content : List ℕ) (want
   abbrev to : ℕ
   to = written_to r.size wanted.len place
 
-  is_header : wanted.header ≡ meta_length (length label.name.now) (attribute_len label.hash)
-  is_header = ap (λ (w : Wanted). w.header) is ∙ ap (λ n. meta_length (length label.name.now) n) (sym (attribute-is label.hash content))
+  is_header : wanted.header ≡ header_of new
+  is_header = ap (λ (w : Wanted). w.header) is
 
   len : wanted.len ≡ length content
   len = ap (λ (w : Wanted). w.len) is
@@ -286,8 +280,8 @@ module _ (r : Range) (old : List ℕ) (label : Label) (content : List ℕ) (want
       pub copied_stop : (Done : Type 0) → IsInsertStop run to Done x z
       copied_stop Done = inl (inr copied_emptied)
 
-      module _ (meta : Meta) (digest : Option Digest) (is_name : meta.name.now ≡ label.name.now) (is_kind : meta.kind ≡ label.kind) (is_digest : pointed meta.digest ≡ digest) (is_gap : meta.gap ≡ place.content - place.header - wanted.header)
-          (is_len : meta.len ≡ wanted.len) (digest_len : hash_len digest ≡ attribute_len label.hash) (metadata_len : length (described meta) ≡ described_len meta) (small : length old < 2 ^ 32) where
+      module _ (meta : Meta) (digest : Option Digest) (is_name : meta.name.now ≡ label.name.now) (is_kind : meta.kind ≡ label.kind) (is_digest : option_copied meta.digest ≡ digest) (is_gap : meta.gap ≡ place.content - place.header - wanted.header)
+          (is_len : meta.len ≡ wanted.len) (digest_len : hash_len digest ≡ hash_len new.digest) (metadata_len : length (described meta) ≡ described_len meta) (small : length old < 2 ^ 32) where
         abbrev metadata : List ℕ
         metadata = described meta
 
@@ -309,9 +303,8 @@ module _ (r : Range) (old : List ℕ) (label : Label) (content : List ℕ) (want
               let whole : List ℕ = metadata ++ content in
               let long : length whole ≡ d - place.header = omega (arith, length-append metadata content, room.metadata_is) in
               let pad : end - d ≡ round64 (length whole) - length whole = omega (arith, long, fits.header.aligned, fits.header.room, len) in
-              let header : wanted.header ≡ header_of new = ap (λ (w : Wanted). w.header) is in
               let is_metadata : metadata ≡ made_metadata new.name new.kind new.digest gap (length content) =
-              described-is meta label.name.now label.kind new.digest gap (length content) is_name is_kind (is_digest ∙ digest_is) (is_gap ∙ ap (λ n. place.content - place.header - n) header) (is_len ∙ len) in
+              described-is meta label.name.now label.kind new.digest gap (length content) is_name is_kind (is_digest ∙ digest_is) (is_gap ∙ ap (λ n. place.content - place.header - n) is_header) (is_len ∙ len) in
               let before : List ℕ = empty_between x run.start place.header in
               third
               ∙ ap (λ (l : List ℕ). finished l place end metadata) (second ∙ ap (λ (l : List ℕ). overwritten l place.content content) emptied)

@@ -1,15 +1,15 @@
 -- The place of a new component is the least allowed one of the first run that has one.
-use Rattle.std.proofs.Common.{◌≡◌, ◌≢◌, ℕ, ◌+◌, ◌-◌, ◌*◌, ◌/◌, ◌%◌, ◌<◌, ◌≤◌, Bool, true, false, cond, List, [], ◌∷◌, ◌++◌, length, All, ap, subst, sym, ◌∙◌, refl, arith, rules, zero, suc, Option, Some, None, Ok, Err}
-use Rattle.std.specs.Prelude.{◌&&◌, nat_le, MatchOption, option_map, is_some}
-use Rattle.std.specs.Option.{option_or}
+use Rattle.std.proofs.Common.{◌≡◌, ℕ, ◌+◌, ◌-◌, ◌*◌, ◌/◌, ◌%◌, ◌<◌, ◌≤◌, Bool, true, false, cond, List, [], ◌∷◌, ◌++◌, length, All, ap, subst, sym, ◌∙◌, refl, arith, rules, Option, Some, None, Ok, Err}
+use Rattle.std.specs.Prelude.{◌&&◌, nat_le, MatchOption, is_some, ok_or}
+use Rattle.std.specs.List.{cons_option, filter_map, slice_get}
 use Rattle.std.specs.Int.{next_multiple_of}
-use Rattle.std.proofs.lemmas.Bool.{leb-false, leb-true}
+use Rattle.std.proofs.lemmas.Bool.{eqb-false, leb-false, leb-true}
 use Rattle.std.proofs.lemmas.List.Elements.{All-nil, All-cons, All-head, All-tail, All-weaker}
 use Rattle.std.proofs.Math.Nat.{add-mod-mod, mul-mod_left, mod-lt, div-add-mod, lt_of_mul-lt-mul_right, mul-le-mul_right}
-use Rattle.cbfs_edit.specs.Places.{Meets, IsLeast, HasNoRoom, IsAllowed, IsHeaderOf, IsFirstPlace, IsPlace, IsPlaceAmong, IsWanted, limit_of, least_from, least_in, place_at, place_among, place_of, placed, placing_in}
+use Rattle.cbfs_edit.specs.Places.{is_bad_align, Meets, HasNoRoom, IsAllowed, IsHeaderOf, IsFirstPlace, IsPlaceAmong, IsWanted, limit_of, least_from, place_in, first_place, placing_in}
 use Rattle.cbfs_edit.specs.Groups.{IsCellRange}
 use Rattle.cbfs_edit.specs.Laws.{PlacesAreExact}
-use Rattle.cbfs_edit.specs.Placings.{Fits}
+use Rattle.cbfs_edit.specs.Places.{Fits}
 use Rattle.cbfs_edit.specs.Runs.{runs}
 use Rattle.cbfs_edit.specs.declared.group.Freed.{Freed}
 use Rattle.cbfs_edit.specs.declared.place.Spot.{Spot}
@@ -23,9 +23,8 @@ use Rattle.cbfs_walk.specs.Finding.{first_named}
 use Rattle.cbfs_edit.proofs.Sound.{IsAccepted, IsSound, accepted_by, found-some}
 use Rattle.cbfs_edit.specs.declared.fault.EditFault.TheVariants as faults
 
-some_unit : (unit : ℕ) → (let s : Spot = Aligned unit in s) ≢ Aligned 0 → 0 < unit
-some_unit zero some = absurd (some refl)
-some_unit (suc unit) some = omega arith
+some_unit : (unit : ℕ) → is_bad_align (Aligned unit) ≡ false → 0 < unit
+some_unit unit good = omega (arith, eqb-false unit 0 good)
 
 next-whole : (from unit : ℕ) → 0 < unit → next_multiple_of from unit % unit ≡ 0
 next-whole from unit some =
@@ -46,26 +45,29 @@ multiple_least unit from d some below whole =
     omega (arith, enough, here, there, next-whole from unit some)
 
 -- the least place from a place on that a spot allows
-pub least_from-least : (spot : Spot) (from d : ℕ) → spot ≢ Aligned 0 → from ≤ d → Meets spot d → least_from spot from ≤ d
+pub least_from-least : (spot : Spot) (from d : ℕ) → is_bad_align spot ≡ false → from ≤ d → Meets spot d → least_from spot from ≤ d
 least_from-least First from d some below meets = below
 least_from-least (Aligned unit) from d some below meets = multiple_least unit from d (some_unit unit some) below meets
 least_from-least (Fixed place) from d some below meets = omega arith
 
-pub least_from-meets : (spot : Spot) (from : ℕ) → spot ≢ Aligned 0 → Meets spot (least_from spot from)
+pub least_from-meets : (spot : Spot) (from : ℕ) → is_bad_align spot ≡ false → Meets spot (least_from spot from)
 least_from-meets First from some = tt
 least_from-meets (Aligned unit) from some = next-whole from unit (some_unit unit some)
 least_from-meets (Fixed place) from some = refl
 
 -- where that is before it, the spot allows none from it on
-least_from-none : (spot : Spot) (from d : ℕ) → spot ≢ Aligned 0 → least_from spot from < from → from ≤ d → Meets spot d → ⊥
+least_from-none : (spot : Spot) (from d : ℕ) → is_bad_align spot ≡ false → least_from spot from < from → from ≤ d → Meets spot d → ⊥
 least_from-none First from d some less below meets = omega arith
 least_from-none other from d some less below meets = omega arith
 
-pub header_lemma : (wanted : Wanted) (run : Freed) (c : ℕ) → wanted.header ≤ c → IsHeaderOf wanted (place_at wanted run c)
+abbrev place_at : Wanted → Freed → ℕ → Place
+place_at wanted run c = record { run = run; header = (c - wanted.header) / 64 * 64; content = c }
+
+header_lemma : (wanted : Wanted) (run : Freed) (c : ℕ) → wanted.header ≤ c → IsHeaderOf wanted (place_at wanted run c)
 header_lemma wanted run c above = record { aligned = omega arith; room = omega arith; largest = omega arith }
 
-pub least_in-right : (wanted : Wanted) (size : ℕ) (run : Freed) → IsWanted wanted → MatchOption (least_in wanted size run) (HasNoRoom wanted size run) (IsLeast wanted size run)
-least_in-right wanted size run is = go (nat_le from c) (nat_le (c + wanted.len) limit) refl refl
+pub place_in-right : (wanted : Wanted) (size : ℕ) (run : Freed) (later : List Freed) → IsWanted wanted → MatchOption (place_in wanted size run) (HasNoRoom wanted size run) (IsFirstPlace wanted size (run ∷ later))
+place_in-right wanted size run later is = go (nat_le from c) (nat_le (c + wanted.len) limit) refl refl
   where
     from : ℕ
     from = run.start + wanted.header
@@ -77,37 +79,35 @@ least_in-right wanted size run is = go (nat_le from c) (nat_le (c + wanted.len) 
     limit = limit_of wanted.spot size run.end
 
     go : (a b : Bool) → nat_le from c ≡ a → nat_le (c + wanted.len) limit ≡ b
-        → MatchOption (cond (a && b) (Some c) None) (HasNoRoom wanted size run) (IsLeast wanted size run)
+        → MatchOption (cond (a && b) (Some (place_at wanted run c)) None) (HasNoRoom wanted size run) (IsFirstPlace wanted size (run ∷ later))
     go false b ta tb = λ d allowed. least_from-none wanted.spot from d is.spot (leb-false from c ta) allowed.after_header allowed.meets
     go true false ta tb = λ d allowed. omega (arith, least_from-least wanted.spot from d is.spot allowed.after_header allowed.meets, allowed.ends, leb-false (c + wanted.len) limit tb)
     go true true ta tb = record {
+      before = [];
+      later = later;
+      whole = refl;
+      none_before = All-nil (HasNoRoom wanted size);
       allowed = record { after_header = leb-true from c ta; meets = least_from-meets wanted.spot from is.spot; ends = leb-true (c + wanted.len) limit tb };
       least = λ d allowed. least_from-least wanted.spot from d is.spot allowed.after_header allowed.meets;
+      header = header_lemma wanted run c (omega (arith, leb-true from c ta));
     }
 
 limit_below : (spot : Spot) (size end : ℕ) → limit_of spot size end ≤ end
 limit_below (Fixed place) size end = omega arith
 limit_below other size end = (space_end-near size end).0
 
--- a component fits at the least place of a run
-pub fits_there : (wanted : Wanted) (size : ℕ) (place : Place) → IsCellRange place.run size → IsLeast wanted size place.run place.content → IsHeaderOf wanted place → Fits wanted size place
-fits_there wanted size place range least header = let below = limit_below wanted.spot size place.run.end in search rules
+-- a component fits at a place of a run from which on there is room for it
+pub fits_there : (wanted : Wanted) (size : ℕ) (place : Place) → IsCellRange place.run size → place.run.start + wanted.header ≤ place.content → place.content + wanted.len ≤ limit_of wanted.spot size place.run.end → IsHeaderOf wanted place → Fits wanted size place
+fits_there wanted size place range after ends header = let below = limit_below wanted.spot size place.run.end in search rules
 
-pub place_among-right : (wanted : Wanted) (size : ℕ) (runs : List Freed) → IsWanted wanted → IsPlaceAmong wanted size runs (place_among wanted size runs)
-unfolding place_among
-place_among-right wanted size [] is = All-nil (HasNoRoom wanted size)
-place_among-right wanted size (run ∷ later) is = go (least_in wanted size run) (least_in-right wanted size run is) (place_among wanted size later) (place_among-right wanted size later is)
+-- the same with the head at the last multiple of 64 that leaves room for the metadata
+pub fits_at : (wanted : Wanted) (size : ℕ) (run : Freed) (c : ℕ) → IsCellRange run size → run.start + wanted.header ≤ c → c + wanted.len ≤ limit_of wanted.spot size run.end → Fits wanted size (place_at wanted run c)
+fits_at wanted size run c range after ends = fits_there wanted size (place_at wanted run c) range after ends (header_lemma wanted run c (omega arith))
+
+pub first_place-right : (wanted : Wanted) (size : ℕ) (runs : List Freed) → IsWanted wanted → IsPlaceAmong wanted size runs (first_place wanted size runs)
+first_place-right wanted size [] is = All-nil (HasNoRoom wanted size)
+first_place-right wanted size (run ∷ later) is = go (place_in wanted size run) (place_in-right wanted size run later is) (filter_map (place_in wanted size) later) (first_place-right wanted size later is)
   where
-    here : (c : ℕ) → IsLeast wanted size run c → IsFirstPlace wanted size (run ∷ later) (place_at wanted run c)
-    here c least = record {
-      before = [];
-      later = later;
-      whole = refl;
-      none_before = All-nil (HasNoRoom wanted size);
-      content = least;
-      header = header_lemma wanted run c (omega (arith, least.allowed.after_header));
-    }
-
     after : (q : Option Place) → HasNoRoom wanted size run → IsPlaceAmong wanted size later q → IsPlaceAmong wanted size (run ∷ later) q
     after None none rest = All-cons (HasNoRoom wanted size) run later none rest
     after (Some place) none rest = record {
@@ -115,14 +115,14 @@ place_among-right wanted size (run ∷ later) is = go (least_in wanted size run)
       later = rest.later;
       whole = ap (λ (l : List Freed). run ∷ l) rest.whole;
       none_before = All-cons (HasNoRoom wanted size) run rest.before none rest.none_before;
-      content = rest.content;
+      allowed = rest.allowed;
+      least = rest.least;
       header = rest.header;
     }
 
-    go : (o : Option ℕ) → MatchOption o (HasNoRoom wanted size run) (IsLeast wanted size run) → (q : Option Place) → IsPlaceAmong wanted size later q
-        → IsPlaceAmong wanted size (run ∷ later) (option_or (option_map (place_at wanted run) o) q)
-    go None none q rest = after q none rest
-    go (Some c) least q rest = here c least
+    go : (o : Option Place) → MatchOption o (HasNoRoom wanted size run) (IsFirstPlace wanted size (run ∷ later)) → (places : List Place) → IsPlaceAmong wanted size later (slice_get places 0) → IsPlaceAmong wanted size (run ∷ later) (slice_get (cons_option o places) 0)
+    go None none places rest = after (slice_get places 0) none rest
+    go (Some place) here places rest = here
 
 -- ---- no other place
 
@@ -147,22 +147,22 @@ module _ (wanted : Wanted) (size : ℕ) where
   pub one_place : (runs : List Freed) (p q : Option Place) → IsPlaceAmong wanted size runs p → IsPlaceAmong wanted size runs q → p ≡ q
   one_place runs None None is other = refl
   one_place runs None (Some q) is other =
-      absurd (no_room other.before other.later q.run q.content (subst (λ (l : List Freed). All (HasNoRoom wanted size) l) other.whole is) other.content.allowed)
+      absurd (no_room other.before other.later q.run q.content (subst (λ (l : List Freed). All (HasNoRoom wanted size) l) other.whole is) other.allowed)
   one_place runs (Some p) None is other =
-      absurd (no_room is.before is.later p.run p.content (subst (λ (l : List Freed). All (HasNoRoom wanted size) l) is.whole other) is.content.allowed)
+      absurd (no_room is.before is.later p.run p.content (subst (λ (l : List Freed). All (HasNoRoom wanted size) l) is.whole other) is.allowed)
   one_place runs (Some p) (Some q) is other =
       let run : p.run ≡ q.run =
-      (one_split HasRoom is.before is.later other.before other.later p.run q.run (p.content, is.content.allowed) (q.content, other.content.allowed) (without_room is.before is.none_before) (without_room other.before other.none_before)
+      (one_split HasRoom is.before is.later other.before other.later p.run q.run (p.content, is.allowed) (q.content, other.allowed) (without_room is.before is.none_before) (without_room other.before other.none_before)
       (sym is.whole ∙ other.whole)).same in
-      let no_more : p.content ≤ q.content = is.content.least q.content (subst (λ (r : Freed). IsAllowed wanted size r q.content) (sym run) other.content.allowed) in
-      let no_less : q.content ≤ p.content = other.content.least p.content (subst (λ (r : Freed). IsAllowed wanted size r p.content) run is.content.allowed) in
+      let no_more : p.content ≤ q.content = is.least q.content (subst (λ (r : Freed). IsAllowed wanted size r q.content) (sym run) other.allowed) in
+      let no_less : q.content ≤ p.content = other.least p.content (subst (λ (r : Freed). IsAllowed wanted size r p.content) run is.allowed) in
       let content : p.content ≡ q.content = omega arith in
       ap (λ (k : Place). Some k) (same_place p q run (omega (arith, is.header, other.header, content)) content)
 
 pub places_exact : PlacesAreExact
 places_exact x wanted found is =
-    let here = place_among-right wanted (length x) (runs x) is in
-    (λ place. one_place wanted (length x) (runs x) found (place_of x wanted) place here, λ same. subst (λ (o : Option Place). IsPlace x wanted o) (sym same) here)
+    let here = first_place-right wanted (length x) (runs x) is in
+    (λ place. one_place wanted (length x) (runs x) found (first_place wanted (length x) (runs x)) place here, λ same. subst (λ (o : Option Place). IsPlaceAmong wanted (length x) (runs x) o) (sym same) here)
 
 -- ---- where a place is answered no component has the name
 
@@ -170,16 +170,16 @@ places_exact x wanted found is =
 pub record IsAnsweredPlace (x name : List ℕ) (wanted : Wanted) (place : Place) : Type 0 where
   pub sound : IsSound x
   pub no_other : first_named name (components x) ≡ None
-  pub found : place_of x wanted ≡ Some place
+  pub found : first_place wanted (length x) (runs x) ≡ Some place
 
 pub answered_place : (x name : List ℕ) (wanted : Wanted) (place : Place) → placing_in x name wanted ≡ Ok place → IsAnsweredPlace x name wanted place
 unfolding placing_in
 answered_place x name wanted place is = by_name (first_named name (components x)) refl a.is
   where
-    a : IsAccepted x (cond (is_some (first_named name (components x))) (Err faults.Exists) (placed (place_of x wanted))) place
+    a : IsAccepted x (cond (is_some (first_named name (components x))) (Err faults.Exists) (ok_or (first_place wanted (length x) (runs x)) faults.NoSpace)) place
     a = accepted_by x _ place is
 
-    by_name : (o : Option Component) → first_named name (components x) ≡ o → cond (is_some o) (Err faults.Exists) (placed (place_of x wanted)) ≡ Ok place → IsAnsweredPlace x name wanted place
+    by_name : (o : Option Component) → first_named name (components x) ≡ o → cond (is_some o) (Err faults.Exists) (ok_or (first_place wanted (length x) (runs x)) faults.NoSpace) ≡ Ok place → IsAnsweredPlace x name wanted place
     by_name (Some c) e p = absurd cc
     by_name None e p =
-        record { sound = a.sound; no_other = e; found = found-some (place_of x wanted) faults.NoSpace place p }
+        record { sound = a.sound; no_other = e; found = found-some (first_place wanted (length x) (runs x)) faults.NoSpace place p }

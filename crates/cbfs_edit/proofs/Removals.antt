@@ -1,18 +1,18 @@
 -- An accepted removal: its group, what it leaves, and the one component that it takes.
 use Rattle.std.proofs.Common.{◌≡◌, ◌⊎◌, inl, inr, ℕ, ◌-◌, ◌%◌, ◌^◌, ◌<◌, List, length, Result, Ok, sym, ◌∙◌, ap, subst, arith, ◌+◌, false, [], ◌∷◌, ◌++◌, refl, All}
-use Rattle.std.specs.Prelude.{IsErrOf}
+use Rattle.std.specs.Prelude.{IsErrOf, ok_or}
 use Rattle.flash_store.specs.Regions.{Range, LiesIn, bytes_in}
 use Rattle.flash_store.proofs.DeviceLemmas.{length-bytes_in}
 use Rattle.flash_format.specs.Cut.{cut}
 use Rattle.cbfs_edit.specs.Groups.{IsCellRange, IsGroupOf, group_of, IsComponent, IsNot}
-use Rattle.cbfs_edit.specs.Removals.{found, removal_in, removed, space_end}
+use Rattle.cbfs_edit.specs.Removals.{removal_in, removed, space_end}
 use Rattle.flash_store.specs.Bytes.{overwritten, SameOutside}
 use Rattle.flash_store.proofs.RegionLemmas.{image_is}
 use Rattle.cbfs_edit.specs.Stops.{IsOldOrEmptied, LeavesWhole}
 use Rattle.cbfs_edit.specs.Laws.{EmptiedGroupsLackTheComponent, RemovalsTakeOneComponent}
 use Rattle.cbfs_edit.specs.declared.fault.EditFault.{EditFault}
 use Rattle.cbfs_edit.specs.declared.group.Freed.{Freed}
-use Rattle.cbfs_edit.proofs.Groups.{cells_of, group_exact, group_some}
+use Rattle.cbfs_edit.proofs.Groups.{between, end_of, group_exact, group_some, whole_of}
 use Rattle.cbfs_edit.proofs.Sound.{accepted_by, found-some}
 use Rattle.cbfs_edit.proofs.Emptied.{group_range, emptied-end, emptied-same, emptied-stopped, emptied-wider, space_end-below, space_end-near, emptied-components, removed-whole}
 use Rattle.std.specs.Str.{bytes_eq}
@@ -31,19 +31,21 @@ use Rattle.cbfs_edit.specs.declared.fault.EditFault.TheVariants as faults
 pub record IsAccepted (x name : List ℕ) (group : Freed) : Type 0 where
   pub whole : length x % 64 ≡ 0
   pub is : IsGroupOf name (cut x).cells group
+  pub cells : CellsBetween x group.start group.end
   pub range : IsCellRange group (length x)
 
 pub accepted : (x name : List ℕ) (group : Freed) → removal_in x name ≡ Ok group → IsAccepted x name group
 unfolding removal_in
 accepted x name group is =
-    let a = accepted_by x (found (group_of x name)) group is in
+    let a = accepted_by x (ok_or (group_of x name) faults.NotFound) group is in
     let g : IsGroupOf name (cut x).cells group = group_exact x name group (found-some (group_of x name) faults.NotFound group a.is) in
-    record { whole = a.sound.whole; is = g; range = group_range x group (cells_of x name group a.sound.whole g) (group_some x name group g) }
+    let cells = between x group a.sound.whole g.range in
+    record { whole = a.sound.whole; is = g; cells = cells; range = group_range x group cells (group_some x name group g) }
 
 pub emptied_lacks : EmptiedGroupsLackTheComponent
 emptied_lacks x name group y small is emptied =
     let a = accepted x name group is in
-    emptied-same x group a.range y emptied (cells_of x name group a.whole a.is) small
+    emptied-same x group a.range y emptied a.cells small
 
 -- what a removal leaves that stops at one of its writes
 pub removal_leaves : (r : Range) (name : List ℕ) (group : Freed) (old mid new : List ℕ) → LiesIn r old → length old < 2 ^ 32 → mid ≡ old
@@ -62,13 +64,12 @@ removal_leaves r name group old mid new lies small same (inr e) stop = left (rw 
         let to = space_end r.size group.end in
         let near = space_end-near r.size group.end in
         let whole = emptied-wider x group is.range to y emptied group.end near.0 in
-        let cells = cells_of x name group is.whole is.is in
         let x_small : length x < 2 ^ 32 = omega (arith, size, lies, small) in
         inr (
           group,
           sym e,
           emptied-stopped x group is.range to y emptied (removed x group) (length x - 4) (omega (arith, near.1, is.range.some)) near.0 (omega (arith, size, space_end-below r.size group.end (omega (arith, size, is.range.inside)) is.range.end_aligned (omega (arith, size, is.whole))))
-              (inr (emptied-same x group is.range y whole cells x_small).components) (emptied-end x group is.range y whole cells x_small),
+              (inr (emptied-same x group is.range y whole is.cells x_small).components) (emptied-end x group is.range y whole is.cells x_small),
         )
 
 -- the image after a change of its region alone
@@ -115,18 +116,22 @@ pub removal_takes_one : RemovalsTakeOneComponent
 removal_takes_one x name group small is =
     let a = accepted x name group is in
     let g = a.is in
-    let cells : CellsBetween x group.start group.end = cells_of x name group a.whole g in
-    let first : 0 + length (concat g.before) ≡ group.start = omega (arith, g.start_is) in
+    let r = g.range in
+    let cells = between x group a.whole r in
+    let first : 0 + length (concat r.before) ≡ group.start = omega (arith, r.start_is) in
     record {
-      before = components_from 0 g.before;
       component = component_at (group.start + length (concat g.row_before)) g.component;
-      after = components_from group.end g.after;
-      was = ap (λ (l : List (List ℕ)). components_from 0 l) g.whole
-          ∙ components-append 0 g.before (g.row_before ++ (g.component ∷ (g.row_after ++ g.after)))
-          ∙ ap (λ n. components_from 0 g.before ++ components_from n (g.row_before ++ (g.component ∷ (g.row_after ++ g.after)))) first
-          ∙ ap (λ (l : List Component). components_from 0 g.before ++ l) (row_of_one group.start group.end g.row_before g.row_after g.after g.component g.row_before_free g.row_after_free g.is_component g.end_is);
+      was = record {
+        before = components_from 0 r.before;
+        after = components_from group.end r.after;
+        whole =
+            ap (λ (l : List (List ℕ)). components_from 0 l) (whole_of name (cut x).cells group g)
+            ∙ components-append 0 r.before (g.row_before ++ (g.component ∷ (g.row_after ++ r.after)))
+            ∙ ap (λ n. components_from 0 r.before ++ components_from n (g.row_before ++ (g.component ∷ (g.row_after ++ r.after)))) first
+            ∙ ap (λ (l : List Component). components_from 0 r.before ++ l) (row_of_one group.start group.end g.row_before g.row_after r.after g.component g.row_before_free g.row_after_free g.is_component (end_of name (cut x).cells group g));
+        named = g.named;
+        none_before = others_have_not name 0 r.before g.first;
+      };
       is = emptied-components x group a.range (removed x group) (removed-whole x group a.range) cells small;
-      named = g.named;
-      first = others_have_not name 0 g.before g.first;
       same_end = emptied-end x group a.range (removed x group) (removed-whole x group a.range) cells small;
     }

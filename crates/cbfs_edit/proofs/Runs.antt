@@ -6,11 +6,11 @@ use Rattle.std.proofs.lemmas.Bool.{cases_Bool, lt-ltb, ltb-true, cond_both}
 use Rattle.std.proofs.lemmas.List.Elements.{All-nil, All-head, All-tail, All-push, All-cons}
 use Rattle.flash_format.specs.Head.{head_of, is_free}
 use Rattle.flash_format.specs.Cut.{cut, IsCell}
-use Rattle.cbfs_edit.specs.Groups.{IsFree, EndsWithComponent, BeginsWithComponent, IsCellRange}
+use Rattle.cbfs_edit.specs.Groups.{IsCellRange, by_rows}
 use Rattle.cbfs_edit.specs.Runs.{add_run, runs, runs_from, IsRunOf}
 use Rattle.cbfs_edit.specs.Laws.{RunsAreExact, RunsAscend, EmptiedRunsKeepTheComponents}
 use Rattle.cbfs_edit.specs.declared.group.Freed.{Freed}
-use Rattle.cbfs_edit.proofs.Groups.{length-concat-push, ends_after, ends_push, not_alone, between}
+use Rattle.cbfs_edit.proofs.Groups.{IsFree, EndsWithComponent, BeginsWithComponent, length-concat-push, over_row, ends_after, ends_push, not_alone, between}
 use Rattle.flash_format.proofs.Splices.{concat-append, AllFree, components-free, group-components}
 use Rattle.std.proofs.lemmas.List.Kept.{AllPairs-cons}
 use Rattle.flash_format.proofs.CutSteps.{cell_span}
@@ -26,16 +26,9 @@ use Rattle.cbfs_edit.proofs.Emptied.{group_range, emptied-components, emptied-en
 closed : (start at : ℕ) (done row others : List (List ℕ)) (run : Freed) → EndsWithComponent done → All IsFree row → BeginsWithComponent others → length (concat done) ≡ start → start + length (concat row) ≡ at
     → start < at → record { start = start; end = at } ≡ run → IsRunOf (done ++ (row ++ others)) run
 closed start at done row others run ends free begins begun is some here = subst (λ (r : Freed). IsRunOf (done ++ (row ++ others)) r) here (record {
-  before = done;
-  row = row;
-  after = others;
-  whole = refl;
+  range = record { before = done; row = row; after = others; whole = refl; no_more_before = ends; no_more_after = begins; start_is = begun; end_is = is };
   free = free;
   some = some;
-  no_more_before = ends;
-  no_more_after = begins;
-  start_is = begun;
-  end_is = is;
 })
 
 Contains-cases : {X : Type 0} (y : X) (ys : List X) (x : X) → Contains (y ∷ ys) x → (y ≡ x) ⊎ Contains ys x
@@ -53,7 +46,7 @@ run-cases start end others run has = elim (cases_Bool (nat_lt start end)) [
 
 maximal : (start at : ℕ) (done row cells : List (List ℕ)) (run : Freed) → EndsWithComponent done → All IsFree row → length (concat done) ≡ start → start + length (concat row) ≡ at
     → Contains (runs_from start at cells) run → IsRunOf (done ++ (row ++ cells)) run
-unfolding runs_from
+unfolding by_rows
 maximal start at done row [] run ends free begun is has = elim (run-cases start at [] run has) [
   | inl here ↦ closed start at done row [] run ends free tt begun is here.0 here.1
   | inr there ↦ absurd (omega (arith, there.1))
@@ -87,20 +80,12 @@ later_is run others start end has = elim (cases_Bool (nat_lt start end)) [
 here_is : (start end : ℕ) (others : List Freed) → start < end → Contains (add_run start end others) (record { start = start; end = end })
 here_is start end others some = rw (lt-ltb start end some) (0, omega arith, refl)
 
--- over free cells the run grows
-over_row : (start at : ℕ) (row cells : List (List ℕ)) → All IsFree row → runs_from start at (row ++ cells) ≡ runs_from start (at + length (concat row)) cells
-unfolding runs_from
-over_row start at [] cells free = ap (λ n. runs_from start n cells) (let e : at ≡ at + 0 = omega arith in e)
-over_row start at (c ∷ row) cells free =
-    let next : (at + length c) + length (concat row) ≡ at + length (concat (c ∷ row)) = omega (arith, length-append c (concat row)) in
-    rw (All-head IsFree c row free) (over_row start (at + length c) row cells (All-tail IsFree c row free) ∙ ap (λ n. runs_from start n cells) next)
-
 -- a run that begins at the place
 from_here : (start : ℕ) (row after : List (List ℕ)) (end : ℕ) → All IsFree row → BeginsWithComponent after → start + length (concat row) ≡ end → start < end
     → Contains (runs_from start start (row ++ after)) (record { start = start; end = end })
-unfolding runs_from
+unfolding by_rows
 from_here start row after end free begins is some =
-    subst (λ (l : List Freed). Contains l (record { start = start; end = end })) (sym (over_row start start row after free ∙ ap (λ n. runs_from start n after) is)) (by_after after begins)
+    subst (λ (l : List Freed). Contains l (record { start = start; end = end })) (sym (over_row (λ s a. add_run s a []) (λ s a c cells later. add_run s a later) start start row after free ∙ ap (λ n. runs_from start n after) is)) (by_after after begins)
   where
     by_after : (others : List (List ℕ)) → BeginsWithComponent others → Contains (runs_from start end others) (record { start = start; end = end })
     by_after [] b = here_is start end [] some
@@ -109,7 +94,7 @@ from_here start row after end free begins is some =
 -- after the cells before it
 there : (start at : ℕ) (before row after : List (List ℕ)) (run : Freed) → (before ≡ [] → start ≡ at) → EndsWithComponent before → All IsFree row → BeginsWithComponent after
     → at + length (concat before) ≡ run.start → run.start + length (concat row) ≡ run.end → run.start < run.end → Contains (runs_from start at (before ++ (row ++ after))) run
-unfolding runs_from
+unfolding by_rows
 there start at [] row after run fresh ends free begins begun is some =
     let here : at ≡ run.start = omega (arith, begun) in
     rw (fresh refl, here) (from_here run.start row after run.end free begins is some)
@@ -126,8 +111,8 @@ pub runs_exact : RunsAreExact
 runs_exact x run = (
   run_maximal x run,
   λ is.
-      subst (λ (cs : List (List ℕ)). Contains (runs_from 0 0 cs) run) (sym is.whole)
-      (there 0 0 is.before is.row is.after run (λ none. refl) is.no_more_before is.free is.no_more_after (omega (arith, is.start_is)) is.end_is is.some),
+      subst (λ (cs : List (List ℕ)). Contains (runs_from 0 0 cs) run) (sym is.range.whole)
+      (there 0 0 is.range.before is.range.row is.range.after run (λ none. refl) is.range.no_more_before is.free is.range.no_more_after (omega (arith, is.range.start_is)) is.range.end_is is.some),
 )
 
 -- ---- the runs stand in order, with a cell between each and the next
@@ -150,7 +135,7 @@ add_apart start end others later rest = cond_both (nat_lt start end) _ others (A
 
 -- all runs begin behind a place before the first
 begin_after : (low start at : ℕ) (cells : List (List ℕ)) → low < start → start ≤ at → BeginsAfter low (runs_from start at cells)
-unfolding runs_from
+unfolding by_rows
 begin_after low start at [] before order = add_after low start at [] before (All-nil (λ (r : Freed). low < r.start))
 begin_after low start at (c ∷ cells) before order =
     let next = at + length c in
@@ -159,7 +144,7 @@ begin_after low start at (c ∷ cells) before order =
     (λ e. add_after low start at (runs_from next next cells) before (begin_after low next next cells (omega (arith, before, order)) (omega arith)))
 
 apart : (start at : ℕ) (cells : List (List ℕ)) → start ≤ at → All IsCell cells → AllPairs Apart (runs_from start at cells)
-unfolding runs_from
+unfolding by_rows
 apart start at [] order each = add_apart start at [] (All-nil (λ (r : Freed). at < r.start)) none_apart
 apart start at (c ∷ cells) order each =
     let next = at + length c in
@@ -182,7 +167,7 @@ pub record IsRun (x : List ℕ) (run : Freed) : Type 0 where
 pub run_of : (x : List ℕ) (run : Freed) → length x % 64 ≡ 0 → Contains (runs x) run → IsRun x run
 run_of x run aligned has =
     let r = run_maximal x run has in
-    let cells : CellsBetween x run.start run.end = between x run r.before r.row r.after aligned r.whole r.start_is r.end_is in
+    let cells : CellsBetween x run.start run.end = between x run aligned r.range in
     record { cells = cells; free = r.free; range = group_range x run cells r.some }
 
 pub emptied_runs : EmptiedRunsKeepTheComponents

@@ -1,7 +1,7 @@
 -- What is known of a region that is not refused itself.
 use Rattle.std.proofs.Common.{◌≡◌, ℕ, ◌%◌, Bool, true, false, cond, List, length, Option, Some, None, Result, Ok, Err, refl, sym}
 use Rattle.std.specs.Prelude.{ok_or}
-use Rattle.flash_format.specs.Cut.{End, complete, tail, damage, cut}
+use Rattle.flash_format.specs.Cut.{End, damage, cut}
 use Rattle.flash_format.specs.Entry.{entry}
 use Rattle.cbfs_walk.specs.Shapes.{has_bad_size, is_absent, refused_or}
 use Rattle.cbfs_walk.specs.Shaped.{place_after}

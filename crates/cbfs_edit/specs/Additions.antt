@@ -1,20 +1,20 @@
 -- What the addition of a component leaves, and how it is refused.
 use Rattle.std.specs.List.{list_any}
 use Rattle.std.specs.Option.{option_map_or}
-use Rattle.std.specs.Result.{result_ok}
-use Rattle.std.specs.Prelude.{◌≡◌, ℕ, ◌+◌, ◌-◌, ◌==◌, ◌||◌, max, Bool, false, List, [], ◌∷◌, ◌++◌, length, slice_range, nat_lt, Option, Some, None, Result, Ok, Err, if◌then◌else◌}
+use Rattle.std.specs.Result.{result_map_both, result_ok}
+use Rattle.std.specs.Prelude.{◌≡◌, ℕ, ◌+◌, ◌-◌, ◌==◌, ◌||◌, max, Bool, List, [], ◌∷◌, ◌++◌, length, slice_range, nat_lt, Option, Some, None, Result, Err, if◌then◌else◌}
 use Rattle.flash_format.specs.Head.{round64}
 use Rattle.flash_format.specs.Entry.{is_nul}
 use Rattle.flash_format.specs.EmptyEntries.{empty_entry}
-use Rattle.flash_format.specs.Made.{algorithm_len, hash_len, meta_length, made}
+use Rattle.flash_format.specs.Components.{Component}
+use Rattle.flash_format.specs.Made.{hash_len, meta_length, made}
 use Rattle.flash_format.specs.Placings.{HasOneMore, made_component, space_cells}
 use Rattle.flash_format.specs.Splices.{AllFree, CellsBetween}
-use Rattle.flash_format.specs.declared.digest.Algorithm.TheVariants as algorithms
 use Rattle.flash_format.specs.declared.digest.Digest.{Digest}
 use Rattle.flash_store.specs.Bytes.{overwritten}
 use Rattle.cbfs_walk.specs.Hashes.{sha256_of, sha512_of}
 use Rattle.cbfs_edit.specs.Removals.{kept_at}
-use Rattle.cbfs_edit.specs.Places.{placing_in}
+use Rattle.cbfs_edit.specs.Places.{is_bad_align, placing_in}
 use Rattle.cbfs_edit.specs.declared.addition.HashChoice.{HashChoice}
 use Rattle.cbfs_edit.specs.declared.addition.HashChoice.TheVariants.{Plain, Sha256, Sha512}
 use Rattle.cbfs_edit.specs.declared.addition.Placed.{Placed}
@@ -22,7 +22,6 @@ use Rattle.cbfs_edit.specs.declared.addition.Label.{Label}
 use Rattle.cbfs_edit.specs.declared.fault.EditFault.{EditFault}
 use Rattle.cbfs_edit.specs.declared.fault.EditFault.TheVariants.{BadName, BadType, BadAlign}
 use Rattle.cbfs_edit.specs.declared.place.Spot.{Spot}
-use Rattle.cbfs_edit.specs.declared.place.Spot.TheVariants.{Aligned}
 use Rattle.cbfs_edit.specs.declared.place.Wanted.{Wanted}
 use Rattle.cbfs_edit.specs.declared.place.Place.{Place}
 
@@ -39,12 +38,6 @@ digest_of Plain content = None
 digest_of Sha256 content = Some (sha256_of content)
 digest_of Sha512 content = Some (sha512_of content)
 
--- how many bytes its attribute has
-abbrev pub attribute_len : HashChoice → ℕ
-attribute_len Plain = 0
-attribute_len Sha256 = 12 + algorithm_len algorithms.Sha256
-attribute_len Sha512 = 12 + algorithm_len algorithms.Sha512
-
 abbrev pub new_component : List ℕ → ℕ → HashChoice → List ℕ → NewComponent
 new_component name kind hash content = record { name = name; kind = kind; digest = digest_of hash content; content = content }
 
@@ -60,9 +53,9 @@ wanted_for new spot = record { header = header_of new; len = length new.content;
 
 -- ---- what it leaves
 
--- where the cell of a component ends that has n bytes of content there
-abbrev pub cell_end : Place → ℕ → ℕ
-cell_end place n = round64 (place.content + n)
+-- where the cell of the component at a place ends
+abbrev pub cell_end : NewComponent → Place → ℕ
+cell_end new place = round64 (place.content + length new.content)
 
 -- the empty entry from one place to another, or nothing where they are one
 abbrev pub empty_between : List ℕ → ℕ → ℕ → List ℕ
@@ -71,21 +64,25 @@ empty_between x start end = if start == end then [] else empty_entry (end - star
 -- the cell of the component at a place
 abbrev pub made_at : List ℕ → NewComponent → Place → List ℕ
 made_at x new place =
-    made new.name new.kind new.digest (place.content - place.header - header_of new) new.content (kept_at x (cell_end place (length new.content)))
+    made new.name new.kind new.digest (place.content - place.header - header_of new) new.content (kept_at x (cell_end new place))
 
 -- a region with the component in place of a run, between an empty entry before and one after it
 abbrev pub added : List ℕ → NewComponent → Place → List ℕ
 added x new place =
     overwritten x place.run.start
-    (empty_between x place.run.start place.header ++ (made_at x new place ++ empty_between x (cell_end place (length new.content)) place.run.end))
+    (empty_between x place.run.start place.header ++ (made_at x new place ++ empty_between x (cell_end new place) place.run.end))
+
+-- the component that was added
+abbrev pub added_component : List ℕ → NewComponent → Place → Component
+added_component x new place = made_component place.header new.name new.kind new.digest new.content (made_at x new place)
 
 -- the region has one component more: the new one, in place of free cells, with its content where the caller is told
 pub record AddsOne (x : List ℕ) (new : NewComponent) (place : Place) : Type 0 where
   pub cells : CellsBetween x place.run.start place.run.end
   pub free : AllFree cells.group
   pub more : HasOneMore x place.run.start place.run.end cells
-      (space_cells (empty_between x place.run.start place.header) ++ (made_at x new place ∷ []) ++ space_cells (empty_between x (cell_end place (length new.content)) place.run.end))
-      (made_component place.header new.name new.kind new.digest new.content (made_at x new place)) (added x new place)
+      (space_cells (empty_between x place.run.start place.header) ++ (made_at x new place ∷ []) ++ space_cells (empty_between x (cell_end new place) place.run.end))
+      (added_component x new place) (added x new place)
   pub content : slice_range (added x new place) place.content (place.content + length new.content) ≡ new.content
 
 -- from here on the region's bytes are kept: of its last four those after the content's end
@@ -102,10 +99,6 @@ is_bad_name name = (length name == 0) || nat_lt 127 (length name) || list_any is
 abbrev pub is_bad_type : ℕ → Bool
 is_bad_type kind = kind == 0 || kind == 0xffffffff
 
-abbrev pub is_bad_align : Spot → Bool
-is_bad_align (Aligned unit) = unit == 0
-is_bad_align spot = false
-
 -- the first refusal for which no device is looked at
 abbrev pub own_fault : List ℕ → ℕ → Spot → Option EditFault
 own_fault name kind spot =
@@ -113,18 +106,13 @@ own_fault name kind spot =
     else (if is_bad_type kind then Some BadType
     else (if is_bad_align spot then Some BadAlign else None))
 
-abbrev pub unless_faulty : Option EditFault → Result Place EditFault → Result Place EditFault
-unless_faulty None otherwise = otherwise
-unless_faulty (Some fault) otherwise = Err fault
-
 -- the place that the component gets, or its first refusal
 unfoldable pub addition_in : List ℕ → NewComponent → Spot → Result Place EditFault
-addition_in x new spot = unless_faulty (own_fault new.name new.kind spot) (placing_in x new.name (wanted_for new spot))
+addition_in x new spot = option_map_or (λ fault. Err fault) (own_fault new.name new.kind spot) (placing_in x new.name (wanted_for new spot))
 
 -- what the caller is told
 abbrev pub placed_of : Result Place EditFault → Result Placed EditFault
-placed_of (Err fault) = Err fault
-placed_of (Ok place) = Ok (record { header = place.header; content = place.content })
+placed_of place = result_map_both (λ p. record { header = p.header; content = p.content }) (λ fault. fault) place
 
 -- the region after the addition: as it was where that is refused
 abbrev pub added_to : List ℕ → NewComponent → Spot → List ℕ

@@ -1,5 +1,5 @@
 -- The writes that put a component into a run of free cells, once an empty entry over the whole run stands there.
-use Rattle.std.specs.Prelude.{◌≡◌, ℕ, ◌+◌, ◌-◌, ◌%◌, ◌^◌, ◌<◌, ◌≤◌, ◌==◌, if◌then◌else◌, max, false, List, length, take, drop}
+use Rattle.std.specs.Prelude.{◌≡◌, ℕ, ◌+◌, ◌-◌, ◌^◌, ◌<◌, ◌≤◌, ◌==◌, if◌then◌else◌, max, false, List, length, take, drop}
 use Rattle.flash_format.specs.Head.{header_length}
 use Rattle.flash_format.specs.EmptyEntries.{empty_header}
 use Rattle.flash_store.specs.Bytes.{overwritten, SameOutside}
@@ -11,13 +11,11 @@ pub record HasRoom (size : ℕ) (place : Place) (end metadata : ℕ) : Type 0 wh
   pub run : IsCellRange place.run size
   pub small : size < 2 ^ 32
   pub start_below : place.run.start ≤ place.header
-  pub header_aligned : place.header % 64 ≡ 0
+  pub cell : IsCellRange (record { start = place.header; end = end }) place.run.end
   pub metadata_is : place.header + metadata ≡ place.content
   pub metadata_long : header_length ≤ metadata
   pub metadata_short : metadata ≤ 4096
   pub content_below : place.content ≤ end
-  pub end_aligned : end % 64 ≡ 0
-  pub end_below : end ≤ place.run.end
 
 -- how many bytes of a component's metadata the last commit writes, which shows the component: those at the run's start
 abbrev pub held_back : Place → ℕ

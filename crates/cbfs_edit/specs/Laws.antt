@@ -1,19 +1,18 @@
 -- The laws that the edits rest on.
-use Rattle.std.specs.Prelude.{◌≡◌, ◌↔◌, ℕ, ◌%◌, ◌^◌, ◌<◌, ◌≤◌, false, All, Contains, List, length, Ok, Option, Some, None}
+use Rattle.std.specs.Prelude.{◌≡◌, ◌↔◌, ℕ, ◌%◌, ◌^◌, ◌<◌, ◌≤◌, false, All, Contains, List, length, Ok, Option, Some, MatchOption}
 use Rattle.std.specs.List.{AllPairs}
 use Rattle.std.specs.Str.{bytes_eq}
 use Rattle.flash_format.specs.Cut.{cut}
 use Rattle.flash_format.specs.Components.{Component, components}
 use Rattle.flash_format.specs.Made.{IsDigest}
-use Rattle.flash_format.specs.Placings.{made_component}
 use Rattle.cbfs_walk.specs.Finding.{component_in}
-use Rattle.cbfs_edit.specs.Additions.{NewComponent, AddsOne, added, addition_in, made_at}
+use Rattle.cbfs_edit.specs.Additions.{NewComponent, AddsOne, added, added_component, addition_in}
 use Rattle.cbfs_edit.specs.Groups.{group_of, IsNot, IsGroupOf}
 use Rattle.cbfs_edit.specs.Removals.{LosesOne, removed, removal_in}
 use Rattle.cbfs_edit.specs.Stops.{IsEmptied, SameCells}
 use Rattle.cbfs_edit.specs.Formats.{formatted, IsOneFreeCell}
 use Rattle.cbfs_edit.specs.Runs.{runs, IsRunOf}
-use Rattle.cbfs_edit.specs.Places.{IsWanted, IsPlace, place_of}
+use Rattle.cbfs_edit.specs.Places.{IsWanted, IsPlaceAmong, first_place}
 use Rattle.cbfs_edit.specs.declared.group.Freed.{Freed}
 use Rattle.cbfs_edit.specs.declared.place.Wanted.{Wanted}
 use Rattle.cbfs_edit.specs.declared.place.Place.{Place}
@@ -28,13 +27,10 @@ EmptiedGroupsLackTheComponent = (x name : List ℕ) (group : Freed) (y : List �
 abbrev pub RemovalsTakeOneComponent : Type 0
 RemovalsTakeOneComponent = (x name : List ℕ) (group : Freed) → length x < 2 ^ 32 → removal_in x name ≡ Ok group → LosesOne name x (removed x group)
 
--- the group that a removal takes is the first component of the name, with all free cells that touch it, and nothing else is
+-- the group that a removal takes is the first component of the name, with all free cells that touch it, and nothing else is;
+-- there is none where no component has the name, and nowhere else
 abbrev pub GroupsAreExact : Type 0
-GroupsAreExact = (x name : List ℕ) (group : Freed) → (group_of x name ≡ Some group) ↔ IsGroupOf name (cut x).cells group
-
--- without a group no component has the name
-abbrev pub NoGroupNoComponent : Type 0
-NoGroupNoComponent = (x name : List ℕ) → group_of x name ≡ None → All (IsNot name) (cut x).cells
+GroupsAreExact = (x name : List ℕ) (found : Option Freed) → MatchOption found (All (IsNot name) (cut x).cells) (IsGroupOf name (cut x).cells) ↔ (found ≡ group_of x name)
 
 -- between the commits of an edit that fills a run the components are those of before
 abbrev pub EmptiedRunsKeepTheComponents : Type 0
@@ -54,12 +50,7 @@ FormattedIsOneFreeCell = (x : List ℕ) → 64 ≤ length x → length x % 64 �
 
 -- the place of a new component is in the first run with an allowed place, at its least one, and nowhere else
 abbrev pub PlacesAreExact : Type 0
-PlacesAreExact = (x : List ℕ) (wanted : Wanted) (found : Option Place) → IsWanted wanted → IsPlace x wanted found ↔ (found ≡ place_of x wanted)
-
--- an addition makes one component more, with its name, type, attributes and content, at its place, and the content where
--- the caller is told; all others stay
-abbrev pub AdditionsAddOneComponent : Type 0
-AdditionsAddOneComponent = (x : List ℕ) (new : NewComponent) (spot : Spot) (place : Place) → length x < 2 ^ 32 → new.kind < 2 ^ 32 → length new.content < 2 ^ 32 → IsDigest new.digest → addition_in x new spot ≡ Ok place → AddsOne x new place
+PlacesAreExact = (x : List ℕ) (wanted : Wanted) (found : Option Place) → IsWanted wanted → IsPlaceAmong wanted (length x) (runs x) found ↔ (found ≡ first_place wanted (length x) (runs x))
 
 -- an addition of numbers that 32 bits hold, and with a whole digest, that gets this place
 pub record IsAdded (x : List ℕ) (new : NewComponent) (spot : Spot) (place : Place) : Type 0 where
@@ -69,9 +60,10 @@ pub record IsAdded (x : List ℕ) (new : NewComponent) (spot : Spot) (place : Pl
   pub digest : IsDigest new.digest
   pub placed : addition_in x new spot ≡ Ok place
 
--- the component that was added
-abbrev pub added_component : List ℕ → NewComponent → Place → Component
-added_component x new place = made_component place.header new.name new.kind new.digest new.content (made_at x new place)
+-- an addition makes one component more, with its name, type, attributes and content, at its place, and the content where
+-- the caller is told; all others stay
+abbrev pub AdditionsAddOneComponent : Type 0
+AdditionsAddOneComponent = (x : List ℕ) (new : NewComponent) (spot : Spot) (place : Place) → IsAdded x new spot place → AddsOne x new place
 
 -- what was added is found by its name, with its content
 abbrev pub AdditionsAreFound : Type 0

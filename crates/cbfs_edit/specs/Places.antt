@@ -1,9 +1,10 @@
 -- The place of a new component.
-use Rattle.std.specs.Option.{option_or}
+use Rattle.std.specs.List.{filter_map, slice_get}
 use Rattle.std.specs.Int.{next_multiple_of}
-use Rattle.std.specs.Prelude.{◌≡◌, ◌≢◌, ℕ, ◌+◌, ◌-◌, ◌*◌, ◌/◌, ◌%◌, ◌^◌, ◌<◌, ◌≤◌, ⊤, ◌&&◌, nat_le, if◌then◌else◌, is_some, List, [], ◌∷◌, ◌++◌, All, length, Option, Some, None, option_map, Result, Err, ok_or}
+use Rattle.std.specs.Prelude.{◌≡◌, ℕ, ◌+◌, ◌-◌, ◌*◌, ◌/◌, ◌%◌, ◌^◌, ◌<◌, ◌≤◌, ⊤, ◌&&◌, ◌==◌, Bool, false, nat_le, if◌then◌else◌, is_some, List, ◌∷◌, ◌++◌, All, length, Option, Some, None, MatchOption, Result, Err, ok_or}
 use Rattle.flash_format.specs.Components.{components}
 use Rattle.cbfs_walk.specs.Finding.{first_named}
+use Rattle.cbfs_edit.specs.Groups.{IsCellRange}
 use Rattle.cbfs_edit.specs.Runs.{runs}
 use Rattle.cbfs_edit.specs.Removals.{space_end, unless_unsound}
 use Rattle.cbfs_edit.specs.declared.fault.EditFault.{EditFault}
@@ -14,11 +15,16 @@ use Rattle.cbfs_edit.specs.declared.place.Spot.TheVariants.{First, Aligned, Fixe
 use Rattle.cbfs_edit.specs.declared.place.Wanted.{Wanted}
 use Rattle.cbfs_edit.specs.declared.place.Place.{Place}
 
+-- content is to begin at a multiple of 0
+abbrev pub is_bad_align : Spot → Bool
+is_bad_align (Aligned unit) = unit == 0
+is_bad_align spot = false
+
 -- both numbers fit 32 bits, and content is not to begin at a multiple of 0
 pub record IsWanted (wanted : Wanted) : Type 0 where
   pub header : wanted.header < 2 ^ 32
   pub len : wanted.len < 2 ^ 32
-  pub spot : wanted.spot ≢ Aligned 0
+  pub spot : is_bad_align wanted.spot ≡ false
 
 -- ---- as a relation
 
@@ -39,10 +45,6 @@ pub record IsAllowed (wanted : Wanted) (size : ℕ) (run : Freed) (c : ℕ) : Ty
   pub meets : Meets wanted.spot c
   pub ends : c + wanted.len ≤ limit_of wanted.spot size run.end
 
-pub record IsLeast (wanted : Wanted) (size : ℕ) (run : Freed) (c : ℕ) : Type 0 where
-  pub allowed : IsAllowed wanted size run c
-  pub least : (d : ℕ) → IsAllowed wanted size run d → c ≤ d
-
 abbrev pub HasNoRoom : Wanted → ℕ → Freed → Type 0
 HasNoRoom wanted size run = (c : ℕ) → IsAllowed wanted size run c → ⊥
 
@@ -52,23 +54,26 @@ pub record IsHeaderOf (wanted : Wanted) (place : Place) : Type 0 where
   pub room : place.header + wanted.header ≤ place.content
   pub largest : place.content < place.header + 64 + wanted.header
 
+-- a component fits there, in a region of this size
+pub record Fits (wanted : Wanted) (size : ℕ) (place : Place) : Type 0 where
+  pub run : IsCellRange place.run size
+  pub start_below : place.run.start ≤ place.header
+  pub header : IsHeaderOf wanted place
+  pub inside : place.content + wanted.len ≤ place.run.end
+
 -- the first of these runs with an allowed place, and its least one
 pub record IsFirstPlace (wanted : Wanted) (size : ℕ) (runs : List Freed) (place : Place) : Type 0 where
   pub before : List Freed
   pub later : List Freed
   pub whole : runs ≡ before ++ place.run ∷ later
   pub none_before : All (HasNoRoom wanted size) before
-  pub content : IsLeast wanted size place.run place.content
+  pub allowed : IsAllowed wanted size place.run place.content
+  pub least : (d : ℕ) → IsAllowed wanted size place.run d → place.content ≤ d
   pub header : IsHeaderOf wanted place
 
 -- the place among these runs, or none
 abbrev pub IsPlaceAmong : Wanted → ℕ → List Freed → Option Place → Type 0
-IsPlaceAmong wanted size runs None = All (HasNoRoom wanted size) runs
-IsPlaceAmong wanted size runs (Some place) = IsFirstPlace wanted size runs place
-
--- the place of a new component in a region, or none
-abbrev pub IsPlace : List ℕ → Wanted → Option Place → Type 0
-IsPlace x wanted found = IsPlaceAmong wanted (length x) (runs x) found
+IsPlaceAmong wanted size runs found = MatchOption found (All (HasNoRoom wanted size) runs) (IsFirstPlace wanted size runs)
 
 -- ---- as a function
 
@@ -79,32 +84,22 @@ least_from (Aligned unit) from = next_multiple_of from unit
 least_from (Fixed place) from = place
 
 -- the least allowed place in a run, in which a header before it and the content from there on lie
-abbrev pub least_in : Wanted → ℕ → Freed → Option ℕ
-least_in wanted size run =
-    let c = least_from wanted.spot (run.start + wanted.header) in
-    if nat_le (run.start + wanted.header) c && nat_le (c + wanted.len) (limit_of wanted.spot size run.end) then Some c
-    else None
-
-abbrev pub place_at : Wanted → Freed → ℕ → Place
-place_at wanted run c = record { run = run; header = (c - wanted.header) / 64 * 64; content = c }
-
 abbrev pub place_in : Wanted → ℕ → Freed → Option Place
-place_in wanted size run = option_map (place_at wanted run) (least_in wanted size run)
+place_in wanted size run =
+    let c = least_from wanted.spot (run.start + wanted.header) in
+    if nat_le (run.start + wanted.header) c && nat_le (c + wanted.len) (limit_of wanted.spot size run.end)
+    then Some (record { run = run; header = (c - wanted.header) / 64 * 64; content = c }) else None
 
--- the place in the first of these runs that has one
-unfoldable pub place_among : Wanted → ℕ → List Freed → Option Place
-place_among wanted size [] = None
-place_among wanted size (run ∷ later) = option_or (place_in wanted size run) (place_among wanted size later)
-
-abbrev pub place_of : List ℕ → Wanted → Option Place
-place_of x wanted = place_among wanted (length x) (runs x)
+-- the first of the places that these runs have
+abbrev pub first_place : Wanted → ℕ → List Freed → Option Place
+first_place wanted size runs = slice_get (filter_map (place_in wanted size) runs) 0
 
 -- ---- with its refusals
 
-abbrev pub placed : Option Place → Result Place EditFault
-placed place = ok_or place NoSpace
+-- the place, unless a component has the name already
+abbrev pub unless_exists : Bool → Option Place → Result Place EditFault
+unless_exists exists place = if exists then Err Exists else ok_or place NoSpace
 
 -- the place of a new component of a name, or its first refusal
 unfoldable pub placing_in : List ℕ → List ℕ → Wanted → Result Place EditFault
-placing_in x name wanted =
-    unless_unsound x (if is_some (first_named name (components x)) then Err Exists else placed (place_of x wanted))
+placing_in x name wanted = unless_unsound x (unless_exists (is_some (first_named name (components x))) (first_place wanted (length x) (runs x)))

@@ -1,16 +1,17 @@
 -- What a removal leaves, and how it is refused.
-use Rattle.std.specs.Str.{bytes_eq}
-use Rattle.std.specs.Prelude.{◌≡◌, ℕ, ◌-◌, true, false, All, List, ◌∷◌, ◌++◌, length, drop, Option, Some, None, Result, Err, ok_or, ◌==◌, if◌then◌else◌}
+use Rattle.std.specs.Result.{result_and, result_map_both}
+use Rattle.std.specs.Prelude.{◌≡◌, ℕ, ◌-◌, List, ◌++◌, length, drop, Option, Some, None, Result, Err, ok_or, ◌==◌, if◌then◌else◌}
 use Rattle.flash_format.specs.EmptyEntries.{empty_entry}
 use Rattle.flash_format.specs.Components.{Component, components}
-use Rattle.flash_format.specs.Cut.{End, complete, tail, damage, cut}
+use Rattle.flash_format.specs.Cut.{End, cut}
 use Rattle.flash_store.specs.Bytes.{overwritten}
+use Rattle.cbfs_walk.specs.Finding.{IsFirstOf, not_found}
 use Rattle.cbfs_walk.specs.Shapes.{shape, refused_or}
 use Rattle.cbfs_walk.specs.Shaped.{place_after}
 use Rattle.cbfs_edit.specs.Refusals.{refusal_of}
 use Rattle.cbfs_edit.specs.Groups.{group_of}
 use Rattle.cbfs_edit.specs.declared.fault.EditFault.{EditFault}
-use Rattle.cbfs_edit.specs.declared.fault.EditFault.TheVariants.{Damaged, NotFound}
+use Rattle.cbfs_edit.specs.declared.fault.EditFault.TheVariants.{NotFound}
 use Rattle.cbfs_edit.specs.declared.group.Freed.{Freed}
 
 abbrev pub last_four : List ℕ → List ℕ
@@ -30,29 +31,20 @@ removed x group = overwritten x group.start (empty_entry (group.end - group.star
 
 -- one component is gone, the first of a name, and all others are as they were, and so is the end of the cells
 pub record LosesOne (name x y : List ℕ) : Type 0 where
-  pub before : List Component
   pub component : Component
-  pub after : List Component
-  pub was : components x ≡ before ++ (component ∷ after)
-  pub is : components y ≡ before ++ after
-  pub named : bytes_eq component.name name ≡ true
-  pub first : All (λ (c : Component). bytes_eq c.name name ≡ false) before
+  pub was : IsFirstOf name (components x) component
+  pub is : components y ≡ was.before ++ was.after
   pub same_end : (cut y).end ≡ (cut x).end
 
 -- a damage that ends the cells comes first
 abbrev pub unless_damaged : {A : Type 0} → ℕ → End → Result A EditFault → Result A EditFault
-unless_damaged at complete otherwise = otherwise
-unless_damaged at tail otherwise = otherwise
-unless_damaged at (damage kind) otherwise = Err (Damaged at kind)
+unless_damaged at end otherwise = result_and (result_map_both (λ none. none) refusal_of (not_found at end)) otherwise
 
 -- a region's own refusal comes first: its size, no entry at its start, or a damage
 abbrev pub unless_unsound : {A : Type 0} → List ℕ → Result A EditFault → Result A EditFault
 unless_unsound x otherwise =
     refused_or (λ fault. Err (refusal_of fault)) (shape x) (unless_damaged (place_after 0 (cut x).cells) (cut x).end otherwise)
 
-abbrev pub found : Option Freed → Result Freed EditFault
-found group = ok_or group NotFound
-
 -- the group that a removal takes, or its first refusal
 unfoldable pub removal_in : List ℕ → List ℕ → Result Freed EditFault
-removal_in x name = unless_unsound x (found (group_of x name))
+removal_in x name = unless_unsound x (ok_or (group_of x name) NotFound)

@@ -1,33 +1,46 @@
--- The search for a group, from cell to cell.
-use Rattle.std.specs.Prelude.{ℕ, ◌+◌, ◌%◌, ◌≡◌, ◌≤◌, List, length, Result, Ok, Err, if◌then◌else◌}
-use Rattle.std.specs.Str.{bytes_eq}
-use Rattle.flash_format.specs.Head.{head_of, is_free}
-use Rattle.flash_format.specs.Components.{cell_name}
-use Rattle.cbfs_edit.specs.Groups.{IsCellRange}
+-- The searches for a group and for a place, from cell to cell: what they come to by the cells that are left, and what is
+-- known of them whatever the device is.
+use Rattle.std.specs.Option.{option_or}
+use Rattle.std.specs.Prelude.{◌≡◌, ℕ, ◌%◌, ◌^◌, ◌<◌, ◌≤◌, ◌||◌, is_some, List, IfSome, Result, Ok, ok_or}
+use Rattle.flash_format.specs.Components.{components_from}
+use Rattle.cbfs_walk.specs.Finding.{first_named}
+use Rattle.cbfs_edit.specs.Groups.{IsCellRange, group_from, row_end}
+use Rattle.cbfs_edit.specs.Runs.{runs_from}
+use Rattle.cbfs_edit.specs.Places.{Fits, IsWanted, first_place, unless_exists}
 use Rattle.cbfs_edit.specs.declared.fault.EditFault.{EditFault}
 use Rattle.cbfs_edit.specs.declared.fault.EditFault.TheVariants.{NotFound}
 use Rattle.cbfs_edit.specs.declared.group.Freed.{Freed}
 use Rattle.cbfs_edit.specs.declared.group.Search.{Search}
 use Rattle.cbfs_edit.specs.declared.group.Search.TheVariants.{Looking, Growing, Whole}
+use Rattle.cbfs_edit.specs.declared.place.Survey.{Survey}
+use Rattle.cbfs_edit.specs.declared.place.Wanted.{Wanted}
+use Rattle.cbfs_edit.specs.declared.place.Place.{Place}
 
--- a search after a cell at a place
-abbrev pub passed : List ℕ → Search → ℕ → List ℕ → Search
-passed name (Looking start) at x =
-    if is_free (head_of x) then Looking start
-    else (if bytes_eq (cell_name x) name then Growing (record { start = start; end = at + length x })
-    else Looking (at + length x))
-passed name (Growing group) at x =
-    if is_free (head_of x) then Growing (record { start = group.start; end = group.end + length x }) else Whole group
-passed name (Whole group) at x = Whole group
+-- the group that a search for a name comes to, where the first of the cells that are left stands at a place
+abbrev pub group_by : List ℕ → Search → ℕ → List (List ℕ) → Result Freed EditFault
+group_by name (Looking start) at cells = ok_or (group_from name start at cells) NotFound
+group_by name (Growing group) at cells = Ok (record { start = group.start; end = row_end group.end cells })
+group_by name (Whole group) at cells = Ok group
 
--- what a search has found where the cells end
-abbrev pub group_in : Search → Result Freed EditFault
-group_in (Looking start) = Err NotFound
-group_in (Growing group) = Ok group
-group_in (Whole group) = Ok group
-
--- whatever the device is, a search speaks of whole cells before its place
+-- a search for a group speaks of whole cells before its place
 abbrev pub IsBefore : ℕ → Search → Type 0
 IsBefore at (Looking start) = (start ≤ at) × (start % 64 ≡ 0)
 IsBefore at (Growing group) = IsCellRange group at
 IsBefore at (Whole group) = IsCellRange group at
+
+-- the place that a search comes to by the cells that are left
+abbrev pub place_by : List ℕ → Wanted → ℕ → Survey → List (List ℕ) → Result Place EditFault
+place_by name wanted size s cells =
+    unless_exists (s.exists || is_some (first_named name (components_from s.row.end cells)))
+    (option_or s.place (first_place wanted size (runs_from s.row.start s.row.end cells)))
+
+-- and so does a search for a place, which keeps what is known of the component
+pub record IsSurvey (wanted : Wanted) (size at : ℕ) (s : Survey) : Type 0 where
+  pub asked : IsWanted wanted
+  pub small : size < 2 ^ 32
+  pub here : s.row.end ≡ at
+  pub order : s.row.start ≤ at
+  pub inside : at ≤ size
+  pub start_aligned : s.row.start % 64 ≡ 0
+  pub end_aligned : at % 64 ≡ 0
+  pub place : IfSome s.place (Fits wanted size)

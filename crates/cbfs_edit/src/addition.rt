@@ -1,16 +1,16 @@
 //! The addition of a component.
-ghost use Rattle.std.specs.Prelude.{ℕ, List, ◌≡◌, ◌≢◌, ◌⊎◌, ◌+◌, ◌/◌, ◌%◌, ◌<◌, ◌≤◌, length, Err, IsTrue, IfOk, IfErr, IfSome, IsErrOf, OnOk, OnErr};
+ghost use Rattle.std.specs.Prelude.{ℕ, List, ◌≡◌, ◌≢◌, ◌⊎◌, ◌+◌, ◌/◌, ◌%◌, ◌<◌, ◌≤◌, length, Err, IsTrue, IfOk, IfErr, IfSome, IsErrOf, OnOk, OnErr, option_copied};
 ghost use Rattle.std.specs.List.{list_any};
 ghost use Rattle.flash_format.specs.Entry.{is_nul};
-ghost use Rattle.flash_format.specs.Made.{hash_len, pointed};
+ghost use Rattle.flash_format.specs.Made.{hash_len};
 ghost use Rattle.flash_store.specs.Bytes.{overwritten};
 ghost use Rattle.flash_store.specs.Copies as copies;
 ghost use Rattle.flash_store.specs.Device.{Reads, faults_told};
 ghost use Rattle.flash_store.specs.Pages.{HasChanged, OnHonestIn};
 ghost use Rattle.flash_store.specs.Regions.{LiesIn};
 ghost use Rattle.cbfs_edit.specs.Changes.{OnHonestChange, HasCopied};
-ghost use Rattle.cbfs_edit.specs.Additions.{added, added_to, addition_in, attribute_len, digest_of, is_bad_name, labelled, new_component, own_fault, placed_of, wanted_for};
-ghost use Rattle.cbfs_edit.specs.Placings.{Fits};
+ghost use Rattle.cbfs_edit.specs.Additions.{added, added_to, addition_in, digest_of, is_bad_name, labelled, new_component, own_fault, placed_of, wanted_for};
+ghost use Rattle.cbfs_edit.specs.Places.{Fits};
 ghost use Rattle.cbfs_edit.specs.Refusals.{by_device, by_source};
 ghost use Rattle.cbfs_edit.specs.Stops.{AddLeavesBefore, AddLeavesWhole, IsInsertStop, written_to};
 
@@ -64,7 +64,7 @@ fn copy_content<F: Flash, S: Source>(
     requires inside { at + length (S.facts source.old).content ≤ region.size }
 
     ensures after { HasCopied F.facts region at paged.old paged.new (S.facts source.old) (S.facts source.new) result }
-    ensures digest_len { IfOk result (λ digest. hash_len digest ≡ attribute_len hash) }
+    ensures digest_len { IfOk result (λ digest. (content : List ℕ) → hash_len digest ≡ hash_len (digest_of hash content)) }
 
     // From an honest source, whatever the device.
     ensures digest { IsTrue (S.facts source.old).honest →
@@ -100,7 +100,7 @@ fn meta_of<'a>(
     ensures kind { result.kind ≡ kind }
     ensures len { result.len ≡ len }
     ensures gap { result.gap ≡ gap }
-    ensures digest { pointed result.digest ≡ digest.now }
+    ensures digest { option_copied result.digest ≡ digest.now }
 {
     match digest {
         None => Meta {
@@ -201,9 +201,10 @@ fn has_nul(name: &[u8]) -> bool
     name.iter().any(|byte| *byte == 0)
 }
 
-/// How many bytes the attribute has that stores the digest.
+/// How many bytes the attribute has that stores the digest, whatever the content.
+#[tactic(auto, unfolding(cbfs_walk::specs::Hashes::sha256_of, cbfs_walk::specs::Hashes::sha512_of))]
 fn attribute_len(hash: HashChoice) -> usize
-    ensures is { result ≡ attribute_len hash }
+    ensures is { (content : List ℕ) → result ≡ hash_len (digest_of hash content) }
     ensures short { result ≤ 76 }
 {
     match hash {

@@ -1,9 +1,9 @@
 //! Lists of edits.
-ghost use Rattle.std.specs.Prelude.{◌≡◌, length, sum_by, IsTrue, All};
+ghost use Rattle.std.specs.Prelude.{◌≡◌, length, sum_by};
 ghost use Rattle.flash_store.specs.Pages.{HasChanged};
 ghost use Rattle.flash_store.specs.Regions.{LiesIn};
 ghost use Rattle.cbfs_edit.specs.Refusals.{by_device};
-ghost use Rattle.cbfs_edit.specs.Steps.{Answered, HasHonestSource, Run, Step, edit_calls, faults_of, state_of};
+ghost use Rattle.cbfs_edit.specs.Steps.{Run, Step, edit_calls, faults_of};
 
 use crate::addition::{HashChoice, Placed, add};
 use crate::fault::EditFault;
@@ -54,13 +54,7 @@ pub fn apply_all<F: Flash, S: Source>(
     // On any device, from any sources: no more calls than the edits together, and at most one refused call for each.
     ensures after { HasChanged F.facts region (sum_by (edit_calls region.size) edits.old)
         (sum_by (faults_of by_device) replies.new) paged.old paged.new }
-    ensures answered { Run (Answered S.facts) edits.old edits.new replies.new
-        (state_of region (F.facts paged.old.device)) (state_of region (F.facts paged.new.device)) }
-
-    // On an honest device, the first from honest sources.
-    ensures run { IsTrue (F.facts paged.old.device).honest → All (HasHonestSource S.facts) edits.old →
-        Run (Step S.facts) edits.old edits.new replies.new
-        (state_of region (F.facts paged.old.device)) (state_of region (F.facts paged.new.device)) }
+    ensures run { Run S.facts region edits.old edits.new replies.new (F.facts paged.old.device) (F.facts paged.new.device) }
 {
     for i in 0..edits.len() {
         replies[i] = apply(paged, region, &mut edits[i]);
@@ -74,13 +68,7 @@ fn apply<F: Flash, S: Source>(paged: &mut Paged<F>, region: Region, edit: &mut E
     // On any device, from any source.
     ensures after { HasChanged F.facts region (edit_calls region.size edit.old) (faults_of by_device result)
         paged.old paged.new }
-    ensures answered { Answered S.facts edit.old edit.new (state_of region (F.facts paged.old.device)) result
-        (state_of region (F.facts paged.new.device)) }
-
-    // On an honest device, the first from an honest source.
-    ensures step { IsTrue (F.facts paged.old.device).honest → HasHonestSource S.facts edit.old →
-        Step S.facts edit.old edit.new (state_of region (F.facts paged.old.device)) result
-        (state_of region (F.facts paged.new.device)) }
+    ensures step { Step S.facts region edit.old edit.new (F.facts paged.old.device) result (F.facts paged.new.device) }
 {
     match edit {
         Edit::Add {

@@ -1,11 +1,13 @@
 //! The formatting of a region.
-ghost use Rattle.std.specs.Prelude.{◌≡◌, ◌≢◌, ◌⊎◌, ◌+◌, ◌/◌, ◌<◌, IsTrue, IsErrOf, IfErr, OnOk};
+ghost use Rattle.std.specs.Prelude.{◌≡◌, ◌≢◌, ◌⊎◌, ◌+◌, ◌/◌, ◌<◌, Ok, Err, if◌then◌else◌, IsTrue, IsErrOf, IfErr, OnOk};
 ghost use Rattle.flash_store.specs.Device.{faults_told};
 ghost use Rattle.flash_store.specs.Pages.{HasChanged};
 ghost use Rattle.flash_store.specs.Regions.{LiesIn};
+ghost use Rattle.cbfs_walk.specs.Shapes.{has_bad_size};
 ghost use Rattle.cbfs_edit.specs.Changes.{OnHonestChange};
-ghost use Rattle.cbfs_edit.specs.Formats.{format_of, formatted, IsFormatStop};
+ghost use Rattle.cbfs_edit.specs.Formats.{formatted, IsOneFreeCell};
 ghost use Rattle.cbfs_edit.specs.Refusals.{by_device};
+ghost use Rattle.cbfs_edit.specs.Removals.{last_four};
 
 use crate::empty_entry::write_empty_entry;
 use crate::fault::EditFault;
@@ -21,14 +23,15 @@ pub fn format<F: Flash>(paged: &mut Paged<F>, region: Region) -> Result<(), Edit
 
     // On any device.
     ensures after { HasChanged F.facts region (region.size / 4096 + 2) (faults_told by_device result) paged.old paged.new }
-    ensures answer { IsErrOf result EditFault.Device ⊎ (result ≡ format_of region.size) }
+    ensures answer { IsErrOf result EditFault.Device
+        ⊎ (result ≡ (if has_bad_size region.size then Err EditFault.RegionShape else Ok tt)) }
 
     // On an honest device.
     ensures formatted { OnHonestChange F.facts region paged.old paged.new (λ x y. OnOk result (y ≡ formatted x)) }
     ensures refused { IsTrue (F.facts paged.old.device).honest → IfErr result (λ fault. fault ≢ EditFault.Device →
         (F.facts paged.new.device).content ≡ (F.facts paged.old.device).content) }
-    ensures stopped { OnHonestChange F.facts region paged.old paged.new (λ x y.
-        IsErrOf result EditFault.Device → IsFormatStop x y) }
+    ensures stopped { OnHonestChange F.facts region paged.old paged.new (λ x y. IsErrOf result EditFault.Device →
+        ((y ≡ x) ⊎ IsOneFreeCell y) × (last_four y ≡ last_four x)) }
 {
     paged.places_fit();
     let end = region.size();

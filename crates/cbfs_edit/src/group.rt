@@ -1,5 +1,5 @@
 //! The search for the group of cells that a removal takes.
-ghost use Rattle.std.specs.Prelude.{◌≡◌, ◌⊎◌, ◌+◌, ◌/◌, ◌<◌, ◌≤◌, IfOk, IsErrOf};
+ghost use Rattle.std.specs.Prelude.{◌≡◌, ◌⊎◌, ℕ, ◌+◌, ◌/◌, ◌<◌, ◌≤◌, List, [], ◌∷◌, IfOk, IfErr, IsErrOf};
 ghost use Rattle.flash_store.specs.Device.{faults_told};
 ghost use Rattle.flash_store.specs.Pages.{HasRead, HasAnswered, OnHonestIn};
 ghost use Rattle.flash_store.specs.Regions.{LiesIn};
@@ -7,7 +7,7 @@ ghost use Rattle.cbfs_walk.specs.Cells.{IsCellIn, cell_in};
 ghost use Rattle.cbfs_walk.specs.Walks.{StandsIn};
 ghost use Rattle.cbfs_edit.specs.Groups.{IsCellRange};
 ghost use Rattle.cbfs_edit.specs.Refusals.{by_device};
-ghost use Rattle.cbfs_edit.specs.Searches.{passed, group_in, IsBefore};
+ghost use Rattle.cbfs_edit.specs.Searches.{group_by, IsBefore};
 ghost use Rattle.cbfs_edit.specs.Removals.{removal_in};
 
 use crate::fault::{EditFault, refusal_of};
@@ -65,7 +65,8 @@ pub fn find_group<F: Flash>(
     }
 }
 
-/// The search after a cell.
+/// The search after a cell: it comes to the same.
+#[tactic(auto, unfolding(crate::specs::Groups::by_rows))]
 fn pass<F: Flash>(
     paged: &mut Paged<F>,
     region: Region,
@@ -80,7 +81,8 @@ fn pass<F: Flash>(
     ensures after { HasAnswered F.facts 1 paged.old paged.new result }
     ensures before { IfOk result (IsBefore (cell.now.at + cell.now.span)) }
     ensures passed { OnHonestIn F.facts paged.old.device region (λ x. StandsIn x cell.now →
-        IfOk result (λ next. next ≡ passed name.now search cell.now.at (cell_in x cell.now))) }
+        IfOk result (λ next. (cells : List (List ℕ)) → group_by name.now search cell.now.at (cell_in x cell.now ∷ cells)
+        ≡ group_by name.now next (cell.now.at + cell.now.span) cells)) }
 {
     paged.places_fit();
     cells_stand_in_their_image();
@@ -109,8 +111,11 @@ fn pass<F: Flash>(
 }
 
 /// What the search has found where the cells end.
+#[tactic(auto, unfolding(crate::specs::Groups::by_rows))]
 fn group_in(search: Search) -> Result<Freed, EditFault>
-    ensures { result ≡ group_in search }
+    ensures is { (name : List ℕ) (at : ℕ) → result ≡ group_by name search at [] }
+    ensures group { IfOk result (λ group. (at size : ℕ) → IsBefore at search → at ≤ size → IsCellRange group size) }
+    ensures fault { IfErr result (λ fault. fault ≡ EditFault.NotFound) }
 {
     match search {
         Search::Looking { .. } => Err(EditFault::NotFound),

@@ -1,5 +1,6 @@
 //! The search for the place of a new component.
-ghost use Rattle.std.specs.Prelude.{◌≡◌, ◌≢◌, ◌⊎◌, ◌+◌, ◌/◌, ◌^◌, ◌<◌, ◌≤◌, IfOk, IfErr, IfSome, IsErrOf};
+ghost use Rattle.std.specs.Option.{option_or};
+ghost use Rattle.std.specs.Prelude.{◌≡◌, ◌≢◌, ◌⊎◌, ℕ, ◌+◌, ◌/◌, ◌^◌, ◌<◌, ◌≤◌, List, [], ◌∷◌, None, false, nat_lt, if◌then◌else◌, IfOk, IfErr, IfSome, IsErrOf};
 ghost use Rattle.flash_store.specs.Device.{faults_told};
 ghost use Rattle.flash_store.specs.Pages.{HasRead, HasAnswered, OnHonestIn};
 ghost use Rattle.flash_store.specs.Regions.{LiesIn};
@@ -7,8 +8,8 @@ ghost use Rattle.cbfs_walk.specs.Cells.{IsCellIn, cell_in};
 ghost use Rattle.cbfs_walk.specs.Walks.{StandsIn};
 ghost use Rattle.cbfs_edit.specs.Groups.{IsCellRange};
 ghost use Rattle.cbfs_edit.specs.Refusals.{by_device};
-ghost use Rattle.cbfs_edit.specs.Places.{IsWanted, limit_of, least_from, least_in, place_in, placing_in};
-ghost use Rattle.cbfs_edit.specs.Placings.{closed, surveyed, answer_of, Fits, IsSurvey};
+ghost use Rattle.cbfs_edit.specs.Places.{Fits, IsWanted, is_bad_align, limit_of, least_from, place_in, placing_in};
+ghost use Rattle.cbfs_edit.specs.Searches.{IsSurvey, place_by};
 
 use crate::empty_entry::space_end;
 use crate::fault::{EditFault, refusal_of};
@@ -93,7 +94,8 @@ pub fn find_place<F: Flash>(
     }
 }
 
-/// The search after a cell.
+/// The search after a cell: it comes to the same.
+#[tactic(auto, unfolding(flash_format::specs::Components::components_from, crate::specs::Groups::by_rows))]
 fn pass<F: Flash>(
     paged: &mut Paged<F>,
     region: Region,
@@ -109,7 +111,8 @@ fn pass<F: Flash>(
     ensures after { HasAnswered F.facts 1 paged.old paged.new result }
     ensures before { IfOk result (IsSurvey wanted region.size (cell.now.at + cell.now.span)) }
     ensures passed { OnHonestIn F.facts paged.old.device region (λ x. StandsIn x cell.now →
-        IfOk result (λ next. next ≡ surveyed name.now wanted region.size survey (cell_in x cell.now))) }
+        IfOk result (λ next. (cells : List (List ℕ)) → place_by name.now wanted region.size survey (cell_in x cell.now ∷ cells)
+        ≡ place_by name.now wanted region.size next cells)) }
 {
     paged.places_fit();
     cells_stand_in_their_image();
@@ -137,7 +140,7 @@ fn pass<F: Flash>(
 fn answer_of(wanted: Wanted, region: Region, survey: Survey) -> Result<Place, EditFault>
     requires { IsSurvey wanted region.size survey.row.end survey }
 
-    ensures is { result ≡ answer_of wanted region.size survey }
+    ensures is { (name : List ℕ) → result ≡ place_by name wanted region.size survey [] }
     ensures fits { IfOk result (Fits wanted region.size) }
     ensures fault { IfErr result (λ fault. fault ≢ EditFault.Device) }
     ensures no_source { IsErrOf result EditFault.Source → ⊥ }
@@ -155,7 +158,8 @@ fn answer_of(wanted: Wanted, region: Region, survey: Survey) -> Result<Place, Ed
 fn close(wanted: Wanted, region: Region, survey: Survey) -> Option<Place>
     requires { IsSurvey wanted region.size survey.row.end survey }
 
-    ensures is { result ≡ closed wanted region.size survey }
+    ensures is { result ≡ option_or survey.place
+        (if nat_lt survey.row.start survey.row.end then place_in wanted region.size survey.row else None) }
     ensures fits { IfSome result (Fits wanted region.size) }
 {
     match survey.place {
@@ -169,7 +173,8 @@ fn close(wanted: Wanted, region: Region, survey: Survey) -> Option<Place>
     }
 }
 
-/// The place in a run: the head at the last multiple of 64 that leaves room for the metadata before the content.
+/// The place in a run: the content at the least allowed place there, and the head at the last multiple of 64 that leaves
+/// room for the metadata before it.
 fn place_in(wanted: Wanted, region: Region, run: Freed) -> Option<Place>
     requires wanted { IsWanted wanted }
     requires run { IsCellRange run region.size }
@@ -177,24 +182,6 @@ fn place_in(wanted: Wanted, region: Region, run: Freed) -> Option<Place>
 
     ensures is { result ≡ place_in wanted region.size run }
     ensures fits { IfSome result (Fits wanted region.size) }
-{
-    match least_in(wanted, region, run) {
-        None => None,
-        Some(content) => Some(Place {
-            run,
-            header: (content - wanted.header) / 64 * 64,
-            content,
-        }),
-    }
-}
-
-/// The least allowed place of content in a run.
-fn least_in(wanted: Wanted, region: Region, run: Freed) -> Option<u64>
-    requires wanted { IsWanted wanted }
-    requires run { IsCellRange run region.size }
-    requires small { region.size < 2 ^ 32 }
-
-    ensures { result ≡ least_in wanted region.size run }
 {
     let from = run.start + wanted.header;
     let content = least_from(wanted.spot, from);
@@ -205,13 +192,17 @@ fn least_in(wanted: Wanted, region: Region, run: Freed) -> Option<u64>
     if limit < content + wanted.len {
         return None;
     }
-    Some(content)
+    Some(Place {
+        run,
+        header: (content - wanted.header) / 64 * 64,
+        content,
+    })
 }
 
 /// The least place from here on that the spot allows; where it allows none, one before.
 fn least_from(spot: Spot, from: u64) -> u64
     requires small { from < 2 ^ 33 }
-    requires some { spot ≢ Spot.Aligned 0 }
+    requires some { is_bad_align spot ≡ false }
     ensures is { result ≡ least_from spot from }
     ensures small { result < 2 ^ 34 }
 {

@@ -5,7 +5,7 @@ use lib.Chars.{codes}
 use Rattle.clap.specs.Words.{fault_of}
 use Rattle.clap.specs.declared.error.kind.ErrorKind.TheVariants as kinds
 use Rattle.clap.proofs.OnLiterals.{clap_on_literals}
-use Rattle.cbfs_commands.specs.Requests.{Request, print, layout, extract, add, remove, read, write, create}
+use Rattle.cbfs_commands.specs.Requests.{Request, on_region, print, layout, extract, add, remove, read, write, create}
 use Rattle.flash_format.specs.Numbers.{number_of}
 use Rattle.flash_format.specs.TypeNames.{type_of_text}
 use Rattle.cbfs_edit.specs.declared.addition.HashChoice.TheVariants.{Plain, Sha256}
@@ -17,19 +17,19 @@ use Rattle.cbfs_line.specs.CommandLine.{command_line, command_of, creation_of, n
 abbrev asked_by : List (List ℕ) → Option (Result Request Refusal)
 asked_by words = option_map command_of (texts_of words)
 
-no_region : asked_by (codes "img" ∷ codes "print" ∷ []) ≡ Some (Ok (print (codes "COREBOOT") false))
+no_region : asked_by (codes "img" ∷ codes "print" ∷ []) ≡ Some (Ok (on_region (codes "COREBOOT") (print false)))
 unfolding clap_on_literals
 no_region = refl
 
-a_region : asked_by (codes "img" ∷ codes "print" ∷ codes "-r" ∷ codes "RO" ∷ []) ≡ Some (Ok (print (codes "RO") false))
+a_region : asked_by (codes "img" ∷ codes "print" ∷ codes "-r" ∷ codes "RO" ∷ []) ≡ Some (Ok (on_region (codes "RO") (print false)))
 unfolding clap_on_literals
 a_region = refl
 
-an_empty_region : asked_by (codes "img" ∷ codes "print" ∷ codes "-r" ∷ codes "" ∷ []) ≡ Some (Ok (print [] false))
+an_empty_region : asked_by (codes "img" ∷ codes "print" ∷ codes "-r" ∷ codes "" ∷ []) ≡ Some (Ok (on_region [] (print false)))
 unfolding clap_on_literals
 an_empty_region = refl
 
-a_verbose_listing : asked_by (codes "img" ∷ codes "print" ∷ codes "-v" ∷ []) ≡ Some (Ok (print (codes "COREBOOT") true))
+a_verbose_listing : asked_by (codes "img" ∷ codes "print" ∷ codes "-v" ∷ []) ≡ Some (Ok (on_region (codes "COREBOOT") (print true)))
 unfolding clap_on_literals
 a_verbose_listing = refl
 
@@ -37,21 +37,21 @@ a_layout : asked_by (codes "img" ∷ codes "layout" ∷ []) ≡ Some (Ok layout)
 unfolding clap_on_literals
 a_layout = refl
 
-an_extraction : asked_by (codes "img" ∷ codes "extract" ∷ codes "-n" ∷ codes "a" ∷ codes "-f" ∷ codes "x" ∷ []) ≡ Some (Ok (extract (codes "COREBOOT") (codes "a")))
+an_extraction : asked_by (codes "img" ∷ codes "extract" ∷ codes "-n" ∷ codes "a" ∷ codes "-f" ∷ codes "x" ∷ []) ≡ Some (Ok (on_region (codes "COREBOOT") (extract (codes "a"))))
 unfolding clap_on_literals
 an_extraction = refl
 
-an_empty_name : asked_by (codes "img" ∷ codes "extract" ∷ codes "-f" ∷ codes "x" ∷ codes "-n" ∷ codes "" ∷ codes "-r" ∷ codes "B" ∷ []) ≡ Some (Ok (extract (codes "B") []))
+an_empty_name : asked_by (codes "img" ∷ codes "extract" ∷ codes "-f" ∷ codes "x" ∷ codes "-n" ∷ codes "" ∷ codes "-r" ∷ codes "B" ∷ []) ≡ Some (Ok (on_region (codes "B") (extract [])))
 unfolding clap_on_literals
 an_empty_name = refl
 
 an_addition : asked_by (codes "img" ∷ codes "add" ∷ codes "-n" ∷ codes "a" ∷ codes "-f" ∷ codes "x" ∷ codes "-t" ∷ codes "0x50" ∷ codes "-a" ∷ codes "0x40" ∷ codes "-A" ∷ codes "sha256" ∷ [])
-    ≡ Some (Ok (add (codes "COREBOOT") (codes "a") 0x50 Sha256 (Aligned 64)))
+    ≡ Some (Ok (on_region (codes "COREBOOT") (add (codes "a") 0x50 Sha256 (Aligned 64))))
 unfolding clap_on_literals number_of type_of_text
 an_addition = refl
 
 an_addition_at_a_place : asked_by (codes "img" ∷ codes "add" ∷ codes "-n" ∷ codes "a" ∷ codes "-f" ∷ codes "x" ∷ codes "-t" ∷ codes "raw" ∷ codes "-b" ∷ codes "0" ∷ codes "-r" ∷ codes "B" ∷ [])
-    ≡ Some (Ok (add (codes "B") (codes "a") 0x50 Plain (Fixed 0)))
+    ≡ Some (Ok (on_region (codes "B") (add (codes "a") 0x50 Plain (Fixed 0))))
 unfolding clap_on_literals number_of type_of_text
 an_addition_at_a_place = refl
 
@@ -76,15 +76,15 @@ an_addition_needs_a_type : fault_of command_line (codes "add" ∷ codes "-n" ∷
 unfolding clap_on_literals
 an_addition_needs_a_type = refl
 
-a_removal : asked_by (codes "img" ∷ codes "remove" ∷ codes "-n" ∷ codes "a" ∷ codes "-r" ∷ codes "B" ∷ []) ≡ Some (Ok (remove (codes "B") (codes "a")))
+a_removal : asked_by (codes "img" ∷ codes "remove" ∷ codes "-n" ∷ codes "a" ∷ codes "-r" ∷ codes "B" ∷ []) ≡ Some (Ok (on_region (codes "B") (remove (codes "a"))))
 unfolding clap_on_literals
 a_removal = refl
 
-a_read : asked_by (codes "img" ∷ codes "read" ∷ codes "-f" ∷ codes "x" ∷ []) ≡ Some (Ok (read (codes "COREBOOT")))
+a_read : asked_by (codes "img" ∷ codes "read" ∷ codes "-f" ∷ codes "x" ∷ []) ≡ Some (Ok (on_region (codes "COREBOOT") read))
 unfolding clap_on_literals
 a_read = refl
 
-letters_and_texts_in_one_word : asked_by (codes "img" ∷ codes "write" ∷ codes "-fx" ∷ codes "-rRO" ∷ []) ≡ Some (Ok (write (codes "RO")))
+letters_and_texts_in_one_word : asked_by (codes "img" ∷ codes "write" ∷ codes "-fx" ∷ codes "-rRO" ∷ []) ≡ Some (Ok (on_region (codes "RO") write))
 unfolding clap_on_literals
 letters_and_texts_in_one_word = refl
 

@@ -1,8 +1,9 @@
 -- The command line as clap's definitions have it: a subcommand that has to be there, and its options; and the line
 -- that words make by it.
-use Rattle.std.specs.Prelude.{ℕ, Bool, true, false, List, [], ◌∷◌, length, ◌==◌, ◌||◌, nat_lt, Option, Some, None, Result, Ok, Err, option_map, unwrap_or, if◌then◌else◌}
+use Rattle.std.specs.Prelude.{ℕ, Bool, true, false, List, [], ◌∷◌, length, ◌==◌, ◌||◌, nat_lt, Option, Some, None, Result, Ok, Err, option_map, option_and_then, unwrap_or, if◌then◌else◌}
 use Rattle.std.specs.Borrow.{Bor}
 use Rattle.std.specs.List.{list_any, slice_split}
+use Rattle.std.specs.Option.{option_map_or}
 use Rattle.std.specs.Str.{bytes_eq}
 use lib.Chars.{codes}
 use Rattle.clap.specs.Words.{App, Rule, Row, Shape, first_of, new_rule}
@@ -11,6 +12,8 @@ use Rattle.clap.specs.Simple.{new_shape}
 use Rattle.clap.specs.declared.error.ErrorKind.{ErrorKind}
 use Rattle.clap.specs.declared.error.ErrorKind.TheVariants.{OutOfMemory}
 use Rattle.flash_format.specs.Numbers.{number_of}
+use Rattle.flash_format.specs.declared.digest.Algorithm.TheVariants as algorithms
+use Rattle.flash_format.specs.Made.{algorithm_row}
 use Rattle.flash_format.specs.TypeNames.{type_of_text}
 use Rattle.cbfs_edit.specs.declared.addition.HashChoice.{HashChoice}
 use Rattle.cbfs_edit.specs.declared.addition.HashChoice.TheVariants.{Plain, Sha256, Sha512}
@@ -93,18 +96,12 @@ region_named t = unwrap_or (text_of (codes "region") t) (codes "COREBOOT")
 
 -- whether `-v` stands there, whose text clap gives
 abbrev pub verbose_by : Option (List ℕ) → Bool
-verbose_by None = false
-verbose_by (Some text) = bytes_eq text (codes "true")
+verbose_by text = option_map_or (λ given. bytes_eq given (codes "true")) text false
 
 -- where an option that is required is there
 abbrev pub given : Option (List ℕ) → Result Request Refusal → Result Request Refusal
 given None r = Err refusals.Usage
 given (Some text) r = r
-
--- the type that a text names, or whose number it is
-abbrev pub kind_by : Option (List ℕ) → Option ℕ
-kind_by None = None
-kind_by (Some text) = type_of_text text
 
 -- where content shall begin: by the text of `-a` or that of `-b`, of which at most one is there
 abbrev pub spot_by : Option (List ℕ) → Option (List ℕ) → Option Spot
@@ -117,12 +114,12 @@ spot_by (Some alignment) (Some base) = None
 abbrev pub hash_by : Option (List ℕ) → Option HashChoice
 hash_by None = Some Plain
 hash_by (Some text) =
-    if bytes_eq text (codes "sha256") then Some Sha256
-    else (if bytes_eq text (codes "sha512") then Some Sha512 else None)
+    if bytes_eq text (algorithm_row algorithms.Sha256).name then Some Sha256
+    else (if bytes_eq text (algorithm_row algorithms.Sha512).name then Some Sha512 else None)
 
 -- a new component, where its name and its file are there, and what else is asked of it can be read
 abbrev pub addition : List ℕ → Option (List ℕ) → Option (List ℕ) → Option ℕ → Option HashChoice → Option Spot → Result Request Refusal
-addition region (Some name) (Some file) (Some kind) (Some hash) (Some spot) = Ok (requests.add region name kind hash spot)
+addition region (Some name) (Some file) (Some kind) (Some hash) (Some spot) = Ok (requests.on_region region (requests.add name kind hash spot))
 addition region _ _ _ _ _ = Err refusals.Usage
 
 -- the names of a list, which stand between its commas
@@ -131,8 +128,7 @@ names_in list = slice_split (λ b. b == 44) list
 
 -- those of the rest of a list, where there is one
 abbrev pub names_of : Option (Bor (List ℕ)) → List (List ℕ)
-names_of None = []
-names_of (Some list) = names_in list.now
+names_of rest = option_map_or (λ (list : Bor (List ℕ)). names_in list.now) rest []
 
 -- a new image with regions of these names: at most 16, none of them empty
 abbrev pub creation_of : List (List ℕ) → Result Request Refusal
@@ -141,15 +137,15 @@ creation_of names = if nat_lt 16 (length names) || list_any (λ name. length nam
 -- the command that the texts ask for
 abbrev pub command_of : Texts → Result Request Refusal
 command_of t =
-    if bytes_eq t.subcommand (codes "print") then Ok (requests.print (region_named t) (verbose_by (text_of (codes "verbose") t)))
+    if bytes_eq t.subcommand (codes "print") then Ok (requests.on_region (region_named t) (requests.print (verbose_by (text_of (codes "verbose") t))))
     else (if bytes_eq t.subcommand (codes "layout") then Ok requests.layout
     else (if bytes_eq t.subcommand (codes "extract") then
-    given (text_of (codes "file") t) (given (text_of (codes "name") t) (Ok (requests.extract (region_named t) (unwrap_or (text_of (codes "name") t) []))))
+    given (text_of (codes "file") t) (given (text_of (codes "name") t) (Ok (requests.on_region (region_named t) (requests.extract (unwrap_or (text_of (codes "name") t) [])))))
     else (if bytes_eq t.subcommand (codes "add") then
-    addition (region_named t) (text_of (codes "name") t) (text_of (codes "file") t) (kind_by (text_of (codes "type") t)) (hash_by (text_of (codes "hash") t)) (spot_by (text_of (codes "alignment") t) (text_of (codes "base") t))
-    else (if bytes_eq t.subcommand (codes "remove") then given (text_of (codes "name") t) (Ok (requests.remove (region_named t) (unwrap_or (text_of (codes "name") t) [])))
-    else (if bytes_eq t.subcommand (codes "read") then given (text_of (codes "file") t) (Ok (requests.read (region_named t)))
-    else (if bytes_eq t.subcommand (codes "write") then given (text_of (codes "file") t) (Ok (requests.write (region_named t)))
+    addition (region_named t) (text_of (codes "name") t) (text_of (codes "file") t) (option_and_then type_of_text (text_of (codes "type") t)) (hash_by (text_of (codes "hash") t)) (spot_by (text_of (codes "alignment") t) (text_of (codes "base") t))
+    else (if bytes_eq t.subcommand (codes "remove") then given (text_of (codes "name") t) (Ok (requests.on_region (region_named t) (requests.remove (unwrap_or (text_of (codes "name") t) []))))
+    else (if bytes_eq t.subcommand (codes "read") then given (text_of (codes "file") t) (Ok (requests.on_region (region_named t) requests.read))
+    else (if bytes_eq t.subcommand (codes "write") then given (text_of (codes "file") t) (Ok (requests.on_region (region_named t) requests.write))
     else (if bytes_eq t.subcommand (codes "create") then given (text_of (codes "file") t) (creation_of (names_in (region_named t)))
     else Err refusals.Usage)))))))
 

@@ -1,8 +1,9 @@
 //! The command line: IMAGE, a subcommand, and its options.
 
-ghost use Rattle.std.specs.Prelude.{◌≡◌, ◌≢◌, ◌<◌, ◌⊎◌, [], ◌∷◌, length, Some, IfSome, IfOk, IfErr, codes, drop, map, option_map, true};
+ghost use Rattle.std.specs.Prelude.{◌≡◌, ◌≢◌, ◌<◌, ◌⊎◌, [], ◌∷◌, length, Some, IfSome, IfOk, IfErr, codes, drop, map, option_map, option_and_then, true};
+ghost use Rattle.flash_format.specs.TypeNames.{type_of_text};
 ghost use Rattle.clap.specs.Words.{fault_of, has_subcommand, kind_of, subcommand_rows_of};
-ghost use Rattle.cbfs_line.specs.CommandLine.{addition, command_line, command_of, creation_of, hash_by, kind_by, names_in, names_of, refusal_by, seen, spot_by, text_of, texts_of, verbose_by, with_image};
+ghost use Rattle.cbfs_line.specs.CommandLine.{addition, command_line, command_of, creation_of, hash_by, names_in, names_of, refusal_by, seen, spot_by, text_of, texts_of, verbose_by, with_image};
 
 use crate::words::whole_command;
 use arrayvec::ArrayVec;
@@ -98,7 +99,7 @@ impl<'a> Line<'a> {
     /// The addition that the words ask for.
     fn addition(&self, region: &'a [u8]) -> Result<Command<'a>, Refusal>
         ensures { seen result ≡ addition region.entry.now (text_of (codes "name") self.now)
-            (text_of (codes "file") self.now) (kind_by (text_of (codes "type") self.now))
+            (text_of (codes "file") self.now) (option_and_then type_of_text (text_of (codes "type") self.now))
             (hash_by (text_of (codes "hash") self.now))
             (spot_by (text_of (codes "alignment") self.now) (text_of (codes "base") self.now)) }
     {
@@ -129,7 +130,7 @@ impl<'a> Line<'a> {
 
     /// The type that `-t` gives.
     fn kind(&self) -> Option<u32>
-        ensures { result ≡ kind_by (text_of (codes "type") self.now) }
+        ensures { result ≡ option_and_then type_of_text (text_of (codes "type") self.now) }
     {
         match self.option("type") {
             Some(text) => type_number(text),

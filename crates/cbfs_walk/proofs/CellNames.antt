@@ -6,7 +6,7 @@ use Rattle.std.specs.Str.{bytes_eq}
 use Rattle.std.proofs.lemmas.List.{take-append-le}
 use Rattle.flash_format.specs.declared.head.Head.{Head}
 use Rattle.flash_format.specs.Head.{head_of, is_free}
-use Rattle.flash_format.specs.Entry.{name_end, name_field, name_of, is_nul}
+use Rattle.flash_format.specs.Entry.{name_end, name_field, is_nul}
 use Rattle.flash_format.specs.Components.{cell_name}
 use Rattle.cbfs_walk.specs.Cells.{IsComponentIn, cell_in}
 use Rattle.cbfs_walk.specs.Walks.{StandsIn}
@@ -50,7 +50,7 @@ shows_name x size c is stands =
     let parts = text_within 256 (field_of x c) nul in
     record {
       name =
-          ap (λ (h : Head). name_of (name_field h (cell_in x c))) (cell_head x c s k.positive)
+          ap (λ (h : Head). before_first is_nul (name_field h (cell_in x c))) (cell_head x c s k.positive)
           ∙ ap (before_first is_nul) (cell_part x c 24 (name_end c.head) (omega (arith, f.high, k.fits)));
       short = parts.0;
       within = parts.1;

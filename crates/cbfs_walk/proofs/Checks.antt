@@ -1,10 +1,10 @@
 -- What the checks of a head say, and how they make an entry.
-use Rattle.std.proofs.Common.{◌≡◌, ℕ, ◌+◌, ◌-◌, ◌%◌, ◌≤◌, false, List, length, Some, None, Result, Ok, sym, ap, ◌∙◌, arith}
+use Rattle.std.proofs.Common.{◌≡◌, ℕ, ◌+◌, ◌-◌, ◌%◌, ◌≤◌, false, List, length, Some, None, Result, Ok, refl, sym, ap, ◌∙◌, arith}
 use Rattle.flash_format.specs.declared.head.Head.{Head}
 use Rattle.flash_format.specs.declared.head.Extent.{Extent}
 use Rattle.flash_format.specs.declared.head.DamageKind.{DamageKind}
 use Rattle.flash_format.specs.Head.{is_free, checked, round64}
-use Rattle.flash_format.specs.Entry.{absent, entry, under, front, present, name_end}
+use Rattle.flash_format.specs.Entry.{absent, entry, front, present, name_end}
 use Rattle.flash_format.proofs.CutSteps.{checked_ok}
 use Rattle.flash_format.proofs.EntryLaws.{name_between}
 use Rattle.cbfs_walk.specs.Cells as cells
@@ -53,9 +53,9 @@ checked_extent h left e is =
 
 pub entry_absent : (x : List ℕ) → None ≡ front x → absent ≡ entry x
 unfolding entry
-entry_absent x f = ap (under x) f
+entry_absent x f = rw (← f) refl
 
 -- what stands where a head is, by its checks
 pub entry_present : (x : List ℕ) (h : Head) (left : ℕ) (r : Result Extent DamageKind) → Some h ≡ front x → length x ≡ left → r ≡ checked h left → present h x r ≡ entry x
 unfolding entry
-entry_present x h left r f n e = ap (present h x) (e ∙ ap (checked h) (sym n)) ∙ ap (under x) f
+entry_present x h left r f n e = rw (← f) (ap (present h x) (e ∙ ap (checked h) (sym n)))

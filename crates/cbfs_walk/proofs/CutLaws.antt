@@ -1,5 +1,5 @@
 -- What a walk answers at a place, against the cut of the region.
-use Rattle.std.proofs.Common.{◌≡◌, ℕ, ◌+◌, ◌<◌, ◌≤◌, Bool, true, false, cond, List, length, drop, Some, None, Result, Ok, Err, refl, sym, ap, subst, ◌∙◌, arith, eqb, length-take, length-drop, not, ◌&&◌}
+use Rattle.std.proofs.Common.{◌≡◌, ℕ, ◌+◌, ◌<◌, ◌≤◌, Bool, true, false, cond, List, [], ◌∷◌, length, drop, Some, None, Result, Ok, Err, refl, sym, ap, subst, ◌∙◌, arith, eqb, length-take, length-drop, not, ◌&&◌}
 use Rattle.std.specs.Prelude.{slice_range, is_some}
 use Rattle.std.proofs.lemmas.List.{drop-drop}
 use Rattle.std.proofs.lemmas.Bool.{eqb-true, and_parts}
@@ -12,7 +12,7 @@ use Rattle.flash_format.specs.Head.{head_of, is_free}
 use Rattle.flash_format.specs.Entry.{Entry, absent, damaged, cell, entry, present, component, name_field, has_name, attribute_field}
 use Rattle.flash_format.specs.Attributes.{attributes}
 use Rattle.flash_format.specs.Cut.{after, cut}
-use Rattle.flash_format.proofs.CutSteps.{cell_is, cut_empty, cut_absent, cut_damaged, cut_cell}
+use Rattle.flash_format.proofs.CutSteps.{cell_is, cut_empty, cut_step, cut_cell}
 use Rattle.flash_format.proofs.EntryLaws.{from_head, present_by}
 use Rattle.flash_format.proofs.Fronts.{head_of-take, range-take}
 use Rattle.flash_store.specs.Regions.{bytes_in}
@@ -31,16 +31,16 @@ none_first at absent z = (eqb-true at 0 (and_parts (eqb at 0) true z).0, refl)
 none_first at _ z = let never : false ≡ true = (and_parts (eqb at 0) false z).1 in absurd cc
 
 -- the cut at a cell is the cell, and the cut behind it
-pub cut_at : (x : List ℕ) (at span : ℕ) → 0 < length (drop at x) → entry (drop at x) ≡ cell span → cut (drop at x) ≡ after (slice_range x at (at + span)) (cut (drop (at + span) x))
-cut_at x at span some is = cut_cell (drop at x) span some is ∙ ap (λ c. after c (cut (drop span (drop at x)))) (sym (range_is x at span)) ∙ ap (λ l. after (slice_range x at (at + span)) (cut l)) (drop-drop span at x)
+pub cut_at : (x : List ℕ) (at span : ℕ) → 0 < length (drop at x) → entry (drop at x) ≡ cell span → cut (drop at x) ≡ after (slice_range x at (at + span) ∷ []) (cut (drop (at + span) x))
+cut_at x at span some is = cut_cell (drop at x) span some is ∙ ap (λ c. after (c ∷ []) (cut (drop span (drop at x)))) (sym (range_is x at span)) ∙ ap (λ l. after (slice_range x at (at + span) ∷ []) (cut l)) (drop-drop span at x)
 
 pub walks_follow : WalksFollowTheCut
 unfolding answer_at
 walks_follow x at inside aligned = go (has_bad_size (length x)) (eqb at 0 && is_absent (entry x)) (eqb (length (drop at x)) 0) refl refl refl
   where
     by_entry : (e : Entry) → entry (drop at x) ≡ e → 0 < length (drop at x) → GoesOn x at (answer_by (drop at x) at e)
-    by_entry absent is some = (refl, cut_absent (drop at x) some is)
-    by_entry (damaged k) is some = (refl, cut_damaged (drop at x) k some is)
+    by_entry absent is some = (refl, cut_step (drop at x) absent some is)
+    by_entry (damaged k) is some = (refl, cut_step (drop at x) (damaged k) some is)
     by_entry (cell span) is some = (refl, cut_at x at span some is)
 
     go : (b m n : Bool) → has_bad_size (length x) ≡ b → (eqb at 0 && is_absent (entry x)) ≡ m → eqb (length (drop at x)) 0 ≡ n

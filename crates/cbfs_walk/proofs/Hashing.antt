@@ -1,6 +1,6 @@
 -- The digest of a component's content: the pieces of which it is made, and what the first hash attribute says of it.
 use Rattle.std.proofs.Common.{◌≡◌, ℕ, ◌+◌, ◌-◌, ◌<◌, ◌≤◌, Bool, true, false, cond, IsTrue, List, ◌++◌, take, drop, length, Option, Some, None, Ok, sym, subst, ap, ◌∙◌, arith, ltb, le_refl}
-use Rattle.std.specs.Prelude.{slice_range, IfSome}
+use Rattle.std.specs.Prelude.{slice_range, IfSome, option_and_then}
 use Rattle.std.specs.Str.{bytes_eq}
 use Rattle.std.proofs.lemmas.Bool.{lt-ltb, le-ltb}
 use Rattle.byteorder.specs.Endian.{big_number}
@@ -25,7 +25,7 @@ use Rattle.cbfs_walk.specs.Hashes.{sha256_of, sha512_of, digest_like, digest_by,
 use Rattle.cbfs_walk.specs.declared.cell.Cell.{Cell}
 use Rattle.cbfs_walk.specs.declared.hashes.HashState.{HashState}
 use Rattle.cbfs_walk.specs.declared.hashes.HashState.TheVariants.{Valid, Invalid}
-use Rattle.flash_format.specs.Made.{algorithm_len, algorithm_numbered, digest_with, digest_bytes}
+use Rattle.flash_format.specs.Made.{algorithm_row, algorithm_numbered, digest_with, digest_bytes}
 use Rattle.cbfs_walk.proofs.Parts.{length-region, range-inner, range-take, range-after, length-range}
 use Rattle.cbfs_walk.proofs.Reading.{Passes-then}
 use Rattle.cbfs_walk.proofs.Checks.{checks_give}
@@ -70,27 +70,27 @@ module _ (r : Range) (image : List ℕ) (at n number : ℕ) (lies : LiesIn r ima
   length-data : length its_data ≡ n
   length-data = omega (arith, length-range (bytes_in r image) at (at + n) (omega (arith, length-region r image lies, inside)))
 
-  pub stored_by : (found : Option Algorithm) → found ≡ algorithm_numbered number → digest_by found its_data ≡ stored_digest its_data
+  pub stored_by : (found : Option Algorithm) → found ≡ algorithm_numbered number → option_and_then (digest_by its_data) found ≡ stored_digest its_data
   unfolding stored_digest
   stored_by found is =
       let x = bytes_in r image in
       let first : be32 0 its_data ≡ number =
       ap (big_number 4) (range-inner x at (at + n) 0 4 (omega (arith, room)) ∙ ap (λ k. slice_range x k (at + 4)) {x = at + 0} {y = at} (omega arith)) ∙ sym e in
-      rw first (ap (λ o. digest_by o its_data) is)
+      rw first (ap (option_and_then (digest_by its_data)) is)
 
-  pub stored_whole : (a : Algorithm) (bytes : List ℕ) → Some a ≡ algorithm_numbered number → 4 + algorithm_len a ≤ n → bytes ≡ slice_range (bytes_in r image) (at + 4) (at + 4 + algorithm_len a)
+  pub stored_whole : (a : Algorithm) (bytes : List ℕ) → Some a ≡ algorithm_numbered number → 4 + (algorithm_row a).len ≤ n → bytes ≡ slice_range (bytes_in r image) (at + 4) (at + 4 + (algorithm_row a).len)
       → Some (digest_with a bytes) ≡ stored_digest its_data
   stored_whole a bytes is long read =
       let x = bytes_in r image in
-      let part : bytes ≡ slice_range its_data 4 (4 + algorithm_len a) =
-      read ∙ ap (slice_range x (at + 4)) {x = at + 4 + algorithm_len a} {y = at + (4 + algorithm_len a)} (omega arith) ∙ sym (range-inner x at (at + n) 4 (4 + algorithm_len a) (omega (arith, long))) in
-      let long_enough : ltb (length its_data) (4 + algorithm_len a) ≡ false = le-ltb (length its_data) (4 + algorithm_len a) (omega (arith, length-data, long)) in
-      ap (λ l. Some (digest_with a l)) part ∙ sym (ap (λ b. cond b None (Some (digest_with a (slice_range its_data 4 (4 + algorithm_len a))))) long_enough) ∙ stored_by (Some a) is
+      let part : bytes ≡ slice_range its_data 4 (4 + (algorithm_row a).len) =
+      read ∙ ap (slice_range x (at + 4)) {x = at + 4 + (algorithm_row a).len} {y = at + (4 + (algorithm_row a).len)} (omega arith) ∙ sym (range-inner x at (at + n) 4 (4 + (algorithm_row a).len) (omega (arith, long))) in
+      let long_enough : ltb (length its_data) (4 + (algorithm_row a).len) ≡ false = le-ltb (length its_data) (4 + (algorithm_row a).len) (omega (arith, length-data, long)) in
+      ap (λ l. Some (digest_with a l)) part ∙ sym (ap (λ b. cond b None (Some (digest_with a (slice_range its_data 4 (4 + (algorithm_row a).len))))) long_enough) ∙ stored_by (Some a) is
 
-  pub stored_short : (a : Algorithm) → Some a ≡ algorithm_numbered number → n < 4 + algorithm_len a → None ≡ stored_digest its_data
+  pub stored_short : (a : Algorithm) → Some a ≡ algorithm_numbered number → n < 4 + (algorithm_row a).len → None ≡ stored_digest its_data
   stored_short a is short =
-      let too_short : ltb (length its_data) (4 + algorithm_len a) ≡ true = lt-ltb (length its_data) (4 + algorithm_len a) (omega (arith, length-data, short)) in
-      sym (ap (λ b. cond b None (Some (digest_with a (slice_range its_data 4 (4 + algorithm_len a))))) too_short) ∙ stored_by (Some a) is
+      let too_short : ltb (length its_data) (4 + (algorithm_row a).len) ≡ true = lt-ltb (length its_data) (4 + (algorithm_row a).len) (omega (arith, length-data, short)) in
+      sym (ap (λ b. cond b None (Some (digest_with a (slice_range its_data 4 (4 + (algorithm_row a).len))))) too_short) ∙ stored_by (Some a) is
 
 -- ---- the digest of the content
 

@@ -1,11 +1,12 @@
 -- A scan of attributes on a device, from place to place.
 use Rattle.std.proofs.Common.{◌≡◌, ℕ, ◌+◌, ◌≤◌, Bool, true, false, cond, IsTrue, List, [], ◌∷◌, drop, Option, Some, None, refl, sym, subst, ap, ◌∙◌, arith, eqb, zero, suc, pred, ◌<◌, le_refl, length-drop, length}
 use Rattle.std.specs.Prelude.{slice_range, is_some, IfSome}
-use Rattle.std.specs.Option.{option_map}
+use Rattle.std.specs.List.{find}
+use Rattle.std.specs.Option.{option_map, option_map_or}
 use Rattle.byteorder.specs.Endian.{big_number}
 use Rattle.flash_format.specs.declared.attribute.AttrHead.{AttrHead}
-use Rattle.flash_format.specs.Head.{is_free}
-use Rattle.flash_format.specs.Attributes.{Attribute, attribute, attributes, attr_head_of, data_of, value_of, least_len, COMPRESSION}
+use Rattle.flash_format.specs.Head.{be32, is_free}
+use Rattle.flash_format.specs.Attributes.{Attribute, attribute, attributes, attr_head_of, data_of, least_len, COMPRESSION}
 use Rattle.flash_format.specs.Entry.{name_end}
 use Rattle.flash_format.specs.Components.{packing, cell_attributes}
 use Rattle.flash_store.specs.Device.{Device}
@@ -148,13 +149,13 @@ by_use : (tag : ℕ) (x y : List ℕ) (at end : ℕ) (h : AttrHead) (others : Li
     → option_map (data_at x) rest ≡ data_of tag others → eqb h.tag tag ≡ b → option_map (data_at x) (cond b (Some (at, h)) rest) ≡ data_of tag (attribute y ∷ others)
 by_use tag x y at end h others rest b is fits head more e =
     let test : eqb (attribute y).tag tag ≡ b = ap (λ (k : AttrHead). eqb k.tag tag) (sym head) ∙ e in
-    go b ∙ ap (λ t. cond t (Some (attribute y).contents) (data_of tag others)) (sym test)
+    go b ∙ ap (λ t. option_map (λ (a : Attribute). a.contents) (cond t (Some (attribute y)) (find (λ (a : Attribute). eqb a.tag tag) others))) (sym test)
   where
     contents : data_at x (at, h) ≡ (attribute y).contents
     contents =
         sym (range-inner x at end 8 h.len (omega (arith, fits))) ∙ ap (λ l. slice_range l 8 h.len) (sym is) ∙ ap (λ (k : AttrHead). slice_range y 8 k.len) head
 
-    go : (t : Bool) → option_map (data_at x) (cond t (Some (at, h)) rest) ≡ cond t (Some (attribute y).contents) (data_of tag others)
+    go : (t : Bool) → option_map (data_at x) (cond t (Some (at, h)) rest) ≡ option_map (λ (a : Attribute). a.contents) (cond t (Some (attribute y)) (find (λ (a : Attribute). eqb a.tag tag) others))
     go true = ap Some contents
     go false = more
 
@@ -194,7 +195,7 @@ compression_len : (h : AttrHead) → h.tag ≡ COMPRESSION → least_len h.tag �
 compression_len h e = rw e refl
 
 -- a value is read where it stands
-value_is : (x : List ℕ) (c : Cell) (found : Option Placed) → IfSome found (IsAttrOf c COMPRESSION) → value_in x found ≡ value_of (option_map (data_at x) found)
+value_is : (x : List ℕ) (c : Cell) (found : Option Placed) → IfSome found (IsAttrOf c COMPRESSION) → value_in x found ≡ option_map_or (be32 0) (option_map (data_at x) found) 0
 value_is x c None is = refl
 value_is x c (Some found) is =
     let long : 16 ≤ found.1.len = omega (arith, is.attribute.least, compression_len found.1 is.has) in
@@ -209,4 +210,4 @@ pub packing_found : (r : Range) (image : List ℕ) (c : Cell) (found : Option Pl
 packing_found r image c found lies is stands attribute first =
     let x = bytes_in r image in
     let inside : c.at + c.head.offset ≤ length x = omega (arith, length-region r image lies, content_inside r.size c is.checks) in
-    value_is x c found attribute ∙ ap (λ f. value_of (option_map (data_at x) f)) first ∙ ap value_of (data_found COMPRESSION x c inside stands is.used)
+    value_is x c found attribute ∙ ap (λ f. option_map_or (be32 0) (option_map (data_at x) f) 0) first ∙ ap (λ f. option_map_or (be32 0) f 0) (data_found COMPRESSION x c inside stands is.used)

@@ -6,7 +6,7 @@ use Rattle.flash_format.specs.declared.head.Head.{Head}
 use Rattle.flash_format.specs.Head.{head_of}
 use Rattle.flash_format.specs.Entry.{Entry, absent, damaged, cell, entry}
 use Rattle.flash_format.specs.Cut.{Cut, complete, ends, cut}
-use Rattle.flash_format.proofs.CutSteps.{cell_span, cut_empty, cut_absent, cut_damaged}
+use Rattle.flash_format.proofs.CutSteps.{cell_span, cut_empty, cut_step}
 use Rattle.flash_format.proofs.Fronts.{head_of-take}
 use Rattle.cbfs_walk.specs.Shapes.{has_bad_size, is_absent, refused_or}
 use Rattle.cbfs_walk.specs.Walks.{answer_at, answer_by}
@@ -52,8 +52,8 @@ shaped_step refuse read each law x at inside aligned = go (has_bad_size (length 
   where
     by_entry : (e : Entry) → entry (drop at x) ≡ e → has_bad_size (length x) ≡ false → 0 < length (drop at x)
         → read at (cut (drop at x)) ≡ by_answer refuse read each x (answer_by (drop at x) at e)
-    by_entry absent is good some = ap (read at) (cut_absent (drop at x) some is)
-    by_entry (damaged k) is good some = ap (read at) (cut_damaged (drop at x) k some is)
+    by_entry absent is good some = ap (read at) (cut_step (drop at x) absent some is)
+    by_entry (damaged k) is good some = ap (read at) (cut_step (drop at x) (damaged k) some is)
     by_entry (cell span) is good some = over_cell refuse read each law x at span good aligned inside some is
 
     go : (b m n : Bool) → has_bad_size (length x) ≡ b → (eqb at 0 && is_absent (entry x)) ≡ m → eqb (length (drop at x)) 0 ≡ n

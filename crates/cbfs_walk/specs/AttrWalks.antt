@@ -1,5 +1,5 @@
 -- A walk from attribute to attribute of a component.
-use Rattle.std.specs.Prelude.{ℕ, ◌+◌, ◌-◌, ◌/◌, ◌≤◌, ◌≡◌, false, min, List, [], ◌∷◌, length, slice_range, Option, Some, None, Result, Ok, Err}
+use Rattle.std.specs.Prelude.{ℕ, ◌+◌, ◌-◌, ◌/◌, ◌≤◌, ◌≡◌, false, min, List, length, drop, slice_get, slice_range, Option, Some, None, Result, Ok, Err, option_map}
 use Rattle.flash_format.specs.declared.attribute.AttrHead.{AttrHead}
 use Rattle.flash_format.specs.Attributes.{Attribute, attributes, is_unused, least_len}
 use Rattle.flash_format.specs.Entry.{name_end}
@@ -46,9 +46,7 @@ abbrev pub head_of_attribute : Attribute → AttrHead
 head_of_attribute a = record { tag = a.tag; len = 8 + length a.contents }
 
 abbrev pub first_head : List Attribute → Option AttrHead
-first_head [] = None
-first_head (a ∷ others) = Some (head_of_attribute a)
+first_head all = option_map head_of_attribute (slice_get all 0)
 
 abbrev pub after_first : List Attribute → List Attribute
-after_first [] = []
-after_first (a ∷ others) = others
+after_first all = drop 1 all

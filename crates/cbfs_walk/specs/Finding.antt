@@ -1,6 +1,8 @@
 -- The search for the component of a name.
 use Rattle.std.specs.Prelude.{◌≡◌, ℕ, ◌+◌, ◌/◌, true, false, All, List, ◌∷◌, ◌++◌, length, Option, Some, None, Result, Ok, Err}
 use Rattle.std.specs.List.{find}
+use Rattle.std.specs.Option.{option_map, option_map_or}
+use Rattle.std.specs.Result.{result_map_both}
 use Rattle.std.specs.Str.{bytes_eq}
 use Rattle.flash_format.specs.Head.{head_of}
 use Rattle.flash_format.specs.Cut.{End, damage, cut}
@@ -32,8 +34,7 @@ not_found at (damage kind) = Err (faults.Damaged at kind)
 not_found at _ = Ok None
 
 abbrev pub found_or : Option Component → Found → Found
-found_or None otherwise = otherwise
-found_or (Some c) otherwise = Ok (Some c)
+found_or found otherwise = option_map_or (λ c. Ok (Some c)) found otherwise
 
 -- the first component of a name in a region of these bytes, or else how its cells end
 unfoldable pub component_in : List ℕ → List ℕ → Found
@@ -47,9 +48,7 @@ cell_of c = record { at = c.at; head = head_of c.bytes; span = length c.bytes }
 
 -- the cell of the component that is found
 abbrev pub found_cell : Found → Result (Option Cell) WalkFault
-found_cell (Err fault) = Err fault
-found_cell (Ok None) = Ok None
-found_cell (Ok (Some c)) = Ok (Some (cell_of c))
+found_cell found = result_map_both (option_map cell_of) (λ fault. fault) found
 
 -- how many calls a search of a region of this size makes at most; it goes no further than the component
 abbrev pub find_reads : ℕ → Result (Option Cell) WalkFault → ℕ

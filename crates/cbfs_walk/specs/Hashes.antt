@@ -3,7 +3,7 @@
 -- numbers are those of vboot's `enum vb2_hash_algorithm`, and the digests those of FIPS 180-4. Which algorithms are
 -- supported, and which lengths of the attribute are accepted, is this project's own.
 use Rattle.std.specs.Prelude.{ℕ, ◌+◌, List, length, slice_range, Option, Some, None, nat_lt, if◌then◌else◌, ⊤}
-use Rattle.std.specs.Option.{option_map}
+use Rattle.std.specs.Option.{option_and_then, option_map, option_map_or}
 use Rattle.std.specs.Str.{bytes_eq}
 use Rattle.sha2.specs.Sha256.{sha256}
 use Rattle.sha2.specs.Sha512.{sha512}
@@ -12,7 +12,7 @@ use Rattle.flash_format.specs.declared.digest.Digest.{Digest}
 use Rattle.flash_format.specs.declared.digest.Digest.TheVariants.{Sha256, Sha512}
 use Rattle.flash_format.specs.Head.{be32}
 use Rattle.flash_format.specs.Attributes.{Attribute, data_of, HASH}
-use Rattle.flash_format.specs.Made.{algorithm_len, algorithm_numbered, digest_with, digest_bytes}
+use Rattle.flash_format.specs.Made.{algorithm_row, algorithm_numbered, digest_with, digest_bytes}
 use Rattle.cbfs_walk.specs.declared.cell.Cell.{Cell}
 use Rattle.cbfs_walk.specs.declared.hashes.HashState.{HashState}
 use Rattle.cbfs_walk.specs.declared.hashes.HashState.TheVariants.{Absent, Valid, Invalid, Unsupported}
@@ -35,30 +35,24 @@ digest_like (Sha512 other) bytes = sha512_of bytes
 
 -- ---- what a hash attribute says
 
--- the digest after the number of an algorithm, where all of it is there
-abbrev pub digest_by : Option Algorithm → List ℕ → Option Digest
-digest_by None contents = None
-digest_by (Some algorithm) contents =
-    let end = 4 + algorithm_len algorithm in
+-- the digest by an algorithm, after its number, where all of it is there
+abbrev pub digest_by : List ℕ → Algorithm → Option Digest
+digest_by contents algorithm =
+    let end = 4 + (algorithm_row algorithm).len in
     if nat_lt (length contents) end then None else Some (digest_with algorithm (slice_range contents 4 end))
 
 -- the digest in the data of a hash attribute
 unfoldable pub stored_digest : List ℕ → Option Digest
-stored_digest contents = digest_by (algorithm_numbered (be32 0 contents)) contents
+stored_digest contents = option_and_then (digest_by contents) (algorithm_numbered (be32 0 contents))
 
 -- a stored digest, and the digest of the content
 abbrev pub compared : Digest → Digest → HashState
 compared stored computed = if bytes_eq (digest_bytes stored) (digest_bytes computed) then Valid stored else Invalid stored
 
--- content beside the digest that is stored of it
-abbrev pub state_by : Option Digest → List ℕ → HashState
-state_by None content = Unsupported
-state_by (Some stored) content = compared stored (digest_like stored content)
-
--- the same by the data of a hash attribute, where there is one
+-- content beside the digest that is stored of it in the data of a hash attribute, where there is one
 abbrev pub state_of : Option (List ℕ) → List ℕ → HashState
 state_of None content = Absent
-state_of (Some contents) content = state_by (stored_digest contents) content
+state_of (Some contents) content = option_map_or (λ stored. compared stored (digest_like stored content)) (stored_digest contents) Unsupported
 
 -- what the first hash attribute among a component's attributes says of its content, as it is stored
 abbrev pub hash_state : List Attribute → List ℕ → HashState

@@ -1,5 +1,5 @@
 -- The laws by which callers go on from what a walk gives.
-use Rattle.std.specs.Prelude.{◌≡◌, ℕ, ◌+◌, ◌%◌, ◌≤◌, Contains, List, length, drop, slice_range, Some, None, Ok, Err, IsTrue}
+use Rattle.std.specs.Prelude.{◌≡◌, ℕ, ◌+◌, ◌%◌, ◌≤◌, Contains, List, [], ◌∷◌, length, drop, slice_range, Some, None, Ok, Err, IsTrue}
 use Rattle.flash_format.specs.Head.{head_of}
 use Rattle.flash_format.specs.Entry.{entry, absent}
 use Rattle.flash_format.specs.Cut.{Cut, complete, tail, damage, ends, after, cut}
@@ -17,7 +17,7 @@ use Rattle.cbfs_walk.specs.declared.walk.WalkFault.TheVariants as faults
 
 -- how a region's cut goes on from a place, where a walk gives this answer
 abbrev pub GoesOn : List ℕ → ℕ → Answer → Type 0
-GoesOn x at (Ok (steps.Cell c)) = (c.at ≡ at) × (cut (drop at x) ≡ after (cell_in x c) (cut (drop (at + c.span) x)))
+GoesOn x at (Ok (steps.Cell c)) = (c.at ≡ at) × (cut (drop at x) ≡ after (cell_in x c ∷ []) (cut (drop (at + c.span) x)))
 GoesOn x at (Ok steps.End) = (at ≡ length x) × (cut (drop at x) ≡ ends complete)
 GoesOn x at (Ok (steps.Tail place)) = (place ≡ at) × (cut (drop at x) ≡ ends tail)
 GoesOn x at (Err (faults.Damaged place kind)) = (place ≡ at) × (cut (drop at x) ≡ ends (damage kind))

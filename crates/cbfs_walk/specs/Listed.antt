@@ -1,5 +1,6 @@
 -- What a list of attributes has at its start, as the program has it, and the first attribute with a tag.
 use Rattle.std.specs.Prelude.{◌≡◌, ℕ, zero, suc, pred, ◌+◌, List, [], ◌∷◌, slice_range, Option, Some, None, Result, Ok, ⊤, ◌==◌, if◌then◌else◌, ◌≤◌}
+use Rattle.std.specs.Option.{option_map_or}
 use Rattle.flash_format.specs.declared.attribute.AttrHead.{AttrHead}
 use Rattle.flash_format.specs.Head.{be32}
 use Rattle.flash_format.specs.Attributes.{attr_head_of, ends_list, is_malformed}
@@ -56,5 +57,4 @@ searched_to c _ = content_start c
 
 -- the value that stands first in the data of an attribute, 0 without one
 abbrev pub value_in : List ℕ → Option Placed → ℕ
-value_in x None = 0
-value_in x (Some found) = be32 (found.0 + 8) x
+value_in x found = option_map_or (λ (it : Placed). be32 (it.0 + 8) x) found 0

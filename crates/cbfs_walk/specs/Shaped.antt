@@ -21,7 +21,7 @@ shaped refuse read x at = refused_or refuse (shape_at x at) (read at (cut (drop 
 
 -- a reading goes from cell to cell
 abbrev pub ReadsCells : {A : Type 0} → (ℕ → Cut → A) → (List ℕ → Cell → A → A) → Type 0
-ReadsCells read each = (at : ℕ) (c : List ℕ) (k : Cut) → read at (after c k) ≡ each c (record { at = at; head = head_of c; span = length c }) (read (at + length c) k)
+ReadsCells read each = (at : ℕ) (c : List ℕ) (k : Cut) → read at (after (c ∷ []) k) ≡ each c (record { at = at; head = head_of c; span = length c }) (read (at + length c) k)
 
 -- what is read, by the answer of a walk
 abbrev pub by_answer : {A : Type 0} → (WalkFault → A) → (ℕ → Cut → A) → (List ℕ → Cell → A → A) → List ℕ → Answer → A

@@ -1,5 +1,6 @@
 -- The shape that a region must have before a walk gives any cell of it.
 use Rattle.std.specs.Prelude.{ℕ, Bool, true, false, not, ◌||◌, ◌&&◌, ◌%◌, List, length, Option, Some, None, ◌==◌, if◌then◌else◌}
+use Rattle.std.specs.Option.{option_map_or}
 use Rattle.flash_format.specs.Entry.{Entry, absent, entry}
 use Rattle.cbfs_walk.specs.declared.walk.WalkFault.{WalkFault}
 use Rattle.cbfs_walk.specs.declared.walk.WalkFault.TheVariants as faults
@@ -25,5 +26,4 @@ shape x = shape_at x 0
 
 -- what a fault is answered, or else the answer without one
 abbrev pub refused_or : {A : Type 0} → (WalkFault → A) → Option WalkFault → A → A
-refused_or refuse None otherwise = otherwise
-refused_or refuse (Some fault) otherwise = refuse fault
+refused_or refuse fault otherwise = option_map_or refuse fault otherwise

@@ -1,9 +1,9 @@
 -- The rows that tell what was found in an image. Their texts are this project's own.
-use Rattle.std.specs.Prelude.{ℕ, Bool, true, false, List, [], ◌∷◌, Option, Some, None, slice_get}
+use Rattle.std.specs.Prelude.{ℕ, Bool, true, false, List, [], ◌∷◌, ◌++◌, Option, Some, None, slice_get}
 use Rattle.std.specs.List.{flat_map}
 use lib.Chars.{codes}
 use Rattle.flash_format.specs.Flashmap.{text_of}
-use Rattle.flash_format.specs.declared.digest.Digest.TheVariants.{Sha256, Sha512}
+use Rattle.flash_format.specs.Made.{algorithm_row, algorithm}
 use Rattle.flash_format.specs.declared.head.DamageKind.{DamageKind}
 use Rattle.flash_format.specs.declared.head.DamageKind.TheVariants as kinds
 use Rattle.cbfs_walk.specs.declared.hashes.HashState.{HashState}
@@ -72,10 +72,8 @@ count_row verdict region what count = record { verdict = verdict; area = Some re
 -- what a state of a hash says
 abbrev pub hash_text : HashState → List ℕ
 hash_text Absent = codes "no hash"
-hash_text (Valid (Sha256 bytes)) = codes "sha256 valid"
-hash_text (Valid (Sha512 bytes)) = codes "sha512 valid"
-hash_text (Invalid (Sha256 bytes)) = codes "sha256 invalid"
-hash_text (Invalid (Sha512 bytes)) = codes "sha512 invalid"
+hash_text (Valid digest) = (algorithm_row (algorithm digest)).name ++ codes " valid"
+hash_text (Invalid digest) = (algorithm_row (algorithm digest)).name ++ codes " invalid"
 hash_text Unsupported = codes "hash unsupported"
 
 -- what a finding of a component says
@@ -131,7 +129,7 @@ missing_row names number = record { verdict = Bad; area = slice_get names number
 -- the rows of one finding, where these names of areas were given
 abbrev pub rows_of : List (List ℕ) → ImageFinding → List SeenRow
 rows_of names (Map finding) = map_row finding ∷ []
-rows_of names (Skipped a) = area_row Remark a (codes "isn't checked, an area behind it has bytes of it") details.None ∷ []
+rows_of names (Skipped a) = area_row Remark a (codes "isn't checked, another area has bytes of it") details.None ∷ []
 rows_of names (Region a findings) = flat_map (region_rows (area_name a)) findings
 rows_of names (NoRegion number) = missing_row names number ∷ []
 

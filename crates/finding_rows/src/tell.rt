@@ -38,7 +38,7 @@ fn tell_finding(
     match finding {
         ImageFinding::Map(of_map) => report.tell(&map_row(of_map)),
         ImageFinding::Skipped(area) => {
-            let what = "isn't checked, an area behind it has bytes of it";
+            let what = "isn't checked, another area has bytes of it";
             report.tell(&area_row(Verdict::Remark, area, what, Detail::None))
         }
         ImageFinding::Region { area, findings } => {

@@ -99,7 +99,7 @@ fn areas_of_a_flashmap(rt: HostRuntime) {
         bad\tCOREBOOT\t-\t0x1000\thas the name of the area of this number\t1\n\
         bad\tCOREBOOT\t-\t0x1000\toverlaps the area of this number\t20\n\
         bad\tCOREBOOT\t-\t0x1000\tdoesn't hold the flashmap\n\
-        remark\tCOREBOOT\t-\t0x1000\tisn't checked, an area behind it has bytes of it\n\
+        remark\tCOREBOOT\t-\t0x1000\tisn't checked, another area has bytes of it\n\
         4 bad, 2 remarks, 0 changes\n",
     );
 }

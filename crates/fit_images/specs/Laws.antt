@@ -10,7 +10,7 @@ use Rattle.image_check.specs.ImageFindings.{bytes_of, image_findings}
 use Rattle.image_check.specs.RegionAreas.{region_areas}
 use Rattle.image_check.specs.Verdicts.{is_bad, is_bad_region}
 use Rattle.cbfs_commands.specs.Details.{rows_from}
-use Rattle.cbfs_commands.specs.Outcomes.{extract, print, print_region, told_component}
+use Rattle.cbfs_commands.specs.Outcomes.{extract_region, print_region, told_component, told_in}
 use Rattle.cbfs_commands.specs.Told.{shows}
 
 -- the rows of all cells of a region, with the lines of its components where verbose
@@ -23,11 +23,11 @@ FitRegionsAreListed = (all : Bool) (x : List ℕ) (verbose : Bool) → list_any 
 
 -- `print` of the area by its name has the rows of all its cells, and is done
 abbrev pub IsListed : List ℕ → Bool → NumberedArea → Type 0
-IsListed image verbose a = print image (text_of a.area.name) verbose ≡ shows (shown (bytes_of image a) verbose)
+IsListed image verbose a = told_in image (text_of a.area.name) (λ x. print_region x verbose) ≡ shows (shown (bytes_of image a) verbose)
 
 -- `extract` of each of the area's components, by both names, shows its content, unless that is compressed
 abbrev pub IsExtracted : List ℕ → NumberedArea → Type 0
-IsExtracted image a = (c : Component) → Contains (components (bytes_of image a)) c → extract image (text_of a.area.name) c.name ≡ told_component c
+IsExtracted image a = (c : Component) → Contains (components (bytes_of image a)) c → told_in image (text_of a.area.name) (λ x. extract_region x c.name) ≡ told_component c
 
 -- in an image of which a check, verbose or not, tells nothing bad each area is listed that is checked as a region
 abbrev pub FitImagesAreListed : Type 0

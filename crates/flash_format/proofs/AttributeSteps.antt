@@ -1,14 +1,9 @@
 -- How a list of attributes goes on from one to the next.
-use Rattle.std.proofs.Common.{◌≡◌, ℕ, zero, suc, pred, ◌≤◌, Bool, true, false, cond, List, [], ◌∷◌, length, drop, Option, Some, None, refl, ap, ◌∙◌, arith, eqb, ltb}
+use Rattle.std.proofs.Common.{◌≡◌, ℕ, zero, suc, pred, ◌≤◌, true, false, List, [], ◌∷◌, length, drop, Option, Some, None, refl, ap, ◌∙◌, arith}
 use Rattle.std.specs.Option.{option_map}
-use Rattle.std.proofs.lemmas.Bool.{ltb-false, or_parts}
+use Rattle.std.proofs.lemmas.Bool.Decides.{nat_tests}
 use Rattle.flash_format.proofs.Fronts.{drop-pred}
-use Rattle.flash_format.specs.Attributes.{Attribute, attr_head_of, attribute, attributes, attributes_after, ends_list, is_malformed, least_len, COMPRESSION, HASH}
-
-eight : (a b : Bool) → 8 ≤ cond a 16 (cond b 12 8)
-eight true b = omega arith
-eight false true = omega arith
-eight false false = omega arith
+use Rattle.flash_format.specs.Attributes.{Attribute, attr_head_of, attribute, attributes, attributes_after, ends_list, is_malformed, least_len}
 
 -- what is known of the length of an attribute that is no fault
 pub record IsAttributeLen (x : List ℕ) (len : ℕ) : Type 0 where
@@ -17,11 +12,7 @@ pub record IsAttributeLen (x : List ℕ) (len : ℕ) : Type 0 where
   pub inside : len ≤ length x
 
 pub attribute_len : (x : List ℕ) → is_malformed x ≡ false → IsAttributeLen x (attr_head_of x).len
-attribute_len x e =
-    let h = attr_head_of x in
-    let b = or_parts (ltb h.len (least_len h.tag)) (ltb (length x) h.len) e in
-    let least : least_len h.tag ≤ h.len = ltb-false _ _ b.0 in
-    record { head = omega (arith, least, eight (eqb h.tag COMPRESSION) (eqb h.tag HASH)); least = least; inside = ltb-false _ _ b.1 }
+attribute_len x e = record { head = grind (arith, nat_tests); least = grind (arith, nat_tests); inside = grind (arith, nat_tests) }
 
 -- the bytes that belong to the attribute before don't count
 pub attributes_after-drop : (k : ℕ) (x : List ℕ) → attributes_after k x ≡ attributes (drop k x)

@@ -1,19 +1,16 @@
 -- Lists of cells that follow each other: their cut, their components and their places.
-use Rattle.std.proofs.Common.{◌≡◌, ℕ, ◌+◌, ◌≤◌, Bool, true, false, cond, List, [], ◌∷◌, ◌++◌, length, take, drop, sym, ◌∙◌, ap, refl, arith, All, length-append, take-append-drop}
+use Rattle.std.proofs.Common.{◌≡◌, ℕ, ◌+◌, ◌≤◌, Bool, cond, List, [], ◌∷◌, ◌++◌, length, take, drop, sym, ◌∙◌, ap, refl, arith, All, length-append, take-append-drop}
 use Rattle.std.specs.List.{concat, sum_by}
+use Rattle.std.proofs.lemmas.Bool.Decides.{nat_tests}
 use Rattle.std.proofs.lemmas.List.{length-take-le}
 use Rattle.std.proofs.lemmas.List.Concat.{concat_is, length-flat_map}
 use Rattle.flash_format.specs.Head.{head_of, is_free}
-use Rattle.flash_format.specs.Cut.{Cut, cut, after_all, IsCell}
+use Rattle.flash_format.specs.Cut.{Cut, cut, after, IsCell}
 use Rattle.flash_format.specs.Components.{Component, component_at, components_from, components, moved}
 use Rattle.flash_format.proofs.CutLaws.{cut_joined}
 
--- a list whose first bytes are these cells
-in_parts : (x : List ℕ) (at : ℕ) (cells : List (List ℕ)) → take at x ≡ concat cells → x ≡ concat cells ++ drop at x
-in_parts x at cells e = sym (take-append-drop at x) ∙ ap (λ (l : List ℕ). l ++ drop at x) e
-
-pub cut_goes_on : (x : List ℕ) (at : ℕ) (cells : List (List ℕ)) → All IsCell cells → take at x ≡ concat cells → cut x ≡ after_all cells (cut (drop at x))
-cut_goes_on x at cells each e = ap (λ (l : List ℕ). cut l) (in_parts x at cells e) ∙ cut_joined cells (drop at x) each
+pub cut_goes_on : (x : List ℕ) (at : ℕ) (cells : List (List ℕ)) → All IsCell cells → take at x ≡ concat cells → cut x ≡ after cells (cut (drop at x))
+cut_goes_on x at cells each e = ap (λ (l : List ℕ). cut l) (sym (take-append-drop at x) ∙ ap (λ (l : List ℕ). l ++ drop at x) e) ∙ cut_joined cells (drop at x) each
 
 -- how far cells reach
 joined_length : (x : List ℕ) (at : ℕ) (cells : List (List ℕ)) → take at x ≡ concat cells → at ≤ length x → length (concat cells) ≡ at
@@ -24,8 +21,7 @@ places_are_sums x at cells e inside =
     sym (joined_length x at cells e inside) ∙ ap length (concat_is cells) ∙ length-flat_map (λ c. c) cells
 
 one_more : (b : Bool) (c : Component) (later other : List Component) → cond b later (c ∷ later) ++ other ≡ cond b (later ++ other) (c ∷ (later ++ other))
-one_more true c later other = refl
-one_more false c later other = refl
+one_more b c later other = grind (arith, nat_tests)
 
 pub components-append : (at : ℕ) (a b : List (List ℕ)) → components_from at (a ++ b) ≡ components_from at a ++ components_from (at + length (concat a)) b
 unfolding components_from
@@ -40,8 +36,7 @@ components-append at (c ∷ a) b =
     ap (λ (l : List Component). cond (is_free (head_of c)) l (here ∷ l)) step ∙ sym (one_more (is_free (head_of c)) here later other)
 
 move_one : (b : Bool) (n : ℕ) (c : Component) (later : List Component) → cond b (moved n later) (record c { at = n + c.at } ∷ moved n later) ≡ moved n (cond b later (c ∷ later))
-move_one true n c later = refl
-move_one false n c later = refl
+move_one b n c later = grind (arith, nat_tests)
 
 -- the same cells further on
 pub components-moved : (n at : ℕ) (cells : List (List ℕ)) → components_from (n + at) cells ≡ moved n (components_from at cells)

@@ -1,14 +1,15 @@
 -- How a cut goes on from cell to cell, whatever bounded its recursion.
-use Rattle.std.proofs.Common.{◌≡◌, ℕ, zero, suc, pred, ◌+◌, ◌%◌, ◌<◌, ◌≤◌, Bool, true, false, cond, List, [], ◌∷◌, length, take, drop, Option, Some, None, Result, Ok, Err, refl, sym, ap, ◌∙◌, arith, ltb, not, ◌&&◌}
-use Rattle.std.proofs.lemmas.Bool.{ltb-false}
+use Rattle.std.proofs.Common.{◌≡◌, ℕ, zero, suc, pred, ◌+◌, ◌%◌, ◌<◌, ◌≤◌, false, List, [], ◌∷◌, length, take, drop, Option, Some, None, Result, Ok, Err, refl, sym, ap, ◌∙◌, arith}
+use Rattle.std.specs.Option.{option_map_or}
+use Rattle.std.proofs.lemmas.Bool.{le-ltb}
+use Rattle.std.proofs.lemmas.Bool.Decides.{nat_tests}
 use Rattle.flash_format.specs.declared.head.Head.{Head}
 use Rattle.flash_format.specs.declared.head.Extent.{Extent}
 use Rattle.flash_format.specs.declared.head.DamageKind.{DamageKind}
-use Rattle.flash_format.specs.declared.head.DamageKind.TheVariants as kinds
-use Rattle.flash_format.specs.Head.{head_of, head_at, has_magic, is_free, attributes_misplaced, checked, round64}
-use Rattle.flash_format.specs.Entry.{Entry, absent, damaged, cell, entry, present, under, front, component}
+use Rattle.flash_format.specs.Head.{head_of, head_at, is_free, attributes_misplaced, checked, round64}
+use Rattle.flash_format.specs.Entry.{Entry, absent, cell, entry, present, front}
 use Rattle.flash_format.proofs.Fronts.{drop-pred}
-use Rattle.flash_format.specs.Cut.{Cut, complete, tail, damage, ends, after, by_entry, cut, cut_after, IsSpan}
+use Rattle.flash_format.specs.Cut.{Cut, complete, ends, after, by_entry, cut, cut_after, IsSpan}
 
 -- what the checks of a head say where all of them pass
 pub record IsChecked (h : Head) (left : ℕ) (e : Extent) : Type 0 where
@@ -18,38 +19,15 @@ pub record IsChecked (h : Head) (left : ℕ) (e : Extent) : Type 0 where
   pub content : e.content ≡ h.offset
   pub span : e.span ≡ round64 (h.offset + h.len)
 
--- a test that did not fail
-abbrev refused : DamageKind → Result Extent DamageKind
-refused k = Err k
-
-passed : (b : Bool) (k : DamageKind) (r : Result Extent DamageKind) (e : Extent) → cond b (refused k) r ≡ Ok e → (b ≡ false) × (r ≡ Ok e)
-passed true k r e h = absurd cc
-passed false k r e h = (refl, h)
-
-extent_is : (d e : Extent) → (let r : Result Extent DamageKind = Ok d in r) ≡ Ok e → d ≡ e
-extent_is d e h = cc
-
-least : (free : Bool) (n : ℕ) → ltb n (cond free 24 25) ≡ false → 24 ≤ n
-least true n e = ltb-false _ _ e
-least false n e = let h : 25 ≤ n = ltb-false _ _ e in omega arith
-
-rest_fails : (free b : Bool) → free ≡ false → (not free && b) ≡ false → b ≡ false
-rest_fails true b f e = absurd cc
-rest_fails false b f e = e
-
 pub checked_ok : (h : Head) (left : ℕ) (e : Extent) → checked h left ≡ Ok e → IsChecked h left e
 unfolding checked
 checked_ok h left e ok =
-    let a = passed (ltb h.offset (cond (is_free h) 24 25)) kinds.Offset _ e ok in
-    let b = passed (not (is_free h) && attributes_misplaced h) kinds.AttrOffset _ e a.1 in
-    let d = passed (ltb left (h.offset + h.len)) kinds.Extent _ e b.1 in
-    let same = extent_is _ e d.1 in
     record {
-      front = least (is_free h) h.offset a.0;
-      placed = λ f. rest_fails (is_free h) (attributes_misplaced h) f b.0;
-      inside = ltb-false _ _ d.0;
-      content = ap (λ (y : Extent). y.content) (sym same);
-      span = ap (λ (y : Extent). y.span) (sym same);
+      front = grind (arith, nat_tests);
+      placed = λ f. grind (arith, nat_tests);
+      inside = grind (arith, nat_tests);
+      content = grind (arith, nat_tests);
+      span = grind (arith, nat_tests);
     }
 
 -- what stands where there is a cell
@@ -60,41 +38,25 @@ pub record IsCell (x : List ℕ) (span : ℕ) : Type 0 where
   pub checks : checked (head_of x) (length x) ≡ Ok extent
   pub spans : extent.span ≡ span
 
-abbrev cell_of : ℕ → Entry
-cell_of n = cell n
-
 present_cell : (h : Head) (x : List ℕ) (r : Result Extent DamageKind) (span : ℕ) → present h x r ≡ cell span → (e : Extent) × (r ≡ Ok e) × (e.span ≡ span)
 present_cell h x (Err k) span p = absurd cc
-present_cell h x (Ok e) span p = (e, refl, go (is_free h) p)
-  where
-    inner : (a b : Bool) → cond (not a) (damaged kinds.Name) (cond (not b) (damaged kinds.AttrLength) (cell_of e.span)) ≡ cell span → e.span ≡ span
-    inner true true q = cc
-    inner _ _ q = absurd cc
-
-    go : (b : Bool) → cond b (cell_of e.span) (component h x e.span) ≡ cell span → e.span ≡ span
-    go true q = cc
-    go false q = inner _ _ q
+present_cell h x (Ok e) span p = (e, refl, grind (arith, nat_tests))
 
 -- a head that is read is the one that stands there
 pub head_is : (x : List ℕ) (h : Head) → head_at x ≡ Some h → head_of x ≡ h
-head_is x h e = go (has_magic x) e
-  where
-    go : (b : Bool) → cond b (Some (head_of x)) None ≡ Some h → head_of x ≡ h
-    go true p = cc
-    go false p = absurd cc
+head_is x h e = grind (arith, nat_tests)
 
 pub front_some : (x : List ℕ) (h : Head) → front x ≡ Some h → (24 ≤ length x) × (head_at x ≡ Some h) × (h ≡ head_of x)
-front_some x h e = short (ltb (length x) 24) refl e
-  where
-    short : (b : Bool) → ltb (length x) 24 ≡ b → cond b None (head_at x) ≡ Some h → (24 ≤ length x) × (head_at x ≡ Some h) × (h ≡ head_of x)
-    short true l q = absurd cc
-    short false l q = (ltb-false _ _ l, q, sym (head_is x h q))
+front_some x h e =
+    let long : 24 ≤ length x = grind (arith, nat_tests) in
+    let there = rw (le-ltb (length x) 24 long) at e in
+    (long, there, sym (head_is x h there))
 
 pub cell_is : (x : List ℕ) (span : ℕ) → entry x ≡ cell span → IsCell x span
 unfolding entry
 cell_is x span e = go (front x) refl e
   where
-    go : (o : Option Head) → front x ≡ o → under x o ≡ cell span → IsCell x span
+    go : (o : Option Head) → front x ≡ o → option_map_or (λ h. present h x (checked h (length x))) o absent ≡ cell span → IsCell x span
     go None f p = absurd cc
     go (Some h) f p =
         let s = front_some x h f in
@@ -133,16 +95,10 @@ unfolding cut_after
 cut_empty [] e = refl
 cut_empty (b ∷ x) e = absurd (omega arith)
 
-pub cut_absent : (x : List ℕ) → 0 < length x → entry x ≡ absent → cut x ≡ ends tail
-cut_absent x some is = cut_step x absent some is
-
-pub cut_damaged : (x : List ℕ) (kind : DamageKind) → 0 < length x → entry x ≡ damaged kind → cut x ≡ ends (damage kind)
-cut_damaged x kind some is = cut_step x (damaged kind) some is
-
-pub cut_cell : (x : List ℕ) (span : ℕ) → 0 < length x → entry x ≡ cell span → cut x ≡ after (take span x) (cut (drop span x))
+pub cut_cell : (x : List ℕ) (span : ℕ) → 0 < length x → entry x ≡ cell span → cut x ≡ after (take span x ∷ []) (cut (drop span x))
 unfolding cut_after
 cut_cell [] span some is = absurd (omega arith)
 cut_cell (b ∷ x) span some is =
     let s = cell_span (b ∷ x) span is in
     ap (λ (v : Entry). by_entry v (b ∷ x) (λ n. cut_after (pred n) x)) is
-    ∙ ap (λ (c : Cut). after (take span (b ∷ x)) c) (cut_after-drop (pred span) x ∙ ap (λ (l : List ℕ). cut l) (drop-pred b x span (omega (arith, s.positive))))
+    ∙ ap (λ (c : Cut). after (take span (b ∷ x) ∷ []) c) (cut_after-drop (pred span) x ∙ ap (λ (l : List ℕ). cut l) (drop-pred b x span (omega (arith, s.positive))))

@@ -1,11 +1,12 @@
 -- An empty entry's header in front of anything is a free cell.
-use Rattle.std.proofs.Common.{◌≡◌, ℕ, ◌+◌, ◌-◌, ◌%◌, ◌^◌, ◌<◌, ◌≤◌, Bool, true, false, cond, List, ◌++◌, length, replicate, Some, None, Result, Ok, refl, sym, ap, ◌∙◌, arith, append_assoc, length-append, lit<}
+use Rattle.std.proofs.Common.{◌≡◌, ℕ, ◌+◌, ◌-◌, ◌%◌, ◌^◌, ◌<◌, ◌≤◌, Bool, true, false, cond, List, ◌++◌, length, replicate, Some, Result, Ok, refl, sym, ap, ◌∙◌, arith, append_assoc, length-append, lit<, ltb, not, ◌&&◌}
 use Rattle.std.proofs.lemmas.Bool.{le-ltb}
+use Rattle.std.proofs.lemmas.Bool.Decides.{nat_tests}
 use Rattle.std.proofs.lemmas.List.{take_at}
 use Rattle.flash_format.specs.declared.head.Head.{Head}
 use Rattle.flash_format.specs.declared.head.Extent.{Extent}
 use Rattle.flash_format.specs.declared.head.DamageKind.{DamageKind}
-use Rattle.flash_format.specs.Head.{header_length, head_of, head_at, head_bytes, has_magic, is_free, checked, round64}
+use Rattle.flash_format.specs.Head.{header_length, head_of, head_at, head_bytes, is_free, attributes_misplaced, checked, round64}
 use Rattle.flash_format.specs.EmptyEntries.{empty_header}
 use Rattle.flash_format.specs.Entry.{cell, entry, present}
 use Rattle.flash_format.proofs.Fronts.{head_at-take}
@@ -24,10 +25,11 @@ head_in_front h more len_fits kind_fits attributes_fit offset_fits =
     ∙ ap (λ (l : List ℕ). head_at l) (take_at (head_bytes h) more 24 (length-head_bytes h))
     ∙ head_is_read_back (head_bytes h) h refl len_fits kind_fits attributes_fit offset_fits
 
--- what is checked of free space that fills its cell
-free_checked : (h : Head) (left : ℕ) → is_free h ≡ true → 24 ≤ h.offset → h.offset + h.len ≤ left → checked h left ≡ Ok (record { content = h.offset; span = round64 (h.offset + h.len) })
+-- what is checked of a head where the content has room
+pub checked_passes : (h : Head) (left : ℕ) → ltb h.offset (cond (is_free h) 24 25) ≡ false → (not (is_free h) && attributes_misplaced h) ≡ false → h.offset + h.len ≤ left
+    → checked h left ≡ Ok (record { content = h.offset; span = round64 (h.offset + h.len) })
 unfolding checked
-free_checked h left free offset fits = rw (free, le-ltb h.offset 24 offset, le-ltb left (h.offset + h.len) fits) refl
+checked_passes h left offset placed fits = rw (offset, placed, le-ltb left (h.offset + h.len) fits) refl
 
 -- a head of free space that fills so many bytes
 free_entry : (h : Head) (more : List ℕ) (size : ℕ) → is_free h ≡ true → 24 ≤ h.offset → h.offset + h.len ≤ size → size < h.offset + h.len + 64 → size % 64 ≡ 0 → size < 2 ^ 32
@@ -40,7 +42,7 @@ free_entry h more size free offset fits full whole small kind_fits attributes_fi
     let e : Extent = record { content = h.offset; span = round64 (h.offset + h.len) } in
     let span : round64 (h.offset + h.len) ≡ size = omega arith in (
       from_head x h (omega arith) head
-          ∙ ap (λ (r : Result Extent DamageKind). present h x r) (free_checked h (length x) free offset (omega arith))
+          ∙ ap (λ (r : Result Extent DamageKind). present h x r) (checked_passes h (length x) (rw free (le-ltb h.offset 24 offset)) (rw free refl) (omega arith))
           ∙ present_by true h x e free
           ∙ ap (λ (n : ℕ). cell n) span,
       ap (λ (k : Head). is_free k) (head_is x h head) ∙ free,
@@ -49,7 +51,7 @@ free_entry h more size free offset fits full whole small kind_fits attributes_fi
 pub empty_header-cell : (size : ℕ) (kept : Bool) (more : List ℕ) → 64 ≤ size → size % 64 ≡ 0 → size < 2 ^ 32 → header_length + length more ≡ size
     → (entry (empty_header size kept ++ more) ≡ cell size) × (is_free (head_of (empty_header size kept ++ more)) ≡ true)
 unfolding empty_header
-empty_header-cell size kept more some whole small long = at_most (cond kept 4 0) (few kept)
+empty_header-cell size kept more some whole small long = at_most (cond kept 4 0) (grind (arith, nat_tests))
   where
     at_most : (n : ℕ) → n ≤ 4 → let h : Head = record { len = size - header_length - n; kind = 0xffffffff; attributes_offset = 0; offset = header_length } in
         let x : List ℕ = head_bytes h ++ replicate (header_length - 24) 0 ++ more in
@@ -59,10 +61,6 @@ empty_header-cell size kept more some whole small long = at_most (cond kept 4 0)
         let done = free_entry h (replicate (header_length - 24) 0 ++ more) size refl (omega arith) (omega arith) (omega arith) whole small (lit< tt) (lit< tt) (omega arith) in
         let same : head_bytes h ++ replicate (header_length - 24) 0 ++ more ≡ head_bytes h ++ (replicate (header_length - 24) 0 ++ more) = append_assoc (head_bytes h) (replicate (header_length - 24) 0) more in
         (ap (λ (l : List ℕ). entry l) same ∙ done.0, ap (λ (l : List ℕ). is_free (head_of l)) same ∙ done.1)
-
-    few : (b : Bool) → cond b 4 0 ≤ 4
-    few true = omega arith
-    few false = omega arith
 
 pub length-empty_header : (size : ℕ) (kept : Bool) → length (empty_header size kept) ≡ header_length
 unfolding empty_header head_bytes

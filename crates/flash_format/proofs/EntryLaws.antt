@@ -1,14 +1,13 @@
 -- The laws of `entry`: which bytes bear on what it is.
-use Rattle.std.proofs.Common.{◌≡◌, ℕ, ◌+◌, ◌%◌, ◌≤◌, Bool, true, false, cond, List, [], length, take, Option, Some, None, Result, Ok, refl, sym, ap, ◌∙◌, arith, eqb, ltb, not, ◌&&◌, ◌||◌, inl, inr}
-use Rattle.std.specs.Prelude.{slice_range, is_some}
-use Rattle.std.proofs.lemmas.Bool.{le-ltb, cases_Bool, ltb-false, or_parts}
+use Rattle.std.proofs.Common.{◌≡◌, ℕ, ◌+◌, ◌≤◌, Bool, true, false, cond, List, [], length, take, Some, Result, Ok, refl, sym, ap, ◌∙◌, arith, eqb, inl, inr}
+use Rattle.std.specs.Prelude.{slice_range}
+use Rattle.std.proofs.lemmas.Bool.{le-ltb, cases_Bool}
+use Rattle.std.proofs.lemmas.Bool.Decides.{nat_tests}
 use Rattle.flash_format.specs.declared.head.Head.{Head}
 use Rattle.flash_format.specs.declared.head.Extent.{Extent}
 use Rattle.flash_format.specs.declared.head.DamageKind.{DamageKind}
-use Rattle.flash_format.specs.declared.head.DamageKind.TheVariants as kinds
 use Rattle.flash_format.specs.Head.{head_of, head_at, is_free, attributes_misplaced, checked, round64}
-use Rattle.flash_format.specs.Entry.{Entry, damaged, cell, entry, present, under, component, name_end, name_field, attribute_field, has_name}
-use Rattle.flash_format.specs.Attributes.{attributes}
+use Rattle.flash_format.specs.Entry.{Entry, cell, entry, present, component, name_end, name_field, attribute_field}
 use Rattle.flash_format.proofs.Fronts.{range-take, head_at-take}
 use Rattle.flash_format.proofs.CutSteps.{IsCell, cell_is, checked_ok, cell_span}
 
@@ -29,13 +28,7 @@ range_alike x y n a b le same = sym (range-take x n a b le) ∙ ap (λ (l : List
 
 -- the name field begins in a head that passes its checks, and ends before the content
 pub name_between : (h : Head) → attributes_misplaced h ≡ false → 24 ≤ h.offset → (24 ≤ name_end h) × (name_end h ≤ h.offset)
-name_between h placed room = go (eqb h.attributes_offset 0) (ltb h.attributes_offset 25) refl placed
-  where
-    go : (none low : Bool) → ltb h.attributes_offset 25 ≡ low → (not none && (low || ltb h.offset h.attributes_offset)) ≡ false
-        → (24 ≤ cond none h.offset h.attributes_offset) × (cond none h.offset h.attributes_offset ≤ h.offset)
-    go true low b p = (room, omega arith)
-    go false true b p = absurd cc
-    go false false b p = let long = ltb-false _ _ b in (omega (arith, long), ltb-false _ _ p)
+name_between h placed room = (grind (arith, nat_tests), grind (arith, nat_tests))
 
 component_alike : (h : Head) (x y : List ℕ) (n span : ℕ) → name_end h ≤ n → h.offset ≤ n → take n x ≡ take n y → component h x span ≡ component h y span
 component_alike h x y n span named placed same =
@@ -48,7 +41,7 @@ component_alike h x y n span named placed same =
 -- what stands where the head is there
 pub from_head : (x : List ℕ) (h : Head) → 24 ≤ length x → head_at x ≡ Some h → entry x ≡ present h x (checked h (length x))
 unfolding entry
-from_head x h long e = ap (λ (b : Bool). under x (cond b None (head_at x))) (le-ltb (length x) 24 long) ∙ ap (λ (o : Option Head). under x o) e
+from_head x h long e = rw (le-ltb (length x) 24 long, e) refl
 
 -- what stands where the head of a cell of other bytes is there, and the content has room
 as_under : (x y : List ℕ) (span : ℕ) → (c : IsCell x span) → 24 ≤ length y → head_at y ≡ head_at x → (head_of x).offset + (head_of x).len ≤ length y

@@ -1,9 +1,10 @@
 -- A made cell is read as the component that it was made of.
-use Rattle.std.proofs.Common.{◌≡◌, ℕ, zero, suc, ◌+◌, ◌-◌, ◌%◌, ◌^◌, ◌<◌, ◌≤◌, Bool, true, false, cond, List, [], ◌∷◌, ◌++◌, length, take, drop, get_or, replicate, Option, Some, None, Result, Ok, refl, sym, ap, ◌∙◌, subst, arith, eqb, ltb, not, ◌||◌, append_assoc, length-append, length-take, length-drop, lit<}
+use Rattle.std.proofs.Common.{◌≡◌, ℕ, zero, suc, ◌+◌, ◌-◌, ◌%◌, ◌^◌, ◌<◌, ◌≤◌, Bool, true, false, cond, List, [], ◌∷◌, ◌++◌, length, take, drop, replicate, Option, Some, None, Result, refl, sym, ap, ◌∙◌, subst, arith, ltb, not, append_assoc, length-append, length-drop, lit<}
 use Rattle.std.specs.Prelude.{slice_range, is_some}
 use Rattle.std.specs.List.{list_any, before_first, prefix_len}
 use Rattle.std.specs.Option.{option_map}
-use Rattle.std.proofs.lemmas.Bool.{le-ltb, ne_eqb, and_right, or_from, or_parts, or_right}
+use Rattle.std.proofs.lemmas.Bool.{le-ltb, ne_eqb, or_from, or_parts, or_right}
+use Rattle.std.proofs.lemmas.Bool.Decides.{nat_tests}
 use Rattle.std.proofs.lemmas.List.Folds.{list_any-append}
 use Rattle.std.proofs.lemmas.List.{take_at, drop_at, append-nil, length-replicate}
 use Rattle.std.proofs.Math.Seq.{take-append-add}
@@ -16,13 +17,15 @@ use Rattle.flash_format.specs.declared.head.DamageKind.TheVariants as kinds
 use Rattle.flash_format.specs.declared.digest.Digest.{Digest}
 use Rattle.flash_format.specs.declared.digest.Digest.TheVariants as digests
 use Rattle.flash_format.specs.declared.attribute.AttrHead.{AttrHead}
-use Rattle.flash_format.specs.Head.{name_padding, head_of, head_at, head_bytes, is_free, attributes_misplaced, checked, round64, be32}
+use Rattle.flash_format.specs.Head.{name_padding, head_of, head_at, head_bytes, is_free, round64, be32}
 use Rattle.flash_format.specs.Attributes.{Attribute, attr_head_of, attributes, attributes_after, attribute, ends_list, is_malformed, is_unused, has_bad_len, HASH}
 use Rattle.flash_format.specs.Entry.{damaged, cell, present, component, is_nul, name_end, name_field, has_name, attribute_field}
 use Rattle.flash_format.specs.EmptyEntries.{padding}
-use Rattle.flash_format.specs.Made.{IsDigest, IsMade, IsReadAs, KeepsFour, name_room, meta_length, algorithm_number, algorithm, digest_bytes, digest_len, hash_attribute, hash_bytes, hash_len, made_head, padded_name, made_metadata, made, made_attributes}
+use Rattle.flash_format.specs.Made.{IsDigest, IsMade, KeepsFour, name_room, meta_length, algorithm_row, algorithm, digest_bytes, digest_len, hash_attribute, hash_bytes, hash_len, made_head, padded_name, made_metadata, made, made_attributes}
+use Rattle.flash_format.specs.Components.{component_at}
+use Rattle.flash_format.specs.Placings.{IsReadAs, made_component}
 use Rattle.flash_format.proofs.AttributeSteps.{attributes_end, attributes_more}
-use Rattle.flash_format.proofs.EmptyEntryLaws.{length-head_bytes, head_in_front}
+use Rattle.flash_format.proofs.EmptyEntryLaws.{length-head_bytes, head_in_front, checked_passes}
 use Rattle.flash_format.proofs.CutSteps.{head_is}
 use Rattle.flash_format.proofs.EntryLaws.{from_head, present_by, up}
 
@@ -116,7 +119,7 @@ few_bytes (digests.Sha512 bytes) is = omega (arith, is)
 
 -- ---- the parts of metadata
 
-length-padded : (name : List ℕ) → length (padded_name name) ≡ name_room (length name)
+pub length-padded : (name : List ℕ) → length (padded_name name) ≡ name_room (length name)
 length-padded name = omega (arith, length-append name (replicate (name_room (length name) - length name) 0), length-replicate {A = ℕ} (name_room (length name) - length name) 0)
 
 pub length-metadata : (name : List ℕ) (kind : ℕ) (digest : Option Digest) (gap n : ℕ) → length (made_metadata name kind digest gap n) ≡ (made_head name kind digest gap n).offset
@@ -124,18 +127,6 @@ length-metadata name kind digest gap n = simp (length-append, length-head_bytes,
 
 padded_is : (name : List ℕ) → padded_name name ≡ name ++ (0 ∷ replicate (name_room (length name) - length name - 1) 0)
 padded_is name = ap (λ (l : List ℕ). name ++ l) (zeros_begin (name_room (length name) - length name) (omega arith))
-
--- the name field is longer than the name
-name_fits : (name : List ℕ) (kind : ℕ) (digest : Option Digest) (gap n : ℕ) → 24 + length name < name_end (made_head name kind digest gap n)
-name_fits name kind None gap n = omega arith
-name_fits name kind (Some d) gap n = rw (ne_eqb (24 + name_room (length name)) 0 (λ z. omega (arith, z))) (omega arith)
-
-placed : (name : List ℕ) (kind : ℕ) (digest : Option Digest) (gap n : ℕ) → attributes_misplaced (made_head name kind digest gap n) ≡ false
-placed name kind None gap n = refl
-placed name kind (Some d) gap n =
-    let at = 24 + name_room (length name) in
-    let offset = (made_head name kind (Some d) gap n).offset in
-    and_right (not (eqb at 0)) (ltb at 25 || ltb offset at) (or_from (ltb at 25) (ltb offset at) (le-ltb at 25 (omega arith)) (le-ltb offset at (omega arith)))
 
 range_of : (a b c : List ℕ) (from to : ℕ) → length a ≡ from → from + length b ≡ to → slice_range (a ++ (b ++ c)) from to ≡ b
 range_of a b c from to begins ends =
@@ -158,27 +149,23 @@ attributes_read name kind (Some d) gap n more is =
     ∙ ap (λ (l : List ℕ). slice_range l at h.offset) shape
     ∙ range_of before list more at h.offset (omega (arith, length-append (head_bytes h) (padded_name name), length-head_bytes h, length-padded name))
     (omega (arith, length-append hash (replicate gap 255), length-replicate {A = ℕ} gap 255)) in
-    ap (λ (l : List ℕ). attributes l) field ∙ hash_read (algorithm_number (algorithm d)) (digest_bytes d) gap (few_bytes d is)
+    ap (λ (l : List ℕ). attributes l) field ∙ hash_read (algorithm_row (algorithm d)).number (digest_bytes d) gap (few_bytes d is)
 
 -- ---- the cell
-
-checked_used : (h : Head) (left : ℕ) → is_free h ≡ false → 25 ≤ h.offset → attributes_misplaced h ≡ false → h.offset + h.len ≤ left
-    → checked h left ≡ Ok (record { content = h.offset; span = round64 (h.offset + h.len) })
-unfolding checked
-checked_used h left used offset well fits = rw (used, le-ltb h.offset 25 offset, well, le-ltb left (h.offset + h.len) fits) refl
 
 component_whole : (h : Head) (x : List ℕ) (span : ℕ) (list : List Attribute) → has_name (name_field h x) ≡ true → attributes (attribute_field h x) ≡ Some list → component h x span ≡ cell span
 component_whole h x span list name read =
     ap (λ (b : Bool). cond (not b) (damaged kinds.Name) (cond (not (is_some (attributes (attribute_field h x)))) (damaged kinds.AttrLength) (cell span))) name
     ∙ ap (λ (o : Option (List Attribute)). cond (not (is_some o)) (damaged kinds.AttrLength) (cell span)) read
 
+-- a component whose head is this
+component_made : (at : ℕ) (name : List ℕ) (digest : Option Digest) (content x : List ℕ) (h : Head) → head_of x ≡ h → before_first is_nul (name_field h x) ≡ name → attributes (attribute_field h x) ≡ Some (made_attributes digest)
+    → slice_range x h.offset (h.offset + h.len) ≡ content → component_at at x ≡ made_component at name h.kind digest content x
+component_made at name digest content x h head named formed is = rw (head, named, formed, is) refl
+
 regroup : (head name nuls hash spare content more : List ℕ)
     → head ++ (name ++ nuls) ++ hash ++ spare ++ content ++ more ≡ head ++ (name ++ (nuls ++ (hash ++ (spare ++ (content ++ more)))))
 regroup head name nuls hash spare content more = simp append_assoc
-
-attributes_inside : (name : List ℕ) (kind : ℕ) (digest : Option Digest) (gap n : ℕ) → (made_head name kind digest gap n).attributes_offset ≤ (made_head name kind digest gap n).offset
-attributes_inside name kind None gap n = omega arith
-attributes_inside name kind (Some d) gap n = omega arith
 
 pub metadata_is_read : (name : List ℕ) (kind : ℕ) (digest : Option Digest) (gap : ℕ) (content more : List ℕ) → IsMade name kind digest gap content
     → let whole = made_metadata name kind digest gap (length content) ++ content in
@@ -198,14 +185,13 @@ metadata_is_read name kind digest gap content more is =
     let long : length x ≡ h.offset + n + length more = omega (arith, length-append (metadata ++ content) more, length-append metadata content, size) in
     let shape : x ≡ head_bytes h ++ later =
     ap (λ (l : List ℕ). head_bytes h ++ l ++ hash ++ spare ++ content ++ more) (padded_is name) ∙ regroup (head_bytes h) name (0 ∷ nuls) hash spare content more in
-    let attributes_small : h.attributes_offset ≤ h.offset = attributes_inside name kind digest gap n in
+    let attributes_small : h.attributes_offset ≤ h.offset = grind (arith, nat_tests) in
     let head : head_at x ≡ Some h =
     ap (λ (l : List ℕ). head_at l) shape ∙ head_in_front h later (omega (arith, small)) is.kind_small (omega (arith, small, attributes_small)) (omega (arith, small)) in
     let head_there : head_of x ≡ h = head_is x h head in
     let field : name_field h x ≡ take (name_end h - 24) later =
     ap (λ (l : List ℕ). take (name_end h - 24) (drop 24 l)) shape ∙ ap (λ (l : List ℕ). take (name_end h - 24) l) (drop_at (head_bytes h) later 24 (length-head_bytes h)) in
-    let fits = name_fits name kind digest gap n in
-    let room : length name < name_end h - 24 = omega (arith, fits) in
+    let room : length name < name_end h - 24 = grind (arith, nat_tests) in
     let named : has_name (name_field h x) ≡ true = ap (λ (l : List ℕ). has_name l) field ∙ some_nul name rest (name_end h - 24) is.name_short room in
     let list : attributes (attribute_field h x) ≡ Some (made_attributes digest) =
     ap (λ (l : List ℕ). attributes (attribute_field h l)) (append_assoc metadata content more) ∙ attributes_read name kind digest gap n (content ++ more) is.digest_long in
@@ -214,21 +200,15 @@ metadata_is_read name kind digest gap content more is =
     record {
       is_cell =
           from_head x h (omega (arith, long)) head
-          ∙ ap (λ (r : Result Extent DamageKind). present h x r) (checked_used h (length x) is.kind_used (omega arith) (placed name kind digest gap n) (omega (arith, long)))
+          ∙ ap (λ (r : Result Extent DamageKind). present h x r) (checked_passes h (length x) (rw is.kind_used (le-ltb h.offset 25 (omega arith))) (rw is.kind_used (grind (arith, nat_tests))) (omega (arith, long)))
           ∙ present_by false h x e is.kind_used
           ∙ component_whole h x e.span (made_attributes digest) named list
           ∙ ap (λ (k : ℕ). cell k) span;
       is_used = ap (λ (k : Head). is_free k) head_there ∙ is.kind_used;
-      has_name =
-          ap (λ (k : Head). before_first is_nul (name_field k x)) head_there
-          ∙ ap (λ (l : List ℕ). before_first is_nul l) field
-          ∙ first_nul name rest (name_end h - 24) is.name_plain room;
-      has_kind = ap (λ (k : Head). k.kind) head_there;
-      has_attributes = ap (λ (k : Head). attributes (attribute_field k x)) head_there ∙ list;
-      has_content =
-          ap (λ (k : Head). slice_range x k.offset (k.offset + k.len)) head_there
-          ∙ ap (λ (l : List ℕ). slice_range l h.offset (h.offset + n)) (append_assoc metadata content more)
-          ∙ range_of metadata content more h.offset (h.offset + n) size refl;
+      component = λ at. component_made at name digest content x h head_there
+          (ap (λ (l : List ℕ). before_first is_nul l) field ∙ first_nul name rest (name_end h - 24) is.name_plain room)
+          list
+          (ap (λ (l : List ℕ). slice_range l h.offset (h.offset + n)) (append_assoc metadata content more) ∙ range_of metadata content more h.offset (h.offset + n) size refl);
     }
 
 -- ---- the whole cell
@@ -259,7 +239,7 @@ made_alone name kind digest gap content last is four =
 
 pub hash_as_long : (digest : Option Digest) → IsDigest digest → length (hash_bytes digest) ≡ hash_len digest
 hash_as_long None is = refl
-hash_as_long (Some d) is = length-hash (algorithm_number (algorithm d)) (digest_bytes d) ∙ ap (λ (k : ℕ). 12 + k) is
+hash_as_long (Some d) is = length-hash (algorithm_row (algorithm d)).number (digest_bytes d) ∙ ap (λ (k : ℕ). 12 + k) is
 
 pub made_as_long : (name : List ℕ) (kind : ℕ) (digest : Option Digest) (gap : ℕ) (content : List ℕ) (last : Option (List ℕ)) → IsDigest digest → KeepsFour last
     → length (made name kind digest gap content last) ≡ round64 (meta_length (length name) (hash_len digest) + gap + length content)

@@ -1,5 +1,5 @@
 -- A map is read as it was written, and it is the image's where none stands below it.
-use Rattle.std.proofs.Common.{◌≡◌, ℕ, ◌*◌, ◌<◌, ◌≤◌, Bool, true, false, List, [], ◌∷◌, ◌++◌, All, length, take, drop, Option, Some, None, refl, sym, ◌∙◌, ap, arith, append_assoc, length-append, length-drop, ⊎_elim, ◌&&◌}
+use Rattle.std.proofs.Common.{◌≡◌, ℕ, ◌*◌, ◌<◌, ◌≤◌, true, List, [], ◌∷◌, ◌++◌, All, length, take, drop, Option, Some, None, refl, sym, ◌∙◌, ap, arith, append_assoc, length-append, length-drop, ⊎_elim, ◌&&◌}
 use Rattle.std.specs.Prelude.{nat_le}
 use Rattle.std.specs.List.{flat_map}
 use Rattle.std.proofs.lemmas.Bool.{cases_lt, eq-eqb, le-leb, leb-true, and_parts}
@@ -9,7 +9,7 @@ use Rattle.byteorder.specs.Endian.{little_bytes}
 use Rattle.flash_format.specs.declared.flashmap.Area.{Area}
 use Rattle.flash_format.specs.declared.flashmap.FmapHead.{FmapHead}
 use Rattle.flash_format.specs.Flashmap.{area_bytes, area_of, areas_from, fmap_head_bytes, fmap_head_of, has_signature, is_map, is_named, is_valid_head, map_len, map_of}
-use Rattle.flash_format.specs.Laws.{IsAreaInBytes, IsMapOf, LowestMapsAreFound, MapsAreReadBack, map_bytes}
+use Rattle.flash_format.specs.Laws.{IsAreaInBytes, IsMapOf, MapsAreReadBack, NoMapBelow, map_bytes}
 use Rattle.flash_format.proofs.Fronts.{area_of-take, fmap_head_of-take, has_signature-take}
 use Rattle.flash_format.proofs.MapLaws.{map_lowest}
 use Rattle.flash_format.proofs.MapSteps.{map_where}
@@ -24,7 +24,7 @@ map_long x is = leb-true 56 (length x) (and_parts (nat_le 56 (length x)) (has_si
 one_place : (p q : ℕ) → (p < q → ⊥) → (q < p → ⊥) → p ≡ q
 one_place p q above below = ⊎_elim (λ lower. absurd (above lower)) (λ high. ⊎_elim (λ higher. absurd (below higher)) (λ low. omega (arith, high, low)) (cases_lt q p)) (cases_lt p q)
 
-pub lowest_found : LowestMapsAreFound
+pub lowest_found : (image : List ℕ) (q : ℕ) → is_map (drop q image) ≡ true → NoMapBelow image q → map_of image ≡ Some q
 lowest_found image q here none = go (map_of image) refl (map_lowest image)
   where
     inside : q < length image

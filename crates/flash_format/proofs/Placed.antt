@@ -1,17 +1,15 @@
 -- A component in place of free cells: one more, and all others stay.
-use Rattle.std.proofs.Common.{◌≡◌, ℕ, ◌+◌, ◌-◌, ◌%◌, ◌≤◌, false, cond, List, [], ◌∷◌, ◌++◌, length, Option, Some, sym, ◌∙◌, ap, subst, refl, arith, All, append_assoc, length-append}
-use Rattle.std.specs.Prelude.{is_some, unwrap_or}
+use Rattle.std.proofs.Common.{◌≡◌, ℕ, ◌+◌, ◌-◌, ◌%◌, ◌≤◌, false, cond, List, [], ◌∷◌, ◌++◌, length, Option, sym, ◌∙◌, ap, subst, refl, arith, All, append_assoc, length-append}
+use Rattle.std.specs.Prelude.{is_some}
 use Rattle.std.specs.List.{concat}
 use Rattle.std.proofs.lemmas.List.{append-nil}
 use Rattle.std.proofs.lemmas.List.Elements.{All-nil, All-cons, All-append}
-use Rattle.flash_format.specs.declared.digest.Digest.{Digest}
 use Rattle.flash_format.specs.Head.{header_length, head_of, is_free}
-use Rattle.flash_format.specs.Attributes.{Attribute}
 use Rattle.flash_format.specs.EmptyEntries.{empty_header, empty_entry, padding}
 use Rattle.flash_format.specs.Cut.{cut, IsCell, IsCut}
-use Rattle.flash_format.specs.Components.{Component, cell_content, cell_attributes, component_at, components_from, components}
+use Rattle.flash_format.specs.Components.{Component, component_at, components_from, components}
 use Rattle.flash_format.specs.Splices.{AllFree, spliced}
-use Rattle.flash_format.specs.Made.{IsReadAs, KeepsFour, made_attributes}
+use Rattle.flash_format.specs.Made.{KeepsFour}
 use Rattle.flash_format.specs.Placings.{IsSpace, space_cells, made_component}
 use Rattle.flash_format.specs.Laws.{ComponentsArePlaced}
 use Rattle.flash_format.proofs.CutSteps.{cell_span}
@@ -31,11 +29,6 @@ empty_is_space size last some four =
     }
 
 -- ---- the component
-
-component_made : (at : ℕ) (name : List ℕ) (kind : ℕ) (digest : Option Digest) (content x : List ℕ) (span : ℕ) → IsReadAs name kind digest content x span → component_at at x ≡ made_component at name kind digest content x
-component_made at name kind digest content x span is =
-    let attributes : cell_attributes x ≡ made_attributes digest = ap (λ (o : Option (List Attribute)). unwrap_or o []) is.has_attributes in
-    rw (is.has_name, is.has_kind, attributes, is.has_content) refl
 
 -- a cell that isn't free has its component
 component_alone : (at : ℕ) (x : List ℕ) → is_free (head_of x) ≡ false → components_from at (x ∷ []) ≡ component_at at x ∷ []
@@ -85,7 +78,7 @@ components_placed x start end g at before whole after name kind digest content f
     let there : start + length (concat (space_cells before)) ≡ at = omega (arith, ap length (concat-space before), place.space_before.long, place.from_start) in
     let here : components_from start cells ≡ component ∷ [] =
     component_among start at (space_cells before) (space_cells after) whole first.1 last.1 read.is_used there
-    ∙ ap (λ (c : Component). c ∷ []) (component_made at name kind digest content whole (length whole) read) in
+    ∙ ap (λ (c : Component). c ∷ []) (read.component at) in
     let Y : List ℕ → List ℕ = λ l. spliced x start end l in
     record {
       is_cut = subst (λ (l : List ℕ). IsCut (Y l) (g.before ++ cells ++ g.after) g.rest g.ending) joined (splice-cut x start end g cells each size);

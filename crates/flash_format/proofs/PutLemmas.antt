@@ -1,31 +1,32 @@
 -- Writes that follow each other.
-use Rattle.std.proofs.Common.{◌≡◌, ℕ, ◌+◌, ◌-◌, ◌≤◌, List, [], ◌++◌, length, take, drop, refl, sym, ap, ◌∙◌, arith, append_assoc, length-append, drop-drop}
-use Rattle.std.proofs.lemmas.List.{append-nil}
+use Rattle.std.proofs.Common.{◌≡◌, ℕ, ◌+◌, ◌-◌, ◌≤◌, List, ◌++◌, length, take, drop, sym, ap, ◌∙◌, arith, append_assoc, length-append, drop-drop, take-append-drop}
+use Rattle.std.proofs.lemmas.List.{take_at, drop_at, length-take-le}
 use Rattle.std.proofs.lemmas.Slice.{take-put_mid, drop-put_mid}
 use borrow.Rule.Slice.PartMut.{put_mid}
-use Rattle.flash_format.specs.Puts.{Puts}
+use Rattle.flash_format.specs.Splices.{spliced}
 
 further : (m n : ℕ) (x y : List ℕ) → m ≤ n → drop m x ≡ drop m y → drop n x ≡ drop n y
 further m n x y le same =
     let e : m + (n - m) ≡ n = omega arith in
     ap (λ (k : ℕ). drop k x) (sym e) ∙ sym (drop-drop (n - m) m x) ∙ ap (λ (l : List ℕ). drop (n - m) l) same ∙ drop-drop (n - m) m y ∙ ap (λ (k : ℕ). drop k y) e
 
-pub then : (x y z a b : List ℕ) (p q r : ℕ) → Puts x p a y q → Puts y q b z r → Puts x p (a ++ b) z r
-then x y z a b p q r first second = record {
-  end = omega (arith, first.end, second.end, length-append a b);
-  written = second.written ∙ ap (λ (l : List ℕ). l ++ b) first.written ∙ append_assoc (take p x) a b;
-  after = second.after ∙ further q r y x (omega (arith, second.end)) first.after;
-}
-
-pub nothing : (x : List ℕ) (at : ℕ) → Puts x at [] x at
-nothing x at = record { end = omega arith; written = sym (append-nil (take at x)); after = refl }
+pub then : (x y z a b : List ℕ) (p q r : ℕ) → q ≡ p + length a → r ≡ q + length b → r ≤ length x → y ≡ spliced x p q a → z ≡ spliced y q r b → z ≡ spliced x p r (a ++ b)
+then x y z a b p q r to_q to_r room first second =
+    let whole : y ≡ (take p x ++ a) ++ drop q x = first ∙ sym (append_assoc (take p x) a (drop q x)) in
+    let long : length (take p x ++ a) ≡ q = omega (arith, length-append (take p x) a, length-take-le p x (omega arith)) in
+    let front : take q y ≡ take p x ++ a = ap (λ (l : List ℕ). take q l) whole ∙ take_at (take p x ++ a) (drop q x) q long in
+    let back : drop r y ≡ drop r x = further q r y x (omega arith) (ap (λ (l : List ℕ). drop q l) whole ∙ drop_at (take p x ++ a) (drop q x) q long) in
+    second ∙ ap (λ (l : List ℕ). l ++ (b ++ drop r y)) front ∙ ap (λ (l : List ℕ). (take p x ++ a) ++ (b ++ l)) back ∙ simp append_assoc
 
 -- one write into a part of a slice
-pub put_part : (x piece bytes : List ℕ) (at size : ℕ) → piece ≡ bytes → length bytes ≡ size → at + size ≤ length x → Puts x at bytes (put_mid at (at + size - at) x piece) (at + size)
+pub put_part : (x piece bytes : List ℕ) (at size : ℕ) → piece ≡ bytes → length bytes ≡ size → at + size ≤ length x → put_mid at (at + size - at) x piece ≡ spliced x at (at + size) bytes
 put_part x piece bytes at size is long room =
+    let y = put_mid at (at + size - at) x piece in
     let as_long : length piece ≡ length bytes = ap (λ (l : List ℕ). length l) is in
-    record {
-      end = omega (arith, long);
-      written = take-put_mid at (at + size - at) x piece (at + size) (omega (arith, as_long, long)) (omega (arith, room)) ∙ ap (λ (l : List ℕ). take at x ++ l) is;
-      after = drop-put_mid at (at + size - at) x piece (at + size) (omega arith) (omega (arith, room)) (omega (arith, as_long, long));
-    }
+    let front : take (at + size) y ≡ take at x ++ piece = take-put_mid at (at + size - at) x piece (at + size) (omega (arith, as_long, long)) (omega (arith, room)) in
+    let back : drop (at + size) y ≡ drop (at + size) x = drop-put_mid at (at + size - at) x piece (at + size) (omega arith) (omega (arith, room)) (omega (arith, as_long, long)) in
+    sym (take-append-drop (at + size) y)
+    ∙ ap (λ (l : List ℕ). l ++ drop (at + size) y) front
+    ∙ ap (λ (l : List ℕ). (take at x ++ piece) ++ l) back
+    ∙ ap (λ (l : List ℕ). (take at x ++ l) ++ drop (at + size) x) is
+    ∙ append_assoc (take at x) bytes (drop (at + size) x)

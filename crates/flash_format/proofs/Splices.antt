@@ -7,7 +7,6 @@ use Rattle.flash_format.specs.Head.{header_length, head_of, is_free}
 use Rattle.flash_format.specs.EmptyEntries.{empty_header}
 use Rattle.flash_format.specs.Entry.{cell, entry}
 use Rattle.flash_format.specs.Placings.{IsSpace, space_cells}
-use Rattle.flash_format.specs.Laws.{EmptyEntriesHaveNoComponent}
 use Rattle.flash_format.proofs.EmptyEntryLaws.{empty_header-cell, length-empty_header}
 use Rattle.flash_format.specs.Cut.{Cut, cut, IsCell, IsCut}
 use Rattle.flash_format.specs.Components.{Component, component_at, components_from, components}
@@ -158,6 +157,3 @@ module _ (x : List ℕ) (start end : ℕ) (g : CellsBetween x start end) where
 
     pub emptied-end : (cut (spliced x start end empty_bytes)).end ≡ (cut x).end
     emptied-end = ap (λ (l : List ℕ). (cut (spliced x start end l)).end) (sym (concat-space empty_bytes)) ∙ splice-end (space_cells empty_bytes) empty_entry-space.0 empty_entry-size
-
-pub empty_entries_have_none : EmptyEntriesHaveNoComponent
-empty_entries_have_none x start end g kept more some small room = emptied-components x start end g kept more some small room

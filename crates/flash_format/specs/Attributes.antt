@@ -2,6 +2,7 @@
 -- They are those of `struct cbfs_file_attribute` in coreboot's sources; where a list ends and which lengths are
 -- well formed is this project's own.
 use Rattle.std.specs.Prelude.{ℕ, zero, suc, pred, Bool, ◌||◌, List, [], ◌∷◌, length, slice_range, Option, Some, None, nat_lt, ◌==◌, if◌then◌else◌}
+use Rattle.std.specs.List.{find}
 use Rattle.std.specs.Option.{option_map}
 use Rattle.flash_format.specs.declared.attribute.AttrHead.{AttrHead}
 use Rattle.flash_format.specs.Head.{be32}
@@ -44,18 +45,15 @@ is_malformed x = has_bad_len (attr_head_of x) (length x)
 abbrev pub attribute : List ℕ → Attribute
 attribute x = let h = attr_head_of x in record { tag = h.tag; contents = slice_range x 8 h.len }
 
--- an attribute before the list that follows after so many bytes
-abbrev pub by_attribute : List ℕ → (ℕ → Option (List Attribute)) → Option (List Attribute)
-by_attribute x later =
-    if ends_list x then Some []
-    else (if is_malformed x then None
-    else option_map (λ others. attribute x ∷ others) (later (attr_head_of x).len))
-
 -- The attributes in bytes of which the first `skip` still belong to the one before.
 unfoldable pub attributes_after : ℕ → List ℕ → Option (List Attribute)
 attributes_after skip [] = Some []
 attributes_after (suc skip) (b ∷ rest) = attributes_after skip rest
-attributes_after zero (b ∷ rest) = by_attribute (b ∷ rest) (λ len. attributes_after (pred len) rest)
+attributes_after zero (b ∷ rest) =
+    let x = b ∷ rest in
+    if ends_list x then Some []
+    else (if is_malformed x then None
+    else option_map (λ others. attribute x ∷ others) (attributes_after (pred (attr_head_of x).len) rest))
 
 -- the attributes in these bytes, or None where one is malformed
 abbrev pub attributes : List ℕ → Option (List Attribute)
@@ -63,10 +61,4 @@ attributes x = attributes_after 0 x
 
 -- the data of the first attribute with a tag
 abbrev pub data_of : ℕ → List Attribute → Option (List ℕ)
-data_of tag [] = None
-data_of tag (a ∷ others) = if a.tag == tag then Some a.contents else data_of tag others
-
--- the value that stands first in data, 0 without any
-abbrev pub value_of : Option (List ℕ) → ℕ
-value_of None = 0
-value_of (Some contents) = be32 0 contents
+data_of tag all = option_map (λ (a : Attribute). a.contents) (find (λ (a : Attribute). a.tag == tag) all)

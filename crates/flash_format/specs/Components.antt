@@ -1,8 +1,10 @@
 -- The components of a region: its cells that are no free space.
 use Rattle.std.specs.Prelude.{ℕ, ◌+◌, Bool, not, List, [], ◌∷◌, length, slice_range, map, unwrap_or, ◌==◌, if◌then◌else◌}
-use Rattle.flash_format.specs.Head.{head_of, is_free}
-use Rattle.flash_format.specs.Attributes.{Attribute, attributes, data_of, value_of, COMPRESSION}
-use Rattle.flash_format.specs.Entry.{name_field, name_of, attribute_field}
+use Rattle.std.specs.List.{before_first}
+use Rattle.std.specs.Option.{option_map_or}
+use Rattle.flash_format.specs.Head.{be32, head_of, is_free}
+use Rattle.flash_format.specs.Attributes.{Attribute, attributes, data_of, COMPRESSION}
+use Rattle.flash_format.specs.Entry.{is_nul, name_field, attribute_field}
 use Rattle.flash_format.specs.Cut.{cut}
 
 -- where a component stands in its region, what is read from its cell, and all the cell's bytes
@@ -14,9 +16,9 @@ pub record Component : Type 0 where
   pub content : List ℕ
   pub bytes : List ℕ
 
--- the name of a component's cell
+-- the name of a component's cell: the bytes of its field before the first NUL
 abbrev pub cell_name : List ℕ → List ℕ
-cell_name x = name_of (name_field (head_of x) x)
+cell_name x = before_first is_nul (name_field (head_of x) x)
 
 -- the attributes of a component's cell, which are well formed in every cell of a cut
 abbrev pub cell_attributes : List ℕ → List Attribute
@@ -26,9 +28,9 @@ cell_attributes x = unwrap_or (attributes (attribute_field (head_of x) x)) []
 abbrev pub cell_content : List ℕ → List ℕ
 cell_content x = let h = head_of x in slice_range x h.offset (h.offset + h.len)
 
--- the value of the first compression attribute, 0 without one
+-- the value that stands first in the first compression attribute, 0 without one
 abbrev pub packing : List Attribute → ℕ
-packing all = value_of (data_of COMPRESSION all)
+packing all = option_map_or (be32 0) (data_of COMPRESSION all) 0
 
 -- the content is stored compressed
 abbrev pub is_packed : List Attribute → Bool

@@ -22,18 +22,14 @@ pub record Cut : Type 0 where
 abbrev pub ends : End → Cut
 ends e = record { cells = []; end = e }
 
-abbrev pub after : List ℕ → Cut → Cut
-after x rest = record { cells = x ∷ rest.cells; end = rest.end }
-
--- the same of several cells
-abbrev pub after_all : List (List ℕ) → Cut → Cut
-after_all cells rest = record { cells = cells ++ rest.cells; end = rest.end }
+abbrev pub after : List (List ℕ) → Cut → Cut
+after cells rest = record { cells = cells ++ rest.cells; end = rest.end }
 
 -- what the entry that these bytes begin with makes of them, given the cut after a cell of so many bytes
 abbrev pub by_entry : Entry → List ℕ → (ℕ → Cut) → Cut
 by_entry absent x later = ends tail
 by_entry (damaged kind) x later = ends (damage kind)
-by_entry (cell span) x later = after (take span x) (later span)
+by_entry (cell span) x later = after (take span x ∷ []) (later span)
 
 -- The cut of bytes of which the first `skip` still belong to the cell before.
 unfoldable pub cut_after : ℕ → List ℕ → Cut

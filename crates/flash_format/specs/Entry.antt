@@ -1,8 +1,9 @@
 -- An entry: what stands at a place of a region, by all bytes from there up to the region's end.
 -- It is coreboot's CBFS file header with its name and attributes; that an entry fails the first of five checks and is
 -- damaged is this project's own.
-use Rattle.std.specs.Prelude.{ℕ, Bool, not, List, [], length, take, slice_range, Option, Some, None, Result, Ok, Err, nat_lt, ◌==◌, if◌then◌else◌, is_some}
-use Rattle.std.specs.List.{list_any, before_first}
+use Rattle.std.specs.Prelude.{ℕ, Bool, not, List, [], length, take, slice_range, Option, None, Result, Ok, Err, nat_lt, ◌==◌, if◌then◌else◌, is_some}
+use Rattle.std.specs.List.{list_any}
+use Rattle.std.specs.Option.{option_map_or}
 use Rattle.flash_format.specs.declared.head.Head.{Head}
 use Rattle.flash_format.specs.declared.head.Extent.{Extent}
 use Rattle.flash_format.specs.declared.head.DamageKind.{DamageKind}
@@ -23,10 +24,6 @@ is_nul b = b == 0
 -- a NUL stands within the field's first 256 bytes
 abbrev pub has_name : List ℕ → Bool
 has_name field = list_any is_nul (take 256 field)
-
--- the bytes before the first NUL
-abbrev pub name_of : List ℕ → List ℕ
-name_of field = before_first is_nul field
 
 -- the bytes between the name field and the content
 abbrev pub attribute_field : Head → List ℕ → List ℕ
@@ -51,14 +48,10 @@ abbrev pub present : Head → List ℕ → Result Extent DamageKind → Entry
 present h x (Err kind) = damaged kind
 present h x (Ok extent) = if is_free h then cell extent.span else component h x extent.span
 
-abbrev pub under : List ℕ → Option Head → Entry
-under x None = absent
-under x (Some h) = present h x (checked h (length x))
-
 -- the head that these bytes begin with, where there is one
 abbrev pub front : List ℕ → Option Head
 front x = if nat_lt (length x) 24 then None else head_at x
 
 -- no entry, the first check that fails, or a cell of so many bytes
 unfoldable pub entry : List ℕ → Entry
-entry x = under x (front x)
+entry x = option_map_or (λ h. present h x (checked h (length x))) (front x) absent

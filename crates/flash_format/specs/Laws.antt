@@ -1,100 +1,66 @@
 -- The laws of the definitions that the crates above rest on.
-use Rattle.std.specs.Prelude.{◌≡◌, ◌≢◌, ℕ, ◌+◌, ◌-◌, ◌%◌, ◌^◌, ◌<◌, ◌≤◌, Bool, true, List, [], ◌∷◌, ◌++◌, length, take, drop, All, Some, None, Option}
+use Rattle.std.specs.Prelude.{◌≡◌, ◌≢◌, ℕ, ◌+◌, ◌-◌, ◌%◌, ◌^◌, ◌<◌, ◌≤◌, Bool, true, List, [], ◌∷◌, ◌++◌, length, take, drop, All, MatchOption, Some, Option}
 use Rattle.std.specs.List.{concat, flat_map, sum_by}
 use Rattle.flash_format.specs.declared.digest.Digest.{Digest}
-use Rattle.flash_format.specs.Head.{name_padding, header_length, head_of, is_free, round64}
-use Rattle.flash_format.specs.EmptyEntries.{empty_header, empty_entry}
+use Rattle.flash_format.specs.Head.{header_length, head_of, is_free, round64}
+use Rattle.flash_format.specs.EmptyEntries.{empty_header}
 use Rattle.flash_format.specs.Entry.{entry, cell}
-use Rattle.flash_format.specs.Cut.{End, cut, after_all, IsSpan, IsCell, IsCut}
+use Rattle.flash_format.specs.Cut.{cut, after, IsSpan, IsCell, IsCut}
 use Rattle.flash_format.specs.Components.{components, components_from, moved}
 use Rattle.flash_format.specs.Splices.{AllFree, CellsBetween, spliced}
-use Rattle.flash_format.specs.Made.{IsDigest, IsMade, IsReadAs, KeepsFour, name_room, meta_length, hash_len, made_metadata, made}
-use Rattle.flash_format.specs.Placings.{IsSpace, IsPlacing, HasOneMore, space_cells, made_component}
-use Rattle.flash_format.specs.Flashmap.{area_bytes, areas_from, fmap_head_bytes, fmap_head_len, fmap_head_of, is_map, is_named, map_of}
+use Rattle.flash_format.specs.Made.{IsDigest, IsMade, KeepsFour, meta_length, hash_len, made_metadata, made}
+use Rattle.flash_format.specs.Placings.{IsPlacing, IsReadAs, HasOneMore, space_cells, made_component}
+use Rattle.flash_format.specs.Flashmap.{area_bytes, areas_from, fmap_head_bytes, fmap_head_len, fmap_head_of, is_map, is_named}
 use Rattle.flash_format.specs.declared.flashmap.Area.{Area}
 use Rattle.flash_format.specs.declared.flashmap.FmapHead.{FmapHead}
 use Rattle.flash_format.specs.TypeNames.{name_of_type, type_of_text}
 
--- a cell has whole multiples of 64 bytes, and doesn't reach past the end of a region that has such
-abbrev pub CellsAreWhole : Type 0
-CellsAreWhole = (x : List ℕ) (span : ℕ) → entry x ≡ cell span → IsSpan x span
+-- how the cell of an entry is read
+pub record EntriesAreReadAlike : Type 0 where
+  -- it has whole multiples of 64 bytes, and doesn't reach past the end of a region that has such
+  pub size : (x : List ℕ) (span : ℕ) → entry x ≡ cell span → IsSpan x span
+  -- it is read alike whatever follows it
+  pub alike : (x y : List ℕ) (span : ℕ) → entry x ≡ cell span → span ≤ length x → span ≤ length y → take span x ≡ take span y → entry y ≡ cell span
+  -- of a free one the first 24 bytes alone bear on it
+  pub free : (x y : List ℕ) (span : ℕ) → entry x ≡ cell span → is_free (head_of x) ≡ true → take 24 x ≡ take 24 y → span ≤ length y → entry y ≡ cell span
 
--- a cell is read alike whatever follows it
-abbrev pub CellsAreReadAlike : Type 0
-CellsAreReadAlike = (x y : List ℕ) (span : ℕ) → entry x ≡ cell span → span ≤ length x → span ≤ length y → take span x ≡ take span y → entry y ≡ cell span
-
--- the first 24 bytes of a free cell alone bear on it
-abbrev pub FreeCellsAreReadByTheirHead : Type 0
-FreeCellsAreReadByTheirHead = (x y : List ℕ) (span : ℕ) → entry x ≡ cell span → is_free (head_of x) ≡ true → take 24 x ≡ take 24 y → span ≤ length y → entry y ≡ cell span
-
--- every region of whole cells is cut into cells and a rest
-abbrev pub EveryRegionHasACut : Type 0
-EveryRegionHasACut = (x : List ℕ) → length x % 64 ≡ 0 → (rest : List ℕ) × IsCut x (cut x).cells rest (cut x).end
-
--- and in no other way
-abbrev pub CutsAreUnique : Type 0
-CutsAreUnique = (x : List ℕ) (cells : List (List ℕ)) (rest : List ℕ) (e : End) → IsCut x cells rest e → cut x ≡ record { cells = cells; end = e }
-
--- cells that join to the bytes before a place are the first of the cut, and those of the cut from there on come next
-abbrev pub CutsGoOn : Type 0
-CutsGoOn = (x : List ℕ) (at : ℕ) (cells : List (List ℕ)) → All IsCell cells → take at x ≡ concat cells → cut x ≡ after_all cells (cut (drop at x))
-
--- and so with the components
-abbrev pub ComponentsGoOn : Type 0
-ComponentsGoOn = (x : List ℕ) (at : ℕ) (cells : List (List ℕ)) → All IsCell cells → take at x ≡ concat cells → at ≤ length x → components x ≡ components_from 0 cells ++ moved at (components (drop at x))
-
--- the components of cells in two parts
-abbrev pub ComponentsJoin : Type 0
-ComponentsJoin = (at : ℕ) (cells more : List (List ℕ)) → components_from at (cells ++ more) ≡ components_from at cells ++ components_from (at + length (concat cells)) more
-
--- the place after cells is the sum of their lengths
-abbrev pub PlacesAreSums : Type 0
-PlacesAreSums = (x : List ℕ) (at : ℕ) (cells : List (List ℕ)) → take at x ≡ concat cells → at ≤ length x → at ≡ sum_by length cells
+-- how a cut goes on
+pub record CutsGoOn : Type 0 where
+  -- cells that join to the bytes before a place are the first of the cut, and those of the cut from there on come next
+  pub cells : (x : List ℕ) (at : ℕ) (cells : List (List ℕ)) → All IsCell cells → take at x ≡ concat cells → cut x ≡ after cells (cut (drop at x))
+  -- and so with the components
+  pub listed : (x : List ℕ) (at : ℕ) (cells : List (List ℕ)) → All IsCell cells → take at x ≡ concat cells → at ≤ length x → components x ≡ components_from 0 cells ++ moved at (components (drop at x))
+  -- the components of cells in two parts
+  pub joined : (at : ℕ) (cells more : List (List ℕ)) → components_from at (cells ++ more) ≡ components_from at cells ++ components_from (at + length (concat cells)) more
+  -- the place after cells is the sum of their lengths
+  pub places : (x : List ℕ) (at : ℕ) (cells : List (List ℕ)) → take at x ≡ concat cells → at ≤ length x → at ≡ sum_by length cells
 
 -- an empty entry's header is a free cell, whatever bytes stand after it
 abbrev pub EmptyHeadersAreFreeCells : Type 0
 EmptyHeadersAreFreeCells = (size : ℕ) (kept : Bool) (more : List ℕ) → 64 ≤ size → size % 64 ≡ 0 → size < 2 ^ 32 → header_length + length more ≡ size
     → (entry (empty_header size kept ++ more) ≡ cell size) × (is_free (head_of (empty_header size kept ++ more)) ≡ true)
 
--- cells of as many bytes in place of a group: the others stay, and what is left after them
-abbrev pub CellsAreReplaced : Type 0
-CellsAreReplaced = (x : List ℕ) (start end : ℕ) (g : CellsBetween x start end) (new : List (List ℕ)) → All IsCell new → start + length (concat new) ≡ end
-    → IsCut (spliced x start end (concat new)) (g.before ++ new ++ g.after) g.rest g.ending
+-- other cells of as many bytes in place of a group
+pub record GroupsAreReplaced (x : List ℕ) (start end : ℕ) (g : CellsBetween x start end) : Type 0 where
+  -- the cells before and after it stay, and what is left after them
+  pub cells : (new : List (List ℕ)) → All IsCell new → start + length (concat new) ≡ end → IsCut (spliced x start end (concat new)) (g.before ++ new ++ g.after) g.rest g.ending
+  -- and so do their components, each with its place and its bytes
+  pub listed : (new : List (List ℕ)) → All IsCell new → start + length (concat new) ≡ end
+      → components (spliced x start end (concat new)) ≡ components_from 0 g.before ++ components_from start new ++ components_from end g.after
+  -- an empty entry's header, with anything after it up to the group's end: the other components alone
+  pub emptied : (kept : Bool) (more : List ℕ) → start < end → end - start < 2 ^ 32 → start + header_length + length more ≡ end
+      → components (spliced x start end (empty_header (end - start) kept ++ more)) ≡ components_from 0 g.before ++ components_from end g.after
 
--- and so do the components before and after, each with its place and its bytes
-abbrev pub ComponentsStay : Type 0
-ComponentsStay = (x : List ℕ) (start end : ℕ) (g : CellsBetween x start end) (new : List (List ℕ)) → All IsCell new → start + length (concat new) ≡ end
-    → components (spliced x start end (concat new)) ≡ components_from 0 g.before ++ components_from start new ++ components_from end g.after
-
--- an empty entry's header in place of the group, with anything after it up to the group's end: the other components alone
-abbrev pub EmptyEntriesHaveNoComponent : Type 0
-EmptyEntriesHaveNoComponent = (x : List ℕ) (start end : ℕ) (g : CellsBetween x start end) (kept : Bool) (more : List ℕ) → start < end → end - start < 2 ^ 32 → start + header_length + length more ≡ end
-    → components (spliced x start end (empty_header (end - start) kept ++ more)) ≡ components_from 0 g.before ++ components_from end g.after
-
--- metadata and its content are read as a cell of that component, whatever bytes follow
-abbrev pub MetadataIsReadAsMade : Type 0
-MetadataIsReadAsMade = (name : List ℕ) (kind : ℕ) (digest : Option Digest) (gap : ℕ) (content more : List ℕ) → IsMade name kind digest gap content
-    → let component = made_metadata name kind digest gap (length content) ++ content in
-    IsReadAs name kind digest content (component ++ more) (round64 (length component))
-
--- a made cell is read as a cell of its length, whatever bytes follow, if any
-abbrev pub MadeCellsAreReadAsMade : Type 0
-MadeCellsAreReadAsMade = (name : List ℕ) (kind : ℕ) (digest : Option Digest) (gap : ℕ) (content : List ℕ) (last : Option (List ℕ)) (more : List ℕ) → IsMade name kind digest gap content → KeepsFour last
-    → let x = made name kind digest gap content last in
-    IsReadAs name kind digest content (x ++ more) (length x)
-
--- how long a made cell is
-abbrev pub MadeCellsAreAsLong : Type 0
-MadeCellsAreAsLong = (name : List ℕ) (kind : ℕ) (digest : Option Digest) (gap : ℕ) (content : List ℕ) (last : Option (List ℕ)) → IsDigest digest → KeepsFour last
-    → length (made name kind digest gap content last) ≡ round64 (meta_length (length name) (hash_len digest) + gap + length content)
-
--- the field of a name is the least multiple of the padding that is longer than the name
-abbrev pub RoomsAreLeast : Type 0
-RoomsAreLeast = (k : ℕ) → (k < name_room k) × (name_room k % name_padding ≡ 0) × (name_room k ≤ k + name_padding)
-
--- an empty entry is free space
-abbrev pub EmptyEntriesAreSpace : Type 0
-EmptyEntriesAreSpace = (size : ℕ) (last : Option (List ℕ)) → 64 ≤ size → KeepsFour last → IsSpace size (empty_entry size last)
+-- what a component is read as that is made of this
+pub record MadeCellsAreReadAsMade (name : List ℕ) (kind : ℕ) (digest : Option Digest) (gap : ℕ) (content : List ℕ) : Type 0 where
+  -- metadata and its content, as a cell of that component, whatever bytes follow
+  pub metadata : (more : List ℕ) → IsMade name kind digest gap content
+      → let component = made_metadata name kind digest gap (length content) ++ content in IsReadAs name kind digest content (component ++ more) (round64 (length component))
+  -- a made cell, as a cell of its length, whatever bytes follow, if any
+  pub whole : (last : Option (List ℕ)) (more : List ℕ) → IsMade name kind digest gap content → KeepsFour last
+      → let x = made name kind digest gap content last in IsReadAs name kind digest content (x ++ more) (length x)
+  -- how long that is
+  pub len : (last : Option (List ℕ)) → IsDigest digest → KeepsFour last → length (made name kind digest gap content last) ≡ round64 (meta_length (length name) (hash_len digest) + gap + length content)
 
 -- a component's cell with free space before and after it, in place of free cells: one component more, and all others stay
 abbrev pub ComponentsArePlaced : Type 0
@@ -108,15 +74,7 @@ NoMapBelow image q = (k : ℕ) → k < q → is_map (drop k image) ≢ true
 
 -- an image's map stands at its place, and none below; without one, none stands anywhere
 abbrev pub IsMapOf : List ℕ → Option ℕ → Type 0
-IsMapOf image (Some q) = (is_map (drop q image) ≡ true) × NoMapBelow image q
-IsMapOf image None = NoMapBelow image (length image)
-
-abbrev pub MapsAreTheLowest : Type 0
-MapsAreTheLowest = (image : List ℕ) → IsMapOf image (map_of image)
-
--- a valid map is the image's where none stands below it
-abbrev pub LowestMapsAreFound : Type 0
-LowestMapsAreFound = (image : List ℕ) (q : ℕ) → is_map (drop q image) ≡ true → NoMapBelow image q → map_of image ≡ Some q
+IsMapOf image found = MatchOption found (NoMapBelow image (length image)) (λ q. (is_map (drop q image) ≡ true) × NoMapBelow image q)
 
 -- each field of an area fits into its bytes
 pub record IsAreaInBytes (a : Area) : Type 0 where

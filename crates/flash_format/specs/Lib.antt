@@ -5,7 +5,6 @@ pub mod Entry
 pub mod Cut
 pub mod Components
 pub mod Splices
-pub mod Puts
 pub mod Made
 pub mod Placings
 pub mod Flashmap

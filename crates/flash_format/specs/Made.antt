@@ -1,9 +1,10 @@
 -- Made cells: the components that an edit writes.
 -- The fields are those of coreboot's `struct cbfs_file` and `struct cbfs_file_attr_hash`. To which multiple the field of
 -- a name is padded, and that a gap and what is left of a cell are 0xff, is this project's own.
-use Rattle.std.specs.Prelude.{◌≡◌, ℕ, ◌+◌, ◌-◌, ◌*◌, ◌/◌, ◌^◌, ◌<◌, ◌≤◌, ◌==◌, ◌||◌, false, List, [], ◌∷◌, ◌++◌, length, replicate, Option, Some, None, is_some, if◌then◌else◌}
-use Rattle.std.specs.List.{list_any}
-use Rattle.std.specs.Borrow.{Bor}
+use Rattle.std.specs.Prelude.{◌≡◌, ℕ, ◌+◌, ◌-◌, ◌*◌, ◌/◌, ◌^◌, ◌<◌, ◌≤◌, ◌==◌, ◌||◌, false, List, [], ◌∷◌, ◌++◌, length, replicate, Option, IfSome, is_some, if◌then◌else◌}
+use Rattle.std.specs.List.{find, list_any}
+use Rattle.std.specs.Option.{option_copied, option_map_or}
+use lib.Chars.{codes}
 use Rattle.byteorder.specs.Endian.{big_bytes}
 use Rattle.flash_format.specs.declared.head.Head.{Head}
 use Rattle.flash_format.specs.declared.digest.Algorithm.{Algorithm}
@@ -11,10 +12,9 @@ use Rattle.flash_format.specs.declared.digest.Algorithm.TheVariants.{Sha256, Sha
 use Rattle.flash_format.specs.declared.digest.Digest.{Digest}
 use Rattle.flash_format.specs.declared.digest.Digest.TheVariants as digests
 use Rattle.flash_format.specs.declared.meta.Meta.{Meta}
-use Rattle.flash_format.specs.Head.{name_padding, head_of, head_bytes, is_free, round64}
-use Rattle.flash_format.specs.Attributes.{Attribute, attributes, HASH}
-use Rattle.flash_format.specs.Entry.{cell, entry, is_nul, attribute_field}
-use Rattle.flash_format.specs.Components.{cell_name, cell_content}
+use Rattle.flash_format.specs.Head.{name_padding, head_bytes, round64}
+use Rattle.flash_format.specs.Attributes.{Attribute, HASH}
+use Rattle.flash_format.specs.Entry.{is_nul}
 use Rattle.flash_format.specs.EmptyEntries.{padding}
 
 -- how long the field of a name of k bytes is: the least multiple of the padding that holds the name and a NUL
@@ -25,18 +25,20 @@ name_room k = (k / name_padding + 1) * name_padding
 abbrev pub meta_length : ℕ → ℕ → ℕ
 meta_length name_len attr_len = 24 + name_room name_len + attr_len
 
--- the table of algorithms: their numbers, by vboot's `enum vb2_hash_algorithm`, and how many bytes their digests have
-abbrev pub algorithm_number : Algorithm → ℕ
-algorithm_number Sha256 = 2
-algorithm_number Sha512 = 3
+-- what is known of an algorithm: its number, by vboot's `enum vb2_hash_algorithm`, how many bytes its digests have, and its name
+pub record AlgorithmRow : Type 0 where
+  pub number : ℕ
+  pub len : ℕ
+  pub name : List ℕ
 
-abbrev pub algorithm_len : Algorithm → ℕ
-algorithm_len Sha256 = 32
-algorithm_len Sha512 = 64
+-- the table of algorithms
+abbrev pub algorithm_row : Algorithm → AlgorithmRow
+algorithm_row Sha256 = record { number = 2; len = 32; name = codes "sha256" }
+algorithm_row Sha512 = record { number = 3; len = 64; name = codes "sha512" }
 
 -- the algorithm of a number, where it is in the table
 abbrev pub algorithm_numbered : ℕ → Option Algorithm
-algorithm_numbered number = if number == 2 then Some Sha256 else (if number == 3 then Some Sha512 else None)
+algorithm_numbered number = find (λ algorithm. (algorithm_row algorithm).number == number) (Sha256 ∷ Sha512 ∷ [])
 
 -- the digest by an algorithm that has these bytes
 abbrev pub digest_with : Algorithm → List ℕ → Digest
@@ -52,7 +54,7 @@ digest_bytes (digests.Sha256 bytes) = bytes
 digest_bytes (digests.Sha512 bytes) = bytes
 
 abbrev pub digest_len : Digest → ℕ
-digest_len digest = algorithm_len (algorithm digest)
+digest_len digest = (algorithm_row (algorithm digest)).len
 
 -- the bytes of a hash attribute: its tag, its length, the algorithm and the digest
 unfoldable pub hash_attribute : ℕ → List ℕ → List ℕ
@@ -60,13 +62,11 @@ hash_attribute number bytes = big_bytes 4 HASH ++ big_bytes 4 (12 + length bytes
 
 -- those of a component's hash attribute, where it has one
 abbrev pub hash_bytes : Option Digest → List ℕ
-hash_bytes None = []
-hash_bytes (Some digest) = hash_attribute (algorithm_number (algorithm digest)) (digest_bytes digest)
+hash_bytes digest = option_map_or (λ d. hash_attribute (algorithm_row (algorithm d)).number (digest_bytes d)) digest []
 
 -- how many bytes that has: 44 with SHA-256 and 76 with SHA-512
 abbrev pub hash_len : Option Digest → ℕ
-hash_len None = 0
-hash_len (Some digest) = 12 + digest_len digest
+hash_len digest = option_map_or (λ d. 12 + digest_len d) digest 0
 
 -- the head of a component with n bytes of content
 abbrev pub made_head : List ℕ → ℕ → Option Digest → ℕ → ℕ → Head
@@ -93,20 +93,17 @@ made name kind digest gap content last =
 
 -- the attributes of a made component
 abbrev pub made_attributes : Option Digest → List Attribute
-made_attributes None = []
-made_attributes (Some digest) = record { tag = HASH; contents = big_bytes 4 (algorithm_number (algorithm digest)) ++ digest_bytes digest } ∷ []
+made_attributes digest = option_map_or (λ d. record { tag = HASH; contents = big_bytes 4 (algorithm_row (algorithm d)).number ++ digest_bytes d } ∷ []) digest []
 
 -- ---- what made cells are read as
 
 -- a digest has the length of its algorithm
 abbrev pub IsDigest : Option Digest → Type 0
-IsDigest None = Unit {0}
-IsDigest (Some digest) = length (digest_bytes digest) ≡ digest_len digest
+IsDigest digest = IfSome digest (λ d. length (digest_bytes d) ≡ digest_len d)
 
 -- the four bytes that are kept, where some are
 abbrev pub KeepsFour : Option (List ℕ) → Type 0
-KeepsFour None = Unit {0}
-KeepsFour (Some last) = length last ≡ 4
+KeepsFour last = IfSome last (λ bytes. length bytes ≡ 4)
 
 -- what a component can be made of
 pub record IsMade (name : List ℕ) (kind : ℕ) (digest : Option Digest) (gap : ℕ) (content : List ℕ) : Type 0 where
@@ -117,28 +114,14 @@ pub record IsMade (name : List ℕ) (kind : ℕ) (digest : Option Digest) (gap :
   pub digest_long : IsDigest digest
   pub small : length (made_metadata name kind digest gap (length content)) + length content < 2 ^ 32
 
--- these bytes begin with a cell of so many bytes, which is read as this component
-pub record IsReadAs (name : List ℕ) (kind : ℕ) (digest : Option Digest) (content : List ℕ) (x : List ℕ) (span : ℕ) : Type 0 where
-  pub is_cell : entry x ≡ cell span
-  pub is_used : is_free (head_of x) ≡ false
-  pub has_name : cell_name x ≡ name
-  pub has_kind : (head_of x).kind ≡ kind
-  pub has_attributes : attributes (attribute_field (head_of x) x) ≡ Some (made_attributes digest)
-  pub has_content : cell_content x ≡ content
-
 -- ---- the same of a description
 
--- a digest that may be there
-abbrev pub pointed : Option (Bor Digest) → Option Digest
-pointed None = None
-pointed (Some digest) = Some digest.now
-
 abbrev pub described_head : Meta → Head
-described_head m = made_head m.name.now m.kind (pointed m.digest) m.gap m.len
+described_head m = made_head m.name.now m.kind (option_copied m.digest) m.gap m.len
 
 abbrev pub described_len : Meta → ℕ
-described_len m = meta_length (length m.name.now) (hash_len (pointed m.digest)) + m.gap
+described_len m = meta_length (length m.name.now) (hash_len (option_copied m.digest)) + m.gap
 
 -- the metadata that it describes
 abbrev pub described : Meta → List ℕ
-described m = made_metadata m.name.now m.kind (pointed m.digest) m.gap m.len
+described m = made_metadata m.name.now m.kind (option_copied m.digest) m.gap m.len

@@ -2,6 +2,7 @@
 -- That a number has no sign and no suffix, and is below 2^32, is this project's own.
 use Rattle.std.specs.Prelude.{ℕ, ◌+◌, ◌-◌, ◌*◌, ◌^◌, nat_le, nat_eq, nat_lt, ◌&&◌, if◌then◌else◌, List, [], ◌∷◌, drop, Option, Some, None}
 use Rattle.std.specs.List.{starts_with}
+use Rattle.std.specs.Option.{option_and_then}
 use lib.Chars.{codes}
 
 -- the value of a decimal or hexadecimal digit, and 16 for any other byte
@@ -25,10 +26,9 @@ abbrev pub number_value : List ℕ → Option ℕ
 number_value text = if starts_with nat_eq text (codes "0x") then digits_value 16 (drop 2 text) else digits_value 10 text
 
 -- a number that 32 bits hold
-abbrev pub in_32_bits : Option ℕ → Option ℕ
-in_32_bits None = None
-in_32_bits (Some n) = if nat_lt n (2 ^ 32) then Some n else None
+abbrev pub in_32_bits : ℕ → Option ℕ
+in_32_bits n = if nat_lt n (2 ^ 32) then Some n else None
 
 -- the number that a text stands for
 unfoldable pub number_of : List ℕ → Option ℕ
-number_of text = in_32_bits (number_value text)
+number_of text = option_and_then in_32_bits (number_value text)

@@ -1,9 +1,11 @@
 -- A component in place of free cells.
-use Rattle.std.specs.Prelude.{◌≡◌, ℕ, ◌+◌, ◌-◌, ◌%◌, ◌^◌, ◌<◌, ◌≤◌, Bool, List, [], ◌∷◌, ◌++◌, length, Option}
+use Rattle.std.specs.Prelude.{◌≡◌, ℕ, ◌+◌, ◌-◌, ◌%◌, ◌^◌, ◌<◌, ◌≤◌, Bool, false, List, [], ◌∷◌, ◌++◌, length, Option}
 use Rattle.flash_format.specs.declared.digest.Digest.{Digest}
 use Rattle.flash_format.specs.EmptyEntries.{empty_header}
+use Rattle.flash_format.specs.Head.{head_of, is_free}
+use Rattle.flash_format.specs.Entry.{cell, entry}
 use Rattle.flash_format.specs.Cut.{cut, IsCut}
-use Rattle.flash_format.specs.Components.{Component, components_from, components}
+use Rattle.flash_format.specs.Components.{Component, component_at, components_from, components}
 use Rattle.flash_format.specs.Made.{made_attributes}
 use Rattle.flash_format.specs.Splices.{CellsBetween}
 
@@ -28,14 +30,20 @@ pub record IsPlacing (start end at : ℕ) (before cell after : List ℕ) : Type 
 
 -- the component of a made cell at a place
 abbrev pub made_component : ℕ → List ℕ → ℕ → Option Digest → List ℕ → List ℕ → Component
-made_component at name kind digest content cell = record {
+made_component at name kind digest content bytes = record {
   at = at;
   name = name;
   kind = kind;
   attributes = made_attributes digest;
   content = content;
-  bytes = cell;
+  bytes = bytes;
 }
+
+-- these bytes begin with a cell of so many bytes, which is read as this component
+pub record IsReadAs (name : List ℕ) (kind : ℕ) (digest : Option Digest) (content : List ℕ) (x : List ℕ) (span : ℕ) : Type 0 where
+  pub is_cell : entry x ≡ cell span
+  pub is_used : is_free (head_of x) ≡ false
+  pub component : (at : ℕ) → component_at at x ≡ made_component at name kind digest content x
 
 -- The region y has these cells in place of a group of free cells of x, and one component more than x. The others stay,
 -- and so do the end of the cells and what is left after them.

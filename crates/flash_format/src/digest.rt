@@ -1,10 +1,10 @@
 //! Digests of a component's content, as its hash attribute holds them.
 
-ghost use Rattle.std.specs.Prelude.{◌≡◌, ◌*◌, length, take, drop};
+ghost use Rattle.std.specs.Prelude.{◌≡◌, ◌≤◌, ◌*◌, length, take, drop};
 ghost use Rattle.hex.specs.Hex.{encode_lower};
-ghost use Rattle.flash_format.specs.Made.{algorithm_number, algorithm_len, algorithm_numbered, digest_with, algorithm, digest_bytes, digest_len};
+ghost use Rattle.flash_format.specs.Made.{algorithm_row, algorithm_numbered, digest_with, algorithm, digest_bytes, digest_len};
 
-/// An algorithm of digests. Its number and the length of its digests stand here alone.
+/// An algorithm of digests. What is known of it stands in `row` alone.
 #[derive(Clone, Copy, Debug, PartialEq, Eq)]
 pub enum Algorithm {
     /// SHA-256 (FIPS 180-4).
@@ -14,34 +14,46 @@ pub enum Algorithm {
 }
 
 impl Algorithm {
+    const ALL: [Algorithm; 2] = [Algorithm::Sha256, Algorithm::Sha512];
+
     /// The algorithm of a number in a hash attribute (vboot's `enum vb2_hash_algorithm`), where it is supported.
     pub fn numbered(number: u32) -> Option<Algorithm>
         ensures { result ≡ algorithm_numbered number }
     {
-        match number {
-            2 => Some(Algorithm::Sha256),
-            3 => Some(Algorithm::Sha512),
-            _ => None,
-        }
+        Self::ALL.into_iter().find(|it| it.number() == number)
     }
 
     /// That number.
     pub fn number(self) -> u32
-        ensures { result ≡ algorithm_number self }
+        ensures { result ≡ (algorithm_row self).number }
     {
-        match self {
-            Algorithm::Sha256 => 2,
-            Algorithm::Sha512 => 3,
-        }
+        self.row().0
     }
 
     /// How many bytes a digest has.
     pub fn digest_len(self) -> usize
-        ensures { result ≡ algorithm_len self }
+        ensures { result ≡ (algorithm_row self).len }
+    {
+        self.row().1
+    }
+
+    /// The name, as texts have it.
+    pub fn name(self) -> &'static str
+        ensures value { result.now ≡ (algorithm_row self).name }
+        ensures short { length result.now ≤ 6 }
+    {
+        self.row().2
+    }
+
+    /// The table of algorithms: the number, how many bytes a digest has, and the name.
+    fn row(self) -> (u32, usize, &'static str)
+        ensures number { result.0 ≡ (algorithm_row self).number }
+        ensures len { result.1 ≡ (algorithm_row self).len }
+        ensures name { result.2.now ≡ (algorithm_row self).name }
     {
         match self {
-            Algorithm::Sha256 => 32,
-            Algorithm::Sha512 => 64,
+            Algorithm::Sha256 => (2, 32, "sha256"),
+            Algorithm::Sha512 => (3, 64, "sha512"),
         }
     }
 }
@@ -58,7 +70,7 @@ pub enum Digest {
 impl Digest {
     /// The digest by an algorithm that has these bytes.
     pub fn read(algorithm: Algorithm, bytes: &[u8]) -> Digest
-        requires { length bytes.now ≡ algorithm_len algorithm }
+        requires { length bytes.now ≡ (algorithm_row algorithm).len }
         ensures { result ≡ digest_with algorithm bytes.now }
     {
         match algorithm {

@@ -1,10 +1,11 @@
 //! The metadata of a component, which stands before its content: its head, its name, the hash attribute and a gap.
 
 ghost use Rattle.std.specs.Prelude.{◌≡◌, ◌≤◌, ◌<◌, ◌+◌, ◌++◌, length, take, drop, replicate};
+ghost use Rattle.std.specs.Option.{option_copied};
 ghost use Rattle.byteorder.specs.Endian.{big_bytes};
 ghost use Rattle.flash_format.specs.Attributes.{HASH};
-ghost use Rattle.flash_format.specs.Made.{IsDigest, meta_length, name_room, padded_name, pointed, hash_attribute, hash_bytes, hash_len, described, described_len, described_head};
-ghost use Rattle.flash_format.specs.Puts.{Puts};
+ghost use Rattle.flash_format.specs.Made.{IsDigest, meta_length, name_room, padded_name, hash_attribute, hash_bytes, hash_len, described, described_len, described_head};
+ghost use Rattle.flash_format.specs.Splices.{spliced};
 
 use crate::attribute::AttrHead;
 use crate::digest::Digest;
@@ -33,10 +34,10 @@ pub struct Meta<'a> {
 /// How many bytes the hash attribute with this digest has, and 0 without one.
 #[tactic(auto, unfolding(crate::specs::Made::hash_attribute))]
 pub fn attr_len(digest: Option<&Digest>) -> usize
-    ensures len { result ≡ hash_len (pointed digest.entry) }
-    ensures bytes { result ≡ length (hash_bytes (pointed digest.entry)) }
+    ensures len { result ≡ hash_len (option_copied digest.entry) }
+    ensures bytes { result ≡ length (hash_bytes (option_copied digest.entry)) }
     ensures short { result ≤ 76 }
-    ensures digest { IsDigest (pointed digest.entry) }
+    ensures digest { IsDigest (option_copied digest.entry) }
 {
     match digest {
         None => 0,
@@ -66,7 +67,7 @@ pub fn write_meta(meta: &Meta<'_>, out: &mut [u8]) -> usize
     ensures after { drop result out.new ≡ drop result out.old }
 
     // Besides the caller's own facts, this is what `made_cells_are_read_as_made` asks for.
-    ensures digest { IsDigest (pointed meta.now.digest) }
+    ensures digest { IsDigest (option_copied meta.now.digest) }
 {
     let head = head_of(meta);
     let at = put(out, 0, &head.write());
@@ -80,23 +81,19 @@ fn head_of(meta: &Meta<'_>) -> Head
     requires name { length meta.now.name.now ≤ 127 }
     requires gap { meta.now.gap < 64 }
     ensures head { result ≡ described_head meta.now }
-    ensures hash { length (hash_bytes (pointed meta.now.digest)) ≡ hash_len (pointed meta.now.digest) }
-    ensures digest { IsDigest (pointed meta.now.digest) }
+    ensures hash { length (hash_bytes (option_copied meta.now.digest)) ≡ hash_len (option_copied meta.now.digest) }
+    ensures digest { IsDigest (option_copied meta.now.digest) }
 {
-    let attributes = 24 + name_room(meta.name.len());
+    let name_end = 24 + name_room(meta.name.len());
     let attr_len = attr_len(meta.digest);
-    let plain = Head {
+    Head {
         len: meta.len,
         kind: meta.kind,
-        attributes_offset: 0,
-        offset: (meta_len(meta.name.len(), attr_len) + meta.gap as usize) as u32,
-    };
-    match meta.digest {
-        None => plain,
-        Some(_) => Head {
-            attributes_offset: attributes as u32,
-            ..plain
+        attributes_offset: match meta.digest {
+            None => 0,
+            Some(_) => name_end as u32,
         },
+        offset: (meta_len(meta.name.len(), attr_len) + meta.gap as usize) as u32,
     }
 }
 
@@ -112,7 +109,7 @@ fn name_room(name_len: usize) -> usize
 fn put(out: &mut [u8], at: usize, bytes: &[u8]) -> usize
     requires { at + length bytes.now ≤ length out.old }
     ensures end { result ≡ at + length bytes.now }
-    ensures puts { Puts out.old at bytes.now out.new result }
+    ensures puts { out.new ≡ spliced out.old at result bytes.now }
 {
     let end = at + bytes.len();
     out[at..end].copy_from_slice(bytes);
@@ -123,7 +120,7 @@ fn put(out: &mut [u8], at: usize, bytes: &[u8]) -> usize
 fn fill(out: &mut [u8], at: usize, count: usize, byte: u8) -> usize
     requires { at + count ≤ length out.old }
     ensures end { result ≡ at + count }
-    ensures puts { Puts out.old at (replicate count byte) out.new result }
+    ensures puts { out.new ≡ spliced out.old at result (replicate count byte) }
 {
     let end = at + count;
     out[at..end].fill(byte);
@@ -135,7 +132,7 @@ fn put_name(out: &mut [u8], at: usize, name: &[u8]) -> usize
     requires name { length name.now ≤ 127 }
     requires room { at + name_room (length name.now) ≤ length out.old }
     ensures end { result ≡ at + name_room (length name.now) }
-    ensures puts { Puts out.old at (padded_name name.now) out.new result }
+    ensures puts { out.new ≡ spliced out.old at result (padded_name name.now) }
 {
     let nuls = name_room(name.len()) - name.len();
     let at = put(out, at, name);
@@ -144,9 +141,9 @@ fn put_name(out: &mut [u8], at: usize, name: &[u8]) -> usize
 
 /// Writes the hash attribute, where there is one, and answers where it ends.
 fn put_hash(out: &mut [u8], at: usize, digest: Option<&Digest>) -> usize
-    requires { at + hash_len (pointed digest) ≤ length out.old }
-    ensures end { result ≡ at + hash_len (pointed digest.entry) }
-    ensures puts { Puts out.old at (hash_bytes (pointed digest.entry)) out.new result }
+    requires { at + hash_len (option_copied digest) ≤ length out.old }
+    ensures end { result ≡ at + hash_len (option_copied digest.entry) }
+    ensures puts { out.new ≡ spliced out.old at result (hash_bytes (option_copied digest.entry)) }
 {
     match digest {
         None => at,
@@ -159,7 +156,7 @@ fn put_attribute(out: &mut [u8], at: usize, algorithm: u32, digest: &[u8]) -> us
     requires size { length digest.now ≤ 64 }
     requires room { at + 12 + length digest.now ≤ length out.old }
     ensures end { result ≡ at + 12 + length digest.now }
-    ensures puts { Puts out.old at (hash_attribute algorithm digest.now) out.new result }
+    ensures puts { out.new ≡ spliced out.old at result (hash_attribute algorithm digest.now) }
 {
     let prefix = attribute_prefix(algorithm, 12 + digest.len() as u32);
     let at = put(out, at, &prefix);

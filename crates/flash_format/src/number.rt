@@ -1,6 +1,6 @@
 //! Numbers as text.
 
-ghost use Rattle.std.specs.Prelude.{◌≡◌, ◌≤◌, ◌^◌, ℕ, Option, min, option_map};
+ghost use Rattle.std.specs.Prelude.{◌≡◌, ◌≤◌, ◌^◌, ℕ, Option, min, option_map, option_and_then};
 ghost use Rattle.flash_format.specs.Numbers as spec;
 
 /// Where values stop being told apart.
@@ -59,7 +59,7 @@ fn digit_value(byte: u8) -> u64
 
 /// The value, where 32 bits hold it. It counts up to `LIMIT`.
 fn in_32_bits(value: Option<u64>) -> Option<u32>
-    ensures { (exact : Option ℕ) → value ≡ option_map (min (2 ^ 32)) exact → result ≡ spec.in_32_bits exact }
+    ensures { (exact : Option ℕ) → value ≡ option_map (min (2 ^ 32)) exact → result ≡ option_and_then spec.in_32_bits exact }
 {
     match value {
         Some(value) if value < LIMIT => Some(value as u32),

@@ -369,6 +369,7 @@ const OF_ABC: [u8; 32] = *b"\xba\x78\x16\xbf\x8f\x01\xcf\xea\x41\x41\x40\xde\x5d
 fn a_digest_has_a_text(rt: HostRuntime) {
     let digest = Digest::Sha256(OF_ABC);
     equal(&rt, &digest.algorithm(), &Algorithm::Sha256);
+    equal(&rt, &digest.algorithm().name(), &"sha256");
     equal(&rt, &Digest::read(Algorithm::Sha256, &OF_ABC), &digest);
     same_bytes(&rt, digest.bytes(), &OF_ABC);
     let mut text = [b'-'; 128];

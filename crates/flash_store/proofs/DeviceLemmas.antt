@@ -3,7 +3,7 @@ use Rattle.std.proofs.Common.{◌≡◌, ℕ, ◌+◌, ◌≤◌, Bool, IsTrue, 
 use Rattle.std.specs.Prelude.{List, length, Result, Ok, Err, IsOk}
 use Rattle.std.proofs.Common.{length-take, length-drop}
 use Rattle.flash_store.specs.Regions.{Range, LiesIn, bytes_in}
-use Rattle.flash_store.specs.Device.{Device, Calls, OneCall, Reads, refusals}
+use Rattle.flash_store.specs.Device.{Device, Calls, Reads, refusals}
 
 -- a device stays honest
 pub honest_still : {old new : Bool} → new ≡ old → IsTrue old → IsTrue new
@@ -32,15 +32,6 @@ Calls-at_most k n refused old new few calls = record {
   faults = calls.faults;
   same_honesty = calls.same_honesty;
   same_length = calls.same_length;
-}
-
-pub Calls-one : (refused : ℕ) (old new : Device) → OneCall refused old new → Calls 1 refused old new
-Calls-one refused old new one = record {
-  no_fewer = omega (arith, one.calls);
-  no_more = omega (arith, one.calls);
-  faults = one.faults;
-  same_honesty = one.same_honesty;
-  same_length = one.same_length;
 }
 
 pub Reads-none : (d : Device) → Reads 0 0 d d

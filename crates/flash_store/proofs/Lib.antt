@@ -6,5 +6,4 @@ pub mod WindowLemmas
 pub mod FmapLemmas
 pub mod AreaLemmas
 pub mod StoringLemmas
-pub mod EditLemmas
 pub mod WrittenMaps

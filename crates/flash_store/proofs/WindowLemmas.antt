@@ -84,8 +84,8 @@ pub HasSpent-more : {F T E : Type 0} (facts : F → Device) (start at q n : ℕ)
 HasSpent-more facts start at q n old mid new result above short within so_far seen =
     let from : start ≤ q = omega (arith, so_far.spent.above, above) in
     covered mid.held q n (HasSpent facts start q (refusals result) old new)
-    (λ inside. subst (λ p. HasSpent facts start q (refusals result) old p) (sym (seen.free inside))
-    (rw (refusals-ok result (seen.answered inside)) (HasSpent-on facts start at q 0 old mid above so_far.spent)))
+    (λ inside. subst (λ p. HasSpent facts start q (refusals result) old p) (sym (seen.free inside).0)
+    (rw (refusals-ok result (seen.free inside).1) (HasSpent-on facts start at q 0 old mid above so_far.spent)))
     (λ outside. record {
       above = from;
       read = HasRead-at_most facts ((at - start) / 3840 + 1 + 1) ((q - start) / 3840 + 1) (refusals result) old new
@@ -102,7 +102,7 @@ HasScanned-more {F} {T} {E} facts start at q n old mid new x above short within 
       paid = λ p k later small inside none.
           covered mid.held q n ((facts new.device).calls ≤ (facts old.device).calls + (p - start) / 3840)
           (λ has.
-          let same : new ≡ mid = seen.free has in
+          let same : new ≡ mid = (seen.free has).0 in
           rw same (so_far.paid p k (omega (arith, above, later)) small inside (rw same at none)))
           (λ misses.
           let far : q + 3840 ≤ p = ahead_covers new.held q p k (length (facts old.device).content) later small inside (rw size at (seen.ahead misses)) none in

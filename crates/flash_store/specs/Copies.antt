@@ -4,7 +4,7 @@ use Rattle.std.specs.Io.KnownBytes.{Appends}
 use Rattle.flash_store.specs.Bytes.{overwritten, SameOutside, FirstWritten, PartWritten}
 use Rattle.flash_store.specs.Device.{Device, Calls, refusals, faults_told}
 use Rattle.flash_store.specs.Output.{AppendsPart}
-use Rattle.flash_store.specs.Pages.{Pages, Nothing, Covers, HasNoPiece, HasRead}
+use Rattle.flash_store.specs.Pages.{Pages, Nothing, Covers, HasRead, without_piece}
 use Rattle.flash_store.specs.declared.paged.CopyFault.{CopyFault}
 use Rattle.flash_store.specs.declared.paged.CopyFault.TheVariants as causes
 
@@ -42,7 +42,7 @@ pub record HasCopiedIn {F S T : Type 0} (facts : F → Device) (source_facts : S
 pub record HasCopiedOut {F W T : Type 0} (facts : F → Device) (contents : W → Option (List ℕ)) (failures : W → ℕ) (most at n : ℕ) (old new : Pages F) (out out_now : W) (result : Result T CopyFault) : Type 0 where
   pub read : HasRead facts most (faults_told by_device result) old new
   pub free : Covers old.held at n → new ≡ old
-  pub no_piece : HasNoPiece new.held
+  pub no_piece : without_piece new.held ≡ new.held
   pub dropped : IsErrOf result causes.Device → new.held ≡ Nothing
   pub faults : failures out ≤ failures out_now
   pub output : IsErrOf result causes.Output → failures out < failures out_now

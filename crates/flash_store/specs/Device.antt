@@ -10,15 +10,14 @@ pub record Device : Type 0 where
   pub faults : ℕ
   pub honest : Bool
 
--- how many refused calls an answer tells: one by an error, else none
-abbrev pub refusals : {T E : Type 0} → Result T E → ℕ
-refusals (Ok value) = 0
-refusals (Err fault) = 1
-
--- the same of an answer whose errors aren't all of this side, by how many each one tells
+-- how many refused calls of this side an answer tells, by how many each error tells
 abbrev pub faults_told : {T E : Type 0} → (E → ℕ) → Result T E → ℕ
 faults_told told (Ok value) = 0
 faults_told told (Err fault) = told fault
+
+-- the same where each error tells one
+abbrev pub refusals : {T E : Type 0} → Result T E → ℕ
+refusals = faults_told (λ fault. 1)
 
 -- What holds after at most n calls, whatever they answered and whatever the device is: so many of them were refused.
 pub record Calls (n refused : ℕ) (old new : Device) : Type 0 where
@@ -30,10 +29,8 @@ pub record Calls (n refused : ℕ) (old new : Device) : Type 0 where
 
 -- what holds after one call
 pub record OneCall (refused : ℕ) (old new : Device) : Type 0 where
-  pub calls : new.calls ≡ old.calls + 1
-  pub faults : new.faults ≡ old.faults + refused
-  pub same_honesty : new.honest ≡ old.honest
-  pub same_length : length new.content ≡ length old.content
+  pub counted : new.calls ≡ old.calls + 1
+  pub within : Calls 1 refused old new
 
 -- what holds after one read of the n bytes from `at` on, into `out`: the second and the third on an honest device
 pub record OneRead {T E : Type 0} (at n : ℕ) (old new : Device) (result : Result T E) (out : List ℕ) : Type 0 where

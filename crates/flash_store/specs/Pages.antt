@@ -49,24 +49,10 @@ abbrev pub Covers : Held → ℕ → ℕ → Type 0
 Covers (Window from bytes) at n = (from ≤ at) × (at + n ≤ from + length bytes)
 Covers _ at n = ⊥
 
--- the same by the window's place and size
-abbrev pub Spans : Buffered → ℕ → ℕ → Type 0
-Spans (code.Window from size) at n = (from ≤ at) × (at + n ≤ from + size)
-Spans _ at n = ⊥
-
 -- a piece is held, and it meets P
 abbrev pub HasPiece : Held → (List ℕ → Type 0) → Type 0
 HasPiece (Piece bytes) P = P bytes
 HasPiece _ P = ⊥
-
--- P of the piece, where one is held
-abbrev pub OnPiece : Held → (List ℕ → Type 0) → Type 0
-OnPiece (Piece bytes) P = P bytes
-OnPiece _ P = Unit {0}
-
--- no piece is held
-abbrev pub HasNoPiece : Held → Type 0
-HasNoPiece held = OnPiece held (λ bytes. ⊥)
 
 -- the window, where one is held
 abbrev pub without_piece : Held → Held
@@ -87,8 +73,7 @@ pub record HasAnswered {F T E : Type 0} (facts : F → Device) (n : ℕ) (old ne
 pub record HasSeen {F T E : Type 0} (facts : F → Device) (at n : ℕ) (old new : Pages F) (result : Result T E) : Type 0 where
   pub read : HasRead facts 1 (refusals result) old new
   pub dropped : OnErr result (new.held ≡ Nothing)
-  pub free : Covers old.held at n → new ≡ old
-  pub answered : Covers old.held at n → IsOk result
+  pub free : Covers old.held at n → (new ≡ old) × IsOk result
   pub held : OnOk result (Covers new.held at n)
   pub ahead : (Covers old.held at n → ⊥) → OnOk result (Covers new.held at (min (length (facts old.device).content - at) 4096))
 

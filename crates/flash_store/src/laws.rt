@@ -1,24 +1,27 @@
 //! Laws of writes, which the crates above rest on. These functions do nothing: their contracts are the laws.
 
-ghost use Rattle.flash_store.specs.Laws.{WritesInRegions, WritesBesideRegions, ChangesInRegions, ChangesAreWrites, SeparateWritesSwap, SeparateEditsSwap, WrittenMapsAreFound};
+ghost use Rattle.std.specs.Prelude.{◌≡◌, ℕ, ◌+◌, ◌≤◌, List, length};
+ghost use Rattle.flash_store.specs.Bytes.{overwritten};
+ghost use Rattle.flash_store.specs.Regions.{Range, LiesIn, bytes_in};
+ghost use Rattle.flash_store.specs.Laws.{WritesInRegions, WrittenMapsAreFound, LieApart, edited};
 
 /// What a write to the image is to the bytes of a region.
 pub fn writes_are_seen_by_regions()
-    ensures inside { WritesInRegions }
-    ensures beside { WritesBesideRegions }
-    ensures changed { ChangesInRegions }
-    ensures whole { ChangesAreWrites }
+    ensures { WritesInRegions }
 {}
 
 /// Writes to separate ranges don't touch each other.
 pub fn separate_writes_swap()
-    ensures { SeparateWritesSwap }
+    ensures { (x : List ℕ) (a : ℕ) (u : List ℕ) (b : ℕ) (v : List ℕ) → a + length u ≤ b → b ≤ length x
+        → overwritten (overwritten x a u) b v ≡ overwritten (overwritten x b v) a u }
 {}
 
 /// Edits of two regions come to the same in either order, where both regions lie in the image and have no byte in common,
 /// and each edit leaves as many bytes as its region has.
 pub fn separate_edits_swap()
-    ensures { SeparateEditsSwap }
+    ensures { (image : List ℕ) (r s : Range) (first last : List ℕ → List ℕ) → LiesIn r image → LiesIn s image → LieApart r s
+        → length (first (bytes_in r image)) ≡ r.size → length (last (bytes_in s image)) ≡ s.size
+        → edited s last (edited r first image) ≡ edited r first (edited s last image) }
 {}
 
 /// Bytes that are read as a valid map, whatever follows them, are found with their areas where they are written into an

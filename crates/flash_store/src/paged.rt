@@ -63,22 +63,6 @@ enum Buffered {
     Piece { size: usize },
 }
 
-impl Buffered {
-    ghost use Rattle.flash_store.specs.Pages.{Spans};
-
-    /// It is a window with all of the n bytes from `at` on.
-    fn spans(self, at: u64, n: usize) -> bool
-        ensures { IsTrue result ↔ Spans self at n }
-    {
-        match self {
-            Buffered::Window { at: from, size } => {
-                from <= at && n <= size && at - from <= (size - n) as u64
-            }
-            _ => false,
-        }
-    }
-}
-
 /// A device and one buffer of 4096 bytes, through which all its bytes pass but those of a commit.
 ///
 /// The buffer holds nothing, a window or a piece.
@@ -112,7 +96,7 @@ impl<F: Flash> Model for Paged<F> {
 impl<F: Flash> Paged<F> {
     ghost use Rattle.std.specs.Borrow.{sem};
     ghost use Rattle.std.specs.Io.BufRead.{Rests};
-    ghost use Rattle.flash_store.specs.Pages.{Nothing, OnHonest, HasSeen, HasPulled, HasPiece, OnPiece, Covers, without_piece};
+    ghost use Rattle.flash_store.specs.Pages.{Nothing, OnHonest, HasSeen, HasPulled, HasPiece, Covers, without_piece};
     ghost use Rattle.flash_store.specs.contracts.paged.Paged.{the_row};
 
     /// Nothing is held, and no call is made.
@@ -197,6 +181,20 @@ impl<F: Flash> Paged<F> {
         Ok(window.part(at, n))
     }
 
+    /// A window is held, and has all of the n bytes from `at` on.
+    fn covers(&self, at: u64, n: usize) -> bool
+        ensures { IsTrue result ↔ Covers self.now.held at n }
+    {
+        match self.held {
+            Buffered::Window { at: from, size } => {
+                // What is promised counts the bytes that are held.
+                let held = self.buffer[..size].len();
+                from <= at && n <= held && at - from <= (held - n) as u64
+            }
+            _ => false,
+        }
+    }
+
     /// Loads a window from `at` on, unless it has the n bytes from there on.
     fn fetch(&mut self, at: u64, n: usize) -> Result<(), FlashFault>
         requires inside { at + n ≤ length (F.facts self.old.device).content }
@@ -204,7 +202,7 @@ impl<F: Flash> Paged<F> {
 
         ensures { HasSeen F.facts at n self.old self.new result }
     {
-        if self.held.spans(at, n) {
+        if self.covers(at, n) {
             return Ok(());
         }
         let size = (self.device.len() - at).min(PIECE as u64) as usize;
@@ -259,7 +257,7 @@ impl<F: Flash> Paged<F> {
     pub fn push(&mut self, at: u64) -> Result<(), FlashFault>
         requires { HasPiece self.old.held (λ bytes. at + length bytes ≤ length (F.facts self.old.device).content) }
 
-        ensures after { OnPiece self.old.held (λ bytes.
+        ensures after { HasPiece self.old.held (λ bytes.
             OneWrite at bytes (F.facts self.old.device) (F.facts self.new.device) result) }
         ensures same_piece { self.new.held ≡ self.old.held }
     {

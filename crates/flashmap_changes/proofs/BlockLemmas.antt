@@ -116,3 +116,25 @@ KnowsBlocks-more known after x y n different long is pushed knows = subst (λ (l
 pub differs-whole : (r s : Range) (x y : List ℕ) (m n number : ℕ) (different : Bool) → r ≡ record { start = 0; size = m } → s ≡ record { start = 0; size = n } → m ≡ length x → n ≡ length y → different ≡ differs (bytes_in r x) (bytes_in s y) number → different ≡ differs x y number
 differs-whole r s x y m n number different r_is s_is old_len new_len is =
     is ∙ ap (λ (l : List ℕ). differs l (bytes_in s y) number) (bytes_in-whole r x m r_is old_len) ∙ ap (λ (l : List ℕ). differs x l number) (bytes_in-whole s y n s_is new_len)
+
+pub one_at_most : (b : Bool) (n : ℕ) → n ≡ (if b then 1 else 0) → n ≤ 1
+one_at_most true n is = omega arith
+one_at_most false n is = omega arith
+
+-- one block more was counted
+pub different_among-more : (x y : List ℕ) (number count one : ℕ) (different : Bool) → different ≡ differs x y number → one ≡ (if different then 1 else 0) → count ≡ different_among x y number → count + one ≡ different_among x y (number + 1)
+different_among-more x y number count one different is counted so_far =
+    let next : number + 1 ≡ suc number = omega arith in
+    rw (next, so_far, counted, is) refl
+
+-- all of one length have their blocks, and one more where they do not fill them
+pub blocks_of-whole : (x y : List ℕ) → min (length x) (length y) % 4096 ≡ 0 → different_among x y (min (length x) (length y) / 4096) + 0 ≡ different_among x y (blocks_of (min (length x) (length y)))
+blocks_of-whole x y whole =
+    let same : min (length x) (length y) / 4096 ≡ blocks_of (min (length x) (length y)) = omega (arith, whole) in
+    omega arith ∙ ap (different_among x y) same
+
+pub blocks_of-more : (x y : List ℕ) (n number one : ℕ) (different : Bool) → n ≡ min (length x) (length y) → 0 < n % 4096 → number ≡ n / 4096 → different ≡ differs x y number → one ≡ (if different then 1 else 0) → different_among x y (min (length x) (length y) / 4096) + one ≡ different_among x y (blocks_of (min (length x) (length y)))
+blocks_of-more x y n number one different long more at is counted =
+    let here : number ≡ min (length x) (length y) / 4096 = omega (arith, long, at) in
+    let all : number + 1 ≡ blocks_of (min (length x) (length y)) = omega (arith, long, at, more) in
+    different_among-more x y number _ one different is counted (sym (ap (different_among x y) here)) ∙ ap (different_among x y) all

@@ -1,12 +1,12 @@
 //! What changes between the areas of two images.
-ghost use Rattle.std.specs.Prelude.{◌≡◌, ◌+◌, ◌-◌, ◌*◌, ◌/◌, ◌≤◌, ◌++◌, length, min, false, true, MatchOption, IfOk, OnOk};
+ghost use Rattle.std.specs.Prelude.{◌≡◌, ◌+◌, ◌-◌, ◌*◌, ◌/◌, ◌≤◌, ◌++◌, length, false, true, MatchOption, IfOk, OnOk};
 ghost use Rattle.flashmap_changes.specs.AreaChanges.{range_of, is_compared, left_after_both, left_after, content_changes, changes_of, changes_in};
 ghost use Rattle.flashmap_changes.specs.AreaChanges as areas;
 ghost use Rattle.flashmap_changes.specs.Blocks.{blocks_of, KnowsBlocks};
 ghost use Rattle.flashmap_changes.specs.Blocks as spec;
 ghost use Rattle.flashmap_changes.specs.Images.{HasCompared, OnBoth};
 
-use crate::blocks::{different_blocks, different_in, known_blocks};
+use crate::blocks::{different_blocks, different_in, whole_blocks};
 use crate::change::{AreaChange, ChangeFault, push_if};
 use crate::pairs::{Pair, pairs, push_gone};
 use flash_store::{Flash, Paged, Region};
@@ -27,7 +27,8 @@ fn compared_regions(
 ) -> Option<(Region, Region)>
     ensures { MatchOption result (is_compared left old_len new_len old new ≡ false) (λ regions.
         (is_compared left old_len new_len old new ≡ true) × (regions.0 ≡ range_of old) × (regions.1 ≡ range_of new)
-        × (old.area.offset + old.area.size ≤ old_len) × (new.area.offset + new.area.size ≤ new_len) × (new.area.size ≤ left)) }
+        × (old.area.offset + old.area.size ≤ old_len) × (new.area.offset + new.area.size ≤ new_len) × (new.area.size ≤ left)
+        × (old.area.size ≡ new.area.size)) }
 {
     let size = u64::from(new.area.size);
     if old.area.size != new.area.size || size > left {
@@ -182,8 +183,7 @@ pub fn image_changes<'a, F: Flash, G: Flash>(
     new_areas: &'a [NumberedArea],
 ) -> Result<ImageChanges, ChangeFault>
     // On any devices.
-    ensures after { HasCompared F.facts G.facts (blocks_of (min (length (F.facts old_image.old.device).content) (length (G.facts new_image.old.device).content))
-        + (9 * length (G.facts new_image.old.device).content / 4096 + length new_areas.now))
+    ensures after { HasCompared F.facts G.facts (9 * length (G.facts new_image.old.device).content / 4096 + length new_areas.now + 1)
         old_image.old old_image.new new_image.old new_image.new result }
 
     // On honest devices.
@@ -192,8 +192,15 @@ pub fn image_changes<'a, F: Flash, G: Flash>(
     ensures areas { OnBoth F.facts old_image.old.device G.facts new_image.old.device (λ x y.
         IfOk result (λ changes. changes.areas.items ≡ areas.area_changes x old_areas.now y new_areas.now)) }
 {
-    let known = known_blocks(alloc, old_image, new_image)?;
-    let blocks = different_blocks(&known, old_image, new_image)?;
-    let areas = area_changes(alloc, &known, old_image, old_areas, new_image, new_areas)?;
+    let whole = whole_blocks(alloc, old_image, new_image)?;
+    let blocks = different_blocks(whole.different, old_image, new_image)?;
+    let areas = area_changes(
+        alloc,
+        &whole.differ,
+        old_image,
+        old_areas,
+        new_image,
+        new_areas,
+    )?;
     Ok(ImageChanges { blocks, areas })
 }

@@ -1,7 +1,7 @@
 //! In how many blocks two regions differ.
-ghost use Rattle.std.specs.Prelude.{◌≡◌, ℕ, ◌+◌, ◌*◌, ◌/◌, ◌^◌, ◌<◌, ◌≤◌, List, [], ◌∷◌, ◌++◌, length, min, max, IfOk, IfSome, OnOk};
+ghost use Rattle.std.specs.Prelude.{◌≡◌, ℕ, ◌+◌, ◌*◌, ◌/◌, ◌^◌, ◌<◌, ◌≤◌, List, [], ◌∷◌, ◌++◌, length, min, max, IfOk, IfSome, OnOk, if◌then◌else◌};
 ghost use Rattle.flash_store.specs.Regions.{LiesIn, bytes_in};
-ghost use Rattle.flashmap_changes.specs.Blocks.{blocks_of, differs, different_blocks, KnowsBlocks};
+ghost use Rattle.flashmap_changes.specs.Blocks.{blocks_of, differs, different_among, different_blocks, KnowsBlocks};
 ghost use Rattle.flashmap_changes.specs.Images.{HasCompared, OnBoth};
 
 use crate::change::ChangeFault;
@@ -79,26 +79,47 @@ fn is_different<F: Flash, G: Flash>(
     Ok(old_block != new_block)
 }
 
+/// The blocks that both of two images have whole.
+#[derive(Drop)]
+pub struct WholeBlocks {
+    /// Of each, whether it differs.
+    pub differ: Vec<bool>,
+    /// How many do.
+    pub different: u64,
+}
+
 /// Which of the blocks differ that both images have whole.
-pub fn known_blocks<F: Flash, G: Flash>(
+pub fn whole_blocks<F: Flash, G: Flash>(
     alloc: Global,
     old_image: &mut Paged<F>,
     new_image: &mut Paged<G>,
-) -> Result<Vec<bool>, ChangeFault>
+) -> Result<WholeBlocks, ChangeFault>
     ensures after { HasCompared F.facts G.facts (length (G.facts new_image.old.device).content / 4096)
         old_image.old old_image.new new_image.old new_image.new result }
+    ensures few { IfOk result (λ blocks. blocks.different
+        ≤ min (length (F.facts old_image.old.device).content) (length (G.facts new_image.old.device).content) / 4096) }
     ensures known { OnBoth F.facts old_image.old.device G.facts new_image.old.device (λ x y.
-        IfOk result (λ known. KnowsBlocks x y known.items)) }
+        IfOk result (λ blocks. KnowsBlocks x y blocks.differ.items)) }
+    ensures different { OnBoth F.facts old_image.old.device G.facts new_image.old.device (λ x y.
+        IfOk result (λ blocks. blocks.different ≡ different_among x y (min (length x) (length y) / 4096))) }
 {
     let old_region = whole(old_image.len());
     let new_region = whole(new_image.len());
     let count = old_region.size().min(new_region.size()) / PIECE as u64;
-    let mut known = Vec::new(alloc);
+    let mut differ = Vec::new(alloc);
+    let mut different = 0;
     for number in 0..count {
-        let different = is_different(&[], old_image, old_region, new_image, new_region, number)?;
-        push_known(&mut known, different)?;
+        let differs = is_different(&[], old_image, old_region, new_image, new_region, number)?;
+        push_known(&mut differ, differs)?;
+        different += one_if(differs);
     }
-    Ok(known)
+    Ok(WholeBlocks { differ, different })
+}
+
+fn one_if(holds: bool) -> u64
+    ensures { result ≡ (if holds then 1 else 0) }
+{
+    u64::from(holds)
 }
 
 fn push_known(known: &mut Vec<bool>, different: bool) -> Result<(), AllocError>
@@ -118,7 +139,7 @@ fn whole(len: u64) -> Region
     region
 }
 
-/// In how many blocks two regions differ, each of which lies in its image.
+/// In how many blocks two regions of one size differ, each of which lies in its image.
 pub fn different_in<F: Flash, G: Flash>(
     known: &[bool],
     old_image: &mut Paged<F>,
@@ -126,43 +147,65 @@ pub fn different_in<F: Flash, G: Flash>(
     new_image: &mut Paged<G>,
     new_region: Region,
 ) -> Result<u32, ChangeFault>
+    requires sizes { old_region.size ≡ new_region.size }
     requires known { OnBoth F.facts old_image.old.device G.facts new_image.old.device (λ x y. KnowsBlocks x y known.now) }
     requires old_inside { LiesIn old_region (F.facts old_image.old.device).content }
     requires new_inside { LiesIn new_region (G.facts new_image.old.device).content }
 
-    ensures after { HasCompared F.facts G.facts (blocks_of (min old_region.size new_region.size))
+    ensures after { HasCompared F.facts G.facts (blocks_of new_region.size)
         old_image.old old_image.new new_image.old new_image.new result }
     ensures different { OnBoth F.facts old_image.old.device G.facts new_image.old.device (λ x y.
         IfOk result (λ n. n ≡ different_blocks (bytes_in old_region x) (bytes_in new_region y))) }
 {
     old_image.places_fit();
     new_image.places_fit();
-    let common = blocks_of(old_region.size().min(new_region.size()));
-    let longer = blocks_of(old_region.size().max(new_region.size()));
     let mut count = 0;
-    for number in 0..common {
-        count += u64::from(is_different(
-            known, old_image, old_region, new_image, new_region, number,
-        )?);
+    for number in 0..blocks_of(new_region.size()) {
+        count += one_if(is_different(known, old_image, old_region, new_image, new_region, number)?);
     }
-    Ok((count + (longer - common)) as u32)
+    Ok(count as u32)
 }
 
-/// In how many blocks two images differ, of which some are known.
-pub fn different_blocks<F: Flash, G: Flash>(
-    known: &[bool],
+/// How many blocks differ, one or none, of those behind the ones that both images have whole, up to the end of the shorter one.
+fn last_difference<F: Flash, G: Flash>(
     old_image: &mut Paged<F>,
     new_image: &mut Paged<G>,
-) -> Result<u32, ChangeFault>
-    requires { OnBoth F.facts old_image.old.device G.facts new_image.old.device (λ x y. KnowsBlocks x y known.now) }
-
-    ensures after { HasCompared F.facts G.facts
-        (blocks_of (min (length (F.facts old_image.old.device).content) (length (G.facts new_image.old.device).content)))
-        old_image.old old_image.new new_image.old new_image.new result }
-    ensures different { OnBoth F.facts old_image.old.device G.facts new_image.old.device (λ x y.
-        IfOk result (λ n. n ≡ different_blocks x y)) }
+) -> Result<u64, ChangeFault>
+    ensures after { HasCompared F.facts G.facts 1 old_image.old old_image.new new_image.old new_image.new result }
+    ensures few { IfOk result (λ n. n ≤ 1) }
+    ensures different { OnBoth F.facts old_image.old.device G.facts new_image.old.device (λ x y. IfOk result (λ n.
+        different_among x y (min (length x) (length y) / 4096) + n ≡ different_among x y (blocks_of (min (length x) (length y))))) }
 {
     let old_region = whole(old_image.len());
     let new_region = whole(new_image.len());
-    different_in(known, old_image, old_region, new_image, new_region)
+    let shorter = old_region.size().min(new_region.size());
+    if shorter % PIECE as u64 == 0 {
+        return Ok(0);
+    }
+    let number = shorter / PIECE as u64;
+    let differs = is_different(&[], old_image, old_region, new_image, new_region, number)?;
+    Ok(one_if(differs))
+}
+
+/// In how many blocks two images differ, by how many of those that both have whole.
+pub fn different_blocks<F: Flash, G: Flash>(
+    different: u64,
+    old_image: &mut Paged<F>,
+    new_image: &mut Paged<G>,
+) -> Result<u32, ChangeFault>
+    requires few { different
+        ≤ min (length (F.facts old_image.old.device).content) (length (G.facts new_image.old.device).content) / 4096 }
+    requires different { OnBoth F.facts old_image.old.device G.facts new_image.old.device (λ x y.
+        different ≡ different_among x y (min (length x) (length y) / 4096)) }
+
+    ensures after { HasCompared F.facts G.facts 1 old_image.old old_image.new new_image.old new_image.new result }
+    ensures different { OnBoth F.facts old_image.old.device G.facts new_image.old.device (λ x y.
+        IfOk result (λ n. n ≡ different_blocks x y)) }
+{
+    old_image.places_fit();
+    new_image.places_fit();
+    let shorter = blocks_of(old_image.len().min(new_image.len()));
+    let longer = blocks_of(old_image.len().max(new_image.len()));
+    let last = last_difference(old_image, new_image)?;
+    Ok((different + last + (longer - shorter)) as u32)
 }

@@ -1,7 +1,7 @@
 -- The table of a text is found where it is written.
 use Rattle.std.proofs.Common.{List, ℕ, sym, subst}
 use Rattle.flash_store.specs.Bytes.{overwritten}
-use Rattle.flash_store.specs.Laws.{FindsMap, NothingBelow}
+use Rattle.flash_store.specs.Laws.{FindsMap, NoMapBelow}
 use Rattle.flash_store.proofs.WrittenMaps.{maps_found}
 use Rattle.fmd_lang.specs.Table.{table_bytes, table_head}
 use Rattle.fmd_lang.proofs.TableBytes.{table_read}
@@ -10,7 +10,7 @@ use Rattle.fmap_compiler.specs.Laws.{CompiledMapsAreFound}
 pub compiled_found : CompiledMapsAreFound
 compiled_found text bytes image q (faultless, (tree, is_tree, laid, (table, is_table, same))) inside none =
     let read = λ (more : List ℕ). table_read tree text more table faultless is_tree laid is_table in
-    let below = subst (λ (l : List ℕ). NothingBelow (overwritten image q l) q) same none in
+    let below = subst (λ (l : List ℕ). NoMapBelow (overwritten image q l) q) same none in
     let found = maps_found (table_head table) table.areas.items (table_bytes table) image q read inside below in
     record {
       tree = tree;

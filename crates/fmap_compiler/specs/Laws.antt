@@ -1,7 +1,7 @@
 -- What the table of a text is in an image.
 use Rattle.std.specs.Prelude.{ℕ, ◌≤◌, List, length}
 use Rattle.flash_store.specs.Bytes.{overwritten}
-use Rattle.flash_store.specs.Laws.{FindsMap, NothingBelow}
+use Rattle.flash_store.specs.Laws.{FindsMap, NoMapBelow}
 use Rattle.fmd_lang.specs.Words.{words}
 use Rattle.fmd_lang.specs.Tree.{Tree}
 use Rattle.fmd_lang.specs.Grammar.{IsSection}
@@ -21,4 +21,4 @@ pub record IsMapOfText (text image : List ℕ) (q : ℕ) : Type 0 where
 abbrev pub CompiledMapsAreFound : Type 0
 CompiledMapsAreFound = (text bytes image : List ℕ) (q : ℕ) → Compiles text bytes → q ≤ length image
     → let now = overwritten image q bytes in
-    NothingBelow now q → IsMapOfText text now q
+    NoMapBelow now q → IsMapOfText text now q

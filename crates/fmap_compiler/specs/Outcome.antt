@@ -1,6 +1,6 @@
 -- What a run of the compiler writes, and why it is refused.
 use Rattle.std.specs.Prelude.{◌≡◌, ℕ, ◌+◌, ◌≤◌, ◌⊎◌, List, length, take, Option, Some, None, IfSome}
-use Rattle.std.specs.Io.KnownBytes.{Appends, Consumes, Keeps}
+use Rattle.std.specs.Io.KnownBytes.{Consumes, Keeps}
 use Rattle.flash_store.specs.Output.{AppendsPart}
 use Rattle.fmd_lang.specs.Words.{words}
 use Rattle.fmd_lang.specs.Tree.{Tree}
@@ -31,23 +31,15 @@ Refuses text fault = (first_fault text ≡ Some fault)
 
 -- The same of what a reader has left and a writer holds, where they tell their bytes.
 
--- the bytes of the table of the text are these
+-- P of the bytes of the table of the text
 abbrev pub HasTable : Option (List ℕ) → (List ℕ → Type 0) → Type 0
 HasTable text P = IfSome text (λ t. (bytes : List ℕ) × Compiles t bytes × P bytes)
 
--- the table of the text is written, and nothing else
-abbrev pub HasCompiled : Option (List ℕ) → Option (List ℕ) → Option (List ℕ) → Type 0
-HasCompiled text old new = HasTable text (Appends old new)
-
--- some of the first bytes of the table of the text are written, but not all
-abbrev pub HasCompiledPart : Option (List ℕ) → Option (List ℕ) → Option (List ℕ) → Type 0
-HasCompiledPart text old new = HasTable text (AppendsPart old new)
-
--- why a run is refused, and what it has written then
+-- why a run is refused, and what it has written then: nothing, or some of the first bytes of the table, but not all
 abbrev pub IsRefused : Refusal → Option (List ℕ) → Option (List ℕ) → Option (List ℕ) → Type 0
 IsRefused (refusal.Descriptor fault) text old new = ((fault ≡ faults.Memory) ⊎ IfSome text (λ t. Refuses t fault)) × Keeps old new
 IsRefused refusal.Read text old new = Keeps old new
-IsRefused refusal.Output text old new = HasCompiledPart text old new
+IsRefused refusal.Output text old new = HasTable text (AppendsPart old new)
 
 -- what was read are the first bytes, as many as a run reads
 abbrev pub IsPrefixOf : Option (List ℕ) → List ℕ → Type 0

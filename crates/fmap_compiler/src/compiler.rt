@@ -1,7 +1,8 @@
 //! From a descriptor to its table.
 
 ghost use Rattle.std.specs.Prelude.{◌≡◌, ◌+◌, ◌<◌, ◌≤◌, ◌⊎◌, OnOk, IfOk, IfErr};
-ghost use Rattle.fmap_compiler.specs.Outcome.{reading_limit, Compiles, HasCompiled, IsRefused, IsPrefixOf, ReadsPrefix, Refuses};
+ghost use Rattle.std.specs.Io.KnownBytes.{Appends};
+ghost use Rattle.fmap_compiler.specs.Outcome.{reading_limit, Compiles, HasTable, IsRefused, IsPrefixOf, ReadsPrefix, Refuses};
 
 use crate::reader::TextReader;
 use crate::refusal::Refusal;
@@ -55,7 +56,7 @@ pub fn run<R: TextReader, W: Sink>(
     writer: &mut W,
 ) -> Result<(), Refusal>
     // The table of what was read is written, and nothing else.
-    ensures ok { OnOk result (HasCompiled (R.remaining reader.old) (W.contents writer.old) (W.contents writer.new)) }
+    ensures ok { OnOk result (HasTable (R.remaining reader.old) (Appends (W.contents writer.old) (W.contents writer.new))) }
     // Each fault comes only where its side failed.
     ensures read_cause { IfErr result (λ refusal. refusal ≡ Refusal.Read → R.faults reader.old < R.faults reader.new) }
     ensures output_cause { IfErr result (λ refusal. refusal ≡ Refusal.Output → W.faults writer.old < W.faults writer.new) }

@@ -1,5 +1,5 @@
 -- Words without a fault are those of a tree.
-use Rattle.std.proofs.Common.{◌≡◌, ◌≢◌, ℕ, zero, suc, ◌+◌, ◌-◌, ◌≤◌, nat_lt, false, cond, List, [], ◌∷◌, ◌++◌, length, Option, Some, None, refl, sym, ◌∙◌, ap, arith, inl, inr, append_assoc, subst, All}
+use Rattle.std.proofs.Common.{◌≡◌, ◌≢◌, ℕ, zero, suc, ◌+◌, ◌-◌, ◌≤◌, nat_lt, true, false, cond, List, [], ◌∷◌, ◌++◌, length, Option, Some, None, refl, sym, ◌∙◌, ap, arith, inl, inr, append_assoc, subst, All}
 use Rattle.std.specs.Int.Bits.{bit_or}
 use Rattle.std.specs.Result.{result_err}
 use Rattle.std.proofs.lemmas.Bool.{cond_both}
@@ -9,9 +9,9 @@ use Rattle.std.proofs.lemmas.List.Elements.{All-head, All-tail}
 use Rattle.fmd_lang.specs.Words.{Word, words, kind_of, without_comments}
 use Rattle.fmd_lang.specs.Numbers.{number_at, number_value}
 use Rattle.fmd_lang.specs.Tree.{Tree, section, Forest, none, some}
-use Rattle.fmd_lang.specs.Grammar.{Then, One, IsA, IsName, IsSection, AreSections, AreAnnotations, HaveFlags, IsOffset, IsSize, HasValue, Until, annotation_flag, flags_with}
-use Rattle.fmd_lang.specs.Faults.{Stage, start, in_annotations, annotated, at_sign, past, own_fault, fault_from, first_fault, next_depth, next_stage, wanted_at}
 use Rattle.fmd_lang.specs.Parsing.{IsBody}
+use Rattle.fmd_lang.specs.Grammar.{Then, One, IsA, IsName, IsSection, AreSections, AreAnnotations, HaveFlags, IsOffset, IsSize, HasValue, Until, annotation_flag, flags_with}
+use Rattle.fmd_lang.specs.Faults.{Stage, start, in_annotations, at_sign, past, Standing, own_fault, fault_from, first_fault, next_standing, wanted_at}
 use Rattle.fmd_lang.specs.declared.word.Kind.{Kind}
 use Rattle.fmd_lang.specs.declared.word.Kind.TheVariants.{Name, Number, OpenParen, CloseParen, At, OpenBrace, CloseBrace, End}
 use Rattle.fmd_lang.specs.declared.fault.FmdFault.TheVariants as faults
@@ -45,9 +45,9 @@ Behind (suc depth) ws = (ts : Forest) × Then (Until CloseBrace (AreSections ts)
 
 abbrev Left : Stage → ℕ → List Word → Type 0
 Left start depth ws = (t : Tree) × Then (IsSection t) (Behind depth) ws
-Left in_annotations depth ws =
+Left (in_annotations false) depth ws =
     (flags : ℕ) × Then (Until CloseParen (HaveFlags flags)) (Then (Ahead 3) (Behind depth)) ws
-Left annotated depth ws =
+Left (in_annotations true) depth ws =
     (before : ℕ) → (flags : ℕ) × Then (Until CloseParen (λ v. flags_with before v ≡ Some flags)) (Then (Ahead 3) (Behind depth)) ws
 Left at_sign depth ws = (n : ℕ) × Then (One (HasValue n)) (Then (Ahead 2) (Behind depth)) ws
 Left (past n) depth ws = Then (Ahead (4 - n)) (Behind depth) ws
@@ -97,48 +97,48 @@ has-value : (at : ℕ) (value : Option ℕ) → result_err (number_at at value) 
 has-value at None h = cc
 has-value at (Some n) h = (n, refl)
 
-number-is : (depth : ℕ) (w : Word) → IsA Number w → own_fault depth w ≡ None → (n : ℕ) × HasValue n w
+number-is : (depth : ℕ) (w : Word) → IsA Number w → own_fault (kind_of w.bytes) depth w ≡ None → (n : ℕ) × HasValue n w
 number-is depth w is own = let (n, value) = has-value w.place (number_value w.bytes) (rw is at own) in (n, (is, value))
 
 -- what is left after a word that may stand
-abbrev Rest : Option Stage → ℕ → List Word → Type 0
-Rest None depth ws = ⊥
-Rest (Some t) depth ws = Left t depth ws
+abbrev Rest : Option Standing → List Word → Type 0
+Rest None ws = ⊥
+Rest (Some (t, depth)) ws = Left t depth ws
 
 -- The first word of a part may stand where the part may still come.
-room : (n m : ℕ) (t : Stage) (depth : ℕ) (ws : List Word) → m ≤ 4 → Rest (cond (nat_lt n m) (Some t) None) depth ws →
+room : (n m : ℕ) (t : Stage) (depth : ℕ) (ws : List Word) → m ≤ 4 → Rest (cond (nat_lt n m) (Some (t, depth)) None) ws →
     (5 - m ≤ 4 - n) × Left t depth ws
 room n m t depth ws small =
-    cond_both (nat_lt n m) (Some t) None (λ o. Rest o depth ws → (5 - m ≤ 4 - n) × Left t depth ws)
+    cond_both (nat_lt n m) (Some (t, depth)) None (λ o. Rest o ws → (5 - m ≤ 4 - n) × Left t depth ws)
     (λ fits rest. (let few : suc n ≤ m = grind (arith, nat_tests) in omega arith, rest)) (λ over none_left. absurd none_left)
 
 -- one word more
 step : (s : Stage) (k : Kind) (flag : Option ℕ) (depth : ℕ) (w : Word) (ws : List Word) → IsA k w → k ≢ End →
-    annotation_flag w.bytes ≡ flag → own_fault depth w ≡ None → Rest (next_stage s depth k flag) (next_depth k depth) ws →
+    annotation_flag w.bytes ≡ flag → own_fault (kind_of w.bytes) depth w ≡ None → Rest (next_standing s depth k flag) ws →
     Left s depth (w ∷ ws)
 step start Name flag depth w ws is there known own (front, behind, split, ahead, closed) =
-    let (t, one) = section-is w front (is, refl, name-short depth w is own) ahead in
+    let (t, one) = section-is w front (is, refl, name-short depth w (rw is at own)) ahead in
     (t, (w ∷ front, behind, ap (λ v. w ∷ v) split, one, closed))
 step start k flag depth w ws is there known own rest = absurd rest
-step in_annotations Name (Some flag) depth w ws is there known own rest =
+step (in_annotations false) Name (Some flag) depth w ws is there known own rest =
     let (flags, (a, behind, split, more, ahead)) = rest flag in
     let all = flags-cons 0 flag flags (w ∷ a) (w ∷ [], a, refl, (w, refl, known), more) in
     (flags, (w ∷ a, behind, ap (λ v. w ∷ v) split, all, ahead))
-step in_annotations k (Some flag) depth w ws is there known own rest = let name = annotation-name w.bytes flag known in cc
-step in_annotations k None depth w ws is there known own rest = absurd rest
-step annotated CloseParen flag depth w ws is there known own rest =
+step (in_annotations false) k (Some flag) depth w ws is there known own rest = let name = annotation-name w.bytes flag known in cc
+step (in_annotations false) k None depth w ws is there known own rest = absurd rest
+step (in_annotations true) CloseParen flag depth w ws is there known own rest =
     λ before. (before, (w ∷ [], ws, refl, ([], w ∷ [], refl, refl, (w, refl, is)), rest))
-step annotated Name (Some flag) depth w ws is there known own rest = λ before.
+step (in_annotations true) Name (Some flag) depth w ws is there known own rest = λ before.
     let (flags, (a, behind, split, more, ahead)) = rest (bit_or before flag) in
     let (b, c, inner, all, close) = flags-cons before flag flags (w ∷ a) (w ∷ [], a, refl, (w, refl, known), more) in
     (flags, (w ∷ a, behind, ap (λ v. w ∷ v) split, (b, c, inner, all.1, close), ahead))
-step annotated k (Some flag) depth w ws is there known own rest = let name = annotation-name w.bytes flag known in cc
-step annotated k None depth w ws is there known own rest = absurd rest
+step (in_annotations true) k (Some flag) depth w ws is there known own rest = let name = annotation-name w.bytes flag known in cc
+step (in_annotations true) k None depth w ws is there known own rest = absurd rest
 step at_sign Number flag depth w ws is there known own rest =
     let (n, value) = number-is depth w is own in (n, (w ∷ [], ws, refl, (w, refl, value), rest))
 step at_sign k flag depth w ws is there known own rest = absurd rest
 step (past n) OpenParen flag depth w ws is there known own rest =
-    let (fits, (flags, more)) = room n 1 in_annotations depth ws (omega arith) rest in
+    let (fits, (flags, more)) = room n 1 (in_annotations false) depth ws (omega arith) rest in
     let (front, behind, split, (a, b, inner, closed, ahead), q) =
     joined (Until CloseParen (HaveFlags flags)) (Ahead 3) (Behind depth) ws more in
     let all = up 4 n (w ∷ front) fits
@@ -163,7 +163,7 @@ step (past n) OpenBrace flag depth w ws is there known own rest =
     (parts, inr (w ∷ [], front, refl, (w, refl, is), closed)) in
     (w ∷ front, behind, ap (λ v. w ∷ v) split, all, q)
 step (past n) Name flag (suc depth) w ws is there known own (front, behind, split, ahead, (ts, closed)) =
-    let (t, one) = section-is w front (is, refl, name-short (suc depth) w is own) ahead in
+    let (t, one) = section-is w front (is, refl, name-short (suc depth) w (rw is at own)) ahead in
     let (a, b, whole, sections, outer) =
     joined (IsSection t) (Until CloseBrace (AreSections ts)) (Behind depth) (w ∷ ws) (w ∷ front, behind, ap (λ v. w ∷ v) split, one, closed) in
     ([], w ∷ ws, refl, up 0 n [] (omega arith) refl, (some t ts, (a, b, whole, joined (IsSection t) (AreSections ts) (One (IsA CloseBrace)) a sections, outer)))
@@ -178,25 +178,26 @@ step (past n) End flag depth w ws is there known own rest = absurd (there refl)
 step (past n) k flag zero w ws is there known own rest = absurd rest
 step (past n) k flag (suc depth) w ws is there known own rest = absurd rest
 
-ends : (s : Stage) (depth end : ℕ) → fault_from s depth end [] ≡ None → Left s depth []
+ends : (s : Stage) (depth end : ℕ) → fault_from (s, depth) end [] ≡ None → Left s depth []
 ends (past n) zero end h = ([], [], refl, up 0 n [] (omega arith) refl, refl)
+ends (in_annotations true) depth end h = cc
 ends s depth end h = cc
 
-left : (ws : List Word) (s : Stage) (depth end : ℕ) → All IsWhole ws → fault_from s depth end ws ≡ None → Left s depth ws
+left : (ws : List Word) (s : Stage) (depth end : ℕ) → All IsWhole ws → fault_from (s, depth) end ws ≡ None → Left s depth ws
 left [] s depth end whole h = ends s depth end h
 left (w ∷ ws) s depth end whole h =
     let k = kind_of w.bytes in
-    let (own, others) = or-none (own_fault depth w) _ h in
-    let behind = All-tail IsWhole w ws whole in
-    let (t, stands, fine) = map_or-none (λ t. fault_from t (next_depth k depth) end ws)
-    (next_stage s depth k (annotation_flag w.bytes)) (faults.Expected w.place (wanted_at s depth k)) others in
-    step s k (annotation_flag w.bytes) depth w ws refl (All-head IsWhole w ws whole).0 refl own
-    (rw stands (left ws t (next_depth k depth) end behind fine))
+    let flag = annotation_flag w.bytes in
+    let (own, others) = or-none (own_fault k depth w) _ h in
+    let ((t, inner), stands, fine) = map_or-none (λ t. fault_from t end ws) (next_standing s depth k flag)
+    (faults.Expected w.place (wanted_at s depth k)) others in
+    let behind = left ws t inner end (All-tail IsWhole w ws whole) fine in
+    step s k flag depth w ws refl (All-head IsWhole w ws whole).0 refl own (rw stands behind)
 
 pub faultless-tree : (text : List ℕ) → first_fault text ≡ None → (t : Tree) × IsSection t (words text)
 unfolding first_fault words
 faultless-tree text h =
     let whole = words_whole 0 false (without_comments false text) in
-    let none = cond-none (nat_lt 1048576 (length text)) faults.TextTooLong (fault_from start 0 (length text) (words text)) h in
+    let none = cond-none (nat_lt 1048576 (length text)) faults.TextTooLong (fault_from (start, 0) (length text) (words text)) h in
     let (t, (front, behind, split, is, nothing)) = left (words text) start 0 (length text) whole none in
     (t, subst (IsSection t) (sym (split ∙ ap (λ v. front ++ v) nothing ∙ append-nil front)) is)

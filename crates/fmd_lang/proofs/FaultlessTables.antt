@@ -7,36 +7,39 @@ use Rattle.std.proofs.lemmas.List.Elements.{All-nil, All-cons, All-head, All-tai
 use Rattle.flash_format.specs.declared.flashmap.Area.{Area}
 use Rattle.fmd_lang.specs.Words.{Word, kind_of, words}
 use Rattle.fmd_lang.specs.Tree.{Tree, names}
-use Rattle.fmd_lang.specs.Grammar.{HasValue, IsOffset, IsSection, IsSize}
-use Rattle.fmd_lang.specs.Faults.{first_fault, next_depth, own_fault, text_limit, first_own_fault}
+use Rattle.fmd_lang.specs.Grammar.{HasValue, IsOffset, IsSize, annotation_flag}
+use Rattle.fmd_lang.specs.Faults.{Stage, start, first_fault, fault_from, next_standing, own_fault, text_limit, wanted_at}
 use Rattle.fmd_lang.specs.LayoutFaults.{layout_fault, names_fault}
 use Rattle.fmd_lang.proofs.LayoutLemmas.{few-sections}
 use Rattle.fmd_lang.proofs.PlaceLemmas.{areas-filled}
 use Rattle.fmd_lang.specs.Table.{AreasBelow}
 use Rattle.fmd_lang.specs.declared.fault.FmdFault.TheVariants as faults
-use Rattle.fmd_lang.proofs.TreeLemmas.{text-agrees}
-use Rattle.fmd_lang.proofs.OptionLemmas.{cond-none, or-none}
+use Rattle.fmd_lang.proofs.OptionLemmas.{cond-none, map_or-none, or-none}
 
 -- ---- numbers
 
 abbrev pub Fits : Word → Type 0
 Fits w = (n : ℕ) → HasValue n w → n < 2 ^ 32
 
-number_fits : (depth : ℕ) (w : Word) → own_fault depth w ≡ None → Fits w
+number_fits : (depth : ℕ) (w : Word) → own_fault (kind_of w.bytes) depth w ≡ None → Fits w
 number_fits depth w fine n (is, value) =
     let small : result_err (number_at w.place (Some n)) ≡ None = ap (λ o. result_err (number_at w.place o)) (sym value) ∙ rw is at fine in
     grind arith
 
-all_fit : (depth : ℕ) (ws : List Word) → first_own_fault depth ws ≡ None → All Fits ws
-all_fit depth [] fine = All-nil Fits
-all_fit depth (w ∷ ws) fine =
-    let parts = or-none (own_fault depth w) (first_own_fault (next_depth (kind_of w.bytes) depth) ws) fine in
-    All-cons Fits w ws (number_fits depth w parts.0) (all_fit (next_depth (kind_of w.bytes) depth) ws parts.1)
+all_fit : (ws : List Word) (s : Stage) (depth end : ℕ) → fault_from (s, depth) end ws ≡ None → All Fits ws
+all_fit [] s depth end fine = All-nil Fits
+all_fit (w ∷ ws) s depth end fine =
+    let k = kind_of w.bytes in
+    let (own, others) = or-none (own_fault k depth w) _ fine in
+    let ((t, inner), stands, further) = map_or-none (λ t. fault_from t end ws) (next_standing s depth k (annotation_flag w.bytes))
+    (faults.Expected w.place (wanted_at s depth k)) others in
+    All-cons Fits w ws (number_fits depth w own) (all_fit ws t inner end further)
 
-pub numbers_fit : (t : Tree) (text : List ℕ) → IsSection t (words text) → first_fault text ≡ None → All Fits (words text)
-numbers_fit t text is fine =
-    let own = sym (text-agrees t text is) ∙ fine in
-    all_fit 0 (words text) (cond-none (nat_lt text_limit (length text)) faults.TextTooLong (first_own_fault 0 (words text)) own)
+pub numbers_fit : (text : List ℕ) → first_fault text ≡ None → All Fits (words text)
+unfolding first_fault
+numbers_fit text fine =
+    let ws = words text in
+    all_fit ws start 0 (length text) (cond-none (nat_lt text_limit (length text)) faults.TextTooLong (fault_from (start, 0) (length text) ws) fine)
 
 pub size_fits : (size : Option ℕ) (n : ℕ) (number after : List Word) → size ≡ Some n → IsSize size number →
     All Fits (number ++ after) → n < 2 ^ 32

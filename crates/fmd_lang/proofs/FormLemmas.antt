@@ -73,7 +73,5 @@ pub sections-snoc : (parts : List Section) (part : Section) (v : List Word) →
 sections-snoc parts part v (front, back, split, all, one) =
     rw (map-append view parts (part ∷ []), split) (sections-push (map view parts) (view part) front back all one)
 
-pub name-short : (depth : ℕ) (w : Word) → IsA Name w → own_fault depth w ≡ None → length w.bytes < 32
-name-short depth w is own =
-    let fits : (if nat_lt (length w.bytes) 32 then None else Some (faults.NameTooLong w.place)) ≡ None = rw is at own in
-    grind arith
+pub name-short : (depth : ℕ) (w : Word) → own_fault Name depth w ≡ None → length w.bytes < 32
+name-short depth w own = grind arith

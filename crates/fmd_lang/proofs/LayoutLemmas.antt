@@ -1,21 +1,20 @@
 -- The layout of a tree, one section at a time.
-use Rattle.std.proofs.Common.{◌≡◌, ℕ, suc, ◌+◌, ◌<◌, ◌≤◌, nat_le, not, true, false, List, [], ◌∷◌, ◌++◌, length, drop, take, min, replicate, get_or, Some, None, option_map, unwrap_or, length-append, refl, sym, subst, ◌∙◌, ap, arith, add-one, append_assoc}
+use Rattle.std.proofs.Common.{◌≡◌, ℕ, suc, ◌+◌, ◌<◌, ◌≤◌, nat_le, not, true, false, List, [], ◌∷◌, ◌++◌, codes, length, drop, take, min, replicate, get_or, Some, None, option_map, unwrap_or, length-append, refl, sym, subst, ◌∙◌, ap, arith, add-one, append_assoc}
 use Rattle.std.specs.Bool.{then_some}
 use Rattle.std.specs.Option.{option_or}
 use Rattle.std.proofs.Math.Nat.{min_comm}
 use Rattle.std.proofs.Math.Seq.{drop-cons}
 use Rattle.std.proofs.lemmas.List.{take_min, drop-replicate}
-use Rattle.std.proofs.lemmas.Bool.{le-leb}
-use Rattle.std.specs.List.{list_all}
-use Rattle.fmd_lang.specs.Tree.{Tree, section, Forest, none, some, section_count, names, names_of, size_of, view, views, view_step}
+use Rattle.fmd_lang.specs.Tree.{Tree, section, Forest, none, some, section_count, names, names_of, size_of, view, views}
 use Rattle.fmd_lang.specs.declared.section.Section.TheFolds.{fold_out-Section}
 use Rattle.fmd_lang.specs.Table.{field_of, area_limit, section_area, areas_below, areas_of, AreasBelow, AreasOf, IsTable}
-use Rattle.fmd_lang.specs.Layout.{ambiguous_sibling, siblings, filled, ArePlaced, Laid, end_of, row_fault, first_misfit}
-use Rattle.fmd_lang.specs.LayoutFaults.{count_fault, is_fmap, parent_fault, parts_fault, layout_fault, names_fault, size_fault, table_fault, duplicate}
+use Rattle.fmd_lang.specs.Layout.{ambiguous_sibling, sibling, siblings, place_of, filled, end_of, row_fault, misfit_of, first_misfit}
+use Rattle.fmd_lang.specs.LayoutFaults.{count_fault, parent_fault, parts_fault, layout_fault, names_fault, size_fault, table_fault, duplicate}
 use Rattle.fmd_lang.specs.declared.fault.FmdFault.TheVariants as faults
 use Rattle.std.specs.List.{list_any}
+use Rattle.std.specs.Str.{bytes_eq}
 use Rattle.fmd_lang.proofs.OptionLemmas.{map-none, or-none}
-use Rattle.fmd_lang.proofs.RowLemmas.{filled-placed, fits}
+use Rattle.fmd_lang.proofs.RowLemmas.{placed_one}
 use Rattle.fmd_lang.specs.declared.table.Table.{Table}
 use Rattle.fmd_lang.specs.declared.row.Sibling.{Sibling}
 use Rattle.fmd_lang.specs.declared.row.Place.{Place}
@@ -25,7 +24,7 @@ use Rattle.fmd_lang.specs.declared.section.Section.{Section, out-Section}
 
 pub view-is : (s : Section) → view s ≡ section (out-Section s).name.items (out-Section s).flags (out-Section s).offset
     (out-Section s).size (views (out-Section s).parts.items)
-view-is s = fold_out-Section Tree view_step s
+view-is s = fold_out-Section Tree _ s
 
 some-names : (t : Tree) → 0 < section_count t
 some-names (section name flags offset size parts) = omega arith
@@ -45,16 +44,6 @@ length-filled (p ∷ ps) parent from = ap suc (length-filled ps parent _)
 
 pub view-count : (s : Section) → section_count (view s) ≡ suc (length (names_of (views (out-Section s).parts.items)))
 view-count s = rw (view-is s) refl
-
--- every place lies in the parent
-pub placed-inside : (ps : List Sibling) (qs : List Place) (parent from : ℕ) → ArePlaced parent from ps qs →
-    list_all (λ q. nat_le (end_of q) parent) qs ≡ true
-placed-inside [] [] parent from h = refl
-placed-inside [] (q ∷ qs) parent from h = cc
-placed-inside (p ∷ ps) [] parent from h = absurd h
-placed-inside (p ∷ ps) (q ∷ qs) parent from h =
-    let here : nat_le (end_of q) parent ≡ true = le-leb _ _ (fits parent from p q h.0.fits).1 in
-    rw here (placed-inside ps qs parent (end_of q) h.2)
 
 pub field-is : (name : List ℕ) → take (min (length name) 32) name ++ drop (min (length name) 32) (replicate 32 0) ≡ field_of name
 field-is name =
@@ -129,15 +118,8 @@ few-sections (section name flags offset size parts) h =
     let ns = names (section name flags offset size parts) in
     let below = (or-none (option_map faults.Duplicate (duplicate 0 [] ns)) _ h).1 in
     let few : count_fault (length (names_of parts)) ≡ None =
-    (or-none (then_some (not (list_any is_fmap (names_of parts))) faults.NoFmap) _ below).1 in
+    (or-none (then_some (not (list_any (bytes_eq (codes "FMAP")) (names_of parts))) faults.NoFmap) _ below).1 in
     grind arith
-
--- a row without a fault is laid where it is filled
-pub row-laid : (parent : ℕ) (ps : List Sibling) → row_fault parent ps ≡ None → Laid parent ps (filled parent 0 ps)
-row-laid parent ps h =
-    let both = or-none (option_map faults.Ambiguous (ambiguous_sibling false ps)) (first_misfit parent 0 ps (filled parent 0 ps)) h in
-    let clear = map-none faults.Ambiguous (ambiguous_sibling false ps) both.0 in
-    (clear, filled-placed parent 0 false ps clear both.1)
 
 mutual
   -- the areas of a tree without a fault obey the equations
@@ -146,18 +128,31 @@ mutual
       let row = siblings (suc n) parts in
       let qs = filled size 0 row in
       let (fine, others) = or-none (row_fault size row) (parts_fault (suc n) parts qs) h in
-      (qs, row-laid size row fine, parts-laid parts (suc n) at qs (length-filled row size 0) others)
+      let (clear, fitting) = or-none (option_map faults.Ambiguous (ambiguous_sibling false row)) (first_misfit size 0 row qs) fine in
+      (map-none faults.Ambiguous (ambiguous_sibling false row) clear, parts-laid parts (suc n) at size 0 fitting others)
 
-  parts-laid : (ts : Forest) (n at : ℕ) (qs : List Place) → length qs ≡ length (siblings n ts) → parts_fault n ts qs ≡ None →
-      AreasOf n at ts qs (areas_of n at ts qs)
-  parts-laid none n at qs len h = refl
-  parts-laid (some t ts) n at [] len h = cc
-  parts-laid (some t ts) n at (q ∷ qs) len h =
+  parts-laid : (ts : Forest) (n at size from : ℕ) →
+      first_misfit size from (siblings n ts) (filled size from (siblings n ts)) ≡ None →
+      parts_fault n ts (filled size from (siblings n ts)) ≡ None →
+      AreasOf n at size from ts (areas_of n at ts (filled size from (siblings n ts)))
+  parts-laid none n at size from fitting h = refl
+  parts-laid (some t ts) n at size from fitting h =
       let m = n + section_count t in
-      let (fine, others) = or-none (parent_fault n q.size t) (parts_fault m ts qs) h in
-      let fewer : length qs ≡ length (siblings m ts) = cc in
-      let below = areas-laid t n (at + q.start) q.size fine in
-      (areas_below n (at + q.start) q.size t, areas_of m at ts qs, refl, below, parts-laid ts m at qs fewer others)
+      let p = sibling n t in
+      let q = place_of size from p (siblings m ts) in
+      let qs = filled size (end_of q) (siblings m ts) in
+      let (fine, behind) = or-none (misfit_of size from p q) (first_misfit size (end_of q) (siblings m ts) qs) fitting in
+      let (inner, others) = or-none (parent_fault n q.size t) (parts_fault m ts qs) h in
+      let placed = placed_one size from p.number p.offset p.size (siblings m ts) fine in
+      let below = areas-laid t n (at + q.start) q.size inner in (
+        q,
+        areas_below n (at + q.start) q.size t,
+        areas_of m at ts qs,
+        refl,
+        placed,
+        below,
+        parts-laid ts m at size (end_of q) behind others,
+      )
 
 pub table-is : (s : Section) (table : Table) → table.base ≡ unwrap_or (out-Section s).offset 0 →
     (out-Section s).size ≡ Some table.size → table.name ≡ field_of (out-Section s).name.items →

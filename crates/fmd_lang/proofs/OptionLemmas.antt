@@ -1,10 +1,14 @@
 -- Refusals that aren't there.
-use Rattle.std.proofs.Common.{◌≡◌, Option, Some, None, option_map, refl, Bool, true, false, cond}
+use Rattle.std.proofs.Common.{◌≡◌, ◌≢◌, Option, Some, None, option_map, refl, Bool, true, false, cond}
 use Rattle.std.specs.Option.{option_or, option_and_then, option_map_or}
 
 pub or-none : {A : Type 0} (a b : Option A) → option_or a b ≡ None → (a ≡ None) × (b ≡ None)
 or-none None b h = (refl, h)
 or-none (Some x) b h = cc
+
+pub or-other : {A : Type 0} {x : A} (a b : Option A) → a ≢ Some x → b ≢ Some x → option_or a b ≢ Some x
+or-other None b one other = other
+or-other (Some y) b one other = one
 
 pub map-none : {A B : Type 0} (f : A → B) (o : Option A) → option_map f o ≡ None → o ≡ None
 map-none f None h = refl

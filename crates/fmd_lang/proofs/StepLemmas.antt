@@ -3,9 +3,9 @@ use Rattle.std.proofs.Common.{◌≡◌, ◌≢◌, ℕ, ◌<◌, ◌≤◌, Lis
 use Rattle.std.proofs.lemmas.List.{append-nil}
 use Rattle.fmd_lang.specs.Words.{Word, words_after, kind_of}
 use Rattle.fmd_lang.specs.Grammar.{One, Then, IsA, HasValue, annotation_flag}
-use Rattle.fmd_lang.specs.Faults.{Stage, own_fault, next_stage, next_depth, fault_after, fault_from, wanted_at}
+use Rattle.fmd_lang.specs.Faults.{Stage, Standing, own_fault, next_standing, fault_after, fault_from, wanted_at}
 use Rattle.fmd_lang.specs.Lexing.{word_of, end_of}
-use Rattle.fmd_lang.specs.Parsing.{Standing, Reads, Parses, IsNext, fault_at}
+use Rattle.fmd_lang.specs.Parsing.{Reads, Parses, IsNext}
 use Rattle.fmd_lang.specs.declared.parser.Token.{Token}
 use Rattle.fmd_lang.specs.declared.word.Kind.{Kind}
 use Rattle.fmd_lang.specs.declared.word.Kind.TheVariants.{End, Number}
@@ -15,16 +15,11 @@ use Rattle.fmd_lang.specs.declared.fault.FmdFault.TheVariants as faults
 -- ---- forms
 
 -- a word in its place
-pub reads-word : (F : Word → Type 0) (s t : Stage) (depth end : ℕ) (w : Word) (ws : List Word) (k : Kind) → IsA k w →
-    own_fault depth w ≡ None → next_stage s depth k (annotation_flag w.bytes) ≡ Some t → F w →
-    Reads (One F) (s, depth) (t, next_depth k depth) end (w ∷ ws) ws
-reads-word F s t depth end w ws k is own stands form =
+pub reads-word : (F : Word → Type 0) (s : Stage) (after : Standing) (depth end : ℕ) (w : Word) (ws : List Word) (k : Kind) →
+    IsA k w → own_fault (kind_of w.bytes) depth w ≡ None → next_standing s depth k (annotation_flag w.bytes) ≡ Some after →
+    F w → Reads (One F) (s, depth) after end (w ∷ ws) ws
+reads-word F s after depth end w ws k is own stands form =
     record { front = w ∷ []; split = refl; form = (w, refl, form); same = rw (own, is, stands) refl }
-
--- no word
-pub reads-none : (P : List Word → Type 0) (before after : Standing) (end : ℕ) (ws : List Word) → P [] →
-    fault_from before.0 before.1 end ws ≡ fault_from after.0 after.1 end ws → Reads P before after end ws ws
-reads-none P before after end ws form same = record { front = []; split = refl; form = form; same = same }
 
 -- words of one form, and then words of another
 pub reads-then : {P Q : List Word → Type 0} {before middle after : Standing} {end : ℕ} {ws between behind : List Word} →
@@ -53,43 +48,45 @@ pub record Takes (F : Word → Type 0) (before after : Standing) (text : List �
   pub inside : to ≤ length text
   pub reads : Reads (One F) before after (length text) (words_after text from) (words_after text to)
 
-pub token-takes : {text : List ℕ} {from depth to : ℕ} {token : Token} (F : Word → Type 0) (s t : Stage) (k : Kind) →
-    IsNext text from depth token → to ≡ end_of token.word → token.kind ≡ k → k ≢ End →
-    next_stage s depth k (annotation_flag token.word.bytes.now) ≡ Some t → F (word_of token.word) →
-    Takes F (s, depth) (t, next_depth k depth) text from to
-token-takes {text = text} {depth = depth} {token = token} F s t k next end kind some stands form =
+pub token-takes : {text : List ℕ} {from depth to : ℕ} {token : Token} (F : Word → Type 0) (s : Stage) (after : Standing)
+    (k : Kind) → IsNext text from depth token → to ≡ end_of token.word → token.kind ≡ k → k ≢ End →
+    next_standing s depth k (annotation_flag token.word.bytes.now) ≡ Some after → F (word_of token.word) →
+    Takes F (s, depth) after text from to
+token-takes {text = text} {depth = depth} {token = token} F s after k next end kind some stands form =
     let w = word_of token.word in
     let rest = words_after text (end_of token.word) in
     let is : IsA k w = next.kind ∙ kind in
     elim next.first [
       | inl (none, over) ↦ absurd (some (sym is ∙ ap (λ v. kind_of v.bytes) over))
-      | inr (shown, after, ahead, inside) ↦ rw end (record {
-        ahead = omega (arith, after, ahead);
+      | inr (shown, behind, ahead, inside) ↦ rw end (record {
+        ahead = omega (arith, behind, ahead);
         inside = inside;
-        reads = rw shown (reads-word F s t depth (length text) w rest k is next.clear stands form);
+        reads = rw shown (reads-word F s after depth (length text) w rest k is next.clear stands form);
       })
     ]
 
-pub token-mark : {text : List ℕ} {from depth to : ℕ} {token : Token} (s t : Stage) (k : Kind) → IsNext text from depth token →
-    to ≡ end_of token.word → token.kind ≡ k → k ≢ End → next_stage s depth k (annotation_flag token.word.bytes.now) ≡ Some t →
-    Takes (IsA k) (s, depth) (t, next_depth k depth) text from to
-token-mark s t k next end kind some stands = token-takes (IsA k) s t k next end kind some stands (next.kind ∙ kind)
+pub token-mark : {text : List ℕ} {from depth to : ℕ} {token : Token} (s : Stage) (after : Standing) (k : Kind) →
+    IsNext text from depth token → to ≡ end_of token.word → token.kind ≡ k → k ≢ End →
+    next_standing s depth k (annotation_flag token.word.bytes.now) ≡ Some after → Takes (IsA k) (s, depth) after text from to
+token-mark s after k next end kind some stands = token-takes (IsA k) s after k next end kind some stands (next.kind ∙ kind)
 
-pub token-number : {text : List ℕ} {from depth to : ℕ} {token : Token} {n : ℕ} (s t : Stage) → IsNext text from depth token →
-    to ≡ end_of token.word → token.value ≡ Some n → next_stage s depth Number (annotation_flag token.word.bytes.now) ≡ Some t →
-    Takes (HasValue n) (s, depth) (t, depth) text from to
-token-number {token = token} {n = n} s t next end number stands =
+pub token-number : {text : List ℕ} {from depth to : ℕ} {token : Token} {n : ℕ} (s : Stage) (after : Standing) →
+    IsNext text from depth token → to ≡ end_of token.word → token.value ≡ Some n →
+    next_standing s depth Number (annotation_flag token.word.bytes.now) ≡ Some after →
+    Takes (HasValue n) (s, depth) after text from to
+token-number {token = token} {n = n} s after next end number stands =
     let value : HasValue n (word_of token.word) = rw number at next.value in
-    token-takes (HasValue n) s t Number next end (sym next.kind ∙ value.0) (λ e. cc) stands value
+    token-takes (HasValue n) s after Number next end (sym next.kind ∙ value.0) (λ e. cc) stands value
 
 -- a token in a wrong place
 pub token-refuses : {text : List ℕ} {from depth : ℕ} {token : Token} (s : Stage) → IsNext text from depth token →
-    next_stage s depth token.kind (annotation_flag token.word.bytes.now) ≡ None →
-    fault_at (s, depth) text from ≡ Some (faults.Expected token.word.place (wanted_at s depth token.kind))
+    next_standing s depth token.kind (annotation_flag token.word.bytes.now) ≡ None →
+    fault_from (s, depth) (length text) (words_after text from) ≡ Some (faults.Expected token.word.place (wanted_at s depth token.kind))
 token-refuses {text = text} {depth = depth} {token = token} s next wrong = elim next.first [
-  | inl (none, over) ↦ ap (fault_from s depth (length text)) none ∙ ap (λ w. fault_after s depth w (λ t. None)) (sym over)
-      ∙ rw (next.kind, wrong) refl
-  | inr (shown, after, ahead, inside) ↦ ap (fault_from s depth (length text)) shown ∙ rw (next.clear, next.kind, wrong) refl
+  | inl (none, over) ↦ ap (fault_from (s, depth) (length text)) none
+      ∙ ap (λ w. fault_after (s, depth) w (λ t. None)) (sym over) ∙ rw (next.clear, next.kind, wrong) refl
+  | inr (shown, after, ahead, inside) ↦ ap (fault_from (s, depth) (length text)) shown
+      ∙ rw (next.clear, next.kind, wrong) refl
 ]
 
 pub token-over : {text : List ℕ} {from depth : ℕ} {token : Token} → IsNext text from depth token → token.kind ≡ End →

@@ -13,7 +13,7 @@ use Rattle.fmd_lang.specs.Faults.{first_fault}
 use Rattle.fmd_lang.specs.LayoutFaults.{layout_fault}
 use Rattle.fmd_lang.specs.Tree.{Tree, section, Forest, none, some, section_count}
 use Rattle.fmd_lang.specs.Grammar.{AreAnnotations, AreSections, IsSection, annotation_flag, flags_with}
-use Rattle.fmd_lang.specs.Layout.{ArePlaced, end_of, sibling, siblings}
+use Rattle.fmd_lang.specs.Layout.{end_of, sibling}
 use Rattle.fmd_lang.specs.Table.{field_of, AreasBelow, AreasOf, IsTable, section_area, table_bytes, table_head}
 use Rattle.fmd_lang.specs.declared.row.Place.{Place}
 use Rattle.fmd_lang.specs.declared.table.Table.{Table}
@@ -62,24 +62,21 @@ mutual
   -- where a section ends below 2^32, each area below it fits into its bytes
   areas_fit : (t : Tree) (ws : List Word) (n at size : ℕ) (areas : List Area) → IsSection t ws → at + size < 2 ^ 32 →
       AreasBelow n at size t areas → All IsAreaInBytes areas
-  areas_fit (section name flags offset given parts) ws n at size areas is small (places, laid, are) =
+  areas_fit (section name flags offset given parts) ws n at size areas is small (clear, are) =
       let (inner, sections) = parts-are name flags offset given parts ws is in
-      parts_fit parts inner (suc n) at size 0 places areas sections small laid.1 are
+      parts_fit parts inner (suc n) at size 0 areas sections small are
 
-  parts_fit : (ts : Forest) (ws : List Word) (n at size from : ℕ) (qs : List Place) (areas : List Area) → AreSections ts ws →
-      at + size < 2 ^ 32 → ArePlaced size from (siblings n ts) qs → AreasOf n at ts qs areas → All IsAreaInBytes areas
-  parts_fit none ws n at size from qs areas sections small placed are =
+  parts_fit : (ts : Forest) (ws : List Word) (n at size from : ℕ) (areas : List Area) → AreSections ts ws →
+      at + size < 2 ^ 32 → AreasOf n at size from ts areas → All IsAreaInBytes areas
+  parts_fit none ws n at size from areas sections small are =
       subst (λ (l : List Area). All IsAreaInBytes l) (sym are) (All-nil IsAreaInBytes)
-  parts_fit (some t ts) ws n at size from [] areas sections small placed are = absurd are
-  parts_fit (some t ts) ws n at size from (q ∷ qs) areas (front, rest, shape, one, others) small placed are =
-      let (here, last, later) = placed in
-      let (below, after, is, inner, outer) = are in
+  parts_fit (some t ts) ws n at size from areas (front, rest, shape, one, others) small (q, below, after, is, here, inner, outer) =
       let inside : end_of q ≤ size = (fits size from (sibling n t) q here.fits).1 in
       subst (λ (l : List Area). All IsAreaInBytes l) (sym is)
       (All-cons IsAreaInBytes (section_area at q t) (below ++ after)
       (area_fits t front at q one (omega (arith, inside, small))) (All-append IsAreaInBytes below after
       (areas_fit t front n (at + q.start) q.size below one (omega (arith, inside, small)) inner)
-      (parts_fit ts rest (n + section_count t) at size (end_of q) qs after others small later outer)))
+      (parts_fit ts rest (n + section_count t) at size (end_of q) after others small outer)))
 
 -- ---- the table
 
@@ -94,7 +91,7 @@ table_read (section name flags offset given parts) text more table fine is laid 
     let (place, last, last_shape, at, (number, body, body_shape, size_is, inside)) = placed in
     let begins : words text ≡ w ∷ rest = split ∙ ap (λ v. v ++ rest) one in
     let good : is_named (field_of name) ≡ true = field_named name short (rw named at (first_name text w rest begins kind)) in
-    let after = fits-behind (words text) first rest split (numbers_fit t text is fine) in
+    let after = fits-behind (words text) first rest split (numbers_fit text fine) in
     let each : All Fits others = fits-behind rest marks others marked after in
     let behind : All Fits (number ++ body) = subst (All Fits) body_shape (fits-behind others place last last_shape each) in
     let base = offset_fits offset place last at (subst (All Fits) last_shape each) in

@@ -1,19 +1,21 @@
 -- The words of a tree: no word is misplaced, and they make no other tree.
-use Rattle.std.proofs.Common.{◌≡◌, ℕ, suc, ◌<◌, Bool, true, false, List, [], ◌∷◌, ◌++◌, length, Option, Some, None, unwrap_or, if◌then◌else◌, refl, sym, subst, ◌∙◌, ap, arith, inl, inr, append_assoc}
-use Rattle.std.proofs.lemmas.Bool.{lt-ltb}
+use Rattle.std.proofs.Common.{◌≡◌, ◌≢◌, ℕ, suc, ◌<◌, ◌^◌, nat_lt, Ok, Err, Bool, true, false, List, [], ◌∷◌, ◌++◌, length, Option, Some, None, unwrap_or, if◌then◌else◌, refl, sym, subst, ◌∙◌, ap, arith, inl, inr, append_assoc}
+use Rattle.std.proofs.lemmas.Bool.{cond_both, lt-ltb}
 use Rattle.std.proofs.lemmas.List.{append-nil}
 use Rattle.std.specs.Int.Bits.{bit_or}
-use Rattle.std.specs.Option.{option_or}
+use Rattle.std.specs.Result.{result_err}
 use Rattle.fmd_lang.specs.Words.{Word, words, kind_of}
-use Rattle.fmd_lang.specs.Numbers.{number_value}
+use Rattle.fmd_lang.specs.Numbers.{number_at, number_value}
 use Rattle.fmd_lang.specs.Tree.{Tree, section, Forest, none, some}
-use Rattle.fmd_lang.specs.Grammar.{Then, IsA, IsSection, AreSections, AreAnnotations, IsOffset, IsSize, annotation_flag, flags_with}
-use Rattle.fmd_lang.specs.Faults.{Stage, start, in_annotations, annotated, at_sign, past, own_fault_of, next_stage, next_depth, fault_from, first_fault, first_own_fault, first_word_fault, unless_long}
 use Rattle.fmd_lang.specs.Parsing.{IsBody}
+use Rattle.fmd_lang.specs.Grammar.{Then, IsA, IsSection, AreSections, AreAnnotations, IsOffset, IsSize, annotation_flag, flags_with}
+use Rattle.fmd_lang.specs.Faults.{Stage, Standing, start, in_annotations, at_sign, past, own_fault, next_standing, depth_limit, text_limit, fault_from, first_fault}
+use Rattle.fmd_lang.specs.declared.fault.FmdFault.TheVariants as faults
+use Rattle.fmd_lang.specs.declared.fault.Expected.{Expected}
 use Rattle.fmd_lang.specs.declared.word.Kind.{Kind}
-use Rattle.fmd_lang.specs.declared.word.Kind.TheVariants.{Name, Number, OpenParen, CloseParen, At, OpenBrace, CloseBrace}
+use Rattle.fmd_lang.specs.declared.word.Kind.TheVariants.{Name, Number, OpenParen, CloseParen, At, OpenBrace, CloseBrace, Bad}
 use Rattle.fmd_lang.proofs.FormLemmas.{annotation-name}
-use Rattle.fmd_lang.proofs.OptionLemmas.{and-then-some}
+use Rattle.fmd_lang.proofs.OptionLemmas.{and-then-some, or-other}
 
 -- What the words of a text make, from the last to the first: what the name before them has, or the annotations of an
 -- open list; and the sections in each list of braces.
@@ -59,13 +61,13 @@ build [] = nothing (none ∷ [])
 build (w ∷ ws) = put_word (kind_of w.bytes) w (build ws)
 
 -- No word of these is misplaced, and this is what they make.
-record Makes (s : Stage) (depth end : ℕ) (ws : List Word) (b : Built) : Type 0 where
-  agrees : fault_from s depth end ws ≡ first_own_fault depth ws
+record Makes (there : Standing) (end : ℕ) (ws : List Word) (b : Built) : Type 0 where
+  placed : (at : ℕ) (what : Expected) → fault_from there end ws ≢ Some (faults.Expected at what)
   made : build ws ≡ b
 
 -- the same, past so few of what may follow a name
 abbrev MakesPast : ℕ → ℕ → ℕ → List Word → Built → Type 0
-MakesPast most depth end ws b = (n : ℕ) → n < most → Makes (past n) depth end ws b
+MakesPast most depth end ws b = (n : ℕ) → n < most → Makes (past n, depth) end ws b
 
 -- Words of this form before others that make the first make the second.
 abbrev Adds : (List Word → Type 0) → ℕ → ℕ → ℕ → ℕ → Built → Built → Type 0
@@ -77,12 +79,19 @@ adds-then : (P Q : List Word → Type 0) (l m n depth end : ℕ) (a b c : Built)
 adds-then P Q l m n depth end a b c p q ws r (front, back, split, first, second) more k few =
     rw (split, append_assoc front back r) (p front (back ++ r) first (q back r second more) k few)
 
+-- The refusal of a word by itself isn't that of a word in a wrong place.
+own-placed : (k : Kind) (depth : ℕ) (w : Word) (at : ℕ) (what : Expected) → own_fault k depth w ≢ Some (faults.Expected at what)
+own-placed Number depth w at what h = grind arith
+own-placed Name depth w at what h = grind arith
+own-placed OpenBrace depth w at what h = grind arith
+own-placed k depth w at what h = cc
+
 -- a word in its place
-makes : {s t : Stage} {depth end : ℕ} {w : Word} {ws : List Word} {b c : Built} (k : Kind) → IsA k w →
-    next_stage s depth k (annotation_flag w.bytes) ≡ Some t → Makes t (next_depth k depth) end ws b →
-    put_word k w b ≡ c → Makes s depth end (w ∷ ws) c
-makes {depth = depth} {w = w} k is stands more same = record {
-  agrees = rw (is, stands) (ap (option_or (own_fault_of k depth w)) more.agrees);
+makes : {s : Stage} {after : Standing} {depth end : ℕ} {w : Word} {ws : List Word} {b c : Built} (k : Kind) → IsA k w →
+    next_standing s depth k (annotation_flag w.bytes) ≡ Some after → Makes after end ws b → put_word k w b ≡ c →
+    Makes (s, depth) end (w ∷ ws) c
+makes {after = after} {depth = depth} {end = end} {w = w} {ws = ws} k is stands more same = record {
+  placed = λ at what. rw (is, stands) (or-other (own_fault k depth w) (fault_from after end ws) (own-placed k depth w at what) (more.placed at what));
   made = rw is (ap (put_word k w) more.made) ∙ same;
 }
 
@@ -96,7 +105,7 @@ offset-adds : (o z : Option ℕ) (parts : Forest) (ls : List Forest) (depth end 
     Adds (IsOffset o) 2 3 depth end (has 0 None z parts ls) (has 0 o z parts ls)
 offset-adds None z parts ls depth end ws r is more n few = rw is (more n (omega arith))
 offset-adds (Some a) z parts ls depth end ws r (front, back, split, (m, first, at), (w, second, (is, value))) more n few =
-    let number : Makes at_sign depth end (w ∷ r) (put_word Number w (has 0 None z parts ls)) =
+    let number : Makes (at_sign, depth) end (w ∷ r) (put_word Number w (has 0 None z parts ls)) =
     makes Number is refl (more 2 (omega arith)) refl in
     rw (split, first, second) (makes At at (rw (lt-ltb n 2 few) refl) number (rw value refl))
 
@@ -106,7 +115,7 @@ listed ws o z parts ls = record (has 0 o z parts ls) { inside = true; marks = ws
 
 more-make : (before flags depth end : ℕ) (ws : List Word) (c : Word) (r : List Word) (o z : Option ℕ) (parts : Forest)
     (ls : List Forest) → flags_with before ws ≡ Some flags → IsA CloseParen c →
-    MakesPast 2 depth end r (has 0 o z parts ls) → Makes annotated depth end (ws ++ c ∷ r) (listed ws o z parts ls)
+    MakesPast 2 depth end r (has 0 o z parts ls) → Makes (in_annotations true, depth) end (ws ++ c ∷ r) (listed ws o z parts ls)
 more-make before flags depth end [] c r o z parts ls h close more = makes CloseParen close refl (more 1 (omega arith)) refl
 more-make before flags depth end (w ∷ ws) c r o z parts ls h close more =
     let (flag, known, rest) = and-then-some (annotation_flag w.bytes) (λ f. flags_with (bit_or before f) ws) flags h in
@@ -122,7 +131,7 @@ annotations-add flags o z parts ls depth end ws r (inr (a, b, split, marked, (w 
     let (m, first, opens) = marked in
     let (c, second, close) = closes in
     let (flag, known, rest) = and-then-some (annotation_flag w.bytes) (λ f. flags_with (bit_or 0 f) v) flags flagged.1 in
-    let all : Makes in_annotations depth end (w ∷ (v ++ c ∷ r)) (listed (w ∷ v) o z parts ls) =
+    let all : Makes (in_annotations false, depth) end (w ∷ (v ++ c ∷ r)) (listed (w ∷ v) o z parts ls) =
     makes Name (annotation-name w.bytes flag known) (rw known refl)
     (more-make (bit_or 0 flag) flags depth end v c r o z parts ls rest close more) refl in
     rw (split, first, inner, second, append_assoc v (c ∷ []) r)
@@ -152,8 +161,8 @@ body-adds parts ls depth end sections ws r (inr (a, b, split, (m, first, opens),
 mutual
   -- a section, where a name may stand
   section-makes : (t : Tree) (s : Stage) (depth end : ℕ) (ws r : List Word) (l : Forest) (ls : List Forest) →
-      IsSection t ws → ((flag : Option ℕ) → next_stage s depth Name flag ≡ Some (past 0)) →
-      MakesPast 5 depth end r (nothing (l ∷ ls)) → Makes s depth end (ws ++ r) (nothing (some t l ∷ ls))
+      IsSection t ws → ((flag : Option ℕ) → next_standing s depth Name flag ≡ Some (past 0, depth)) →
+      MakesPast 5 depth end r (nothing (l ∷ ls)) → Makes (s, depth) end (ws ++ r) (nothing (some t l ∷ ls))
   section-makes (section name flags offset size parts) s depth end ws r l ls (a, rest, split, named, others) stands more =
       let (w, one, (is, called, short)) = named in
       let levels : List Forest = l ∷ ls in
@@ -178,15 +187,17 @@ mutual
       (section-makes t (past n) (suc depth) end front (back ++ r) (join ts l) ls one (λ flag. refl)
       (sections-make ts depth end back r l ls others more))
 
-root-makes : (t : Tree) (end : ℕ) (ws : List Word) → IsSection t ws → Makes start 0 end ws (nothing (some t none ∷ []))
+root-makes : (t : Tree) (end : ℕ) (ws : List Word) → IsSection t ws → Makes (start, 0) end ws (nothing (some t none ∷ []))
 root-makes t end ws is =
-    subst (λ v. Makes start 0 end v (nothing (some t none ∷ []))) (append-nil ws)
-    (section-makes t start 0 end ws [] none [] is (λ flag. refl) (λ n few. record { agrees = refl; made = refl }))
+    subst (λ v. Makes (start, 0) end v (nothing (some t none ∷ []))) (append-nil ws)
+    (section-makes t start 0 end ws [] none [] is (λ flag. refl) (λ n few. record { placed = λ at what h. cc; made = refl }))
 
-pub text-agrees : (t : Tree) (text : List ℕ) → IsSection t (words text) → first_fault text ≡ first_word_fault text
+pub text-placed : (t : Tree) (text : List ℕ) → IsSection t (words text) → (at : ℕ) (what : Expected) →
+    first_fault text ≢ Some (faults.Expected at what)
 unfolding first_fault
-text-agrees t text is =
-    ap (unless_long text) (root-makes t (length text) (words text) is).agrees
+text-placed t text is at what =
+    cond_both (nat_lt text_limit (length text)) (Some faults.TextTooLong) (fault_from (start, 0) (length text) (words text))
+    (λ o. o ≢ Some (faults.Expected at what)) (λ long h. cc) (λ short. (root-makes t (length text) (words text) is).placed at what)
 
 -- two trees of the same words
 pub one-tree : (t u : Tree) (ws : List Word) → IsSection t ws → IsSection u ws → t ≡ u

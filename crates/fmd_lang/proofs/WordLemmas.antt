@@ -1,15 +1,19 @@
 -- The words of a text, one byte at a time.
-use Rattle.std.proofs.Common.{◌≡◌, ℕ, suc, ◌+◌, ◌-◌, ◌<◌, ◌≤◌, nat_eq, true, false, cond, List, [], ◌∷◌, ◌++◌, length, get_or, drop, take, refl, sym, ◌∙◌, arith, slice_index, slice_range, add-one, append_assoc}
+use Rattle.std.proofs.Common.{◌≡◌, ℕ, suc, ◌+◌, ◌-◌, ◌<◌, ◌≤◌, nat_eq, Bool, true, false, cond, List, [], ◌∷◌, length, drop, refl, sym, ◌∙◌, ap, arith, slice_index, slice_range, add-one}
 use Rattle.std.proofs.Math.Seq.{drop-cons}
-use Rattle.std.proofs.lemmas.List.{append-nil, drop_all, take_more}
+use Rattle.std.proofs.lemmas.List.{drop_all, drop-drop, length-drop, take_all}
 use Rattle.std.proofs.lemmas.Grind.{common_steps}
 use Rattle.std.proofs.lemmas.List.Sums.{take_while-cons}
-use Rattle.std.specs.List.{take_while}
-use Rattle.fmd_lang.specs.Words.{words_from, without_comments, words_after, word, word_rest, is_blank, is_plain}
+use Rattle.std.specs.List.{position_or_len, prefix_len, take_while}
+use Rattle.fmd_lang.specs.Lexing.{begins_word}
+use Rattle.fmd_lang.specs.Words.{words_from, without_comments, words_after, word, is_blank, is_plain}
 
 -- the text at a place: its byte, and the rest
 pub here : (text : List ℕ) (at : ℕ) → at < length text → drop at text ≡ slice_index text at ∷ drop (at + 1) text
 here text at h = rw add-one (drop-cons text at 0 h)
+
+pub tail : (text : List ℕ) (at : ℕ) → slice_range text at (length text) ≡ drop at text
+tail text at = take_all (length text - at) (drop at text) (omega (arith, length-drop at text))
 
 -- A blank, a plain byte and a `#` are three.
 blank-alone : (b : ℕ) → is_blank b ≡ true → (nat_eq b 35 ≡ false) × (is_plain b ≡ false)
@@ -25,94 +29,107 @@ words_after-blank text at h blank =
     let (no_comment, no_plain) = blank-alone (slice_index text at) blank in
     rw (here text at h, no_comment, blank, no_plain, add-one) refl
 
+-- A comment goes on up to its line feed.
+comment-rest : (s : List ℕ) (at : ℕ) →
+    let n = position_or_len (λ b. nat_eq b 10) s in
+    words_from at false (without_comments true s) ≡ words_from (n + at) false (without_comments false (drop n s))
+comment-rest [] at = refl
+comment-rest (b ∷ s) at = go (nat_eq b 10) refl (comment-rest s (suc at))
+  where
+    k : ℕ
+    k = position_or_len (λ b. nat_eq b 10) s
+
+    n : ℕ
+    n = position_or_len (λ b. nat_eq b 10) (b ∷ s)
+
+    go : (feed : Bool) → nat_eq b 10 ≡ feed →
+        words_from (suc at) false (without_comments true s) ≡ words_from (k + suc at) false (without_comments false (drop k s)) →
+        words_from at false (without_comments true (b ∷ s)) ≡ words_from (n + at) false (without_comments false (drop n (b ∷ s)))
+    go true e rest = let same : b ≡ 10 = grind arith in let none : 0 + at ≡ at = omega arith in rw (same, none) refl
+    go false e rest =
+        let more : 1 + k ≡ suc k = omega arith in
+        let shift : k + suc at ≡ suc k + at = omega arith in
+        rw (e, more) (rw shift at rest)
+
 pub words_after-comment : (text : List ℕ) (at : ℕ) → at < length text → nat_eq (slice_index text at) 35 ≡ true →
-    words_after text at ≡ words_from (at + 1) false (without_comments true (drop (at + 1) text))
+    words_after text at ≡ words_after text (at + (1 + position_or_len (λ b. nat_eq b 10) (drop (at + 1) text)))
 unfolding words_after
-words_after-comment text at h comment = rw (here text at h, comment, add-one) refl
-
-pub comment-feed : (text : List ℕ) (at : ℕ) → at < length text → slice_index text at ≡ 10 →
-    words_from at false (without_comments true (drop at text)) ≡ words_after text at
-unfolding words_after
-comment-feed text at h feed = rw (here text at h, feed) refl
-
-pub comment-over : (text : List ℕ) (at : ℕ) → length text ≤ at →
-    words_from at false (without_comments true (drop at text)) ≡ words_after text at
-unfolding words_after
-comment-over text at h = rw (drop_all at text h) refl
+words_after-comment text at h comment =
+    let n = position_or_len (λ b. nat_eq b 10) (drop (at + 1) text) in
+    let place : n + (at + 1) ≡ at + (1 + n) = omega arith in
+    let behind : at + 1 + n ≡ at + (1 + n) = omega arith in
+    let before : words_from at false (without_comments false (drop at text))
+    ≡ words_from (at + 1) false (without_comments true (drop (at + 1) text)) = rw (here text at h, comment, add-one) refl in
+    before ∙ comment-rest (drop (at + 1) text) (at + 1) ∙ rw (drop-drop n (at + 1) text, place, behind) refl
 
 pub words_after-over : (text : List ℕ) (at : ℕ) → length text ≤ at → words_after text at ≡ []
 unfolding words_after
 words_after-over text at h = rw (drop_all at text h) refl
 
--- A plain byte begins a word, and goes on with one.
-pub plain-at : (text : List ℕ) (at : ℕ) → at < length text → is_plain (slice_index text at) ≡ true →
-    (words_after text at ≡ word at (slice_index text at ∷ (word_rest text (at + 1)).0) ∷ (word_rest text (at + 1)).1)
-    × (word_rest text at ≡ (slice_index text at ∷ (word_rest text (at + 1)).0, (word_rest text (at + 1)).1))
-unfolding words_after word_rest
-plain-at text at h plain =
-    let b = slice_index text at in
+-- A row of plain bytes has no comment, and ends before the first byte that isn't one.
+abbrev Row : List ℕ → ℕ → Type 0
+Row s at = (take_while is_plain (without_comments false s) ≡ take_while is_plain s)
+    × (words_from at true (without_comments false s)
+    ≡ words_from (prefix_len is_plain s + at) false (without_comments false (drop (prefix_len is_plain s) s)))
+
+row : (s : List ℕ) (at : ℕ) → Row s at
+row [] at = (refl, refl)
+row (b ∷ s) at = go (is_plain b) refl (row s (suc at))
+  where
+    go : (plain : Bool) → is_plain b ≡ plain → Row s (suc at) → Row (b ∷ s) at
+    go true e (same, behind) =
+        let (no_comment, no_blank) = plain-alone b e in
+        let k = prefix_len is_plain s in
+        let more : prefix_len is_plain (b ∷ s) ≡ suc k = rw e (omega arith) in
+        let shift : k + suc at ≡ suc k + at = omega arith in
+        let goes_on : words_from at true (without_comments false (b ∷ s)) ≡ words_from (suc at) true (without_comments false s) =
+        rw (no_comment, no_blank, e) refl in
+        let first : (l : List ℕ) → take_while is_plain (b ∷ l) ≡ b ∷ take_while is_plain l =
+        λ l. take_while-cons is_plain b l ∙ rw e refl in (
+          ap (λ c. take_while is_plain (cond c (32 ∷ without_comments true s) (b ∷ without_comments false s))) no_comment
+              ∙ first (without_comments false s) ∙ ap (λ l. b ∷ l) same ∙ sym (first s),
+          goes_on ∙ behind ∙ ap (λ p. words_from p false (without_comments false (drop k s))) shift
+              ∙ ap (λ n. words_from (n + at) false (without_comments false (drop n (b ∷ s)))) (sym more),
+        )
+    go false e rest =
+        let Ends : List ℕ → Type 0 = λ l. (take_while is_plain l ≡ []) × (words_from at true l ≡ words_from at false l) in
+        let ends : Ends (without_comments false (b ∷ s)) = elim (nat_eq b 35)
+        as (λ v. Ends (cond v (32 ∷ without_comments true s) (b ∷ without_comments false s)))
+        [ true ↦ (refl, refl) | false ↦ (rw e refl, rw e refl) ] in
+        let none : 0 + at ≡ at = omega arith in
+        rw (e, none) ends
+
+-- a word of plain bytes
+begins : (b : ℕ) (s : List ℕ) (at : ℕ) → is_plain b ≡ true → words_from at false (without_comments false (b ∷ s))
+    ≡ word at (b ∷ take_while is_plain s) ∷ words_from (at + 1) true (without_comments false s)
+begins b s at plain =
     let (no_comment, no_blank) = plain-alone b plain in
-    let row = take_while-cons is_plain b (without_comments false (drop (suc at) text)) in
-    rw (here text at h, no_comment, add-one, no_blank, row, plain) (refl, refl)
+    let longer = take_while-cons is_plain b (without_comments false s) in
+    rw (no_comment, no_blank, longer, plain, add-one)
+    (ap (λ l. word at (b ∷ l) ∷ words_from (suc at) true (without_comments false s)) (row s (suc at)).0)
+
+pub words_after-plain : (text : List ℕ) (at : ℕ) → at < length text → is_plain (slice_index text at) ≡ true →
+    let end = at + 1 + prefix_len is_plain (drop (at + 1) text) in
+    words_after text at ≡ word at (slice_range text at end) ∷ words_after text end
+unfolding words_after
+words_after-plain text at h plain =
+    let rest = drop (at + 1) text in
+    let n = prefix_len is_plain rest in
+    let len : at + 1 + n - at ≡ suc n = omega arith in
+    let place : n + (at + 1) ≡ at + 1 + n = omega arith in
+    ap (λ l. words_from at false (without_comments false l)) (here text at h) ∙ begins (slice_index text at) rest at plain
+    ∙ rw (len, here text at h, (row rest (at + 1)).1, place, drop-drop n (at + 1) text) refl
 
 -- a word of a single byte
 pub words_after-single : (text : List ℕ) (at : ℕ) → at < length text → is_plain (slice_index text at) ≡ false →
-    is_blank (slice_index text at) ≡ false → nat_eq (slice_index text at) 35 ≡ false →
-    words_after text at ≡ word at (slice_index text at ∷ []) ∷ words_after text (at + 1)
+    begins_word (slice_index text at) ≡ true →
+    words_after text at ≡ word at (slice_range text at (at + 1)) ∷ words_after text (at + 1)
 unfolding words_after
-words_after-single text at h plain blank comment = rw (here text at h, comment, add-one, blank, plain) refl
-
--- a range and the element after it, or before it
-range-more : (text : List ℕ) (from at : ℕ) (rest : List ℕ) → from ≤ at → at < length text →
-    slice_range text from at ++ slice_index text at ∷ rest ≡ slice_range text from (at + 1) ++ rest
-range-more text from at rest low high =
-    let k = at - from in
-    let there : get_or (drop from text) k 0 ≡ get_or text at 0 = grind (arith, common_steps) in
-    let more : take (at + 1 - from) (drop from text) ≡ take k (drop from text) ++ get_or text at 0 ∷ [] =
-    grind (arith, common_steps, take_more (drop from text) k 0, there) in
-    rw more (sym (append_assoc (take k (drop from text)) (get_or text at 0 ∷ []) rest))
-
-pub range-first : (text : List ℕ) (from to : ℕ) → from < to → to ≤ length text →
-    slice_range text from to ≡ slice_index text from ∷ slice_range text (from + 1) to
-range-first text from to low high =
-    let here_first = here text from (omega arith) in
-    let more : to - from ≡ suc (to - (from + 1)) = omega arith in
-    rw (here_first, more) refl
-
-pub range-one : (text : List ℕ) (at : ℕ) → at < length text → slice_range text at (at + 1) ≡ slice_index text at ∷ []
-range-one text at h =
-    let none : slice_range text (at + 1) (at + 1) ≡ [] = grind (arith, common_steps) in
-    rw (range-first text at (at + 1) (omega arith) (omega arith), none) refl
-
--- the row that goes on at a place, of which the bytes up to another place are taken
-abbrev pub IsRowTo : List ℕ → ℕ → ℕ → Type 0
-IsRowTo text from at = word_rest text from ≡ (slice_range text from at ++ (word_rest text at).0, (word_rest text at).1)
-
-pub row-more : (text : List ℕ) (from at : ℕ) → IsRowTo text from at → from ≤ at → at < length text →
-    is_plain (slice_index text at) ≡ true → IsRowTo text from (at + 1)
-row-more text from at row low high plain =
-    row ∙ rw ((plain-at text at high plain).1, range-more text from at (word_rest text (at + 1)).0 low high) refl
-
--- A row ends at a byte that isn't plain, and with the text.
-pub rest-other : (text : List ℕ) (at : ℕ) → at < length text → is_plain (slice_index text at) ≡ false →
-    word_rest text at ≡ ([], words_after text at)
-unfolding word_rest words_after
-rest-other text at h plain =
-    let b = slice_index text at in
-    let rest = drop (at + 1) text in
-    let Ends : List ℕ → Type 0 = λ s. (take_while is_plain s ≡ []) × (words_from at true s ≡ words_from at false s) in
-    let ends : Ends (without_comments false (b ∷ rest)) = elim (nat_eq b 35)
-    as (λ v. Ends (cond v (32 ∷ without_comments true rest) (b ∷ without_comments false rest)))
-    [ true ↦ (refl, refl) | false ↦ (rw plain refl, rw plain refl) ] in
-    rw (here text at h, ends.0, ends.1) refl
-
-pub rest-over : (text : List ℕ) (at : ℕ) → length text ≤ at → word_rest text at ≡ ([], words_after text at)
-unfolding word_rest words_after
-rest-over text at h = rw (drop_all at text h) refl
-
-pub row-ends : (text : List ℕ) (from at : ℕ) → IsRowTo text from at → word_rest text at ≡ ([], words_after text at) →
-    word_rest text from ≡ (slice_range text from at, words_after text at)
-row-ends text from at row ends = row ∙ rw (ends, append-nil (slice_range text from at)) refl
+words_after-single text at h plain begins =
+    let blank : is_blank (slice_index text at) ≡ false = grind arith in
+    let comment : nat_eq (slice_index text at) 35 ≡ false = grind arith in
+    let one : at + 1 - at ≡ 1 = omega arith in
+    rw (one, here text at h, comment, add-one, blank, plain) refl
 
 -- the end of a text, as a word
 pub over-word : (text : List ℕ) (at : ℕ) → at ≡ length text → word at (slice_range text at (length text)) ≡ word (length text) []

@@ -20,10 +20,6 @@ One P ws = (w : Word) × (ws ≡ w ∷ []) × P w
 abbrev pub Then : (List Word → Type 0) → (List Word → Type 0) → List Word → Type 0
 Then P Q ws = (front back : List Word) × (ws ≡ front ++ back) × P front × Q back
 
--- these words, or none where the fact holds
-abbrev pub Else : Type 0 → (List Word → Type 0) → List Word → Type 0
-Else Q P ws = ((ws ≡ []) × Q) ⊎ P ws
-
 -- a word of this kind
 abbrev pub IsA : Kind → Word → Type 0
 IsA k w = kind_of w.bytes ≡ k
@@ -32,9 +28,9 @@ IsA k w = kind_of w.bytes ≡ k
 abbrev pub Until : Kind → (List Word → Type 0) → List Word → Type 0
 Until last P = Then P (One (IsA last))
 
--- words of one form between words of two kinds
-abbrev pub Between : Kind → Kind → (List Word → Type 0) → List Word → Type 0
-Between first last P = Then (One (IsA first)) (Until last P)
+-- words of one form between words of two kinds; or none, where the fact holds
+abbrev pub Enclosed : Kind → Kind → (List Word → Type 0) → Type 0 → List Word → Type 0
+Enclosed first last P Q ws = ((ws ≡ []) × Q) ⊎ Then (One (IsA first)) (Until last P) ws
 
 -- what an annotation adds to the flags of an area: the bit 8 is PRESERVE
 abbrev pub annotation_flag : List ℕ → Option ℕ
@@ -52,7 +48,7 @@ HaveFlags flags ws = (0 < length ws) × (flags_with 0 ws ≡ Some flags)
 
 -- annotations in parentheses, or none
 abbrev pub AreAnnotations : ℕ → List Word → Type 0
-AreAnnotations flags = Else (flags ≡ 0) (Between OpenParen CloseParen (HaveFlags flags))
+AreAnnotations flags = Enclosed OpenParen CloseParen (HaveFlags flags) (flags ≡ 0)
 
 -- a number of this value
 abbrev pub HasValue : ℕ → Word → Type 0
@@ -75,7 +71,7 @@ abbrev mutual
   pub IsSection : Tree → List Word → Type 0
   IsSection (section name flags offset size parts) ws =
       Then (One (IsName name)) (Then (AreAnnotations flags) (Then (IsOffset offset) (Then (IsSize size)
-      (Else (parts ≡ none) (Between OpenBrace CloseBrace (AreSections parts)))))) ws
+      (Enclosed OpenBrace CloseBrace (AreSections parts) (parts ≡ none))))) ws
 
   -- these words are the sections, one after another
   pub AreSections : Forest → List Word → Type 0

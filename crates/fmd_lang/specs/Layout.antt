@@ -1,7 +1,7 @@
--- Where the sections of a descriptor lie: each row of siblings as equations over their places. That an offset counts
+-- Where the sections of a descriptor lie: each sibling by equations over its place. That an offset counts
 -- from the parent's start, and that a size may be omitted, is coreboot's (Documentation/lib/flashmap.md); which
 -- sizes may be, and what they then are, is this project's own.
-use Rattle.std.specs.Prelude.{◌≡◌, ℕ, ◌+◌, ◌-◌, nat_eq, nat_lt, Bool, true, false, ◌&&◌, not, if◌then◌else◌, List, [], ◌∷◌, Option, Some, None, option_map, unwrap_or, is_some, IfSome, IfNone}
+use Rattle.std.specs.Prelude.{◌≡◌, ℕ, ◌+◌, ◌-◌, nat_eq, nat_lt, Bool, true, false, ◌&&◌, ◌||◌, not, if◌then◌else◌, List, [], ◌∷◌, Option, Some, None, option_map, unwrap_or, is_some, MatchOption}
 use Rattle.std.specs.Option.{option_or}
 use Rattle.fmd_lang.specs.Tree.{Tree, section, Forest, none, some, section_count}
 use Rattle.fmd_lang.specs.declared.row.Sibling.{Sibling}
@@ -12,16 +12,16 @@ use Rattle.fmd_lang.specs.declared.fault.FmdFault.TheVariants as faults
 abbrev pub end_of : Place → ℕ
 end_of q = q.start + q.size
 
--- A run is the first sibling, or one with an offset, and the siblings after it without one. This is
--- where the run goes on to, whose places before these end at `at`.
-abbrev pub run_end : ℕ → List Sibling → List Place → ℕ
-run_end at (p ∷ ps) (q ∷ qs) = if is_some p.offset then at else run_end (end_of q) ps qs
-run_end at ps qs = at
-
--- the bound of the run that goes on with these: the start of the next run, or the parent's size
+-- A run is the first sibling, or one with an offset, and the siblings after it without one. This is the bound of
+-- the run that goes on with these: the start of the next run, or the parent's size.
 abbrev pub bound : ℕ → List Sibling → ℕ
 bound parent [] = parent
 bound parent (p ∷ ps) = unwrap_or p.offset (bound parent ps)
+
+-- the sizes that those give with which a run goes on
+abbrev pub sizes_ahead : List Sibling → ℕ
+sizes_ahead [] = 0
+sizes_ahead (p ∷ ps) = if is_some p.offset then 0 else unwrap_or p.size 0 + sizes_ahead ps
 
 -- the refusal of a place, where the sibling before ends at `from`
 abbrev pub misfit_of : ℕ → ℕ → Sibling → Place → Option FmdFault
@@ -30,19 +30,12 @@ misfit_of parent from p q =
     else (if nat_lt q.start from then Some (faults.Overlap p.number)
     else (if nat_lt parent (end_of q) then Some (faults.Outside p.number) else None))
 
--- What holds of one place, where the sibling before it ends at `from`.
-pub record IsPlaced (parent from : ℕ) (p : Sibling) (q : Place) : Type 0 where
+-- What holds of one place, where the sibling before it ends at `from`, and these come after it. One that omits its
+-- size makes its run end at the bound.
+pub record IsPlaced (parent from : ℕ) (p : Sibling) (ps : List Sibling) (q : Place) : Type 0 where
   pub offset : q.start ≡ unwrap_or p.offset from
-  pub size : IfSome p.size (λ n. q.size ≡ n)
+  pub size : MatchOption p.size (end_of q + sizes_ahead ps ≡ bound parent ps) (λ n. q.size ≡ n)
   pub fits : misfit_of parent from p q ≡ None
-
--- The places of siblings. One that omits its size makes its run end at the bound.
-abbrev pub ArePlaced : ℕ → ℕ → List Sibling → List Place → Type 0
-ArePlaced parent from [] qs = qs ≡ []
-ArePlaced parent from (p ∷ ps) [] = ⊥
-ArePlaced parent from (p ∷ ps) (q ∷ qs) = IsPlaced parent from p q
-    × IfNone p.size (run_end (end_of q) ps qs ≡ bound parent ps)
-    × ArePlaced parent (end_of q) ps qs
 
 -- the number of the first sibling that is the second in its run to omit its size; the flag says that its run has
 -- omitted one before
@@ -50,20 +43,10 @@ abbrev pub ambiguous_sibling : Bool → List Sibling → Option ℕ
 ambiguous_sibling omitted [] = None
 ambiguous_sibling omitted (p ∷ ps) =
     let before = omitted && not (is_some p.offset) in
-    if is_some p.size then ambiguous_sibling before ps
-    else (if before then Some p.number else ambiguous_sibling true ps)
+    if before && not (is_some p.size) then Some p.number else ambiguous_sibling (before || not (is_some p.size)) ps
 
--- the places of all siblings of a parent of this size
-abbrev pub Laid : ℕ → List Sibling → List Place → Type 0
-Laid parent ps qs = (ambiguous_sibling false ps ≡ None) × ArePlaced parent 0 ps qs
-
--- The refusals also speak of rows that can't be laid. An omitted size is what the bound leaves, and 0
--- where that is negative.
-abbrev pub sizes_ahead : List Sibling → ℕ
-sizes_ahead [] = 0
-sizes_ahead (p ∷ ps) = if is_some p.offset then 0 else unwrap_or p.size 0 + sizes_ahead ps
-
--- the place of a sibling, where the one before it ends at `from`
+-- The refusals also speak of rows that can't be laid: the place of a sibling, where the one before it ends at `from`.
+-- An omitted size is what the bound leaves, and 0 where that is negative.
 abbrev pub place_of : ℕ → ℕ → Sibling → List Sibling → Place
 place_of parent from p ps =
     let start = unwrap_or p.offset from in

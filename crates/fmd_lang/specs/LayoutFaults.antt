@@ -7,7 +7,7 @@ use Rattle.std.specs.Str.{bytes_eq}
 use Rattle.flash_format.specs.Flashmap.{area_len, fmap_head_len}
 use Rattle.fmd_lang.specs.Tree.{Tree, section, Forest, some, section_count, names, size_of}
 use Rattle.fmd_lang.specs.Layout.{filled, row_fault, siblings}
-use Rattle.fmd_lang.specs.Table.{area_limit, areas_below, size_named}
+use Rattle.fmd_lang.specs.Table.{area_limit, areas_below, fmap_size}
 use Rattle.fmd_lang.specs.declared.row.Place.{Place}
 use Rattle.flash_format.specs.declared.flashmap.Area.{Area}
 use Rattle.fmd_lang.specs.declared.fault.FmdFault.{FmdFault}
@@ -24,16 +24,13 @@ abbrev mutual
   parts_fault n (some t ts) (q ∷ qs) = option_or (parent_fault n q.size t) (parts_fault (n + section_count t) ts qs)
   parts_fault n ts qs = None
 
-abbrev pub is_fmap : List ℕ → Bool
-is_fmap name = bytes_eq name (codes "FMAP")
-
 -- so many areas are too many
 abbrev pub count_fault : ℕ → Option FmdFault
 count_fault areas = then_some (nat_lt area_limit areas) faults.TooManyAreas
 
 -- of the names of the sections but the root: none is FMAP; they are too many
 abbrev pub areas_fault : List (List ℕ) → Option FmdFault
-areas_fault ns = option_or (then_some (not (list_any is_fmap ns)) faults.NoFmap) (count_fault (length ns))
+areas_fault ns = option_or (then_some (not (list_any (bytes_eq (codes "FMAP")) ns)) faults.NoFmap) (count_fault (length ns))
 
 -- the first of these names, numbered from `n`, that an earlier one equals
 abbrev pub duplicate : ℕ → List (List ℕ) → List (List ℕ) → Option ℕ
@@ -51,13 +48,11 @@ size_fault (Some n) = then_some (nat_eq n 0) (faults.EmptySection 0)
 
 -- the area FMAP holds fewer bytes than the table of these areas
 abbrev pub table_fault : List Area → Option FmdFault
-table_fault areas =
-    then_some (nat_lt (size_named (codes "FMAP") areas) (fmap_head_len + area_len * length areas)) faults.FmapTooSmall
+table_fault areas = then_some (nat_lt (fmap_size areas) (fmap_head_len + area_len * length areas)) faults.FmapTooSmall
 
 -- the refusal of a layout: by the names, then by the root's size, the parents and the table
 unfoldable pub layout_fault : Tree → Option FmdFault
 layout_fault t =
-    option_or (names_fault (names t))
-    (option_or (size_fault (size_of t))
-    (option_or (parent_fault 0 (unwrap_or (size_of t) 0) t)
-    (table_fault (areas_below 0 0 (unwrap_or (size_of t) 0) t))))
+    let size = unwrap_or (size_of t) 0 in
+    option_or (names_fault (names t)) (option_or (size_fault (size_of t))
+    (option_or (parent_fault 0 size t) (table_fault (areas_below 0 0 size t))))

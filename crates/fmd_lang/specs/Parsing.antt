@@ -1,22 +1,14 @@
 -- What a part of the parser answers.
 use Rattle.std.specs.Prelude.{◌≡◌, ◌≢◌, ℕ, ◌≤◌, ◌⊎◌, List, ◌++◌, Option, Some, None, Result, Ok, Err, MatchOption, length}
 use Rattle.fmd_lang.specs.Words.{Word, words_after, kind_of}
-use Rattle.fmd_lang.specs.Faults.{Stage, fault_from, own_fault}
-use Rattle.fmd_lang.specs.Grammar.{Between, Else, AreSections, HasValue}
-use Rattle.fmd_lang.specs.Lexing.{word_of, IsFirst}
+use Rattle.fmd_lang.specs.Faults.{Standing, fault_from, own_fault}
+use Rattle.fmd_lang.specs.Grammar.{Enclosed, AreSections, HasValue}
 use Rattle.fmd_lang.specs.Tree.{Forest, none}
+use Rattle.fmd_lang.specs.Lexing.{word_of, IsFirst}
 use Rattle.fmd_lang.specs.declared.parser.Token.{Token}
 use Rattle.fmd_lang.specs.declared.word.Kind.TheVariants.{Number, OpenBrace, CloseBrace}
 use Rattle.fmd_lang.specs.declared.fault.FmdFault.{FmdFault}
 use Rattle.fmd_lang.specs.declared.fault.FmdFault.TheVariants as faults
-
--- where a text stands: the stage by the words before, and how many `{` are open
-abbrev pub Standing : Type 0
-Standing = Stage × ℕ
-
--- the first refusal of a text from a place on, where it stands there so
-abbrev pub fault_at : Standing → List ℕ → ℕ → Option FmdFault
-fault_at there text at = fault_from there.0 there.1 (length text) (words_after text at)
 
 -- The words in front are of this form, and those behind them have the first refusal of all. The text stands so before
 -- the words in front, and so after them.
@@ -24,7 +16,7 @@ pub record Reads (P : List Word → Type 0) (before after : Standing) (end : ℕ
   pub front : List Word
   pub split : ws ≡ front ++ behind
   pub form : P front
-  pub same : fault_from before.0 before.1 end ws ≡ fault_from after.0 after.1 end behind
+  pub same : fault_from before end ws ≡ fault_from after end behind
 
 -- It took the words up to a place, which are of the form P of its value, and left the text's first refusal as it was;
 -- or it met that refusal, or memory ran out.
@@ -32,15 +24,15 @@ abbrev pub Parses : {X : Type 0} → (X → List Word → Type 0) → Standing �
     → Type 0
 Parses P before after text from (Ok (x, to)) =
     (from ≤ to) × Reads (P x) before after (length text) (words_after text from) (words_after text to)
-Parses P before after text from (Err fault) = (fault ≡ faults.Memory) ⊎ (fault_at before text from ≡ Some fault)
+Parses P before after text from (Err fault) = (fault ≡ faults.Memory) ⊎ (fault_from before (length text) (words_after text from) ≡ Some fault)
 
 -- what is known of the token at a place, while so many `{` are open
 pub record IsNext (text : List ℕ) (from depth : ℕ) (token : Token) : Type 0 where
   pub first : IsFirst text from token.word
   pub kind : kind_of token.word.bytes.now ≡ token.kind
-  pub clear : own_fault depth (word_of token.word) ≡ None
+  pub clear : own_fault (kind_of token.word.bytes.now) depth (word_of token.word) ≡ None
   pub value : MatchOption token.value (token.kind ≢ Number) (λ n. HasValue n (word_of token.word))
 
 -- sections in braces, or none
 abbrev pub IsBody : Forest → List Word → Type 0
-IsBody parts = Else (parts ≡ none) (Between OpenBrace CloseBrace (AreSections parts))
+IsBody parts = Enclosed OpenBrace CloseBrace (AreSections parts) (parts ≡ none)

@@ -1,10 +1,10 @@
 -- The table of a descriptor: all sections but the root in preorder, with offsets from the root's start.
-use Rattle.std.specs.Prelude.{◌≡◌, ℕ, suc, ◌+◌, ◌-◌, List, [], ◌∷◌, ◌++◌, length, take, replicate, Some, unwrap_or}
+use Rattle.std.specs.Prelude.{◌≡◌, ℕ, suc, ◌+◌, ◌-◌, List, [], ◌∷◌, ◌++◌, codes, length, take, replicate, Some, None, false, unwrap_or}
 use Rattle.std.specs.List.{find, flat_map}
 use Rattle.std.specs.Option.{option_map_or}
 use Rattle.flash_format.specs.Flashmap.{fmap_head_bytes, area_bytes, is_area}
 use Rattle.fmd_lang.specs.Tree.{Tree, section, Forest, none, some, section_count}
-use Rattle.fmd_lang.specs.Layout.{Laid, siblings, filled}
+use Rattle.fmd_lang.specs.Layout.{IsPlaced, ambiguous_sibling, end_of, sibling, siblings, filled}
 use Rattle.fmd_lang.specs.declared.row.Place.{Place}
 use Rattle.flash_format.specs.declared.flashmap.Area.{Area}
 use Rattle.flash_format.specs.declared.flashmap.FmapHead.{FmapHead}
@@ -27,15 +27,15 @@ abbrev mutual
   -- these are the areas below the section with this number, of this size, which begins at `at`: in preorder
   pub AreasBelow : ℕ → ℕ → ℕ → Tree → List Area → Type 0
   AreasBelow n at size (section name flags offset given parts) areas =
-      (places : List Place) × Laid size (siblings (suc n) parts) places × AreasOf (suc n) at parts places areas
+      (ambiguous_sibling false (siblings (suc n) parts) ≡ None) × AreasOf (suc n) at size 0 parts areas
 
-  -- these are the areas of sections at these places, and below them
-  pub AreasOf : ℕ → ℕ → Forest → List Place → List Area → Type 0
-  AreasOf n at none qs areas = areas ≡ []
-  AreasOf n at (some t ts) [] areas = ⊥
-  AreasOf n at (some t ts) (q ∷ qs) areas =
-      (below after : List Area) × (areas ≡ section_area at q t ∷ below ++ after)
-      × AreasBelow n (at + q.start) q.size t below × AreasOf (n + section_count t) at ts qs after
+  -- these are the areas of its parts from one on, and below them, where the part before ends at `from`
+  pub AreasOf : ℕ → ℕ → ℕ → ℕ → Forest → List Area → Type 0
+  AreasOf n at size from none areas = areas ≡ []
+  AreasOf n at size from (some t ts) areas =
+      (q : Place) × (below after : List Area) × (areas ≡ section_area at q t ∷ below ++ after)
+      × IsPlaced size from (sibling n t) (siblings (n + section_count t) ts) q
+      × AreasBelow n (at + q.start) q.size t below × AreasOf (n + section_count t) at size (end_of q) ts after
 
 -- The refusals also speak of descriptors that can't be laid: the same, where every row is filled.
 abbrev mutual
@@ -48,9 +48,9 @@ abbrev mutual
       section_area at q t ∷ areas_below n (at + q.start) q.size t ++ areas_of (n + section_count t) at ts qs
   areas_of n at ts qs = []
 
--- the size of the first area of this name, and 0 without one
-abbrev pub size_named : List ℕ → List Area → ℕ
-size_named name areas = option_map_or (λ a. a.size) (find (is_area name) areas) 0
+-- the size of the area FMAP, and 0 without one
+abbrev pub fmap_size : List Area → ℕ
+fmap_size areas = option_map_or (λ a. a.size) (find (is_area (codes "FMAP")) areas) 0
 
 -- the table of a descriptor
 abbrev pub IsTable : Tree → Table → Type 0

@@ -57,7 +57,3 @@ kind_of (b ∷ bs) =
 -- the words from a place of the text on, where neither a word nor a comment goes on
 unfoldable pub words_after : List ℕ → ℕ → List Word
 words_after text at = words_from at false (without_comments false (drop at text))
-
--- the rest of a row of plain bytes that goes on at a place, and the words after it
-unfoldable pub word_rest : List ℕ → ℕ → List ℕ × List Word
-word_rest text at = let bytes = without_comments false (drop at text) in (take_while is_plain bytes, words_from at true bytes)

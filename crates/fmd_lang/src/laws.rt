@@ -1,14 +1,16 @@
 //! What ties the definitions together. The functions do nothing: their contracts are the laws.
 
-ghost use Rattle.std.specs.Prelude.{◌≡◌, ℕ, List, ◌++◌, None};
+ghost use Rattle.std.specs.Prelude.{◌≡◌, ◌≢◌, ℕ, List, ◌++◌, Some, None};
 ghost use Rattle.flash_format.specs.Laws.{IsReadAsMap};
 ghost use Rattle.fmd_lang.specs.Table.{table_bytes, table_head, IsTable};
 ghost use Rattle.fmd_lang.specs.Tree.{Tree};
 ghost use Rattle.fmd_lang.specs.Words.{words};
 ghost use Rattle.fmd_lang.specs.Grammar.{IsSection};
-ghost use Rattle.fmd_lang.specs.Faults.{first_fault, first_word_fault};
+ghost use Rattle.fmd_lang.specs.Faults.{first_fault};
+ghost use Rattle.fmd_lang.specs.declared.fault.Expected.{Expected};
 ghost use Rattle.fmd_lang.specs.LayoutFaults.{layout_fault, parent_fault};
 
+use crate::fault::FmdFault;
 use crate::table::Table;
 
 /// A text has at most one tree.
@@ -18,7 +20,8 @@ pub fn one_tree(text: &[u8])
 
 /// A text that has a tree has no misplaced word: its first fault is that of a word by itself, or that it is too long.
 pub fn trees_have_no_misplaced_word(text: &[u8])
-    ensures { (t : Tree) → IsSection t (words text.now) → first_fault text.now ≡ first_word_fault text.now }
+    ensures { (t : Tree) (at : ℕ) (what : Expected) → IsSection t (words text.now)
+        → first_fault text.now ≢ Some (FmdFault.Expected at what) }
 {}
 
 /// A text without a fault has a tree.

@@ -8,7 +8,8 @@ ghost use Rattle.fmd_lang.specs.Layout.{end_of, row_fault};
 ghost use Rattle.fmd_lang.specs.declared.section.Section.{out-Section};
 ghost use Rattle.fmd_lang.specs.Tree.{section_count, size_of, names, names_of, view, views};
 ghost use Rattle.fmd_lang.specs.Layout as spec;
-ghost use Rattle.fmd_lang.specs.Table.{area_limit, areas_below, size_named, IsTable};
+ghost use Rattle.fmd_lang.specs.Table.{area_limit, areas_below, IsTable};
+ghost use Rattle.fmd_lang.specs.Table as spec_table;
 ghost use Rattle.fmd_lang.specs.LayoutFaults as faults;
 ghost use Rattle.fmd_lang.specs.LayoutFaults.{layout_fault};
 
@@ -154,7 +155,7 @@ fn check_fmap(areas: &[Area]) -> Result<(), FmdFault>
 
 /// The size of the area FMAP, and 0 without one.
 fn fmap_size(areas: &[Area]) -> u32
-    ensures { result ≡ size_named (codes "FMAP") areas.now }
+    ensures { result ≡ spec_table.fmap_size areas.now }
 {
     for area in areas {
         if area.name_is(b"FMAP") {

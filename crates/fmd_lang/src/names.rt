@@ -1,10 +1,11 @@
 //! The names of a descriptor's sections.
 
-ghost use Rattle.std.specs.Prelude.{◌≡◌, ◌≤◌, ◌+◌, ◌⊎◌, ◌++◌, [], None, Some, map, length, OnOk, IfOk, IfErr};
+ghost use Rattle.std.specs.Prelude.{◌≡◌, ◌≤◌, ◌+◌, ◌⊎◌, ◌++◌, [], None, Some, codes, map, length, OnOk, IfOk, IfErr};
 ghost use Rattle.std.specs.List.{list_any};
+ghost use Rattle.std.specs.Str.{bytes_eq};
 ghost use Rattle.std.specs.Result.{result_err};
 ghost use Rattle.fmd_lang.specs.Tree.{names, view};
-ghost use Rattle.fmd_lang.specs.LayoutFaults.{is_fmap, areas_fault, names_fault, duplicate};
+ghost use Rattle.fmd_lang.specs.LayoutFaults.{areas_fault, names_fault, duplicate};
 ghost use Rattle.fmd_lang.specs.Table.{field_of};
 ghost use Rattle.fmd_lang.specs.Faults.{Refuses};
 
@@ -81,10 +82,10 @@ fn check_parts(parts: &[&[u8]]) -> Result<(), FmdFault>
 
 /// Whether one of these names is FMAP.
 fn has_fmap(names: &[&[u8]]) -> bool
-    ensures { result ≡ list_any is_fmap (map (λ r. r.now) names.now) }
+    ensures { result ≡ list_any (bytes_eq (codes "FMAP")) (map (λ r. r.now) names.now) }
 {
     for name in names {
-        if *name == b"FMAP".as_slice() {
+        if b"FMAP".as_slice() == *name {
             return true;
         }
     }

@@ -1,12 +1,12 @@
 //! The parser: each function reads from a place of the text, and answers a value and the place after it.
 
-ghost use Rattle.std.specs.Prelude.{◌≡◌, ◌≢◌, ◌≤◌, ◌<◌, ◌+◌, ◌⊎◌, ◌∷◌, ℕ, suc, length, Some, None, Err, IfOk, IfErr, MatchOption, MatchResult};
+ghost use Rattle.std.specs.Prelude.{◌≡◌, ◌≢◌, ◌≤◌, ◌<◌, ◌+◌, ◌⊎◌, ◌∷◌, ℕ, suc, length, true, false, Some, None, Err, IfOk, IfErr, MatchOption, MatchResult};
 ghost use Rattle.std.specs.Result.{result_err};
 ghost use Rattle.fmd_lang.specs.Words.{words, words_after, kind_of};
 ghost use Rattle.fmd_lang.specs.Lexing.{word_of, end_of};
-ghost use Rattle.fmd_lang.specs.Faults.{Stage, depth_limit, own_fault, Refuses, start, past, at_sign, in_annotations, annotated, wanted_at, first_fault};
+ghost use Rattle.fmd_lang.specs.Faults.{Stage, depth_limit, fault_from, own_fault, Refuses, start, past, at_sign, in_annotations, wanted_at, first_fault};
 ghost use Rattle.fmd_lang.specs.Grammar.{One, HasValue, HaveFlags, IsA, IsOffset, IsSize, AreAnnotations, AreSections, IsSection, Until, flags_with};
-ghost use Rattle.fmd_lang.specs.Parsing.{Parses, fault_at, IsNext, IsBody};
+ghost use Rattle.fmd_lang.specs.Parsing.{Parses, IsNext, IsBody};
 ghost use Rattle.fmd_lang.specs.Tree.{view, views};
 ghost use Rattle.fmd_lang.specs.Grammar as grammar;
 ghost use Rattle.fmd_lang.specs.declared.word.Kind.TheVariants.{CloseBrace, CloseParen, Name, Number};
@@ -51,7 +51,7 @@ pub fn parse(alloc: Global, text: &[u8]) -> Result<Section, FmdFault>
 /// The tree of a text, whatever its length.
 fn tree(alloc: Global, text: &[u8]) -> Result<Section, FmdFault>
     ensures tree { IfOk result (λ t. IsSection (view t) (words_after text.now 0)) }
-    ensures refused { Refuses (fault_at (start, 0) text.now 0) result }
+    ensures refused { Refuses (fault_from (start, 0) (length text.now) (words_after text.now 0)) result }
 {
     let (tree, to) = root(alloc, text)?;
     let token = peek(text, to, 0)?;
@@ -81,7 +81,7 @@ fn section(
     depth: u32,
 ) -> Result<(Section, usize), FmdFault>
     requires inside { end_of name.now ≤ length text.now }
-    requires name { IsA Name (word_of name.now) × (own_fault depth (word_of name.now) ≡ None) }
+    requires name { IsA Name (word_of name.now) × (own_fault Name depth (word_of name.now) ≡ None) }
     requires depth { depth ≤ depth_limit }
     ensures { Parses (λ t ws. IsSection (view t) (word_of name.now ∷ ws)) (past 0, depth) (past 4, depth)
         text.now (end_of name.now) result }
@@ -160,7 +160,7 @@ fn annotations(text: &[u8], from: usize, depth: u32) -> Result<(u16, usize), Fmd
 
 /// One annotation, which has to stand here, and more.
 fn first_annotation(text: &[u8], from: usize, depth: u32) -> Result<(u16, usize), FmdFault>
-    ensures { Parses (λ flags. Until CloseParen (HaveFlags flags)) (in_annotations, depth) (past 1, depth)
+    ensures { Parses (λ flags. Until CloseParen (HaveFlags flags)) (in_annotations false, depth) (past 1, depth)
         text.now from result }
 {
     let token = peek(text, from, depth)?;
@@ -177,7 +177,7 @@ fn more_annotations(
     depth: u32,
     first: u16,
 ) -> Result<(u16, usize), FmdFault>
-    ensures { Parses (λ flags. Until CloseParen (λ ws. flags_with first ws ≡ Some flags)) (annotated, depth) (past 1, depth) text.now from result }
+    ensures { Parses (λ flags. Until CloseParen (λ ws. flags_with first ws ≡ Some flags)) (in_annotations true, depth) (past 1, depth) text.now from result }
 {
     let mut flags = first;
     let mut at = from;
@@ -196,7 +196,7 @@ fn more_annotations(
 
 /// What has to stand after an annotation, in place of a word of this kind.
 fn after_annotation(kind: Kind) -> Expected
-    ensures { (depth : ℕ) → result ≡ wanted_at annotated depth kind }
+    ensures { (depth : ℕ) → result ≡ wanted_at (in_annotations true) depth kind }
 {
     match kind {
         Kind::Name => Expected::Annotation,
@@ -256,7 +256,7 @@ fn size(text: &[u8], from: usize, depth: u32) -> Result<(Option<u32>, usize), Fm
 /// The next word.
 fn peek<'t>(text: &'t [u8], from: usize, depth: u32) -> Result<Token<'t>, FmdFault>
     ensures next { IfOk result (λ token. IsNext text.now from depth token) }
-    ensures refused { IfErr result (λ fault. (s : Stage) → fault_at (s, depth) text.now from ≡ Some fault) }
+    ensures refused { IfErr result (λ fault. (s : Stage) → fault_from (s, depth) (length text.now) (words_after text.now from) ≡ Some fault) }
 {
     let word = next_word(text, from);
     let kind = word.kind();
@@ -270,7 +270,7 @@ fn peek<'t>(text: &'t [u8], from: usize, depth: u32) -> Result<Token<'t>, FmdFau
 fn value_of(word: &Word<'_>, kind: Kind, depth: u32) -> Result<Option<u32>, FmdFault>
     requires { IsA kind (word_of word.now) }
     ensures value { IfOk result (λ value. MatchOption value (kind ≢ Number) (λ n. HasValue n (word_of word.now))) }
-    ensures fault { own_fault depth (word_of word.now) ≡ result_err result }
+    ensures fault { own_fault kind depth (word_of word.now) ≡ result_err result }
 {
     let at = word.place;
     match kind {

@@ -1,9 +1,10 @@
 //! The words of a descriptor's text.
 
-ghost use Rattle.std.specs.Prelude.{◌≡◌, ◌≤◌, ◌<◌, ◌+◌, ◌^◌, ◌∷◌, length, true, false, drop, slice_range};
-ghost use Rattle.fmd_lang.specs.Words.{words_after, words_from, without_comments, word, word_rest};
+ghost use Rattle.std.specs.Prelude.{◌≡◌, ◌≤◌, ◌<◌, ◌+◌, ◌^◌, ◌∷◌, length, nat_eq, true, false, slice_index, slice_range, IsTrue};
+ghost use Rattle.std.specs.List.{position_or_len, prefix_len};
+ghost use Rattle.fmd_lang.specs.Words.{words_after, word};
 ghost use Rattle.fmd_lang.specs.Words as spec;
-ghost use Rattle.fmd_lang.specs.Lexing.{BeginsWord, IsFirst, end_of};
+ghost use Rattle.fmd_lang.specs.Lexing.{begins_word, IsFirst, end_of};
 
 /// What a word is, by its first byte.
 #[derive(Clone, Copy, Debug)]
@@ -52,7 +53,7 @@ pub fn next_word<'t>(text: &'t [u8], from: usize) -> Word<'t>
 fn skip_blanks(text: &[u8], from: usize) -> usize
     ensures inside { result ≤ length text.now }
     ensures same { words_after text.now from ≡ words_after text.now result }
-    ensures word { result < length text.now → (from ≤ result) × BeginsWord text.now result }
+    ensures word { result < length text.now → (from ≤ result) × IsTrue (begins_word (slice_index text.now result)) }
 {
     let mut at = from;
     while at < text.len() {
@@ -60,7 +61,7 @@ fn skip_blanks(text: &[u8], from: usize) -> usize
         if is_blank(byte) {
             at += 1;
         } else if byte == b'#' {
-            at = comment_end(text, at + 1);
+            at += 1 + comment_len(&text[at + 1..]);
         } else {
             return at;
         }
@@ -68,42 +69,33 @@ fn skip_blanks(text: &[u8], from: usize) -> usize
     text.len()
 }
 
-/// Where the comment ends that goes on at `from`: at its line feed, or at the text's end.
-fn comment_end(text: &[u8], from: usize) -> usize
-    ensures ahead { from ≤ result }
-    ensures same { words_from from false (without_comments true (drop from text.now)) ≡ words_after text.now result }
+/// How many bytes stand before the first line feed, or all.
+fn comment_len(bytes: &[u8]) -> usize
+    ensures short { result ≤ length bytes.now }
+    ensures len { result ≡ position_or_len (λ b. nat_eq b 10) bytes.now }
 {
-    let mut at = from;
-    while at < text.len() && text[at] != b'\n' {
-        at += 1;
-    }
-    at
+    bytes.iter().take_while(|byte| **byte != b'\n').count()
 }
 
 /// Where the word ends that begins at `place`.
 fn word_end(text: &[u8], place: usize) -> usize
-    requires { BeginsWord text.now place }
+    requires { (place < length text.now) × IsTrue (begins_word (slice_index text.now place)) }
     ensures inside { (place < result) × (result ≤ length text.now) }
     ensures word { words_after text.now place ≡ word place (slice_range text.now place result) ∷ words_after text.now result }
 {
     if is_plain(text[place]) {
-        plain_end(text, place + 1)
+        place + 1 + plain_len(&text[place + 1..])
     } else {
         place + 1
     }
 }
 
-/// Where the row of plain bytes ends that goes on at `from`.
-fn plain_end(text: &[u8], from: usize) -> usize
-    requires { from ≤ length text.now }
-    ensures inside { (from ≤ result) × (result ≤ length text.now) }
-    ensures word { word_rest text.now from ≡ (slice_range text.now from result, words_after text.now result) }
+/// How many plain bytes these begin with.
+fn plain_len(bytes: &[u8]) -> usize
+    ensures short { result ≤ length bytes.now }
+    ensures len { result ≡ prefix_len spec.is_plain bytes.now }
 {
-    let mut at = from;
-    while at < text.len() && is_plain(text[at]) {
-        at += 1;
-    }
-    at
+    bytes.iter().take_while(|byte| is_plain(**byte)).count()
 }
 
 fn is_blank(byte: u8) -> bool

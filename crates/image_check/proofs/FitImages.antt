@@ -1,11 +1,12 @@
 -- Images of which nothing bad is told.
-use Rattle.std.proofs.Common.{◌≡◌, ◌∙◌, ℕ, ◌+◌, ◌≤◌, Bool, true, false, not, ◌||◌, cond, All, Contains, List, [], ◌∷◌, ◌++◌, drop, length, nat_eq, nat_le, Option, Some, None, Ok, refl, sym, ap, subst, append-nil}
+use Rattle.std.proofs.Common.{◌≡◌, ◌∙◌, ℕ, ◌+◌, ◌≤◌, Bool, true, false, not, ◌||◌, cond, All, Contains, List, [], ◌∷◌, ◌++◌, drop, length, reverse, nat_eq, nat_le, nat_lt, Option, Some, None, Ok, refl, sym, ap, subst, append-nil}
 use Rattle.std.specs.Prelude.{map}
 use Rattle.std.specs.List.{find, flat_map, list_any}
 use Rattle.std.specs.Option.{option_map}
 use Rattle.std.proofs.lemmas.Bool.{and_parts, false≢true, le-ltb, leb-true, or_parts}
 use Rattle.std.proofs.lemmas.Grind.{flat_map-append}
-use Rattle.std.proofs.lemmas.List.Elements.{All-nil, All-cons, All-head, All-tail, All-weaker, All-contains_itself}
+use Rattle.std.proofs.lemmas.List.{reverse-append}
+use Rattle.std.proofs.lemmas.List.Elements.{All-nil, All-cons, All-head, All-tail, All-append, All-weaker, All-contains_itself}
 use Rattle.flash_format.specs.declared.flashmap.Area.{Area}
 use Rattle.flash_format.specs.Flashmap.{areas_at, fmap_head_of, is_area, map_of, text_of}
 use Rattle.flash_store.specs.declared.fmap.FoundMap.{FoundMap}
@@ -16,15 +17,14 @@ use Rattle.flashmap_check.specs.declared.finding.MapFinding.TheVariants.{OtherSi
 use Rattle.flashmap_check.specs.declared.finding.NumberedArea.{NumberedArea}
 use Rattle.flashmap_check.specs.MapFindings.{area_end, area_findings, areas_under, findings_of, findings_under, first_with, has_name, image_areas, map_areas, map_findings, name_finding, name_findings, next_findings, numbered, told_if}
 use Rattle.flashmap_check.proofs.Sound.{named}
-use Rattle.cbfs_check.specs.RegionFindings.{region_findings}
 use Rattle.image_check.specs.declared.finding.ImageFinding.{ImageFinding}
-use Rattle.image_check.specs.declared.finding.ImageFinding.TheVariants.{Map, Region, Skipped}
-use Rattle.image_check.specs.ImageFindings.{Looked, bytes_of, image_findings, is_wanted, look, looked, names_findings, range_of}
+use Rattle.image_check.specs.declared.finding.ImageFinding.TheVariants.{Map, NoRegion, Region, Skipped}
+use Rattle.image_check.specs.ImageFindings.{Looked, bytes_of, image_findings, in_place, is_wanted, look, looked, max_tried, names_findings, one_tried, pass_over, range_of, region_finding, takes_place, with_region, with_skipped}
 use Rattle.image_check.specs.Laws.{FitImagesAreWhole, FitRegionsLoseNothing, IsFit}
 use Rattle.image_check.specs.RegionAreas.{region_area, region_areas}
-use Rattle.image_check.specs.Verdicts.{is_bad, is_bad_map, is_bad_region}
+use Rattle.image_check.specs.Verdicts.{is_bad, is_bad_map}
 use Rattle.image_check.proofs.Fit.{fit_region, none_of}
-use Rattle.image_check.proofs.Telling.{no_map_areas, no_name_areas}
+use Rattle.image_check.proofs.Looking.{no_map_areas, no_name_areas}
 
 -- ---- no name stands twice
 
@@ -83,36 +83,72 @@ fit_areas image (Some map) found fit =
 
 -- ---- the areas that are looked at
 
--- what is told with an area before these, by whether it ends at or before the lowest of them
-abbrev with_area : Bool → List ℕ → NumberedArea → Looked → Bool → Looked
-with_area verbose image a later ends =
-    cond {A = Looked} ends
-    (record { findings = Region a (region_findings verbose (bytes_of image a)) ∷ later.findings; lowest = a.area.offset })
-    (record { findings = Skipped a ∷ later.findings; lowest = later.lowest })
+-- a region whose findings are good is fit
+IsGood : List ℕ → ImageFinding → Type 0
+IsGood image f = is_bad f ≡ false → All (IsFit image) (region_area f)
 
--- where nothing bad is told of areas, those that are looked at are fit
-abbrev AreFit : List ℕ → Looked → Type 0
-AreFit image l = list_any is_bad l.findings ≡ false → All (IsFit image) (region_areas l.findings)
+unread : (image : List ℕ) (f : ImageFinding) → region_area f ≡ [] → IsGood image f
+unfolding IsGood
+unread image f none good = subst (All (IsFit image)) (sym none) (All-nil (IsFit image))
 
-module _ (lossless : FitRegionsLoseNothing) (verbose : Bool) (image : List ℕ) (a : NumberedArea) (later : Looked) (rest : AreFit image later) where
-  fit_look : region_of image (text_of a.area.name) ≡ Ok (range_of a) → (ends : Bool) → AreFit image (with_area verbose image a later ends)
-  fit_look is true fit =
-      let parts = or_parts (list_any is_bad_region (region_findings verbose (bytes_of image a))) (list_any is_bad later.findings) fit in
-      All-cons (IsFit image) a (region_areas later.findings) (record { reached = is; whole = fit_region verbose (bytes_of image a) parts.0; found = λ c there. lossless verbose (bytes_of image a) c parts.0 there }) (rest parts.1)
-  fit_look is false fit = rest fit
+good_region : FitRegionsLoseNothing → (verbose : Bool) (image : List ℕ) (a : NumberedArea) → region_of image (text_of a.area.name) ≡ Ok (range_of a) → IsGood image (region_finding verbose image a)
+unfolding IsGood
+good_region lossless verbose image a is good =
+    let x = bytes_of image a in
+    All-cons (IsFit image) a [] (record { reached = is; whole = fit_region verbose x good; found = λ c there. lossless verbose x c good there }) (All-nil (IsFit image))
 
-  fit_area : (wanted : Bool) → (wanted ≡ true → region_of image (text_of a.area.name) ≡ Ok (range_of a)) → AreFit image (cond wanted (look verbose image a later) later)
-  fit_area true is = fit_look (is refl) (nat_le (area_end a.area) later.lowest)
-  fit_area false is = rest
+passed_good : (image : List ℕ) (end : ℕ) (f : ImageFinding) → IsGood image f → IsGood image (pass_over end f)
+unfolding IsGood
+passed_good image end (Region a own) good = go (nat_lt a.area.offset end)
+  where
+    go : (b : Bool) → IsGood image (cond b (Skipped a) (Region a own))
+    go true fit = All-nil (IsFit image)
+    go false fit = good fit
+passed_good image end (Map finding) good = good
+passed_good image end (Skipped a) good = good
+passed_good image end (NoRegion number) good = good
+
+passed_all : (image : List ℕ) (end : ℕ) (findings : List ImageFinding) → All (IsGood image) findings → All (IsGood image) (map (pass_over end) findings)
+passed_all image end [] each = All-nil (IsGood image)
+passed_all image end (f ∷ findings) each =
+    All-cons (IsGood image) (pass_over end f) (map (pass_over end) findings) (passed_good image end f (All-head (IsGood image) f findings each)) (passed_all image end findings (All-tail (IsGood image) f findings each))
+
+one_more : (image : List ℕ) (findings : List ImageFinding) (f : ImageFinding) → All (IsGood image) findings → IsGood image f → All (IsGood image) (findings ++ f ∷ [])
+one_more image findings f each good = All-append (IsGood image) findings (f ∷ []) each (All-cons (IsGood image) f [] good (All-nil (IsGood image)))
 
 module _ (lossless : FitRegionsLoseNothing) (verbose : Bool) (image : List ℕ) (names : List (List ℕ)) where
-  fit_looked : (areas : List NumberedArea) → All (IsReached image) areas → AreFit image (looked verbose image names areas)
+  good_look : (a : NumberedArea) (later : Looked) → All (IsGood image) later.findings → region_of image (text_of a.area.name) ≡ Ok (range_of a) → (fits behind takes : Bool)
+      → All (IsGood image) (cond {A = Looked} fits (with_region verbose image a later) (cond {A = Looked} behind (with_skipped a later) (cond {A = Looked} takes (in_place verbose image a (one_tried later)) (with_skipped a (one_tried later))))).findings
+  good_look a later each is true behind takes = one_more image later.findings (region_finding verbose image a) each (good_region lossless verbose image a is)
+  good_look a later each is false true takes = one_more image later.findings (Skipped a) each (unread image (Skipped a) refl)
+  good_look a later each is false false true = one_more image _ (region_finding verbose image a) (passed_all image (area_end a.area) later.findings each) (good_region lossless verbose image a is)
+  good_look a later each is false false false = one_more image later.findings (Skipped a) each (unread image (Skipped a) refl)
+
+  good_area : (a : NumberedArea) (later : Looked) → All (IsGood image) later.findings → (wanted : Bool) → (wanted ≡ true → region_of image (text_of a.area.name) ≡ Ok (range_of a))
+      → All (IsGood image) (cond {A = Looked} wanted (look verbose image names a later) later).findings
+  good_area a later each true is =
+      good_look a later each (is refl) (nat_le (area_end a.area) later.lowest) (nat_lt later.lowest a.area.offset || nat_le max_tried later.tried) (takes_place verbose image names a later.findings)
+  good_area a later each false is = each
+
+  good_areas : (areas : List NumberedArea) → All (IsReached image) areas → All (IsGood image) (looked verbose image names areas).findings
   unfolding looked IsReached
-  fit_looked [] each fit = All-nil (IsFit image)
-  fit_looked (a ∷ areas) each fit =
-      fit_area lossless verbose image a (looked verbose image names areas) (fit_looked areas (All-tail (IsReached image) a areas each)) (is_wanted image names a)
+  good_areas [] each = All-nil (IsGood image)
+  good_areas (a ∷ areas) each =
+      good_area a (looked verbose image names areas) (good_areas areas (All-tail (IsReached image) a areas each)) (is_wanted image names a)
       (λ wanted. All-head (IsReached image) a areas each (leb-true (area_end a.area) (length image) (and_parts _ _ wanted).0))
-      fit
+
+reverse_good : (image : List ℕ) (findings : List ImageFinding) → All (IsGood image) findings → All (IsGood image) (reverse findings)
+reverse_good image [] each = each
+reverse_good image (f ∷ findings) each =
+    subst (All (IsGood image)) (sym (reverse-append (f ∷ []) findings)) (one_more image (reverse findings) f (reverse_good image findings (All-tail (IsGood image) f findings each)) (All-head (IsGood image) f findings each))
+
+-- where nothing bad is told, the areas that are looked at are fit
+fit_areas_of : (image : List ℕ) (findings : List ImageFinding) → All (IsGood image) findings → list_any is_bad findings ≡ false → All (IsFit image) (region_areas findings)
+unfolding IsGood
+fit_areas_of image [] each fit = All-nil (IsFit image)
+fit_areas_of image (f ∷ findings) each fit =
+    let parts = or_parts (is_bad f) (list_any is_bad findings) fit in
+    All-append (IsFit image) (region_area f) (region_areas findings) (All-head (IsGood image) f findings each parts.0) (fit_areas_of image findings (All-tail (IsGood image) f findings each) parts.1)
 
 -- ---- the image
 
@@ -129,8 +165,9 @@ areas_of told regions areas names =
 pub fit_image : FitRegionsLoseNothing → FitImagesAreWhole
 unfolding image_findings image_areas map_findings
 fit_image lossless verbose image names fit =
-    let regions = (looked verbose image names (image_areas image)).findings in
+    let told = (looked verbose image names (image_areas image)).findings in
+    let regions = reverse told in
     let map_part = none_of is_bad (map Map (map_findings image)) _ fit in
     let region_part = none_of is_bad regions _ map_part.1 in
     let areas = fit_areas image (found_in image) refl (sym (of_map (map_findings image)) ∙ map_part.0) in
-    subst (All (IsFit image)) (sym (areas_of (map_findings image) regions (image_areas image) names)) (fit_looked lossless verbose image names (image_areas image) areas region_part.0)
+    subst (All (IsFit image)) (sym (areas_of (map_findings image) regions (image_areas image) names)) (fit_areas_of image regions (reverse_good image told (good_areas lossless verbose image names (image_areas image) areas)) region_part.0)

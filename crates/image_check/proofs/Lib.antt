@@ -1,5 +1,4 @@
-pub mod Planning
-pub mod Telling
 pub mod NameLemmas
 pub mod Fit
 pub mod FitImages
+pub mod Looking

@@ -1,6 +1,6 @@
 pub mod Faults
 pub mod ImageFindings
 pub mod RegionAreas
-pub mod Plans
+pub mod LookedAreas
 pub mod Verdicts
 pub mod Laws

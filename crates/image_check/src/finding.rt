@@ -41,7 +41,7 @@ impl RegionFindings {
 pub enum ImageFinding {
     /// Something of the image's flashmap.
     Map(MapFinding),
-    /// The area would be looked at, but it meets an area behind it in the map that is.
+    /// The area would be looked at, but another one that has bytes of it is.
     Skipped(NumberedArea),
     /// What is told of the CBFS region that the area is.
     Region {

@@ -1,5 +1,5 @@
 //! The check of an image.
-ghost use Rattle.std.specs.Prelude.{◌≡◌, ℕ, Bool, ◌+◌, ◌*◌, ◌/◌, ◌≤◌, [], ◌∷◌, ◌++◌, length, map, ◌||◌, OnOk, IfOk};
+ghost use Rattle.std.specs.Prelude.{◌≡◌, ◌+◌, ◌*◌, ◌/◌, ◌≤◌, [], ◌∷◌, ◌++◌, length, map, reverse, ◌||◌, OnOk, IfOk};
 ghost use Rattle.flash_format.specs.Flashmap.{area_len};
 ghost use Rattle.flash_store.specs.Device.{faults_told};
 ghost use Rattle.flash_store.specs.Pages.{HasRead, HasAnswered, OnHonest, OnHonestIn};
@@ -8,14 +8,15 @@ ghost use Rattle.flashmap_check.specs.MapFindings.{image_areas};
 ghost use Rattle.image_check.specs.declared.finding.ImageFinding.TheVariants.{Map};
 ghost use Rattle.image_check.specs.Faults.{by_device};
 ghost use Rattle.cbfs_check.specs.RegionFindings.{begins_with_entry};
-ghost use Rattle.image_check.specs.ImageFindings.{Looked, has_one_of, look_if_wanted, looked, image_findings};
-ghost use Rattle.image_check.specs.Plans.{IsPlanOf, Descend, LiesBelow, told_of, told_before, looked_area, areas_before, calls_of};
+ghost use Rattle.image_check.specs.ImageFindings as told;
+ghost use Rattle.image_check.specs.ImageFindings.{has_one_of, range_of, max_tried, image_findings};
+ghost use Rattle.image_check.specs.LookedAreas.{AreInOrder, HasLooked, told_by};
 ghost use Rattle.image_check.specs.RegionAreas.{region_area, region_areas, LieInOrder};
 
 use crate::fault::ImageCheckFault;
 use crate::finding::{ImageFinding, RegionFindings};
+use crate::looked::{LookedAreas, MAX_TRIED, is_whole};
 use crate::names::{has_one_of, push_missing};
-use crate::plan::{Choice, Plan};
 use cbfs_check::{check_region, starts_with_entry};
 use flash_store::{Flash, FlashFault, Paged, Region};
 use flashmap_check::{MapFinding, NumberedArea, checked_map};
@@ -40,20 +41,116 @@ fn is_wanted<F: Flash>(
     starts_with_entry(paged, region)
 }
 
-/// Decides what is done with an area before those of the plan.
-fn plan_area<F: Flash>(
+/// What is told of an area that is looked at, which is this region.
+fn region_finding<F: Flash>(
+    alloc: Global,
+    paged: &mut Paged<F>,
+    area: NumberedArea,
+    region: Region,
+    is_verbose: bool,
+) -> Result<ImageFinding, ImageCheckFault>
+    requires lies { LiesIn region (F.facts paged.old.device).content }
+    requires range { region ≡ range_of area }
+
+    ensures after { HasRead F.facts (region.size / 16 + 2) (faults_told by_device result) paged.old paged.new }
+    ensures area { IfOk result (λ finding. region_area finding ≡ area ∷ []) }
+    ensures told { OnHonest F.facts paged.old.device (λ image.
+        IfOk result (λ finding. finding ≡ told.region_finding is_verbose image area)) }
+{
+    let findings = RegionFindings::new(check_region(alloc, paged, region, is_verbose)?);
+    Ok(ImageFinding::Region { area, findings })
+}
+
+/// Tries an area in place of those that it meets, which all begin at or behind its start.
+fn try_area<F: Flash>(
+    alloc: Global,
     paged: &mut Paged<F>,
     names: &[&[u8]],
     area: NumberedArea,
-    plan: &mut Plan,
+    region: Region,
+    is_verbose: bool,
+    later: &mut LookedAreas,
 ) -> Result<(), ImageCheckFault>
-    ensures after { HasRead F.facts 1 (faults_told by_device result) paged.old paged.new }
-    ensures told { OnHonest F.facts paged.old.device (λ image. (verbose : Bool) (later : Looked) →
-        IsPlanOf verbose image plan.old later → OnOk result
-        (IsPlanOf verbose image plan.new (look_if_wanted verbose image (map (λ n. n.now) names.now) area later))) }
-    ensures descend { (end : ℕ) → Descend end plan.old.choices.items plan.old.lowest → OnOk result
-        (Descend end plan.new.choices.items plan.new.lowest) }
-    ensures count { OnOk result (length plan.new.choices.items ≤ length plan.old.choices.items + 1) }
+    requires lies { LiesIn region (F.facts paged.old.device).content }
+    requires range { region ≡ range_of area }
+    requires below { region.start ≤ later.old.lowest }
+
+    ensures after { HasRead F.facts (region.size / 16 + 2) (faults_told by_device result) paged.old paged.new }
+    ensures lowest { later.new.lowest ≤ later.old.lowest }
+    ensures tried { later.new.tried ≡ later.old.tried }
+    ensures told { OnHonest F.facts paged.old.device (λ image. OnOk result (told_by later.new
+        ≡ told.try_area is_verbose image (map (λ n. n.now) names.now) area (told_by later.old))) }
+    ensures order { AreInOrder (length (F.facts paged.old.device).content) later.old → OnOk result
+        (AreInOrder (length (F.facts paged.old.device).content) later.new) }
+    ensures count { OnOk result (length later.new.findings.items ≡ length later.old.findings.items + 1) }
+{
+    if !later.may_give_way(names, area) {
+        later.tell(ImageFinding::Skipped(area))?;
+        return Ok(());
+    }
+    let finding = region_finding(alloc, paged, area, region, is_verbose)?;
+    if !(has_one_of(names, area) || is_whole(&finding)) {
+        later.tell(ImageFinding::Skipped(area))?;
+        return Ok(());
+    }
+    later.pass_over(region.start() + region.size());
+    later.lowest = region.start();
+    later.tell(finding)?;
+    Ok(())
+}
+
+/// Looks at a wanted area, which is this region, before those of which is told.
+fn look<F: Flash>(
+    alloc: Global,
+    paged: &mut Paged<F>,
+    names: &[&[u8]],
+    area: NumberedArea,
+    region: Region,
+    is_verbose: bool,
+    later: &mut LookedAreas,
+) -> Result<(), ImageCheckFault>
+    requires lies { LiesIn region (F.facts paged.old.device).content }
+    requires range { region ≡ range_of area }
+    requires few { later.old.tried ≤ max_tried }
+
+    ensures after { HasLooked F.facts 2 (faults_told by_device result) later.old later.new paged.old paged.new }
+    ensures told { OnHonest F.facts paged.old.device (λ image. OnOk result (told_by later.new
+        ≡ told.look is_verbose image (map (λ n. n.now) names.now) area (told_by later.old))) }
+    ensures order { AreInOrder (length (F.facts paged.old.device).content) later.old → OnOk result
+        (AreInOrder (length (F.facts paged.old.device).content) later.new) }
+    ensures count { OnOk result (length later.new.findings.items ≡ length later.old.findings.items + 1) }
+{
+    if region.start() + region.size() <= later.lowest {
+        later.lowest = region.start();
+        let finding = region_finding(alloc, paged, area, region, is_verbose)?;
+        later.tell(finding)?;
+        return Ok(());
+    }
+    if later.lowest < region.start() || later.tried >= MAX_TRIED {
+        later.tell(ImageFinding::Skipped(area))?;
+        return Ok(());
+    }
+    later.tried += 1;
+    try_area(alloc, paged, names, area, region, is_verbose, later)
+}
+
+/// Looks at an area where it is wanted, before those of which is told.
+fn look_if_wanted<F: Flash>(
+    alloc: Global,
+    paged: &mut Paged<F>,
+    names: &[&[u8]],
+    area: NumberedArea,
+    is_verbose: bool,
+    later: &mut LookedAreas,
+) -> Result<(), ImageCheckFault>
+    requires few { later.old.tried ≤ max_tried }
+
+    ensures after { HasLooked F.facts 3 (faults_told by_device result) later.old later.new paged.old paged.new }
+    ensures told { OnHonest F.facts paged.old.device (λ image. OnOk result (told_by later.new
+        ≡ told.look_if_wanted is_verbose image (map (λ n. n.now) names.now) area (told_by later.old))) }
+    ensures order { AreInOrder (length (F.facts paged.old.device).content) later.old → OnOk result
+        (AreInOrder (length (F.facts paged.old.device).content) later.new) }
+    ensures count { OnOk result (length later.new.findings.items ≤ length later.old.findings.items + 1) }
 {
     let start = u64::from(area.area.offset);
     let size = u64::from(area.area.size);
@@ -61,53 +158,36 @@ fn plan_area<F: Flash>(
         return Ok(());
     };
     if is_wanted(paged, names, area, region)? {
-        plan.add(area, region)?;
+        look(alloc, paged, names, area, region, is_verbose, later)?;
     }
     Ok(())
 }
 
-/// What is done with these areas of the map, the last one first.
-fn planned<F: Flash>(
+/// What is told of these areas, which are looked at from the last one on.
+fn looked<F: Flash>(
     alloc: Global,
     paged: &mut Paged<F>,
     names: &[&[u8]],
     areas: &[NumberedArea],
-) -> Result<Vec<Choice>, ImageCheckFault>
-    ensures after { HasRead F.facts (length areas.now) (faults_told by_device result) paged.old paged.new }
-    ensures told { OnHonest F.facts paged.old.device (λ image. (verbose : Bool) → IfOk result (λ choices.
-        told_before verbose image choices.items [] ≡ (looked verbose image (map (λ n. n.now) names.now) areas.now).findings)) }
-    ensures descend { IfOk result (λ choices. Descend (length (F.facts paged.old.device).content) choices.items 0) }
-    ensures count { IfOk result (λ choices. length choices.items ≤ length areas.now) }
+    is_verbose: bool,
+) -> Result<Vec<ImageFinding>, ImageCheckFault>
+    ensures after { HasRead F.facts (3 * length areas.now + (length (F.facts paged.old.device).content / 16 * 9 + 16))
+        (faults_told by_device result) paged.old paged.new }
+    ensures told { OnHonest F.facts paged.old.device (λ image. IfOk result (λ findings. findings.items
+        ≡ reverse (told.looked is_verbose image (map (λ n. n.now) names.now) areas.now).findings)) }
+    ensures order { IfOk result (λ findings.
+        LieInOrder 0 (length (F.facts paged.old.device).content) (region_areas findings.items)) }
+    ensures count { IfOk result (λ findings. length findings.items ≤ length areas.now) }
 {
-    let mut plan = Plan::new(alloc, paged.len());
+    let mut later = LookedAreas::new(alloc, paged.len());
     let mut left = areas.len();
     while left > 0 {
         left -= 1;
-        plan_area(paged, names, areas[left], &mut plan)?;
+        look_if_wanted(alloc, paged, names, areas[left], is_verbose, &mut later)?;
     }
-    Ok(plan.choices)
-}
-
-/// Tells what an area tells of which so much is decided.
-fn check_choice<F: Flash>(
-    alloc: Global,
-    paged: &mut Paged<F>,
-    choice: Choice,
-    is_verbose: bool,
-) -> Result<ImageFinding, ImageCheckFault>
-    requires { LiesBelow (length (F.facts paged.old.device).content) choice }
-
-    ensures after { HasRead F.facts (calls_of choice) (faults_told by_device result) paged.old paged.new }
-    ensures area { IfOk result (λ finding. region_area finding ≡ looked_area choice) }
-    ensures told { OnHonest F.facts paged.old.device (λ image. IfOk result (λ finding. finding ≡ told_of is_verbose image choice)) }
-{
-    match choice {
-        Choice::Look { area, region } => {
-            let findings = RegionFindings::new(check_region(alloc, paged, region, is_verbose)?);
-            Ok(ImageFinding::Region { area, findings })
-        }
-        Choice::Skip(area) => Ok(ImageFinding::Skipped(area)),
-    }
+    let mut findings = later.findings;
+    findings.reverse();
+    Ok(findings)
 }
 
 pub fn push(findings: &mut Vec<ImageFinding>, finding: ImageFinding) -> Result<(), AllocError>
@@ -117,31 +197,6 @@ pub fn push(findings: &mut Vec<ImageFinding>, finding: ImageFinding) -> Result<(
         Ok(()) => Ok(()),
         Err(_) => Err(AllocError),
     }
-}
-
-/// Tells what these areas tell, from the last one on.
-fn check_planned<F: Flash>(
-    alloc: Global,
-    paged: &mut Paged<F>,
-    choices: Vec<Choice>,
-    findings: &mut Vec<ImageFinding>,
-    is_verbose: bool,
-) -> Result<(), ImageCheckFault>
-    requires { Descend (length (F.facts paged.old.device).content) choices.items 0 }
-
-    ensures after { HasRead F.facts (length (F.facts paged.old.device).content / 16 + 2 * length choices.items)
-        (faults_told by_device result) paged.old paged.new }
-    ensures areas { OnOk result (region_areas findings.new.items
-        ≡ region_areas findings.old.items ++ areas_before choices.items []) }
-    ensures told { OnHonest F.facts paged.old.device (λ image. OnOk result
-        (findings.new.items ≡ findings.old.items ++ told_before is_verbose image choices.items [])) }
-{
-    let mut choices = choices;
-    while let Some(choice) = choices.pop() {
-        let finding = check_choice(alloc, paged, choice, is_verbose)?;
-        push(findings, finding)?;
-    }
-    Ok(())
 }
 
 /// What is told of the image's flashmap.
@@ -187,8 +242,8 @@ pub fn checked_image<F: Flash>(
 {
     let map = checked_map(alloc, paged)?;
     let mut findings = map_part(alloc, &map.findings)?;
-    let choices = planned(alloc, paged, names, &map.areas)?;
-    check_planned(alloc, paged, choices, &mut findings, is_verbose)?;
+    let mut regions = looked(alloc, paged, names, &map.areas, is_verbose)?;
+    findings.append(&mut regions)?;
     push_missing(&mut findings, names, &map.areas)?;
     Ok(CheckedImage {
         areas: map.areas,
@@ -197,7 +252,8 @@ pub fn checked_image<F: Flash>(
 }
 
 /// What is told of an image: of its flashmap, of each area in it that has one of the names or begins with an entry, in the
-/// map's order, and of each name that no area has; that a component has no digest in a verbose check alone.
+/// map's order, and of each name that no area has; that a component has no digest in a verbose check alone. Of such areas
+/// that have bytes in common only some are looked at, mostly the inner ones.
 /// `Device` comes exactly where the device refused a read, and `Memory` where an allocation was refused; then nothing is
 /// told.
 pub fn check_image<F: Flash>(

@@ -7,8 +7,8 @@ mod fault;
 mod finding;
 mod image;
 mod laws;
+mod looked;
 mod names;
-mod plan;
 mod verdict;
 
 pub use fault::ImageCheckFault;

@@ -46,7 +46,7 @@ pub fn is_bad_region(finding: &RegionFinding) -> bool
     }
 }
 
-fn has_bad_region(findings: &[RegionFinding]) -> bool
+pub fn has_bad_region(findings: &[RegionFinding]) -> bool
     ensures { result ≡ list_any verdicts.is_bad_region findings.now }
 {
     findings.iter().any(is_bad_region)

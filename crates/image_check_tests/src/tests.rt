@@ -29,6 +29,9 @@ const OUTER: [u8; 42] =
 /// Free space of 256 bytes, as a region is formatted.
 const NULL_256: [u8; 28] = *b"LARCHIVE\0\0\0\xe4\xff\xff\xff\xff\0\0\0\0\0\0\0\x1c\0\0\0\0";
 
+/// The same of 768 bytes.
+const NULL_768: [u8; 28] = *b"LARCHIVE\0\0\x02\xe4\xff\xff\xff\xff\0\0\0\0\0\0\0\x1c\0\0\0\0";
+
 /// The component `a` of 216 bytes, without a digest.
 const COMPONENT_256: [u8; 40] =
     *b"LARCHIVE\0\0\0\xd8\0\0\0\x50\0\0\0\0\0\0\0\x28a\0\0\0\0\0\0\0\0\0\0\0\0\0\0\0";
@@ -139,6 +142,44 @@ fn the_inner_of_nested_areas(rt: HostRuntime) {
         "map 0, skipped 1, region 2 complete 0 256, ",
         false,
     );
+}
+
+#[test]
+fn the_outer_of_nested_areas_where_it_is_whole_and_an_inner_one_is_bad(rt: HostRuntime) {
+    let mut bytes = image(&rt, &[FMAP, OUTER, A, B]);
+    put(&mut bytes, 256, &NULL_768);
+    let expected = "map 0, region 1 complete 0 768, skipped 2, ";
+    tells(&rt, bytes, &[], expected, false);
+}
+
+#[test]
+fn the_inner_of_nested_areas_where_both_are_bad(rt: HostRuntime) {
+    let mut bytes = image(&rt, &[FMAP, OUTER, A]);
+    put(&mut bytes, 264, &[0xff]);
+    let expected = "map 0, skipped 1, region 2 other 0 0, ";
+    tells(&rt, bytes, &[], expected, true);
+}
+
+#[test]
+fn the_inner_of_nested_areas_where_the_outer_has_a_tail(rt: HostRuntime) {
+    let mut bytes = image(&rt, &[FMAP, OUTER, A]);
+    put(&mut bytes, 256, &NULL_768);
+    put(&mut bytes, 256 + 10, &[0x01]);
+    let expected = "map 0, skipped 1, region 2 other 0 0, ";
+    tells(&rt, bytes, &[], expected, true);
+}
+
+#[test]
+fn the_named_of_nested_areas(rt: HostRuntime) {
+    let areas = [FMAP, OUTER, A];
+    let outer: &[&[u8]] = &[b"OUTER"];
+    let expected = "map 0, region 1 other 0 256, skipped 2, ";
+    tells(&rt, image(&rt, &areas), outer, expected, false);
+    let mut bytes = image(&rt, &areas);
+    put(&mut bytes, 256, &NULL_768);
+    let inner: &[&[u8]] = &[b"A"];
+    let expected = "map 0, skipped 1, region 2 other 0 0, ";
+    tells(&rt, bytes, inner, expected, true);
 }
 
 #[test]

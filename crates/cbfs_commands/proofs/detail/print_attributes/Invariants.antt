@@ -12,6 +12,7 @@ use Rattle.cbfs_commands.proofs.detail.print_attributes.Given as goal
 abbrev pub invariant-loop-head : goal.invariant-loop-head
 invariant-loop-head g l = record {
   same_cell : l.walk.cell ≡ l.fn.cell;
+  same_offset : l.walk.cell.head.offset ≡ l.fn.cell.head.offset;
   inside : l.walk.at ≤ l.fn.cell.head.offset;
   left : OnHonestIn g.F.Flash.facts l.paged.device l.fn.region (λ x. (all : List Attribute) × (attributes_left x l.walk ≡ Some all));
   told : ToldSoFar g.F.Flash.facts g.W.Sink.contents g.W.Sink.faults (l.walk.at / 8)

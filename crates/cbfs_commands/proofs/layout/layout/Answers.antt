@@ -1,5 +1,5 @@
 use Rattle.std.proofs.Common.{◌+◌, ◌/◌, arith, length, refl}
-use Rattle.cbfs_commands.specs.Layouts.{layout}
+use Rattle.cbfs_commands.specs.Rows.{layout}
 use Rattle.cbfs_commands.specs.Told.{shows}
 use Rattle.cbfs_commands.proofs.Areas.{layout-is, rows_of}
 use Rattle.cbfs_commands.proofs.Telling.{so_far-ends, so_far-more, so_far-none, told-row, told-stopped}

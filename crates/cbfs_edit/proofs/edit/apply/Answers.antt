@@ -2,9 +2,6 @@ use Rattle.std.proofs.Common.{rules}
 use Rattle.cbfs_edit.proofs.EditLists.{addition_step, removal_step}
 use Rattle.cbfs_edit.proofs.edit.apply.Goals as goal
 
-pub returns-in-Ok-clause-answered : goal.returns-in-Ok-clause-answered
-returns-in-Ok-clause-answered g c = search rules
-
 pub returns-in-Ok-clause-step : goal.returns-in-Ok-clause-step
 returns-in-Ok-clause-step g c = search (rules, addition_step)
 

@@ -1,14 +1,14 @@
 use Rattle.std.proofs.Common.{◌-◌}
 use Rattle.flash_store.specs.Regions.{bytes_in}
-use Rattle.cbfs_edit.specs.Searches.{IsBefore}
+use Rattle.cbfs_edit.specs.Searches.{IsBefore, group_by}
 use Rattle.cbfs_edit.specs.Removals.{removal_in}
-use Rattle.cbfs_edit.proofs.Searches.{Surveying, group_search}
+use Rattle.cbfs_edit.proofs.Searches.{Surveying}
 use Rattle.cbfs_edit.proofs.group.find_group.Given as goal
 
 abbrev pub invariant-loop-cell : goal.invariant-loop-cell
 invariant-loop-cell g l =
     let facts = g.F.Flash.facts in
-    Surveying facts l.fn.region (group_search l.name) (removal_in (bytes_in l.fn.region (facts l.initial.paged.device).content) l.name) IsBefore l.walk l.search l.initial.paged l.paged
+    Surveying facts l.fn.region (group_by l.name) (removal_in (bytes_in l.fn.region (facts l.initial.paged.device).content) l.name) IsBefore l.walk l.search l.initial.paged l.paged
 
 abbrev pub decreases-loop-cell : goal.decreases-loop-cell
 decreases-loop-cell g l = l.walk.region.size - l.walk.at

@@ -1,9 +1,6 @@
 use Rattle.std.proofs.Common.{rules}
 use Rattle.cbfs_edit.proofs.group.pass.Goals as goal
 
-pub returns-then-branch-clause-passed : goal.returns-then-branch-clause-passed
-returns-then-branch-clause-passed g c = search rules
-
 pub returns-in-Whole-clause-passed : goal.returns-in-Whole-clause-passed
 returns-in-Whole-clause-passed g c = search rules
 

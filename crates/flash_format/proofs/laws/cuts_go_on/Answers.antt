@@ -2,4 +2,4 @@ use Rattle.flash_format.proofs.CellLists.{cut_goes_on, components_go_on, compone
 use Rattle.flash_format.proofs.laws.cuts_go_on.Goals as goal
 
 pub returns : goal.returns
-returns c = record { cut = cut_goes_on; components = components_go_on; joined = components-append; places = places_are_sums }
+returns c = record { cells = cut_goes_on; listed = components_go_on; joined = components-append; places = places_are_sums }

@@ -1,5 +1,5 @@
-use Rattle.flash_format.proofs.Splices.{splice-cut, splice-components, empty_entries_have_none}
+use Rattle.flash_format.proofs.Splices.{splice-cut, splice-components, emptied-components}
 use Rattle.flash_format.proofs.laws.groups_are_replaced.Goals as goal
 
 pub returns : goal.returns
-returns c = record { cut = splice-cut; components = splice-components; empty_entry = empty_entries_have_none }
+returns c = λ x start end g. record { cells = splice-cut x start end g; listed = splice-components x start end g; emptied = emptied-components x start end g }

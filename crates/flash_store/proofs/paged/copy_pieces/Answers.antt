@@ -2,7 +2,7 @@ use Rattle.std.proofs.Common.{◌∙◌, ◌≡◌, ◌≤◌, ◌+◌, ◌++◌
 use Rattle.std.proofs.lemmas.List.{length-take, length-take-le}
 use Rattle.flash_store.proofs.BytesLemmas.{slice_range_is, SameOutside-trans, written-more, written-part}
 use Rattle.flash_store.proofs.CopyLemmas.{Calls-piece, Copied-front, Copied-stopped, shown-more}
-use Rattle.flash_store.proofs.DeviceLemmas.{honest_still, Calls-one}
+use Rattle.flash_store.proofs.DeviceLemmas.{honest_still}
 use Rattle.flash_store.proofs.paged.copy_pieces.Goals as goal
 
 pub loop-done-preserved : goal.loop-done-preserved
@@ -18,9 +18,9 @@ loop-done-preserved g c =
     let written = c.in_ok-write_at.ensures.after in record {
       within = omega (arith, size, left);
       whole = λ more. omega (arith, size, had.whole left, more);
-      calls = Calls-piece _ _ _ _ _ _ (omega (arith, size, left)) (had.whole left) had.calls (Calls-one _ _ _ written.call);
+      calls = Calls-piece _ _ _ _ _ _ (omega (arith, size, left)) (had.whole left) had.calls written.call.within;
       source = record {
-        calls = Calls-piece _ _ _ _ _ _ (omega (arith, size, left)) (had.whole left) had.source.calls (Calls-one _ _ _ read.call);
+        calls = Calls-piece _ _ _ _ _ _ (omega (arith, size, left)) (had.whole left) had.source.calls read.call.within;
         unchanged = λ s. read.unchanged (honest_still had.source.calls.same_honesty s) ∙ had.source.unchanged s;
       };
       copied = λ h s.

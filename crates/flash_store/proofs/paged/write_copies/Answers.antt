@@ -3,7 +3,7 @@ use Rattle.std.proofs.lemmas.List.{length-replicate, length-take, take_all}
 use Rattle.flash_store.specs.Bytes.{overwritten}
 use Rattle.flash_store.proofs.BytesLemmas.{written-more, written-outside, written-torn, written-part}
 use Rattle.flash_store.proofs.CopyLemmas.{Calls-piece, copies-part, OnErr-from}
-use Rattle.flash_store.proofs.DeviceLemmas.{honest_still, Calls-one}
+use Rattle.flash_store.proofs.DeviceLemmas.{honest_still}
 use Rattle.flash_store.proofs.paged.write_copies.Goals as goal
 
 pub loop-done-preserved : goal.loop-done-preserved
@@ -16,7 +16,7 @@ loop-done-preserved g c =
     let piece = copies-part _ c.loop-done.done c.min-size.result c.args.n c.args.byte c.requires.all (omega (arith, size)) (omega (arith, size, left)) in record {
       within = omega (arith, size, left);
       whole = λ more. omega (arith, size, had.whole left, more);
-      calls = Calls-piece _ _ _ _ _ _ (omega (arith, size, left)) (had.whole left) had.calls (Calls-one _ _ _ c.in_ok-write_at.ensures.after.call);
+      calls = Calls-piece _ _ _ _ _ _ (omega (arith, size, left)) (had.whole left) had.calls c.in_ok-write_at.ensures.after.call.within;
       filled = λ h.
           let now = c.in_ok-write_at.ensures.after.written (honest_still had.calls.same_honesty h) in
           written-more _ _ _ c.args.at c.loop-done.done c.min-size.result bytes (omega (arith, left, long)) (omega (arith, left, c.requires.inside)) (had.filled h) (rw piece at now);

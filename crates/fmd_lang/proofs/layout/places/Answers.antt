@@ -1,8 +1,11 @@
-use Rattle.std.proofs.Common.{◌≡◌, ◌∙◌, ap, arith, length, rules, suc}
-use Rattle.fmd_lang.specs.Layout.{filled, siblings}
+use Rattle.std.proofs.Common.{◌≡◌, ◌∙◌, ap, arith, false, length, option_map, rules, suc}
+use Rattle.fmd_lang.specs.Layout.{ambiguous_sibling, siblings}
 use Rattle.fmd_lang.specs.Tree.{views}
 use Rattle.fmd_lang.specs.declared.section.Section.{out-Section}
-use Rattle.fmd_lang.proofs.LayoutLemmas.{length-siblings, length-le-count, placed-inside, length-filled, row-laid, view-count}
+use Rattle.fmd_lang.proofs.LayoutLemmas.{length-siblings, length-le-count, length-filled, view-count}
+use Rattle.fmd_lang.proofs.OptionLemmas.{or-none}
+use Rattle.fmd_lang.proofs.RowLemmas.{filled-inside}
+use Rattle.fmd_lang.specs.declared.fault.FmdFault.TheVariants as faults
 use Rattle.fmd_lang.proofs.layout.places.Goals as goal
 
 pub lay_row-requires : goal.lay_row-requires
@@ -22,8 +25,8 @@ returns-in-Ok-clause-len c =
 pub returns-in-Ok-clause-inside : goal.returns-in-Ok-clause-inside
 returns-in-Ok-clause-inside c =
     let row = c.deref-2.result.now in
-    let laid = row-laid c.args.size row c.in-Ok.ensures.refused in
-    rw c.in-Ok.ensures.filled (search (rules, placed-inside row (filled c.args.size 0 row) c.args.size 0 laid.1))
+    let fitting = (or-none (option_map faults.Ambiguous (ambiguous_sibling false row)) _ c.in-Ok.ensures.refused).1 in
+    rw c.in-Ok.ensures.filled (search (rules, filled-inside row c.args.size 0 fitting))
 
 pub returns-clause-refused : goal.returns-clause-refused
 returns-clause-refused c =

@@ -1,9 +1,9 @@
-use Rattle.std.proofs.Common.{◌≡◌, ◌<◌, length, ◌∷◌, [], sym, refl, rules, arith, inr, add-one, ◌++◌}
+use Rattle.std.proofs.Common.{◌≡◌, ◌<◌, suc, length, ◌∷◌, [], sym, refl, rules, arith, inr, add-one, ◌++◌}
 use Rattle.fmd_lang.specs.Faults.{past}
 use Rattle.fmd_lang.specs.Lexing.{word_of, end_of}
-use Rattle.fmd_lang.specs.Grammar.{AreSections, Until}
 use Rattle.fmd_lang.specs.Parsing.{IsBody}
-use Rattle.fmd_lang.specs.Tree.{Tree, view, views, view_step}
+use Rattle.fmd_lang.specs.Grammar.{AreSections, Until}
+use Rattle.fmd_lang.specs.Tree.{Tree, view, views}
 use Rattle.fmd_lang.specs.declared.section.Section.TheFolds.{fold-roll-Section}
 use Rattle.fmd_lang.specs.declared.word.Kind.TheVariants.{CloseBrace, Name, OpenBrace}
 use Rattle.fmd_lang.proofs.FormLemmas.{name-short, section-opens, sections-snoc}
@@ -12,7 +12,7 @@ use Rattle.fmd_lang.proofs.parser.+section.Goals as goal
 
 pub body-returns-in-OpenBrace : goal.body-returns-in-OpenBrace
 body-returns-in-OpenBrace t c =
-    let word = token-mark (past 3) (past 4) OpenBrace c.in_ok-token.ensures.next c.end.ensures c.in-OpenBrace.is (λ e. cc) refl in
+    let word = token-mark (past 3) (past 4, suc c.args.depth) OpenBrace c.in_ok-token.ensures.next c.end.ensures c.in-OpenBrace.is (λ e. cc) refl in
     parses-after (λ v. Until CloseBrace (AreSections (views v.items))) (λ v. IsBody (views v.items)) _ c.sections.result (λ v ws h. inr h) word
     c.sections.ensures
 
@@ -24,17 +24,17 @@ section-returns t c =
     let sized = reads-then c.in_ok-size.ensures.1 c.in_ok-parts.ensures.1 in
     let parts = reads-then flags.1 (reads-then c.in_ok-offset.ensures.1 sized) in
     let short : length c.in_ok-copied.field-0.items < 32 =
-    rw c.in_ok-copied.ensures (name-short c.args.depth w c.requires.name.0 c.requires.name.1) in
+    rw c.in_ok-copied.ensures (name-short c.args.depth w c.requires.name.1) in
     rw (← c.end.ensures) (
       omega (arith, flags.0, c.in_ok-offset.ensures.0, c.in_ok-size.ensures.0, c.in_ok-parts.ensures.0),
-      reads-as (λ v h. rw (fold-roll-Section Tree view_step)
+      reads-as (λ v h. rw (fold-roll-Section Tree _)
           (w ∷ [], v, refl, (w, refl, (c.requires.name.0, sym c.in_ok-copied.ensures, short)), h)) parts,
     )
 
 pub sections-returns-in-CloseBrace : goal.sections-returns-in-CloseBrace
 sections-returns-in-CloseBrace t c =
     let next = rw add-one at c.in_ok-token.ensures.next in
-    let word = token-mark (past 4) (past 4) CloseBrace next c.end.ensures c.in-CloseBrace.is (λ e. cc) refl in
+    let word = token-mark (past 4) (past 4, c.args.depth) CloseBrace next c.end.ensures c.in-CloseBrace.is (λ e. cc) refl in
     (omega (arith, c.loop-parts.invariant.0, word.ahead), reads-then c.loop-parts.invariant.1 word.reads)
 
 pub sections-loop-parts-preserved : goal.sections-loop-parts-preserved
@@ -43,7 +43,7 @@ sections-loop-parts-preserved t c =
     let next = rw add-one at c.in_ok-token.ensures.next in
     let w = word_of token.word in
     let word =
-    token-takes {to = end_of token.word} (λ x. x ≡ w) (past 4) (past 0) Name next refl c.in-Name.is (λ e. cc) refl refl in
+    token-takes {to = end_of token.word} (λ x. x ≡ w) (past 4) (past 0, suc c.args.depth) Name next refl c.in-Name.is (λ e. cc) refl refl in
     let part = rw add-one at c.in_ok-part-in-Name.ensures.1 in
     let one = reads-as (section-opens w (view c.in_ok-part-in-Name.part)) (reads-then word.reads part) in
     let parts : c.push.new.self.items ≡ c.loop-parts.parts.items ++ c.in_ok-part-in-Name.part ∷ [] = search rules in (

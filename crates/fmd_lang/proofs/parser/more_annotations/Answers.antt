@@ -1,5 +1,5 @@
-use Rattle.std.proofs.Common.{◌≡◌, ◌≢◌, ℕ, None, refl, sym, ◌∙◌, arith, inr}
-use Rattle.fmd_lang.specs.Faults.{annotated, next_stage, past}
+use Rattle.std.proofs.Common.{◌≡◌, ◌≢◌, ℕ, None, refl, sym, ◌∙◌, arith, inr, true}
+use Rattle.fmd_lang.specs.Faults.{in_annotations, next_standing, past}
 use Rattle.fmd_lang.specs.declared.word.Kind.{Kind}
 use Rattle.fmd_lang.specs.declared.word.Kind.TheVariants.{CloseParen, Name}
 use Rattle.fmd_lang.proofs.FormLemmas.{IsAnnotation, annotation-name, flags-snoc}
@@ -9,10 +9,10 @@ use Rattle.fmd_lang.proofs.parser.more_annotations.Goals as goal
 pub returns-in-CloseParen : goal.returns-in-CloseParen
 returns-in-CloseParen c =
     let word =
-    token-mark annotated (past 1) CloseParen c.in_ok-token.ensures.next c.end.ensures c.in-CloseParen.is (λ e. cc) refl in
+    token-mark (in_annotations true) (past 1, c.args.depth) CloseParen c.in_ok-token.ensures.next c.end.ensures c.in-CloseParen.is (λ e. cc) refl in
     (omega (arith, c.loop-token.invariant.0, word.ahead), reads-then c.loop-token.invariant.1 word.reads)
 
-no_annotation : (depth : ℕ) (k : Kind) → k ≢ CloseParen → next_stage annotated depth k None ≡ None
+no_annotation : (depth : ℕ) (k : Kind) → k ≢ CloseParen → next_standing (in_annotations true) depth k None ≡ None
 no_annotation depth CloseParen other = absurd (other refl)
 no_annotation depth k other = refl
 
@@ -21,7 +21,7 @@ returns-in-None c =
     let known = sym c.annotation_flag.ensures ∙ c.in-None.is in
     let wrong = no_annotation c.args.depth c.in_ok-token.token.kind c.in_default.not-CloseParen in
     rw (c.expected.ensures, c.after_annotation.ensures c.args.depth)
-    (inr (c.loop-token.invariant.1.same ∙ token-refuses annotated c.in_ok-token.ensures.next (rw known wrong)))
+    (inr (c.loop-token.invariant.1.same ∙ token-refuses (in_annotations true) c.in_ok-token.ensures.next (rw known wrong)))
 
 pub loop-token-preserved : goal.loop-token-preserved
 loop-token-preserved c =
@@ -31,6 +31,6 @@ loop-token-preserved c =
     let known = sym c.annotation_flag.ensures ∙ c.in-Some.is in
     let name = sym next.kind ∙ annotation-name token.word.bytes.now flag known in
     let word =
-    token-takes (IsAnnotation flag) annotated annotated Name next c.end-at.ensures name (λ e. cc) (rw known refl) known in
+    token-takes (IsAnnotation flag) (in_annotations true) (in_annotations true, c.args.depth) Name next c.end-at.ensures name (λ e. cc) (rw known refl) known in
     let more = reads-then c.loop-token.invariant.1 word.reads in
     (omega (arith, c.loop-token.invariant.0, word.ahead), reads-as (flags-snoc c.args.first c.loop-token.flags flag) more)

@@ -5,5 +5,5 @@ use Rattle.fmd_lang.proofs.parser.size.Goals as goal
 
 pub returns-in-Some : goal.returns-in-Some
 returns-in-Some c =
-    let word = token-number (past 2) (past 3) c.in_ok-token.ensures.next c.end.ensures c.in-Some.is refl in
+    let word = token-number (past 2) (past 3, c.args.depth) c.in_ok-token.ensures.next c.end.ensures c.in-Some.is refl in
     (omega (arith, word.ahead), word.reads)

@@ -7,7 +7,7 @@ loop-at-preserved g c =
     let had = c.loop-at.invariant in
     record {
       within = omega (arith, c.min-n.ensures, c.loop-at-test.true);
-      after = SameFile-trans had.after (record { same_faith = c.write_whole.ensures.call.same_honesty; same_length = c.write_whole.ensures.call.same_length });
+      after = SameFile-trans had.after (record { same_faith = c.write_whole.ensures.call.within.same_honesty; same_length = c.write_whole.ensures.call.within.same_length });
       erased = λ h. Erased-more _ _ c.loop-at.at c.min-n.result 65536 (omega (arith, c.min-n.ensures))
           (omega (arith, c.min-n.ensures, c.loop-at-test.true, c.len-to.ensures.length, had.after.same_length)) (had.erased h)
           (c.in_ok-write_whole.ensures.written (faithful_still had.after.same_faith h));

@@ -1,0 +1,24 @@
+use Rattle.std.proofs.Common.{◌≡◌, [], ◌∷◌, ap, length, length-append, arith}
+use Rattle.flash_store.specs.Regions.{bytes_in}
+use Rattle.flash_store.proofs.WindowLemmas.{HasRead-then}
+use Rattle.flashmap_changes.specs.Blocks.{differs}
+use Rattle.flashmap_changes.specs.Images.{OnBoth}
+use Rattle.flashmap_changes.proofs.BlockLemmas.{different_among-more, differs-whole, KnowsBlocks-more, one_at_most}
+use Rattle.flashmap_changes.proofs.ImageLemmas.{OnBoth-before}
+use Rattle.flashmap_changes.proofs.blocks.whole_blocks.Goals as goal
+
+pub loop-number-preserved : goal.loop-number-preserved
+loop-number-preserved g c =
+    let had = c.loop-number.invariant in
+    let read = c.in_ok-differs.ensures.after in
+    let is : OnBoth g.F.Flash.facts c.args.old_image.now.device g.G.Flash.facts c.args.new_image.now.device (λ x y. c.in_ok-differs.differs ≡ differs x y c.loop-number.number) = λ h k.
+    differs-whole c.whole-old_region.result c.whole-new_region.result _ _ c.len.result c.len-2.result _ _ c.whole-old_region.ensures c.whole-new_region.ensures c.len.ensures.length c.len-2.ensures.length
+    (OnBoth-before g.F.Flash.facts g.G.Flash.facts _ _ _ _ _ _ (λ x y. c.in_ok-differs.differs ≡ differs (bytes_in c.whole-old_region.result x) (bytes_in c.whole-new_region.result y) c.loop-number.number) had.old_read had.new_read c.in_ok-differs.ensures.different h k) in
+    record {
+      old_read = HasRead-then _ _ 1 0 _ _ _ had.old_read read.old_read;
+      new_read = HasRead-then _ _ 1 0 _ _ _ had.new_read read.new_read;
+      count = omega (arith, ap length c.in_ok-push_known.ensures, length-append c.loop-number.differ.items (c.in_ok-differs.differs ∷ []), had.count);
+      few = omega (arith, had.few, one_at_most c.in_ok-differs.differs c.one_if-different.result c.one_if-different.ensures);
+      known = λ h k. KnowsBlocks-more c.loop-number.differ.items _ _ _ c.loop-number.number c.in_ok-differs.differs had.count (is h k) c.in_ok-push_known.ensures (had.known h k);
+      different = λ h k. different_among-more _ _ c.loop-number.number c.loop-number.different _ c.in_ok-differs.differs (is h k) c.one_if-different.ensures (had.different h k);
+    }

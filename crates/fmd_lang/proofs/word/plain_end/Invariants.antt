@@ -1,9 +1,0 @@
-use Rattle.std.proofs.Common.{length, ◌-◌, ◌≤◌}
-use Rattle.fmd_lang.proofs.WordLemmas.{IsRowTo}
-use Rattle.fmd_lang.proofs.word.plain_end.Given as goal
-
-abbrev pub invariant-loop-at : goal.invariant-loop-at
-invariant-loop-at l = (l.from ≤ l.at) × (l.at ≤ length l.text) × IsRowTo l.text l.from l.at
-
-abbrev pub decreases-loop-at : goal.decreases-loop-at
-decreases-loop-at l = length l.text - l.at
