@@ -15,7 +15,6 @@ use Rattle.cbfs_walk.proofs.Checks.{checks_give}
 use Rattle.cbfs_changes.specs.ComponentChanges.{ComponentState, first_of, stands_at, is_first_of, pair_change, change_by, change_of, removal_of, changes_between}
 use Rattle.cbfs_changes.specs.Sides.{HasReadBoth}
 use Rattle.cbfs_changes.proofs.Reading.{both-then, both-within}
-use Rattle.cbfs_changes.specs.declared.first.Listing.{Listing}
 use Rattle.cbfs_changes.specs.Firsts.{is_named, first_cell, is_at, is_first}
 use Rattle.cbfs_changes.specs.Listings.{IsUsedIn, IsListedIn, cell_difference, listed_change, listed_removal, spans, state_in, states_in}
 use Rattle.cbfs_changes.specs.declared.listing.Listed.{Listed}
@@ -139,14 +138,14 @@ module _ {F G : Type 0} (f : F → Device) (g : G → Device) (all : List Listed
   reads_all lt is some first second = both-within f g (spans (take (i + 1) all) / 24) (spans all / 24) a b old new other later (omega (arith, sum_by-take-le (λ (l : Listed). l.cell.span) all (i + 1))) (reads_more lt is some first second)
 
 -- all that is told
-pub all_told : (x y : List ℕ) (before after : Listing) (start mid end : List ComponentChange) → start ≡ [] → mid ≡ start ++ flat_map (listed_change x before y after) after.all.now
-    → end ≡ mid ++ flat_map (listed_removal x before y after) before.all.now → end ≡ changes_between (states_in x before) (states_in y after)
+pub all_told : (x y : List ℕ) (before after : List Listed) (start mid end : List ComponentChange) → start ≡ [] → mid ≡ start ++ flat_map (listed_change x before y after) after
+    → end ≡ mid ++ flat_map (listed_removal x before y after) before → end ≡ changes_between (states_in x before) (states_in y after)
 unfolding changes_between
 all_told x y before after start mid end none changes removals =
     removals
-    ∙ ap (λ (l : List ComponentChange). l ++ flat_map (listed_removal x before y after) before.all.now) (changes ∙ ap (λ (l : List ComponentChange). l ++ flat_map (listed_change x before y after) after.all.now) none)
-    ∙ ap (λ (l : List ComponentChange). l ++ flat_map (listed_removal x before y after) before.all.now) (flat_states y (change_of (states_in x before) (states_in y after)) after.all.now)
-    ∙ ap (λ (l : List ComponentChange). flat_map (change_of (states_in x before) (states_in y after)) (states_in y after) ++ l) (flat_states x (removal_of (states_in x before) (states_in y after)) before.all.now)
+    ∙ ap (λ (l : List ComponentChange). l ++ flat_map (listed_removal x before y after) before) (changes ∙ ap (λ (l : List ComponentChange). l ++ flat_map (listed_change x before y after) after) none)
+    ∙ ap (λ (l : List ComponentChange). l ++ flat_map (listed_removal x before y after) before) (flat_states y (change_of (states_in x before) (states_in y after)) after)
+    ∙ ap (λ (l : List ComponentChange). flat_map (change_of (states_in x before) (states_in y after)) (states_in y after) ++ l) (flat_states x (removal_of (states_in x before) (states_in y after)) before)
 
 -- the cell of a listed component has bytes
 pub listed_some : (size : ℕ) (all : List Listed) (i : ℕ) (l : Listed) → i < length all → l ≡ get_or all i l → All (IsListedIn size) all → 64 ≤ l.cell.span

@@ -1,13 +1,11 @@
 -- A map that keeps for each name the cell of the first component with it.
-use Rattle.std.specs.Prelude.{◌≡◌, ℕ, Bool, false, List, Option, Some, None, All, ◌==◌}
+use Rattle.std.specs.Prelude.{◌≡◌, ℕ, Bool, false, List, Option, Some, None, ◌==◌}
 use Rattle.std.specs.Borrow.{Bor}
 use Rattle.std.specs.List.{find}
 use Rattle.std.specs.Option.{option_map}
 use Rattle.std.specs.Str.{bytes_eq}
 use Rattle.std.specs.HashMap.{HashMap, get_by}
 use Rattle.cbfs_walk.specs.declared.cell.Cell.{Cell}
-use Rattle.cbfs_changes.specs.Listings.{IsListedIn}
-use Rattle.cbfs_changes.specs.declared.first.Listing.{Listing}
 use Rattle.cbfs_changes.specs.declared.listing.Listed.{Listed}
 
 abbrev pub is_named : List ℕ → Listed → Bool
@@ -33,8 +31,3 @@ noted first name = get_by (λ k. bytes_eq name k.now) first
 -- the map keeps those of these components, and no more
 abbrev pub Notes : {S : Type 0} → HashMap (Bor (List ℕ)) Cell S → List Listed → Type 0
 Notes first all = (name : List ℕ) → noted first name ≡ first_cell name all
-
--- the map is that of the components, and each lies in the region
-pub record IsListing (l : Listing) : Type 0 where
-  pub notes : Notes l.first l.all.now
-  pub cells : All (IsListedIn l.region.size) l.all.now

@@ -14,7 +14,6 @@ use Rattle.cbfs_walk.specs.declared.cell.Cell.{Cell}
 use Rattle.cbfs_changes.specs.ComponentChanges.{ComponentState, state_of, states, difference, change_of, removal_of}
 use Rattle.cbfs_changes.specs.declared.change.ComponentChange.{ComponentChange}
 use Rattle.cbfs_changes.specs.declared.change.Difference.{Difference}
-use Rattle.cbfs_changes.specs.declared.first.Listing.{Listing}
 use Rattle.cbfs_changes.specs.declared.listing.Listed.{Listed}
 
 -- the cell of a component in a region of this size
@@ -42,18 +41,18 @@ state_at x name c = record {
 abbrev pub state_in : List ℕ → Listed → ComponentState
 state_in x l = state_at x l.name l.cell
 
-abbrev pub states_in : List ℕ → Listing → List ComponentState
-states_in x l = map (state_in x) l.all.now
+abbrev pub states_in : List ℕ → List Listed → List ComponentState
+states_in x all = map (state_in x) all
 
 -- what differs first between two cells, in regions of these bytes, whatever their name
 abbrev pub cell_difference : List ℕ → Cell → List ℕ → Cell → Option Difference
 cell_difference x old y new = difference (state_at x [] old) (state_at y [] new)
 
--- what is told of a component of the new listing, and of one of the old, in regions of these bytes
-abbrev pub listed_change : List ℕ → Listing → List ℕ → Listing → Listed → List ComponentChange
+-- what is told of a component of the new list, and of one of the old, in regions of these bytes
+abbrev pub listed_change : List ℕ → List Listed → List ℕ → List Listed → Listed → List ComponentChange
 listed_change x old y new l = change_of (states_in x old) (states_in y new) (state_in y l)
 
-abbrev pub listed_removal : List ℕ → Listing → List ℕ → Listing → Listed → List ComponentChange
+abbrev pub listed_removal : List ℕ → List Listed → List ℕ → List Listed → Listed → List ComponentChange
 listed_removal x old y new l = removal_of (states_in x old) (states_in y new) (state_in x l)
 
 -- what a cell adds in a region of these bytes
@@ -73,4 +72,4 @@ AddsAtMost c old new = (new ≡ old) ⊎ AddsCell c old new
 pub record Lists {F : Type 0} (facts : F → Device) (region : Range) (pages : Pages F) (all : Vec Listed Global) : Type 0 where
   pub cells : All (IsListedIn region.size) all.items
   pub room : spans all.items ≤ region.size
-  pub shown : OnHonestIn facts pages.device region (λ x. map (state_in x) all.items ≡ states x)
+  pub shown : OnHonestIn facts pages.device region (λ x. states_in x all.items ≡ states x)

@@ -1,7 +1,8 @@
--- Faults by side, and what is left of two devices after reading both.
+-- Two regions, each on a device of its own: faults by side, and what is left after reading both.
 use Rattle.std.specs.Prelude.{ℕ, Result}
 use Rattle.flash_store.specs.Device.{Device, faults_told}
 use Rattle.flash_store.specs.Pages.{Pages, HasRead}
+use Rattle.flash_store.specs.Regions.{Range, LiesIn}
 use Rattle.cbfs_changes.specs.declared.fault.ChangeFault.{ChangeFault}
 use Rattle.cbfs_changes.specs.declared.fault.ChangeFault.TheVariants as faults
 use Rattle.cbfs_changes.specs.declared.fault.ListingFault.{ListingFault}
@@ -33,6 +34,11 @@ of_old listing.Memory = faults.Memory
 abbrev pub of_new : ListingFault → ChangeFault
 of_new listing.Device = faults.NewDevice
 of_new listing.Memory = faults.Memory
+
+-- each of two regions lies in its device
+pub record BothLieIn {F G : Type 0} (f : F → Device) (old : F) (old_region : Range) (g : G → Device) (new : G) (new_region : Range) : Type 0 where
+  pub in_old : LiesIn old_region (f old).content
+  pub in_new : LiesIn new_region (g new).content
 
 -- what is left of both devices after reading, with at most n calls of each, of which so many were refused
 pub record HasReadBoth {F G : Type 0} (f : F → Device) (g : G → Device) (n a b : ℕ) (old new : Pages F) (other later : Pages G) : Type 0 where

@@ -1,14 +1,13 @@
 //! What changes between two regions.
-ghost use Rattle.std.specs.Prelude.{◌≡◌, ℕ, List, [], ◌∷◌, ◌++◌, ◌+◌, ◌/◌, All, map, IfOk, OnOk};
+ghost use Rattle.std.specs.Prelude.{◌≡◌, ℕ, List, [], ◌∷◌, ◌++◌, ◌+◌, ◌/◌, All, IfOk, OnOk};
 ghost use Rattle.std.specs.List.{flat_map};
 ghost use Rattle.std.specs.Option.{ForSome};
 ghost use Rattle.flash_store.specs.Device.{faults_told};
 ghost use Rattle.flash_store.specs.Pages.{HasRead, OnHonest, OnHonestIn};
 ghost use Rattle.flash_store.specs.Regions.{LiesIn};
 ghost use Rattle.cbfs_changes.specs.ComponentChanges.{changes_between, component_changes, pair_change, region_bytes, region_size};
-ghost use Rattle.cbfs_changes.specs.Firsts.{IsListing};
-ghost use Rattle.cbfs_changes.specs.Listings.{IsListedIn, Lists, listed_change, listed_removal, spans, state_in, states_in};
-ghost use Rattle.cbfs_changes.specs.Sides.{HasCompared, by_new, by_old};
+ghost use Rattle.cbfs_changes.specs.Listings.{IsListedIn, Lists, listed_change, listed_removal, spans, states_in};
+ghost use Rattle.cbfs_changes.specs.Sides.{BothLieIn, HasCompared, by_new, by_old};
 
 use crate::change::{ComponentChange, Difference};
 use crate::compare::{are_same, difference};
@@ -105,16 +104,13 @@ fn tell_change<'a, F: Flash, G: Flash>(
     listed: &'a Listed,
     changes: &mut Changes,
 ) -> Result<(), ChangeFault>
-    requires old_region { LiesIn before.now.region (F.facts old.old.device).content }
-    requires new_region { LiesIn after.now.region (G.facts new.old.device).content }
-    requires before { IsListing before.now }
-    requires after { IsListing after.now }
+    requires regions { BothLieIn F.facts old.old.device before.now.region G.facts new.old.device after.now.region }
     requires listed { IsListedIn after.now.region.size listed.now }
 
     ensures after { HasCompared F.facts G.facts (2 + listed.now.cell.span / 4096) result old.old old.new new.old new.new }
     ensures told { OnHonestIn F.facts old.old.device before.now.region (λ x. OnHonestIn G.facts new.old.device after.now.region (λ y.
         OnOk result (changes.new.told.items ≡ changes.old.told.items
-        ++ listed_change x before.now y after.now listed.now))) }
+        ++ listed_change x before.now.all.now y after.now.all.now listed.now))) }
 {
     if !after.is_first(listed) {
         return Ok(());
@@ -136,15 +132,12 @@ fn tell_changes<'a, F: Flash, G: Flash>(
     after: &Listing<'a>,
     changes: &mut Changes,
 ) -> Result<(), ChangeFault>
-    requires old_region { LiesIn before.now.region (F.facts old.old.device).content }
-    requires new_region { LiesIn after.now.region (G.facts new.old.device).content }
-    requires before { IsListing before.now }
-    requires after { IsListing after.now }
+    requires { BothLieIn F.facts old.old.device before.now.region G.facts new.old.device after.now.region }
 
     ensures after { HasCompared F.facts G.facts (spans after.now.all.now / 24) result old.old old.new new.old new.new }
     ensures told { OnHonestIn F.facts old.old.device before.now.region (λ x. OnHonestIn G.facts new.old.device after.now.region (λ y.
         OnOk result (changes.new.told.items ≡ changes.old.told.items
-        ++ flat_map (listed_change x before.now y after.now) after.now.all.now))) }
+        ++ flat_map (listed_change x before.now.all.now y after.now.all.now) after.now.all.now))) }
 {
     for listed in after.all {
         tell_change(old, before, new, after, listed, changes)?;
@@ -159,11 +152,8 @@ fn tell_removal<'a>(
     listed: &'a Listed,
     changes: &mut Changes,
 ) -> Result<(), AllocError>
-    requires before { IsListing before.now }
-    requires after { IsListing after.now }
-
     ensures { (x y : List ℕ) → OnOk result (changes.new.told.items ≡ changes.old.told.items
-        ++ listed_removal x before.now y after.now listed.now) }
+        ++ listed_removal x before.now.all.now y after.now.all.now listed.now) }
 {
     if !before.is_first(listed) {
         return Ok(());
@@ -180,11 +170,8 @@ fn tell_removals<'a>(
     after: &Listing<'a>,
     changes: &mut Changes,
 ) -> Result<(), AllocError>
-    requires before { IsListing before.now }
-    requires after { IsListing after.now }
-
     ensures { (x y : List ℕ) → OnOk result (changes.new.told.items ≡ changes.old.told.items
-        ++ flat_map (listed_removal x before.now y after.now) before.now.all.now) }
+        ++ flat_map (listed_removal x before.now.all.now y after.now.all.now) before.now.all.now) }
 {
     for listed in before.all {
         tell_removal(before, after, listed, changes)?;
@@ -200,14 +187,11 @@ fn listing_changes<'a, F: Flash, G: Flash>(
     new: &mut Paged<G>,
     after: &Listing<'a>,
 ) -> Result<Vec<ComponentChange>, ChangeFault>
-    requires old_region { LiesIn before.now.region (F.facts old.old.device).content }
-    requires new_region { LiesIn after.now.region (G.facts new.old.device).content }
-    requires before { IsListing before.now }
-    requires after { IsListing after.now }
+    requires { BothLieIn F.facts old.old.device before.now.region G.facts new.old.device after.now.region }
 
     ensures after { HasCompared F.facts G.facts (spans after.now.all.now / 24) result old.old old.new new.old new.new }
     ensures changes { OnHonestIn F.facts old.old.device before.now.region (λ x. OnHonestIn G.facts new.old.device after.now.region (λ y.
-        IfOk result (λ changes. changes.items ≡ changes_between (states_in x before.now) (states_in y after.now)))) }
+        IfOk result (λ changes. changes.items ≡ changes_between (states_in x before.now.all.now) (states_in y after.now.all.now)))) }
 {
     let mut changes = Changes::new(alloc);
     tell_changes(old, before, new, after, &mut changes)?;
@@ -225,14 +209,13 @@ fn list_changes<'a, F: Flash, G: Flash>(
     new_region: Region,
     new_list: &'a [Listed],
 ) -> Result<Vec<ComponentChange>, ChangeFault>
-    requires old_region { LiesIn old_region (F.facts old.old.device).content }
-    requires new_region { LiesIn new_region (G.facts new.old.device).content }
+    requires regions { BothLieIn F.facts old.old.device old_region G.facts new.old.device new_region }
     requires old_list { All (IsListedIn old_region.size) old_list.now }
     requires new_list { All (IsListedIn new_region.size) new_list.now }
 
     ensures after { HasCompared F.facts G.facts (spans new_list.now / 24) result old.old old.new new.old new.new }
     ensures changes { OnHonestIn F.facts old.old.device old_region (λ x. OnHonestIn G.facts new.old.device new_region (λ y.
-        IfOk result (λ changes. changes.items ≡ changes_between (map (state_in x) old_list.now) (map (state_in y) new_list.now)))) }
+        IfOk result (λ changes. changes.items ≡ changes_between (states_in x old_list.now) (states_in y new_list.now)))) }
 {
     let before = with_firsts(alloc, old_region, old_list)?;
     let after = with_firsts(alloc, new_region, new_list)?;
@@ -283,8 +266,7 @@ fn cell_changes<F: Flash, G: Flash>(
     new: &mut Paged<G>,
     new_region: Region,
 ) -> Result<Vec<ComponentChange>, ChangeFault>
-    requires old { LiesIn old_region (F.facts old.old.device).content }
-    requires new { LiesIn new_region (G.facts new.old.device).content }
+    requires { BothLieIn F.facts old.old.device old_region G.facts new.old.device new_region }
 
     ensures old { HasRead F.facts ((old_region.size + new_region.size) / 24 + 2) (faults_told by_old result) old.old old.new }
     ensures new { HasRead G.facts (new_region.size / 12 + 2) (faults_told by_new result) new.old new.new }
@@ -306,8 +288,7 @@ fn region_changes<F: Flash, G: Flash>(
     new: &mut Paged<G>,
     new_region: Region,
 ) -> Result<Vec<ComponentChange>, ChangeFault>
-    requires old { LiesIn old_region (F.facts old.old.device).content }
-    requires new { LiesIn new_region (G.facts new.old.device).content }
+    requires { BothLieIn F.facts old.old.device old_region G.facts new.old.device new_region }
 
     ensures old { HasRead F.facts ((old_region.size + new_region.size) / 16 + 2) (faults_told by_old result) old.old old.new }
     ensures new { HasRead G.facts (new_region.size / 8 + 2) (faults_told by_new result) new.old new.new }

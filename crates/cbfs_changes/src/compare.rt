@@ -2,9 +2,8 @@
 ghost use Rattle.std.specs.Prelude.{◌≡◌, ◌+◌, ◌-◌, ◌/◌, ◌≤◌, true, length, slice_range, IfOk};
 ghost use Rattle.std.specs.Str.{bytes_eq};
 ghost use Rattle.flash_store.specs.Pages.{OnHonest, OnHonestIn};
-ghost use Rattle.flash_store.specs.Regions.{LiesIn};
 ghost use Rattle.cbfs_changes.specs.Listings.{IsUsedIn, cell_difference};
-ghost use Rattle.cbfs_changes.specs.Sides.{HasCompared};
+ghost use Rattle.cbfs_changes.specs.Sides.{BothLieIn, HasCompared};
 
 use crate::change::Difference;
 use crate::fault::ChangeFault;
@@ -24,8 +23,7 @@ pub fn difference<F: Flash, G: Flash>(
     new_region: Region,
     after: &Cell,
 ) -> Result<Option<Difference>, ChangeFault>
-    requires old_region { LiesIn old_region (F.facts old.old.device).content }
-    requires new_region { LiesIn new_region (G.facts new.old.device).content }
+    requires regions { BothLieIn F.facts old.old.device old_region G.facts new.old.device new_region }
     requires before { IsUsedIn old_region.size before.now }
     requires after { IsUsedIn new_region.size after.now }
 
@@ -59,8 +57,7 @@ pub fn are_same<F: Flash, G: Flash>(
     new: &mut Paged<G>,
     new_region: Region,
 ) -> Result<bool, ChangeFault>
-    requires old { LiesIn old_region (F.facts old.old.device).content }
-    requires new { LiesIn new_region (G.facts new.old.device).content }
+    requires { BothLieIn F.facts old.old.device old_region G.facts new.old.device new_region }
 
     ensures after { HasCompared F.facts G.facts (new_region.size / 48) result old.old old.new new.old new.new }
     ensures same { OnHonestIn F.facts old.old.device old_region (λ x. OnHonestIn G.facts new.old.device new_region (λ y.
@@ -82,8 +79,7 @@ fn same_stretch<F: Flash, G: Flash>(
     new_region: Region,
     after: Stretch,
 ) -> Result<bool, ChangeFault>
-    requires old_region { LiesIn old_region (F.facts old.old.device).content }
-    requires new_region { LiesIn new_region (G.facts new.old.device).content }
+    requires regions { BothLieIn F.facts old.old.device old_region G.facts new.old.device new_region }
     requires before { before.end ≤ old_region.size }
     requires after { after.end ≤ new_region.size }
     requires old_order { before.from ≤ before.end }

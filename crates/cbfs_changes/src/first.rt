@@ -1,6 +1,8 @@
 //! The first component of each name.
-ghost use Rattle.std.specs.Prelude.{◌≡◌, ◌∷◌, List, IfOk, OnOk};
+ghost use Rattle.std.specs.Prelude.{◌≡◌, ◌∷◌, List, All, IfOk, OnOk};
+ghost use Rattle.std.proofs.Props.{props};
 ghost use Rattle.cbfs_changes.specs.Firsts.{Notes, first_cell, is_first};
+ghost use Rattle.cbfs_changes.specs.Listings.{IsListedIn};
 ghost use Rattle.cbfs_changes.specs.declared.listing.Listed.{Listed};
 
 use crate::listing::Listed;
@@ -20,12 +22,13 @@ pub struct Listing<'a> {
     pub region: Region,
     pub all: &'a [Listed],
     pub first: Firsts<'a>,
+    ghost notes: { Notes first all.now } by { Prim.hlevel props },
+    ghost cells: { All (IsListedIn region.size) all.now } by { Prim.hlevel props },
 }
 
 impl<'a> Listing<'a> {
     /// The cell of the first component of a name.
     pub fn first(&self, name: &'a [u8]) -> Option<Cell>
-        requires { Notes self.now.first self.now.all.now }
         ensures { result ≡ first_cell name.now self.now.all.now }
     {
         self.first.get(name).copied()
@@ -33,7 +36,6 @@ impl<'a> Listing<'a> {
 
     /// Whether no component in front of this one has its name.
     pub fn is_first(&self, listed: &'a Listed) -> bool
-        requires { Notes self.now.first self.now.all.now }
         ensures { result ≡ is_first self.now.all.now listed.now }
     {
         match self.first(listed.name.as_slice()) {
@@ -49,9 +51,10 @@ pub fn with_firsts<'a>(
     region: Region,
     all: &'a [Listed],
 ) -> Result<Listing<'a>, AllocError>
+    requires { All (IsListedIn region.size) all.now }
+
     ensures region { IfOk result (λ l. l.region ≡ region) }
     ensures all { IfOk result (λ l. l.all.now ≡ all.now) }
-    ensures notes { IfOk result (λ l. Notes l.first all.now) }
 {
     let mut first = HashMap::with_hasher(alloc, BuildHasherDefault::new());
     let mut left = all.len();

@@ -1,11 +1,11 @@
 //! The components of a region.
-ghost use Rattle.std.specs.Prelude.{◌≡◌, ◌≢◌, ◌+◌, ◌/◌, [], ◌∷◌, ◌++◌, map, IfOk, IfErr, OnOk, OnErr};
+ghost use Rattle.std.specs.Prelude.{◌≡◌, ◌≢◌, ◌+◌, ◌/◌, [], ◌∷◌, ◌++◌, IfOk, IfErr, OnOk, OnErr};
 ghost use Rattle.flash_store.specs.Device.{faults_told};
 ghost use Rattle.flash_store.specs.Pages.{HasRead, OnHonestIn};
 ghost use Rattle.flash_store.specs.Regions.{LiesIn};
 ghost use Rattle.cbfs_walk.specs.Cells.{IsCellIn};
 ghost use Rattle.cbfs_walk.specs.Walks.{StandsIn};
-ghost use Rattle.cbfs_changes.specs.Listings.{AddsAtMost, Lists, cell_states, state_in};
+ghost use Rattle.cbfs_changes.specs.Listings.{AddsAtMost, Lists, cell_states, states_in};
 ghost use Rattle.cbfs_changes.specs.Sides.{by_device};
 
 use crate::fault::ListingFault;
@@ -35,7 +35,7 @@ fn list_cell<F: Flash>(
     ensures after { HasRead F.facts 1 (faults_told by_device result) paged.old paged.new }
     ensures adds { OnOk result (AddsAtMost cell.now all.old.items all.new.items) }
     ensures listed { OnHonestIn F.facts paged.old.device region (λ x. StandsIn x cell.now →
-        OnOk result (map (state_in x) all.new.items ≡ map (state_in x) all.old.items ++ cell_states x cell.now)) }
+        OnOk result (states_in x all.new.items ≡ states_in x all.old.items ++ cell_states x cell.now)) }
 {
     cells_stand_in_their_image();
     if cell.head.is_free() {

@@ -40,41 +40,31 @@ range_of a = record { start = a.area.offset; size = a.area.size }
 abbrev pub is_compared : ℕ → ℕ → ℕ → NumberedArea → NumberedArea → Bool
 is_compared left m n a b = (a.area.size == b.area.size) && (nat_le (area_end a.area) m && (nat_le (area_end b.area) n && nat_le b.area.size left))
 
--- how many bytes are left to compare then
-abbrev pub left_after_both : ℕ → ℕ → ℕ → NumberedArea → NumberedArea → ℕ
-left_after_both left m n a b = if is_compared left m n a b then left - b.area.size else left
-
 -- in how many blocks their bytes differ
 abbrev pub blocks_between : List ℕ → List ℕ → NumberedArea → NumberedArea → ℕ
 blocks_between x y a b = different_blocks (bytes_in (range_of a) x) (bytes_in (range_of b) y)
 
--- of the bytes of two areas of one size
-abbrev pub content_changes : ℕ → List ℕ → List ℕ → NumberedArea → NumberedArea → List AreaChange
-content_changes left x y a b =
-    if is_compared left (length x) (length y) a b
-    then told_if (nat_lt 0 (blocks_between x y a b)) (Differs b (blocks_between x y a b))
-    else NotCompared b ∷ []
+-- of where an area of the new map stands and of its size, by the old one of its name where the old map has one
+abbrev pub place_changes : Option NumberedArea → NumberedArea → List AreaChange
+place_changes None b = Added b ∷ []
+place_changes (Some a) b = told_if (not (a.area.offset == b.area.offset)) (Moved a b) ++ told_if (not (a.area.size == b.area.size)) (Resized a b)
 
--- of an area of the new map and the old one of its name
-abbrev pub changes_between : ℕ → List ℕ → List ℕ → NumberedArea → NumberedArea → List AreaChange
-changes_between left x y a b =
-    told_if (not (a.area.offset == b.area.offset)) (Moved a b)
-    ++ (if a.area.size == b.area.size then content_changes left x y a b else Resized a b ∷ [])
-
--- the same where the old map may have none of its name
-abbrev pub changes_of : ℕ → List ℕ → List ℕ → Option NumberedArea → NumberedArea → List AreaChange
-changes_of left x y None b = Added b ∷ []
-changes_of left x y (Some a) b = changes_between left x y a b
+-- of its bytes, where both areas have one size, and so many bytes are left to compare
+abbrev pub content_changes : ℕ → List ℕ → List ℕ → Option NumberedArea → NumberedArea → List AreaChange
+content_changes left x y None b = []
+content_changes left x y (Some a) b =
+    if is_compared left (length x) (length y) a b then told_if (nat_lt 0 (blocks_between x y a b)) (Differs b (blocks_between x y a b))
+    else told_if (a.area.size == b.area.size) (NotCompared b)
 
 -- and how many bytes are left to compare then
 abbrev pub left_after : ℕ → ℕ → ℕ → Option NumberedArea → NumberedArea → ℕ
 left_after left m n None b = left
-left_after left m n (Some a) b = left_after_both left m n a b
+left_after left m n (Some a) b = if is_compared left m n a b then left - b.area.size else left
 
 -- of these areas of the new map, one after the other, where so many bytes are left to compare
 abbrev pub changes_in : ℕ → List ℕ → List ℕ → List Pair → List AreaChange
 changes_in left x y [] = []
-changes_in left x y (p ∷ pairs) = changes_of left x y p.old p.new ++ changes_in (left_after left (length x) (length y) p.old p.new) x y pairs
+changes_in left x y (p ∷ pairs) = place_changes p.old p.new ++ content_changes left x y p.old p.new ++ changes_in (left_after left (length x) (length y) p.old p.new) x y pairs
 
 -- of an area of the old map that its name reaches, where the new map has none of the name
 abbrev pub gone_of : List NumberedArea → List NumberedArea → NumberedArea → List AreaChange

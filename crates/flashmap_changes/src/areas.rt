@@ -1,17 +1,17 @@
 //! What changes between the areas of two images.
 ghost use Rattle.std.specs.Prelude.{◌≡◌, ◌+◌, ◌-◌, ◌*◌, ◌/◌, ◌≤◌, ◌++◌, length, false, true, MatchOption, IfOk, OnOk};
-ghost use Rattle.flashmap_changes.specs.AreaChanges.{range_of, is_compared, left_after_both, left_after, content_changes, changes_of, changes_in};
+ghost use Rattle.flashmap_changes.specs.AreaChanges.{range_of, is_compared, left_after, place_changes, content_changes, changes_in};
 ghost use Rattle.flashmap_changes.specs.AreaChanges as areas;
-ghost use Rattle.flashmap_changes.specs.Blocks.{blocks_of, KnowsBlocks};
+ghost use Rattle.flashmap_changes.specs.Blocks.{blocks_of};
 ghost use Rattle.flashmap_changes.specs.Blocks as spec;
-ghost use Rattle.flashmap_changes.specs.Images.{HasCompared, OnBoth};
+ghost use Rattle.flashmap_changes.specs.Images.{HasCompared, KnowsImages, OnBoth};
 
 use crate::blocks::{different_blocks, different_in, whole_blocks};
 use crate::change::{AreaChange, ChangeFault, push_if};
 use crate::pairs::{Pair, pairs, push_gone};
 use flash_store::{Flash, Paged, Region};
 use flashmap_check::{AreaNames, NumberedArea};
-use std::alloc::Global;
+use std::alloc::{AllocError, Global};
 
 /// How many times the length of the new image is compared at most. Areas of a map may hold each other, and a map may have
 /// 65535 areas that each hold the whole image.
@@ -43,29 +43,47 @@ fn compared_regions(
     Some((old_region, new_region))
 }
 
-/// Tells of the bytes of two areas of one size.
+/// Tells of where an area of the new map stands, and of its size.
+fn push_place_changes(changes: &mut Vec<AreaChange>, pair: Pair) -> Result<(), AllocError>
+    ensures { OnOk result (changes.new.items ≡ changes.old.items ++ place_changes pair.old pair.new) }
+{
+    let new = pair.new;
+    let Some(old) = pair.old else {
+        return push_if(changes, true, AreaChange::Added(new));
+    };
+    let is_moved = old.area.offset != new.area.offset;
+    push_if(changes, is_moved, AreaChange::Moved { old, new })?;
+    let is_resized = old.area.size != new.area.size;
+    push_if(changes, is_resized, AreaChange::Resized { old, new })
+}
+
+/// Tells of its bytes, where it has the size of the old area of its name.
 fn push_content_changes<F: Flash, G: Flash>(
     changes: &mut Vec<AreaChange>,
     left: &mut u64,
     known: &[bool],
     old_image: &mut Paged<F>,
-    old: NumberedArea,
     new_image: &mut Paged<G>,
-    new: NumberedArea,
+    pair: Pair,
 ) -> Result<(), ChangeFault>
-    requires { OnBoth F.facts old_image.old.device G.facts new_image.old.device (λ x y. KnowsBlocks x y known.now) }
+    requires { KnowsImages F.facts old_image.old.device G.facts new_image.old.device known.now }
 
     ensures after { HasCompared F.facts G.facts (blocks_of (left.old - left.new))
         old_image.old old_image.new new_image.old new_image.new result }
-    ensures left { left.new ≡ left_after_both left.old (length (F.facts old_image.old.device).content)
-        (length (G.facts new_image.old.device).content) old new }
+    ensures left { left.new ≡ left_after left.old (length (F.facts old_image.old.device).content)
+        (length (G.facts new_image.old.device).content) pair.old pair.new }
     ensures fewer { left.new ≤ left.old }
     ensures changes { OnBoth F.facts old_image.old.device G.facts new_image.old.device (λ x y.
-        OnOk result (changes.new.items ≡ changes.old.items ++ content_changes left.old x y old new)) }
+        OnOk result (changes.new.items ≡ changes.old.items ++ content_changes left.old x y pair.old pair.new)) }
 {
+    let new = pair.new;
+    let Some(old) = pair.old else {
+        return Ok(());
+    };
     let compared = compared_regions(*left, old_image.len(), old, new_image.len(), new);
     let Some((old_region, new_region)) = compared else {
-        push_if(changes, true, AreaChange::NotCompared(new))?;
+        let is_same_size = old.area.size == new.area.size;
+        push_if(changes, is_same_size, AreaChange::NotCompared(new))?;
         return Ok(());
     };
     *left -= u64::from(new.area.size);
@@ -78,39 +96,6 @@ fn push_content_changes<F: Flash, G: Flash>(
     Ok(())
 }
 
-/// Tells of one area of the new map.
-fn push_changes_of<F: Flash, G: Flash>(
-    changes: &mut Vec<AreaChange>,
-    left: &mut u64,
-    known: &[bool],
-    old_image: &mut Paged<F>,
-    new_image: &mut Paged<G>,
-    pair: Pair,
-) -> Result<(), ChangeFault>
-    requires { OnBoth F.facts old_image.old.device G.facts new_image.old.device (λ x y. KnowsBlocks x y known.now) }
-
-    ensures after { HasCompared F.facts G.facts (blocks_of (left.old - left.new))
-        old_image.old old_image.new new_image.old new_image.new result }
-    ensures left { OnOk result (left.new ≡ left_after left.old (length (F.facts old_image.old.device).content)
-        (length (G.facts new_image.old.device).content) pair.old pair.new) }
-    ensures fewer { left.new ≤ left.old }
-    ensures changes { OnBoth F.facts old_image.old.device G.facts new_image.old.device (λ x y.
-        OnOk result (changes.new.items ≡ changes.old.items ++ changes_of left.old x y pair.old pair.new)) }
-{
-    let new = pair.new;
-    let Some(old) = pair.old else {
-        push_if(changes, true, AreaChange::Added(new))?;
-        return Ok(());
-    };
-    let is_moved = old.area.offset != new.area.offset;
-    push_if(changes, is_moved, AreaChange::Moved { old, new })?;
-    if old.area.size != new.area.size {
-        push_if(changes, true, AreaChange::Resized { old, new })?;
-        return Ok(());
-    }
-    push_content_changes(changes, left, known, old_image, old, new_image, new)
-}
-
 /// Tells of the areas of the new map, of whose blocks some are known.
 fn push_changes<F: Flash, G: Flash>(
     changes: &mut Vec<AreaChange>,
@@ -119,7 +104,7 @@ fn push_changes<F: Flash, G: Flash>(
     new_image: &mut Paged<G>,
     pairs: &[Pair],
 ) -> Result<(), ChangeFault>
-    requires { OnBoth F.facts old_image.old.device G.facts new_image.old.device (λ x y. KnowsBlocks x y known.now) }
+    requires { KnowsImages F.facts old_image.old.device G.facts new_image.old.device known.now }
 
     ensures after { HasCompared F.facts G.facts (8 * length (G.facts new_image.old.device).content / 4096 + length pairs.now)
         old_image.old old_image.new new_image.old new_image.new result }
@@ -128,7 +113,8 @@ fn push_changes<F: Flash, G: Flash>(
 {
     let mut left = MOST_TIMES * new_image.len();
     for pair in pairs {
-        push_changes_of(changes, &mut left, known, old_image, new_image, *pair)?;
+        push_place_changes(changes, *pair)?;
+        push_content_changes(changes, &mut left, known, old_image, new_image, *pair)?;
     }
     Ok(())
 }
@@ -144,7 +130,7 @@ fn area_changes<'a, F: Flash, G: Flash>(
     new_image: &mut Paged<G>,
     new_areas: &'a [NumberedArea],
 ) -> Result<Vec<AreaChange>, ChangeFault>
-    requires { OnBoth F.facts old_image.old.device G.facts new_image.old.device (λ x y. KnowsBlocks x y known.now) }
+    requires { KnowsImages F.facts old_image.old.device G.facts new_image.old.device known.now }
 
     ensures after { HasCompared F.facts G.facts (8 * length (G.facts new_image.old.device).content / 4096 + length new_areas.now)
         old_image.old old_image.new new_image.old new_image.new result }

@@ -1,8 +1,8 @@
 //! In how many blocks two regions differ.
 ghost use Rattle.std.specs.Prelude.{◌≡◌, ℕ, ◌+◌, ◌*◌, ◌/◌, ◌^◌, ◌<◌, ◌≤◌, List, [], ◌∷◌, ◌++◌, length, min, max, IfOk, IfSome, OnOk, if◌then◌else◌};
-ghost use Rattle.flash_store.specs.Regions.{LiesIn, bytes_in};
+ghost use Rattle.flash_store.specs.Regions.{bytes_in};
 ghost use Rattle.flashmap_changes.specs.Blocks.{blocks_of, differs, different_among, different_blocks, KnowsBlocks};
-ghost use Rattle.flashmap_changes.specs.Images.{HasCompared, OnBoth};
+ghost use Rattle.flashmap_changes.specs.Images.{HasCompared, KnowsRegions, OnBoth};
 
 use crate::change::ChangeFault;
 use flash_store::{Flash, PIECE, Paged, Region};
@@ -52,9 +52,7 @@ fn is_different<F: Flash, G: Flash>(
     new_region: Region,
     number: u64,
 ) -> Result<bool, ChangeFault>
-    requires known { OnBoth F.facts old_image.old.device G.facts new_image.old.device (λ x y. KnowsBlocks x y known.now) }
-    requires old_inside { LiesIn old_region (F.facts old_image.old.device).content }
-    requires new_inside { LiesIn new_region (G.facts new_image.old.device).content }
+    requires regions { KnowsRegions F.facts old_image.old.device old_region G.facts new_image.old.device new_region known.now }
     requires old_begins { 4096 * number ≤ old_region.size }
     requires new_begins { 4096 * number ≤ new_region.size }
 
@@ -148,9 +146,7 @@ pub fn different_in<F: Flash, G: Flash>(
     new_region: Region,
 ) -> Result<u32, ChangeFault>
     requires sizes { old_region.size ≡ new_region.size }
-    requires known { OnBoth F.facts old_image.old.device G.facts new_image.old.device (λ x y. KnowsBlocks x y known.now) }
-    requires old_inside { LiesIn old_region (F.facts old_image.old.device).content }
-    requires new_inside { LiesIn new_region (G.facts new_image.old.device).content }
+    requires regions { KnowsRegions F.facts old_image.old.device old_region G.facts new_image.old.device new_region known.now }
 
     ensures after { HasCompared F.facts G.facts (blocks_of new_region.size)
         old_image.old old_image.new new_image.old new_image.new result }

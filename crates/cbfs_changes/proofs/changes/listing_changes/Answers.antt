@@ -8,4 +8,4 @@ returns-clause-changes g c = λ h k.
     let after = c.args.after.now in
     let x = bytes_in before.region (g.F.Flash.facts c.args.old.now.device).content in
     let y = bytes_in after.region (g.G.Flash.facts c.args.new.now.device).content in
-    all_told x y before after _ _ _ c.new-changes.ensures (c.in_ok-tell_changes.ensures.told h k) (c.in_ok-tell_removals.ensures x y)
+    all_told x y before.all.now after.all.now _ _ _ c.new-changes.ensures (c.in_ok-tell_changes.ensures.told h k) (c.in_ok-tell_removals.ensures x y)

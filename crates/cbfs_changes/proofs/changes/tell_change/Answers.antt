@@ -8,7 +8,7 @@ use Rattle.cbfs_changes.proofs.ChangeLemmas.{change_none, change_added, change_p
 use Rattle.cbfs_changes.proofs.changes.tell_change.Goals as goal
 
 pub difference-requires-clause-before : goal.difference-requires-clause-before
-difference-requires-clause-before g c = first_lies _ c.as_slice.result.now c.args.before.now.all.now c.in-Some.cell c.requires.before.cells c.in-Some.ensures
+difference-requires-clause-before g c = first_lies _ c.as_slice.result.now c.args.before.now.all.now c.in-Some.cell c.args.before.now.cells c.in-Some.ensures
 
 pub returns-then-not-is_first-clause-told : goal.returns-then-not-is_first-clause-told
 returns-then-not-is_first-clause-told g c = λ h k.

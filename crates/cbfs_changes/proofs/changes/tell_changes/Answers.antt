@@ -11,7 +11,7 @@ returns-in_err-tell_change-clause-after g c =
     let l = c.listed-item.result in
     let lt = c.loop-listed-test.true in
     let step : HasReadBoth g.F.Flash.facts g.G.Flash.facts (2 + l.cell.span / 4096) (faults_told by_old c.from_residual.result) (faults_told by_new c.from_residual.result) c.loop-listed.old c.tell_change.new.old c.loop-listed.new c.tell_change.new.new = search rules in
-    reads_all g.F.Flash.facts g.G.Flash.facts all c.loop-listed.listed-index _ _ l _ _ _ _ _ _ lt c.listed-item.is (listed_some _ all _ l lt c.listed-item.is c.requires.after.cells) c.loop-listed.invariant.read step
+    reads_all g.F.Flash.facts g.G.Flash.facts all c.loop-listed.listed-index _ _ l _ _ _ _ _ _ lt c.listed-item.is (listed_some _ all _ l lt c.listed-item.is c.args.after.now.cells) c.loop-listed.invariant.read step
 
 pub loop-listed-preserved : goal.loop-listed-preserved
 loop-listed-preserved g c =
@@ -20,7 +20,7 @@ loop-listed-preserved g c =
     let l = c.listed-item.result in
     let lt = c.loop-listed-test.true in
     record {
-      read = reads_more g.F.Flash.facts g.G.Flash.facts all c.loop-listed.listed-index 0 0 l _ _ _ _ _ _ lt c.listed-item.is (listed_some _ all _ l lt c.listed-item.is c.requires.after.cells) had.read c.in_ok-tell_change.ensures.after;
+      read = reads_more g.F.Flash.facts g.G.Flash.facts all c.loop-listed.listed-index 0 0 l _ _ _ _ _ _ lt c.listed-item.is (listed_some _ all _ l lt c.listed-item.is c.args.after.now.cells) had.read c.in_ok-tell_change.ensures.after;
       told = λ h k.
           let told = c.in_ok-tell_change.ensures.told (honest_still had.read.of_old.device.calls.same_honesty h) (honest_still had.read.of_new.device.calls.same_honesty k) in
           changes_more _ all c.loop-listed.listed-index l _ _ _ lt c.listed-item.is (rw (had.read.of_new.device.unchanged k) at (rw (had.read.of_old.device.unchanged h) at told)) (had.told h k);

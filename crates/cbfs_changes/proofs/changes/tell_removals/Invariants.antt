@@ -5,5 +5,5 @@ use Rattle.cbfs_changes.proofs.changes.tell_removals.Given as goal
 
 abbrev pub invariant-loop-listed : goal.invariant-loop-listed
 invariant-loop-listed l = (x y : List ℕ) →
-    let removal = listed_removal x l.before y l.after in
+    let removal = listed_removal x l.before.all.now y l.after.all.now in
     l.changes.told.items ++ flat_map removal (drop l.listed-index l.before.all.now) ≡ l.initial.changes.told.items ++ flat_map removal l.before.all.now
