@@ -44,12 +44,12 @@ is_compared left m n a b = (a.area.size == b.area.size) && (nat_le (area_end a.a
 abbrev pub blocks_between : List ℕ → List ℕ → NumberedArea → NumberedArea → ℕ
 blocks_between x y a b = different_blocks (bytes_in (range_of a) x) (bytes_in (range_of b) y)
 
--- of where an area of the new map stands and of its size, by the old one of its name where the old map has one
+-- of where an area of the new map stands and of its size, by the old one of its name
 abbrev pub place_changes : Option NumberedArea → NumberedArea → List AreaChange
 place_changes None b = Added b ∷ []
 place_changes (Some a) b = told_if (not (a.area.offset == b.area.offset)) (Moved a b) ++ told_if (not (a.area.size == b.area.size)) (Resized a b)
 
--- of its bytes, where both areas have one size, and so many bytes are left to compare
+-- of the bytes of an area and of the old one of its name, where they have one size and so many bytes are left to compare
 abbrev pub content_changes : ℕ → List ℕ → List ℕ → Option NumberedArea → NumberedArea → List AreaChange
 content_changes left x y None b = []
 content_changes left x y (Some a) b =

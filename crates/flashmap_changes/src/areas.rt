@@ -57,7 +57,7 @@ fn push_place_changes(changes: &mut Vec<AreaChange>, pair: Pair) -> Result<(), A
     push_if(changes, is_resized, AreaChange::Resized { old, new })
 }
 
-/// Tells of its bytes, where it has the size of the old area of its name.
+/// Tells of the bytes of an area of the new map, where it has the size of the old one of its name.
 fn push_content_changes<F: Flash, G: Flash>(
     changes: &mut Vec<AreaChange>,
     left: &mut u64,
