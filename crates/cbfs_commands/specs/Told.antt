@@ -1,6 +1,7 @@
 -- What a command that changes nothing writes and answers, and what a call did of it.
-use Rattle.std.specs.Prelude.{◌≡◌, ℕ, ◌<◌, ◌≤◌, ◌⊎◌, IsErrOf, List, [], Option, Result, Ok, Err, length, take}
+use Rattle.std.specs.Prelude.{◌≡◌, ℕ, ◌<◌, ◌≤◌, ◌⊎◌, IsErrOf, List, [], false, Option, Result, Ok, Err, length, take}
 use Rattle.std.specs.Io.KnownBytes.{Appends}
+use Rattle.flash_format.specs.Head.{is_free}
 use Rattle.flash_store.specs.Device.{Device, faults_told}
 use Rattle.flash_store.specs.Pages.{Pages, HasRead, OnHonest, OnHonestIn}
 use Rattle.flash_store.specs.Output.{AppendsPart}
@@ -41,6 +42,11 @@ pub record IsCellOf {F : Type 0} (facts : F → Device) (r : Range) (c : Cell) (
   pub region : LiesIn r (facts device).content
   pub cell : IsCellIn r.size c
   pub stands : OnHonestIn facts device r (λ x. StandsIn x c)
+
+-- a cell of a region of a device that isn't free
+pub record IsComponentOf {F : Type 0} (facts : F → Device) (r : Range) (c : Cell) (device : F) : Type 0 where
+  pub cell : IsCellOf facts r c device
+  pub used : is_free c.head ≡ false
 
 -- the bytes of a cell of a region, of all those of an image
 abbrev pub cell_of : Range → Cell → List ℕ → List ℕ

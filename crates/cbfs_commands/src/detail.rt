@@ -1,18 +1,17 @@
 //! The lines that a verbose listing has of a component, after its row.
 
-ghost use Rattle.std.specs.Prelude.{◌≡◌, ◌+◌, ◌/◌, ◌≤◌, ◌++◌, false, length, map};
+ghost use Rattle.std.specs.Prelude.{◌≡◌, ◌+◌, ◌/◌, ◌≤◌, ◌++◌, length, map};
 ghost use Rattle.std.specs.List.{flat_map};
 ghost use Rattle.byteorder.specs.Endian.{big_bytes};
 ghost use Rattle.hex.specs.Hex.{encode_lower};
 ghost use Rattle.arrayvec.specs.ArrayVec.{array_vec_len};
-ghost use Rattle.flash_format.specs.Head.{is_free};
 ghost use Rattle.flash_format.specs.Made.{digest_bytes};
 ghost use Rattle.flash_format.specs.Components.{cell_attributes, cell_content};
 ghost use Rattle.printed_fields.specs.Printed.{Pushes};
 ghost use Rattle.cbfs_walk.specs.AttrWalks.{head_of_attribute};
 ghost use Rattle.cbfs_walk.specs.Hashes.{hash_state};
 ghost use Rattle.cbfs_commands.specs.Details.{attribute_line, details, digest_line, hash_line, hash_text};
-ghost use Rattle.cbfs_commands.specs.Told.{HasTold, IsCellOf, cell_of, shows};
+ghost use Rattle.cbfs_commands.specs.Told.{HasTold, IsComponentOf, cell_of, shows};
 
 use crate::refusal::Refusal;
 use crate::row::{ROW_LEN, Row, push_decimal, put_row};
@@ -96,8 +95,7 @@ fn print_attributes<F: Flash, W: Sink>(
     row: &mut Row,
     out: &mut W,
 ) -> Result<(), Refusal>
-    requires cell { IsCellOf F.facts region cell.now paged.old.device }
-    requires component { is_free cell.now.head ≡ false }
+    requires { IsComponentOf F.facts region cell.now paged.old.device }
 
     ensures { HasTold F.facts W.contents W.faults (cell.now.head.offset / 8) paged.old paged.new out.old out.new result
         (λ image. shows (flat_map attribute_line (map head_of_attribute (cell_attributes (cell_of region cell.now image))))) }
@@ -118,8 +116,7 @@ fn print_hash<F: Flash, W: Sink>(
     row: &mut Row,
     out: &mut W,
 ) -> Result<(), Refusal>
-    requires cell { IsCellOf F.facts region cell.now paged.old.device }
-    requires component { is_free cell.now.head ≡ false }
+    requires { IsComponentOf F.facts region cell.now paged.old.device }
 
     ensures { HasTold F.facts W.contents W.faults (1 + cell.now.span / 3840) paged.old paged.new out.old out.new result
         (λ image. shows (hash_text (cell_of region cell.now image))) }
@@ -137,8 +134,7 @@ pub fn print_details<F: Flash, W: Sink>(
     row: &mut Row,
     out: &mut W,
 ) -> Result<(), Refusal>
-    requires cell { IsCellOf F.facts region cell.now paged.old.device }
-    requires component { is_free cell.now.head ≡ false }
+    requires { IsComponentOf F.facts region cell.now paged.old.device }
 
     ensures { HasTold F.facts W.contents W.faults (cell.now.head.offset / 8 + (1 + cell.now.span / 3840))
         paged.old paged.new out.old out.new result (λ image. shows (details (cell_of region cell.now image))) }

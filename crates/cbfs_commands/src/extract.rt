@@ -1,10 +1,9 @@
 //! The command `extract`.
 
-ghost use Rattle.std.specs.Prelude.{◌≡◌, ◌+◌, ◌*◌, ◌/◌, ◌<◌, ◌≤◌, false, length};
+ghost use Rattle.std.specs.Prelude.{◌≡◌, ◌+◌, ◌*◌, ◌/◌, ◌<◌, ◌≤◌, length};
 ghost use Rattle.flash_format.specs.Components.{component_at};
-ghost use Rattle.flash_format.specs.Head.{is_free};
 ghost use Rattle.cbfs_commands.specs.Outcomes.{extract_region, told_component, told_in};
-ghost use Rattle.cbfs_commands.specs.Told.{HasTold, IsCellOf, cell_of};
+ghost use Rattle.cbfs_commands.specs.Told.{HasTold, IsComponentOf, cell_of};
 
 use crate::read::copy_out;
 use crate::refusal::Refusal;
@@ -18,8 +17,7 @@ fn extract_component<F: Flash, W: Sink>(
     cell: &Cell,
     out: &mut W,
 ) -> Result<(), Refusal>
-    requires cell { IsCellOf F.facts region cell.now paged.old.device }
-    requires component { is_free cell.now.head ≡ false }
+    requires { IsComponentOf F.facts region cell.now paged.old.device }
 
     ensures { HasTold F.facts W.contents W.faults (cell.now.span / 3840 + 2) paged.old paged.new out.old out.new result
         (λ image. told_component (component_at cell.now.at (cell_of region cell.now image))) }

@@ -222,7 +222,7 @@ fn an_old_area_that_ends_outside(rt: HostRuntime) {
 }
 
 /// The fault where the device with the old image refuses its call of this number, counted from 0, and that with the new one
-/// its call of that number, of which the first eight check the image.
+/// its call of that number, of which the first seven check the image and leave the first piece at hand.
 fn fault_at(rt: &(impl Abort + AllocGlobal), old: u64, new: u64) -> Option<ChangeFault> {
     let parts: Parts = &[(256, &ONE), (5120, &ONE)];
     let areas = [FMAP, A, FAR];
@@ -243,9 +243,9 @@ fn fault_at(rt: &(impl Abort + AllocGlobal), old: u64, new: u64) -> Option<Chang
 
 #[test]
 fn devices_that_refuse_a_read(rt: HostRuntime) {
-    assert_eq!(&rt; fault_at(&rt, 0, 8), Some(ChangeFault::OldDevice));
-    assert_eq!(&rt; fault_at(&rt, 1, 8), Some(ChangeFault::NewDevice));
-    assert_eq!(&rt; fault_at(&rt, 1, 9), Some(ChangeFault::OldDevice));
-    assert_eq!(&rt; fault_at(&rt, 30, 9), Some(ChangeFault::NewDevice));
-    assert_eq!(&rt; fault_at(&rt, 30, 30), None);
+    assert_eq!(&rt; fault_at(&rt, 0, 7), Some(ChangeFault::OldDevice));
+    assert_eq!(&rt; fault_at(&rt, 1, 7), Some(ChangeFault::OldDevice));
+    assert_eq!(&rt; fault_at(&rt, 2, 7), Some(ChangeFault::NewDevice));
+    assert_eq!(&rt; fault_at(&rt, 1, 8), Some(ChangeFault::OldDevice));
+    assert_eq!(&rt; fault_at(&rt, 2, 8), None);
 }

@@ -4,8 +4,8 @@ use Rattle.cbfs_commands.specs.Told.{cell_of, shows}
 use Rattle.cbfs_commands.proofs.Telling.{so_far-ends, so_far-of, still_cell, told-stopped, told-within}
 use Rattle.cbfs_commands.proofs.detail.print_details.Goals as goal
 
-pub print_hash-requires-clause-cell : goal.print_hash-requires-clause-cell
-print_hash-requires-clause-cell g c = still_cell c.print_attributes.ensures.read c.requires.cell
+pub print_hash-requires : goal.print_hash-requires
+print_hash-requires g c = record { cell = still_cell c.print_attributes.ensures.read c.requires.cell; used = c.requires.used }
 
 pub returns-in_err-print_attributes : goal.returns-in_err-print_attributes
 returns-in_err-print_attributes g c =

@@ -10,8 +10,8 @@ use Rattle.cbfs_commands.proofs.print.print_cell.Goals as goal
 abbrev lines : Bool → List ℕ → Told
 lines verbose x = shows (cond (verbose && not (is_free (head_of x))) (details x) [])
 
-pub print_details-requires-clause-cell : goal.print_details-requires-clause-cell
-print_details-requires-clause-cell g c = still_cell c.print_row.ensures.read c.requires
+pub print_details-requires : goal.print_details-requires
+print_details-requires g c = record { cell = still_cell c.print_row.ensures.read c.requires; used = sym c.if-not-is_free.ensures }
 
 pub returns-in_err-print_row : goal.returns-in_err-print_row
 returns-in_err-print_row g c =
