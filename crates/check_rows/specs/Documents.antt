@@ -1,12 +1,14 @@
 -- Rows of a report as a JSON document (RFC 8259).
-use Rattle.std.specs.Prelude.{ℕ, List, [], ◌∷◌, ◌++◌, Option, Some, None, map, option_map, if◌then◌else◌}
+use Rattle.std.specs.Prelude.{◌≡◌, ℕ, List, [], ◌∷◌, ◌++◌, Option, Some, None, Result, OnOk, map, option_map, if◌then◌else◌}
 use Rattle.std.specs.Fmt.{decimal}
+use Rattle.std.specs.declared.alloc.AllocError.{AllocError}
 use Rattle.std.specs.Str.{is_utf8}
 use lib.Chars.{codes}
 use Rattle.json.specs.Json.{Json, number, string, array, object, Items, no_items, item, Members, no_members, member}
 use Rattle.check_rows.specs.declared.row.Counts.{Counts}
 use Rattle.json.specs.Token.{Token, end_array, end_object, key}
 use Rattle.json.specs.Tree.{json_tokens}
+use Rattle.json.specs.Written.{Written}
 use Rattle.check_rows.specs.Rows.{SeenRow, verdict_word, detail_number}
 
 abbrev pub items : List Json → Items
@@ -54,6 +56,11 @@ abbrev pub opening : List ℕ
 opening = codes "{\"rows\":["
 
 -- ---- the tokens that a writer has of these
+
+-- a call that is done has written these after what the writer had
+pub record Appends (result : Result (Unit {0}) AllocError) (old new : Written) (more : List Token) : Type 0 where
+  pub tokens : OnOk result (new.tokens ≡ old.tokens ++ more)
+  pub before : new.before ≡ old.before
 
 abbrev pub number_token : ℕ → Token
 number_token n = Token.number (decimal n)

@@ -1,6 +1,6 @@
 //! Rows as JSON.
 
-ghost use Rattle.std.specs.Prelude.{◌≡◌, ◌++◌, [], ◌∷◌, Some, OnOk, map, option_map};
+ghost use Rattle.std.specs.Prelude.{[], ◌∷◌, Some, map, option_map};
 ghost use Rattle.std.specs.Fmt.{decimal};
 ghost use Rattle.std.specs.Option.{option_copied};
 ghost use Rattle.json.specs.Json.{string};
@@ -8,7 +8,7 @@ ghost use Rattle.json.specs.Print.{IsPrintable};
 ghost use Rattle.json.specs.Reads.{token_of};
 ghost use Rattle.json.specs.Token.{number};
 ghost use Rattle.json.specs.Tree.{json_tokens};
-ghost use Rattle.check_rows.specs.Documents.{bytes_json, closing_tokens, member_tokens, name_json, number_json, number_token, row_tokens};
+ghost use Rattle.check_rows.specs.Documents.{Appends, bytes_json, closing_tokens, member_tokens, name_json, number_json, number_token, row_tokens};
 ghost use Rattle.check_rows.specs.Rows.{seen_row};
 
 use crate::row::{Counts, Row};
@@ -17,23 +17,20 @@ use std::alloc::AllocError;
 
 fn put(writer: &mut Writer, token: Token<'_>) -> Result<(), AllocError>
     requires { IsPrintable (token_of token) }
-    ensures tokens { OnOk result (writer.new.tokens ≡ writer.old.tokens ++ token_of token.entry ∷ []) }
-    ensures before { writer.new.before ≡ writer.old.before }
+    ensures { Appends result writer.old writer.new (token_of token.entry ∷ []) }
 {
     writer.token(token)
 }
 
 fn put_number(writer: &mut Writer, n: u64) -> Result<(), AllocError>
-    ensures tokens { OnOk result (writer.new.tokens ≡ writer.old.tokens ++ number (decimal n) ∷ []) }
-    ensures before { writer.new.before ≡ writer.old.before }
+    ensures { Appends result writer.old writer.new (number (decimal n) ∷ []) }
 {
     writer.u64(n)
 }
 
 #[tactic(auto, unfolding(crate::specs::Documents::member_tokens))]
 fn put_text(writer: &mut Writer, key: &str, text: &str) -> Result<(), AllocError>
-    ensures tokens { OnOk result (writer.new.tokens ≡ writer.old.tokens ++ member_tokens key.now (Some (string text.now))) }
-    ensures before { writer.new.before ≡ writer.old.before }
+    ensures { Appends result writer.old writer.new (member_tokens key.now (Some (string text.now))) }
 {
     put(writer, Token::Key(key))?;
     put(writer, Token::String(text))
@@ -41,8 +38,7 @@ fn put_text(writer: &mut Writer, key: &str, text: &str) -> Result<(), AllocError
 
 #[tactic(auto, unfolding(crate::specs::Documents::member_tokens))]
 fn put_count(writer: &mut Writer, key: &str, count: Option<u64>) -> Result<(), AllocError>
-    ensures tokens { OnOk result (writer.new.tokens ≡ writer.old.tokens ++ member_tokens key.now (option_map number_json count)) }
-    ensures before { writer.new.before ≡ writer.old.before }
+    ensures { Appends result writer.old writer.new (member_tokens key.now (option_map number_json count)) }
 {
     match count {
         Some(count) => {
@@ -54,8 +50,7 @@ fn put_count(writer: &mut Writer, key: &str, count: Option<u64>) -> Result<(), A
 }
 
 fn put_numbers(writer: &mut Writer, bytes: &[u8]) -> Result<(), AllocError>
-    ensures tokens { OnOk result (writer.new.tokens ≡ writer.old.tokens ++ map number_token bytes.now) }
-    ensures before { writer.new.before ≡ writer.old.before }
+    ensures { Appends result writer.old writer.new (map number_token bytes.now) }
 {
     for byte in bytes {
         put_number(writer, u64::from(*byte))?;
@@ -65,8 +60,7 @@ fn put_numbers(writer: &mut Writer, bytes: &[u8]) -> Result<(), AllocError>
 
 /// An array of the bytes.
 fn put_bytes(writer: &mut Writer, bytes: &[u8]) -> Result<(), AllocError>
-    ensures tokens { OnOk result (writer.new.tokens ≡ writer.old.tokens ++ json_tokens (bytes_json bytes.now)) }
-    ensures before { writer.new.before ≡ writer.old.before }
+    ensures { Appends result writer.old writer.new (json_tokens (bytes_json bytes.now)) }
 {
     put(writer, Token::BeginArray)?;
     put_numbers(writer, bytes)?;
@@ -74,8 +68,7 @@ fn put_bytes(writer: &mut Writer, bytes: &[u8]) -> Result<(), AllocError>
 }
 
 fn put_name_value(writer: &mut Writer, name: &[u8]) -> Result<(), AllocError>
-    ensures tokens { OnOk result (writer.new.tokens ≡ writer.old.tokens ++ json_tokens (name_json name.now)) }
-    ensures before { writer.new.before ≡ writer.old.before }
+    ensures { Appends result writer.old writer.new (json_tokens (name_json name.now)) }
 {
     match str::from_utf8(name) {
         Ok(text) => put(writer, Token::String(text)),
@@ -85,9 +78,7 @@ fn put_name_value(writer: &mut Writer, name: &[u8]) -> Result<(), AllocError>
 
 #[tactic(auto, unfolding(crate::specs::Documents::member_tokens))]
 fn put_name(writer: &mut Writer, key: &str, name: Option<&[u8]>) -> Result<(), AllocError>
-    ensures tokens { OnOk result (writer.new.tokens ≡ writer.old.tokens
-        ++ member_tokens key.now (option_map name_json (option_copied name.entry))) }
-    ensures before { writer.new.before ≡ writer.old.before }
+    ensures { Appends result writer.old writer.new (member_tokens key.now (option_map name_json (option_copied name.entry))) }
 {
     match name {
         Some(name) => {
@@ -100,8 +91,7 @@ fn put_name(writer: &mut Writer, key: &str, name: Option<&[u8]>) -> Result<(), A
 
 /// Writes a row, as an item of an array.
 pub fn write_row(writer: &mut Writer, row: &Row) -> Result<(), AllocError>
-    ensures tokens { OnOk result (writer.new.tokens ≡ writer.old.tokens ++ row_tokens (seen_row row.now)) }
-    ensures before { writer.new.before ≡ writer.old.before }
+    ensures { Appends result writer.old writer.new (row_tokens (seen_row row.now)) }
 {
     put(writer, Token::BeginObject)?;
     put_text(writer, "verdict", row.verdict.word())?;
@@ -116,8 +106,7 @@ pub fn write_row(writer: &mut Writer, row: &Row) -> Result<(), AllocError>
 /// Writes what follows the rows.
 #[tactic(auto, unfolding(crate::specs::Documents::closing_tokens))]
 pub fn write_end(writer: &mut Writer, counts: Counts) -> Result<(), AllocError>
-    ensures tokens { OnOk result (writer.new.tokens ≡ writer.old.tokens ++ closing_tokens counts) }
-    ensures before { writer.new.before ≡ writer.old.before }
+    ensures { Appends result writer.old writer.new (closing_tokens counts) }
 {
     put(writer, Token::EndArray)?;
     put_count(writer, "bad", Some(counts.bad))?;

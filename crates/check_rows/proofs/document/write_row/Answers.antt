@@ -4,6 +4,6 @@ use Rattle.check_rows.specs.Documents.{member_tokens}
 use Rattle.check_rows.proofs.Tokens.{row_tokens-parts}
 use Rattle.check_rows.proofs.document.write_row.Goals as goal
 
-pub returns-clause-tokens : goal.returns-clause-tokens
+pub returns : goal.returns
 unfolding member_tokens
-returns-clause-tokens c = rw row_tokens-parts (search (rules, IfOk-equal, append_assoc))
+returns c = rw row_tokens-parts (search (rules, IfOk-equal, append_assoc))
