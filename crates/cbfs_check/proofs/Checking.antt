@@ -19,7 +19,8 @@ use Rattle.cbfs_walk.specs.declared.walk.Step.TheVariants as steps
 use Rattle.cbfs_walk.specs.declared.walk.WalkFault.{WalkFault}
 use Rattle.cbfs_walk.specs.declared.walk.WalkFault.TheVariants as walk
 use Rattle.cbfs_walk.proofs.Shapes.{shaped_step}
-use Rattle.cbfs_check.specs.Counts.{IsCountBefore, nothing, counts}
+use Rattle.flash_format.specs.Head.{head_of, is_free}
+use Rattle.cbfs_check.specs.Counts.{IsCountBefore, nothing, counted, counts}
 use Rattle.cbfs_check.specs.RegionFindings.{names_after, cell_findings, cells_findings, end_finding, shape_findings, region_findings}
 use Rattle.cbfs_check.specs.Reports.{Told, told_nothing, told_cell, HasTold, refused_findings}
 use Rattle.cbfs_check.specs.declared.fault.RegionCheckFault.{RegionCheckFault}
@@ -33,15 +34,15 @@ use Rattle.cbfs_check.proofs.CountLemmas.{count_all, count_more, count_none, cou
 
 -- ---- as a reading of the cut
 
--- all that is told, once so much is told and the cut goes on so at a place
-tell_cut : Bool → ℕ → Cut → Told → List RegionFinding
-tell_cut verbose at k t = t.findings ++ (cells_findings verbose t.names at k.cells ++ (end_finding (place_after at k.cells) k.end ∷ findings.Counts (count_all t.count at k.cells) ∷ []))
+-- all that is told, once so much is told and counted and the cut goes on so at a place
+tell_cut : Bool → ℕ → Cut → Told → Count → List RegionFinding
+tell_cut verbose at k t n = t.findings ++ (cells_findings verbose t.names at k.cells ++ (end_finding (place_after at k.cells) k.end ∷ findings.Counts (count_all n at k.cells) ∷ []))
 
-tell_cell : Bool → List ℕ → Cell → (Told → List RegionFinding) → Told → List RegionFinding
-tell_cell verbose x given later t = later (told_cell verbose t given.at x)
+tell_cell : Bool → List ℕ → Cell → (Told → Count → List RegionFinding) → Told → Count → List RegionFinding
+tell_cell verbose x given later t n = later (told_cell verbose t given.at x) (counted n (is_free given.head) given.span)
 
-tell_fault : WalkFault → Told → List RegionFinding
-tell_fault fault t = t.findings ++ shape_findings fault
+tell_fault : WalkFault → Told → Count → List RegionFinding
+tell_fault fault t n = t.findings ++ shape_findings fault
 
 -- how the cells end, and the counts
 last : End → ℕ → RegionCounts → List RegionFinding
@@ -50,81 +51,79 @@ last end at n = end_finding at end ∷ findings.Counts n ∷ []
 joined : (told here later end : List RegionFinding) → told ++ ((here ++ later) ++ end) ≡ (told ++ here) ++ (later ++ end)
 joined told here later end = ap (λ (l : List RegionFinding). told ++ l) (append_assoc here later end) ∙ sym (append_assoc told here (later ++ end))
 
-cell_more : (verbose : Bool) (at : ℕ) (x : List ℕ) (k : Cut) (t : Told) → tell_cut verbose at (after (x ∷ []) k) t ≡ tell_cut verbose (at + length x) k (told_cell verbose t at x)
+cell_more : (verbose : Bool) (at : ℕ) (x : List ℕ) (k : Cut) (t : Told) (n : Count)
+    → tell_cut verbose at (after (x ∷ []) k) t n ≡ tell_cut verbose (at + length x) k (told_cell verbose t at x) (counted n (is_free (head_of x)) (length x))
 unfolding tell_cut cells_findings last
-cell_more verbose at x k t =
-    ap (λ (n : RegionCounts). t.findings ++ ((cell_findings verbose t.names at x ++ cells_findings verbose (names_after t.names x) (at + length x) k.cells) ++ last k.end (place_after (at + length x) k.cells) n)) (count_more t.count at x k.cells)
-    ∙ joined t.findings (cell_findings verbose t.names at x) (cells_findings verbose (names_after t.names x) (at + length x) k.cells) (last k.end (place_after (at + length x) k.cells) (count_all (told_cell verbose t at x).count (at + length x) k.cells))
+cell_more verbose at x k t n =
+    let next = counted n (is_free (head_of x)) (length x) in
+    ap (λ (m : RegionCounts). t.findings ++ ((cell_findings verbose t.names at x ++ cells_findings verbose (names_after t.names x) (at + length x) k.cells) ++ last k.end (place_after (at + length x) k.cells) m)) (count_more n at x k.cells)
+    ∙ joined t.findings (cell_findings verbose t.names at x) (cells_findings verbose (names_after t.names x) (at + length x) k.cells) (last k.end (place_after (at + length x) k.cells) (count_all next (at + length x) k.cells))
 
 law : (verbose : Bool) → ReadsCells (tell_cut verbose) (tell_cell verbose)
 unfolding tell_cell
-law verbose at x k = fun_ext (λ (t : Told). cell_more verbose at x k t)
+law verbose at x k = fun_ext (λ (t : Told). fun_ext (λ (n : Count). cell_more verbose at x k t n))
 
 -- all that is told from a place on
-pub told_from : Bool → List ℕ → Told → ℕ → List RegionFinding
-told_from verbose x t at = shaped tell_fault (tell_cut verbose) x at t
+pub told_from : Bool → List ℕ → Told → Count → ℕ → List RegionFinding
+told_from verbose x t n at = shaped tell_fault (tell_cut verbose) x at t n
 
-whole_counts : (verbose : Bool) (x : List ℕ) → (cells_findings verbose [] 0 (cut x).cells ++ last (cut x).end (place_after 0 (cut x).cells) (counts x)) ≡ tell_cut verbose 0 (cut x) told_nothing
+whole_counts : (verbose : Bool) (x : List ℕ) → (cells_findings verbose [] 0 (cut x).cells ++ last (cut x).end (place_after 0 (cut x).cells) (counts x)) ≡ tell_cut verbose 0 (cut x) told_nothing nothing
 unfolding tell_cut last
 whole_counts verbose x = ap (λ (n : RegionCounts). cells_findings verbose [] 0 (cut x).cells ++ last (cut x).end (place_after 0 (cut x).cells) n) (sym (count_whole 0 (cut x).cells))
 
-told_whole : (verbose : Bool) (x : List ℕ) → region_findings verbose x ≡ told_from verbose x told_nothing 0
+told_whole : (verbose : Bool) (x : List ℕ) → region_findings verbose x ≡ told_from verbose x told_nothing nothing 0
 unfolding told_from tell_fault region_findings shaped last
 told_whole verbose x = go (shape x)
   where
-    go : (o : Option WalkFault) → refused_or shape_findings o (cells_findings verbose [] 0 (cut x).cells ++ last (cut x).end (place_after 0 (cut x).cells) (counts x)) ≡ refused_or tell_fault o (tell_cut verbose 0 (cut x)) told_nothing
+    go : (o : Option WalkFault) → refused_or shape_findings o (cells_findings verbose [] 0 (cut x).cells ++ last (cut x).end (place_after 0 (cut x).cells) (counts x)) ≡ refused_or tell_fault o (tell_cut verbose 0 (cut x)) told_nothing nothing
     go None = whole_counts verbose x
     go (Some fault) = refl
 
 -- the same by the answer of the walk
-told_by : Bool → List ℕ → Told → Answer → List RegionFinding
-told_by verbose x t answer = by_answer tell_fault (tell_cut verbose) (tell_cell verbose) x answer t
+told_by : Bool → List ℕ → Told → Count → Answer → List RegionFinding
+told_by verbose x t n answer = by_answer tell_fault (tell_cut verbose) (tell_cell verbose) x answer t n
 
-told_step : (verbose : Bool) (x : List ℕ) (t : Told) (at : ℕ) → at ≤ length x → at % 64 ≡ 0 → told_from verbose x t at ≡ told_by verbose x t (answer_at x at)
+told_step : (verbose : Bool) (x : List ℕ) (t : Told) (n : Count) (at : ℕ) → at ≤ length x → at % 64 ≡ 0 → told_from verbose x t n at ≡ told_by verbose x t n (answer_at x at)
 unfolding told_from told_by
-told_step verbose x t at inside aligned = ap (λ (f : Told → List RegionFinding). f t) (shaped_step tell_fault (tell_cut verbose) (tell_cell verbose) (law verbose) x at inside aligned)
+told_step verbose x t n at inside aligned = ap (λ (f : Told → Count → List RegionFinding). f t n) (shaped_step tell_fault (tell_cut verbose) (tell_cell verbose) (law verbose) x at inside aligned)
 
-told_end : (verbose : Bool) (x : List ℕ) (t : Told) → told_by verbose x t (Ok steps.End) ≡ t.findings ++ findings.Complete ∷ findings.Counts t.count.counts ∷ []
+told_end : (verbose : Bool) (x : List ℕ) (t : Told) (n : Count) → told_by verbose x t n (Ok steps.End) ≡ t.findings ++ findings.Complete ∷ findings.Counts n.counts ∷ []
 unfolding told_by tell_cut cells_findings
-told_end verbose x t = ap (λ n. t.findings ++ findings.Complete ∷ findings.Counts n ∷ []) (count_none t.count (length x))
+told_end verbose x t n = ap (λ m. t.findings ++ findings.Complete ∷ findings.Counts m ∷ []) (count_none n (length x))
 
-told_tail : (verbose : Bool) (x : List ℕ) (t : Told) (at : ℕ) → told_by verbose x t (Ok (steps.Tail at)) ≡ t.findings ++ findings.Tail at ∷ findings.Counts t.count.counts ∷ []
+told_tail : (verbose : Bool) (x : List ℕ) (t : Told) (n : Count) (at : ℕ) → told_by verbose x t n (Ok (steps.Tail at)) ≡ t.findings ++ findings.Tail at ∷ findings.Counts n.counts ∷ []
 unfolding told_by tell_cut cells_findings
-told_tail verbose x t at = ap (λ n. t.findings ++ findings.Tail at ∷ findings.Counts n ∷ []) (count_none t.count at)
+told_tail verbose x t n at = ap (λ m. t.findings ++ findings.Tail at ∷ findings.Counts m ∷ []) (count_none n at)
 
-told_fault : (verbose : Bool) (x : List ℕ) (t : Told) (fault : WalkFault) → (fault ≡ walk.Device → ⊥) → told_by verbose x t (Err fault) ≡ refused_findings t.findings t.count.counts fault
+told_fault : (verbose : Bool) (x : List ℕ) (t : Told) (n : Count) (fault : WalkFault) → (fault ≡ walk.Device → ⊥) → told_by verbose x t n (Err fault) ≡ refused_findings t.findings n.counts fault
 unfolding told_by tell_cut tell_fault cells_findings
-told_fault verbose x t walk.Device other = absurd (other refl)
-told_fault verbose x t walk.RegionShape other = refl
-told_fault verbose x t walk.NotCbfs other = refl
-told_fault verbose x t (walk.Damaged at kind) other = ap (λ n. t.findings ++ findings.Damaged at kind ∷ findings.Counts n ∷ []) (count_none t.count at)
-
--- the same of the report that has told it
-reported : (report : Report) (t : Told) (f : List RegionFinding → RegionCounts → List RegionFinding) → HasTold report t → f report.findings.items report.count.counts ≡ f t.findings t.count.counts
-reported report t f told = ap (λ (l : List RegionFinding). f l report.count.counts) told.0 ∙ ap (λ (n : Count). f t.findings n.counts) told.2
+told_fault verbose x t n walk.Device other = absurd (other refl)
+told_fault verbose x t n walk.RegionShape other = refl
+told_fault verbose x t n walk.NotCbfs other = refl
+told_fault verbose x t n (walk.Damaged at kind) other = ap (λ m. t.findings ++ findings.Damaged at kind ∷ findings.Counts m ∷ []) (count_none n at)
 
 -- ---- the loop
 
 -- the check has come to the walk's place
-pub record Checking {F : Type 0} (facts : F → Device) (verbose : Bool) (r : Range) (w : Walking) (report : Report) (old now : Pages F) : Type 0 where
+pub record Checking {F : Type 0} (facts : F → Device) (verbose : Bool) (r : Range) (w : Walking) (report : Report) (count : Count) (old now : Pages F) : Type 0 where
   pub region : w.region ≡ r
   pub going : w.ended ≡ None
   pub inside : w.at ≤ r.size
   pub aligned : w.at % 64 ≡ 0
   pub read : HasRead facts (w.at / 16) 0 old now
-  pub before : IsCountBefore w.at report.count
-  pub so_far : IsTrue (facts old.device).honest → (t : Told) × HasTold report t × (region_findings verbose (bytes_in r (facts old.device).content) ≡ told_from verbose (bytes_in r (facts old.device).content) t w.at)
+  pub before : IsCountBefore w.at count
+  pub so_far : IsTrue (facts old.device).honest → (t : Told) × HasTold report t × (region_findings verbose (bytes_in r (facts old.device).content) ≡ told_from verbose (bytes_in r (facts old.device).content) t count w.at)
 
-pub checking_start : {F : Type 0} (facts : F → Device) (verbose : Bool) (r : Range) (report : Report) (old : Pages F) → report.findings.items ≡ [] → report.names.keys ≡ [] → report.count ≡ nothing
-    → Checking facts verbose r (walk_of r) report old old
-checking_start facts verbose r report old none unnamed zero = record {
+pub checking_start : {F : Type 0} (facts : F → Device) (verbose : Bool) (r : Range) (report : Report) (old : Pages F) → report.findings.items ≡ [] → report.names.keys ≡ []
+    → Checking facts verbose r (walk_of r) report nothing old old
+checking_start facts verbose r report old none unnamed = record {
   region = refl;
   going = refl;
   inside = omega arith;
   aligned = refl;
   read = HasRead-within facts 0 (0 / 16) 0 old old (omega arith) (HasRead-none facts old);
-  before = rw zero (record { components = omega arith; free = omega arith; row = omega arith });
-  so_far = λ h. (told_nothing, (none, (rw unnamed (λ q. refl)), zero), told_whole verbose (bytes_in r (facts old.device).content));
+  before = record { components = omega arith; free = omega arith; row = omega arith };
+  so_far = λ h. (told_nothing, (none, rw unnamed (λ q. refl)), told_whole verbose (bytes_in r (facts old.device).content));
 }
 
 -- a step is no fault of the device
@@ -132,7 +131,7 @@ no_fault : (s : Step) (b : Answer) → (let a : Answer = Ok s in IsErrOf a walk.
 no_fault s b (inl e) = absurd cc
 no_fault s b (inr e) = e
 
-module _ {F : Type 0} (facts : F → Device) (verbose : Bool) (r : Range) (w : Walking) (report : Report) (old now : Pages F) (lies : LiesIn r (facts old.device).content) (i : Checking facts verbose r w report old now) where
+module _ {F : Type 0} (facts : F → Device) (verbose : Bool) (r : Range) (w : Walking) (report : Report) (count : Count) (old now : Pages F) (lies : LiesIn r (facts old.device).content) (i : Checking facts verbose r w report count old now) where
   abbrev x : List ℕ
   x = bytes_in r (facts old.device).content
 
@@ -141,32 +140,32 @@ module _ {F : Type 0} (facts : F → Device) (verbose : Bool) (r : Range) (w : W
   Answers a = IsTrue (facts now.device).honest → w.ended ≡ None → IsErrOf a walk.Device ⊎ (a ≡ answer_at (bytes_in w.region (facts now.device).content) w.at)
 
   answered : (a : Answer) → IsTrue (facts old.device).honest → a ≡ answer_at (bytes_in w.region (facts now.device).content) w.at
-      → (a ≡ answer_at x w.at) × ((t : Told) × HasTold report t × (region_findings verbose x ≡ told_by verbose x t a))
+      → (a ≡ answer_at x w.at) × ((t : Told) × HasTold report t × (region_findings verbose x ≡ told_by verbose x t count a))
   answered a h is =
       let len : length x ≡ r.size = length-bytes_in r (facts old.device).content lies in
       let here : a ≡ answer_at x w.at = is ∙ ap (λ (k : Range). answer_at (bytes_in k (facts now.device).content) w.at) i.region ∙ ap (λ (l : List ℕ). answer_at (bytes_in r l) w.at) (i.read.device.unchanged h) in
       let told = i.so_far h in
-      (here, (told.0, told.1, told.2 ∙ told_step verbose x told.0 w.at (omega (arith, len, i.inside)) i.aligned ∙ ap (λ (b : Answer). told_by verbose x told.0 b) (sym here)))
+      (here, (told.0, told.1, told.2 ∙ told_step verbose x told.0 count w.at (omega (arith, len, i.inside)) i.aligned ∙ ap (λ (b : Answer). told_by verbose x told.0 count b) (sym here)))
 
-  step_answered : (s : Step) → Answers (Ok s) → IsTrue (facts old.device).honest → (Ok s ≡ answer_at x w.at) × ((t : Told) × HasTold report t × (region_findings verbose x ≡ told_by verbose x t (Ok s)))
+  step_answered : (s : Step) → Answers (Ok s) → IsTrue (facts old.device).honest → (Ok s ≡ answer_at x w.at) × ((t : Told) × HasTold report t × (region_findings verbose x ≡ told_by verbose x t count (Ok s)))
   step_answered s answer h = answered (Ok s) h (no_fault s _ (answer (honest_still i.read.device.calls.same_honesty h) i.going))
 
   -- a cell is told
-  pub checking_more : (c : Cell) (v : Walking) (next : Report) (mid new : Pages F) (n m : ℕ) → IsCellIn w.region.size c × (c.at ≡ w.at)
+  pub checking_more : (c : Cell) (v : Walking) (next : Report) (more : Count) (mid new : Pages F) (n m : ℕ) → IsCellIn w.region.size c × (c.at ≡ w.at)
       → HasRead facts n 0 now mid → n ≡ reads_over c.span → HasRead facts m 0 mid new → m ≡ 2 + c.span / 3840
       → Answers (Ok (steps.Cell c))
       → v ≡ record w { at = w.at + c.span; steps = w.steps + 1 }
-      → IsCountBefore (c.at + c.span) next.count
+      → IsCountBefore (c.at + c.span) more → more ≡ counted count (is_free c.head) c.span
       → (IsTrue (facts mid.device).honest → StandsIn (bytes_in r (facts mid.device).content) c → (t : Told) → HasTold report t → HasTold next (told_cell verbose t c.at (cell_in (bytes_in r (facts mid.device).content) c)))
-      → Checking facts verbose r v next old new
+      → Checking facts verbose r v next more old new
   unfolding told_by tell_cell told_from
-  checking_more c v next mid new n m given reads few more fewer answer moved before tells = rw moved (record {
+  checking_more c v next more mid new n m given reads few over fewer answer moved before is_more tells = rw moved (record {
     region = i.region;
     going = i.going;
     inside = omega (arith, cell_of_region.inside, given.1);
     aligned = omega (arith, i.aligned, given.0.whole);
-    read = HasRead-within facts (w.at / 16 + (n + m)) ((w.at + c.span) / 16) 0 old new (omega (arith, few, fewer, given.0.positive, given.0.whole, i.aligned)) (HasRead-then facts (w.at / 16) (n + m) 0 old now new i.read (HasRead-then facts n m 0 now mid new reads more));
-    before = subst (λ k. IsCountBefore (k + c.span) next.count) given.1 before;
+    read = HasRead-within facts (w.at / 16 + (n + m)) ((w.at + c.span) / 16) 0 old new (omega (arith, few, fewer, given.0.positive, given.0.whole, i.aligned)) (HasRead-then facts (w.at / 16) (n + m) 0 old now new i.read (HasRead-then facts n m 0 now mid new reads over));
+    before = subst (λ k. IsCountBefore (k + c.span) more) given.1 before;
     so_far = λ h.
         let k = honest_still i.read.device.calls.same_honesty h in
         let same : (facts mid.device).content ≡ (facts old.device).content = reads.device.unchanged k ∙ i.read.device.unchanged h in
@@ -175,7 +174,8 @@ module _ {F : Type 0} (facts : F → Device) (verbose : Bool) (r : Range) (w : W
         let t = told.1.0 in (
           told_cell verbose t c.at (cell_in x c),
           (rw same at (tells (honest_still reads.device.calls.same_honesty k))) stands t told.1.1,
-          told.1.2 ∙ ap (λ p. told_from verbose x (told_cell verbose t c.at (cell_in x c)) (p + c.span)) given.1,
+          told.1.2 ∙ ap (λ p. told_from verbose x (told_cell verbose t c.at (cell_in x c)) (counted count (is_free c.head) c.span) (p + c.span)) given.1
+              ∙ ap (λ (n : Count). told_from verbose x (told_cell verbose t c.at (cell_in x c)) n (w.at + c.span)) (sym is_more),
         );
   })
     where
@@ -184,27 +184,27 @@ module _ {F : Type 0} (facts : F → Device) (verbose : Bool) (r : Range) (w : W
 
   -- ---- the walk ended
 
-  pub checking_end : Answers (Ok steps.End) → IsTrue (facts old.device).honest → report.findings.items ++ findings.Complete ∷ findings.Counts report.count.counts ∷ [] ≡ region_findings verbose x
+  pub checking_end : Answers (Ok steps.End) → IsTrue (facts old.device).honest → report.findings.items ++ findings.Complete ∷ findings.Counts count.counts ∷ [] ≡ region_findings verbose x
   checking_end answer h =
       let told = (step_answered steps.End answer h).1 in
-      reported report told.0 (λ l n. l ++ findings.Complete ∷ findings.Counts n ∷ []) told.1 ∙ sym (told.2 ∙ told_end verbose x told.0)
+      ap (λ l. l ++ findings.Complete ∷ findings.Counts count.counts ∷ []) told.1.0 ∙ sym (told.2 ∙ told_end verbose x told.0 count)
 
-  pub checking_tail : (at : ℕ) → Answers (Ok (steps.Tail at)) → IsTrue (facts old.device).honest → report.findings.items ++ findings.Tail at ∷ findings.Counts report.count.counts ∷ [] ≡ region_findings verbose x
+  pub checking_tail : (at : ℕ) → Answers (Ok (steps.Tail at)) → IsTrue (facts old.device).honest → report.findings.items ++ findings.Tail at ∷ findings.Counts count.counts ∷ [] ≡ region_findings verbose x
   checking_tail at answer h =
       let told = (step_answered (steps.Tail at) answer h).1 in
-      reported report told.0 (λ l n. l ++ findings.Tail at ∷ findings.Counts n ∷ []) told.1 ∙ sym (told.2 ∙ told_tail verbose x told.0 at)
+      ap (λ l. l ++ findings.Tail at ∷ findings.Counts count.counts ∷ []) told.1.0 ∙ sym (told.2 ∙ told_tail verbose x told.0 count at)
 
-  checking_fault : (fault : WalkFault) → (fault ≡ walk.Device → ⊥) → Answers (Err fault) → IsTrue (facts old.device).honest → refused_findings report.findings.items report.count.counts fault ≡ region_findings verbose x
+  checking_fault : (fault : WalkFault) → (fault ≡ walk.Device → ⊥) → Answers (Err fault) → IsTrue (facts old.device).honest → refused_findings report.findings.items count.counts fault ≡ region_findings verbose x
   checking_fault fault other answer h = go (answer (honest_still i.read.device.calls.same_honesty h) i.going)
     where
-      go : (let a : Answer = Err fault in IsErrOf a walk.Device ⊎ (a ≡ answer_at (bytes_in w.region (facts now.device).content) w.at)) → refused_findings report.findings.items report.count.counts fault ≡ region_findings verbose x
+      go : (let a : Answer = Err fault in IsErrOf a walk.Device ⊎ (a ≡ answer_at (bytes_in w.region (facts now.device).content) w.at)) → refused_findings report.findings.items count.counts fault ≡ region_findings verbose x
       go (inl device) = absurd (other (let is : fault ≡ walk.Device = cc in is))
       go (inr is) =
           let told = (answered (Err fault) h is).1 in
-          reported report told.0 (λ l n. refused_findings l n fault) told.1 ∙ sym (told.2 ∙ told_fault verbose x told.0 fault other)
+          ap (λ l. refused_findings l count.counts fault) told.1.0 ∙ sym (told.2 ∙ told_fault verbose x told.0 count fault other)
 
   pub checking_refused : (fault : WalkFault) → Answers (Err fault) → IsTrue (facts old.device).honest → (result : Result (Vec RegionFinding Global) RegionCheckFault)
-      → (fault ≡ walk.Device → IsErrOf result check.Device) → IfOk result (λ all. all.items ≡ refused_findings report.findings.items report.count.counts fault)
+      → (fault ≡ walk.Device → IsErrOf result check.Device) → IfOk result (λ all. all.items ≡ refused_findings report.findings.items count.counts fault)
       → IfOk result (λ all. all.items ≡ region_findings verbose x)
   checking_refused fault answer h (Ok all) device told = told ∙ checking_fault fault (λ e. let bad : (let r : Result (Vec RegionFinding Global) RegionCheckFault = Ok all in r) ≡ Err check.Device = device e in cc) answer h
   checking_refused fault answer h (Err other) device told = tt

@@ -1,11 +1,8 @@
 -- What is told so far.
-use Rattle.std.specs.Prelude.{◌≡◌, ℕ, Bool, List, [], ◌∷◌, ◌++◌, length, Result, OnOk}
-use Rattle.flash_format.specs.Head.{head_of, is_free}
-use Rattle.cbfs_check.specs.Counts.{nothing, counted}
+use Rattle.std.specs.Prelude.{◌≡◌, ℕ, Bool, List, [], ◌∷◌, ◌++◌, Result, OnOk}
+use Rattle.std.specs.declared.alloc.AllocError.{AllocError}
 use Rattle.cbfs_check.specs.Names.{HasNames}
 use Rattle.cbfs_check.specs.RegionFindings.{cell_findings, names_after, shape_findings}
-use Rattle.cbfs_check.specs.declared.count.Count.{Count}
-use Rattle.cbfs_check.specs.declared.fault.RegionCheckFault.{RegionCheckFault}
 use Rattle.cbfs_check.specs.declared.finding.RegionFinding.{RegionFinding}
 use Rattle.cbfs_check.specs.declared.report.Report.{Report}
 use Rattle.cbfs_check.specs.declared.count.RegionCounts.{RegionCounts}
@@ -13,34 +10,34 @@ use Rattle.cbfs_walk.specs.declared.walk.WalkFault.{WalkFault}
 use Rattle.cbfs_walk.specs.declared.walk.WalkFault.TheVariants as walk
 use Rattle.cbfs_check.specs.declared.finding.RegionFinding.TheVariants as findings
 
--- the findings, and the names and the counts of the cells before the walk's place
+-- the findings, and the names of the cells before the walk's place
 pub record Told : Type 0 where
   pub findings : List RegionFinding
   pub names : List (List ℕ)
-  pub count : Count
 
 abbrev pub told_nothing : Told
-told_nothing = record { findings = []; names = []; count = nothing }
+told_nothing = record { findings = []; names = [] }
 
--- one cell more, at a place, before it is counted
-abbrev pub told_of_cell : Bool → Told → ℕ → List ℕ → Told
-told_of_cell verbose t at x = record t { findings = t.findings ++ cell_findings verbose t.names at x; names = names_after t.names x }
-
--- and counted
+-- one cell more, at a place
 abbrev pub told_cell : Bool → Told → ℕ → List ℕ → Told
-told_cell verbose t at x = record (told_of_cell verbose t at x) { count = counted t.count (is_free (head_of x)) (length x) }
+told_cell verbose t at x = record { findings = t.findings ++ cell_findings verbose t.names at x; names = names_after t.names x }
 
 -- a component more of a name, with these findings of it
 abbrev pub told_component : Told → List ℕ → List RegionFinding → Told
-told_component t name findings = record t { findings = t.findings ++ findings; names = name ∷ t.names }
+told_component t name findings = record { findings = t.findings ++ findings; names = name ∷ t.names }
 
 -- the report has told this
 abbrev pub HasTold : Report → Told → Type 0
-HasTold report t = (report.findings.items ≡ t.findings) × HasNames report.names.keys t.names × (report.count ≡ t.count)
+HasTold report t = (report.findings.items ≡ t.findings) × HasNames report.names.keys t.names
 
 -- what one report told, this one has told with this made of it, where the call was done
-abbrev pub TellsMore : Result (Unit {0}) RegionCheckFault → Report → Report → (Told → Told) → Type 0
+abbrev pub TellsMore : {E : Type 0} → Result (Unit {0}) E → Report → Report → (Told → Told) → Type 0
 TellsMore result old new more = OnOk result ((t : Told) → HasTold old t → HasTold new (more t))
+
+-- a call that is done has told these findings after the others; no name is added
+pub record AddsFindings (result : Result (Unit {0}) AllocError) (old new : Report) (more : List RegionFinding) : Type 0 where
+  pub findings : OnOk result (new.findings.items ≡ old.findings.items ++ more)
+  pub names : new.names ≡ old.names
 
 -- all that is told where a walk ends by a fault
 abbrev pub refused_findings : List RegionFinding → RegionCounts → WalkFault → List RegionFinding

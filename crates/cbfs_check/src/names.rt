@@ -1,10 +1,8 @@
 //! The names of the components so far.
-ghost use Rattle.std.specs.Prelude.{◌≡◌, ℕ, ◌∷◌, List, not, IfOk, IfErr, OnOk};
-ghost use Rattle.cbfs_check.specs.declared.fault.RegionCheckFault.TheVariants as faults;
+ghost use Rattle.std.specs.Prelude.{◌≡◌, ℕ, ◌∷◌, List, not, IfOk, OnOk};
 ghost use Rattle.cbfs_check.specs.Names.{HasNames, is_among};
 
-use crate::fault::RegionCheckFault;
-use std::alloc::Global;
+use std::alloc::{AllocError, Global};
 use std::collections::HashSet;
 use std::hash::{BuildHasherDefault, DefaultHasher};
 
@@ -13,16 +11,13 @@ use std::hash::{BuildHasherDefault, DefaultHasher};
 pub type Names = HashSet<Vec<u8>, BuildHasherDefault<DefaultHasher>>;
 
 /// Adds a name, and answers whether it is new.
-pub fn add_name(alloc: Global, names: &mut Names, name: &[u8]) -> Result<bool, RegionCheckFault>
+pub fn add_name(alloc: Global, names: &mut Names, name: &[u8]) -> Result<bool, AllocError>
     ensures new { IfOk result (λ new. (before : List (List ℕ)) → HasNames names.old.keys before →
         new ≡ not (is_among name.now before)) }
     ensures added { OnOk result ((before : List (List ℕ)) → HasNames names.old.keys before →
         HasNames names.new.keys (name.now ∷ before)) }
-    ensures memory { IfErr result (λ fault. fault ≡ faults.Memory) }
 {
     let copy = name.to_vec(alloc)?;
-    let Ok(new) = names.insert(copy) else {
-        return Err(RegionCheckFault::Memory);
-    };
+    let new = names.insert(copy)?;
     Ok(new)
 }

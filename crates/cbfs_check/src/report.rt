@@ -1,56 +1,45 @@
 //! What is told so far.
-ghost use Rattle.std.specs.Prelude.{◌≡◌, ℕ, List, [], ◌∷◌, ◌++◌, OnOk, IfOk, IfErr};
-ghost use Rattle.cbfs_check.specs.declared.fault.RegionCheckFault.TheVariants as faults;
-ghost use Rattle.cbfs_check.specs.Counts.{nothing};
+ghost use Rattle.std.specs.Prelude.{◌≡◌, [], ◌∷◌, ◌++◌, IfOk};
 
-use crate::count::Count;
-use crate::fault::RegionCheckFault;
+use crate::count::RegionCounts;
 use crate::finding::{ComponentFinding, Name, RegionFinding};
 use crate::names::{Names, add_name};
 use cbfs_walk::HashState;
 use flash_format::type_name;
-use std::alloc::Global;
+use std::alloc::{AllocError, Global};
 use std::collections::HashSet;
 use std::hash::BuildHasherDefault;
 
-/// What is told so far, and the counts of the cells so far.
+/// What is told so far, and the names of the components so far.
 #[derive(Drop)]
 pub struct Report {
     pub alloc: Global,
     pub findings: Vec<RegionFinding>,
     pub names: Names,
-    pub count: Count,
 }
 
 impl Report {
     ghost use Rattle.cbfs_check.specs.RegionFindings.{hash_findings, name_findings, named_findings, type_findings};
-    ghost use Rattle.cbfs_check.specs.Reports.{TellsMore, told_component};
+    ghost use Rattle.cbfs_check.specs.Reports.{AddsFindings, TellsMore, told_component};
 
     /// Nothing is told yet.
     pub fn new(alloc: Global) -> Report
         ensures findings { result.findings.items ≡ [] }
         ensures names { result.names.keys ≡ [] }
-        ensures count { result.count ≡ nothing }
     {
         Report {
             alloc,
             findings: Vec::new(alloc),
             names: HashSet::with_hasher(alloc, BuildHasherDefault::new()),
-            count: Count::new(),
         }
     }
 
     /// Tells one thing more.
-    pub fn tell(&mut self, finding: RegionFinding) -> Result<(), RegionCheckFault>
-        ensures told { OnOk result (self.new.findings.items ≡ self.old.findings.items ++ finding ∷ []) }
-        ensures names { self.new.names ≡ self.old.names }
-        ensures count { self.new.count ≡ self.old.count }
-        ensures memory { IfErr result (λ fault. fault ≡ faults.Memory) }
+    pub fn tell(&mut self, finding: RegionFinding) -> Result<(), AllocError>
+        ensures { AddsFindings result self.old self.new (finding ∷ []) }
     {
-        match self.findings.push(finding) {
-            Ok(()) => Ok(()),
-            Err(_) => Err(RegionCheckFault::Memory),
-        }
+        self.findings.push(finding)?;
+        Ok(())
     }
 
     /// Tells one thing more of a component.
@@ -59,22 +48,17 @@ impl Report {
         at: u64,
         name: &[u8],
         what: ComponentFinding,
-    ) -> Result<(), RegionCheckFault>
-        ensures told { OnOk result (self.new.findings.items ≡ self.old.findings.items ++ RegionFinding.Component at name.now what ∷ []) }
-        ensures names { self.new.names ≡ self.old.names }
-        ensures count { self.new.count ≡ self.old.count }
-        ensures memory { IfErr result (λ fault. fault ≡ faults.Memory) }
+    ) -> Result<(), AllocError>
+        ensures { AddsFindings result self.old self.new (RegionFinding.Component at name.now what ∷ []) }
     {
         let name = Name::copied(self.alloc, name)?;
         self.tell(RegionFinding::Component { at, name, what })
     }
 
     /// Tells where a component has a name that one in front of it has, and adds its name.
-    fn tell_name(&mut self, at: u64, name: &[u8]) -> Result<(), RegionCheckFault>
-        ensures told { TellsMore result self.old self.new
+    fn tell_name(&mut self, at: u64, name: &[u8]) -> Result<(), AllocError>
+        ensures { TellsMore result self.old self.new
             (λ t. told_component t name.now (name_findings t.names at name.now)) }
-        ensures count { self.new.count ≡ self.old.count }
-        ensures memory { IfErr result (λ fault. fault ≡ faults.Memory) }
     {
         if add_name(self.alloc, &mut self.names, name)? {
             return Ok(());
@@ -84,11 +68,8 @@ impl Report {
     }
 
     /// Tells where the type of a component has no name.
-    fn tell_type(&mut self, at: u64, name: &[u8], kind: u32) -> Result<(), RegionCheckFault>
-        ensures told { OnOk result (self.new.findings.items ≡ self.old.findings.items ++ type_findings at name.now kind) }
-        ensures names { self.new.names ≡ self.old.names }
-        ensures count { self.new.count ≡ self.old.count }
-        ensures memory { IfErr result (λ fault. fault ≡ faults.Memory) }
+    fn tell_type(&mut self, at: u64, name: &[u8], kind: u32) -> Result<(), AllocError>
+        ensures { AddsFindings result self.old self.new (type_findings at name.now kind) }
     {
         if type_name(kind).is_some() {
             return Ok(());
@@ -103,11 +84,8 @@ impl Report {
         name: &[u8],
         state: HashState,
         is_verbose: bool,
-    ) -> Result<(), RegionCheckFault>
-        ensures told { OnOk result (self.new.findings.items ≡ self.old.findings.items ++ hash_findings is_verbose at name.now state) }
-        ensures names { self.new.names ≡ self.old.names }
-        ensures count { self.new.count ≡ self.old.count }
-        ensures memory { IfErr result (λ fault. fault ≡ faults.Memory) }
+    ) -> Result<(), AllocError>
+        ensures { AddsFindings result self.old self.new (hash_findings is_verbose at name.now state) }
     {
         if state == HashState::Absent && !is_verbose {
             return Ok(());
@@ -123,11 +101,9 @@ impl Report {
         kind: u32,
         state: HashState,
         is_verbose: bool,
-    ) -> Result<(), RegionCheckFault>
-        ensures told { TellsMore result self.old self.new
+    ) -> Result<(), AllocError>
+        ensures { TellsMore result self.old self.new
             (λ t. told_component t name.now (named_findings is_verbose t.names at name.now kind state)) }
-        ensures count { self.new.count ≡ self.old.count }
-        ensures memory { IfErr result (λ fault. fault ≡ faults.Memory) }
     {
         self.tell_name(at, name)?;
         self.tell_type(at, name, kind)?;
@@ -136,9 +112,8 @@ impl Report {
     }
 
     /// Tells one thing and no more.
-    pub fn told(self, finding: RegionFinding) -> Result<Vec<RegionFinding>, RegionCheckFault>
-        ensures told { IfOk result (λ all. all.items ≡ self.findings.items ++ finding ∷ []) }
-        ensures memory { IfErr result (λ fault. fault ≡ faults.Memory) }
+    pub fn told(self, finding: RegionFinding) -> Result<Vec<RegionFinding>, AllocError>
+        ensures { IfOk result (λ all. all.items ≡ self.findings.items ++ finding ∷ []) }
     {
         let mut report = self;
         report.tell(finding)?;
@@ -146,13 +121,15 @@ impl Report {
     }
 
     /// Tells how the cells end, and what they sum up to.
-    pub fn ended(self, end: RegionFinding) -> Result<Vec<RegionFinding>, RegionCheckFault>
-        ensures told { IfOk result (λ all. all.items ≡ self.findings.items ++ end ∷ RegionFinding.Counts self.count.counts ∷ []) }
-        ensures memory { IfErr result (λ fault. fault ≡ faults.Memory) }
+    pub fn ended(
+        self,
+        end: RegionFinding,
+        counts: RegionCounts,
+    ) -> Result<Vec<RegionFinding>, AllocError>
+        ensures { IfOk result (λ all. all.items ≡ self.findings.items ++ end ∷ RegionFinding.Counts counts ∷ []) }
     {
         let mut report = self;
         report.tell(end)?;
-        let counts = report.count.counts;
         report.told(RegionFinding::Counts(counts))
     }
 }

@@ -1,11 +1,9 @@
-use Rattle.std.proofs.Common.{◌≡◌, List, refl, subst}
-use Rattle.std.specs.Prelude.{IfOk}
-use Rattle.cbfs_check.specs.declared.finding.RegionFinding.{RegionFinding}
+use Rattle.std.proofs.Common.{refl, ◌∙◌}
 use Rattle.cbfs_check.proofs.Checking.{checking_start, checking_more, checking_end, checking_tail, checking_refused}
 use Rattle.cbfs_check.proofs.check.check_region.Goals as goal
 
 pub loop-cell-init : goal.loop-cell-init
-loop-cell-init g c = rw c.new-walk.ensures (checking_start g.F.Flash.facts c.args.is_verbose c.args.region c.new-report.result c.args.paged.now c.new-report.ensures.findings c.new-report.ensures.names c.new-report.ensures.count)
+loop-cell-init g c = rw (c.new-walk.ensures, c.new-count.ensures) (checking_start g.F.Flash.facts c.args.is_verbose c.args.region c.new-report.result c.args.paged.now c.new-report.ensures.findings c.new-report.ensures.names)
 
 pub loop-cell-preserved : goal.loop-cell-preserved
 loop-cell-preserved g c =
@@ -14,19 +12,19 @@ loop-cell-preserved g c =
     let reads = rw is at c.in-Ok-Cell.ensures.after in
     let answer = rw is at c.in-Ok-Cell.ensures.answer in
     let moved = rw is at c.in-Ok-Cell.ensures.moved in
-    checking_more g.F.Flash.facts c.args.is_verbose c.args.region c.loop-cell.walk c.loop-cell.report _ _ c.requires c.loop-cell.invariant c.in-Ok-Cell.cell _ _ _ _ _ _
-    given reads refl c.in_ok-check_cell-in-Ok-Cell.ensures.after refl answer moved c.in_ok-check_cell-in-Ok-Cell.ensures.before c.in_ok-check_cell-in-Ok-Cell.ensures.told
+    checking_more g.F.Flash.facts c.args.is_verbose c.args.region c.loop-cell.walk c.loop-cell.report c.loop-cell.count _ _ c.requires c.loop-cell.invariant c.in-Ok-Cell.cell _ _ _ _ _ _ _
+    given reads refl c.in_ok-tell_cell-in-Ok-Cell.ensures.after refl answer moved c.with-count.ensures.before c.with-count.ensures.is c.in_ok-tell_cell-in-Ok-Cell.ensures.told
 
 pub returns-in-Ok-Tail-clause-findings : goal.returns-in-Ok-Tail-clause-findings
 returns-in-Ok-Tail-clause-findings g c = λ h.
-    let told = checking_tail g.F.Flash.facts c.args.is_verbose c.args.region c.loop-cell.walk c.loop-cell.report _ _ c.requires c.loop-cell.invariant _ (rw c.in-Ok-Tail.field-0-is at c.in-Ok-Tail.ensures.answer) h in
-    subst (λ (l : List RegionFinding). IfOk c.ended.result (λ all. all.items ≡ l)) told c.ended.ensures.told
+    let told = checking_tail g.F.Flash.facts c.args.is_verbose c.args.region c.loop-cell.walk c.loop-cell.report c.loop-cell.count _ _ c.requires c.loop-cell.invariant _ (rw c.in-Ok-Tail.field-0-is at c.in-Ok-Tail.ensures.answer) h in
+    c.in_ok-ended-in-Ok-Tail.ensures ∙ told
 
 pub returns-in-Ok-End-clause-findings : goal.returns-in-Ok-End-clause-findings
 returns-in-Ok-End-clause-findings g c = λ h.
-    let told = checking_end g.F.Flash.facts c.args.is_verbose c.args.region c.loop-cell.walk c.loop-cell.report _ _ c.requires c.loop-cell.invariant (rw c.in-Ok-End.field-0-is at c.in-Ok-End.ensures.answer) h in
-    subst (λ (l : List RegionFinding). IfOk c.ended-in-Ok-End.result (λ all. all.items ≡ l)) told c.ended-in-Ok-End.ensures.told
+    let told = checking_end g.F.Flash.facts c.args.is_verbose c.args.region c.loop-cell.walk c.loop-cell.report c.loop-cell.count _ _ c.requires c.loop-cell.invariant (rw c.in-Ok-End.field-0-is at c.in-Ok-End.ensures.answer) h in
+    c.in_ok-ended-in-Ok-End.ensures ∙ told
 
 pub returns-in-Err-clause-findings : goal.returns-in-Err-clause-findings
 returns-in-Err-clause-findings g c = λ h.
-    checking_refused g.F.Flash.facts c.args.is_verbose c.args.region c.loop-cell.walk c.loop-cell.report _ _ c.requires c.loop-cell.invariant c.in-Err.fault c.in-Err.ensures.answer h c.refused.result (λ e. c.refused.ensures.device.1 e) c.refused.ensures.told
+    checking_refused g.F.Flash.facts c.args.is_verbose c.args.region c.loop-cell.walk c.loop-cell.report c.loop-cell.count _ _ c.requires c.loop-cell.invariant c.in-Err.fault c.in-Err.ensures.answer h c.refused.result (λ e. c.refused.ensures.device.1 e) c.refused.ensures.told

@@ -1,16 +1,23 @@
-use Rattle.std.proofs.Common.{◌≡◌, List, ℕ, false, sym, ap, ◌∙◌}
-use Rattle.flash_format.specs.declared.head.Head.{Head}
-use Rattle.flash_format.specs.Head.{head_of, is_free}
+use Rattle.std.proofs.Common.{◌≡◌, List, ℕ, sym, subst}
+use Rattle.flash_format.specs.Components.{cell_attributes, cell_content}
 use Rattle.flash_store.specs.Regions.{bytes_in}
+use Rattle.flash_store.proofs.DeviceLemmas.{honest_still}
 use Rattle.cbfs_walk.specs.Cells.{cell_in}
-use Rattle.cbfs_check.proofs.Telling.{used_told}
+use Rattle.cbfs_walk.specs.Hashes.{hash_state}
+use Rattle.cbfs_walk.specs.Walks.{StandsIn}
+use Rattle.cbfs_check.proofs.Telling.{cell_told}
 use Rattle.cbfs_check.proofs.check.tell_cell.Goals as goal
 
 pub returns-clause-told : goal.returns-clause-told
-returns-clause-told g c = λ h stands.
+returns-clause-told g c = λ h stands. λ t told.
+    let r = c.args.region in
     let cell = c.args.cell.now in
     let image = (g.F.Flash.facts c.args.paged.now.device).content in
-    let x : List ℕ = cell_in (bytes_in c.args.region image) cell in
-    let known = c.cells_stand_in_their_image.ensures c.args.region image cell c.requires.region c.requires.cell stands in
-    let used : is_free (head_of x) ≡ false = ap (λ (k : Head). is_free k) known.head ∙ sym c.if-is_free.ensures in
-    used_told c.args.report.now c.tell_component.new.report c.tell_component.result c.args.is_verbose cell.at x used (c.tell_component.ensures.told h stands)
+    let x : List ℕ = cell_in (bytes_in r image) cell in
+    let known = c.cells_stand_in_their_image.ensures r image cell c.requires.region c.requires.cell stands in
+    let named = c.in_ok-len.ensures in
+    let same = named.after.read.device.unchanged h in
+    let there = subst (λ (l : List ℕ). StandsIn (bytes_in r l) cell) (sym same) stands in
+    let state = subst (λ (l : List ℕ). c.in_ok-state.state ≡ hash_state (cell_attributes (cell_in (bytes_in r l) cell)) (cell_content (cell_in (bytes_in r l) cell))) same
+    (c.in_ok-state.ensures.state (honest_still named.after.read.device.calls.same_honesty h) there) in
+    cell_told c.tell_named.new.self c.args.is_verbose cell.at x _ cell.head c.in_ok-state.state t (sym c.if-is_free.ensures) (named.name h stands) known.head state (c.in_ok-tell_named.ensures t told)
