@@ -1,4 +1,4 @@
-use Rattle.std.proofs.Common.{List, [], ◌∷◌, ◌||◌, Bool, ◌≡◌, refl, ap, map, ◌∙◌}
+use Rattle.std.proofs.Common.{List, [], ◌∷◌, ◌||◌, ◌≡◌, refl, ap, ◌∙◌}
 use Rattle.std.specs.List.{list_any}
 use Rattle.check_rows.specs.Rows.{SeenRow, is_bad_row, is_verdict}
 use Rattle.check_rows.specs.Reports.{verdicts_of}
