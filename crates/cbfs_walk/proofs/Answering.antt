@@ -1,5 +1,5 @@
 -- What a walk answers at a place, by what stands there.
-use Rattle.std.proofs.Common.{◌≡◌, ℕ, ◌+◌, ◌-◌, ◌%◌, ◌<◌, ◌≤◌, Some, Bool, true, false, cond, not, ◌&&◌, ◌⊎◌, inl, inr, List, length, drop, Ok, Err, refl, sym, ap, ◌∙◌, arith, eqb, length-drop, true≢false, le_refl}
+use Rattle.std.proofs.Common.{◌≡◌, ℕ, ◌-◌, ◌%◌, ◌<◌, ◌≤◌, Some, Bool, true, false, cond, not, ◌&&◌, ◌⊎◌, inl, inr, List, length, drop, Ok, Err, refl, sym, ap, ◌∙◌, arith, eqb, length-drop, true≢false, le_refl}
 use Rattle.std.specs.Prelude.{is_some, IfOk, IsErrOf}
 use Rattle.std.proofs.lemmas.Bool.{eqb-true, ne_eqb, and_right}
 use Rattle.std.proofs.lemmas.Grind.{common_steps}
