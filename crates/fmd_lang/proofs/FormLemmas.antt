@@ -1,18 +1,20 @@
 -- Annotations and sections, one word or one section at a time.
-use Rattle.std.proofs.Common.{◌≡◌, ℕ, ◌<◌, if◌then◌else◌, nat_lt, true, List, [], ◌∷◌, ◌++◌, length, map, codes, Option, Some, None, option_map, refl, sym, ◌∙◌, ap, subst, arith, append_assoc}
+use Rattle.std.proofs.Common.{◌≡◌, ℕ, ◌<◌, nat_lt, Bool, true, false, List, [], ◌∷◌, ◌++◌, length, map, Option, Some, None, option_map, refl, sym, ◌∙◌, ap, subst, arith, append_assoc}
 use Rattle.std.proofs.lemmas.List.{append-nil, map-append}
-use Rattle.std.proofs.lemmas.Bool.{cond_both}
-use Rattle.std.proofs.lemmas.Option.{cond_some}
+use Rattle.std.proofs.lemmas.List.Elements.{All-contains}
+use Rattle.std.proofs.lemmas.List.Sums.{AllPass-from_list_all}
+use Rattle.std.proofs.lemmas.Map.Views.{Contains-from_lookup}
 use Rattle.std.proofs.lemmas.Slice.Eq.{bytes_eq-Decides}
 use Rattle.fmd_lang.specs.Faults.{own_fault}
 use Rattle.fmd_lang.specs.declared.fault.FmdFault.TheVariants as faults
 use Rattle.fmd_lang.proofs.OptionLemmas.{and-then-some}
 use Rattle.std.specs.Int.Bits.{bit_or}
-use Rattle.std.specs.Str.{bytes_eq}
+use Rattle.std.specs.List.{list_all}
 use Rattle.fmd_lang.specs.Words.{Word, kind_of}
-use Rattle.fmd_lang.specs.Grammar.{One, Then, IsA, IsSection, AreSections, annotation_flag, flags_with}
+use Rattle.fmd_lang.specs.Grammar.{One, Then, IsA, IsSection, AreSections, annotation_flag, annotations, flags_with}
 use Rattle.fmd_lang.specs.Tree.{Tree, forest_of, view, views}
 use Rattle.fmd_lang.specs.declared.section.Section.{Section}
+use Rattle.fmd_lang.specs.declared.word.Kind.{Kind}
 use Rattle.fmd_lang.specs.declared.word.Kind.TheVariants.{Name, CloseParen}
 
 -- a word that is an annotation of this flag
@@ -39,22 +41,26 @@ pub flags-snoc : (before flags flag : ℕ) (v : List Word) →
 flags-snoc before flags flag v (front, back, split, all, (w, one, is)) =
     rw (split, one) (flags-push front before flags flag w all is)
 
--- what holds of each annotation
-pub each-annotation : (P : List ℕ → ℕ → Type 0) → P (codes "CBFS") 0 → P (codes "PRESERVE") 8 → (bytes : List ℕ) (flag : ℕ) →
-    annotation_flag bytes ≡ Some flag → P bytes flag
-each-annotation P cbfs preserve bytes flag =
-    cond_both (bytes_eq bytes (codes "CBFS")) (Some 0) (if bytes_eq bytes (codes "PRESERVE") then Some 8 else None)
-    (λ (o : Option ℕ). o ≡ Some flag → P bytes flag) (λ same e. known (codes "CBFS") 0 cbfs same e) (λ other e.
-    let p = cond_some (bytes_eq bytes (codes "PRESERVE")) 8 flag e in known (codes "PRESERVE") 8 preserve p.0 (ap Some p.1))
-  where
-    known : (name : List ℕ) (value : ℕ) → P name value → bytes_eq bytes name ≡ true → Some value ≡ Some flag → P bytes flag
-    known name value holds same e =
-        let n : value ≡ flag = cc in
-        subst (λ v. P bytes v) n (subst (λ v. P v value) (sym ((bytes_eq-Decides bytes name).0 same)) holds)
+-- what a test finds of each annotation
+pub each-annotation : (test : List ℕ × ℕ → Bool) → list_all test annotations ≡ true → (bytes : List ℕ) (flag : ℕ) →
+    annotation_flag bytes ≡ Some flag → test (bytes, flag) ≡ true
+each-annotation test all bytes flag known =
+    let listed = Contains-from_lookup (λ a b. (bytes_eq-Decides a b).0) bytes flag annotations known in
+    All-contains (λ row. test row ≡ true) annotations (bytes, flag) (AllPass-from_list_all test annotations all) listed
+
+-- whether it is the kind of a name
+abbrev is_name : Kind → Bool
+is_name Name = true
+is_name k = false
+
+name-is : (k : Kind) → is_name k ≡ true → k ≡ Name
+name-is Name is = refl
+name-is k is = cc
 
 -- An annotation is a name.
 pub annotation-name : (bytes : List ℕ) (flag : ℕ) → annotation_flag bytes ≡ Some flag → kind_of bytes ≡ Name
-annotation-name = each-annotation (λ bytes flag. kind_of bytes ≡ Name) refl refl
+annotation-name bytes flag known =
+    name-is (kind_of bytes) (each-annotation (λ row. is_name (kind_of row.0)) refl bytes flag known)
 
 -- a section from its first word on
 pub section-opens : (w : Word) (t : Tree) (v : List Word) → Then (One (λ x. x ≡ w)) (λ ws. IsSection t (w ∷ ws)) v → IsSection t v

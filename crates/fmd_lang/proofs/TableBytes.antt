@@ -1,8 +1,9 @@
 -- The bytes of a table are read as a valid map.
-use Rattle.std.proofs.Common.{suc, ◌≡◌, inl, inr, ℕ, ◌+◌, ◌^◌, ◌<◌, ◌≤◌, true, All, List, [], ◌∷◌, ◌++◌, length, refl, sym, ◌∙◌, ap, subst, arith}
+use Rattle.std.proofs.Common.{suc, ◌≡◌, inl, inr, ℕ, ◌+◌, ◌^◌, ◌<◌, ◌≤◌, nat_lt, true, All, List, [], ◌∷◌, ◌++◌, length, refl, sym, ◌∙◌, ap, subst, arith}
 use Rattle.std.specs.Prelude.{Option, Some, None, unwrap_or}
 use Rattle.std.specs.Int.Bits.{bit_or}
 use Rattle.std.proofs.lemmas.Nat.{or_lt}
+use Rattle.std.proofs.lemmas.Bool.Decides.{nat_tests}
 use Rattle.std.proofs.lemmas.List.Elements.{All-nil, All-cons, All-append}
 use Rattle.flash_format.specs.declared.flashmap.Area.{Area}
 use Rattle.flash_format.specs.Flashmap.{is_named}
@@ -26,7 +27,8 @@ use Rattle.fmd_lang.proofs.OptionLemmas.{and-then-some}
 -- ---- the areas
 
 few_flags : (bytes : List ℕ) (flag : ℕ) → annotation_flag bytes ≡ Some flag → flag < 2 ^ 16
-few_flags = each-annotation (λ bytes flag. flag < 2 ^ 16) (omega arith) (omega arith)
+few_flags bytes flag known =
+    let few = each-annotation (λ row. nat_lt row.1 (2 ^ 16)) refl bytes flag known in grind (arith, nat_tests)
 
 joined_flags : (ws : List Word) (before flags : ℕ) → before < 2 ^ 16 → flags_with before ws ≡ Some flags → flags < 2 ^ 16
 joined_flags [] before flags few h = omega (arith, ap (λ o. unwrap_or o 0) h)

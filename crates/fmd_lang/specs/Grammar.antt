@@ -2,8 +2,9 @@
 --   section = name [ "(" annotation+ ")" ] [ "@" number ] [ number ] [ "{" section* "}" ]
 -- (coreboot's Documentation/lib/flashmap.md; that the braces may be empty, and that the root is read as any other
 -- section, is this project's own).
-use Rattle.std.specs.Prelude.{◌≡◌, ℕ, ◌<◌, ◌⊎◌, if◌then◌else◌, List, [], ◌∷◌, ◌++◌, length, Option, Some, None, MatchOption, codes}
+use Rattle.std.specs.Prelude.{◌≡◌, ℕ, ◌<◌, ◌⊎◌, List, [], ◌∷◌, ◌++◌, length, Option, Some, None, MatchOption, codes}
 use Rattle.std.specs.Int.Bits.{bit_or}
+use Rattle.std.specs.Map.{lookup}
 use Rattle.std.specs.Option.{option_and_then}
 use Rattle.std.specs.Str.{bytes_eq}
 use Rattle.fmd_lang.specs.Words.{Word, kind_of}
@@ -32,10 +33,13 @@ Until last P = Then P (One (IsA last))
 abbrev pub Enclosed : Kind → Kind → (List Word → Type 0) → Type 0 → List Word → Type 0
 Enclosed first last P Q ws = ((ws ≡ []) × Q) ⊎ Then (One (IsA first)) (Until last P) ws
 
--- what an annotation adds to the flags of an area: the bit 8 is PRESERVE
+-- the annotations, each with what it adds to the flags of an area
+abbrev pub annotations : List (List ℕ × ℕ)
+annotations = (codes "CBFS", 0) ∷ (codes "PRESERVE", 8) ∷ []
+
+-- what these bytes add to the flags, where they are an annotation
 abbrev pub annotation_flag : List ℕ → Option ℕ
-annotation_flag bytes = if bytes_eq bytes (codes "CBFS") then Some 0
-    else (if bytes_eq bytes (codes "PRESERVE") then Some 8 else None)
+annotation_flag bytes = lookup (bytes_eq bytes) annotations
 
 -- the flags with those of these annotations; None where a word is none
 abbrev pub flags_with : ℕ → List Word → Option ℕ
