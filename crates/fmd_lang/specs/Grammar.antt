@@ -2,7 +2,7 @@
 --   section = name [ "(" annotation+ ")" ] [ "@" number ] [ number ] [ "{" section* "}" ]
 -- (coreboot's Documentation/lib/flashmap.md; that the braces may be empty, and that the root is read as any other
 -- section, is this project's own).
-use Rattle.std.specs.Prelude.{◌≡◌, ℕ, ◌<◌, ◌⊎◌, List, [], ◌∷◌, ◌++◌, length, Option, Some, None, MatchOption, codes}
+use Rattle.std.specs.Prelude.{◌≡◌, ℕ, ◌<◌, ◌⊎◌, List, [], ◌∷◌, ◌++◌, length, Option, Some, MatchOption, codes}
 use Rattle.std.specs.Int.Bits.{bit_or}
 use Rattle.std.specs.Map.{lookup}
 use Rattle.std.specs.Option.{option_and_then}
