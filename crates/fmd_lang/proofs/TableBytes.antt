@@ -3,7 +3,7 @@ use Rattle.std.proofs.Common.{suc, ◌≡◌, inl, inr, ℕ, ◌+◌, ◌^◌, �
 use Rattle.std.specs.Prelude.{Option, Some, None, unwrap_or}
 use Rattle.std.specs.Int.Bits.{bit_or}
 use Rattle.std.proofs.lemmas.Nat.{or_lt}
-use Rattle.std.proofs.lemmas.Bool.Decides.{nat_tests}
+use Rattle.std.proofs.lemmas.Bool.{ltb-true}
 use Rattle.std.proofs.lemmas.List.Elements.{All-nil, All-cons, All-append}
 use Rattle.flash_format.specs.declared.flashmap.Area.{Area}
 use Rattle.flash_format.specs.Flashmap.{is_named}
@@ -27,8 +27,7 @@ use Rattle.fmd_lang.proofs.OptionLemmas.{and-then-some}
 -- ---- the areas
 
 few_flags : (bytes : List ℕ) (flag : ℕ) → annotation_flag bytes ≡ Some flag → flag < 2 ^ 16
-few_flags bytes flag known =
-    let few = each-annotation (λ row. nat_lt row.1 (2 ^ 16)) refl bytes flag known in grind (arith, nat_tests)
+few_flags bytes flag known = ltb-true flag (2 ^ 16) (each-annotation (λ row. nat_lt row.1 (2 ^ 16)) refl bytes flag known)
 
 joined_flags : (ws : List Word) (before flags : ℕ) → before < 2 ^ 16 → flags_with before ws ≡ Some flags → flags < 2 ^ 16
 joined_flags [] before flags few h = omega (arith, ap (λ o. unwrap_or o 0) h)
