@@ -9,7 +9,7 @@ use Rattle.std.proofs.Math.Seq.{drop-cons, drop-length}
 use Rattle.std.proofs.lemmas.Map.Text.{hash_map_updates_str}
 use Rattle.cbfs_walk.specs.declared.cell.Cell.{Cell}
 use Rattle.cbfs_changes.specs.declared.listing.Listed.{Listed}
-use Rattle.cbfs_changes.specs.Firsts.{is_named, noted, Notes}
+use Rattle.cbfs_changes.specs.Firsts.{is_named, cell_for, Notes}
 
 front : (here : Bool) (l : Listed) (o : Option Listed) → cond here (Some l.cell) (option_map (λ (l : Listed). l.cell) o) ≡ option_map (λ (l : Listed). l.cell) (cond here (Some l) o)
 front true l o = refl
@@ -23,7 +23,7 @@ module _ {S : Type 0} (old new : HashMap (Bor (List ℕ)) Cell S) where
   pub notes-front : (l : Listed) (behind : List Listed) → Puts l.cell l.name → Notes old behind → Notes new (l ∷ behind)
   notes-front l behind puts notes name =
       hash_map_updates_str l.name old new (Some l.cell) puts name
-      ∙ ap (λ b. cond b (Some l.cell) (noted old name)) (nat_list_eq_equiv.symm l.name name)
+      ∙ ap (λ b. cond b (Some l.cell) (cell_for old name)) (nat_list_eq_equiv.symm l.name name)
       ∙ ap (λ (o : Option Cell). cond (bytes_eq name l.name) (Some l.cell) o) (notes name)
       ∙ front (bytes_eq name l.name) l (find (is_named name) behind)
 

@@ -18,7 +18,7 @@ use Rattle.cbfs_walk.specs.Cells.{IsCellIn, cell_in}
 use Rattle.cbfs_walk.specs.Hashes.{content_at}
 use Rattle.cbfs_walk.specs.Passing.{reads_over}
 use Rattle.cbfs_walk.specs.Walks.{Answer, Walking, walk_of, answer_at, StandsIn}
-use Rattle.cbfs_walk.specs.Shaped.{shaped, ReadsCells, by_answer}
+use Rattle.cbfs_walk.specs.Shaped.{reading_of, ReadsCells, by_answer}
 use Rattle.cbfs_walk.specs.declared.cell.Cell.{Cell}
 use Rattle.cbfs_walk.specs.declared.walk.Step.TheVariants as steps
 use Rattle.cbfs_walk.specs.declared.walk.WalkFault.{WalkFault}
@@ -80,10 +80,10 @@ law at bytes k = go (is_free (head_of bytes)) (components_from (at + length byte
     go false others = refl
 
 pub states_from : List ℕ → ℕ → List ComponentState
-states_from x at = shaped (λ fault. []) rest_read x at
+states_from x at = reading_of (λ fault. []) rest_read x at
 
 states_whole : (x : List ℕ) → states x ≡ states_from x 0
-unfolding states states_from shaped rest_read
+unfolding states states_from reading_of rest_read
 states_whole x = refl
 
 -- the same by the answer of a walk

@@ -13,7 +13,7 @@ use Rattle.flash_format.specs.Cut.{cut, IsCell}
 use Rattle.flash_format.specs.Components.{Component, component_at, components_from, components}
 use Rattle.flash_format.proofs.CutSteps.{cell_span}
 use Rattle.flash_format.proofs.CutLaws.{cut_exists}
-use Rattle.cbfs_walk.specs.Shapes.{has_bad_size, is_absent, shape, refused_or}
+use Rattle.cbfs_walk.specs.Shapes.{has_bad_size, is_absent, shape_fault, refused_or}
 use Rattle.cbfs_walk.specs.declared.walk.WalkFault.{WalkFault}
 use Rattle.cbfs_walk.specs.declared.walk.WalkFault.TheVariants as walk
 use Rattle.cbfs_changes.specs.ComponentChanges.{ComponentState, state_of, states, has_name, first_of, stands_at, pair_change, difference, change_by, change_of, removal_of, component_changes, changes_between}
@@ -57,9 +57,9 @@ whole false false good = absurd cc
 
 states_ascend : (x : List ℕ) → Ascend 0 (states x)
 unfolding states Ascend
-states_ascend x = go (shape x) refl
+states_ascend x = go (shape_fault x) refl
   where
-    go : (o : Option WalkFault) → shape x ≡ o → Ascend 0 (refused_or (λ fault. []) o (map state_of (components x)))
+    go : (o : Option WalkFault) → shape_fault x ≡ o → Ascend 0 (refused_or (λ fault. []) o (map state_of (components x)))
     go (Some fault) is = tt
     go None is =
         let good : has_bad_size (length x) ≡ false = good_size (has_bad_size (length x)) (is_absent (entry x)) is in

@@ -6,7 +6,7 @@ use Rattle.flash_format.specs.Head.{head_of}
 use Rattle.flash_format.specs.Entry.{name_end}
 use Rattle.flash_format.specs.Components.{Component, components}
 use Rattle.flash_store.specs.Regions.{Range, bytes_in}
-use Rattle.cbfs_walk.specs.Shapes.{shape, refused_or}
+use Rattle.cbfs_walk.specs.Shapes.{shape_fault, refused_or}
 use Rattle.cbfs_changes.specs.declared.change.Difference.{Difference}
 use Rattle.cbfs_changes.specs.declared.change.Difference.TheVariants.{«Type», Length, Content, Attributes}
 use Rattle.cbfs_changes.specs.declared.change.ComponentChange.{ComponentChange}
@@ -26,7 +26,7 @@ state_of c = let h = head_of c.bytes in record { at = c.at; name = c.name; kind 
 
 -- those of a region of these bytes, up to a damage; none where its shape is refused
 unfoldable pub states : List ℕ → List ComponentState
-states x = refused_or (λ fault. []) (shape x) (map state_of (components x))
+states x = refused_or (λ fault. []) (shape_fault x) (map state_of (components x))
 
 abbrev pub has_name : List ℕ → ComponentState → Bool
 has_name name c = bytes_eq name c.name

@@ -25,9 +25,9 @@ abbrev pub is_first : List Listed → Listed → Bool
 is_first all l = is_at l.cell.at (first_cell l.name all)
 
 -- the cell that is kept for a name
-abbrev pub noted : {S : Type 0} → HashMap (Bor (List ℕ)) Cell S → List ℕ → Option Cell
-noted first name = get_by (λ k. bytes_eq name k.now) first
+abbrev pub cell_for : {S : Type 0} → HashMap (Bor (List ℕ)) Cell S → List ℕ → Option Cell
+cell_for first name = get_by (λ k. bytes_eq name k.now) first
 
 -- the map keeps those of these components, and no more
 abbrev pub Notes : {S : Type 0} → HashMap (Bor (List ℕ)) Cell S → List Listed → Type 0
-Notes first all = (name : List ℕ) → noted first name ≡ first_cell name all
+Notes first all = (name : List ℕ) → cell_for first name ≡ first_cell name all

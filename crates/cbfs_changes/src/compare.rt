@@ -9,10 +9,7 @@ use crate::change::Difference;
 use crate::fault::ChangeFault;
 use crate::stretch::Stretch;
 use cbfs_walk::Cell;
-use flash_store::{Flash, Paged, Region};
-
-/// How many bytes of each device are read at once.
-const PIECE: u64 = 4096;
+use flash_store::{Flash, PIECE, Paged, Region};
 
 /// What differs first between a component of the old region and one of the new.
 pub fn difference<F: Flash, G: Flash>(
@@ -123,7 +120,7 @@ fn same_bytes<F: Flash, G: Flash>(
     new.places_fit();
     let mut done = 0;
     while done < n {
-        let size = (n - done).min(PIECE);
+        let size = (n - done).min(PIECE as u64);
         if !same_piece(old, before + done, new, after + done, size as usize)? {
             return Ok(false);
         }

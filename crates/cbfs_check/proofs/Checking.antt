@@ -10,9 +10,9 @@ use Rattle.flash_store.specs.Regions.{Range, LiesIn, bytes_in}
 use Rattle.flash_store.proofs.DeviceLemmas.{honest_still, length-bytes_in}
 use Rattle.cbfs_walk.specs.Cells.{IsCellIn, cell_in}
 use Rattle.cbfs_walk.specs.Passing.{reads_over}
-use Rattle.cbfs_walk.specs.Shapes.{shape, refused_or}
+use Rattle.cbfs_walk.specs.Shapes.{shape_fault, refused_or}
 use Rattle.cbfs_walk.specs.Walks.{Answer, Walking, walk_of, answer_at, StandsIn}
-use Rattle.cbfs_walk.specs.Shaped.{shaped, ReadsCells, by_answer, place_after}
+use Rattle.cbfs_walk.specs.Shaped.{reading_of, ReadsCells, by_answer, place_after}
 use Rattle.cbfs_walk.specs.declared.cell.Cell.{Cell}
 use Rattle.cbfs_walk.specs.declared.walk.Step.{Step}
 use Rattle.cbfs_walk.specs.declared.walk.Step.TheVariants as steps
@@ -20,7 +20,7 @@ use Rattle.cbfs_walk.specs.declared.walk.WalkFault.{WalkFault}
 use Rattle.cbfs_walk.specs.declared.walk.WalkFault.TheVariants as walk
 use Rattle.cbfs_walk.proofs.Shapes.{shaped_step}
 use Rattle.flash_format.specs.Head.{head_of, is_free}
-use Rattle.cbfs_check.specs.Counts.{IsCountBefore, nothing, counted, counts}
+use Rattle.cbfs_check.specs.Counts.{IsCountBefore, nothing, count_after, counts}
 use Rattle.cbfs_check.specs.RegionFindings.{names_after, cell_findings, cells_findings, end_finding, shape_findings, region_findings}
 use Rattle.cbfs_check.specs.Reports.{Told, told_nothing, told_cell, HasTold, refused_findings}
 use Rattle.cbfs_check.specs.declared.fault.RegionCheckFault.{RegionCheckFault}
@@ -39,7 +39,7 @@ tell_cut : Bool → ℕ → Cut → Told → Count → List RegionFinding
 tell_cut verbose at k t n = t.findings ++ (cells_findings verbose t.names at k.cells ++ (end_finding (place_after at k.cells) k.end ∷ findings.Counts (count_all n at k.cells) ∷ []))
 
 tell_cell : Bool → List ℕ → Cell → (Told → Count → List RegionFinding) → Told → Count → List RegionFinding
-tell_cell verbose x given later t n = later (told_cell verbose t given.at x) (counted n (is_free given.head) given.span)
+tell_cell verbose x given later t n = later (told_cell verbose t given.at x) (count_after n (is_free given.head) given.span)
 
 tell_fault : WalkFault → Told → Count → List RegionFinding
 tell_fault fault t n = t.findings ++ shape_findings fault
@@ -52,10 +52,10 @@ joined : (told here later end : List RegionFinding) → told ++ ((here ++ later)
 joined told here later end = ap (λ (l : List RegionFinding). told ++ l) (append_assoc here later end) ∙ sym (append_assoc told here (later ++ end))
 
 cell_more : (verbose : Bool) (at : ℕ) (x : List ℕ) (k : Cut) (t : Told) (n : Count)
-    → tell_cut verbose at (after (x ∷ []) k) t n ≡ tell_cut verbose (at + length x) k (told_cell verbose t at x) (counted n (is_free (head_of x)) (length x))
+    → tell_cut verbose at (after (x ∷ []) k) t n ≡ tell_cut verbose (at + length x) k (told_cell verbose t at x) (count_after n (is_free (head_of x)) (length x))
 unfolding tell_cut cells_findings last
 cell_more verbose at x k t n =
-    let next = counted n (is_free (head_of x)) (length x) in
+    let next = count_after n (is_free (head_of x)) (length x) in
     ap (λ (m : RegionCounts). t.findings ++ ((cell_findings verbose t.names at x ++ cells_findings verbose (names_after t.names x) (at + length x) k.cells) ++ last k.end (place_after (at + length x) k.cells) m)) (count_more n at x k.cells)
     ∙ joined t.findings (cell_findings verbose t.names at x) (cells_findings verbose (names_after t.names x) (at + length x) k.cells) (last k.end (place_after (at + length x) k.cells) (count_all next (at + length x) k.cells))
 
@@ -65,15 +65,15 @@ law verbose at x k = fun_ext (λ (t : Told). fun_ext (λ (n : Count). cell_more 
 
 -- all that is told from a place on
 pub told_from : Bool → List ℕ → Told → Count → ℕ → List RegionFinding
-told_from verbose x t n at = shaped tell_fault (tell_cut verbose) x at t n
+told_from verbose x t n at = reading_of tell_fault (tell_cut verbose) x at t n
 
 whole_counts : (verbose : Bool) (x : List ℕ) → (cells_findings verbose [] 0 (cut x).cells ++ last (cut x).end (place_after 0 (cut x).cells) (counts x)) ≡ tell_cut verbose 0 (cut x) told_nothing nothing
 unfolding tell_cut last
 whole_counts verbose x = ap (λ (n : RegionCounts). cells_findings verbose [] 0 (cut x).cells ++ last (cut x).end (place_after 0 (cut x).cells) n) (sym (count_whole 0 (cut x).cells))
 
 told_whole : (verbose : Bool) (x : List ℕ) → region_findings verbose x ≡ told_from verbose x told_nothing nothing 0
-unfolding told_from tell_fault region_findings shaped last
-told_whole verbose x = go (shape x)
+unfolding told_from tell_fault region_findings reading_of last
+told_whole verbose x = go (shape_fault x)
   where
     go : (o : Option WalkFault) → refused_or shape_findings o (cells_findings verbose [] 0 (cut x).cells ++ last (cut x).end (place_after 0 (cut x).cells) (counts x)) ≡ refused_or tell_fault o (tell_cut verbose 0 (cut x)) told_nothing nothing
     go None = whole_counts verbose x
@@ -155,7 +155,7 @@ module _ {F : Type 0} (facts : F → Device) (verbose : Bool) (r : Range) (w : W
       → HasRead facts n 0 now mid → n ≡ reads_over c.span → HasRead facts m 0 mid new → m ≡ 2 + c.span / 3840
       → Answers (Ok (steps.Cell c))
       → v ≡ record w { at = w.at + c.span; steps = w.steps + 1 }
-      → IsCountBefore (c.at + c.span) more → more ≡ counted count (is_free c.head) c.span
+      → IsCountBefore (c.at + c.span) more → more ≡ count_after count (is_free c.head) c.span
       → (IsTrue (facts mid.device).honest → StandsIn (bytes_in r (facts mid.device).content) c → (t : Told) → HasTold report t → HasTold next (told_cell verbose t c.at (cell_in (bytes_in r (facts mid.device).content) c)))
       → Checking facts verbose r v next more old new
   unfolding told_by tell_cell told_from
@@ -174,7 +174,7 @@ module _ {F : Type 0} (facts : F → Device) (verbose : Bool) (r : Range) (w : W
         let t = told.1.0 in (
           told_cell verbose t c.at (cell_in x c),
           (rw same at (tells (honest_still reads.device.calls.same_honesty k))) stands t told.1.1,
-          told.1.2 ∙ ap (λ p. told_from verbose x (told_cell verbose t c.at (cell_in x c)) (counted count (is_free c.head) c.span) (p + c.span)) given.1
+          told.1.2 ∙ ap (λ p. told_from verbose x (told_cell verbose t c.at (cell_in x c)) (count_after count (is_free c.head) c.span) (p + c.span)) given.1
               ∙ ap (λ (n : Count). told_from verbose x (told_cell verbose t c.at (cell_in x c)) n (w.at + c.span)) (sym is_more),
         );
   })

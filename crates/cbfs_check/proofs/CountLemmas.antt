@@ -5,7 +5,7 @@ use Rattle.flash_format.specs.Head.{head_of, is_free}
 use Rattle.flash_format.specs.Components.{components_from, component_at}
 use Rattle.cbfs_check.specs.declared.count.RegionCounts.{RegionCounts}
 use Rattle.cbfs_check.specs.declared.count.Count.{Count}
-use Rattle.cbfs_check.specs.Counts.{free_bytes, longest_free, nothing, counted}
+use Rattle.cbfs_check.specs.Counts.{free_bytes, longest_free, nothing, count_after}
 
 -- what is counted after cells of which the first stands at a place
 abbrev pub count_all : Count → ℕ → List (List ℕ) → RegionCounts
@@ -19,7 +19,7 @@ counts_are : (c d f g l m : ℕ) → c ≡ d → f ≡ g → l ≡ m
     → (let a : RegionCounts = record { components = c; free = f; longest_free = l } in a) ≡ record { components = d; free = g; longest_free = m }
 counts_are c d f g l m p q r = cc
 
-pub count_more : (n : Count) (at : ℕ) (x : List ℕ) (cells : List (List ℕ)) → count_all n at (x ∷ cells) ≡ count_all (counted n (is_free (head_of x)) (length x)) (at + length x) cells
+pub count_more : (n : Count) (at : ℕ) (x : List ℕ) (cells : List (List ℕ)) → count_all n at (x ∷ cells) ≡ count_all (count_after n (is_free (head_of x)) (length x)) (at + length x) cells
 unfolding components_from free_bytes longest_free
 count_more n at x cells = go (is_free (head_of x))
   where
@@ -27,7 +27,7 @@ count_more n at x cells = go (is_free (head_of x))
       components = n.counts.components + length (cond free (components_from (at + length x) cells) (component_at at x ∷ components_from (at + length x) cells));
       free = n.counts.free + cond free (length x + free_bytes cells) (free_bytes cells);
       longest_free = max n.counts.longest_free (cond free (max (n.row + length x) (longest_free (n.row + length x) cells)) (longest_free 0 cells));
-    } in a) ≡ count_all (counted n free (length x)) (at + length x) cells
+    } in a) ≡ count_all (count_after n free (length x)) (at + length x) cells
     go true = counts_are _ _ _ _ _ _ refl (omega arith) (omega arith)
     go false = counts_are _ _ _ _ _ _ (omega arith) refl refl
 

@@ -8,7 +8,7 @@ use Rattle.flash_format.specs.Head.{head_of, is_free}
 use Rattle.flash_format.specs.Cut.{cut}
 use Rattle.flash_format.specs.Components.{Component, component_at, components_from, components, cell_name}
 use Rattle.cbfs_walk.specs.Finding.{IsFirstOf}
-use Rattle.cbfs_walk.specs.Shapes.{shape, refused_or}
+use Rattle.cbfs_walk.specs.Shapes.{shape_fault, refused_or}
 use Rattle.cbfs_walk.specs.Shaped.{place_after}
 use Rattle.cbfs_walk.specs.declared.walk.WalkFault.{WalkFault}
 use Rattle.cbfs_check.specs.Counts.{counts}
@@ -130,7 +130,7 @@ unshadowed verbose names at (x ∷ cells) c has none =
 
 -- ---- in a region
 
-pub unshadowed_first : (verbose : Bool) (x : List ℕ) (c : Component) → shape x ≡ None → Contains (components x) c → (Contains (region_findings verbose x) (shadowed c) → ⊥) → IsFirstOf c.name (components x) c
+pub unshadowed_first : (verbose : Bool) (x : List ℕ) (c : Component) → shape_fault x ≡ None → Contains (components x) c → (Contains (region_findings verbose x) (shadowed c) → ⊥) → IsFirstOf c.name (components x) c
 unfolding region_findings IsNewIn
 unshadowed_first verbose x c good listed none =
     (unshadowed verbose [] 0 (cut x).cells c listed

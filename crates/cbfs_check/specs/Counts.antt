@@ -32,8 +32,8 @@ abbrev pub nothing : Count
 nothing = record { counts = record { components = 0; free = 0; longest_free = 0 }; row = 0 }
 
 -- the counts after one more cell, free or not, of so many bytes
-abbrev pub counted : Count → Bool → ℕ → Count
-counted n free len =
+abbrev pub count_after : Count → Bool → ℕ → Count
+count_after n free len =
     let longer = n.row + len in
     if free then record { counts = record n.counts { free = n.counts.free + len; longest_free = max n.counts.longest_free longer }; row = longer }
     else record { counts = record n.counts { components = n.counts.components + 1 }; row = 0 }

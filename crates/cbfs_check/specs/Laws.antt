@@ -2,12 +2,12 @@
 use Rattle.std.specs.Prelude.{◌≡◌, ℕ, Bool, Contains, List, Some, None, Ok}
 use Rattle.flash_format.specs.Components.{Component, components}
 use Rattle.cbfs_walk.specs.Finding.{component_in}
-use Rattle.cbfs_walk.specs.Shapes.{shape}
+use Rattle.cbfs_walk.specs.Shapes.{shape_fault}
 use Rattle.cbfs_check.specs.RegionFindings.{region_findings}
 use Rattle.cbfs_check.specs.declared.finding.ComponentFinding.TheVariants.{Shadowed}
 use Rattle.cbfs_check.specs.declared.finding.RegionFinding.TheVariants as findings
 
 -- a component of which it isn't told that it is shadowed is what a search of its name finds, whether the check is verbose or not
 abbrev pub UnshadowedAreFound : Type 0
-UnshadowedAreFound = (verbose : Bool) (x : List ℕ) (c : Component) → shape x ≡ None → Contains (components x) c
+UnshadowedAreFound = (verbose : Bool) (x : List ℕ) (c : Component) → shape_fault x ≡ None → Contains (components x) c
     → (Contains (region_findings verbose x) (findings.Component c.at c.name Shadowed) → ⊥) → component_in x c.name ≡ Ok (Some c)

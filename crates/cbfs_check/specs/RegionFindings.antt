@@ -9,7 +9,7 @@ use Rattle.flash_format.specs.TypeNames.{name_of_type}
 use Rattle.cbfs_walk.specs.Hashes.{hash_state}
 use Rattle.cbfs_walk.specs.declared.hashes.HashState.{HashState}
 use Rattle.cbfs_walk.specs.declared.hashes.HashState.TheVariants.{Absent}
-use Rattle.cbfs_walk.specs.Shapes.{shape, refused_or}
+use Rattle.cbfs_walk.specs.Shapes.{shape_fault, refused_or}
 use Rattle.cbfs_walk.specs.Shaped.{place_after}
 use Rattle.cbfs_walk.specs.declared.walk.WalkFault.{WalkFault}
 use Rattle.cbfs_walk.specs.declared.walk.WalkFault.TheVariants as walk
@@ -73,7 +73,7 @@ shape_findings _ = []
 -- a component without a digest a verbose check alone tells that
 unfoldable pub region_findings : Bool → List ℕ → List RegionFinding
 region_findings verbose x =
-    refused_or shape_findings (shape x)
+    refused_or shape_findings (shape_fault x)
     (cells_findings verbose [] 0 (cut x).cells ++ end_finding (place_after 0 (cut x).cells) (cut x).end ∷ Counts (counts x) ∷ [])
 
 -- the bytes begin with the head of an entry

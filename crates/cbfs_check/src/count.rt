@@ -22,7 +22,7 @@ pub struct Count {
 }
 
 impl Count {
-    ghost use Rattle.cbfs_check.specs.Counts.{IsCountBefore, counted, nothing};
+    ghost use Rattle.cbfs_check.specs.Counts.{IsCountBefore, count_after, nothing};
 
     /// No cell is counted yet.
     pub fn new() -> Count
@@ -44,7 +44,7 @@ impl Count {
         requires small { cell.now.at + cell.now.span < 2 ^ 32 }
         requires some { 0 < cell.now.span }
 
-        ensures is { result ≡ counted self (is_free cell.now.head) cell.now.span }
+        ensures is { result ≡ count_after self (is_free cell.now.head) cell.now.span }
         ensures before { IsCountBefore (cell.now.at + cell.now.span) result }
     {
         let RegionCounts {

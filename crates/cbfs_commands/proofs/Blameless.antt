@@ -9,11 +9,11 @@ use Rattle.flash_format.specs.Cut.{End, complete, tail, damage, cut}
 use Rattle.flash_format.specs.Entry.{entry}
 use Rattle.flash_format.specs.Flashmap.{areas_at, fmap_head_of, map_len, map_of, area_in}
 use Rattle.flash_store.specs.Fmap.{map_head}
-use Rattle.flash_store.specs.Regions.{Range, bytes_in, inside, region_of, region_under}
+use Rattle.flash_store.specs.Regions.{Range, bytes_in, region_by_area, region_of, region_under}
 use Rattle.flash_store.specs.declared.fmap.StoreFault.{StoreFault}
 use Rattle.cbfs_walk.specs.Finding.{Found, component_in, first_named, found_or, not_found}
 use Rattle.cbfs_walk.specs.Shaped.{place_after}
-use Rattle.cbfs_walk.specs.Shapes.{has_bad_size, is_absent, refused_or, shape}
+use Rattle.cbfs_walk.specs.Shapes.{has_bad_size, is_absent, refused_or, shape_fault}
 use Rattle.cbfs_walk.specs.declared.walk.WalkFault.{WalkFault}
 use Rattle.cbfs_walk.specs.declared.walk.WalkFault.TheVariants as walk
 use Rattle.cbfs_edit.specs.Additions.{NewComponent, added, addition_in, is_bad_name, is_bad_type, new_component, wanted_for}
@@ -79,7 +79,7 @@ told-blameless tell (Ok value) next own each = each value
 
 -- ---- regions, their shape and their cells
 
-inside-blameless : (n : ℕ) (area : Option Area) → Blameless store_refusal (inside n area)
+inside-blameless : (n : ℕ) (area : Option Area) → Blameless store_refusal (region_by_area n area)
 inside-blameless n None = tt
 inside-blameless n (Some a) = when store_refusal (nat_lt n (a.offset + a.size)) _ _ tt tt
 
@@ -92,7 +92,7 @@ region_of-blameless image name = go (map_of image)
     go (Some q) = inside-blameless (length image) (area_in image q name)
 
 -- what holds of the two refusals by a region's shape, and of what is answered without one
-unless-misshapen : {A : Type 0} (P : A → Type 0) (refuse : WalkFault → A) (x : List ℕ) (otherwise : A) → P (refuse walk.RegionShape) → P (refuse walk.NotCbfs) → P otherwise → P (refused_or refuse (shape x) otherwise)
+unless-misshapen : {A : Type 0} (P : A → Type 0) (refuse : WalkFault → A) (x : List ℕ) (otherwise : A) → P (refuse walk.RegionShape) → P (refuse walk.NotCbfs) → P otherwise → P (refused_or refuse (shape_fault x) otherwise)
 unless-misshapen P refuse x otherwise misshapen empty other = go (has_bad_size (length x)) (0 == 0 && is_absent (entry x))
   where
     go : (bad absent : Bool) → P (refused_or refuse (cond bad (Some walk.RegionShape) (cond absent (Some walk.NotCbfs) None)) otherwise)
@@ -140,7 +140,7 @@ head_for-blameless : (n : ℕ) (source : List ℕ) → Blameless itself (head_fo
 head_for-blameless n source = next-blameless itself _ _ (given itself (map_head source) refusals.TableBad tt) (λ head. when itself (head.size == n) _ _ tt tt)
 
 map_place-blameless : (n len : ℕ) (area : Option Area) → Blameless itself (map_place n len area)
-map_place-blameless n len area = next-blameless (λ fault. refusals.FmapArea) _ _ (other (inside n area)) (λ place. when itself (nat_lt place.size len) _ _ tt tt)
+map_place-blameless n len area = next-blameless (λ fault. refusals.FmapArea) _ _ (other (region_by_area n area)) (λ place. when itself (nat_lt place.size len) _ _ tt tt)
   where
     other : (place : Result Range StoreFault) → Blameless (λ fault. refusals.FmapArea) place
     other (Err fault) = tt

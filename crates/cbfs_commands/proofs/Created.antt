@@ -7,7 +7,7 @@ use Rattle.std.proofs.lemmas.List.{length-replicate}
 use Rattle.std.proofs.lemmas.List.Elements.{All-nil, All-cons, All-head, All-tail}
 use Rattle.flash_format.proofs.Placed.{empty_is_space}
 use Rattle.flash_store.specs.Bytes.{overwritten}
-use Rattle.flash_store.specs.Laws.{LieApart, edited}
+use Rattle.flash_store.specs.Laws.{LieApart, with_edit}
 use Rattle.flash_store.specs.Regions.{Range, LiesIn, bytes_in}
 use Rattle.flash_store.proofs.BytesLemmas.{length-overwritten}
 use Rattle.flash_store.proofs.DeviceLemmas.{length-bytes_in}
@@ -28,7 +28,7 @@ positive (suc size) good = omega arith
 
 -- the regions in order, each as one empty entry
 abbrev all_formatted : List ℕ → List Range → List ℕ
-all_formatted image places = fold (λ x place. edited place formatted x) image places
+all_formatted image places = fold (λ x place. with_edit place formatted x) image places
 
 module _ (n : ℕ) (image : List ℕ) (long : length image ≡ n) (place : Range) (is : IsPlace n place) where
   lies : LiesIn place image
@@ -48,22 +48,22 @@ module _ (n : ℕ) (image : List ℕ) (long : length image ≡ n) (place : Range
       let four : length (last_four (bytes_in place image)) ≡ 4 = omega (arith, length-drop (length (bytes_in place image) - 4) (bytes_in place image), region_long, some) in
       (empty_is_space (length (bytes_in place image)) (Some (last_four (bytes_in place image))) (omega (arith, region_long, some)) four).long ∙ region_long
 
-  image_long : length (edited place formatted image) ≡ n
+  image_long : length (with_edit place formatted image) ≡ n
   image_long = length-overwritten image place.start (formatted (bytes_in place image)) (omega (arith, formatted_long, is.inside, long)) ∙ long
 
   -- the region itself
-  here : bytes_in place (edited place formatted image) ≡ formatted (bytes_in place image)
+  here : bytes_in place (with_edit place formatted image) ≡ formatted (bytes_in place image)
   here = whole_over place image (formatted (bytes_in place image)) lies formatted_long
 
   -- and any other
-  beside : (other : Range) → LieApart other place → bytes_in other (edited place formatted image) ≡ bytes_in other image
+  beside : (other : Range) → LieApart other place → bytes_in other (with_edit place formatted image) ≡ bytes_in other image
   beside other apart = written_beside other image place.start (formatted (bytes_in place image)) (omega (arith, is.inside, long)) (where_it_is apart)
     where
       where_it_is : LieApart other place → (place.start + length (formatted (bytes_in place image)) ≤ other.start) ⊎ (other.start + other.size ≤ place.start)
       where_it_is (inl before) = inr before
       where_it_is (inr after) = inl (omega (arith, after, formatted_long))
 
-  free : n < 2 ^ 32 → IsOneFreeCell (bytes_in place (edited place formatted image))
+  free : n < 2 ^ 32 → IsOneFreeCell (bytes_in place (with_edit place formatted image))
   free small =
       subst (λ (l : List ℕ). IsOneFreeCell l) (sym here)
       (formatted_free (bytes_in place image) (omega (arith, region_long, some)) (ap (λ k. k % 64) region_long ∙ whole) (omega (arith, region_long, is.inside, small)))
@@ -74,7 +74,7 @@ untouched n image other [] long each none = refl
 untouched n image other (place ∷ places) long each none =
     let is : IsPlace n place = All-head (IsPlace n) place places each in
     let parts = or_parts (overlap other place) (list_any (overlap other) places) none in
-    untouched n (edited place formatted image) other places (image_long n image long place is) (All-tail (IsPlace n) place places each) parts.1 ∙ beside n image long place is other (lie_apart other place parts.0)
+    untouched n (with_edit place formatted image) other places (image_long n image long place is) (All-tail (IsPlace n) place places each) parts.1 ∙ beside n image long place is other (lie_apart other place parts.0)
 
 all_free : (n : ℕ) (image : List ℕ) (places : List Range) → n < 2 ^ 32 → length image ≡ n → All (IsPlace n) places → some_overlap places ≡ false → All (λ (place : Range). IsOneFreeCell (bytes_in place (all_formatted image places))) places
 all_free n image [] small long each none = All-nil (λ (place : Range). IsOneFreeCell (bytes_in place image))
@@ -82,8 +82,8 @@ all_free n image (place ∷ places) small long each none =
     let is : IsPlace n place = All-head (IsPlace n) place places each in
     let others : All (IsPlace n) places = All-tail (IsPlace n) place places each in
     let parts = or_parts (list_any (overlap place) places) (some_overlap places) none in
-    let next : List ℕ = edited place formatted image in
-    let long_next : length (edited place formatted image) ≡ n = image_long n image long place is in
+    let next : List ℕ = with_edit place formatted image in
+    let long_next : length (with_edit place formatted image) ≡ n = image_long n image long place is in
     All-cons (λ (p : Range). IsOneFreeCell (bytes_in p (all_formatted next places))) place places
     (subst (λ (l : List ℕ). IsOneFreeCell l) (sym (untouched n next place places long_next others parts.0)) (free n image long place is small))
     (all_free n next places small long_next others parts.1)

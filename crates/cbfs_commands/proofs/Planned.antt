@@ -12,13 +12,13 @@ use Rattle.flash_format.specs.declared.flashmap.Area.{Area}
 use Rattle.flash_format.specs.Flashmap.{fmap_head_len, fmap_head_of, has_signature, is_map, is_valid_head, map_len}
 use Rattle.flash_store.specs.Fmap.{map_head}
 use Rattle.flash_store.specs.Laws.{LieApart}
-use Rattle.flash_store.specs.Regions.{Range, inside}
+use Rattle.flash_store.specs.Regions.{Range, region_by_area}
 use Rattle.flash_store.proofs.FmapLemmas.{head_some, valid_fits}
 use Rattle.cbfs_walk.specs.Shapes.{has_bad_size}
 use Rattle.cbfs_commands.specs.declared.plan.Plan.{Plan}
 use Rattle.cbfs_commands.specs.declared.refusal.Refusal.{Refusal}
 use Rattle.cbfs_commands.specs.declared.refusal.Refusal.TheVariants as refusals
-use Rattle.cbfs_commands.specs.Creations.{Fits, IsPlace, head_for, map_place, overlap, plan_for, plan_of, region_place, region_places, some_overlap}
+use Rattle.cbfs_commands.specs.Creations.{FitsImage, IsPlace, head_for, map_place, overlap, plan_for, plan_of, region_place, region_places, some_overlap}
 use Rattle.cbfs_commands.specs.Laws.{PlansAreLaid}
 use Rattle.cbfs_commands.specs.Refusals.{fault_or, store_refusal}
 use Rattle.cbfs_commands.proofs.RegionPlaces.{inside_lies}
@@ -36,7 +36,7 @@ passed false refusal value x is = (refl, cc)
 
 is_place : (n : ℕ) (area : Option Area) (place : Range) → region_place n area ≡ Ok place → IsPlace n place
 is_place n area place is =
-    let found = done store_refusal (inside n area) _ place is in
+    let found = done store_refusal (region_by_area n area) _ place is in
     let shaped = passed (has_bad_size found.0.size) _ found.0 place found.2 in
     subst (λ (r : Range). IsPlace n r) shaped.1 (record { inside = inside_lies n area found.0 found.1; size = shaped.0 })
 
@@ -85,14 +85,14 @@ table_fits source head is =
     omega (arith, valid_fits (fmap_head_of source) (length source) valid, ap (λ (h : FmapHead). map_len h) known.1)
 
 pub record IsPlanned (n m : ℕ) (plan : Plan) : Type 0 where
-  pub fits : Fits n m plan
+  pub fits : FitsImage n m plan
   pub none : some_overlap (plan.map ∷ plan.regions.items) ≡ false
 
 planned_of : (n m len : ℕ) (area : Option Area) (areas : List (Option Area)) (plan : Plan) → len ≤ m → plan_of n len area areas ≡ Ok plan → IsPlanned n m plan
 unfolding plan_of
 planned_of n m len area areas plan in_source is =
     let map = done (λ refusal. refusal) (map_place n len area) _ plan is in
-    let found = done (λ fault. refusals.FmapArea) (inside n area) _ map.0 map.1 in
+    let found = done (λ fault. refusals.FmapArea) (region_by_area n area) _ map.0 map.1 in
     let roomy = passed (nat_lt found.0.size len) _ found.0 map.0 found.2 in
     let regions = done (λ refusal. refusal) (region_places n areas) _ plan map.2 in
     let apart = passed (some_overlap (map.0 ∷ regions.0)) _ _ plan regions.2 in
@@ -108,7 +108,7 @@ planned_of n m len area areas plan in_source is =
     enough : (size len : ℕ) → nat_lt size len ≡ false → len ≤ size
     enough size len none = grind (arith, nat_tests)
 
-pub fitting_plan : (n m len : ℕ) (area : Option Area) (areas : List (Option Area)) (result : Result Plan Refusal) → len ≤ m → result ≡ plan_of n len area areas → IfOk result (λ plan. Fits n m plan)
+pub fitting_plan : (n m len : ℕ) (area : Option Area) (areas : List (Option Area)) (result : Result Plan Refusal) → len ≤ m → result ≡ plan_of n len area areas → IfOk result (λ plan. FitsImage n m plan)
 fitting_plan n m len area areas (Err refusal) in_source is = tt
 fitting_plan n m len area areas (Ok plan) in_source is = (planned_of n m len area areas plan in_source (sym is)).fits
 

@@ -6,8 +6,8 @@ use Rattle.flash_store.specs.Device.{Device, faults_told}
 use Rattle.flash_store.specs.Pages.{Pages, HasRead, OnHonest, OnHonestIn}
 use Rattle.flash_store.specs.Regions.{Range, LiesIn, bytes_in}
 use Rattle.cbfs_walk.specs.Cells.{IsCellIn}
-use Rattle.cbfs_walk.specs.Shaped.{shaped, ReadsCells, by_answer}
-use Rattle.cbfs_walk.specs.Walks.{Walking, GivesCell, answer_at, moved, reads_at}
+use Rattle.cbfs_walk.specs.Shaped.{reading_of, ReadsCells, by_answer}
+use Rattle.cbfs_walk.specs.Walks.{Walking, GivesCell, answer_at, walk_after, reads_at}
 use Rattle.cbfs_walk.specs.Walks as walks
 use Rattle.cbfs_walk.specs.declared.cell.Cell.{Cell}
 use Rattle.cbfs_walk.specs.declared.walk.Step.{Step}
@@ -26,10 +26,10 @@ use Rattle.flash_store.proofs.DeviceLemmas.{length-bytes_in}
 
 -- what is printed of a region from a place on
 abbrev pub print_from : Bool → List ℕ → ℕ → Told
-print_from verbose x at = shaped (λ fault. refuses (walk_refusal fault)) (print_cut verbose) x at
+print_from verbose x at = reading_of (λ fault. refuses (walk_refusal fault)) (print_cut verbose) x at
 
 pub print_region-from : (verbose : Bool) (x : List ℕ) → print_region x verbose ≡ print_from verbose x 0
-unfolding print_region shaped
+unfolding print_region reading_of
 print_region-from verbose x = refl
 
 abbrev each_row : Bool → List ℕ → Cell → Told → Told
@@ -130,7 +130,7 @@ module _ {F W : Type 0} {facts : F → Device} {contents : W → Option (List �
     lines : {new : Pages F} {out : W} {result : Answer} → Shown few next new out result → Shown (1 + c.span / 3840 + few) now new out result
     lines told = told-after told _ (rw is at read) (omega arith)
 
-    pub printed-more : {new : Pages F} {out : W} → Shown few next new out (Ok tt) → (v : Walking) → v ≡ moved w a → PrintedTo facts contents sinks verbose r old new before out v
+    pub printed-more : {new : Pages F} {out : W} → Shown few next new out (Ok tt) → (v : Walking) → v ≡ walk_after w a → PrintedTo facts contents sinks verbose r old new before out v
     printed-more {new} {out} told v is_moved = subst (λ (u : Walking). PrintedTo facts contents sinks verbose r old new before out u) (sym (rw is at is_moved)) (record {
       region = p.region;
       going = p.going;

@@ -7,7 +7,7 @@ use Rattle.std.proofs.lemmas.List.{take-take}
 use Rattle.flash_format.specs.declared.flashmap.Area.{Area}
 use Rattle.flash_format.specs.Flashmap.{map_of, area_in}
 use Rattle.flash_store.specs.Bytes.{overwritten}
-use Rattle.flash_store.specs.Regions.{Range, LiesIn, bytes_in, inside, region_of, region_under}
+use Rattle.flash_store.specs.Regions.{Range, LiesIn, bytes_in, region_by_area, region_of, region_under}
 use Rattle.flash_store.specs.declared.fmap.StoreFault.{StoreFault}
 use Rattle.flash_store.specs.declared.fmap.StoreFault.TheVariants as faults
 use Rattle.flash_store.proofs.BytesLemmas.{overwritten-range, slice_range_is}
@@ -16,7 +16,7 @@ use Rattle.flash_store.proofs.RegionLemmas.{written_in}
 range_size : (r : Range) (start size : ℕ) → (let p : Range = record { start = start; size = size } in p) ≡ r → r.start + r.size ≡ start + size
 range_size r start size is = ap (λ (p : Range). p.start + p.size) (sym is)
 
-pub inside_lies : (n : ℕ) (area : Option Area) (r : Range) → inside n area ≡ Ok r → r.start + r.size ≤ n
+pub inside_lies : (n : ℕ) (area : Option Area) (r : Range) → region_by_area n area ≡ Ok r → r.start + r.size ≤ n
 inside_lies n None r is = absurd cc
 inside_lies n (Some a) r is = go (nat_lt n (a.offset + a.size)) refl is
   where

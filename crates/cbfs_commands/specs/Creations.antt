@@ -9,8 +9,8 @@ use Rattle.flash_format.specs.declared.flashmap.Area.{Area}
 use Rattle.flash_format.specs.Flashmap.{fmap_head_len, map_len, areas_from, is_area}
 use Rattle.flash_store.specs.Bytes.{overwritten}
 use Rattle.flash_store.specs.Fmap.{map_head}
-use Rattle.flash_store.specs.Laws.{edited}
-use Rattle.flash_store.specs.Regions.{Range, inside}
+use Rattle.flash_store.specs.Laws.{with_edit}
+use Rattle.flash_store.specs.Regions.{Range, region_by_area}
 use Rattle.cbfs_walk.specs.Shapes.{has_bad_size}
 use Rattle.cbfs_edit.specs.Formats.{formatted}
 use Rattle.cbfs_commands.specs.declared.plan.Plan.{Plan}
@@ -32,11 +32,11 @@ first_area areas name = find (is_area name) areas
 
 -- where the map's area lies in an image of n bytes; it has room for a table of this length
 abbrev pub map_place : ℕ → ℕ → Option Area → Result Range Refusal
-map_place n len area = fault_or (λ fault. Err refusals.FmapArea) (inside n area) (λ place. if nat_lt place.size len then Err refusals.FmapArea else Ok place)
+map_place n len area = fault_or (λ fault. Err refusals.FmapArea) (region_by_area n area) (λ place. if nat_lt place.size len then Err refusals.FmapArea else Ok place)
 
 -- where a region's area lies in an image of n bytes; it has the size of a CBFS
 abbrev pub region_place : ℕ → Option Area → Result Range Refusal
-region_place n area = fault_or (λ fault. Err (store_refusal fault)) (inside n area) (λ place. if has_bad_size place.size then Err refusals.RegionShape else Ok place)
+region_place n area = fault_or (λ fault. Err (store_refusal fault)) (region_by_area n area) (λ place. if has_bad_size place.size then Err refusals.RegionShape else Ok place)
 
 -- where they all lie, or the first refusal
 abbrev pub region_places : ℕ → List (Option Area) → Result (List Range) Refusal
@@ -75,7 +75,7 @@ pub record IsPlace (n : ℕ) (place : Range) : Type 0 where
 
 -- What every plan meets for an image of n bytes and a source of m: the table is in the source and has room in its area, and
 -- each region lies in the image and has the size of a CBFS.
-pub record Fits (n m : ℕ) (plan : Plan) : Type 0 where
+pub record FitsImage (n m : ℕ) (plan : Plan) : Type 0 where
   pub in_source : plan.map_len ≤ m
   pub room : plan.map_len ≤ plan.map.size
   pub map : plan.map.start + plan.map.size ≤ n
@@ -84,5 +84,5 @@ pub record Fits (n m : ℕ) (plan : Plan) : Type 0 where
 -- ---- the image
 
 -- 0xff throughout, then the table in its area, then the regions in order, each as one empty entry
-abbrev pub created : ℕ → Plan → List ℕ → List ℕ
-created n plan source = fold (λ image place. edited place formatted image) (overwritten (replicate n 0xff) plan.map.start (take plan.map_len source)) plan.regions.items
+abbrev pub created_image : ℕ → Plan → List ℕ → List ℕ
+created_image n plan source = fold (λ image place. with_edit place formatted image) (overwritten (replicate n 0xff) plan.map.start (take plan.map_len source)) plan.regions.items

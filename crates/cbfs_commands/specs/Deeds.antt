@@ -14,7 +14,7 @@ use Rattle.cbfs_edit.specs.declared.addition.HashChoice.{HashChoice}
 use Rattle.cbfs_edit.specs.declared.place.Spot.{Spot}
 use Rattle.cbfs_commands.specs.declared.refusal.Refusal.{Refusal}
 use Rattle.cbfs_commands.specs.declared.refusal.Refusal.TheVariants as refusals
-use Rattle.cbfs_commands.specs.Creations.{created, plan_for}
+use Rattle.cbfs_commands.specs.Creations.{created_image, plan_for}
 use Rattle.cbfs_commands.specs.Rows.{layout}
 use Rattle.cbfs_commands.specs.Refusals.{by_device, by_source, edit_refusal, fault_or, store_refusal}
 use Rattle.cbfs_commands.specs.Requests.{Request}
@@ -93,7 +93,7 @@ removes region name =
 -- the whole image is made by the flashmap that the source begins with: of a stop only the size is promised
 abbrev pub creates : List (List ℕ) → Change
 creates names = record {
-  made = λ image source. fault_or Err (plan_for (length image) names source) (λ plan. Ok (created (length image) plan source));
+  made = λ image source. fault_or Err (plan_for (length image) names source) (λ plan. Ok (created_image (length image) plan source));
   target = λ image. Some (record { start = 0; size = length image });
   source_calls = Some (λ n. n / area_len + n / 4096 + 3);
   Stopped = λ image source answer now. length now ≡ length image;

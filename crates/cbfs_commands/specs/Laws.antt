@@ -10,7 +10,7 @@ use Rattle.cbfs_edit.specs.Laws.{IsAdded}
 use Rattle.cbfs_edit.specs.declared.place.Place.{Place}
 use Rattle.cbfs_edit.specs.declared.place.Spot.{Spot}
 use Rattle.cbfs_commands.specs.declared.plan.Plan.{Plan}
-use Rattle.cbfs_commands.specs.Creations.{Fits, created, plan_for}
+use Rattle.cbfs_commands.specs.Creations.{FitsImage, created_image, plan_for}
 use Rattle.cbfs_commands.specs.Deeds.{deed, outcome, replaces}
 use Rattle.cbfs_commands.specs.Outcomes.{extract_region, told_in}
 use Rattle.cbfs_commands.specs.Refusals.{HasNoFault}
@@ -35,12 +35,12 @@ OutcomesAreOfTheRegion = (name : List ℕ) (task : Task) (region : Range) (image
 
 -- a plan that isn't refused meets what every plan meets, and its map's area and its regions have no byte in common
 abbrev pub PlansAreLaid : Type 0
-PlansAreLaid = (n : ℕ) (names : List (List ℕ)) (source : List ℕ) (plan : Plan) → plan_for n names source ≡ Ok plan → Fits n (length source) plan × AllPairs LieApart (plan.map ∷ plan.regions.items)
+PlansAreLaid = (n : ℕ) (names : List (List ℕ)) (source : List ℕ) (plan : Plan) → plan_for n names source ≡ Ok plan → FitsImage n (length source) plan × AllPairs LieApart (plan.map ∷ plan.regions.items)
 
 -- each region that `create` formats is one free cell
 abbrev pub CreatedRegionsAreFree : Type 0
 CreatedRegionsAreFree = (n : ℕ) (names : List (List ℕ)) (source : List ℕ) (plan : Plan) → n < 2 ^ 32 → plan_for n names source ≡ Ok plan
-    → All (λ (place : Range). IsOneFreeCell (bytes_in place (created n plan source))) plan.regions.items
+    → All (λ (place : Range). IsOneFreeCell (bytes_in place (created_image n plan source))) plan.regions.items
 
 -- what was added to a region is what `extract` then tells of it
 abbrev pub AdditionsAreExtracted : Type 0

@@ -10,7 +10,7 @@ use Rattle.cbfs_edit.specs.Additions.{NewComponent}
 use Rattle.cbfs_edit.specs.declared.place.Spot.{Spot}
 use Rattle.cbfs_walk.specs.Finding.{component_in, not_found}
 use Rattle.cbfs_walk.specs.Shaped.{place_after}
-use Rattle.cbfs_walk.specs.Shapes.{shape, refused_or}
+use Rattle.cbfs_walk.specs.Shapes.{shape_fault, refused_or}
 use Rattle.cbfs_commands.specs.declared.refusal.Refusal.TheVariants as refusals
 use Rattle.cbfs_commands.specs.Refusals.{fault_or, store_refusal, walk_refusal}
 use Rattle.cbfs_commands.specs.Details.{rows_from}
@@ -33,7 +33,7 @@ print_cut verbose at c = record { written = rows_from verbose at c.cells; answer
 
 -- the rows of a region's cells, with the lines of its components where verbose
 unfoldable pub print_region : List ℕ → Bool → Told
-print_region x verbose = refused_or (λ fault. refuses (walk_refusal fault)) (shape x) (print_cut verbose 0 (cut x))
+print_region x verbose = refused_or (λ fault. refuses (walk_refusal fault)) (shape_fault x) (print_cut verbose 0 (cut x))
 
 -- ---- extract
 

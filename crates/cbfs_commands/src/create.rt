@@ -2,7 +2,7 @@
 
 ghost use Rattle.std.specs.Prelude.{◌≡◌, ◌+◌, ◌*◌, ◌/◌, ◌≤◌, All, fold, length, map, OnOk, OnErr, Err};
 ghost use Rattle.flash_store.specs.Device.{Calls, refusals};
-ghost use Rattle.flash_store.specs.Laws.{edited};
+ghost use Rattle.flash_store.specs.Laws.{with_edit};
 ghost use Rattle.flash_store.specs.Pages.{OnHonest};
 ghost use Rattle.cbfs_edit.specs.Formats.{formatted};
 ghost use Rattle.cbfs_commands.specs.declared.table.TheConstants.{MOST_REGIONS};
@@ -22,7 +22,7 @@ fn format_place<F: Flash>(paged: &mut Paged<F>, place: Region) -> Result<(), Ref
         (F.facts paged.old.device) (F.facts paged.new.device) }
     ensures is { OnErr result (result ≡ Err Refusal.Device) }
     ensures formatted { OnHonest F.facts paged.old.device (λ image.
-        OnOk result ((F.facts paged.new.device).content ≡ edited place formatted image)) }
+        OnOk result ((F.facts paged.new.device).content ≡ with_edit place formatted image)) }
 {
     match format(paged, place) {
         Ok(()) => Ok(()),
@@ -38,7 +38,7 @@ fn format_all<F: Flash>(paged: &mut Paged<F>, mut places: &[Region]) -> Result<(
         (refusals result) (F.facts paged.old.device) (F.facts paged.new.device) }
     ensures is { OnErr result (result ≡ Err Refusal.Device) }
     ensures formatted { OnHonest F.facts paged.old.device (λ image.
-        OnOk result ((F.facts paged.new.device).content ≡ fold (λ x place. edited place formatted x) image places.entry.now)) }
+        OnOk result ((F.facts paged.new.device).content ≡ fold (λ x place. with_edit place formatted x) image places.entry.now)) }
 {
     while let [place, rest @ ..] = places {
         format_place(paged, *place)?;

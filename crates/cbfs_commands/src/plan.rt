@@ -5,7 +5,7 @@ ghost use Rattle.std.specs.List.{list_any};
 ghost use Rattle.std.specs.Result.{result_map_both};
 ghost use Rattle.flash_format.specs.Flashmap.{area_len, map_len};
 ghost use Rattle.flash_store.specs.Device.{Reads, faults_told};
-ghost use Rattle.cbfs_commands.specs.Creations.{Fits, map_place, overlap, plan_for, plan_of, region_place, region_places, some_overlap};
+ghost use Rattle.cbfs_commands.specs.Creations.{FitsImage, map_place, overlap, plan_for, plan_of, region_place, region_places, some_overlap};
 ghost use Rattle.cbfs_commands.specs.Refusals.{by_source};
 
 use crate::refusal::Refusal;
@@ -137,7 +137,7 @@ pub fn read_plan<S: Source>(
         (S.facts source.old) (S.facts source.new) }
     ensures no_device { IsErrOf result Refusal.Device → ⊥ }
     ensures no_output { IsErrOf result Refusal.Output → ⊥ }
-    ensures fits { IfOk result (λ plan. Fits image_len (length (S.facts source.old).content) plan) }
+    ensures fits { IfOk result (λ plan. FitsImage image_len (length (S.facts source.old).content) plan) }
     ensures plan { IsTrue (S.facts source.old).honest → IsErrOf result Refusal.Source
         ⊎ (result ≡ plan_for image_len (map (λ n. n.now) names.now) (S.facts source.old).content) }
 {

@@ -9,7 +9,7 @@ use Rattle.flash_format.specs.Entry.{is_nul}
 use Rattle.flash_format.specs.EmptyEntries.{empty_entry, padding}
 use Rattle.flash_format.specs.Cut.{cut}
 use Rattle.flash_format.specs.Components.{components}
-use Rattle.flash_format.specs.Splices.{spliced}
+use Rattle.flash_format.specs.Splices.{splice}
 use Rattle.flash_format.specs.Made.{IsDigest, IsMade, meta_length, made_metadata}
 use Rattle.flash_format.specs.Placings.{HasOneMore, IsSpace, IsPlacing, space_cells}
 use Rattle.flash_format.proofs.MadeLaws.{length-metadata, hash_as_long, made_as_long, made_alone}
@@ -22,10 +22,10 @@ use Rattle.cbfs_edit.specs.Removals.{kept_at, space_end}
 use Rattle.cbfs_edit.specs.Places.{is_bad_align, IsWanted, IsFirstPlace, IsPlaceAmong, placing_in}
 use Rattle.cbfs_edit.specs.Places.{Fits}
 use Rattle.cbfs_edit.specs.Stops.{AddLeavesWhole, AddLeavesBefore, IsOldOrEmptied, written_to, IsInsertStop}
-use Rattle.cbfs_edit.specs.Additions.{NewComponent, AddsOne, added, added_component, addition_in, empty_between, cell_end, header_of, is_bad_name, is_bad_type, kept_from, made_at, own_fault, wanted_for, added_to, digest_of}
+use Rattle.cbfs_edit.specs.Additions.{NewComponent, AddsOne, added, added_component, addition_in, empty_between, cell_end, metadata_len_of, is_bad_name, is_bad_type, kept_from, made_at, own_fault, wanted_for, added_to, digest_of}
 use Rattle.cbfs_edit.specs.Laws.{AdditionsAddOneComponent, IsAdded}
 use Rattle.cbfs_edit.specs.declared.fault.EditFault.{EditFault}
-use Rattle.cbfs_edit.specs.declared.group.Freed.{Freed}
+use Rattle.cbfs_edit.specs.declared.group.CellRange.{CellRange}
 use Rattle.cbfs_edit.specs.declared.place.Spot.{Spot}
 use Rattle.cbfs_edit.specs.declared.place.Wanted.{Wanted}
 use Rattle.cbfs_edit.specs.declared.place.Place.{Place}
@@ -111,7 +111,7 @@ module _ (x : List ℕ) (new : NewComponent) (spot : Spot) (place : Place) (is :
   first = subst (λ (o : Option Place). IsPlaceAmong wanted (length x) (runs x) o) there.found (first_place-right wanted (length x) (runs x) is_wanted)
 
   is_run : Contains (runs x) place.run
-  is_run = subst (λ (l : List Freed). Contains l place.run) (sym first.whole) (Contains-append_right first.before (place.run ∷ first.later) place.run (0, omega arith, refl))
+  is_run = subst (λ (l : List CellRange). Contains l place.run) (sym first.whole) (Contains-append_right first.before (place.run ∷ first.later) place.run (0, omega arith, refl))
 
   the_run : IsRun x place.run
   the_run = run_of x place.run there.sound.whole is_run
@@ -126,21 +126,21 @@ module _ (x : List ℕ) (new : NewComponent) (spot : Spot) (place : Place) (is :
   some = omega (arith, range.some, range.inside)
 
   cell_long : length (made_at x new place) ≡ end - place.header
-  cell_long = made_as_long new.name new.kind new.digest (place.content - place.header - header_of new) new.content (kept_at x end) is.digest (keeps x end some) ∙ omega (arith, fits.header.aligned, fits.header.room)
+  cell_long = made_as_long new.name new.kind new.digest (place.content - place.header - metadata_len_of new) new.content (kept_at x end) is.digest (keeps x end some) ∙ omega (arith, fits.header.aligned, fits.header.room)
 
-  metadata_long : length (made_metadata new.name new.kind new.digest (place.content - place.header - header_of new) (length new.content)) ≡ place.content - place.header
+  metadata_long : length (made_metadata new.name new.kind new.digest (place.content - place.header - metadata_len_of new) (length new.content)) ≡ place.content - place.header
   metadata_long =
-      length-metadata new.name new.kind new.digest (place.content - place.header - header_of new) (length new.content)
-      ∙ ap (λ n. meta_length (length new.name) n + (place.content - place.header - header_of new)) (hash_as_long new.digest is.digest)
+      length-metadata new.name new.kind new.digest (place.content - place.header - metadata_len_of new) (length new.content)
+      ∙ ap (λ n. meta_length (length new.name) n + (place.content - place.header - metadata_len_of new)) (hash_as_long new.digest is.digest)
       ∙ omega (arith, fits.header.room)
 
   abbrev metadata : List ℕ
-  metadata = made_metadata new.name new.kind new.digest (place.content - place.header - header_of new) (length new.content)
+  metadata = made_metadata new.name new.kind new.digest (place.content - place.header - metadata_len_of new) (length new.content)
 
   abbrev pad : List ℕ
   pad = padding (round64 (length (metadata ++ new.content)) - length (metadata ++ new.content)) (kept_at x end)
 
-  is_made : IsMade new.name new.kind new.digest (place.content - place.header - header_of new) new.content
+  is_made : IsMade new.name new.kind new.digest (place.content - place.header - metadata_len_of new) new.content
   is_made = record {
     name_short = fine.name_short;
     name_plain = fine.name_plain;
@@ -176,7 +176,7 @@ module _ (x : List ℕ) (new : NewComponent) (spot : Spot) (place : Place) (is :
       let long = length-append before (made_at x new place ++ after) ∙ ap (λ n. length before + n) (length-append (made_at x new place) after) in
       omega (arith, long, placing.space_before.long, placing.space_after.long, cell_long, end_below, fits.start_below, fits.header.room)
 
-  as_spliced : added x new place ≡ spliced x place.run.start place.run.end (before ++ (made_at x new place ++ after))
+  as_spliced : added x new place ≡ splice x place.run.start place.run.end (before ++ (made_at x new place ++ after))
   as_spliced = as_splice x place.run.start place.run.end (before ++ (made_at x new place ++ after)) (omega (arith, whole_long, range.some))
 
   pub added_length : length (added x new place) ≡ length x
@@ -188,7 +188,7 @@ module _ (x : List ℕ) (new : NewComponent) (spot : Spot) (place : Place) (is :
   adds_one : AddsOne x new place
   adds_one =
       let more = components_placed x place.run.start place.run.end the_run.cells place.header before (made_at x new place) after new.name new.kind new.digest new.content the_run.free placing
-      (made_alone new.name new.kind new.digest (place.content - place.header - header_of new) new.content (kept_at x end) is_made (keeps x end some)) in
+      (made_alone new.name new.kind new.digest (place.content - place.header - metadata_len_of new) new.content (kept_at x end) is_made (keeps x end some)) in
       record {
         cells = the_run.cells;
         free = the_run.free;

@@ -9,7 +9,7 @@ use Rattle.flash_format.specs.EmptyEntries.{empty_header}
 use Rattle.flash_store.specs.Bytes.{SameOutside, overwritten}
 use Rattle.flash_store.proofs.BytesLemmas.{SameOutside-overwritten, SameOutside-trans}
 use Rattle.cbfs_edit.specs.declared.place.Place.{Place}
-use Rattle.cbfs_edit.specs.Insertions.{HasRoom, bounded, held_back, IsUnfinished}
+use Rattle.cbfs_edit.specs.Insertions.{HasRoom, with_bound, held_back, IsUnfinished}
 
 -- ---- the last four bytes of a region, where an empty entry keeps them
 
@@ -58,7 +58,7 @@ module _ (size : ℕ) (place : Place) (end metadata : ℕ) (room : HasRoom size 
       within y z at n (place.run.start + header_length) (max place.content (place.run.end - 4)) (omega (arith, held, is)) (omega (arith, held, is, long, room.metadata_is, room.metadata_long)) same
 
   -- the header of the empty entry after the component
-  pub bound-is : (header : List ℕ) (told : ℕ) → told ≡ length y → header ≡ empty_header (place.run.end - end) (place.run.end == told) → (end ≡ place.run.end → ⊥) → z ≡ overwritten y end header → z ≡ bounded y end place.run.end
+  pub bound-is : (header : List ℕ) (told : ℕ) → told ≡ length y → header ≡ empty_header (place.run.end - end) (place.run.end == told) → (end ≡ place.run.end → ⊥) → z ≡ overwritten y end header → z ≡ with_bound y end place.run.end
   bound-is header told is_told is_header other is =
       is
       ∙ ap (λ (h : List ℕ). overwritten y end h) (is_header ∙ ap (λ n. empty_header (place.run.end - end) (place.run.end == n)) is_told)

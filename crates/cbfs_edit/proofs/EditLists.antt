@@ -12,7 +12,7 @@ use Rattle.cbfs_edit.specs.declared.addition.HashChoice.{HashChoice}
 use Rattle.cbfs_edit.specs.declared.addition.Placed.{Placed}
 use Rattle.cbfs_edit.specs.declared.edit.Reply.{Reply}
 use Rattle.cbfs_edit.specs.declared.fault.EditFault.{EditFault}
-use Rattle.cbfs_edit.specs.declared.group.Freed.{Freed}
+use Rattle.cbfs_edit.specs.declared.group.CellRange.{CellRange}
 use Rattle.cbfs_edit.specs.declared.place.Place.{Place}
 use Rattle.cbfs_edit.specs.declared.place.Spot.{Spot}
 use Rattle.cbfs_edit.proofs.Added.{same_fault, told_as}
@@ -34,7 +34,7 @@ by-fault faults.Device A B C a b c = a refl
 by-fault faults.Source A B C a b c = b refl
 by-fault other A B C a b c = c (λ e. absurd cc) (λ e. absurd cc)
 
-abbrev removal_reply : Result Freed EditFault → Reply
+abbrev removal_reply : Result CellRange EditFault → Reply
 removal_reply (Ok group) = replies.Freed group
 removal_reply (Err fault) = replies.Refused fault
 
@@ -42,7 +42,7 @@ abbrev addition_reply : Result Placed EditFault → Reply
 addition_reply (Ok placed) = replies.Placed placed
 addition_reply (Err fault) = replies.Refused fault
 
-pub removal_step : {S : Type 0} (facts : S → Device) (name : Bor (List ℕ)) (r : Range) (honest : Type 0) (old now : List ℕ) (result : Result Freed EditFault)
+pub removal_step : {S : Type 0} (facts : S → Device) (name : Bor (List ℕ)) (r : Range) (honest : Type 0) (old now : List ℕ) (result : Result CellRange EditFault)
     → (IsErrOf result faults.Source → ⊥)
     → (honest → IsErrOf result faults.Device ⊎ (result ≡ removal_in (bytes_in r old) name.now))
     → (honest → IfOk result (λ group. bytes_in r now ≡ removed (bytes_in r old) group))

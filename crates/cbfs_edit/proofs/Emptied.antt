@@ -7,7 +7,7 @@ use Rattle.flash_format.proofs.EmptyEntryLaws.{length-empty_header}
 use Rattle.flash_store.specs.Bytes.{overwritten, SameOutside}
 use Rattle.flash_store.proofs.BytesLemmas.{SameOutside-overwritten, SameOutside-trans, SameOutside-wider, overwritten-more_at, length-overwritten, length-slice_range, changed-overwritten, overwritten-front, slice_range_is, further}
 use Rattle.cbfs_edit.specs.Stops.{IsEmptied, IsOldOrEmptied, IsStopped, SameCells}
-use Rattle.cbfs_edit.specs.declared.group.Freed.{Freed}
+use Rattle.cbfs_edit.specs.declared.group.CellRange.{CellRange}
 use Rattle.cbfs_edit.proofs.Changes.{again, unchanged, within, is_some-cond}
 use Rattle.std.proofs.lemmas.List.{length-replicate, take_all}
 use Rattle.std.proofs.lemmas.Bool.{cond_both, eqb-false, eqb-true}
@@ -18,7 +18,7 @@ use Rattle.cbfs_edit.specs.Removals.{last_four, kept_at, removed, space_end}
 use Rattle.std.specs.List.{concat}
 use Rattle.flash_format.specs.Cut.{cut}
 use Rattle.flash_format.specs.Components.{components_from, components}
-use Rattle.flash_format.specs.Splices.{CellsBetween, spliced}
+use Rattle.flash_format.specs.Splices.{CellsBetween, splice}
 use Rattle.flash_format.proofs.Splices.{length-concat-cells, group-whole, cells-before, cells-group}
 use Rattle.flash_format.proofs.Splices as splices
 
@@ -40,7 +40,7 @@ space_end-below size end inside aligned whole =
     cond_both (end == size) (end - 4) end (λ n. n ≤ size - 4) (λ e. omega (arith, inside)) (λ e. omega (arith, eqb-false end size e, inside, aligned, whole))
 
 -- a group that isn't empty lies at multiples of 64 within the region
-pub group_range : (x : List ℕ) (group : Freed) → CellsBetween x group.start group.end → group.start < group.end → IsCellRange group (length x)
+pub group_range : (x : List ℕ) (group : CellRange) → CellsBetween x group.start group.end → group.start < group.end → IsCellRange group (length x)
 group_range x group g some =
     let before : length (concat g.before) % 64 ≡ 0 = length-concat-cells g.before (cells-before x group.start group.end g) in
     let inner : length (concat g.group) % 64 ≡ 0 = length-concat-cells g.group (cells-group x group.start group.end g) in
@@ -53,12 +53,12 @@ group_range x group g some =
     }
 
 -- bytes written over a group are a splice
-pub as_splice : (x : List ℕ) (start end : ℕ) (u : List ℕ) → start + length u ≡ end → overwritten x start u ≡ spliced x start end u
+pub as_splice : (x : List ℕ) (start end : ℕ) (u : List ℕ) → start + length u ≡ end → overwritten x start u ≡ splice x start end u
 as_splice x start end u size = ap (λ n. take start x ++ (u ++ drop n x)) size
 
 -- ---- the header of an empty entry over a group, and what is behind it
 
-module _ (x : List ℕ) (group : Freed) (range : IsCellRange group (length x)) where
+module _ (x : List ℕ) (group : CellRange) (range : IsCellRange group (length x)) where
   abbrev start : ℕ
   start = group.start
 
@@ -180,7 +180,7 @@ module _ (x : List ℕ) (group : Freed) (range : IsCellRange group (length x)) w
               ∙ overwritten-more_at x start header_length header more header-length (omega (arith, range.some, range.inside)),
         )
 
-    is_splice : y ≡ spliced x start end (header ++ emptied-bytes.0)
+    is_splice : y ≡ splice x start end (header ++ emptied-bytes.0)
     is_splice =
         let has = emptied-bytes in has.2 ∙ as_splice x start end (header ++ has.0) (omega (arith, length-append header has.0, header-length, has.1, range.some))
 
@@ -203,7 +203,7 @@ module _ (x : List ℕ) (group : Freed) (range : IsCellRange group (length x)) w
   }
 
 -- the same in a region of the image
-module _ (r : Range) (group : Freed) (old header : List ℕ) (told : ℕ) (lies : LiesIn r old) (in_region : IsCellRange group r.size) (is_told : told ≡ r.size) (is_header : header ≡ empty_header (group.end - group.start) (group.end == told)) where
+module _ (r : Range) (group : CellRange) (old header : List ℕ) (told : ℕ) (lies : LiesIn r old) (in_region : IsCellRange group r.size) (is_told : told ≡ r.size) (is_header : header ≡ empty_header (group.end - group.start) (group.end == told)) where
   abbrev x : List ℕ
   x = bytes_in r old
 

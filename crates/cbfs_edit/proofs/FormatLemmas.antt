@@ -18,7 +18,7 @@ use Rattle.cbfs_edit.specs.Removals.{removed, last_four, kept_at, space_end}
 use Rattle.cbfs_edit.specs.Stops.{IsOldOrEmptied}
 use Rattle.cbfs_edit.specs.Formats.{formatted, IsOneFreeCell}
 use Rattle.cbfs_edit.specs.Laws.{FormattedIsOneFreeCell}
-use Rattle.cbfs_edit.specs.declared.group.Freed.{Freed}
+use Rattle.cbfs_edit.specs.declared.group.CellRange.{CellRange}
 use Rattle.cbfs_edit.proofs.Emptied.{emptied-bytes, emptied-outside, emptied-wider, space_end-below, space_end-near}
 use Rattle.cbfs_edit.proofs.Changes.{length-last_four}
 
@@ -48,7 +48,7 @@ formatted_free x some whole small =
     one_free_cell (formatted x) (padding (length x - header_length) (Some (last_four x))) (length x) true some whole small
     (omega (arith, length-padding (length x - header_length) (Some (last_four x)) (length-last_four x (omega arith)), some)) refl
 
-abbrev pub whole_range : ℕ → Freed
+abbrev pub whole_range : ℕ → CellRange
 whole_range size = record { start = 0; end = size }
 
 -- a finished format
@@ -67,7 +67,7 @@ format_done x y size long some is =
 pub format_stopped : (x y : List ℕ) (size told : ℕ) → length x ≡ size → told ≡ size → 64 ≤ size → size % 64 ≡ 0 → size < 2 ^ 32 → IsOldOrEmptied (whole_range size) (space_end told size) x y → ((y ≡ x) ⊎ IsOneFreeCell y) × (last_four y ≡ last_four x)
 format_stopped x y size told long is_told some whole small (inl same) = (inl same, ap (λ (l : List ℕ). last_four l) same)
 format_stopped x y size told long is_told some whole small (inr emptied) =
-    let group : Freed = whole_range size in
+    let group : CellRange = whole_range size in
     let range : IsCellRange group (length x) = record { some = some; start_aligned = refl; end_aligned = whole; inside = omega arith } in
     let to = space_end told size in
     let near = space_end-near told size in

@@ -11,7 +11,7 @@ use Rattle.flash_format.specs.Placings.{space_cells}
 use Rattle.flash_format.proofs.CutSteps.{cut_step}
 use Rattle.flash_format.proofs.CutLaws.{cut_unique}
 use Rattle.cbfs_walk.specs.Finding.{IsFirstOf, first_named}
-use Rattle.cbfs_walk.specs.Shapes.{has_bad_size, is_absent, shape, refused_or}
+use Rattle.cbfs_walk.specs.Shapes.{has_bad_size, is_absent, shape_fault, refused_or}
 use Rattle.cbfs_walk.proofs.FirstNamed.{first_found, none_named, same_name}
 use Rattle.cbfs_edit.specs.Additions.{NewComponent, AddsOne, added, added_component, empty_between, cell_end, made_at}
 use Rattle.cbfs_edit.specs.Laws.{IsAdded, AdditionsAreFound, AdditionsAreUndone, AdditionsKeepAll, RemovalsKeepOthers}
@@ -24,7 +24,7 @@ use Rattle.cbfs_edit.specs.Groups.{group_of}
 use Rattle.cbfs_edit.specs.Refusals.{refusal_of}
 use Rattle.cbfs_edit.specs.Removals.{LosesOne, removed, removal_in, unless_damaged}
 use Rattle.cbfs_edit.specs.declared.fault.EditFault.TheVariants as faults
-use Rattle.cbfs_edit.specs.declared.group.Freed.{Freed}
+use Rattle.cbfs_edit.specs.declared.group.CellRange.{CellRange}
 use Rattle.cbfs_edit.proofs.Groups.{group_none}
 use Rattle.cbfs_edit.proofs.Lists.{one_split}
 use Rattle.cbfs_edit.proofs.Removals.{others_have_not, removal_takes_one}
@@ -49,7 +49,7 @@ cell_there x c cells more some is = go (entry x) refl
     go (damaged kind) e = refl
     go (cell span) e = refl
 
-good_shape : (x : List ℕ) → has_bad_size (length x) ≡ false → is_absent (entry x) ≡ false → shape x ≡ None
+good_shape : (x : List ℕ) → has_bad_size (length x) ≡ false → is_absent (entry x) ≡ false → shape_fault x ≡ None
 good_shape x good there = rw (good, there) refl
 
 -- ---- the region after an addition
@@ -73,7 +73,7 @@ module _ (x : List ℕ) (new : NewComponent) (spot : Spot) (place : Place) (is :
       parted : (a b c d : List (List ℕ)) → a ++ (b ++ (made_at x new place ∷ []) ++ c) ++ d ≡ (a ++ b) ++ (made_at x new place ∷ (c ++ d))
       parted a b c d = simp append_assoc
 
-  pub shape_after : shape (added x new place) ≡ None
+  pub shape_after : shape_fault (added x new place) ≡ None
   shape_after =
       let long : length (added x new place) ≡ length x = added_length x new spot place is in
       let some : 64 ≤ length x = region_some x new spot place is in
@@ -116,15 +116,15 @@ IsNamed name c = bytes_eq c.name name ≡ true
 unnamed : (name : List ℕ) (cs : List Component) → All (λ (c : Component). bytes_eq c.name name ≡ false) cs → All (λ c. IsNamed name c → ⊥) cs
 unnamed name cs none = All-weaker (λ (c : Component). bytes_eq c.name name ≡ false) (λ c. IsNamed name c → ⊥) (λ (c : Component) other. both_ways (bytes_eq c.name name) other) cs none
 
-removal_is : (y name : List ℕ) → shape y ≡ None → unless_damaged (place_after 0 (cut y).cells) (cut y).end (ok_or (group_of y name) faults.NotFound) ≡ ok_or (group_of y name) faults.NotFound → removal_in y name ≡ ok_or (group_of y name) faults.NotFound
+removal_is : (y name : List ℕ) → shape_fault y ≡ None → unless_damaged (place_after 0 (cut y).cells) (cut y).end (ok_or (group_of y name) faults.NotFound) ≡ ok_or (group_of y name) faults.NotFound → removal_in y name ≡ ok_or (group_of y name) faults.NotFound
 unfolding removal_in
 removal_is y name good through = ap (λ (o : Option WalkFault). refused_or (λ fault. Err (refusal_of fault)) o (unless_damaged (place_after 0 (cut y).cells) (cut y).end (ok_or (group_of y name) faults.NotFound))) good ∙ through
 
 -- where a component has the name there is a group
-some_group : (y name : List ℕ) (c : Component) → IsFirstOf name (components y) c → (group : Freed) × (group_of y name ≡ Some group)
+some_group : (y name : List ℕ) (c : Component) → IsFirstOf name (components y) c → (group : CellRange) × (group_of y name ≡ Some group)
 some_group y name c is = go (group_of y name) refl
   where
-    go : (o : Option Freed) → group_of y name ≡ o → (group : Freed) × (group_of y name ≡ Some group)
+    go : (o : Option CellRange) → group_of y name ≡ o → (group : CellRange) × (group_of y name ≡ Some group)
     go (Some group) e = (group, e)
     go None e =
         let others = others_have_not name 0 (cut y).cells (group_none y name e) in
@@ -137,11 +137,11 @@ additions_undone x new spot place is =
     let y : List ℕ = added x new place in
     let more = one_more x new spot place is in
     let some = some_group y new.name (added_component x new place) (added_first x new spot place is) in
-    let group : Freed = some.0 in
+    let group : CellRange = some.0 in
     let sound = (there x new spot place is).sound in
     let at = place_after 0 (cut y).cells in
     let removes : removal_in y new.name ≡ Ok group =
-    removal_is y new.name (shape_after x new spot place is) (ap (λ (e : End). unless_damaged at e (ok_or (group_of y new.name) faults.NotFound)) more.more.same_end ∙ sound.undamaged at (ok_or (group_of y new.name) faults.NotFound)) ∙ ap (λ (o : Option Freed). ok_or o faults.NotFound) some.1 in
+    removal_is y new.name (shape_after x new spot place is) (ap (λ (e : End). unless_damaged at e (ok_or (group_of y new.name) faults.NotFound)) more.more.same_end ∙ sound.undamaged at (ok_or (group_of y new.name) faults.NotFound)) ∙ ap (λ (o : Option CellRange). ok_or o faults.NotFound) some.1 in
     let long : length y ≡ length x = added_length x new spot place is in
     let loses : LosesOne new.name y (removed y group) = removal_takes_one y new.name group (omega (arith, long, is.region)) removes in
     let was = loses.was in

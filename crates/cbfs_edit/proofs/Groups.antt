@@ -7,7 +7,7 @@ use Rattle.flash_format.specs.Cut.{cut, IsCut}
 use Rattle.flash_format.specs.Splices.{CellsBetween}
 use Rattle.flash_format.proofs.CutLaws.{cut_exists}
 use Rattle.flash_format.proofs.Splices.{concat-append}
-use Rattle.cbfs_edit.specs.declared.group.Freed.{Freed}
+use Rattle.cbfs_edit.specs.declared.group.CellRange.{CellRange}
 use Rattle.std.specs.Str.{bytes_eq}
 use Rattle.std.proofs.lemmas.Bool.{both_ways, cases_Bool}
 use Rattle.std.proofs.lemmas.List.Elements.{All-nil, All-cons, All-push, All-append, All-weaker, All-head, All-tail, All-contains, Contains-append_right}
@@ -30,7 +30,7 @@ BeginsWithComponent cells = IfSome (slice_get cells 0) IsComponent
 -- ---- a range of cells, among the cells of its region
 
 -- the cells of a range, between the others
-abbrev pub between : (x : List ℕ) (range : Freed) → length x % 64 ≡ 0 → IsRangeAmong (cut x).cells range → CellsBetween x range.start range.end
+abbrev pub between : (x : List ℕ) (range : CellRange) → length x % 64 ≡ 0 → IsRangeAmong (cut x).cells range → CellsBetween x range.start range.end
 between x range aligned r =
     let all = cut_exists x aligned in
     record {
@@ -108,11 +108,11 @@ free_row (c ∷ cells) =
 free_is_not : (name c : List ℕ) → IsFree c → IsNot name c
 free_is_not name c free other = absurd (both_ways (is_free (head_of c)) other free)
 
-some-inj : (a b : Freed) → Some a ≡ Some b → a ≡ b
+some-inj : (a b : CellRange) → Some a ≡ Some b → a ≡ b
 some-inj a b is = cc
 
 -- among the cells that are left, after others and a row of free ones
-exact : (name : List ℕ) (start at : ℕ) (done row cells : List (List ℕ)) (group : Freed) → All (IsNot name) done → EndsWithComponent done → All IsFree row
+exact : (name : List ℕ) (start at : ℕ) (done row cells : List (List ℕ)) (group : CellRange) → All (IsNot name) done → EndsWithComponent done → All IsFree row
     → length (concat done) ≡ start → start + length (concat row) ≡ at → group_from name start at cells ≡ Some group → IsGroupOf name (done ++ (row ++ cells)) group
 unfolding by_rows
 exact name start at done row [] group none ends free begun is found = absurd cc
@@ -127,7 +127,7 @@ exact name start at done row (c ∷ cells) group none ends free begun is found =
         | inl named ↦
             let r : FreeRow cells = free_row cells in
             let ends_there = ap (row_end next) r.whole ∙ row_ends next r.row r.others r.free r.no_more in
-            subst (λ (g : Freed). IsGroupOf name (done ++ (row ++ c ∷ cells)) g) (some-inj _ group (rw (used, named) at found)) (record {
+            subst (λ (g : CellRange). IsGroupOf name (done ++ (row ++ c ∷ cells)) g) (some-inj _ group (rw (used, named) at found)) (record {
               range = record {
                 before = done;
                 row = row ++ c ∷ r.row;
@@ -156,7 +156,7 @@ exact name start at done row (c ∷ cells) group none ends free begun is found =
       ]
     ]
 
-pub group_exact : (x name : List ℕ) (group : Freed) → group_of x name ≡ Some group → IsGroupOf name (cut x).cells group
+pub group_exact : (x name : List ℕ) (group : CellRange) → group_of x name ≡ Some group → IsGroupOf name (cut x).cells group
 group_exact x name group found = exact name 0 0 [] [] (cut x).cells group (All-nil (IsNot name)) tt (All-nil IsFree) refl refl found
 
 -- without a group no cell is a component of the name
@@ -177,10 +177,10 @@ pub group_none : (x name : List ℕ) → group_of x name ≡ None → All (IsNot
 group_none x name none = none_left name 0 0 (cut x).cells none
 
 -- the cells of a group one after the other, and where it ends
-pub whole_of : (name : List ℕ) (cells : List (List ℕ)) (group : Freed) (g : IsGroupOf name cells group) → cells ≡ g.range.before ++ (g.row_before ++ (g.component ∷ (g.row_after ++ g.range.after)))
+pub whole_of : (name : List ℕ) (cells : List (List ℕ)) (group : CellRange) (g : IsGroupOf name cells group) → cells ≡ g.range.before ++ (g.row_before ++ (g.component ∷ (g.row_after ++ g.range.after)))
 whole_of name cells group g = g.range.whole ∙ ap (λ (row : List (List ℕ)). g.range.before ++ (row ++ g.range.after)) g.row_is ∙ ap (λ (l : List (List ℕ)). g.range.before ++ l) (append_assoc g.row_before (g.component ∷ g.row_after) g.range.after)
 
-pub end_of : (name : List ℕ) (cells : List (List ℕ)) (group : Freed) (g : IsGroupOf name cells group) → group.start + length (concat g.row_before) + length g.component + length (concat g.row_after) ≡ group.end
+pub end_of : (name : List ℕ) (cells : List (List ℕ)) (group : CellRange) (g : IsGroupOf name cells group) → group.start + length (concat g.row_before) + length g.component + length (concat g.row_after) ≡ group.end
 end_of name cells group g = omega (arith, g.range.end_is, ap (λ (row : List (List ℕ)). length (concat row)) g.row_is, length-group g.row_before g.component g.row_after)
 
 -- a component has bytes
@@ -189,7 +189,7 @@ unfolding head_of
 component_some [] is = absurd cc
 component_some (b ∷ c) is = omega arith
 
-pub group_some : (x name : List ℕ) (group : Freed) → IsGroupOf name (cut x).cells group → group.start < group.end
+pub group_some : (x name : List ℕ) (group : CellRange) → IsGroupOf name (cut x).cells group → group.start < group.end
 group_some x name group g = omega (arith, end_of name (cut x).cells group g, component_some g.component g.is_component)
 
 -- ---- and each such group is what a removal takes
@@ -216,7 +216,7 @@ over_others name start at (c ∷ before) cells fresh ends others =
       | inr e ↦ rw (e, All-head (IsNot name) c before others e) (rest next (λ none. refl))
     ]
 
-one_group : (x name : List ℕ) (group : Freed) → IsGroupOf name (cut x).cells group → group_of x name ≡ Some group
+one_group : (x name : List ℕ) (group : CellRange) → IsGroupOf name (cut x).cells group → group_of x name ≡ Some group
 one_group x name group is =
     let behind : List (List ℕ) = is.row_after ++ is.range.after in
     let first : 0 + length (concat is.range.before) ≡ group.start = omega (arith, is.range.start_is) in
@@ -227,10 +227,10 @@ one_group x name group is =
     ∙ ap (λ n. group_from name n n (is.row_before ++ (is.component ∷ behind))) first
     ∙ over_row _ _ group.start group.start is.row_before (is.component ∷ behind) is.row_before_free
     ∙ at_component name group.start (group.start + length (concat is.row_before)) is.component behind is.is_component is.named
-    ∙ ap (λ n. Some (let r : Freed = record { start = group.start; end = n } in r)) last
+    ∙ ap (λ n. Some (let r : CellRange = record { start = group.start; end = n } in r)) last
 
 -- where no component has the name
-no_group : (x name : List ℕ) (found : Option Freed) → group_of x name ≡ found → All (IsNot name) (cut x).cells → None ≡ found
+no_group : (x name : List ℕ) (found : Option CellRange) → group_of x name ≡ found → All (IsNot name) (cut x).cells → None ≡ found
 no_group x name None is none = refl
 no_group x name (Some group) is none =
     let g = group_exact x name group is in

@@ -5,15 +5,15 @@ use Rattle.std.proofs.lemmas.Bool.{cases_eq, eq-eqb, ne_eqb, cond_both, eqb-fals
 use Rattle.std.proofs.lemmas.List.{append-nil, length-replicate, length-take-le}
 use Rattle.flash_format.specs.Head.{header_length, round64}
 use Rattle.flash_format.specs.EmptyEntries.{empty_header, empty_entry, padding}
-use Rattle.flash_format.specs.Made.{KeepsFour, hash_len, made, made_metadata, described, described_len}
+use Rattle.flash_format.specs.Made.{KeepsFour, hash_len, made, made_metadata, metadata_of, described_len}
 use Rattle.flash_format.proofs.EmptyEntryLaws.{length-empty_header}
 use Rattle.flash_format.proofs.MadeLaws.{length-padding}
 use Rattle.flash_store.specs.Bytes.{overwritten, SameOutside}
 use Rattle.flash_store.proofs.BytesLemmas.{length-overwritten, drop-overwritten, further}
 use Rattle.cbfs_edit.specs.declared.place.Place.{Place}
 use Rattle.cbfs_edit.specs.Removals.{last_four, kept_at, removed, space_end}
-use Rattle.cbfs_edit.specs.Additions.{empty_between, NewComponent, added, digest_of, header_of, labelled, wanted_for}
-use Rattle.cbfs_edit.specs.Insertions.{HasRoom, held_back, with_metadata, bounded, shown_by, finished, IsUnfinished}
+use Rattle.cbfs_edit.specs.Additions.{empty_between, NewComponent, added, digest_of, metadata_len_of, component_of_label, wanted_for}
+use Rattle.cbfs_edit.specs.Insertions.{HasRoom, held_back, with_metadata, with_bound, shown_by, with_component, IsUnfinished}
 use Rattle.cbfs_edit.proofs.Changes.{is_some-cond, keeps, kept-none}
 use Rattle.cbfs_edit.proofs.Lists.{over_part, padding-begins, padding-split}
 use Rattle.flash_format.specs.declared.digest.Digest.{Digest}
@@ -24,7 +24,7 @@ use Rattle.cbfs_edit.specs.Places.{Fits}
 use Rattle.cbfs_edit.specs.Stops.{IsEmptied, IsInsertStop, IsOldOrEmptied, written_to}
 use Rattle.flash_format.specs.declared.digest.Digest.TheVariants as digests
 use Rattle.cbfs_edit.specs.declared.addition.Label.{Label}
-use Rattle.cbfs_edit.specs.declared.group.Freed.{Freed}
+use Rattle.cbfs_edit.specs.declared.group.CellRange.{CellRange}
 use Rattle.cbfs_edit.specs.declared.place.Wanted.{Wanted}
 use Rattle.cbfs_edit.proofs.Emptied.{emptied-outside, emptied-wider, emptied-write, old_or-wider, removed-emptied, same_region_length, space_end-near}
 
@@ -97,12 +97,12 @@ module _ (x : List ℕ) (place : Place) (end : ℕ) (metadata : List ℕ) (room 
     abbrev after : List ℕ
     after = padding (end - d) (kept_at x end) ++ empty_between x end e
 
-    bound_same : (y : List ℕ) (p : List ℕ) → end ≡ e → y ≡ overwritten x s (p ++ tail) → bounded y end e ≡ overwritten x s (p ++ after)
+    bound_same : (y : List ℕ) (p : List ℕ) → end ≡ e → y ≡ overwritten x s (p ++ tail) → with_bound y end e ≡ overwritten x s (p ++ after)
     bound_same y p same is =
         let here : (end == e) ≡ true = eq-eqb end e same in
         rw here (is ∙ ap (λ k. overwritten x s (p ++ padding (k - d) (kept_at x k))) (sym same) ∙ ap (λ (l : List ℕ). overwritten x s (p ++ l)) (sym (append-nil (padding (end - d) (kept_at x end)))))
 
-    bound_other : (y : List ℕ) (p : List ℕ) → length p ≡ d - s → (end ≡ e → ⊥) → y ≡ overwritten x s (p ++ tail) → bounded y end e ≡ overwritten x s (p ++ after)
+    bound_other : (y : List ℕ) (p : List ℕ) → length p ≡ d - s → (end ≡ e → ⊥) → y ≡ overwritten x s (p ++ tail) → with_bound y end e ≡ overwritten x s (p ++ after)
     bound_other y p long other is =
         let apart : end + 64 ≤ e = omega (arith, other, room.cell.inside, room.cell.end_aligned, room.run.end_aligned) in
         let n = e - end - header_length in
@@ -130,11 +130,11 @@ module _ (x : List ℕ) (place : Place) (end : ℕ) (metadata : List ℕ) (room 
         ∙ ap (λ (l : List ℕ). overwritten x s l) (append_assoc p gap (empty_entry (e - end) last))
         )
 
-    bound : (y : List ℕ) (p : List ℕ) → length p ≡ d - s → y ≡ overwritten x s (p ++ tail) → bounded y end e ≡ overwritten x s (p ++ after)
+    bound : (y : List ℕ) (p : List ℕ) → length p ≡ d - s → y ≡ overwritten x s (p ++ tail) → with_bound y end e ≡ overwritten x s (p ++ after)
     bound y p long is = ⊎_elim (λ same. bound_same y p same is) (λ other. bound_other y p long other is) (cases_eq end e)
 
     -- all writes together
-    pub inserted : finished (overwritten (removed x place.run) place.content content) place end metadata
+    pub inserted : with_component (overwritten (removed x place.run) place.content content) place end metadata
         ≡ overwritten x s (empty_between x s h ++ ((metadata ++ content) ++ after))
     inserted =
         let f = has_metadata in
@@ -173,7 +173,7 @@ module _ (x : List ℕ) (place : Place) (end : ℕ) (metadata : List ℕ) (room 
         let p : List ℕ = header ++ (space ++ (d1 ++ content)) in
         let p_long : length p ≡ d - s =
         omega (arith, length-append header (space ++ (d1 ++ content)), length-append space (d1 ++ content), length-append d1 content, header_long, space_long, f.rest_long) in
-        let bounded_is : bounded (with_metadata (overwritten (removed x place.run) place.content content) place metadata) end e ≡ overwritten x s (p ++ after) =
+        let bounded_is : with_bound (with_metadata (overwritten (removed x place.run) place.content content) place metadata) end e ≡ overwritten x s (p ++ after) =
         bound _ p p_long (described ∙ ap (λ (l : List ℕ). overwritten x s l) (simp append_assoc)) in
         let begin : List ℕ = shown_by place metadata in
         ap (λ (l : List ℕ). overwritten l s begin) (bounded_is ∙ ap (λ (l : List ℕ). overwritten x s l) (append_assoc header (space ++ (d1 ++ content)) after))
@@ -192,16 +192,16 @@ hash_short (Some (digests.Sha512 bytes)) = omega arith
 
 -- a description by its parts
 pub described-is : (m : Meta) (name : List ℕ) (kind : ℕ) (digest : Option Digest) (gap n : ℕ) → m.name.now ≡ name → m.kind ≡ kind → option_copied m.digest ≡ digest → m.gap ≡ gap → m.len ≡ n
-    → described m ≡ made_metadata name kind digest gap n
+    → metadata_of m ≡ made_metadata name kind digest gap n
 described-is m name kind digest gap n is_name is_kind is_digest is_gap is_len = rw (is_name, is_kind, is_digest, is_gap, is_len) refl
 
 -- where a component fits there is room for its metadata
 pub room-for : (size : ℕ) (label : Label) (content : List ℕ) (wanted : Wanted) (place : Place) (m : Meta) (digest : Option Digest) → size < 2 ^ 32 → Fits wanted size place → length label.name.now ≤ 127
-    → wanted ≡ wanted_for (labelled label content) wanted.spot → m.name.now ≡ label.name.now → option_copied m.digest ≡ digest → m.gap ≡ place.content - place.header - wanted.header → hash_len digest ≡ hash_len (digest_of label.hash content)
+    → wanted ≡ wanted_for (component_of_label label content) wanted.spot → m.name.now ≡ label.name.now → option_copied m.digest ≡ digest → m.gap ≡ place.content - place.header - wanted.metadata_len → hash_len digest ≡ hash_len (digest_of label.hash content)
     → HasRoom size place (round64 (place.content + wanted.len)) (described_len m)
 room-for size label content wanted place m digest small fits short is is_name is_digest is_gap digest_len =
-    let header : wanted.header ≡ header_of (labelled label content) = ap (λ (w : Wanted). w.header) is in
-    let long : described_len m ≡ wanted.header + (place.content - place.header - wanted.header) = rw (is_name, is_digest, is_gap, digest_len, header) refl in
+    let header : wanted.metadata_len ≡ metadata_len_of (component_of_label label content) = ap (λ (w : Wanted). w.metadata_len) is in
+    let long : described_len m ≡ wanted.metadata_len + (place.content - place.header - wanted.metadata_len) = rw (is_name, is_digest, is_gap, digest_len, header) refl in
     let few = hash_short (digest_of label.hash content) in
     search rules
 
@@ -211,7 +211,7 @@ on_err (Ok a) P p = tt
 on_err (Err e) P p = p
 
 -- what is written after the content ends at the content, at the end of the run's first header, or before the run's last four bytes
-finished-last : (z : List ℕ) (place : Place) (end to : ℕ) (metadata : List ℕ) → HasRoom (length z) place end (length metadata) → place.content ≤ to → place.run.end ≤ to + 4 → drop to (finished z place end metadata) ≡ drop to z
+finished-last : (z : List ℕ) (place : Place) (end to : ℕ) (metadata : List ℕ) → HasRoom (length z) place end (length metadata) → place.content ≤ to → place.run.end ≤ to + 4 → drop to (with_component z place end metadata) ≡ drop to z
 finished-last z place end to metadata room content last =
     let k = has_metadata z place end metadata room in
     let at = place.header + held_back place in
@@ -223,28 +223,28 @@ finished-last z place end to metadata room content last =
     let there : end ≤ length f = omega (arith, f_size, room.cell.inside, room.run.inside) in
     let IsAlike : List ℕ → Type 0 = λ l. (drop to l ≡ drop to z) × (place.run.start ≤ length l) in
     let first : IsAlike f = (drop-overwritten z at rest to (omega (arith, k.rest_at, k.rest_long, content)) (omega (arith, k.rest_at, k.rest_long, room.content_below, room.cell.inside, room.run.inside)), omega (arith, f_size, room.run.some, room.run.inside)) in
-    let second : IsAlike (bounded f end place.run.end) =
+    let second : IsAlike (with_bound f end place.run.end) =
     cond_both (end == place.run.end) f (overwritten f end header) IsAlike (λ e. first)
     (λ e. let fits : end + header_length ≤ place.run.end - 4 = omega (arith, eqb-false end place.run.end e, room.cell.inside, room.cell.end_aligned, room.run.end_aligned) in
     (drop-overwritten f end header to (omega (arith, long, fits, last)) there ∙ first.0, omega (arith, length-overwritten f end header (omega (arith, long, fits, f_size, room.run.inside)), first.1))) in
-    drop-overwritten (bounded f end place.run.end) place.run.start (shown_by place metadata) to (omega (arith, k.begin_long, room.start_below, room.metadata_is, room.metadata_long, content)) second.1 ∙ second.0
+    drop-overwritten (with_bound f end place.run.end) place.run.start (shown_by place metadata) to (omega (arith, k.begin_long, room.start_below, room.metadata_is, room.metadata_long, content)) second.1 ∙ second.0
 
 module _ (r : Range) (old : List ℕ) (label : Label) (content : List ℕ) (wanted : Wanted) (place : Place) (lies : LiesIn r old) (in_region : Fits wanted r.size place) (short : length label.name.now ≤ 127)
-    (is : wanted ≡ wanted_for (labelled label content) wanted.spot) where
+    (is : wanted ≡ wanted_for (component_of_label label content) wanted.spot) where
   abbrev x : List ℕ
   x = bytes_in r old
 
   abbrev new : NewComponent
-  new = labelled label content
+  new = component_of_label label content
 
-  abbrev run : Freed
+  abbrev run : CellRange
   run = place.run
 
   abbrev to : ℕ
   to = written_to r.size wanted.len place
 
-  is_header : wanted.header ≡ header_of new
-  is_header = ap (λ (w : Wanted). w.header) is
+  is_header : wanted.metadata_len ≡ metadata_len_of new
+  is_header = ap (λ (w : Wanted). w.metadata_len) is
 
   len : wanted.len ≡ length content
   len = ap (λ (w : Wanted). w.len) is
@@ -280,10 +280,10 @@ module _ (r : Range) (old : List ℕ) (label : Label) (content : List ℕ) (want
       pub copied_stop : (Done : Type 0) → IsInsertStop run to Done x z
       copied_stop Done = inl (inr copied_emptied)
 
-      module _ (meta : Meta) (digest : Option Digest) (is_name : meta.name.now ≡ label.name.now) (is_kind : meta.kind ≡ label.kind) (is_digest : option_copied meta.digest ≡ digest) (is_gap : meta.gap ≡ place.content - place.header - wanted.header)
-          (is_len : meta.len ≡ wanted.len) (digest_len : hash_len digest ≡ hash_len new.digest) (metadata_len : length (described meta) ≡ described_len meta) (small : length old < 2 ^ 32) where
+      module _ (meta : Meta) (digest : Option Digest) (is_name : meta.name.now ≡ label.name.now) (is_kind : meta.kind ≡ label.kind) (is_digest : option_copied meta.digest ≡ digest) (is_gap : meta.gap ≡ place.content - place.header - wanted.metadata_len)
+          (is_len : meta.len ≡ wanted.len) (digest_len : hash_len digest ≡ hash_len new.digest) (metadata_len : length (metadata_of meta) ≡ described_len meta) (small : length old < 2 ^ 32) where
         abbrev metadata : List ℕ
-        metadata = described meta
+        metadata = metadata_of meta
 
         abbrev end : ℕ
         end = round64 (place.content + wanted.len)
@@ -296,10 +296,10 @@ module _ (r : Range) (old : List ℕ) (label : Label) (content : List ℕ) (want
           w = bytes_in r shown
 
           -- all writes come to the component
-          pub shown_added : digest ≡ digest_of label.hash content → z ≡ overwritten y place.content content → w ≡ finished z place end metadata → w ≡ added x new place
+          pub shown_added : digest ≡ digest_of label.hash content → z ≡ overwritten y place.content content → w ≡ with_component z place end metadata → w ≡ added x new place
           shown_added digest_is second third =
               let d = place.content + length content in
-              let gap = place.content - place.header - header_of new in
+              let gap = place.content - place.header - metadata_len_of new in
               let whole : List ℕ = metadata ++ content in
               let long : length whole ≡ d - place.header = omega (arith, length-append metadata content, room.metadata_is) in
               let pad : end - d ≡ round64 (length whole) - length whole = omega (arith, long, fits.header.aligned, fits.header.room, len) in
@@ -307,7 +307,7 @@ module _ (r : Range) (old : List ℕ) (label : Label) (content : List ℕ) (want
               described-is meta label.name.now label.kind new.digest gap (length content) is_name is_kind (is_digest ∙ digest_is) (is_gap ∙ ap (λ n. place.content - place.header - n) is_header) (is_len ∙ len) in
               let before : List ℕ = empty_between x run.start place.header in
               third
-              ∙ ap (λ (l : List ℕ). finished l place end metadata) (second ∙ ap (λ (l : List ℕ). overwritten l place.content content) emptied)
+              ∙ ap (λ (l : List ℕ). with_component l place end metadata) (second ∙ ap (λ (l : List ℕ). overwritten l place.content content) emptied)
               ∙ inserted x place end metadata room content (omega (arith, len))
               ∙ ap (λ (l : List ℕ). overwritten x run.start (before ++ l)) (sym (append_assoc whole (padding (end - d) (kept_at x end)) (empty_between x end run.end)))
               ∙ ap (λ n. overwritten x run.start (before ++ ((whole ++ padding n (kept_at x end)) ++ empty_between x end run.end))) pad
@@ -315,7 +315,7 @@ module _ (r : Range) (old : List ℕ) (label : Label) (content : List ℕ) (want
               ∙ ap (λ n. overwritten x run.start (before ++ (made new.name new.kind new.digest gap content (kept_at x n) ++ empty_between x n run.end))) (ap (λ n. round64 (place.content + n)) len)
 
           -- the metadata with what shows it
-          pub shown_stop : (Sound Honest : Type 0) → Sound → (Honest → digest ≡ digest_of label.hash content) → (Honest → z ≡ overwritten y place.content content) → (w ≡ finished z place end metadata) ⊎ IsUnfinished place z w
+          pub shown_stop : (Sound Honest : Type 0) → Sound → (Honest → digest ≡ digest_of label.hash content) → (Honest → z ≡ overwritten y place.content content) → (w ≡ with_component z place end metadata) ⊎ IsUnfinished place z w
               → IsInsertStop run to (Sound × (Honest → w ≡ added x new place)) x w
           shown_stop Sound Honest sound digest_is second (inl third) =
               let behind : run.start + header_length ≤ to = omega (arith, near.1, fits.run.some) in

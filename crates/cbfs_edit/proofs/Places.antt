@@ -6,12 +6,12 @@ use Rattle.std.specs.Int.{next_multiple_of}
 use Rattle.std.proofs.lemmas.Bool.{eqb-false, leb-false, leb-true}
 use Rattle.std.proofs.lemmas.List.Elements.{All-nil, All-cons, All-head, All-tail, All-weaker}
 use Rattle.std.proofs.Math.Nat.{add-mod-mod, mul-mod_left, mod-lt, div-add-mod, lt_of_mul-lt-mul_right, mul-le-mul_right}
-use Rattle.cbfs_edit.specs.Places.{is_bad_align, Meets, HasNoRoom, IsAllowed, IsHeaderOf, IsFirstPlace, IsPlaceAmong, IsWanted, limit_of, least_from, place_in, first_place, placing_in}
+use Rattle.cbfs_edit.specs.Places.{is_bad_align, Allows, HasNoRoom, IsAllowed, IsHeaderOf, IsFirstPlace, IsPlaceAmong, IsWanted, limit_of, least_from, place_in, first_place, placing_in}
 use Rattle.cbfs_edit.specs.Groups.{IsCellRange}
 use Rattle.cbfs_edit.specs.Laws.{PlacesAreExact}
 use Rattle.cbfs_edit.specs.Places.{Fits}
 use Rattle.cbfs_edit.specs.Runs.{runs}
-use Rattle.cbfs_edit.specs.declared.group.Freed.{Freed}
+use Rattle.cbfs_edit.specs.declared.group.CellRange.{CellRange}
 use Rattle.cbfs_edit.specs.declared.place.Spot.{Spot}
 use Rattle.cbfs_edit.specs.declared.place.Spot.TheVariants.{First, Aligned, Fixed}
 use Rattle.cbfs_edit.specs.declared.place.Wanted.{Wanted}
@@ -45,32 +45,32 @@ multiple_least unit from d some below whole =
     omega (arith, enough, here, there, next-whole from unit some)
 
 -- the least place from a place on that a spot allows
-pub least_from-least : (spot : Spot) (from d : ℕ) → is_bad_align spot ≡ false → from ≤ d → Meets spot d → least_from spot from ≤ d
+pub least_from-least : (spot : Spot) (from d : ℕ) → is_bad_align spot ≡ false → from ≤ d → Allows spot d → least_from spot from ≤ d
 least_from-least First from d some below meets = below
 least_from-least (Aligned unit) from d some below meets = multiple_least unit from d (some_unit unit some) below meets
 least_from-least (Fixed place) from d some below meets = omega arith
 
-pub least_from-meets : (spot : Spot) (from : ℕ) → is_bad_align spot ≡ false → Meets spot (least_from spot from)
+pub least_from-meets : (spot : Spot) (from : ℕ) → is_bad_align spot ≡ false → Allows spot (least_from spot from)
 least_from-meets First from some = tt
 least_from-meets (Aligned unit) from some = next-whole from unit (some_unit unit some)
 least_from-meets (Fixed place) from some = refl
 
 -- where that is before it, the spot allows none from it on
-least_from-none : (spot : Spot) (from d : ℕ) → is_bad_align spot ≡ false → least_from spot from < from → from ≤ d → Meets spot d → ⊥
+least_from-none : (spot : Spot) (from d : ℕ) → is_bad_align spot ≡ false → least_from spot from < from → from ≤ d → Allows spot d → ⊥
 least_from-none First from d some less below meets = omega arith
 least_from-none other from d some less below meets = omega arith
 
-abbrev place_at : Wanted → Freed → ℕ → Place
-place_at wanted run c = record { run = run; header = (c - wanted.header) / 64 * 64; content = c }
+abbrev place_at : Wanted → CellRange → ℕ → Place
+place_at wanted run c = record { run = run; header = (c - wanted.metadata_len) / 64 * 64; content = c }
 
-header_lemma : (wanted : Wanted) (run : Freed) (c : ℕ) → wanted.header ≤ c → IsHeaderOf wanted (place_at wanted run c)
+header_lemma : (wanted : Wanted) (run : CellRange) (c : ℕ) → wanted.metadata_len ≤ c → IsHeaderOf wanted (place_at wanted run c)
 header_lemma wanted run c above = record { aligned = omega arith; room = omega arith; largest = omega arith }
 
-pub place_in-right : (wanted : Wanted) (size : ℕ) (run : Freed) (later : List Freed) → IsWanted wanted → MatchOption (place_in wanted size run) (HasNoRoom wanted size run) (IsFirstPlace wanted size (run ∷ later))
+pub place_in-right : (wanted : Wanted) (size : ℕ) (run : CellRange) (later : List CellRange) → IsWanted wanted → MatchOption (place_in wanted size run) (HasNoRoom wanted size run) (IsFirstPlace wanted size (run ∷ later))
 place_in-right wanted size run later is = go (nat_le from c) (nat_le (c + wanted.len) limit) refl refl
   where
     from : ℕ
-    from = run.start + wanted.header
+    from = run.start + wanted.metadata_len
 
     c : ℕ
     c = least_from wanted.spot from
@@ -97,14 +97,14 @@ limit_below (Fixed place) size end = omega arith
 limit_below other size end = (space_end-near size end).0
 
 -- a component fits at a place of a run from which on there is room for it
-pub fits_there : (wanted : Wanted) (size : ℕ) (place : Place) → IsCellRange place.run size → place.run.start + wanted.header ≤ place.content → place.content + wanted.len ≤ limit_of wanted.spot size place.run.end → IsHeaderOf wanted place → Fits wanted size place
+pub fits_there : (wanted : Wanted) (size : ℕ) (place : Place) → IsCellRange place.run size → place.run.start + wanted.metadata_len ≤ place.content → place.content + wanted.len ≤ limit_of wanted.spot size place.run.end → IsHeaderOf wanted place → Fits wanted size place
 fits_there wanted size place range after ends header = let below = limit_below wanted.spot size place.run.end in search rules
 
 -- the same with the head at the last multiple of 64 that leaves room for the metadata
-pub fits_at : (wanted : Wanted) (size : ℕ) (run : Freed) (c : ℕ) → IsCellRange run size → run.start + wanted.header ≤ c → c + wanted.len ≤ limit_of wanted.spot size run.end → Fits wanted size (place_at wanted run c)
+pub fits_at : (wanted : Wanted) (size : ℕ) (run : CellRange) (c : ℕ) → IsCellRange run size → run.start + wanted.metadata_len ≤ c → c + wanted.len ≤ limit_of wanted.spot size run.end → Fits wanted size (place_at wanted run c)
 fits_at wanted size run c range after ends = fits_there wanted size (place_at wanted run c) range after ends (header_lemma wanted run c (omega arith))
 
-pub first_place-right : (wanted : Wanted) (size : ℕ) (runs : List Freed) → IsWanted wanted → IsPlaceAmong wanted size runs (first_place wanted size runs)
+pub first_place-right : (wanted : Wanted) (size : ℕ) (runs : List CellRange) → IsWanted wanted → IsPlaceAmong wanted size runs (first_place wanted size runs)
 first_place-right wanted size [] is = All-nil (HasNoRoom wanted size)
 first_place-right wanted size (run ∷ later) is = go (place_in wanted size run) (place_in-right wanted size run later is) (filter_map (place_in wanted size) later) (first_place-right wanted size later is)
   where
@@ -113,7 +113,7 @@ first_place-right wanted size (run ∷ later) is = go (place_in wanted size run)
     after (Some place) none rest = record {
       before = run ∷ rest.before;
       later = rest.later;
-      whole = ap (λ (l : List Freed). run ∷ l) rest.whole;
+      whole = ap (λ (l : List CellRange). run ∷ l) rest.whole;
       none_before = All-cons (HasNoRoom wanted size) run rest.before none rest.none_before;
       allowed = rest.allowed;
       least = rest.least;
@@ -127,35 +127,35 @@ first_place-right wanted size (run ∷ later) is = go (place_in wanted size run)
 -- ---- no other place
 
 module _ (wanted : Wanted) (size : ℕ) where
-  no_room : (before later : List Freed) (run : Freed) (c : ℕ) → All (HasNoRoom wanted size) (before ++ run ∷ later) → IsAllowed wanted size run c → ⊥
+  no_room : (before later : List CellRange) (run : CellRange) (c : ℕ) → All (HasNoRoom wanted size) (before ++ run ∷ later) → IsAllowed wanted size run c → ⊥
   no_room [] later run c none allowed = All-head (HasNoRoom wanted size) run later none c allowed
   no_room (r ∷ before) later run c none allowed = no_room before later run c (All-tail (HasNoRoom wanted size) r (before ++ run ∷ later) none) allowed
 
   -- a run in which content may begin
-  abbrev HasRoom : Freed → Type 0
+  abbrev HasRoom : CellRange → Type 0
   HasRoom run = (c : ℕ) × IsAllowed wanted size run c
 
-  without_room : (runs : List Freed) → All (HasNoRoom wanted size) runs → All (λ run. HasRoom run → ⊥) runs
+  without_room : (runs : List CellRange) → All (HasNoRoom wanted size) runs → All (λ run. HasRoom run → ⊥) runs
   without_room runs none = All-weaker (HasNoRoom wanted size) (λ run. HasRoom run → ⊥) (λ run no room. no room.0 room.1) runs none
 
   same_place : (p q : Place) → p.run ≡ q.run → p.header ≡ q.header → p.content ≡ q.content → p ≡ q
   same_place p q run header content =
-      ap (λ (r : Freed). let k : Place = record { run = r; header = p.header; content = p.content } in k) run
+      ap (λ (r : CellRange). let k : Place = record { run = r; header = p.header; content = p.content } in k) run
       ∙ ap (λ n. let k : Place = record { run = q.run; header = n; content = p.content } in k) header
       ∙ ap (λ n. let k : Place = record { run = q.run; header = q.header; content = n } in k) content
 
-  pub one_place : (runs : List Freed) (p q : Option Place) → IsPlaceAmong wanted size runs p → IsPlaceAmong wanted size runs q → p ≡ q
+  pub one_place : (runs : List CellRange) (p q : Option Place) → IsPlaceAmong wanted size runs p → IsPlaceAmong wanted size runs q → p ≡ q
   one_place runs None None is other = refl
   one_place runs None (Some q) is other =
-      absurd (no_room other.before other.later q.run q.content (subst (λ (l : List Freed). All (HasNoRoom wanted size) l) other.whole is) other.allowed)
+      absurd (no_room other.before other.later q.run q.content (subst (λ (l : List CellRange). All (HasNoRoom wanted size) l) other.whole is) other.allowed)
   one_place runs (Some p) None is other =
-      absurd (no_room is.before is.later p.run p.content (subst (λ (l : List Freed). All (HasNoRoom wanted size) l) is.whole other) is.allowed)
+      absurd (no_room is.before is.later p.run p.content (subst (λ (l : List CellRange). All (HasNoRoom wanted size) l) is.whole other) is.allowed)
   one_place runs (Some p) (Some q) is other =
       let run : p.run ≡ q.run =
       (one_split HasRoom is.before is.later other.before other.later p.run q.run (p.content, is.allowed) (q.content, other.allowed) (without_room is.before is.none_before) (without_room other.before other.none_before)
       (sym is.whole ∙ other.whole)).same in
-      let no_more : p.content ≤ q.content = is.least q.content (subst (λ (r : Freed). IsAllowed wanted size r q.content) (sym run) other.allowed) in
-      let no_less : q.content ≤ p.content = other.least p.content (subst (λ (r : Freed). IsAllowed wanted size r p.content) run is.allowed) in
+      let no_more : p.content ≤ q.content = is.least q.content (subst (λ (r : CellRange). IsAllowed wanted size r q.content) (sym run) other.allowed) in
+      let no_less : q.content ≤ p.content = other.least p.content (subst (λ (r : CellRange). IsAllowed wanted size r p.content) run is.allowed) in
       let content : p.content ≡ q.content = omega arith in
       ap (λ (k : Place). Some k) (same_place p q run (omega (arith, is.header, other.header, content)) content)
 

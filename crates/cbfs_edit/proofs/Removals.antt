@@ -11,7 +11,7 @@ use Rattle.flash_store.proofs.RegionLemmas.{image_is}
 use Rattle.cbfs_edit.specs.Stops.{IsOldOrEmptied, LeavesWhole}
 use Rattle.cbfs_edit.specs.Laws.{EmptiedGroupsLackTheComponent, RemovalsTakeOneComponent}
 use Rattle.cbfs_edit.specs.declared.fault.EditFault.{EditFault}
-use Rattle.cbfs_edit.specs.declared.group.Freed.{Freed}
+use Rattle.cbfs_edit.specs.declared.group.CellRange.{CellRange}
 use Rattle.cbfs_edit.proofs.Groups.{between, end_of, group_exact, group_some, whole_of}
 use Rattle.cbfs_edit.proofs.Sound.{accepted_by, found-some}
 use Rattle.cbfs_edit.proofs.Emptied.{group_range, emptied-end, emptied-same, emptied-stopped, emptied-wider, space_end-below, space_end-near, emptied-components, removed-whole}
@@ -28,13 +28,13 @@ use Rattle.cbfs_edit.specs.declared.fault.EditFault.TheVariants as faults
 
 -- ---- its group, in a region of a good size
 
-pub record IsAccepted (x name : List ℕ) (group : Freed) : Type 0 where
+pub record IsAccepted (x name : List ℕ) (group : CellRange) : Type 0 where
   pub whole : length x % 64 ≡ 0
   pub is : IsGroupOf name (cut x).cells group
   pub cells : CellsBetween x group.start group.end
   pub range : IsCellRange group (length x)
 
-pub accepted : (x name : List ℕ) (group : Freed) → removal_in x name ≡ Ok group → IsAccepted x name group
+pub accepted : (x name : List ℕ) (group : CellRange) → removal_in x name ≡ Ok group → IsAccepted x name group
 unfolding removal_in
 accepted x name group is =
     let a = accepted_by x (ok_or (group_of x name) faults.NotFound) group is in
@@ -48,8 +48,8 @@ emptied_lacks x name group y small is emptied =
     emptied-same x group a.range y emptied a.cells small
 
 -- what a removal leaves that stops at one of its writes
-pub removal_leaves : (r : Range) (name : List ℕ) (group : Freed) (old mid new : List ℕ) → LiesIn r old → length old < 2 ^ 32 → mid ≡ old
-    → (let a : Result Freed EditFault = Ok group in IsErrOf a faults.Device ⊎ (a ≡ removal_in (bytes_in r old) name))
+pub removal_leaves : (r : Range) (name : List ℕ) (group : CellRange) (old mid new : List ℕ) → LiesIn r old → length old < 2 ^ 32 → mid ≡ old
+    → (let a : Result CellRange EditFault = Ok group in IsErrOf a faults.Device ⊎ (a ≡ removal_in (bytes_in r old) name))
     → IsOldOrEmptied group (space_end r.size group.end) (bytes_in r mid) (bytes_in r new) → LeavesWhole (bytes_in r old) name (bytes_in r new)
 removal_leaves r name group old mid new lies small same (inl e) stop = absurd cc
 removal_leaves r name group old mid new lies small same (inr e) stop = left (rw same at stop)

@@ -9,7 +9,7 @@ use Rattle.flash_format.specs.Cut.{cut, IsCell}
 use Rattle.cbfs_edit.specs.Groups.{IsCellRange, by_rows}
 use Rattle.cbfs_edit.specs.Runs.{add_run, runs, runs_from, IsRunOf}
 use Rattle.cbfs_edit.specs.Laws.{RunsAreExact, RunsAscend, EmptiedRunsKeepTheComponents}
-use Rattle.cbfs_edit.specs.declared.group.Freed.{Freed}
+use Rattle.cbfs_edit.specs.declared.group.CellRange.{CellRange}
 use Rattle.cbfs_edit.proofs.Groups.{IsFree, EndsWithComponent, BeginsWithComponent, length-concat-push, over_row, ends_after, ends_push, not_alone, between}
 use Rattle.flash_format.proofs.Splices.{concat-append, AllFree, components-free, group-components}
 use Rattle.std.proofs.lemmas.List.Kept.{AllPairs-cons}
@@ -23,9 +23,9 @@ use Rattle.cbfs_edit.proofs.Emptied.{group_range, emptied-components, emptied-en
 -- ---- each run is one
 
 -- a run that ends here
-closed : (start at : ℕ) (done row others : List (List ℕ)) (run : Freed) → EndsWithComponent done → All IsFree row → BeginsWithComponent others → length (concat done) ≡ start → start + length (concat row) ≡ at
+closed : (start at : ℕ) (done row others : List (List ℕ)) (run : CellRange) → EndsWithComponent done → All IsFree row → BeginsWithComponent others → length (concat done) ≡ start → start + length (concat row) ≡ at
     → start < at → record { start = start; end = at } ≡ run → IsRunOf (done ++ (row ++ others)) run
-closed start at done row others run ends free begins begun is some here = subst (λ (r : Freed). IsRunOf (done ++ (row ++ others)) r) here (record {
+closed start at done row others run ends free begins begun is some here = subst (λ (r : CellRange). IsRunOf (done ++ (row ++ others)) r) here (record {
   range = record { before = done; row = row; after = others; whole = refl; no_more_before = ends; no_more_after = begins; start_is = begun; end_is = is };
   free = free;
   some = some;
@@ -35,7 +35,7 @@ Contains-cases : {X : Type 0} (y : X) (ys : List X) (x : X) → Contains (y ∷ 
 Contains-cases y ys x (zero, below, is) = inl is
 Contains-cases y ys x (suc k, below, is) = inr (k, omega arith, is)
 
-run-cases : (start end : ℕ) (others : List Freed) (run : Freed) → Contains (add_run start end others) run → ((start < end) × (record { start = start; end = end } ≡ run)) ⊎ Contains others run
+run-cases : (start end : ℕ) (others : List CellRange) (run : CellRange) → Contains (add_run start end others) run → ((start < end) × (record { start = start; end = end } ≡ run)) ⊎ Contains others run
 run-cases start end others run has = elim (cases_Bool (nat_lt start end)) [
   | inl some ↦ elim (Contains-cases (record { start = start; end = end }) others run (rw some at has)) [
     | inl here ↦ inl (ltb-true start end some, here)
@@ -44,7 +44,7 @@ run-cases start end others run has = elim (cases_Bool (nat_lt start end)) [
   | inr none ↦ inr (rw none at has)
 ]
 
-maximal : (start at : ℕ) (done row cells : List (List ℕ)) (run : Freed) → EndsWithComponent done → All IsFree row → length (concat done) ≡ start → start + length (concat row) ≡ at
+maximal : (start at : ℕ) (done row cells : List (List ℕ)) (run : CellRange) → EndsWithComponent done → All IsFree row → length (concat done) ≡ start → start + length (concat row) ≡ at
     → Contains (runs_from start at cells) run → IsRunOf (done ++ (row ++ cells)) run
 unfolding by_rows
 maximal start at done row [] run ends free begun is has = elim (run-cases start at [] run has) [
@@ -65,19 +65,19 @@ maximal start at done row (c ∷ cells) run ends free begun is has =
       ]
     ]
 
-pub run_maximal : (x : List ℕ) (run : Freed) → Contains (runs x) run → IsRunOf (cut x).cells run
+pub run_maximal : (x : List ℕ) (run : CellRange) → Contains (runs x) run → IsRunOf (cut x).cells run
 run_maximal x run has = maximal 0 0 [] [] _ run tt (All-nil IsFree) refl refl has
 
 -- ---- and each such group is a run
 
 -- what is there after the first is there
-later_is : (run : Freed) (others : List Freed) (start end : ℕ) → Contains others run → Contains (add_run start end others) run
+later_is : (run : CellRange) (others : List CellRange) (start end : ℕ) → Contains others run → Contains (add_run start end others) run
 later_is run others start end has = elim (cases_Bool (nat_lt start end)) [
   | inl some ↦ rw some (suc has.0, omega (arith, has.1), has.2)
   | inr none ↦ rw none has
 ]
 
-here_is : (start end : ℕ) (others : List Freed) → start < end → Contains (add_run start end others) (record { start = start; end = end })
+here_is : (start end : ℕ) (others : List CellRange) → start < end → Contains (add_run start end others) (record { start = start; end = end })
 here_is start end others some = rw (lt-ltb start end some) (0, omega arith, refl)
 
 -- a run that begins at the place
@@ -85,14 +85,14 @@ from_here : (start : ℕ) (row after : List (List ℕ)) (end : ℕ) → All IsFr
     → Contains (runs_from start start (row ++ after)) (record { start = start; end = end })
 unfolding by_rows
 from_here start row after end free begins is some =
-    subst (λ (l : List Freed). Contains l (record { start = start; end = end })) (sym (over_row (λ s a. add_run s a []) (λ s a c cells later. add_run s a later) start start row after free ∙ ap (λ n. runs_from start n after) is)) (by_after after begins)
+    subst (λ (l : List CellRange). Contains l (record { start = start; end = end })) (sym (over_row (λ s a. add_run s a []) (λ s a c cells later. add_run s a later) start start row after free ∙ ap (λ n. runs_from start n after) is)) (by_after after begins)
   where
     by_after : (others : List (List ℕ)) → BeginsWithComponent others → Contains (runs_from start end others) (record { start = start; end = end })
     by_after [] b = here_is start end [] some
     by_after (c ∷ others) b = rw b (here_is start end (runs_from (end + length c) (end + length c) others) some)
 
 -- after the cells before it
-there : (start at : ℕ) (before row after : List (List ℕ)) (run : Freed) → (before ≡ [] → start ≡ at) → EndsWithComponent before → All IsFree row → BeginsWithComponent after
+there : (start at : ℕ) (before row after : List (List ℕ)) (run : CellRange) → (before ≡ [] → start ≡ at) → EndsWithComponent before → All IsFree row → BeginsWithComponent after
     → at + length (concat before) ≡ run.start → run.start + length (concat row) ≡ run.end → run.start < run.end → Contains (runs_from start at (before ++ (row ++ after))) run
 unfolding by_rows
 there start at [] row after run fresh ends free begins begun is some =
@@ -101,7 +101,7 @@ there start at [] row after run fresh ends free begins begun is some =
 there start at (c ∷ before) row after run fresh ends free begins begun is some =
     let next = at + length c in
     let begun_next : next + length (concat before) ≡ run.start = omega (arith, begun, length-append c (concat before)) in
-    let later : List Freed = runs_from next next (before ++ (row ++ after)) in
+    let later : List CellRange = runs_from next next (before ++ (row ++ after)) in
     elim (cases_Bool (is_free (head_of c))) [
       | inl e ↦ rw e (there start next before row after run (λ none. absurd (not_alone c before e ends none)) (ends_after c before ends) free begins begun_next is some)
       | inr e ↦ rw e (later_is run later start at (there next next before row after run (λ none. refl) (ends_after c before ends) free begins begun_next is some))
@@ -117,26 +117,26 @@ runs_exact x run = (
 
 -- ---- the runs stand in order, with a cell between each and the next
 
-abbrev Apart : Freed → Freed → Type 0
+abbrev Apart : CellRange → CellRange → Type 0
 Apart a b = a.end < b.start
 
 none_apart : AllPairs Apart []
 none_apart = λ i j d first second. absurd (omega (arith, second))
 
-abbrev BeginsAfter : ℕ → List Freed → Type 0
-BeginsAfter low runs = All (λ (r : Freed). low < r.start) runs
+abbrev BeginsAfter : ℕ → List CellRange → Type 0
+BeginsAfter low runs = All (λ (r : CellRange). low < r.start) runs
 
 -- a range, unless it is empty, and others behind it
-add_after : (low start end : ℕ) (others : List Freed) → low < start → BeginsAfter low others → BeginsAfter low (add_run start end others)
-add_after low start end others here rest = cond_both (nat_lt start end) _ others (BeginsAfter low) (λ e. All-cons (λ (r : Freed). low < r.start) _ others here rest) (λ e. rest)
+add_after : (low start end : ℕ) (others : List CellRange) → low < start → BeginsAfter low others → BeginsAfter low (add_run start end others)
+add_after low start end others here rest = cond_both (nat_lt start end) _ others (BeginsAfter low) (λ e. All-cons (λ (r : CellRange). low < r.start) _ others here rest) (λ e. rest)
 
-add_apart : (start end : ℕ) (others : List Freed) → BeginsAfter end others → AllPairs Apart others → AllPairs Apart (add_run start end others)
+add_apart : (start end : ℕ) (others : List CellRange) → BeginsAfter end others → AllPairs Apart others → AllPairs Apart (add_run start end others)
 add_apart start end others later rest = cond_both (nat_lt start end) _ others (AllPairs Apart) (λ e. AllPairs-cons Apart _ others later rest) (λ e. rest)
 
 -- all runs begin behind a place before the first
 begin_after : (low start at : ℕ) (cells : List (List ℕ)) → low < start → start ≤ at → BeginsAfter low (runs_from start at cells)
 unfolding by_rows
-begin_after low start at [] before order = add_after low start at [] before (All-nil (λ (r : Freed). low < r.start))
+begin_after low start at [] before order = add_after low start at [] before (All-nil (λ (r : CellRange). low < r.start))
 begin_after low start at (c ∷ cells) before order =
     let next = at + length c in
     cond_both (is_free (head_of c)) (runs_from start next cells) (add_run start at (runs_from next next cells)) (BeginsAfter low)
@@ -145,7 +145,7 @@ begin_after low start at (c ∷ cells) before order =
 
 apart : (start at : ℕ) (cells : List (List ℕ)) → start ≤ at → All IsCell cells → AllPairs Apart (runs_from start at cells)
 unfolding by_rows
-apart start at [] order each = add_apart start at [] (All-nil (λ (r : Freed). at < r.start)) none_apart
+apart start at [] order each = add_apart start at [] (All-nil (λ (r : CellRange). at < r.start)) none_apart
 apart start at (c ∷ cells) order each =
     let next = at + length c in
     let some : 64 ≤ length c = (cell_span c (length c) (All-head IsCell c cells each)).positive in
@@ -159,12 +159,12 @@ runs_ascend x aligned = apart 0 0 (cut x).cells (omega arith) (cut_exists x alig
 
 -- ---- each run is a group of free cells of its region, and an empty entry's header over it keeps the components
 
-pub record IsRun (x : List ℕ) (run : Freed) : Type 0 where
+pub record IsRun (x : List ℕ) (run : CellRange) : Type 0 where
   pub cells : CellsBetween x run.start run.end
   pub free : AllFree cells.group
   pub range : IsCellRange run (length x)
 
-pub run_of : (x : List ℕ) (run : Freed) → length x % 64 ≡ 0 → Contains (runs x) run → IsRun x run
+pub run_of : (x : List ℕ) (run : CellRange) → length x % 64 ≡ 0 → Contains (runs x) run → IsRun x run
 run_of x run aligned has =
     let r = run_maximal x run has in
     let cells : CellsBetween x run.start run.end = between x run aligned r.range in

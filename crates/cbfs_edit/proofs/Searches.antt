@@ -10,9 +10,9 @@ use Rattle.flash_store.specs.Regions.{Range, LiesIn, bytes_in}
 use Rattle.flash_store.proofs.DeviceLemmas.{honest_still, length-bytes_in}
 use Rattle.cbfs_walk.specs.Cells.{IsCellIn, cell_in}
 use Rattle.cbfs_walk.specs.Passing.{reads_over}
-use Rattle.cbfs_walk.specs.Shapes.{shape, refused_or}
+use Rattle.cbfs_walk.specs.Shapes.{shape_fault, refused_or}
 use Rattle.cbfs_walk.specs.Walks.{Answer, Walking, walk_of, answer_at, StandsIn}
-use Rattle.cbfs_walk.specs.Shaped.{shaped, ReadsCells, by_answer, place_after}
+use Rattle.cbfs_walk.specs.Shaped.{reading_of, ReadsCells, by_answer, place_after}
 use Rattle.cbfs_walk.specs.declared.cell.Cell.{Cell}
 use Rattle.cbfs_walk.specs.declared.walk.Step.{Step}
 use Rattle.cbfs_walk.specs.declared.walk.WalkFault.{WalkFault}
@@ -25,7 +25,7 @@ use Rattle.flash_format.specs.Head.{head_of, is_free}
 use Rattle.flash_format.specs.Components.{cell_name, Component, components_from, component_at}
 use Rattle.cbfs_edit.specs.Groups.{by_rows}
 use Rattle.cbfs_edit.specs.Searches.{group_by, place_by}
-use Rattle.cbfs_edit.specs.declared.group.Freed.{Freed}
+use Rattle.cbfs_edit.specs.declared.group.CellRange.{CellRange}
 use Rattle.cbfs_edit.specs.declared.group.Search.TheVariants.{Looking}
 use Rattle.std.specs.List.{cons_option, filter_map, slice_get}
 use Rattle.std.specs.Option.{option_or}
@@ -58,11 +58,11 @@ law {A} at c k = fun_ext (λ (read : Reading A). refl)
 
 -- what it comes to from a place on
 pub found_from : {A : Type 0} → List ℕ → Reading A → ℕ → Result A EditFault
-found_from x read at = shaped refused read_cut x at read
+found_from x read at = reading_of refused read_cut x at read
 
 found_whole : {A : Type 0} (x : List ℕ) (read : Reading A) → unless_unsound x (read (cut x).cells) ≡ found_from x read 0
-unfolding found_from shaped
-found_whole {A} x read = go (shape x)
+unfolding found_from reading_of
+found_whole {A} x read = go (shape_fault x)
   where
     taken : Reading A → Result A EditFault
     taken = read_cut 0 (cut x)
@@ -191,7 +191,7 @@ or_first : (o : Option Place) (places : List Place) → slice_get (cons_option o
 or_first None places = refl
 or_first (Some place) places = refl
 
-or_run : (wanted : Wanted) (size : ℕ) (p : Option Place) (b : Bool) (run : Freed) (later : List Freed)
+or_run : (wanted : Wanted) (size : ℕ) (p : Option Place) (b : Bool) (run : CellRange) (later : List CellRange)
     → option_or p (first_place wanted size (cond b (run ∷ later) later)) ≡ option_or (option_or p (cond b (place_in wanted size run) None)) (first_place wanted size later)
 or_run wanted size (Some place) b run later = refl
 or_run wanted size None true run later = or_first (place_in wanted size run) (filter_map (place_in wanted size) later)

@@ -9,13 +9,13 @@ use Rattle.cbfs_walk.proofs.Answering.{good_size}
 use Rattle.cbfs_edit.specs.Refusals.{refusal_of}
 use Rattle.cbfs_edit.specs.Removals.{unless_damaged, unless_unsound}
 use Rattle.cbfs_edit.specs.declared.fault.EditFault.{EditFault}
-use Rattle.cbfs_edit.specs.declared.group.Freed.{Freed}
+use Rattle.cbfs_edit.specs.declared.group.CellRange.{CellRange}
 use Rattle.cbfs_walk.specs.declared.walk.WalkFault.TheVariants as walk
 
 -- its size is good, and no damage ends its cells
 pub record IsSound (x : List ℕ) : Type 0 where
   pub whole : length x % 64 ≡ 0
-  pub undamaged : (at : ℕ) (r : Result Freed EditFault) → unless_damaged at (cut x).end r ≡ r
+  pub undamaged : (at : ℕ) (r : Result CellRange EditFault) → unless_damaged at (cut x).end r ≡ r
 
 pub record IsAccepted {A : Type 0} (x : List ℕ) (r : Result A EditFault) (a : A) : Type 0 where
   pub sound : IsSound x

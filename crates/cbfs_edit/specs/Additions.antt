@@ -41,15 +41,15 @@ digest_of Sha512 content = Some (sha512_of content)
 abbrev pub new_component : List ℕ → ℕ → HashChoice → List ℕ → NewComponent
 new_component name kind hash content = record { name = name; kind = kind; digest = digest_of hash content; content = content }
 
-abbrev pub labelled : Label → List ℕ → NewComponent
-labelled label content = new_component label.name.now label.kind label.hash content
+abbrev pub component_of_label : Label → List ℕ → NewComponent
+component_of_label label content = new_component label.name.now label.kind label.hash content
 
 -- how many bytes it has before its content, besides a gap
-abbrev pub header_of : NewComponent → ℕ
-header_of new = meta_length (length new.name) (hash_len new.digest)
+abbrev pub metadata_len_of : NewComponent → ℕ
+metadata_len_of new = meta_length (length new.name) (hash_len new.digest)
 
 abbrev pub wanted_for : NewComponent → Spot → Wanted
-wanted_for new spot = record { header = header_of new; len = length new.content; spot = spot }
+wanted_for new spot = record { metadata_len = metadata_len_of new; len = length new.content; spot = spot }
 
 -- ---- what it leaves
 
@@ -64,7 +64,7 @@ empty_between x start end = if start == end then [] else empty_entry (end - star
 -- the cell of the component at a place
 abbrev pub made_at : List ℕ → NewComponent → Place → List ℕ
 made_at x new place =
-    made new.name new.kind new.digest (place.content - place.header - header_of new) new.content (kept_at x (cell_end new place))
+    made new.name new.kind new.digest (place.content - place.header - metadata_len_of new) new.content (kept_at x (cell_end new place))
 
 -- a region with the component in place of a run, between an empty entry before and one after it
 abbrev pub added : List ℕ → NewComponent → Place → List ℕ

@@ -26,16 +26,16 @@ abbrev pub with_metadata : List ℕ → Place → List ℕ → List ℕ
 with_metadata y place metadata = overwritten y (place.header + held_back place) (drop (held_back place) metadata)
 
 -- the header of the empty entry after the component, where there is one
-abbrev pub bounded : List ℕ → ℕ → ℕ → List ℕ
-bounded y end run_end = if end == run_end then y else overwritten y end (empty_header (run_end - end) (run_end == length y))
+abbrev pub with_bound : List ℕ → ℕ → ℕ → List ℕ
+with_bound y end run_end = if end == run_end then y else overwritten y end (empty_header (run_end - end) (run_end == length y))
 
 -- what the last commit writes: the begin of the metadata, or the header of the empty entry before the component
 abbrev pub shown_by : Place → List ℕ → List ℕ
 shown_by place metadata = if place.header == place.run.start then take header_length metadata else empty_header (place.header - place.run.start) false
 
 -- all that is written after the content
-abbrev pub finished : List ℕ → Place → ℕ → List ℕ → List ℕ
-finished y place end metadata = overwritten (bounded (with_metadata y place metadata) end place.run.end) place.run.start (shown_by place metadata)
+abbrev pub with_component : List ℕ → Place → ℕ → List ℕ → List ℕ
+with_component y place end metadata = overwritten (with_bound (with_metadata y place metadata) end place.run.end) place.run.start (shown_by place metadata)
 
 -- before the last commit nothing has changed but bytes of the run behind the header of its empty entry, and of the run's last four
 -- only those before the content

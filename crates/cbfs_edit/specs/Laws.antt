@@ -13,7 +13,7 @@ use Rattle.cbfs_edit.specs.Stops.{IsEmptied, SameCells}
 use Rattle.cbfs_edit.specs.Formats.{formatted, IsOneFreeCell}
 use Rattle.cbfs_edit.specs.Runs.{runs, IsRunOf}
 use Rattle.cbfs_edit.specs.Places.{IsWanted, IsPlaceAmong, first_place}
-use Rattle.cbfs_edit.specs.declared.group.Freed.{Freed}
+use Rattle.cbfs_edit.specs.declared.group.CellRange.{CellRange}
 use Rattle.cbfs_edit.specs.declared.place.Wanted.{Wanted}
 use Rattle.cbfs_edit.specs.declared.place.Place.{Place}
 use Rattle.cbfs_edit.specs.declared.place.Spot.{Spot}
@@ -21,28 +21,28 @@ use Rattle.cbfs_edit.specs.declared.place.Spot.{Spot}
 -- once the header of an empty entry stands over the group of a removal, whatever the rest of the group holds, the
 -- components are those of the finished removal
 abbrev pub EmptiedGroupsLackTheComponent : Type 0
-EmptiedGroupsLackTheComponent = (x name : List ℕ) (group : Freed) (y : List ℕ) → length x < 2 ^ 32 → removal_in x name ≡ Ok group → IsEmptied group group.end x y → SameCells y (removed x group)
+EmptiedGroupsLackTheComponent = (x name : List ℕ) (group : CellRange) (y : List ℕ) → length x < 2 ^ 32 → removal_in x name ≡ Ok group → IsEmptied group group.end x y → SameCells y (removed x group)
 
 -- a removal takes the first component of the name, and all others stay, with their places and bytes
 abbrev pub RemovalsTakeOneComponent : Type 0
-RemovalsTakeOneComponent = (x name : List ℕ) (group : Freed) → length x < 2 ^ 32 → removal_in x name ≡ Ok group → LosesOne name x (removed x group)
+RemovalsTakeOneComponent = (x name : List ℕ) (group : CellRange) → length x < 2 ^ 32 → removal_in x name ≡ Ok group → LosesOne name x (removed x group)
 
 -- the group that a removal takes is the first component of the name, with all free cells that touch it, and nothing else is;
 -- there is none where no component has the name, and nowhere else
 abbrev pub GroupsAreExact : Type 0
-GroupsAreExact = (x name : List ℕ) (found : Option Freed) → MatchOption found (All (IsNot name) (cut x).cells) (IsGroupOf name (cut x).cells) ↔ (found ≡ group_of x name)
+GroupsAreExact = (x name : List ℕ) (found : Option CellRange) → MatchOption found (All (IsNot name) (cut x).cells) (IsGroupOf name (cut x).cells) ↔ (found ≡ group_of x name)
 
 -- between the commits of an edit that fills a run the components are those of before
 abbrev pub EmptiedRunsKeepTheComponents : Type 0
-EmptiedRunsKeepTheComponents = (x : List ℕ) (run : Freed) (y : List ℕ) → length x % 64 ≡ 0 → length x < 2 ^ 32 → Contains (runs x) run → IsEmptied run run.end x y → SameCells y x
+EmptiedRunsKeepTheComponents = (x : List ℕ) (run : CellRange) (y : List ℕ) → length x % 64 ≡ 0 → length x < 2 ^ 32 → Contains (runs x) run → IsEmptied run run.end x y → SameCells y x
 
 -- the runs are the maximal rows of neighbouring free cells, all of them
 abbrev pub RunsAreExact : Type 0
-RunsAreExact = (x : List ℕ) (run : Freed) → Contains (runs x) run ↔ IsRunOf (cut x).cells run
+RunsAreExact = (x : List ℕ) (run : CellRange) → Contains (runs x) run ↔ IsRunOf (cut x).cells run
 
 -- in their order, with a cell between each and the next
 abbrev pub RunsAscend : Type 0
-RunsAscend = (x : List ℕ) → length x % 64 ≡ 0 → AllPairs (λ (a b : Freed). a.end < b.start) (runs x)
+RunsAscend = (x : List ℕ) → length x % 64 ≡ 0 → AllPairs (λ (a b : CellRange). a.end < b.start) (runs x)
 
 -- a region that is formatted is one free cell
 abbrev pub FormattedIsOneFreeCell : Type 0
@@ -72,7 +72,7 @@ AdditionsAreFound = (x : List ℕ) (new : NewComponent) (spot : Spot) (place : P
 -- it can be removed, and then the components are those of before
 abbrev pub AdditionsAreUndone : Type 0
 AdditionsAreUndone = (x : List ℕ) (new : NewComponent) (spot : Spot) (place : Place) → IsAdded x new spot place
-    → (group : Freed) × (removal_in (added x new place) new.name ≡ Ok group) × SameCells (removed (added x new place) group) x
+    → (group : CellRange) × (removal_in (added x new place) new.name ≡ Ok group) × SameCells (removed (added x new place) group) x
 
 -- an addition keeps each component of before
 abbrev pub AdditionsKeepAll : Type 0
@@ -80,5 +80,5 @@ AdditionsKeepAll = (x : List ℕ) (new : NewComponent) (spot : Spot) (place : Pl
 
 -- a removal keeps each of another name
 abbrev pub RemovalsKeepOthers : Type 0
-RemovalsKeepOthers = (x name : List ℕ) (group : Freed) → length x < 2 ^ 32 → removal_in x name ≡ Ok group
+RemovalsKeepOthers = (x name : List ℕ) (group : CellRange) → length x < 2 ^ 32 → removal_in x name ≡ Ok group
     → (c : Component) → Contains (components x) c → bytes_eq c.name name ≡ false → Contains (components (removed x group)) c

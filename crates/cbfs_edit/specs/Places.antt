@@ -9,7 +9,7 @@ use Rattle.cbfs_edit.specs.Runs.{runs}
 use Rattle.cbfs_edit.specs.Removals.{space_end, unless_unsound}
 use Rattle.cbfs_edit.specs.declared.fault.EditFault.{EditFault}
 use Rattle.cbfs_edit.specs.declared.fault.EditFault.TheVariants.{Exists, NoSpace}
-use Rattle.cbfs_edit.specs.declared.group.Freed.{Freed}
+use Rattle.cbfs_edit.specs.declared.group.CellRange.{CellRange}
 use Rattle.cbfs_edit.specs.declared.place.Spot.{Spot}
 use Rattle.cbfs_edit.specs.declared.place.Spot.TheVariants.{First, Aligned, Fixed}
 use Rattle.cbfs_edit.specs.declared.place.Wanted.{Wanted}
@@ -22,17 +22,17 @@ is_bad_align spot = false
 
 -- both numbers fit 32 bits, and content is not to begin at a multiple of 0
 pub record IsWanted (wanted : Wanted) : Type 0 where
-  pub header : wanted.header < 2 ^ 32
+  pub metadata_len : wanted.metadata_len < 2 ^ 32
   pub len : wanted.len < 2 ^ 32
   pub spot : is_bad_align wanted.spot ≡ false
 
 -- ---- as a relation
 
 -- a spot allows content to begin at a place
-abbrev pub Meets : Spot → ℕ → Type 0
-Meets First c = ⊤
-Meets (Aligned unit) c = c % unit ≡ 0
-Meets (Fixed place) c = c ≡ place
+abbrev pub Allows : Spot → ℕ → Type 0
+Allows First c = ⊤
+Allows (Aligned unit) c = c % unit ≡ 0
+Allows (Fixed place) c = c ≡ place
 
 -- where content ends at the latest, in a run that ends here, of a region of this size
 abbrev pub limit_of : Spot → ℕ → ℕ → ℕ
@@ -40,19 +40,19 @@ limit_of (Fixed place) size end = end
 limit_of spot size end = space_end size end
 
 -- content may begin at `c` in the run
-pub record IsAllowed (wanted : Wanted) (size : ℕ) (run : Freed) (c : ℕ) : Type 0 where
-  pub after_header : run.start + wanted.header ≤ c
-  pub meets : Meets wanted.spot c
+pub record IsAllowed (wanted : Wanted) (size : ℕ) (run : CellRange) (c : ℕ) : Type 0 where
+  pub after_header : run.start + wanted.metadata_len ≤ c
+  pub meets : Allows wanted.spot c
   pub ends : c + wanted.len ≤ limit_of wanted.spot size run.end
 
-abbrev pub HasNoRoom : Wanted → ℕ → Freed → Type 0
+abbrev pub HasNoRoom : Wanted → ℕ → CellRange → Type 0
 HasNoRoom wanted size run = (c : ℕ) → IsAllowed wanted size run c → ⊥
 
 -- the header stands at the largest multiple of 64 that leaves it room
 pub record IsHeaderOf (wanted : Wanted) (place : Place) : Type 0 where
   pub aligned : place.header % 64 ≡ 0
-  pub room : place.header + wanted.header ≤ place.content
-  pub largest : place.content < place.header + 64 + wanted.header
+  pub room : place.header + wanted.metadata_len ≤ place.content
+  pub largest : place.content < place.header + 64 + wanted.metadata_len
 
 -- a component fits there, in a region of this size
 pub record Fits (wanted : Wanted) (size : ℕ) (place : Place) : Type 0 where
@@ -62,9 +62,9 @@ pub record Fits (wanted : Wanted) (size : ℕ) (place : Place) : Type 0 where
   pub inside : place.content + wanted.len ≤ place.run.end
 
 -- the first of these runs with an allowed place, and its least one
-pub record IsFirstPlace (wanted : Wanted) (size : ℕ) (runs : List Freed) (place : Place) : Type 0 where
-  pub before : List Freed
-  pub later : List Freed
+pub record IsFirstPlace (wanted : Wanted) (size : ℕ) (runs : List CellRange) (place : Place) : Type 0 where
+  pub before : List CellRange
+  pub later : List CellRange
   pub whole : runs ≡ before ++ place.run ∷ later
   pub none_before : All (HasNoRoom wanted size) before
   pub allowed : IsAllowed wanted size place.run place.content
@@ -72,7 +72,7 @@ pub record IsFirstPlace (wanted : Wanted) (size : ℕ) (runs : List Freed) (plac
   pub header : IsHeaderOf wanted place
 
 -- the place among these runs, or none
-abbrev pub IsPlaceAmong : Wanted → ℕ → List Freed → Option Place → Type 0
+abbrev pub IsPlaceAmong : Wanted → ℕ → List CellRange → Option Place → Type 0
 IsPlaceAmong wanted size runs found = MatchOption found (All (HasNoRoom wanted size) runs) (IsFirstPlace wanted size runs)
 
 -- ---- as a function
@@ -84,14 +84,14 @@ least_from (Aligned unit) from = next_multiple_of from unit
 least_from (Fixed place) from = place
 
 -- the least allowed place in a run, in which a header before it and the content from there on lie
-abbrev pub place_in : Wanted → ℕ → Freed → Option Place
+abbrev pub place_in : Wanted → ℕ → CellRange → Option Place
 place_in wanted size run =
-    let c = least_from wanted.spot (run.start + wanted.header) in
-    if nat_le (run.start + wanted.header) c && nat_le (c + wanted.len) (limit_of wanted.spot size run.end)
-    then Some (record { run = run; header = (c - wanted.header) / 64 * 64; content = c }) else None
+    let c = least_from wanted.spot (run.start + wanted.metadata_len) in
+    if nat_le (run.start + wanted.metadata_len) c && nat_le (c + wanted.len) (limit_of wanted.spot size run.end)
+    then Some (record { run = run; header = (c - wanted.metadata_len) / 64 * 64; content = c }) else None
 
 -- the first of the places that these runs have
-abbrev pub first_place : Wanted → ℕ → List Freed → Option Place
+abbrev pub first_place : Wanted → ℕ → List CellRange → Option Place
 first_place wanted size runs = slice_get (filter_map (place_in wanted size) runs) 0
 
 -- ---- with its refusals

@@ -6,13 +6,13 @@ use Rattle.flash_format.specs.Components.{Component, components}
 use Rattle.flash_format.specs.Cut.{End, cut}
 use Rattle.flash_store.specs.Bytes.{overwritten}
 use Rattle.cbfs_walk.specs.Finding.{IsFirstOf, not_found}
-use Rattle.cbfs_walk.specs.Shapes.{shape, refused_or}
+use Rattle.cbfs_walk.specs.Shapes.{shape_fault, refused_or}
 use Rattle.cbfs_walk.specs.Shaped.{place_after}
 use Rattle.cbfs_edit.specs.Refusals.{refusal_of}
 use Rattle.cbfs_edit.specs.Groups.{group_of}
 use Rattle.cbfs_edit.specs.declared.fault.EditFault.{EditFault}
 use Rattle.cbfs_edit.specs.declared.fault.EditFault.TheVariants.{NotFound}
-use Rattle.cbfs_edit.specs.declared.group.Freed.{Freed}
+use Rattle.cbfs_edit.specs.declared.group.CellRange.{CellRange}
 
 abbrev pub last_four : List ℕ → List ℕ
 last_four x = drop (length x - 4) x
@@ -26,7 +26,7 @@ abbrev pub space_end : ℕ → ℕ → ℕ
 space_end size end = if end == size then end - 4 else end
 
 -- a region with one empty entry in place of a group
-abbrev pub removed : List ℕ → Freed → List ℕ
+abbrev pub removed : List ℕ → CellRange → List ℕ
 removed x group = overwritten x group.start (empty_entry (group.end - group.start) (kept_at x group.end))
 
 -- one component is gone, the first of a name, and all others are as they were, and so is the end of the cells
@@ -43,8 +43,8 @@ unless_damaged at end otherwise = result_and (result_map_both (λ none. none) re
 -- a region's own refusal comes first: its size, no entry at its start, or a damage
 abbrev pub unless_unsound : {A : Type 0} → List ℕ → Result A EditFault → Result A EditFault
 unless_unsound x otherwise =
-    refused_or (λ fault. Err (refusal_of fault)) (shape x) (unless_damaged (place_after 0 (cut x).cells) (cut x).end otherwise)
+    refused_or (λ fault. Err (refusal_of fault)) (shape_fault x) (unless_damaged (place_after 0 (cut x).cells) (cut x).end otherwise)
 
 -- the group that a removal takes, or its first refusal
-unfoldable pub removal_in : List ℕ → List ℕ → Result Freed EditFault
+unfoldable pub removal_in : List ℕ → List ℕ → Result CellRange EditFault
 removal_in x name = unless_unsound x (ok_or (group_of x name) NotFound)

@@ -9,7 +9,7 @@ use Rattle.cbfs_edit.specs.Runs.{runs_from}
 use Rattle.cbfs_edit.specs.Places.{Fits, IsWanted, first_place, unless_exists}
 use Rattle.cbfs_edit.specs.declared.fault.EditFault.{EditFault}
 use Rattle.cbfs_edit.specs.declared.fault.EditFault.TheVariants.{NotFound}
-use Rattle.cbfs_edit.specs.declared.group.Freed.{Freed}
+use Rattle.cbfs_edit.specs.declared.group.CellRange.{CellRange}
 use Rattle.cbfs_edit.specs.declared.group.Search.{Search}
 use Rattle.cbfs_edit.specs.declared.group.Search.TheVariants.{Looking, Growing, Whole}
 use Rattle.cbfs_edit.specs.declared.place.Survey.{Survey}
@@ -17,7 +17,7 @@ use Rattle.cbfs_edit.specs.declared.place.Wanted.{Wanted}
 use Rattle.cbfs_edit.specs.declared.place.Place.{Place}
 
 -- the group that a search for a name comes to, where the first of the cells that are left stands at a place
-abbrev pub group_by : List ℕ → Search → ℕ → List (List ℕ) → Result Freed EditFault
+abbrev pub group_by : List ℕ → Search → ℕ → List (List ℕ) → Result CellRange EditFault
 group_by name (Looking start) at cells = ok_or (group_from name start at cells) NotFound
 group_by name (Growing group) at cells = Ok (record { start = group.start; end = row_end group.end cells })
 group_by name (Whole group) at cells = Ok group

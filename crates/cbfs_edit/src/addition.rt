@@ -9,7 +9,7 @@ ghost use Rattle.flash_store.specs.Device.{Reads, faults_told};
 ghost use Rattle.flash_store.specs.Pages.{HasChanged, OnHonestIn};
 ghost use Rattle.flash_store.specs.Regions.{LiesIn};
 ghost use Rattle.cbfs_edit.specs.Changes.{OnHonestChange, HasCopied};
-ghost use Rattle.cbfs_edit.specs.Additions.{added, added_to, addition_in, digest_of, is_bad_name, labelled, new_component, own_fault, placed_of, wanted_for};
+ghost use Rattle.cbfs_edit.specs.Additions.{added, added_to, addition_in, digest_of, is_bad_name, component_of_label, new_component, own_fault, placed_of, wanted_for};
 ghost use Rattle.cbfs_edit.specs.Places.{Fits};
 ghost use Rattle.cbfs_edit.specs.Refusals.{by_device, by_source};
 ghost use Rattle.cbfs_edit.specs.Stops.{AddLeavesBefore, AddLeavesWhole, IsInsertStop, written_to};
@@ -35,10 +35,12 @@ pub enum HashChoice {
     Sha512,
 }
 
-/// Where a new component stands, counted from the region's start: its head, at a multiple of 64, and its content.
+/// Where a new component stands, counted from the region's start.
 #[derive(Clone, Copy, Debug, PartialEq, Eq)]
 pub struct Placed {
+    /// Where its head begins, a multiple of 64.
     pub header: u64,
+    /// Where its content begins.
     pub content: u64,
 }
 
@@ -123,10 +125,10 @@ fn meta_of<'a>(
 /// What a place is looked for, with so many bytes of content.
 fn wanted_of(label: &Label<'_>, len: u64, spot: Spot) -> Wanted
     requires { length label.now.name.now ≤ 127 }
-    ensures { (content : List ℕ) → len ≡ length content → result ≡ wanted_for (labelled label.now content) spot }
+    ensures { (content : List ℕ) → len ≡ length content → result ≡ wanted_for (component_of_label label.now content) spot }
 {
     Wanted {
-        header: meta_len(label.name.len(), attribute_len(label.hash)) as u64,
+        metadata_len: meta_len(label.name.len(), attribute_len(label.hash)) as u64,
         len,
         spot,
     }
@@ -144,7 +146,7 @@ fn insert<F: Flash, S: Source>(
     requires region { LiesIn region (F.facts paged.old.device).content }
     requires fits { Fits wanted region.size place }
     requires name { length label.now.name.now ≤ 127 }
-    requires wanted { wanted ≡ wanted_for (labelled label.now (S.facts source.old).content) wanted.spot }
+    requires wanted { wanted ≡ wanted_for (component_of_label label.now (S.facts source.old).content) wanted.spot }
 
     ensures after { HasChanged F.facts region (region.size / 4096 + region.size / 4096 + 6) (faults_told copies.by_device result)
         paged.old paged.new }
@@ -154,17 +156,17 @@ fn insert<F: Flash, S: Source>(
 
     // On an honest device.
     ensures added { OnHonestChange F.facts region paged.old paged.new (λ x y. IsTrue (S.facts source.old).honest →
-        OnOk result (y ≡ added x (labelled label.now (S.facts source.old).content) place)) }
+        OnOk result (y ≡ added x (component_of_label label.now (S.facts source.old).content) place)) }
     ensures stopped { OnHonestChange F.facts region paged.old paged.new (λ x y. OnErr result
         (IsInsertStop place.run (written_to region.size wanted.len place)
         ((IsErrOf result CopyFault.Source → ⊥) × (IsTrue (S.facts source.old).honest →
-        y ≡ added x (labelled label.now (S.facts source.old).content) place)) x y)) }
+        y ≡ added x (component_of_label label.now (S.facts source.old).content) place)) x y)) }
 {
     paged.places_fit();
     let end = (place.content + wanted.len + 63) / 64 * 64;
     write_empty_entry(paged, region, place.run)?;
     let digest = copy_content(paged, region, place.content, label.hash, source)?;
-    let gap = (place.content - place.header - wanted.header) as u32;
+    let gap = (place.content - place.header - wanted.metadata_len) as u32;
     let meta = meta_of(label.name, label.kind, wanted.len as u32, gap, &digest);
     describe(paged, region, place, end, &meta)?;
     Ok(())

@@ -6,7 +6,7 @@ ghost use Rattle.cbfs_edit.specs.Groups.{IsCellRange};
 ghost use Rattle.cbfs_edit.specs.Removals.{removed, space_end};
 ghost use Rattle.cbfs_edit.specs.Stops.{IsOldOrEmptied};
 
-use crate::group::Freed;
+use crate::group::CellRange;
 use crate::write::{commit_in, fill_in};
 use flash_format::{HEADER_LENGTH, empty_header};
 use flash_store::{Flash, FlashFault, Paged, Region};
@@ -15,7 +15,7 @@ use flash_store::{Flash, FlashFault, Paged, Region};
 pub fn write_empty_entry<F: Flash>(
     paged: &mut Paged<F>,
     region: Region,
-    group: Freed,
+    group: CellRange,
 ) -> Result<(), FlashFault>
     requires region { LiesIn region (F.facts paged.old.device).content }
     requires group { IsCellRange group region.size }

@@ -11,7 +11,7 @@ ghost use Rattle.cbfs_edit.specs.Removals.{last_four};
 
 use crate::empty_entry::write_empty_entry;
 use crate::fault::EditFault;
-use crate::group::Freed;
+use crate::group::CellRange;
 use flash_store::{Flash, Paged, Region};
 
 /// Makes the whole region one empty entry, whatever it holds, damaged or no CBFS at all. Its last four bytes are kept.
@@ -38,7 +38,7 @@ pub fn format<F: Flash>(paged: &mut Paged<F>, region: Region) -> Result<(), Edit
     if end == 0 || end % 64 != 0 {
         return Err(EditFault::RegionShape);
     }
-    match write_empty_entry(paged, region, Freed { start: 0, end }) {
+    match write_empty_entry(paged, region, CellRange { start: 0, end }) {
         Ok(()) => Ok(()),
         Err(_) => Err(EditFault::Device),
     }

@@ -14,13 +14,15 @@ use crate::fault::{EditFault, refusal_of};
 use cbfs_walk::{Cell, Step, Walk, cells_stand_in_their_image, name_is};
 use flash_store::{Flash, FlashFault, Paged, Region};
 
-/// The bytes that a removal makes free space, in place of a component and the free space beside it: from `start` up to
-/// `end`, counted from the region's start, both multiples of 64.
+/// Neighbouring cells of a region, from `start` up to `end`: both are counted from the region's start, and multiples of 64.
 #[derive(Clone, Copy, Debug, PartialEq, Eq)]
-pub struct Freed {
+pub struct CellRange {
     pub start: u64,
     pub end: u64,
 }
+
+/// What a removal makes free space: a component, and the free cells that touch it.
+pub type Freed = CellRange;
 
 /// How far the search has come.
 #[derive(Clone, Copy)]
@@ -28,8 +30,8 @@ pub enum Search {
     /// No component of the name yet. The free cells right before the walk's place begin here.
     Looking { start: u64 },
     /// The component with free cells on both sides, up to the walk's place.
-    Growing(Freed),
-    Whole(Freed),
+    Growing(CellRange),
+    Whole(CellRange),
 }
 
 /// The first component of the name with the free cells that touch it. The walk goes to the region's end, so that a
@@ -38,7 +40,7 @@ pub fn find_group<F: Flash>(
     paged: &mut Paged<F>,
     region: Region,
     name: &[u8],
-) -> Result<Freed, EditFault>
+) -> Result<CellRange, EditFault>
     requires { LiesIn region (F.facts paged.old.device).content }
 
     // On any device.
@@ -93,13 +95,13 @@ fn pass<F: Flash>(
                 return Ok(Search::Looking { start });
             }
             if name_is(paged, region, cell, name)? {
-                return Ok(Search::Growing(Freed { start, end }));
+                return Ok(Search::Growing(CellRange { start, end }));
             }
             Ok(Search::Looking { start: end })
         }
         Search::Growing(group) => {
             if cell.head.is_free() {
-                return Ok(Search::Growing(Freed {
+                return Ok(Search::Growing(CellRange {
                     start: group.start,
                     end: group.end + cell.span,
                 }));
@@ -112,7 +114,7 @@ fn pass<F: Flash>(
 
 /// What the search has found where the cells end.
 #[tactic(auto, unfolding(crate::specs::Groups::by_rows))]
-fn group_in(search: Search) -> Result<Freed, EditFault>
+fn group_in(search: Search) -> Result<CellRange, EditFault>
     ensures is { (name : List ℕ) (at : ℕ) → result ≡ group_by name search at [] }
     ensures group { IfOk result (λ group. (at size : ℕ) → IsBefore at search → at ≤ size → IsCellRange group size) }
     ensures fault { IfErr result (λ fault. fault ≡ EditFault.NotFound) }

@@ -4,10 +4,10 @@
 //! written between the two commits is free space.
 ghost use Rattle.std.specs.Prelude.{◌≡◌, ◌⊎◌, ◌-◌, ◌%◌, ◌^◌, ◌<◌, ◌≤◌, length};
 ghost use Rattle.flash_format.specs.Head.{header_length};
-ghost use Rattle.flash_format.specs.Made.{described, described_len};
+ghost use Rattle.flash_format.specs.Made.{metadata_of, described_len};
 ghost use Rattle.flash_store.specs.Regions.{LiesIn};
 ghost use Rattle.cbfs_edit.specs.Changes.{HasWrittenIn};
-ghost use Rattle.cbfs_edit.specs.Insertions.{HasRoom, IsUnfinished, bounded, finished, with_metadata, held_back, shown_by};
+ghost use Rattle.cbfs_edit.specs.Insertions.{HasRoom, IsUnfinished, with_bound, with_component, with_metadata, held_back, shown_by};
 
 use crate::place::Place;
 use crate::write::{commit_in, write_in};
@@ -53,7 +53,7 @@ fn write_bound<F: Flash>(
     requires region { LiesIn region (F.facts paged.old.device).content }
     requires room { HasRoom region.size place end (place.content - place.header) }
 
-    ensures { HasWrittenIn F.facts region 1 (λ x. bounded x end place.run.end)
+    ensures { HasWrittenIn F.facts region 1 (λ x. with_bound x end place.run.end)
         (IsUnfinished place) paged.old paged.new result }
 {
     if end == place.run.end {
@@ -93,8 +93,8 @@ fn show<F: Flash>(
     requires region { LiesIn region (F.facts paged.old.device).content }
     requires room { HasRoom region.size place end (length metadata.now) }
 
-    ensures { HasWrittenIn F.facts region 3 (λ x. finished x place end metadata.now)
-        (λ x y. (y ≡ finished x place end metadata.now) ⊎ IsUnfinished place x y) paged.old paged.new result }
+    ensures { HasWrittenIn F.facts region 3 (λ x. with_component x place end metadata.now)
+        (λ x y. (y ≡ with_component x place end metadata.now) ⊎ IsUnfinished place x y) paged.old paged.new result }
 {
     write_metadata(paged, region, place, end, metadata)?;
     write_bound(paged, region, place, end)?;
@@ -115,9 +115,9 @@ pub fn describe<F: Flash>(
     requires name { length meta.now.name.now ≤ 127 }
     requires gap { meta.now.gap < 64 }
 
-    ensures metadata { length (described meta.now) ≡ described_len meta.now }
-    ensures after { HasWrittenIn F.facts region 3 (λ x. finished x place end (described meta.now))
-        (λ x y. (y ≡ finished x place end (described meta.now)) ⊎ IsUnfinished place x y) paged.old paged.new result }
+    ensures metadata { length (metadata_of meta.now) ≡ described_len meta.now }
+    ensures after { HasWrittenIn F.facts region 3 (λ x. with_component x place end (metadata_of meta.now))
+        (λ x y. (y ≡ with_component x place end (metadata_of meta.now)) ⊎ IsUnfinished place x y) paged.old paged.new result }
 {
     let mut metadata = [0; LONGEST_METADATA];
     let n = write_meta(meta, &mut metadata);

@@ -22,7 +22,7 @@ pub use addition::{HashChoice, Placed, add};
 pub use edit::{Edit, Reply, apply_all};
 pub use fault::EditFault;
 pub use formatting::format;
-pub use group::Freed;
+pub use group::{CellRange, Freed};
 pub use laws::{
     additions_add_one_component, additions_are_found, additions_are_undone, edits_keep_the_others,
     emptied_groups_lack_the_component, emptied_runs_keep_the_components,

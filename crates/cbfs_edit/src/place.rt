@@ -13,7 +13,7 @@ ghost use Rattle.cbfs_edit.specs.Searches.{IsSurvey, place_by};
 
 use crate::empty_entry::space_end;
 use crate::fault::{EditFault, refusal_of};
-use crate::group::Freed;
+use crate::group::CellRange;
 use cbfs_walk::{Cell, Step, Walk, cells_stand_in_their_image, name_is};
 use flash_store::{Flash, FlashFault, Paged, Region};
 
@@ -30,28 +30,36 @@ pub enum Spot {
     Fixed(u32),
 }
 
-/// What a place is looked for: so many bytes before the content, so many of content, and where it may begin.
+/// What a place is looked for.
 #[derive(Clone, Copy, Debug, PartialEq, Eq)]
 pub struct Wanted {
-    pub header: u64,
+    /// How many bytes of metadata stand before the content, besides a gap.
+    pub metadata_len: u64,
+    /// How many bytes the content has.
     pub len: u64,
+    /// Where the content may begin.
     pub spot: Spot,
 }
 
-/// Where a component is put: the run of free cells, and in it the component's head and its content.
+/// Where a component is put, counted from the region's start.
 #[derive(Clone, Copy, Debug, PartialEq, Eq)]
 pub struct Place {
-    pub run: Freed,
+    /// The run of free cells that it is put into.
+    pub run: CellRange,
+    /// Where its head begins.
     pub header: u64,
+    /// Where its content begins.
     pub content: u64,
 }
 
-/// How far the search has come: the free cells right before the walk's place, whether a component before it has the
-/// name, and the first place in the runs before those cells.
+/// How far the search has come.
 #[derive(Clone, Copy)]
 pub struct Survey {
-    pub row: Freed,
+    /// The free cells right before the walk's place.
+    pub row: CellRange,
+    /// Whether a component before it has the name.
     pub exists: bool,
+    /// The first place in the runs before those cells.
     pub place: Option<Place>,
 }
 
@@ -77,7 +85,7 @@ pub fn find_place<F: Flash>(
     paged.places_fit();
     let mut walk = Walk::new(region);
     let mut survey = Survey {
-        row: Freed { start: 0, end: 0 },
+        row: CellRange { start: 0, end: 0 },
         exists: false,
         place: None,
     };
@@ -119,7 +127,7 @@ fn pass<F: Flash>(
     let end = survey.row.end + cell.span;
     if cell.head.is_free() {
         return Ok(Survey {
-            row: Freed {
+            row: CellRange {
                 start: survey.row.start,
                 end,
             },
@@ -130,7 +138,7 @@ fn pass<F: Flash>(
     let named = name_is(paged, region, cell, name)?;
     let place = close(wanted, region, survey);
     Ok(Survey {
-        row: Freed { start: end, end },
+        row: CellRange { start: end, end },
         exists: survey.exists | named,
         place,
     })
@@ -175,7 +183,7 @@ fn close(wanted: Wanted, region: Region, survey: Survey) -> Option<Place>
 
 /// The place in a run: the content at the least allowed place there, and the head at the last multiple of 64 that leaves
 /// room for the metadata before it.
-fn place_in(wanted: Wanted, region: Region, run: Freed) -> Option<Place>
+fn place_in(wanted: Wanted, region: Region, run: CellRange) -> Option<Place>
     requires wanted { IsWanted wanted }
     requires run { IsCellRange run region.size }
     requires small { region.size < 2 ^ 32 }
@@ -183,7 +191,7 @@ fn place_in(wanted: Wanted, region: Region, run: Freed) -> Option<Place>
     ensures is { result ≡ place_in wanted region.size run }
     ensures fits { IfSome result (Fits wanted region.size) }
 {
-    let from = run.start + wanted.header;
+    let from = run.start + wanted.metadata_len;
     let content = least_from(wanted.spot, from);
     if content < from {
         return None;
@@ -194,7 +202,7 @@ fn place_in(wanted: Wanted, region: Region, run: Freed) -> Option<Place>
     }
     Some(Place {
         run,
-        header: (content - wanted.header) / 64 * 64,
+        header: (content - wanted.metadata_len) / 64 * 64,
         content,
     })
 }

@@ -12,7 +12,7 @@ use Rattle.cbfs_edit.specs.declared.addition.HashChoice.TheVariants.{Plain, Sha2
 use Rattle.cbfs_edit.specs.declared.place.Spot.TheVariants.{Aligned, Fixed}
 use Rattle.cbfs_commands.specs.declared.refusal.Refusal.{Refusal}
 use Rattle.cbfs_commands.specs.declared.refusal.Refusal.TheVariants as refusals
-use Rattle.cbfs_line.specs.CommandLine.{command_line, command_of, creation_of, names_in, text_of, texts_of}
+use Rattle.cbfs_line.specs.CommandLine.{command_line, command_of, creation_of, names_in, option_text, texts_of}
 
 abbrev asked_by : List (List ℕ) → Option (Result Request Refusal)
 asked_by words = option_map command_of (texts_of words)
@@ -88,7 +88,7 @@ letters_and_texts_in_one_word : asked_by (codes "img" ∷ codes "write" ∷ code
 unfolding clap_on_literals
 letters_and_texts_in_one_word = refl
 
-a_file : option_map (text_of (codes "file")) (texts_of (codes "img" ∷ codes "extract" ∷ codes "-n" ∷ codes "a" ∷ codes "-f" ∷ codes "x y" ∷ [])) ≡ Some (Some (codes "x y"))
+a_file : option_map (option_text (codes "file")) (texts_of (codes "img" ∷ codes "extract" ∷ codes "-n" ∷ codes "a" ∷ codes "-f" ∷ codes "x y" ∷ [])) ≡ Some (Some (codes "x y"))
 unfolding clap_on_literals
 a_file = refl
 
@@ -96,7 +96,7 @@ a_creation : asked_by (codes "img" ∷ codes "create" ∷ codes "-M" ∷ codes "
 unfolding clap_on_literals
 a_creation = refl
 
-a_flashmap : option_map (text_of (codes "file")) (texts_of (codes "img" ∷ codes "create" ∷ codes "-M" ∷ codes "t" ∷ codes "-r" ∷ codes "B,C" ∷ [])) ≡ Some (Some (codes "t"))
+a_flashmap : option_map (option_text (codes "file")) (texts_of (codes "img" ∷ codes "create" ∷ codes "-M" ∷ codes "t" ∷ codes "-r" ∷ codes "B,C" ∷ [])) ≡ Some (Some (codes "t"))
 unfolding clap_on_literals
 a_flashmap = refl
 

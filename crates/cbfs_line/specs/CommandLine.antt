@@ -87,21 +87,21 @@ texts_of [] = None
 texts_of (image ∷ rest) = option_map (with_image image) (clap.subcommand_of command_line rest)
 
 -- the text of an option
-abbrev pub text_of : List ℕ → Texts → Option (List ℕ)
-text_of id t = first_of id t.options
+abbrev pub option_text : List ℕ → Texts → Option (List ℕ)
+option_text id t = first_of id t.options
 
 -- the region of a line without `-r`
 abbrev pub region_named : Texts → List ℕ
-region_named t = unwrap_or (text_of (codes "region") t) (codes "COREBOOT")
+region_named t = unwrap_or (option_text (codes "region") t) (codes "COREBOOT")
 
 -- whether `-v` stands there, whose text clap gives
 abbrev pub verbose_by : Option (List ℕ) → Bool
-verbose_by text = option_map_or (λ given. bytes_eq given (codes "true")) text false
+verbose_by text = option_map_or (λ told. bytes_eq told (codes "true")) text false
 
 -- where an option that is required is there
-abbrev pub given : Option (List ℕ) → Result Request Refusal → Result Request Refusal
-given None r = Err refusals.Usage
-given (Some text) r = r
+abbrev pub unless_missing : Option (List ℕ) → Result Request Refusal → Result Request Refusal
+unless_missing None r = Err refusals.Usage
+unless_missing (Some text) r = r
 
 -- where content shall begin: by the text of `-a` or that of `-b`, of which at most one is there
 abbrev pub spot_by : Option (List ℕ) → Option (List ℕ) → Option Spot
@@ -137,18 +137,18 @@ creation_of names = if nat_lt 16 (length names) || list_any (λ name. length nam
 -- the command that the texts ask for
 abbrev pub command_of : Texts → Result Request Refusal
 command_of t =
-    if bytes_eq t.subcommand (codes "print") then Ok (requests.on_region (region_named t) (requests.print (verbose_by (text_of (codes "verbose") t))))
+    if bytes_eq t.subcommand (codes "print") then Ok (requests.on_region (region_named t) (requests.print (verbose_by (option_text (codes "verbose") t))))
     else (if bytes_eq t.subcommand (codes "layout") then Ok requests.layout
     else (if bytes_eq t.subcommand (codes "extract") then
-    given (text_of (codes "file") t) (given (text_of (codes "name") t) (Ok (requests.on_region (region_named t) (requests.extract (unwrap_or (text_of (codes "name") t) [])))))
+    unless_missing (option_text (codes "file") t) (unless_missing (option_text (codes "name") t) (Ok (requests.on_region (region_named t) (requests.extract (unwrap_or (option_text (codes "name") t) [])))))
     else (if bytes_eq t.subcommand (codes "add") then
-    addition (region_named t) (text_of (codes "name") t) (text_of (codes "file") t) (option_and_then type_of_text (text_of (codes "type") t)) (hash_by (text_of (codes "hash") t)) (spot_by (text_of (codes "alignment") t) (text_of (codes "base") t))
-    else (if bytes_eq t.subcommand (codes "remove") then given (text_of (codes "name") t) (Ok (requests.on_region (region_named t) (requests.remove (unwrap_or (text_of (codes "name") t) []))))
-    else (if bytes_eq t.subcommand (codes "read") then given (text_of (codes "file") t) (Ok (requests.on_region (region_named t) requests.read))
-    else (if bytes_eq t.subcommand (codes "write") then given (text_of (codes "file") t) (Ok (requests.on_region (region_named t) requests.write))
-    else (if bytes_eq t.subcommand (codes "create") then given (text_of (codes "file") t) (creation_of (names_in (region_named t)))
+    addition (region_named t) (option_text (codes "name") t) (option_text (codes "file") t) (option_and_then type_of_text (option_text (codes "type") t)) (hash_by (option_text (codes "hash") t)) (spot_by (option_text (codes "alignment") t) (option_text (codes "base") t))
+    else (if bytes_eq t.subcommand (codes "remove") then unless_missing (option_text (codes "name") t) (Ok (requests.on_region (region_named t) (requests.remove (unwrap_or (option_text (codes "name") t) []))))
+    else (if bytes_eq t.subcommand (codes "read") then unless_missing (option_text (codes "file") t) (Ok (requests.on_region (region_named t) requests.read))
+    else (if bytes_eq t.subcommand (codes "write") then unless_missing (option_text (codes "file") t) (Ok (requests.on_region (region_named t) requests.write))
+    else (if bytes_eq t.subcommand (codes "create") then unless_missing (option_text (codes "file") t) (creation_of (names_in (region_named t)))
     else Err refusals.Usage)))))))
 
-abbrev pub seen : Result Command Refusal → Result Request Refusal
-seen (Ok command) = Ok (request_of command)
-seen (Err refusal) = Err refusal
+abbrev pub request_answer : Result Command Refusal → Result Request Refusal
+request_answer (Ok command) = Ok (request_of command)
+request_answer (Err refusal) = Err refusal

@@ -3,7 +3,7 @@
 ghost use Rattle.std.specs.Prelude.{◌≡◌, ◌≢◌, ◌<◌, ◌⊎◌, [], ◌∷◌, length, Some, IfSome, IfOk, IfErr, codes, drop, map, option_map, option_and_then, true};
 ghost use Rattle.flash_format.specs.TypeNames.{type_of_text};
 ghost use Rattle.clap.specs.Words.{fault_of, has_subcommand, kind_of, subcommand_rows_of};
-ghost use Rattle.cbfs_line.specs.CommandLine.{addition, command_line, command_of, creation_of, hash_by, names_in, names_of, refusal_by, seen, spot_by, text_of, texts_of, verbose_by, with_image};
+ghost use Rattle.cbfs_line.specs.CommandLine.{addition, command_line, command_of, creation_of, hash_by, names_in, names_of, refusal_by, request_answer, spot_by, option_text, texts_of, verbose_by, with_image};
 
 use crate::words::whole_command;
 use arrayvec::ArrayVec;
@@ -49,14 +49,14 @@ impl<'a> Line<'a> {
 
     /// The path that `-f` gives, or for `create` `-M`.
     pub fn file(&self) -> Option<&'a str>
-        ensures { option_map (λ t. t.now) result ≡ text_of (codes "file") self.now }
+        ensures { option_map (λ t. t.now) result ≡ option_text (codes "file") self.now }
     {
         self.option("file")
     }
 
     /// The text of an option.
     fn option(&self, id: &str) -> Option<&'a str>
-        ensures { option_map (λ t. t.now) result ≡ text_of id.now self.now }
+        ensures { option_map (λ t. t.now) result ≡ option_text id.now self.now }
     {
         self.options.get_str(id)
     }
@@ -64,7 +64,7 @@ impl<'a> Line<'a> {
     /// The command that the words ask for. Refused as a bad command line where the subcommand is none of
     /// ours, or where an option that it requires is missing.
     pub fn command(&self) -> Result<Command<'a>, Refusal>
-        ensures { seen result ≡ command_of self.now }
+        ensures { request_answer result ≡ command_of self.now }
     {
         let regions = self.option("region").unwrap_or(DEFAULT_REGION);
         let region = regions.as_bytes();
@@ -98,10 +98,10 @@ impl<'a> Line<'a> {
 
     /// The addition that the words ask for.
     fn addition(&self, region: &'a [u8]) -> Result<Command<'a>, Refusal>
-        ensures { seen result ≡ addition region.entry.now (text_of (codes "name") self.now)
-            (text_of (codes "file") self.now) (option_and_then type_of_text (text_of (codes "type") self.now))
-            (hash_by (text_of (codes "hash") self.now))
-            (spot_by (text_of (codes "alignment") self.now) (text_of (codes "base") self.now)) }
+        ensures { request_answer result ≡ addition region.entry.now (option_text (codes "name") self.now)
+            (option_text (codes "file") self.now) (option_and_then type_of_text (option_text (codes "type") self.now))
+            (hash_by (option_text (codes "hash") self.now))
+            (spot_by (option_text (codes "alignment") self.now) (option_text (codes "base") self.now)) }
     {
         let (Some(name), Some(_)) = (self.option("name"), self.file()) else {
             return Err(Refusal::Usage);
@@ -120,7 +120,7 @@ impl<'a> Line<'a> {
 
     /// Whether `-v` stands there.
     fn verbose(&self) -> bool
-        ensures { result ≡ verbose_by (text_of (codes "verbose") self.now) }
+        ensures { result ≡ verbose_by (option_text (codes "verbose") self.now) }
     {
         match self.option("verbose") {
             Some(text) => text == "true",
@@ -130,7 +130,7 @@ impl<'a> Line<'a> {
 
     /// The type that `-t` gives.
     fn kind(&self) -> Option<u32>
-        ensures { result ≡ option_and_then type_of_text (text_of (codes "type") self.now) }
+        ensures { result ≡ option_and_then type_of_text (option_text (codes "type") self.now) }
     {
         match self.option("type") {
             Some(text) => type_number(text),
@@ -140,7 +140,7 @@ impl<'a> Line<'a> {
 
     /// The digest that `-A` asks for.
     fn hash(&self) -> Option<HashChoice>
-        ensures { result ≡ hash_by (text_of (codes "hash") self.now) }
+        ensures { result ≡ hash_by (option_text (codes "hash") self.now) }
     {
         match self.option("hash") {
             None => Some(HashChoice::Plain),
@@ -152,7 +152,7 @@ impl<'a> Line<'a> {
 
     /// Where the content of a new component shall begin.
     fn spot(&self) -> Option<Spot>
-        ensures { result ≡ spot_by (text_of (codes "alignment") self.now) (text_of (codes "base") self.now) }
+        ensures { result ≡ spot_by (option_text (codes "alignment") self.now) (option_text (codes "base") self.now) }
     {
         match (self.option("alignment"), self.option("base")) {
             (None, None) => Some(Spot::First),
@@ -166,7 +166,7 @@ impl<'a> Line<'a> {
 /// The creation of an image with the regions of a list. Refused as a bad command line where a name is empty, or where there
 /// are more than 16.
 fn creation<'a>(list: &'a str) -> Result<Command<'a>, Refusal>
-    ensures { seen result ≡ creation_of (names_in list.entry.now) }
+    ensures { request_answer result ≡ creation_of (names_in list.entry.now) }
 {
     let mut regions: ArrayVec<&[u8], MOST_REGIONS> = ArrayVec::new();
     let mut rest = Some(list);

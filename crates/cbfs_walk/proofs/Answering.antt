@@ -7,7 +7,7 @@ use Rattle.flash_format.specs.declared.head.Head.{Head}
 use Rattle.flash_format.specs.declared.head.Extent.{Extent}
 use Rattle.flash_format.specs.declared.head.DamageKind.{DamageKind}
 use Rattle.flash_format.specs.declared.head.DamageKind.TheVariants as kinds
-use Rattle.flash_format.specs.Head.{head_of, is_free, checked}
+use Rattle.flash_format.specs.Head.{head_of, is_free, extent_of}
 use Rattle.flash_format.specs.Attributes.{attributes}
 use Rattle.flash_format.specs.Entry.{Entry, absent, damaged, cell, entry, front, present, component, has_name, name_field, attribute_field}
 use Rattle.flash_format.proofs.CutSteps.{front_some}
@@ -22,7 +22,7 @@ use Rattle.cbfs_walk.specs.Passing.{Passes, reads_over}
 use Rattle.cbfs_walk.proofs.Checks.{checks_give, entry_present}
 use Rattle.cbfs_walk.proofs.Reading.{Passes-then}
 use Rattle.cbfs_walk.specs.Shapes.{has_bad_size, is_absent}
-use Rattle.cbfs_walk.specs.Walks.{Answer, Walking, EndsWalk, by_device, GivesCell, moved, answer_by, answer_of, answer_at, reads_at}
+use Rattle.cbfs_walk.specs.Walks.{Answer, Walking, EndsWalk, by_device, GivesCell, walk_after, answer_by, answer_of, answer_at, reads_at}
 use Rattle.cbfs_walk.specs.declared.walk.Step.TheVariants as steps
 use Rattle.cbfs_walk.specs.declared.walk.WalkFault.TheVariants as faults
 
@@ -88,7 +88,7 @@ present_some h x e = go (is_free h) (has_name (name_field h x)) (is_some (attrib
     go false true false = refl
     go false false formed = refl
 
-pub answer_cell : (x : List ℕ) (at size : ℕ) (h : Head) (e : Extent) (a : Answer) → length x ≡ size → false ≡ has_bad_size size → at < size → Some h ≡ front (drop at x) → Ok e ≡ checked h (size - at)
+pub answer_cell : (x : List ℕ) (at size : ℕ) (h : Head) (e : Extent) (a : Answer) → length x ≡ size → false ≡ has_bad_size size → at < size → Some h ≡ front (drop at x) → Ok e ≡ extent_of h (size - at)
     → (h ≡ head_of (drop at x) → IsErrOf a faults.Device ⊎ (a ≡ answer_of (drop at x) (record { at = at; head = h; span = e.span }))) → IsErrOf a faults.Device ⊎ (a ≡ answer_at x at)
 answer_cell x at size h e a len good inside head checks told = go (told (front_some (drop at x) h (sym head)).2)
   where
@@ -129,7 +129,7 @@ pub ends_cell : (size at : ℕ) (a : Answer) → EndsWalk a → GivesCell size a
 ends_cell size at (Ok (steps.Cell c)) e = absurd e
 ends_cell size at _ e = tt
 
-pub ends_moved : (w : Walking) (a : Answer) → EndsWalk a → w.ended ≡ Some a → w ≡ moved w a
+pub ends_moved : (w : Walking) (a : Answer) → EndsWalk a → w.ended ≡ Some a → w ≡ walk_after w a
 ends_moved w (Ok (steps.Cell c)) e is = absurd e
 ends_moved w (Err faults.Device) e is = absurd e
 ends_moved w _ e is = ap (λ o. record w { ended = o }) is

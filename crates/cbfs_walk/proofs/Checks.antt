@@ -3,7 +3,7 @@ use Rattle.std.proofs.Common.{◌≡◌, ℕ, ◌+◌, ◌-◌, ◌%◌, ◌≤�
 use Rattle.flash_format.specs.declared.head.Head.{Head}
 use Rattle.flash_format.specs.declared.head.Extent.{Extent}
 use Rattle.flash_format.specs.declared.head.DamageKind.{DamageKind}
-use Rattle.flash_format.specs.Head.{is_free, checked, round64}
+use Rattle.flash_format.specs.Head.{is_free, extent_of, round64}
 use Rattle.flash_format.specs.Entry.{absent, entry, front, present, name_end}
 use Rattle.flash_format.proofs.CutSteps.{checked_ok}
 use Rattle.flash_format.proofs.EntryLaws.{name_between}
@@ -44,7 +44,7 @@ checks_give left h span ok =
 pub content_inside : (size : ℕ) (c : Cell) → PassesChecks size c → c.at + (c.head.offset + c.head.len) ≤ size
 content_inside size c ok = let k = checks_give (size - c.at) c.head c.span ok in omega (arith, k.room, k.inside)
 
-pub checked_extent : (h : Head) (left : ℕ) (e : Extent) → Ok e ≡ checked h left → cells.IsChecked left h e.span
+pub checked_extent : (h : Head) (left : ℕ) (e : Extent) → Ok e ≡ extent_of h left → cells.IsChecked left h e.span
 checked_extent h left e is =
     let k = checked_ok h left e (sym is) in
     sym is ∙ ap (λ n. Ok (record { content = n; span = e.span })) k.content
@@ -56,6 +56,6 @@ unfolding entry
 entry_absent x f = rw (← f) refl
 
 -- what stands where a head is, by its checks
-pub entry_present : (x : List ℕ) (h : Head) (left : ℕ) (r : Result Extent DamageKind) → Some h ≡ front x → length x ≡ left → r ≡ checked h left → present h x r ≡ entry x
+pub entry_present : (x : List ℕ) (h : Head) (left : ℕ) (r : Result Extent DamageKind) → Some h ≡ front x → length x ≡ left → r ≡ extent_of h left → present h x r ≡ entry x
 unfolding entry
-entry_present x h left r f n e = rw (← f) (ap (present h x) (e ∙ ap (checked h) (sym n)))
+entry_present x h left r f n e = rw (← f) (ap (present h x) (e ∙ ap (extent_of h) (sym n)))

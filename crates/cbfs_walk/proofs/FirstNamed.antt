@@ -5,7 +5,7 @@ use Rattle.std.proofs.lemmas.List.Elements.{All-nil, All-cons, All-head, All-tai
 use Rattle.std.proofs.lemmas.Slice.Eq.{bytes_eq-Decides}
 use Rattle.flash_format.specs.Cut.{End, damage, cut}
 use Rattle.flash_format.specs.Components.{Component, components}
-use Rattle.cbfs_walk.specs.Shapes.{shape, refused_or}
+use Rattle.cbfs_walk.specs.Shapes.{shape_fault, refused_or}
 use Rattle.cbfs_walk.specs.Shaped.{place_after}
 use Rattle.cbfs_walk.specs.Finding.{Found, IsFirstOf, first_named, not_found, found_or, component_in}
 use Rattle.cbfs_walk.specs.Laws.{FoundIsFirst, FirstIsFound, ListedIsFound}
@@ -63,7 +63,7 @@ first_found x name c good is =
 
 pub found_first : FoundIsFirst
 unfolding component_in
-found_first x name c found = is_first name (components x) c (by_shape (shape x) (first_named name (components x)) found)
+found_first x name c found = is_first name (components x) c (by_shape (shape_fault x) (first_named name (components x)) found)
   where
     none : (at : ℕ) (e : End) → not_found at e ≡ Ok (Some c) → ⊥
     none at (damage kind) is = absurd cc

@@ -21,7 +21,7 @@ use Rattle.cbfs_walk.specs.Passing.{Passes}
 use Rattle.cbfs_walk.specs.Cells.{IsComponentIn, cell_in, attributes_start, content_start, content_end}
 use Rattle.cbfs_walk.specs.Listed.{IsAttrOf, Placed, searched_to}
 use Rattle.cbfs_walk.specs.Walks.{StandsIn}
-use Rattle.cbfs_walk.specs.Hashes.{sha256_of, sha512_of, digest_like, digest_by, stored_digest, compared, state_of, hash_state, content_at, hash_state_in, IsUncompared}
+use Rattle.cbfs_walk.specs.Hashes.{sha256_of, sha512_of, digest_like, digest_by, stored_digest, comparison, state_of, hash_state, content_at, hash_state_in, IsUncompared}
 use Rattle.cbfs_walk.specs.declared.cell.Cell.{Cell}
 use Rattle.cbfs_walk.specs.declared.hashes.HashState.{HashState}
 use Rattle.cbfs_walk.specs.declared.hashes.HashState.TheVariants.{Valid, Invalid}
@@ -129,7 +129,7 @@ read_to_content c tag o found is attribute first second =
     Passes-then (rw is at first) second (le_refl _) (omega arith) (omega (arith, there.inside, there.head))
 
 -- a digest that is compared is not told without the content
-pub compared_is_told : (stored computed : Digest) (state : HashState) → state ≡ compared stored computed → IsUncompared state → ⊥
+pub compared_is_told : (stored computed : Digest) (state : HashState) → state ≡ comparison stored computed → IsUncompared state → ⊥
 compared_is_told stored computed state is = go (bytes_eq (digest_bytes stored) (digest_bytes computed)) is
   where
     go : (b : Bool) → state ≡ cond b (Valid stored) (Invalid stored) → IsUncompared state → ⊥

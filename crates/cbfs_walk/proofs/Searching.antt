@@ -11,8 +11,8 @@ use Rattle.flash_store.specs.Pages.{Pages, HasRead}
 use Rattle.flash_store.specs.Regions.{Range, LiesIn, bytes_in}
 use Rattle.cbfs_walk.specs.Passing.{reads_over}
 use Rattle.cbfs_walk.specs.Cells.{IsCellIn, cell_in}
-use Rattle.cbfs_walk.specs.Walks.{Answer, Walking, walk_of, answer_at, StandsIn, GivesCell, reads_at, by_device, moved}
-use Rattle.cbfs_walk.specs.Shaped.{shaped, ReadsCells, by_answer, place_after}
+use Rattle.cbfs_walk.specs.Walks.{Answer, Walking, walk_of, answer_at, StandsIn, GivesCell, reads_at, by_device, walk_after}
+use Rattle.cbfs_walk.specs.Shaped.{reading_of, ReadsCells, by_answer, place_after}
 use Rattle.cbfs_walk.specs.Finding.{Found, first_named, not_found, found_or, component_in, found_cell}
 use Rattle.cbfs_walk.specs.declared.cell.Cell.{Cell}
 use Rattle.cbfs_walk.specs.declared.walk.Step.{Step}
@@ -38,7 +38,7 @@ each_cell name c given later = cond (not (is_free given.head) && bytes_eq (cell_
 
 -- the search from a place on
 pub found_from : List ℕ → List ℕ → ℕ → Found
-found_from x name at = shaped refused (find_cut name) x at
+found_from x name at = reading_of refused (find_cut name) x at
 
 law : (name : List ℕ) → ReadsCells (find_cut name) (each_cell name)
 unfolding find_cut each_cell components_from
@@ -60,7 +60,7 @@ law name at c k = go (is_free (head_of c))
     go false = named (bytes_eq (cell_name c) name)
 
 pub found_whole : (x name : List ℕ) → component_in x name ≡ found_from x name 0
-unfolding component_in found_from refused find_cut shaped
+unfolding component_in found_from refused find_cut reading_of
 found_whole x name = refl
 
 -- what the search finds, by the answer of the walk
@@ -152,7 +152,7 @@ module _ {F : Type 0} (facts : F → Device) (r : Range) (name : List ℕ) (w : 
         let span = cell_len x r.size c len cell_of_region in
         sym (ap found_cell (found_first e h) ∙ ap (λ (d : Cell). Ok (Some d)) (cell_is c.at c.span (head_of (cell_in x c)) c.head (length (cell_in x c)) head span))
 
-    pub searching_more : (v : Walking) (new : Pages F) → is_it ≡ false → v ≡ moved w (Ok step) → HasRead facts 1 0 mid new → Searching facts r name v old new
+    pub searching_more : (v : Walking) (new : Pages F) → is_it ≡ false → v ≡ walk_after w (Ok step) → HasRead facts 1 0 mid new → Searching facts r name v old new
     searching_more v new e next more = rw (rw is at next) (record {
       region = s.region;
       going = s.going;

@@ -15,20 +15,20 @@ use Rattle.cbfs_walk.specs.declared.cell.Cell.{Cell}
 use Rattle.cbfs_walk.specs.declared.walk.Step.TheVariants as steps
 use Rattle.cbfs_walk.specs.declared.walk.WalkFault.{WalkFault}
 use Rattle.cbfs_walk.specs.declared.walk.WalkFault.TheVariants as walk
-use Rattle.cbfs_walk.specs.Shaped.{shaped, ReadsCells, by_answer}
+use Rattle.cbfs_walk.specs.Shaped.{reading_of, ReadsCells, by_answer}
 use Rattle.cbfs_walk.proofs.Answering.{good_size}
 use Rattle.cbfs_walk.proofs.CutLaws.{cut_at}
 use Rattle.cbfs_walk.proofs.Parts.{range_is}
 
 -- a region whose shape is good there
 past : {A : Type 0} (refuse : WalkFault → A) (read : ℕ → Cut → A) (x : List ℕ) (at : ℕ) → has_bad_size (length x) ≡ false → (eqb at 0 && is_absent (entry x)) ≡ false
-    → shaped refuse read x at ≡ read at (cut (drop at x))
-unfolding shaped
+    → reading_of refuse read x at ≡ read at (cut (drop at x))
+unfolding reading_of
 past refuse read x at good other = rw (good, other) refl
 
 over_cell : {A : Type 0} (refuse : WalkFault → A) (read : ℕ → Cut → A) (each : List ℕ → Cell → A → A) → ReadsCells read each → (x : List ℕ) (at span : ℕ)
     → has_bad_size (length x) ≡ false → at % 64 ≡ 0 → at ≤ length x → 0 < length (drop at x) → entry (drop at x) ≡ cell span
-    → read at (cut (drop at x)) ≡ each (cell_in x (record { at = at; head = head_of (drop at x); span = span })) (record { at = at; head = head_of (drop at x); span = span }) (shaped refuse read x (at + span))
+    → read at (cut (drop at x)) ≡ each (cell_in x (record { at = at; head = head_of (drop at x); span = span })) (record { at = at; head = head_of (drop at x); span = span }) (reading_of refuse read x (at + span))
 over_cell refuse read each law x at span good aligned inside some e =
     let c : Cell = record { at = at; head = head_of (drop at x); span = span } in
     let s = cell_span (drop at x) span e in
@@ -46,8 +46,8 @@ over_cell refuse read each law x at span good aligned inside some e =
     ∙ ap (each (cell_in x c) c) (sym later)
 
 pub shaped_step : {A : Type 0} (refuse : WalkFault → A) (read : ℕ → Cut → A) (each : List ℕ → Cell → A → A) → ReadsCells read each → (x : List ℕ) (at : ℕ) → at ≤ length x → at % 64 ≡ 0
-    → shaped refuse read x at ≡ by_answer refuse read each x (answer_at x at)
-unfolding answer_at shaped
+    → reading_of refuse read x at ≡ by_answer refuse read each x (answer_at x at)
+unfolding answer_at reading_of
 shaped_step refuse read each law x at inside aligned = go (has_bad_size (length x)) (eqb at 0 && is_absent (entry x)) (eqb (length (drop at x)) 0) refl refl refl
   where
     by_entry : (e : Entry) → entry (drop at x) ≡ e → has_bad_size (length x) ≡ false → 0 < length (drop at x)

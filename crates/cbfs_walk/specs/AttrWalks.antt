@@ -13,8 +13,8 @@ pub record AttrWalking : Type 0 where
   pub at : ℕ
 
 -- the same, counted from the region's start
-abbrev pub place_of : AttrWalking → ℕ
-place_of w = w.cell.at + w.at
+abbrev pub place_in_region : AttrWalking → ℕ
+place_in_region w = w.cell.at + w.at
 
 -- the attributes begin after the name, and never after the content's begin
 abbrev pub attr_walk_of : Cell → AttrWalking
@@ -39,7 +39,7 @@ attr_reads w = min 1 ((w.cell.head.offset - w.at) / 8)
 
 -- the attributes that are left, in a region of these bytes, or None where one of them is malformed
 abbrev pub attributes_left : List ℕ → AttrWalking → Option (List Attribute)
-attributes_left x w = attributes (slice_range x (place_of w) (content_start w.cell))
+attributes_left x w = attributes (slice_range x (place_in_region w) (content_start w.cell))
 
 -- the head of an attribute, whose length counts its own eight bytes
 abbrev pub head_of_attribute : Attribute → AttrHead

@@ -1,13 +1,13 @@
 -- A cell of a region as a walk gives it: its place, its head and its length.
 use Rattle.std.specs.Prelude.{◌≡◌, ℕ, ◌+◌, ◌-◌, ◌%◌, ◌≤◌, false, List, slice_range, Ok}
 use Rattle.flash_format.specs.declared.head.Head.{Head}
-use Rattle.flash_format.specs.Head.{checked, is_free}
+use Rattle.flash_format.specs.Head.{extent_of, is_free}
 use Rattle.flash_format.specs.Entry.{name_end}
 use Rattle.cbfs_walk.specs.declared.cell.Cell.{Cell}
 
 -- a head passes its checks with so many bytes left, and its cell has this span
 abbrev pub IsChecked : ℕ → Head → ℕ → Type 0
-IsChecked left head span = checked head left ≡ Ok (record { content = head.offset; span = span })
+IsChecked left head span = extent_of head left ≡ Ok (record { content = head.offset; span = span })
 
 -- the head of a cell passes its checks where the cell stands in a region of this size, and it has that span
 abbrev pub PassesChecks : ℕ → Cell → Type 0

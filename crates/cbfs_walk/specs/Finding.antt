@@ -7,7 +7,7 @@ use Rattle.std.specs.Str.{bytes_eq}
 use Rattle.flash_format.specs.Head.{head_of}
 use Rattle.flash_format.specs.Cut.{End, damage, cut}
 use Rattle.flash_format.specs.Components.{Component, components}
-use Rattle.cbfs_walk.specs.Shapes.{shape, refused_or}
+use Rattle.cbfs_walk.specs.Shapes.{shape_fault, refused_or}
 use Rattle.cbfs_walk.specs.Shaped.{place_after}
 use Rattle.cbfs_walk.specs.declared.cell.Cell.{Cell}
 use Rattle.cbfs_walk.specs.declared.walk.WalkFault.{WalkFault}
@@ -39,7 +39,7 @@ found_or found otherwise = option_map_or (λ c. Ok (Some c)) found otherwise
 -- the first component of a name in a region of these bytes, or else how its cells end
 unfoldable pub component_in : List ℕ → List ℕ → Found
 component_in x name =
-    refused_or (λ fault. Err fault) (shape x)
+    refused_or (λ fault. Err fault) (shape_fault x)
     (found_or (first_named name (components x)) (not_found (place_after 0 (cut x).cells) (cut x).end))
 
 -- the cell of a component, as a walk gives it

@@ -46,13 +46,13 @@ unfoldable pub stored_digest : List ℕ → Option Digest
 stored_digest contents = option_and_then (digest_by contents) (algorithm_numbered (be32 0 contents))
 
 -- a stored digest, and the digest of the content
-abbrev pub compared : Digest → Digest → HashState
-compared stored computed = if bytes_eq (digest_bytes stored) (digest_bytes computed) then Valid stored else Invalid stored
+abbrev pub comparison : Digest → Digest → HashState
+comparison stored computed = if bytes_eq (digest_bytes stored) (digest_bytes computed) then Valid stored else Invalid stored
 
 -- content beside the digest that is stored of it in the data of a hash attribute, where there is one
 abbrev pub state_of : Option (List ℕ) → List ℕ → HashState
 state_of None content = Absent
-state_of (Some contents) content = option_map_or (λ stored. compared stored (digest_like stored content)) (stored_digest contents) Unsupported
+state_of (Some contents) content = option_map_or (λ stored. comparison stored (digest_like stored content)) (stored_digest contents) Unsupported
 
 -- what the first hash attribute among a component's attributes says of its content, as it is stored
 abbrev pub hash_state : List Attribute → List ℕ → HashState

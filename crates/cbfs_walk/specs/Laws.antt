@@ -7,9 +7,9 @@ use Rattle.flash_format.specs.Components.{Component, components, cell_content}
 use Rattle.flash_store.specs.Regions.{Range, LiesIn, bytes_in}
 use Rattle.cbfs_walk.specs.Cells.{IsCellIn, cell_in}
 use Rattle.cbfs_walk.specs.Finding.{IsFirstOf, component_in}
-use Rattle.cbfs_walk.specs.Shapes.{has_bad_size, shape}
+use Rattle.cbfs_walk.specs.Shapes.{has_bad_size, shape_fault}
 use Rattle.cbfs_walk.specs.Walks.{Answer, answer_at, StandsIn}
-use Rattle.cbfs_walk.specs.Shaped.{shaped, ReadsCells, by_answer}
+use Rattle.cbfs_walk.specs.Shaped.{reading_of, ReadsCells, by_answer}
 use Rattle.cbfs_walk.specs.declared.cell.Cell.{Cell}
 use Rattle.cbfs_walk.specs.declared.walk.Step.TheVariants as steps
 use Rattle.cbfs_walk.specs.declared.walk.WalkFault.{WalkFault}
@@ -32,7 +32,7 @@ WalksFollowTheCut = (x : List ℕ) (at : ℕ) → at ≤ length x → at % 64 �
 -- a reading that goes from cell to cell goes on by what a walk answers
 abbrev pub ReadingsTakeSteps : Type 0 → Type 0
 ReadingsTakeSteps A = (refuse : WalkFault → A) (read : ℕ → Cut → A) (each : List ℕ → Cell → A → A) → ReadsCells read each
-    → (x : List ℕ) (at : ℕ) → at ≤ length x → at % 64 ≡ 0 → shaped refuse read x at ≡ by_answer refuse read each x (answer_at x at)
+    → (x : List ℕ) (at : ℕ) → at ≤ length x → at % 64 ≡ 0 → reading_of refuse read x at ≡ by_answer refuse read each x (answer_at x at)
 
 -- what is known of the bytes of a cell that stands in a region
 pub record CellBytes (region : Range) (image : List ℕ) (c : Cell) : Type 0 where
@@ -52,8 +52,8 @@ FoundIsFirst = (x name : List ℕ) (c : Component) → component_in x name ≡ O
 
 -- in a region of a good shape the first of a name is what is found
 abbrev pub FirstIsFound : Type 0
-FirstIsFound = (x name : List ℕ) (c : Component) → shape x ≡ None → IsFirstOf name (components x) c → component_in x name ≡ Ok (Some c)
+FirstIsFound = (x name : List ℕ) (c : Component) → shape_fault x ≡ None → IsFirstOf name (components x) c → component_in x name ≡ Ok (Some c)
 
 -- and for each component of the list some component of its name is found
 abbrev pub ListedIsFound : Type 0
-ListedIsFound = (x : List ℕ) (c : Component) → shape x ≡ None → Contains (components x) c → (d : Component) × (component_in x c.name ≡ Ok (Some d))
+ListedIsFound = (x : List ℕ) (c : Component) → shape_fault x ≡ None → Contains (components x) c → (d : Component) × (component_in x c.name ≡ Ok (Some d))

@@ -3,7 +3,7 @@ use Rattle.std.specs.Prelude.{◌≡◌, ℕ, ◌+◌, List, [], ◌∷◌, leng
 use Rattle.flash_format.specs.Head.{head_of}
 use Rattle.flash_format.specs.Cut.{Cut, complete, tail, damage, ends, after, cut}
 use Rattle.cbfs_walk.specs.Cells.{cell_in}
-use Rattle.cbfs_walk.specs.Shapes.{shape_at, refused_or}
+use Rattle.cbfs_walk.specs.Shapes.{shape_fault_at, refused_or}
 use Rattle.cbfs_walk.specs.Walks.{Answer}
 use Rattle.cbfs_walk.specs.declared.cell.Cell.{Cell}
 use Rattle.cbfs_walk.specs.declared.walk.Step.TheVariants as steps
@@ -16,8 +16,8 @@ place_after at [] = at
 place_after at (x ∷ cells) = place_after (at + length x) cells
 
 -- a reading of the cut from a place on, where the region has a good size and an entry at its start
-unfoldable pub shaped : {A : Type 0} → (WalkFault → A) → (ℕ → Cut → A) → List ℕ → ℕ → A
-shaped refuse read x at = refused_or refuse (shape_at x at) (read at (cut (drop at x)))
+unfoldable pub reading_of : {A : Type 0} → (WalkFault → A) → (ℕ → Cut → A) → List ℕ → ℕ → A
+reading_of refuse read x at = refused_or refuse (shape_fault_at x at) (read at (cut (drop at x)))
 
 -- a reading goes from cell to cell
 abbrev pub ReadsCells : {A : Type 0} → (ℕ → Cut → A) → (List ℕ → Cell → A → A) → Type 0
@@ -25,7 +25,7 @@ ReadsCells read each = (at : ℕ) (c : List ℕ) (k : Cut) → read at (after (c
 
 -- what is read, by the answer of a walk
 abbrev pub by_answer : {A : Type 0} → (WalkFault → A) → (ℕ → Cut → A) → (List ℕ → Cell → A → A) → List ℕ → Answer → A
-by_answer refuse read each x (Ok (steps.Cell c)) = each (cell_in x c) c (shaped refuse read x (c.at + c.span))
+by_answer refuse read each x (Ok (steps.Cell c)) = each (cell_in x c) c (reading_of refuse read x (c.at + c.span))
 by_answer refuse read each x (Ok steps.End) = read (length x) (ends complete)
 by_answer refuse read each x (Ok (steps.Tail at)) = read at (ends tail)
 by_answer refuse read each x (Err (faults.Damaged at kind)) = read at (ends (damage kind))

@@ -14,15 +14,15 @@ is_absent _ = false
 
 -- why a walk that stands at a place of a region of these bytes gives no cell: the region's size is bad, or the place is
 -- the region's start and no entry stands there
-abbrev pub shape_at : List ℕ → ℕ → Option WalkFault
-shape_at x at =
+abbrev pub shape_fault_at : List ℕ → ℕ → Option WalkFault
+shape_fault_at x at =
     if has_bad_size (length x) then Some faults.RegionShape
     else if at == 0 && is_absent (entry x) then Some faults.NotCbfs
     else None
 
 -- the same of a whole region, at its start
-abbrev pub shape : List ℕ → Option WalkFault
-shape x = shape_at x 0
+abbrev pub shape_fault : List ℕ → Option WalkFault
+shape_fault x = shape_fault_at x 0
 
 -- what a fault is answered, or else the answer without one
 abbrev pub refused_or : {A : Type 0} → (WalkFault → A) → Option WalkFault → A → A

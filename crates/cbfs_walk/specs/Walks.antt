@@ -6,7 +6,7 @@ use Rattle.flash_store.specs.Device.{Device}
 use Rattle.flash_store.specs.Pages.{Pages, OnHonestIn}
 use Rattle.flash_store.specs.Regions.{Range}
 use Rattle.cbfs_walk.specs.Cells.{IsCellIn, cell_in}
-use Rattle.cbfs_walk.specs.Shapes.{shape_at, refused_or}
+use Rattle.cbfs_walk.specs.Shapes.{shape_fault_at, refused_or}
 use Rattle.cbfs_walk.specs.Passing.{reads_over}
 use Rattle.cbfs_walk.specs.declared.cell.Cell.{Cell}
 use Rattle.cbfs_walk.specs.declared.walk.Step.{Step}
@@ -43,7 +43,7 @@ answer_of rest c = answer_by rest c.at (present c.head rest (Ok (record { conten
 unfoldable pub answer_at : List ℕ → ℕ → Answer
 answer_at x at =
     let rest = drop at x in
-    refused_or (λ fault. Err fault) (shape_at x at) (if length rest == 0 then Ok steps.End else answer_by rest at (entry rest))
+    refused_or (λ fault. Err fault) (shape_fault_at x at) (if length rest == 0 then Ok steps.End else answer_by rest at (entry rest))
 
 -- the cell is what a walk gives at its place in a region of these bytes
 abbrev pub StandsIn : List ℕ → Cell → Type 0
@@ -61,10 +61,10 @@ by_device _ = 0
 -- ---- what an answer makes of a walk
 
 -- a cell goes on, a device's fault changes nothing, and every other answer ends the walk
-abbrev pub moved : Walking → Answer → Walking
-moved w (Ok (steps.Cell c)) = record w { at = w.at + c.span; steps = w.steps + 1 }
-moved w (Err faults.Device) = w
-moved w answer = record w { ended = Some answer }
+abbrev pub walk_after : Walking → Answer → Walking
+walk_after w (Ok (steps.Cell c)) = record w { at = w.at + c.span; steps = w.steps + 1 }
+walk_after w (Err faults.Device) = w
+walk_after w answer = record w { ended = Some answer }
 
 -- every cell lies in a region of this size, at this place
 abbrev pub GivesCell : ℕ → ℕ → Answer → Type 0

@@ -9,7 +9,7 @@ ghost use Rattle.flash_store.specs.Regions.{LiesIn};
 ghost use Rattle.cbfs_walk.specs.Passing.{HasPassed, ReadsAs, reads_over};
 ghost use Rattle.cbfs_walk.specs.Cells.{IsComponentIn, attributes_start, cell_in};
 ghost use Rattle.cbfs_walk.specs.Walks.{StandsIn, ReadsCellAs};
-ghost use Rattle.cbfs_walk.specs.AttrWalks.{place_of, attr_walk_of, attr_moved, attr_reads, IsAttrIn, attributes_left, first_head, after_first};
+ghost use Rattle.cbfs_walk.specs.AttrWalks.{place_in_region, attr_walk_of, attr_moved, attr_reads, IsAttrIn, attributes_left, first_head, after_first};
 ghost use Rattle.cbfs_walk.specs.Listed.{IsListedIn, listed_in, IsAttrOf, first_of, searched_to, value_in};
 
 use crate::cell::{Cell, content_fits};
@@ -63,7 +63,7 @@ impl AttrWalk {
 
         // On any device.
         ensures after { HasAnswered F.facts (attr_reads self.old) paged.old paged.new result }
-        ensures passes { HasPassed F.facts region (place_of self.old) (place_of self.old) paged.old paged.new result }
+        ensures passes { HasPassed F.facts region (place_in_region self.old) (place_in_region self.old) paged.old paged.new result }
         ensures attribute { IfOk result (λ found. IfSome found (λ head.
             IsAttrIn self.old.at self.old.cell.head.offset head)) }
         ensures moved { self.new ≡ attr_moved self.old result }

@@ -13,7 +13,7 @@ use flash_format::{DamageKind, Head};
 use flash_store::{Flash, FlashFault, Paged, Region};
 
 /// The head that the entry at a place begins with, where one stands there.
-pub fn head_at<F: Flash>(
+pub fn front_at<F: Flash>(
     paged: &mut Paged<F>,
     region: Region,
     at: u64,

@@ -7,7 +7,7 @@ ghost use Rattle.flash_store.specs.Regions.{LiesIn};
 ghost use Rattle.cbfs_walk.specs.Passing.{HasPassed, ReadsAs, reads_over};
 ghost use Rattle.cbfs_walk.specs.Cells.{IsComponentIn, PassesChecks, content_start, content_end};
 ghost use Rattle.cbfs_walk.specs.Walks.{ReadsCellAs};
-ghost use Rattle.cbfs_walk.specs.Hashes.{digest_like, stored_digest, compared, hash_state, content_at, hash_state_in, IsUncompared};
+ghost use Rattle.cbfs_walk.specs.Hashes.{digest_like, stored_digest, comparison, hash_state, content_at, hash_state_in, IsUncompared};
 
 use crate::attribute_walk::{first_attribute, value_at};
 use crate::cell::{Cell, content_fits};
@@ -31,7 +31,7 @@ pub enum HashState {
 
 /// How many bytes of the content are read at once: no more than a read in order may have, so that the device is called
 /// for each window and not for each piece.
-const PIECE: u64 = 256;
+const HASHED_AT_ONCE: u64 = 256;
 
 /// Compares the digest in a component's first hash attribute with that of its content, as it is stored. In a cell that
 /// a walk gave every attribute is well formed; in another a malformed one ends the list.
@@ -59,7 +59,7 @@ pub fn check_hash<F: Flash>(
         Some((at, head)) => match stored_digest(paged, region, at + 8, head.len - 8)? {
             Some(stored) => {
                 let computed = content_digest(paged, region, cell, &stored)?;
-                Ok(compared(stored, &computed))
+                Ok(comparison(stored, &computed))
             }
             None => Ok(HashState::Unsupported),
         },
@@ -115,7 +115,7 @@ fn content_digest<F: Flash>(
 
 /// Whether a stored digest is the content's.
 fn compared(stored: Digest, computed: &Digest) -> HashState
-    ensures { result ≡ compared stored computed.now }
+    ensures { result ≡ comparison stored computed.now }
 {
     if stored.bytes() == computed.bytes() {
         HashState::Valid(stored)
@@ -143,7 +143,7 @@ fn hash_content<F: Flash, D: sha2::Digest>(
     let mut at = cell.at + u64::from(cell.head.offset);
     let end = at + u64::from(cell.head.len);
     while at < end {
-        let n = (end - at).min(PIECE);
+        let n = (end - at).min(HASHED_AT_ONCE);
         let bytes = piece_in(paged, region, at, n as usize)?;
         hasher.update(bytes);
         at += n;

@@ -7,10 +7,10 @@ ghost use Rattle.flash_store.specs.Regions.{LiesIn};
 ghost use Rattle.cbfs_walk.specs.Cells.{PassesChecks, content_start};
 ghost use Rattle.cbfs_walk.specs.Passing.{Passes};
 ghost use Rattle.cbfs_walk.specs.Shapes.{has_bad_size};
-ghost use Rattle.cbfs_walk.specs.Walks.{by_device, walk_of, moved, answer_at, answer_of, GivesCell, reads_at};
+ghost use Rattle.cbfs_walk.specs.Walks.{by_device, walk_of, walk_after, answer_at, answer_of, GivesCell, reads_at};
 
 use crate::cell::Cell;
-use crate::entry::{damage_in, head_at};
+use crate::entry::{damage_in, front_at};
 use flash_format::DamageKind;
 use flash_store::{Flash, Paged, Region};
 use std::marker::Model;
@@ -94,7 +94,7 @@ impl Walk {
         ensures after { HasRead F.facts (reads_at self.old.region.size self.old.at result) (faults_told by_device result)
             paged.old paged.new }
         ensures cell { GivesCell self.old.region.size self.old.at result }
-        ensures moved { self.new ≡ moved self.old result }
+        ensures moved { self.new ≡ walk_after self.old result }
         ensures ended { IfSome self.old.ended (λ answer. result ≡ answer) }
         ensures no_call { IsSome self.old.ended → paged.new ≡ paged.old }
 
@@ -142,7 +142,7 @@ fn answer_at<F: Flash>(paged: &mut Paged<F>, region: Region, at: u64) -> Result<
         return Ok(Step::End);
     }
     let left = region.size() - at;
-    match head_at(paged, region, at) {
+    match front_at(paged, region, at) {
         Err(_) => Err(WalkFault::Device),
         Ok(None) if at == 0 => Err(WalkFault::NotCbfs),
         Ok(None) => Ok(Step::Tail(at)),

@@ -37,13 +37,13 @@ verdict_word verdicts.Remark = codes "remark"
 verdict_word verdicts.Change = codes "change"
 
 -- a field that isn't there is a dash
-abbrev pub name_field : Option (List ℕ) → List ℕ
-name_field None = codes "-"
-name_field (Some name) = printed_name name
+abbrev pub name_or_dash : Option (List ℕ) → List ℕ
+name_or_dash None = codes "-"
+name_or_dash (Some name) = printed_name name
 
-abbrev pub position_field : Option ℕ → List ℕ
-position_field None = codes "-"
-position_field (Some position) = hexadecimal position
+abbrev pub position_or_dash : Option ℕ → List ℕ
+position_or_dash None = codes "-"
+position_or_dash (Some position) = hexadecimal position
 
 -- the last field, which only some rows have: with its tab
 abbrev pub detail_field : Detail → List ℕ
@@ -53,7 +53,7 @@ detail_field (details.Number n) = tab ++ hexadecimal n
 
 -- a row as text: verdict, area, component, position, what is said, and the detail where there is one
 unfoldable pub row_text : SeenRow → List ℕ
-row_text row = verdict_word row.verdict ++ tab ++ name_field row.area ++ tab ++ name_field row.component ++ tab ++ position_field row.position ++ tab ++ row.what ++ detail_field row.detail ++ line_feed
+row_text row = verdict_word row.verdict ++ tab ++ name_or_dash row.area ++ tab ++ name_or_dash row.component ++ tab ++ position_or_dash row.position ++ tab ++ row.what ++ detail_field row.detail ++ line_feed
 
 abbrev pub is_verdict : Verdict → Verdict → Bool
 is_verdict verdicts.Bad verdicts.Bad = true

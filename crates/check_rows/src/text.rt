@@ -3,7 +3,7 @@
 ghost use Rattle.std.specs.Prelude.{◌≡◌, ◌++◌, OnOk};
 ghost use Rattle.std.specs.Fmt.{decimal};
 ghost use Rattle.std.specs.Option.{option_copied};
-ghost use Rattle.check_rows.specs.Rows.{detail_field, name_field, position_field, row_text, seen_row, summary};
+ghost use Rattle.check_rows.specs.Rows.{detail_field, name_or_dash, position_or_dash, row_text, seen_row, summary};
 
 use crate::row::{Counts, Detail, Row};
 use itoa::Buffer;
@@ -24,7 +24,7 @@ fn push_decimal(text: &mut Vec<u8>, n: u64) -> Result<(), AllocError>
 }
 
 fn push_name(text: &mut Vec<u8>, name: Option<&[u8]>) -> Result<(), AllocError>
-    ensures { OnOk result (text.new.items ≡ text.old.items ++ name_field (option_copied name.entry)) }
+    ensures { OnOk result (text.new.items ≡ text.old.items ++ name_or_dash (option_copied name.entry)) }
 {
     let Some(bytes) = name else {
         return push(text, b"-");
@@ -36,7 +36,7 @@ fn push_name(text: &mut Vec<u8>, name: Option<&[u8]>) -> Result<(), AllocError>
 }
 
 fn push_position(text: &mut Vec<u8>, position: Option<u64>) -> Result<(), AllocError>
-    ensures { OnOk result (text.new.items ≡ text.old.items ++ position_field position) }
+    ensures { OnOk result (text.new.items ≡ text.old.items ++ position_or_dash position) }
 {
     match position {
         Some(position) => push(text, hexadecimal(position).as_slice()),

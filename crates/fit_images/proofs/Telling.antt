@@ -8,14 +8,14 @@ use Rattle.cbfs_walk.specs.Shaped.{place_after}
 use Rattle.image_check.specs.Laws.{IsFit, IsWhole}
 use Rattle.cbfs_commands.specs.Outcomes.{print_region}
 use Rattle.cbfs_commands.specs.Told.{shows}
-use Rattle.fit_images.specs.Laws.{IsExtracted, IsListed, shown}
+use Rattle.fit_images.specs.Laws.{IsExtracted, IsListed, whole_listing}
 
 undamaged : (at : ℕ) (end : End) → ((kind : DamageKind) → end ≢ damage kind) → not_found at end ≡ Ok None
 undamaged at complete whole = refl
 undamaged at tail whole = refl
 undamaged at (damage kind) whole = absurd (whole kind refl)
 
-pub whole_region : (x : List ℕ) (verbose : Bool) → IsWhole x → print_region x verbose ≡ shows (shown x verbose)
+pub whole_region : (x : List ℕ) (verbose : Bool) → IsWhole x → print_region x verbose ≡ shows (whole_listing x verbose)
 unfolding print_region
 whole_region x verbose whole = rw (whole.shaped, undamaged (place_after 0 (cut x).cells) (cut x).end whole.undamaged) refl
 

@@ -14,16 +14,16 @@ use Rattle.cbfs_commands.specs.Outcomes.{extract_region, print_region, told_comp
 use Rattle.cbfs_commands.specs.Told.{shows}
 
 -- the rows of all cells of a region, with the lines of its components where verbose
-abbrev pub shown : List ℕ → Bool → List ℕ
-shown x verbose = rows_from verbose 0 (cut x).cells
+abbrev pub whole_listing : List ℕ → Bool → List ℕ
+whole_listing x verbose = rows_from verbose 0 (cut x).cells
 
 -- a listing of a region of which a check, verbose or not, tells nothing bad has the rows of all its cells, and is done
 abbrev pub FitRegionsAreListed : Type 0
-FitRegionsAreListed = (all : Bool) (x : List ℕ) (verbose : Bool) → list_any is_bad_region (region_findings all x) ≡ false → print_region x verbose ≡ shows (shown x verbose)
+FitRegionsAreListed = (all : Bool) (x : List ℕ) (verbose : Bool) → list_any is_bad_region (region_findings all x) ≡ false → print_region x verbose ≡ shows (whole_listing x verbose)
 
 -- `print` of the area by its name has the rows of all its cells, and is done
 abbrev pub IsListed : List ℕ → Bool → NumberedArea → Type 0
-IsListed image verbose a = told_in image (text_of a.area.name) (λ x. print_region x verbose) ≡ shows (shown (bytes_of image a) verbose)
+IsListed image verbose a = told_in image (text_of a.area.name) (λ x. print_region x verbose) ≡ shows (whole_listing (bytes_of image a) verbose)
 
 -- `extract` of each of the area's components, by both names, shows its content, unless that is compressed
 abbrev pub IsExtracted : List ℕ → NumberedArea → Type 0

@@ -6,7 +6,7 @@ use Rattle.std.proofs.lemmas.Bool.Decides.{nat_tests}
 use Rattle.flash_format.specs.declared.head.Head.{Head}
 use Rattle.flash_format.specs.declared.head.Extent.{Extent}
 use Rattle.flash_format.specs.declared.head.DamageKind.{DamageKind}
-use Rattle.flash_format.specs.Head.{head_of, head_at, is_free, attributes_misplaced, checked, round64}
+use Rattle.flash_format.specs.Head.{head_of, head_at, is_free, attributes_misplaced, extent_of, round64}
 use Rattle.flash_format.specs.Entry.{Entry, absent, cell, entry, present, front}
 use Rattle.flash_format.proofs.Fronts.{drop-pred}
 use Rattle.flash_format.specs.Cut.{Cut, complete, ends, after, by_entry, cut, cut_after, IsSpan}
@@ -19,8 +19,8 @@ pub record IsChecked (h : Head) (left : ℕ) (e : Extent) : Type 0 where
   pub content : e.content ≡ h.offset
   pub span : e.span ≡ round64 (h.offset + h.len)
 
-pub checked_ok : (h : Head) (left : ℕ) (e : Extent) → checked h left ≡ Ok e → IsChecked h left e
-unfolding checked
+pub checked_ok : (h : Head) (left : ℕ) (e : Extent) → extent_of h left ≡ Ok e → IsChecked h left e
+unfolding extent_of
 checked_ok h left e ok =
     record {
       front = grind (arith, nat_tests);
@@ -35,7 +35,7 @@ pub record IsCell (x : List ℕ) (span : ℕ) : Type 0 where
   pub long : 24 ≤ length x
   pub head : head_at x ≡ Some (head_of x)
   pub extent : Extent
-  pub checks : checked (head_of x) (length x) ≡ Ok extent
+  pub checks : extent_of (head_of x) (length x) ≡ Ok extent
   pub spans : extent.span ≡ span
 
 present_cell : (h : Head) (x : List ℕ) (r : Result Extent DamageKind) (span : ℕ) → present h x r ≡ cell span → (e : Extent) × (r ≡ Ok e) × (e.span ≡ span)
@@ -56,12 +56,12 @@ pub cell_is : (x : List ℕ) (span : ℕ) → entry x ≡ cell span → IsCell x
 unfolding entry
 cell_is x span e = go (front x) refl e
   where
-    go : (o : Option Head) → front x ≡ o → option_map_or (λ h. present h x (checked h (length x))) o absent ≡ cell span → IsCell x span
+    go : (o : Option Head) → front x ≡ o → option_map_or (λ h. present h x (extent_of h (length x))) o absent ≡ cell span → IsCell x span
     go None f p = absurd cc
     go (Some h) f p =
         let s = front_some x h f in
-        let q = present_cell h x (checked h (length x)) span p in
-        record { long = s.0; head = s.1 ∙ ap (λ (y : Head). Some y) s.2; extent = q.0; checks = ap (λ (y : Head). checked y (length x)) (sym s.2) ∙ q.1; spans = q.2 }
+        let q = present_cell h x (extent_of h (length x)) span p in
+        record { long = s.0; head = s.1 ∙ ap (λ (y : Head). Some y) s.2; extent = q.0; checks = ap (λ (y : Head). extent_of y (length x)) (sym s.2) ∙ q.1; spans = q.2 }
 
 pub cell_span : (x : List ℕ) (span : ℕ) → entry x ≡ cell span → IsSpan x span
 cell_span x span e =

@@ -6,7 +6,7 @@ use Rattle.std.proofs.lemmas.List.{take_at}
 use Rattle.flash_format.specs.declared.head.Head.{Head}
 use Rattle.flash_format.specs.declared.head.Extent.{Extent}
 use Rattle.flash_format.specs.declared.head.DamageKind.{DamageKind}
-use Rattle.flash_format.specs.Head.{header_length, head_of, head_at, head_bytes, is_free, attributes_misplaced, checked, round64}
+use Rattle.flash_format.specs.Head.{header_length, head_of, head_at, head_bytes, is_free, attributes_misplaced, extent_of, round64}
 use Rattle.flash_format.specs.EmptyEntries.{empty_header}
 use Rattle.flash_format.specs.Entry.{cell, entry, present}
 use Rattle.flash_format.proofs.Fronts.{head_at-take}
@@ -27,8 +27,8 @@ head_in_front h more len_fits kind_fits attributes_fit offset_fits =
 
 -- what is checked of a head where the content has room
 pub checked_passes : (h : Head) (left : ℕ) → ltb h.offset (cond (is_free h) 24 25) ≡ false → (not (is_free h) && attributes_misplaced h) ≡ false → h.offset + h.len ≤ left
-    → checked h left ≡ Ok (record { content = h.offset; span = round64 (h.offset + h.len) })
-unfolding checked
+    → extent_of h left ≡ Ok (record { content = h.offset; span = round64 (h.offset + h.len) })
+unfolding extent_of
 checked_passes h left offset placed fits = rw (offset, placed, le-ltb left (h.offset + h.len) fits) refl
 
 -- a head of free space that fills so many bytes

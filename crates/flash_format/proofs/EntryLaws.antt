@@ -6,7 +6,7 @@ use Rattle.std.proofs.lemmas.Bool.Decides.{nat_tests}
 use Rattle.flash_format.specs.declared.head.Head.{Head}
 use Rattle.flash_format.specs.declared.head.Extent.{Extent}
 use Rattle.flash_format.specs.declared.head.DamageKind.{DamageKind}
-use Rattle.flash_format.specs.Head.{head_of, head_at, is_free, attributes_misplaced, checked, round64}
+use Rattle.flash_format.specs.Head.{head_of, head_at, is_free, attributes_misplaced, extent_of, round64}
 use Rattle.flash_format.specs.Entry.{Entry, cell, entry, present, component, name_end, name_field, attribute_field}
 use Rattle.flash_format.proofs.Fronts.{range-take, head_at-take}
 use Rattle.flash_format.proofs.CutSteps.{IsCell, cell_is, checked_ok, cell_span}
@@ -17,8 +17,8 @@ same_head_at : (x y : List ℕ) (n : ℕ) → 24 ≤ n → take n x ≡ take n y
 same_head_at x y n long same = sym (head_at-take x n long) ∙ ap (λ (l : List ℕ). head_at l) same ∙ head_at-take y n long
 
 -- of what is left only counts that the content fits
-checked_alike : (h : Head) (left other : ℕ) → h.offset + h.len ≤ left → h.offset + h.len ≤ other → checked h other ≡ checked h left
-unfolding checked
+checked_alike : (h : Head) (left other : ℕ) → h.offset + h.len ≤ left → h.offset + h.len ≤ other → extent_of h other ≡ extent_of h left
+unfolding extent_of
 checked_alike h left other fits here = rw (le-ltb left (h.offset + h.len) fits, le-ltb other (h.offset + h.len) here) refl
 
 -- ---- the fields after the head
@@ -39,7 +39,7 @@ component_alike h x y n span named placed same =
 
 -- ---- the entry
 -- what stands where the head is there
-pub from_head : (x : List ℕ) (h : Head) → 24 ≤ length x → head_at x ≡ Some h → entry x ≡ present h x (checked h (length x))
+pub from_head : (x : List ℕ) (h : Head) → 24 ≤ length x → head_at x ≡ Some h → entry x ≡ present h x (extent_of h (length x))
 unfolding entry
 from_head x h long e = rw (le-ltb (length x) 24 long, e) refl
 

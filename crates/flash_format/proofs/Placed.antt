@@ -8,7 +8,7 @@ use Rattle.flash_format.specs.Head.{header_length, head_of, is_free}
 use Rattle.flash_format.specs.EmptyEntries.{empty_header, empty_entry, padding}
 use Rattle.flash_format.specs.Cut.{cut, IsCell, IsCut}
 use Rattle.flash_format.specs.Components.{Component, component_at, components_from, components}
-use Rattle.flash_format.specs.Splices.{AllFree, spliced}
+use Rattle.flash_format.specs.Splices.{AllFree, splice}
 use Rattle.flash_format.specs.Made.{KeepsFour}
 use Rattle.flash_format.specs.Placings.{IsSpace, space_cells, made_component}
 use Rattle.flash_format.specs.Laws.{ComponentsArePlaced}
@@ -79,7 +79,7 @@ components_placed x start end g at before whole after name kind digest content f
     let here : components_from start cells ≡ component ∷ [] =
     component_among start at (space_cells before) (space_cells after) whole first.1 last.1 read.is_used there
     ∙ ap (λ (c : Component). c ∷ []) (read.component at) in
-    let Y : List ℕ → List ℕ = λ l. spliced x start end l in
+    let Y : List ℕ → List ℕ = λ l. splice x start end l in
     record {
       is_cut = subst (λ (l : List ℕ). IsCut (Y l) (g.before ++ cells ++ g.after) g.rest g.ending) joined (splice-cut x start end g cells each size);
       same_end = ap (λ (l : List ℕ). (cut (Y l)).end) (sym joined) ∙ splice-end x start end g cells each size;

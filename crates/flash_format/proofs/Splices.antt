@@ -10,7 +10,7 @@ use Rattle.flash_format.specs.Placings.{IsSpace, space_cells}
 use Rattle.flash_format.proofs.EmptyEntryLaws.{empty_header-cell, length-empty_header}
 use Rattle.flash_format.specs.Cut.{Cut, cut, IsCell, IsCut}
 use Rattle.flash_format.specs.Components.{Component, component_at, components_from, components}
-use Rattle.flash_format.specs.Splices.{CellsBetween, spliced}
+use Rattle.flash_format.specs.Splices.{CellsBetween, splice}
 pub use Rattle.std.proofs.lemmas.List.Folds.{concat-append}
 pub use Rattle.flash_format.specs.Splices.{AllFree}
 use Rattle.flash_format.proofs.CutSteps.{cell_span}
@@ -96,7 +96,7 @@ module _ (x : List ℕ) (start end : ℕ) (g : CellsBetween x start end) where
   cells-group = All-right IsCell g.before g.group (All-left IsCell (g.before ++ g.group) g.after g.is.each)
 
   -- the cut with other cells of as many bytes in the group's place
-  pub splice-cut : (new : List (List ℕ)) → All IsCell new → start + length (concat new) ≡ end → IsCut (spliced x start end (concat new)) (g.before ++ new ++ g.after) g.rest g.ending
+  pub splice-cut : (new : List (List ℕ)) → All IsCell new → start + length (concat new) ≡ end → IsCut (splice x start end (concat new)) (g.before ++ new ++ g.after) g.rest g.ending
   splice-cut new each size = record {
     whole =
         ap (λ (l : List ℕ). l ++ (concat new ++ drop end x)) group-prefix
@@ -109,12 +109,12 @@ module _ (x : List ℕ) (start end : ℕ) (g : CellsBetween x start end) where
     last = g.is.last;
   }
 
-  splice-is : (new : List (List ℕ)) → All IsCell new → start + length (concat new) ≡ end → cut (spliced x start end (concat new)) ≡ record { cells = g.before ++ new ++ g.after; end = g.ending }
+  splice-is : (new : List (List ℕ)) → All IsCell new → start + length (concat new) ≡ end → cut (splice x start end (concat new)) ≡ record { cells = g.before ++ new ++ g.after; end = g.ending }
   splice-is new each size = cut_unique _ (g.before ++ new ++ g.after) g.rest g.ending (splice-cut new each size)
 
   -- the components with other cells in the group's place
   pub splice-components : (new : List (List ℕ)) → All IsCell new → start + length (concat new) ≡ end
-      → components (spliced x start end (concat new)) ≡ components_from 0 g.before ++ components_from start new ++ components_from end g.after
+      → components (splice x start end (concat new)) ≡ components_from 0 g.before ++ components_from start new ++ components_from end g.after
   splice-components new each size =
       ap (λ (c : Cut). components_from 0 c.cells) (splice-is new each size)
       ∙ components-three g.before new g.after
@@ -128,7 +128,7 @@ module _ (x : List ℕ) (start end : ℕ) (g : CellsBetween x start end) where
       ∙ ap (λ n. components_from 0 g.before ++ components_from n g.group ++ components_from (n + length (concat g.group)) g.after) g.start_is
       ∙ ap (λ n. components_from 0 g.before ++ components_from start g.group ++ components_from n g.after) g.end_is
 
-  pub splice-end : (new : List (List ℕ)) → All IsCell new → start + length (concat new) ≡ end → (cut (spliced x start end (concat new))).end ≡ (cut x).end
+  pub splice-end : (new : List (List ℕ)) → All IsCell new → start + length (concat new) ≡ end → (cut (splice x start end (concat new))).end ≡ (cut x).end
   splice-end new each size =
       ap (λ (c : Cut). c.end) (splice-is new each size)
       ∙ sym (ap (λ (c : Cut). c.end) (cut_unique x (g.before ++ g.group ++ g.after) g.rest g.ending g.is))
@@ -148,12 +148,12 @@ module _ (x : List ℕ) (start end : ℕ) (g : CellsBetween x start end) where
     empty_entry-size : start + length (concat (space_cells empty_bytes)) ≡ end
     empty_entry-size = omega (arith, ap length (concat-space empty_bytes), empty_entry-length, some)
 
-    pub emptied-components : components (spliced x start end empty_bytes) ≡ components_from 0 g.before ++ components_from end g.after
+    pub emptied-components : components (splice x start end empty_bytes) ≡ components_from 0 g.before ++ components_from end g.after
     emptied-components =
-        ap (λ (l : List ℕ). components (spliced x start end l)) (sym (concat-space empty_bytes))
+        ap (λ (l : List ℕ). components (splice x start end l)) (sym (concat-space empty_bytes))
         ∙ splice-components (space_cells empty_bytes) empty_entry-space.0 empty_entry-size
         ∙ ap (λ (l : List Component). components_from 0 g.before ++ l ++ components_from end g.after) (components-free start (space_cells empty_bytes) empty_entry-space.1)
         ∙ ap (λ (l : List Component). l ++ components_from end g.after) (append-nil (components_from 0 g.before))
 
-    pub emptied-end : (cut (spliced x start end empty_bytes)).end ≡ (cut x).end
-    emptied-end = ap (λ (l : List ℕ). (cut (spliced x start end l)).end) (sym (concat-space empty_bytes)) ∙ splice-end (space_cells empty_bytes) empty_entry-space.0 empty_entry-size
+    pub emptied-end : (cut (splice x start end empty_bytes)).end ≡ (cut x).end
+    emptied-end = ap (λ (l : List ℕ). (cut (splice x start end l)).end) (sym (concat-space empty_bytes)) ∙ splice-end (space_cells empty_bytes) empty_entry-space.0 empty_entry-size

@@ -54,8 +54,8 @@ components_from at (x ∷ cells) =
     if is_free (head_of x) then others else component_at at x ∷ others
 
 -- the same components, so many bytes further on
-abbrev pub moved : ℕ → List Component → List Component
-moved n all = map (λ (c : Component). record c { at = n + c.at }) all
+abbrev pub shifted_by : ℕ → List Component → List Component
+shifted_by n all = map (λ (c : Component). record c { at = n + c.at }) all
 
 abbrev pub components : List ℕ → List Component
 components x = components_from 0 (cut x).cells

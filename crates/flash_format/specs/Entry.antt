@@ -8,7 +8,7 @@ use Rattle.flash_format.specs.declared.head.Head.{Head}
 use Rattle.flash_format.specs.declared.head.Extent.{Extent}
 use Rattle.flash_format.specs.declared.head.DamageKind.{DamageKind}
 use Rattle.flash_format.specs.declared.head.DamageKind.TheVariants as kinds
-use Rattle.flash_format.specs.Head.{head_at, is_free, checked}
+use Rattle.flash_format.specs.Head.{head_at, is_free, extent_of}
 use Rattle.flash_format.specs.Attributes.{attributes}
 
 -- the name field ends at the attributes, or at the content where there are none
@@ -54,4 +54,4 @@ front x = if nat_lt (length x) 24 then None else head_at x
 
 -- no entry, the first check that fails, or a cell of so many bytes
 unfoldable pub entry : List ℕ → Entry
-entry x = option_map_or (λ h. present h x (checked h (length x))) (front x) absent
+entry x = option_map_or (λ h. present h x (extent_of h (length x))) (front x) absent

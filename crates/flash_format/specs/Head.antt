@@ -51,8 +51,8 @@ attributes_misplaced h = not (h.attributes_offset == 0) && (nat_lt h.attributes_
 
 -- The first check of a head that fails, with so many bytes from the entry up to the region's end, or else where
 -- the content begins and how long the cell is.
-unfoldable pub checked : Head → ℕ → Result Extent DamageKind
-checked h left =
+unfoldable pub extent_of : Head → ℕ → Result Extent DamageKind
+extent_of h left =
     if nat_lt h.offset (if is_free h then 24 else 25) then Err kinds.Offset
     else (if not (is_free h) && attributes_misplaced h then Err kinds.AttrOffset
     else (if nat_lt left (h.offset + h.len) then Err kinds.Extent

@@ -6,8 +6,8 @@ use Rattle.flash_format.specs.Head.{header_length, head_of, is_free, round64}
 use Rattle.flash_format.specs.EmptyEntries.{empty_header}
 use Rattle.flash_format.specs.Entry.{entry, cell}
 use Rattle.flash_format.specs.Cut.{cut, after, IsSpan, IsCell, IsCut}
-use Rattle.flash_format.specs.Components.{components, components_from, moved}
-use Rattle.flash_format.specs.Splices.{AllFree, CellsBetween, spliced}
+use Rattle.flash_format.specs.Components.{components, components_from, shifted_by}
+use Rattle.flash_format.specs.Splices.{AllFree, CellsBetween, splice}
 use Rattle.flash_format.specs.Made.{IsDigest, IsMade, KeepsFour, meta_length, hash_len, made_metadata, made}
 use Rattle.flash_format.specs.Placings.{IsPlacing, IsReadAs, HasOneMore, space_cells, made_component}
 use Rattle.flash_format.specs.Flashmap.{area_bytes, areas_from, fmap_head_bytes, fmap_head_len, fmap_head_of, is_map, is_named}
@@ -29,7 +29,7 @@ pub record CutsGoOn : Type 0 where
   -- cells that join to the bytes before a place are the first of the cut, and those of the cut from there on come next
   pub cells : (x : List ℕ) (at : ℕ) (cells : List (List ℕ)) → All IsCell cells → take at x ≡ concat cells → cut x ≡ after cells (cut (drop at x))
   -- and so with the components
-  pub listed : (x : List ℕ) (at : ℕ) (cells : List (List ℕ)) → All IsCell cells → take at x ≡ concat cells → at ≤ length x → components x ≡ components_from 0 cells ++ moved at (components (drop at x))
+  pub listed : (x : List ℕ) (at : ℕ) (cells : List (List ℕ)) → All IsCell cells → take at x ≡ concat cells → at ≤ length x → components x ≡ components_from 0 cells ++ shifted_by at (components (drop at x))
   -- the components of cells in two parts
   pub joined : (at : ℕ) (cells more : List (List ℕ)) → components_from at (cells ++ more) ≡ components_from at cells ++ components_from (at + length (concat cells)) more
   -- the place after cells is the sum of their lengths
@@ -43,13 +43,13 @@ EmptyHeadersAreFreeCells = (size : ℕ) (kept : Bool) (more : List ℕ) → 64 �
 -- other cells of as many bytes in place of a group
 pub record GroupsAreReplaced (x : List ℕ) (start end : ℕ) (g : CellsBetween x start end) : Type 0 where
   -- the cells before and after it stay, and what is left after them
-  pub cells : (new : List (List ℕ)) → All IsCell new → start + length (concat new) ≡ end → IsCut (spliced x start end (concat new)) (g.before ++ new ++ g.after) g.rest g.ending
+  pub cells : (new : List (List ℕ)) → All IsCell new → start + length (concat new) ≡ end → IsCut (splice x start end (concat new)) (g.before ++ new ++ g.after) g.rest g.ending
   -- and so do their components, each with its place and its bytes
   pub listed : (new : List (List ℕ)) → All IsCell new → start + length (concat new) ≡ end
-      → components (spliced x start end (concat new)) ≡ components_from 0 g.before ++ components_from start new ++ components_from end g.after
+      → components (splice x start end (concat new)) ≡ components_from 0 g.before ++ components_from start new ++ components_from end g.after
   -- an empty entry's header, with anything after it up to the group's end: the other components alone
   pub emptied : (kept : Bool) (more : List ℕ) → start < end → end - start < 2 ^ 32 → start + header_length + length more ≡ end
-      → components (spliced x start end (empty_header (end - start) kept ++ more)) ≡ components_from 0 g.before ++ components_from end g.after
+      → components (splice x start end (empty_header (end - start) kept ++ more)) ≡ components_from 0 g.before ++ components_from end g.after
 
 -- what a component is read as that is made of this
 pub record MadeCellsAreReadAsMade (name : List ℕ) (kind : ℕ) (digest : Option Digest) (gap : ℕ) (content : List ℕ) : Type 0 where
@@ -66,7 +66,7 @@ pub record MadeCellsAreReadAsMade (name : List ℕ) (kind : ℕ) (digest : Optio
 abbrev pub ComponentsArePlaced : Type 0
 ComponentsArePlaced = (x : List ℕ) (start end : ℕ) (g : CellsBetween x start end) (at : ℕ) (before whole after : List ℕ) (name : List ℕ) (kind : ℕ) (digest : Option Digest) (content : List ℕ)
     → AllFree g.group → IsPlacing start end at before whole after → IsReadAs name kind digest content whole (length whole)
-    → HasOneMore x start end g (space_cells before ++ (whole ∷ []) ++ space_cells after) (made_component at name kind digest content whole) (spliced x start end (before ++ (whole ++ after)))
+    → HasOneMore x start end g (space_cells before ++ (whole ∷ []) ++ space_cells after) (made_component at name kind digest content whole) (splice x start end (before ++ (whole ++ after)))
 
 -- no valid map stands below this place
 abbrev pub NoMapBelow : List ℕ → ℕ → Type 0

@@ -123,5 +123,5 @@ abbrev pub described_len : Meta → ℕ
 described_len m = meta_length (length m.name.now) (hash_len (option_copied m.digest)) + m.gap
 
 -- the metadata that it describes
-abbrev pub described : Meta → List ℕ
-described m = made_metadata m.name.now m.kind (option_copied m.digest) m.gap m.len
+abbrev pub metadata_of : Meta → List ℕ
+metadata_of m = made_metadata m.name.now m.kind (option_copied m.digest) m.gap m.len

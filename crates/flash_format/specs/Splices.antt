@@ -20,5 +20,5 @@ pub record CellsBetween (x : List ℕ) (start end : ℕ) : Type 0 where
   pub end_is : start + length (concat group) ≡ end
 
 -- the bytes with others in place of those from start up to end
-abbrev pub spliced : List ℕ → ℕ → ℕ → List ℕ → List ℕ
-spliced x start end new = take start x ++ (new ++ drop end x)
+abbrev pub splice : List ℕ → ℕ → ℕ → List ℕ → List ℕ
+splice x start end new = take start x ++ (new ++ drop end x)

@@ -44,7 +44,7 @@ impl FmapHead {
             minor: bytes[9],
             base: LittleEndian::read_u64(&bytes[10..18]),
             size: LittleEndian::read_u32(&bytes[18..22]),
-            name: name_field(&bytes[22..54]),
+            name: name_array(&bytes[22..54]),
             nareas: LittleEndian::read_u16(&bytes[54..56]),
         })
     }
@@ -118,7 +118,7 @@ impl Area {
         Area {
             offset: LittleEndian::read_u32(&bytes[..4]),
             size: LittleEndian::read_u32(&bytes[4..8]),
-            name: name_field(&bytes[8..40]),
+            name: name_array(&bytes[8..40]),
             flags: LittleEndian::read_u16(&bytes[40..42]),
         }
     }
@@ -158,7 +158,7 @@ impl Area {
     }
 }
 
-fn name_field(bytes: &[u8]) -> [u8; 32]
+fn name_array(bytes: &[u8]) -> [u8; 32]
     requires { length bytes.now ≡ 32 }
     ensures { result ≡ bytes.now }
 {

@@ -1,7 +1,7 @@
 //! The head of a CBFS entry, and the checks of it that need no other byte.
 
 ghost use Rattle.std.specs.Prelude.{◌≡◌, Some};
-ghost use Rattle.flash_format.specs.Head.{head_at, head_bytes, is_free, attributes_misplaced, checked};
+ghost use Rattle.flash_format.specs.Head.{head_at, head_bytes, is_free, attributes_misplaced, extent_of};
 
 use byteorder::{BigEndian, ByteOrder};
 
@@ -102,9 +102,9 @@ impl Head {
 
     /// Where the content lies, with `left` bytes from the entry up to the region's end, or what is wrong with
     /// the head. The name and the attributes aren't looked at.
-    #[tactic(auto, unfolding(crate::specs::Head::checked))]
+    #[tactic(auto, unfolding(crate::specs::Head::extent_of))]
     pub fn check(&self, left: u64) -> Result<Extent, DamageKind>
-        ensures { result ≡ checked self.now left }
+        ensures { result ≡ extent_of self.now left }
     {
         let free = self.is_free();
         if self.offset < if free { 24 } else { 25 } {

@@ -4,8 +4,8 @@ ghost use Rattle.std.specs.Prelude.{◌≡◌, ◌≤◌, ◌<◌, ◌+◌, ◌+
 ghost use Rattle.std.specs.Option.{option_copied};
 ghost use Rattle.byteorder.specs.Endian.{big_bytes};
 ghost use Rattle.flash_format.specs.Attributes.{HASH};
-ghost use Rattle.flash_format.specs.Made.{IsDigest, meta_length, name_room, padded_name, hash_attribute, hash_bytes, hash_len, described, described_len, described_head};
-ghost use Rattle.flash_format.specs.Splices.{spliced};
+ghost use Rattle.flash_format.specs.Made.{IsDigest, meta_length, name_room, padded_name, hash_attribute, hash_bytes, hash_len, metadata_of, described_len, described_head};
+ghost use Rattle.flash_format.specs.Splices.{splice};
 
 use crate::attribute::AttrHead;
 use crate::digest::Digest;
@@ -61,9 +61,9 @@ pub fn write_meta(meta: &Meta<'_>, out: &mut [u8]) -> usize
     requires name { length meta.now.name.now ≤ 127 }
     requires gap { meta.now.gap < 64 }
     requires room { described_len meta.now ≤ length out.old }
-    ensures count { result ≡ length (described meta.now) }
+    ensures count { result ≡ length (metadata_of meta.now) }
     ensures len { result ≡ described_len meta.now }
-    ensures written { take result out.new ≡ described meta.now }
+    ensures written { take result out.new ≡ metadata_of meta.now }
     ensures after { drop result out.new ≡ drop result out.old }
 
     // Besides the caller's own facts, this is what `made_cells_are_read_as_made` asks for.
@@ -109,7 +109,7 @@ fn name_room(name_len: usize) -> usize
 fn put(out: &mut [u8], at: usize, bytes: &[u8]) -> usize
     requires { at + length bytes.now ≤ length out.old }
     ensures end { result ≡ at + length bytes.now }
-    ensures puts { out.new ≡ spliced out.old at result bytes.now }
+    ensures puts { out.new ≡ splice out.old at result bytes.now }
 {
     let end = at + bytes.len();
     out[at..end].copy_from_slice(bytes);
@@ -120,7 +120,7 @@ fn put(out: &mut [u8], at: usize, bytes: &[u8]) -> usize
 fn fill(out: &mut [u8], at: usize, count: usize, byte: u8) -> usize
     requires { at + count ≤ length out.old }
     ensures end { result ≡ at + count }
-    ensures puts { out.new ≡ spliced out.old at result (replicate count byte) }
+    ensures puts { out.new ≡ splice out.old at result (replicate count byte) }
 {
     let end = at + count;
     out[at..end].fill(byte);
@@ -132,7 +132,7 @@ fn put_name(out: &mut [u8], at: usize, name: &[u8]) -> usize
     requires name { length name.now ≤ 127 }
     requires room { at + name_room (length name.now) ≤ length out.old }
     ensures end { result ≡ at + name_room (length name.now) }
-    ensures puts { out.new ≡ spliced out.old at result (padded_name name.now) }
+    ensures puts { out.new ≡ splice out.old at result (padded_name name.now) }
 {
     let nuls = name_room(name.len()) - name.len();
     let at = put(out, at, name);
@@ -143,7 +143,7 @@ fn put_name(out: &mut [u8], at: usize, name: &[u8]) -> usize
 fn put_hash(out: &mut [u8], at: usize, digest: Option<&Digest>) -> usize
     requires { at + hash_len (option_copied digest) ≤ length out.old }
     ensures end { result ≡ at + hash_len (option_copied digest.entry) }
-    ensures puts { out.new ≡ spliced out.old at result (hash_bytes (option_copied digest.entry)) }
+    ensures puts { out.new ≡ splice out.old at result (hash_bytes (option_copied digest.entry)) }
 {
     match digest {
         None => at,
@@ -156,7 +156,7 @@ fn put_attribute(out: &mut [u8], at: usize, algorithm: u32, digest: &[u8]) -> us
     requires size { length digest.now ≤ 64 }
     requires room { at + 12 + length digest.now ≤ length out.old }
     ensures end { result ≡ at + 12 + length digest.now }
-    ensures puts { out.new ≡ spliced out.old at result (hash_attribute algorithm digest.now) }
+    ensures puts { out.new ≡ splice out.old at result (hash_attribute algorithm digest.now) }
 {
     let prefix = attribute_prefix(algorithm, 12 + digest.len() as u32);
     let at = put(out, at, &prefix);

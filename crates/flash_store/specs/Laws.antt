@@ -21,8 +21,8 @@ pub record WritesInRegions : Type 0 where
   pub whole : (r : Range) (x y : List ℕ) → LiesIn r x → length y ≡ length x → SameOutside r.start r.size x y → y ≡ overwritten x r.start (bytes_in r y)
 
 -- the image with its region's bytes replaced by what is made of them
-abbrev pub edited : Range → (List ℕ → List ℕ) → List ℕ → List ℕ
-edited r make image = overwritten image r.start (make (bytes_in r image))
+abbrev pub with_edit : Range → (List ℕ → List ℕ) → List ℕ → List ℕ
+with_edit r make image = overwritten image r.start (make (bytes_in r image))
 
 -- no byte lies in both
 abbrev pub LieApart : Range → Range → Type 0

@@ -39,10 +39,10 @@ IsTrueTo device (Window at bytes) = (at + length bytes ≤ length device.content
 IsTrueTo device _ = Unit {0}
 
 -- what is held is no longer than a buffer
-abbrev pub Fits : Buffered → Type 0
-Fits code.Nothing = Unit {0}
-Fits (code.Window at size) = size ≤ 4096
-Fits (code.Piece size) = size ≤ 4096
+abbrev pub FitsBuffer : Buffered → Type 0
+FitsBuffer code.Nothing = Unit {0}
+FitsBuffer (code.Window at size) = size ≤ 4096
+FitsBuffer (code.Piece size) = size ≤ 4096
 
 -- a window is held, and has all of the n bytes from a place on
 abbrev pub Covers : Held → ℕ → ℕ → Type 0

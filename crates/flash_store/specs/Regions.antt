@@ -24,14 +24,14 @@ by_device faults.Device = 1
 by_device _ = 0
 
 -- the area as a region, where it lies inside an image of so many bytes
-abbrev pub inside : ℕ → Option Area → Result Range StoreFault
-inside image_len None = Err faults.NoRegion
-inside image_len (Some a) = if nat_lt image_len (a.offset + a.size) then Err faults.RegionOutside else Ok (record { start = a.offset; size = a.size })
+abbrev pub region_by_area : ℕ → Option Area → Result Range StoreFault
+region_by_area image_len None = Err faults.NoRegion
+region_by_area image_len (Some a) = if nat_lt image_len (a.offset + a.size) then Err faults.RegionOutside else Ok (record { start = a.offset; size = a.size })
 
 -- the first area of the name in the map at a place, as a region
 abbrev pub region_under : List ℕ → List ℕ → Option ℕ → Result Range StoreFault
 region_under image name None = Err faults.NoFmap
-region_under image name (Some q) = inside (length image) (area_in image q name)
+region_under image name (Some q) = region_by_area (length image) (area_in image q name)
 
 -- where the first area of the name in the image's flashmap lies
 unfoldable pub region_of : List ℕ → List ℕ → Result Range StoreFault

@@ -5,7 +5,7 @@ ghost use Rattle.flash_format.specs.Flashmap.{fmap_head_len, area_len, map_len, 
 ghost use Rattle.flash_store.specs.Device.{Reads, faults_told, refusals};
 ghost use Rattle.flash_store.specs.Pages.{OnHonest, HasRead, HasAnswered};
 ghost use Rattle.flash_store.specs.Fmap.{HasSignatureAt, map_head, map_head_in, found_from, found_in};
-ghost use Rattle.flash_store.specs.Regions.{LiesIn, by_device, inside, region_of};
+ghost use Rattle.flash_store.specs.Regions.{LiesIn, by_device, region_by_area, region_of};
 ghost use Rattle.memchr.specs.Find.{IsFirst};
 
 use crate::flash::{Flash, FlashFault, PIECE};
@@ -84,7 +84,7 @@ pub fn find_fmap_from<F: Flash>(
         let size = (len - place).min(PIECE as u64);
         match signature_in(paged, place, size as usize)? {
             Some(at) => {
-                if let Some(head) = head_at(paged, at, len)? {
+                if let Some(head) = map_head_at(paged, at, len)? {
                     return Ok(Some(FoundMap { at, head }));
                 }
                 place = at + SIGNATURE_STEP;
@@ -118,7 +118,7 @@ fn signature_in<F: Flash>(
 }
 
 /// The head of the valid map at a place of a device of `len` bytes.
-fn head_at<F: Flash>(
+fn map_head_at<F: Flash>(
     paged: &mut Paged<F>,
     place: u64,
     len: u64,
@@ -190,7 +190,7 @@ fn area_named<F: Flash>(
 /// The area as a region of an image of `image_len` bytes. What is refused: no area (5), an area that doesn't lie inside the
 /// image (6).
 pub fn region_of_area(area: Option<Area>, image_len: u64) -> Result<Region, StoreFault>
-    ensures answer { result ≡ inside image_len area }
+    ensures answer { result ≡ region_by_area image_len area }
     ensures lies_in { IfOk result (λ region. region.start + region.size ≤ image_len) }
     ensures no_device_fault { IsErrOf result StoreFault.Device → ⊥ }
 {

@@ -3,7 +3,7 @@
 ghost use Rattle.std.specs.Prelude.{◌≡◌, ℕ, ◌+◌, ◌≤◌, List, length};
 ghost use Rattle.flash_store.specs.Bytes.{overwritten};
 ghost use Rattle.flash_store.specs.Regions.{Range, LiesIn, bytes_in};
-ghost use Rattle.flash_store.specs.Laws.{WritesInRegions, WrittenMapsAreFound, LieApart, edited};
+ghost use Rattle.flash_store.specs.Laws.{WritesInRegions, WrittenMapsAreFound, LieApart, with_edit};
 
 /// What a write to the image is to the bytes of a region.
 pub fn writes_are_seen_by_regions()
@@ -21,7 +21,7 @@ pub fn separate_writes_swap()
 pub fn separate_edits_swap()
     ensures { (image : List ℕ) (r s : Range) (first last : List ℕ → List ℕ) → LiesIn r image → LiesIn s image → LieApart r s
         → length (first (bytes_in r image)) ≡ r.size → length (last (bytes_in s image)) ≡ s.size
-        → edited s last (edited r first image) ≡ edited r first (edited s last image) }
+        → with_edit s last (with_edit r first image) ≡ with_edit r first (with_edit s last image) }
 {}
 
 /// Bytes that are read as a valid map, whatever follows them, are found with their areas where they are written into an

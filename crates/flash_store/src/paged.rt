@@ -84,13 +84,13 @@ pub struct Paged<F: Flash> {
 }
 
 impl<F: Flash> Model for Paged<F> {
-    ghost use Rattle.flash_store.specs.Pages.{Pages, held_in, Fits, IsTrueTo};
+    ghost use Rattle.flash_store.specs.Pages.{Pages, held_in, FitsBuffer, IsTrueTo};
 
     ghost Value = { Pages F };
 
     ghost view = { λ p. record { device = p.device; held = held_in p.buffer p.held } };
 
-    ghost invariant = { λ p. Fits p.held × IsTrueTo (F.facts p.device) (held_in p.buffer p.held) };
+    ghost invariant = { λ p. FitsBuffer p.held × IsTrueTo (F.facts p.device) (held_in p.buffer p.held) };
 }
 
 impl<F: Flash> Paged<F> {

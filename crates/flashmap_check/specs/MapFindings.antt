@@ -19,13 +19,13 @@ by_device faults.Device = 1
 by_device faults.Memory = 0
 
 -- these areas with their numbers, from this one on
-abbrev pub numbered : ℕ → List Area → List NumberedArea
-numbered number [] = []
-numbered number (area ∷ areas) = record { number = number; area = area } ∷ numbered (number + 1) areas
+abbrev pub numbered_from : ℕ → List Area → List NumberedArea
+numbered_from number [] = []
+numbered_from number (area ∷ areas) = record { number = number; area = area } ∷ numbered_from (number + 1) areas
 
 -- the areas of a map of an image, with their numbers
 abbrev pub map_areas : List ℕ → FoundMap → List NumberedArea
-map_areas image map = numbered 0 (areas_from map.head.nareas (drop (map.at + fmap_head_len) image))
+map_areas image map = numbered_from 0 (areas_from map.head.nareas (drop (map.at + fmap_head_len) image))
 
 -- where the area ends
 abbrev pub area_end : Area → ℕ
@@ -49,12 +49,12 @@ abbrev pub has_name : List ℕ → NumberedArea → Bool
 has_name name a = is_area name a.area
 
 -- the area's number
-abbrev pub number_of : NumberedArea → ℕ
-number_of a = a.number
+abbrev pub area_number : NumberedArea → ℕ
+area_number a = a.number
 
 -- the number of the first of these areas with the name
 abbrev pub first_with : List ℕ → List NumberedArea → Option ℕ
-first_with name areas = option_map number_of (find (has_name name) areas)
+first_with name areas = option_map area_number (find (has_name name) areas)
 
 -- of an area, where the first one before it that has its name has this number
 abbrev pub name_finding : NumberedArea → Option ℕ → List MapFinding

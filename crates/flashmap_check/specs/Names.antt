@@ -9,9 +9,9 @@ use Rattle.flashmap_check.specs.declared.names.AreaNames.{AreaNames}
 use Rattle.flashmap_check.specs.MapFindings.{has_name}
 
 -- the area that is kept for a name
-abbrev pub noted : AreaNames → List ℕ → Option NumberedArea
-noted names name = get_by (λ k. slice_cmp nat_cmp name k.now) names.first
+abbrev pub area_for : AreaNames → List ℕ → Option NumberedArea
+area_for names name = get_by (λ k. slice_cmp nat_cmp name k.now) names.first
 
 -- the first of these areas with each name is kept, and no more
 abbrev pub Notes : AreaNames → List NumberedArea → Type 0
-Notes names areas = (name : List ℕ) → noted names name ≡ find (has_name name) areas
+Notes names areas = (name : List ℕ) → area_for names name ≡ find (has_name name) areas

@@ -4,7 +4,7 @@ ghost use Rattle.std.specs.Prelude.{◌≡◌, [], ◌∷◌, ◌++◌, List, If
 ghost use Rattle.std.specs.Option.{option_map};
 ghost use Rattle.flash_format.specs.Flashmap.{text_of};
 ghost use Rattle.flashmap_check.specs.declared.finding.NumberedArea.{NumberedArea};
-ghost use Rattle.flashmap_check.specs.MapFindings.{number_of, name_finding, name_findings};
+ghost use Rattle.flashmap_check.specs.MapFindings.{area_number, name_finding, name_findings};
 
 use crate::finding::{MapFinding, NumberedArea};
 use std::alloc::{AllocError, Global};
@@ -17,7 +17,7 @@ pub struct AreaNames<'a> {
 }
 
 impl<'a> AreaNames<'a> {
-    ghost use Rattle.flashmap_check.specs.Names.{noted, Notes};
+    ghost use Rattle.flashmap_check.specs.Names.{area_for, Notes};
 
     /// Of no areas.
     pub fn new(alloc: Global) -> AreaNames<'a>
@@ -41,14 +41,14 @@ impl<'a> AreaNames<'a> {
 
     /// The first area with the name.
     pub fn get(&self, name: &'a [u8]) -> Option<NumberedArea>
-        ensures { result ≡ noted self.now name.now }
+        ensures { result ≡ area_for self.now name.now }
     {
         self.first.get(&name).copied()
     }
 
     /// The first area with the area's name. Where there is none, the area is noted.
     fn note(&mut self, area: &'a NumberedArea) -> Result<Option<NumberedArea>, AllocError>
-        ensures first { IfOk result (λ first. first ≡ noted self.old (text_of area.now.area.name)) }
+        ensures first { IfOk result (λ first. first ≡ area_for self.old (text_of area.now.area.name)) }
         ensures more { (before : List NumberedArea) → Notes self.old before → OnOk result (Notes self.new (before ++ area.now ∷ [])) }
     {
         let name = area.area.text();
@@ -82,7 +82,7 @@ fn push_name_finding(
     a: &NumberedArea,
     first: Option<NumberedArea>,
 ) -> Result<(), AllocError>
-    ensures { OnOk result (findings.new.items ≡ findings.old.items ++ name_finding a.now (option_map number_of first)) }
+    ensures { OnOk result (findings.new.items ≡ findings.old.items ++ name_finding a.now (option_map area_number first)) }
 {
     if let Some(first) = first {
         findings.push(MapFinding::SameName {

@@ -8,7 +8,7 @@ use Rattle.std.proofs.lemmas.List.{take_min, drop-replicate}
 use Rattle.fmd_lang.specs.Tree.{Tree, section, Forest, none, some, section_count, names, names_of, size_of, view, views}
 use Rattle.fmd_lang.specs.declared.section.Section.TheFolds.{fold_out-Section}
 use Rattle.fmd_lang.specs.Table.{field_of, area_limit, section_area, areas_below, areas_of, AreasBelow, AreasOf, IsTable}
-use Rattle.fmd_lang.specs.Layout.{ambiguous_sibling, sibling, siblings, place_of, filled, end_of, row_fault, misfit_of, first_misfit}
+use Rattle.fmd_lang.specs.Layout.{ambiguous_sibling, sibling, siblings, place_of, places_of, end_of, row_fault, misfit_of, first_misfit}
 use Rattle.fmd_lang.specs.LayoutFaults.{count_fault, parent_fault, parts_fault, layout_fault, names_fault, size_fault, table_fault, duplicate}
 use Rattle.fmd_lang.specs.declared.fault.FmdFault.TheVariants as faults
 use Rattle.std.specs.List.{list_any}
@@ -38,7 +38,7 @@ length-le-count [] = omega arith
 length-le-count (s ∷ ss) =
     omega (arith, length-append (names (view s)) (names_of (views ss)), some-names (view s), length-le-count ss)
 
-pub length-filled : (ps : List Sibling) (parent from : ℕ) → length (filled parent from ps) ≡ length ps
+pub length-filled : (ps : List Sibling) (parent from : ℕ) → length (places_of parent from ps) ≡ length ps
 length-filled [] parent from = refl
 length-filled (p ∷ ps) parent from = ap suc (length-filled ps parent _)
 
@@ -126,21 +126,21 @@ mutual
   pub areas-laid : (t : Tree) (n at size : ℕ) → parent_fault n size t ≡ None → AreasBelow n at size t (areas_below n at size t)
   areas-laid (section name flags offset given parts) n at size h =
       let row = siblings (suc n) parts in
-      let qs = filled size 0 row in
+      let qs = places_of size 0 row in
       let (fine, others) = or-none (row_fault size row) (parts_fault (suc n) parts qs) h in
       let (clear, fitting) = or-none (option_map faults.Ambiguous (ambiguous_sibling false row)) (first_misfit size 0 row qs) fine in
       (map-none faults.Ambiguous (ambiguous_sibling false row) clear, parts-laid parts (suc n) at size 0 fitting others)
 
   parts-laid : (ts : Forest) (n at size from : ℕ) →
-      first_misfit size from (siblings n ts) (filled size from (siblings n ts)) ≡ None →
-      parts_fault n ts (filled size from (siblings n ts)) ≡ None →
-      AreasOf n at size from ts (areas_of n at ts (filled size from (siblings n ts)))
+      first_misfit size from (siblings n ts) (places_of size from (siblings n ts)) ≡ None →
+      parts_fault n ts (places_of size from (siblings n ts)) ≡ None →
+      AreasOf n at size from ts (areas_of n at ts (places_of size from (siblings n ts)))
   parts-laid none n at size from fitting h = refl
   parts-laid (some t ts) n at size from fitting h =
       let m = n + section_count t in
       let p = sibling n t in
       let q = place_of size from p (siblings m ts) in
-      let qs = filled size (end_of q) (siblings m ts) in
+      let qs = places_of size (end_of q) (siblings m ts) in
       let (fine, behind) = or-none (misfit_of size from p q) (first_misfit size (end_of q) (siblings m ts) qs) fitting in
       let (inner, others) = or-none (parent_fault n q.size t) (parts_fault m ts qs) h in
       let placed = placed_one size from p.number p.offset p.size (siblings m ts) fine in

@@ -1,7 +1,7 @@
 -- The places of a row that is laid are the filled ones, and a tree that is laid has no fault.
 use Rattle.std.proofs.Common.{◌≡◌, ℕ, suc, ◌+◌, List, [], ◌∷◌, ◌++◌, length, length-append, None, refl, sym, ◌∙◌, ap, arith}
 use Rattle.fmd_lang.specs.Tree.{Tree, section, Forest, none, some, section_count, names, names_of}
-use Rattle.fmd_lang.specs.Layout.{filled, end_of, sibling, siblings, first_misfit}
+use Rattle.fmd_lang.specs.Layout.{places_of, end_of, sibling, siblings, first_misfit}
 use Rattle.fmd_lang.specs.Table.{section_area, areas_below, areas_of, AreasBelow, AreasOf, IsTable, table_head}
 use Rattle.fmd_lang.specs.LayoutFaults.{parent_fault, parts_fault}
 use Rattle.fmd_lang.specs.declared.row.Place.{Place}
@@ -18,7 +18,7 @@ mutual
       (shape ∙ ap (λ rs. areas_of (suc n) at parts rs) same, ap suc count, rw (clear, ← same, fitting) fine)
 
   parts-filled : (ts : Forest) (n at size from : ℕ) (areas : List Area) → AreasOf n at size from ts areas →
-      (qs : List Place) × (qs ≡ filled size from (siblings n ts)) × (areas ≡ areas_of n at ts qs)
+      (qs : List Place) × (qs ≡ places_of size from (siblings n ts)) × (areas ≡ areas_of n at ts qs)
       × (length areas ≡ length (names_of ts)) × (first_misfit size from (siblings n ts) qs ≡ None)
       × (parts_fault n ts qs ≡ None)
   parts-filled none n at size from areas h = ([], refl, h, ap length h, refl, refl)
@@ -30,7 +30,7 @@ mutual
       let (qs, same, outer, rest, fitting, fine) = parts-filled ts (n + section_count t) at size (end_of q) after others in
       let a = section_area at q t in (
         q ∷ qs,
-        ap (λ rs. q ∷ rs) same ∙ ap (λ r. r ∷ filled size (end_of r) ps) here,
+        ap (λ rs. q ∷ rs) same ∙ ap (λ r. r ∷ places_of size (end_of r) ps) here,
         shape ∙ ap (λ xs. a ∷ xs ++ after) inner ∙ ap (λ xs. a ∷ areas_below n (at + q.start) q.size t ++ xs) outer,
         omega (arith, ap length shape, length-append below after, length-append (names t) (names_of ts), count, rest),
         rw (placed.fits) fitting,

@@ -2,7 +2,7 @@
 use Rattle.std.proofs.Common.{◌≡◌, ℕ, ◌+◌, ◌<◌, ◌≤◌, nat_le, true, List, [], ◌∷◌, Option, Some, None, refl, ◌∙◌, ap, arith}
 use Rattle.std.specs.List.{list_all}
 use Rattle.std.proofs.lemmas.Bool.{le-leb}
-use Rattle.fmd_lang.specs.Layout.{place_of, filled, end_of, IsPlaced, first_misfit, misfit_of}
+use Rattle.fmd_lang.specs.Layout.{place_of, places_of, end_of, IsPlaced, first_misfit, misfit_of}
 use Rattle.fmd_lang.proofs.OptionLemmas.{or-none}
 use Rattle.fmd_lang.specs.declared.row.Sibling.{Sibling}
 use Rattle.fmd_lang.specs.declared.row.Place.{Place}
@@ -37,11 +37,11 @@ place-is parent from n o (Some s) q ps placed =
     same_place q (place_of parent from (make n o (Some s)) ps) placed.offset placed.size
 
 -- every place that is filled lies in the parent, where none is refused
-pub filled-inside : (ps : List Sibling) (parent from : ℕ) → first_misfit parent from ps (filled parent from ps) ≡ None →
-    list_all (λ q. nat_le (end_of q) parent) (filled parent from ps) ≡ true
+pub filled-inside : (ps : List Sibling) (parent from : ℕ) → first_misfit parent from ps (places_of parent from ps) ≡ None →
+    list_all (λ q. nat_le (end_of q) parent) (places_of parent from ps) ≡ true
 filled-inside [] parent from h = refl
 filled-inside (p ∷ ps) parent from h =
     let q = place_of parent from p ps in
-    let (fine, others) = or-none (misfit_of parent from p q) (first_misfit parent (end_of q) ps (filled parent (end_of q) ps)) h in
+    let (fine, others) = or-none (misfit_of parent from p q) (first_misfit parent (end_of q) ps (places_of parent (end_of q) ps)) h in
     let here : nat_le (end_of q) parent ≡ true = le-leb _ _ (fits parent from p q fine).1 in
     rw here (filled-inside ps parent (end_of q) others)

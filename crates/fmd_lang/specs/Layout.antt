@@ -52,9 +52,9 @@ place_of parent from p ps =
     let start = unwrap_or p.offset from in
     record { start = start; size = unwrap_or p.size (bound parent ps - (start + sizes_ahead ps)) }
 
-abbrev pub filled : ℕ → ℕ → List Sibling → List Place
-filled parent from [] = []
-filled parent from (p ∷ ps) = place_of parent from p ps ∷ filled parent (end_of (place_of parent from p ps)) ps
+abbrev pub places_of : ℕ → ℕ → List Sibling → List Place
+places_of parent from [] = []
+places_of parent from (p ∷ ps) = place_of parent from p ps ∷ places_of parent (end_of (place_of parent from p ps)) ps
 
 -- the first refusal of these places
 abbrev pub first_misfit : ℕ → ℕ → List Sibling → List Place → Option FmdFault
@@ -64,7 +64,7 @@ first_misfit parent from ps qs = None
 -- the first refusal of a row
 abbrev pub row_fault : ℕ → List Sibling → Option FmdFault
 row_fault parent ps = option_or (option_map faults.Ambiguous (ambiguous_sibling false ps))
-    (first_misfit parent 0 ps (filled parent 0 ps))
+    (first_misfit parent 0 ps (places_of parent 0 ps))
 
 -- a section with this number as one of a row, and the sections of which the first has this number
 abbrev pub sibling : ℕ → Tree → Sibling

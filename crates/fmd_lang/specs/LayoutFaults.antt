@@ -6,7 +6,7 @@ use Rattle.std.specs.List.{list_any}
 use Rattle.std.specs.Str.{bytes_eq}
 use Rattle.flash_format.specs.Flashmap.{area_len, fmap_head_len}
 use Rattle.fmd_lang.specs.Tree.{Tree, section, Forest, some, section_count, names, size_of}
-use Rattle.fmd_lang.specs.Layout.{filled, row_fault, siblings}
+use Rattle.fmd_lang.specs.Layout.{places_of, row_fault, siblings}
 use Rattle.fmd_lang.specs.Table.{area_limit, areas_below, fmap_size}
 use Rattle.fmd_lang.specs.declared.row.Place.{Place}
 use Rattle.flash_format.specs.declared.flashmap.Area.{Area}
@@ -18,7 +18,7 @@ abbrev mutual
   pub parent_fault : ℕ → ℕ → Tree → Option FmdFault
   parent_fault n size (section name flags offset given parts) =
       let row = siblings (suc n) parts in
-      option_or (row_fault size row) (parts_fault (suc n) parts (filled size 0 row))
+      option_or (row_fault size row) (parts_fault (suc n) parts (places_of size 0 row))
 
   pub parts_fault : ℕ → Forest → List Place → Option FmdFault
   parts_fault n (some t ts) (q ∷ qs) = option_or (parent_fault n q.size t) (parts_fault (n + section_count t) ts qs)

@@ -4,7 +4,7 @@ use Rattle.std.specs.List.{find, flat_map}
 use Rattle.std.specs.Option.{option_map_or}
 use Rattle.flash_format.specs.Flashmap.{fmap_head_bytes, area_bytes, is_area}
 use Rattle.fmd_lang.specs.Tree.{Tree, section, Forest, none, some, section_count}
-use Rattle.fmd_lang.specs.Layout.{IsPlaced, ambiguous_sibling, end_of, sibling, siblings, filled}
+use Rattle.fmd_lang.specs.Layout.{IsPlaced, ambiguous_sibling, end_of, sibling, siblings, places_of}
 use Rattle.fmd_lang.specs.declared.row.Place.{Place}
 use Rattle.flash_format.specs.declared.flashmap.Area.{Area}
 use Rattle.flash_format.specs.declared.flashmap.FmapHead.{FmapHead}
@@ -41,7 +41,7 @@ abbrev mutual
 abbrev mutual
   pub areas_below : ℕ → ℕ → ℕ → Tree → List Area
   areas_below n at size (section name flags offset given parts) =
-      areas_of (suc n) at parts (filled size 0 (siblings (suc n) parts))
+      areas_of (suc n) at parts (places_of size 0 (siblings (suc n) parts))
 
   pub areas_of : ℕ → ℕ → Forest → List Place → List Area
   areas_of n at (some t ts) (q ∷ qs) =

@@ -14,7 +14,7 @@ ghost use Rattle.fmd_lang.specs.LayoutFaults as faults;
 ghost use Rattle.fmd_lang.specs.LayoutFaults.{layout_fault};
 
 use crate::fault::FmdFault;
-use crate::names::{check_names_of, name_field};
+use crate::names::{check_names_of, field_of};
 use crate::row::{Place, Sibling, lay_row};
 use crate::section::Section;
 use crate::table::Table;
@@ -39,7 +39,7 @@ pub fn lay_out(alloc: Global, root: &Section) -> Result<Table, FmdFault>
     Ok(Table {
         base: u64::from(root.offset.unwrap_or(0)),
         size,
-        name: name_field(&root.name),
+        name: field_of(&root.name),
         areas,
     })
 }
@@ -77,7 +77,7 @@ fn push_areas(
         let area = Area {
             offset: at + place.start,
             size: place.size,
-            name: name_field(&part.name),
+            name: field_of(&part.name),
             flags: part.flags,
         };
         if areas.push(area).is_err() {
@@ -96,7 +96,7 @@ fn places(
     size: u32,
 ) -> Result<Vec<Place>, FmdFault>
     requires { number + section_count (view section.now) ≤ area_limit + 1 }
-    ensures ok { IfOk result (λ row. row.items ≡ spec.filled size 0 (spec.siblings (suc number) (views (out-Section section.now).parts.items))) }
+    ensures ok { IfOk result (λ row. row.items ≡ spec.places_of size 0 (spec.siblings (suc number) (views (out-Section section.now).parts.items))) }
     ensures len { IfOk result (λ row. length row.items ≡ length (out-Section section.now).parts.items) }
     ensures inside { IfOk result (λ row. IsTrue (list_all (λ q. nat_le (end_of q) size) row.items)) }
     ensures refused { Refuses (row_fault size (spec.siblings (suc number) (views (out-Section section.now).parts.items))) result }

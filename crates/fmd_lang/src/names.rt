@@ -93,7 +93,7 @@ fn has_fmap(names: &[&[u8]]) -> bool
 }
 
 /// A name as the table has it.
-pub fn name_field(name: &[u8]) -> [u8; 32]
+pub fn field_of(name: &[u8]) -> [u8; 32]
     ensures { result ≡ field_of name.now }
 {
     let mut field = [0; 32];

@@ -15,7 +15,7 @@ use Rattle.flash_store.specs.Regions.{region_of, region_under}
 use Rattle.flashmap_check.specs.declared.finding.MapFinding.{MapFinding}
 use Rattle.flashmap_check.specs.declared.finding.MapFinding.TheVariants.{OtherSize}
 use Rattle.flashmap_check.specs.declared.finding.NumberedArea.{NumberedArea}
-use Rattle.flashmap_check.specs.MapFindings.{area_end, area_findings, areas_under, findings_of, findings_under, first_with, has_name, image_areas, map_areas, map_findings, name_finding, name_findings, next_findings, numbered, told_if}
+use Rattle.flashmap_check.specs.MapFindings.{area_end, area_findings, areas_under, findings_of, findings_under, first_with, has_name, image_areas, map_areas, map_findings, name_finding, name_findings, next_findings, numbered_from, told_if}
 use Rattle.flashmap_check.proofs.Sound.{named}
 use Rattle.image_check.specs.declared.finding.ImageFinding.{ImageFinding}
 use Rattle.image_check.specs.declared.finding.ImageFinding.TheVariants.{Map, NoRegion, Region, Skipped}
@@ -48,9 +48,9 @@ fit_names n map next areas fit =
 
 -- ---- a name reaches its first area
 
-find_area : (name : List ℕ) (k : ℕ) (areas : List Area) → option_map (λ (a : NumberedArea). a.area) (find (has_name name) (numbered k areas)) ≡ find (is_area name) areas
+find_area : (name : List ℕ) (k : ℕ) (areas : List Area) → option_map (λ (a : NumberedArea). a.area) (find (has_name name) (numbered_from k areas)) ≡ find (is_area name) areas
 find_area name k [] = refl
-find_area name k (area ∷ areas) = go (is_area name area) (find (has_name name) (numbered (k + 1) areas)) ∙ ap (λ (o : Option Area). cond (is_area name area) (Some area) o) (find_area name (k + 1) areas)
+find_area name k (area ∷ areas) = go (is_area name area) (find (has_name name) (numbered_from (k + 1) areas)) ∙ ap (λ (o : Option Area). cond (is_area name area) (Some area) o) (find_area name (k + 1) areas)
   where
     go : (b : Bool) (o : Option NumberedArea) → option_map (λ (a : NumberedArea). a.area) (cond b (Some (record { number = k; area = area })) o) ≡ cond b (Some area) (option_map (λ (a : NumberedArea). a.area) o)
     go true o = refl

@@ -10,7 +10,7 @@ use Rattle.flash_store.specs.Regions.{region_of}
 use Rattle.flashmap_check.specs.declared.finding.NumberedArea.{NumberedArea}
 use Rattle.cbfs_walk.specs.Finding.{component_in}
 use Rattle.cbfs_walk.specs.Hashes.{hash_state}
-use Rattle.cbfs_walk.specs.Shapes.{shape}
+use Rattle.cbfs_walk.specs.Shapes.{shape_fault}
 use Rattle.cbfs_walk.specs.declared.hashes.HashState.TheVariants.{Invalid}
 use Rattle.cbfs_check.specs.RegionFindings.{region_findings}
 use Rattle.image_check.specs.ImageFindings.{bytes_of, image_findings, range_of}
@@ -27,7 +27,7 @@ IsIntact c = (stored : Digest) → hash_state c.attributes c.content ≢ Invalid
 
 -- a region of a good size with an entry at its start, in which no entry is damaged and each component is intact
 pub record IsWhole (x : List ℕ) : Type 0 where
-  pub shaped : shape x ≡ None
+  pub shaped : shape_fault x ≡ None
   pub undamaged : (kind : DamageKind) → (cut x).end ≢ damage kind
   pub intact : All IsIntact (components x)
 

@@ -1,6 +1,6 @@
 use Rattle.std.proofs.Common.{◌≡◌, IsTrue, length, arith, refl, rules}
 use Rattle.std.proofs.lemmas.Grind.{common_steps}
-use Rattle.cbfs_commands.specs.Creations.{created}
+use Rattle.cbfs_commands.specs.Creations.{created_image}
 use Rattle.cbfs_commands.proofs.Meeting.{whole-image}
 use Rattle.cbfs_commands.proofs.create.create.Goals as goal
 
@@ -23,7 +23,7 @@ returns g c = record {
   left = λ h serves.
       let honest : IsTrue (g.S.Source.facts c.args.source.now).honest = serves refl in
       let plan = c.in_ok-plan.plan in
-      let made : (g.F.Flash.facts c.format_all.new.paged.device).content ≡ created (length (g.F.Flash.facts c.args.paged.now.device).content) plan (g.S.Source.facts c.args.source.now).content = grind (arith, common_steps) in
+      let made : (g.F.Flash.facts c.format_all.new.paged.device).content ≡ created_image (length (g.F.Flash.facts c.args.paged.now.device).content) plan (g.S.Source.facts c.args.source.now).content = grind (arith, common_steps) in
       search rules;
   stopped = search rules;
 }

@@ -1,7 +1,7 @@
 use Rattle.std.proofs.Common.{refl, ap, ◌∙◌, ◌-◌, arith, inr, eqb, ◌&&◌, true, false, ◌<◌, ◌≡◌}
 use Rattle.std.proofs.lemmas.Grind.{common_steps}
 use Rattle.std.proofs.lemmas.Bool.{and_left, and_right}
-use Rattle.flash_format.specs.Head.{checked}
+use Rattle.flash_format.specs.Head.{extent_of}
 use Rattle.flash_format.specs.Entry.{absent, damaged}
 use Rattle.flash_store.proofs.DeviceLemmas.{honest_still}
 use Rattle.cbfs_walk.specs.Shapes.{has_bad_size}
@@ -37,26 +37,26 @@ returns-in-Err-check-clause-answer g c = λ h.
     let image = (g.F.Flash.facts c.args.paged.now.device).content in
     let inside : c.args.at < c.args.region.size = grind (arith, common_steps) in
     let here = entry_present _ c.in-Ok-Some.head _ _ (rw c.in-Ok-Some.field-0-is at (c.in-Ok-Some.ensures.head h)) (length-rest c.args.region image c.args.at c.requires.region)
-    (c.in-Err-check.ensures ∙ ap (λ n. checked c.in-Ok-Some.head (n - c.args.at)) c.size-3.ensures) in
+    (c.in-Err-check.ensures ∙ ap (λ n. extent_of c.in-Ok-Some.head (n - c.args.at)) c.size-3.ensures) in
     inr (answer_entry _ c.args.at _ (damaged c.in-Err-check.kind) (length-region c.args.region image c.requires.region) (c.if-has_bad_size.ensures ∙ ap has_bad_size c.size.ensures) inside here (and_right _ _ refl))
 
 pub cell_at-requires-clause-cell : goal.cell_at-requires-clause-cell
-cell_at-requires-clause-cell g c = checked_extent _ _ c.in-Ok.extent (c.in-Ok.ensures ∙ ap (λ n. checked c.in-Ok-Some.head (n - c.args.at)) c.size-3.ensures)
+cell_at-requires-clause-cell g c = checked_extent _ _ c.in-Ok.extent (c.in-Ok.ensures ∙ ap (λ n. extent_of c.in-Ok-Some.head (n - c.args.at)) c.size-3.ensures)
 
 pub returns-in-Ok-clause-after : goal.returns-in-Ok-clause-after
 returns-in-Ok-clause-after g c =
     cell_reads _ c.args.region (record { at = c.args.at; head = c.in-Ok-Some.head; span = c.in-Ok.extent.span }) _ _ _ c.cell_at.result
-    (checked_extent _ _ c.in-Ok.extent (c.in-Ok.ensures ∙ ap (λ n. checked c.in-Ok-Some.head (n - c.args.at)) c.size-3.ensures)) c.cell_at.ensures.cell c.in-Ok-Some.ensures.passes c.cell_at.ensures.passes
+    (checked_extent _ _ c.in-Ok.extent (c.in-Ok.ensures ∙ ap (λ n. extent_of c.in-Ok-Some.head (n - c.args.at)) c.size-3.ensures)) c.cell_at.ensures.cell c.in-Ok-Some.ensures.passes c.cell_at.ensures.passes
 
 pub returns-in-Ok-clause-cell : goal.returns-in-Ok-clause-cell
 returns-in-Ok-clause-cell g c =
     cell_gives c.args.region.size (record { at = c.args.at; head = c.in-Ok-Some.head; span = c.in-Ok.extent.span }) c.cell_at.result
-    (checked_extent _ _ c.in-Ok.extent (c.in-Ok.ensures ∙ ap (λ n. checked c.in-Ok-Some.head (n - c.args.at)) c.size-3.ensures)) (c.if-has_bad_size.ensures ∙ ap has_bad_size c.size.ensures) c.requires.aligned c.requires.inside c.cell_at.ensures.cell
+    (checked_extent _ _ c.in-Ok.extent (c.in-Ok.ensures ∙ ap (λ n. extent_of c.in-Ok-Some.head (n - c.args.at)) c.size-3.ensures)) (c.if-has_bad_size.ensures ∙ ap has_bad_size c.size.ensures) c.requires.aligned c.requires.inside c.cell_at.ensures.cell
 
 pub returns-in-Ok-clause-answer : goal.returns-in-Ok-clause-answer
 returns-in-Ok-clause-answer g c = λ h.
     let len = length-region c.args.region (g.F.Flash.facts c.args.paged.now.device).content c.requires.region in
     let inside : c.args.at < c.args.region.size = grind (arith, common_steps) in
-    let told = rw (c.head_at.ensures.passes.read.device.unchanged h) at (c.cell_at.ensures.answer (honest_still c.head_at.ensures.passes.read.device.calls.same_honesty h)) in
+    let told = rw (c.front_at.ensures.passes.read.device.unchanged h) at (c.cell_at.ensures.answer (honest_still c.front_at.ensures.passes.read.device.calls.same_honesty h)) in
     answer_cell _ c.args.at _ c.in-Ok-Some.head c.in-Ok.extent c.cell_at.result len (c.if-has_bad_size.ensures ∙ ap has_bad_size c.size.ensures) inside
-    (rw c.in-Ok-Some.field-0-is at (c.in-Ok-Some.ensures.head h)) (c.in-Ok.ensures ∙ ap (λ n. checked c.in-Ok-Some.head (n - c.args.at)) c.size-3.ensures) told
+    (rw c.in-Ok-Some.field-0-is at (c.in-Ok-Some.ensures.head h)) (c.in-Ok.ensures ∙ ap (λ n. extent_of c.in-Ok-Some.head (n - c.args.at)) c.size-3.ensures) told

@@ -4,7 +4,7 @@ use Rattle.std.proofs.lemmas.List.{take_at, drop_at, length-replicate}
 use Rattle.flash_format.specs.declared.head.Head.{Head}
 use Rattle.flash_format.specs.Head.{head_bytes}
 use Rattle.flash_format.specs.Made.{padded_name, hash_bytes, described_head}
-use Rattle.flash_format.specs.Splices.{spliced}
+use Rattle.flash_format.specs.Splices.{splice}
 use Rattle.flash_format.proofs.EmptyEntryLaws.{length-head_bytes}
 use Rattle.flash_format.proofs.MadeLaws.{length-padded}
 use Rattle.flash_format.proofs.PutLemmas.{then}
@@ -12,7 +12,7 @@ use Rattle.flash_format.proofs.meta.write_meta.Goals as goal
 
 -- four writes, one after the other
 in_a_row : (x y z v w : List ℕ) (head name hash gap : List ℕ) (p q r s : ℕ) → p ≡ length head → q ≡ p + length name → r ≡ q + length hash → s ≡ r + length gap → s ≤ length x
-    → y ≡ spliced x 0 p head → z ≡ spliced y p q name → v ≡ spliced z q r hash → w ≡ spliced v r s gap
+    → y ≡ splice x 0 p head → z ≡ splice y p q name → v ≡ splice z q r hash → w ≡ splice v r s gap
     → (s ≡ length (head ++ name ++ hash ++ gap)) × (take s w ≡ head ++ name ++ hash ++ gap) × (drop s w ≡ drop s x)
 in_a_row x y z v w head name hash gap p q r s to_p to_q to_r to_s room one two three four =
     let named = then x y z head name 0 p q (omega arith) to_q (omega arith) one two in
@@ -29,8 +29,8 @@ returns c =
     let m = c.args.meta.now in
     let hash = hash_bytes (option_copied m.digest) in
     let head : c.write.result ≡ head_bytes (described_head m) = c.write.ensures.bytes ∙ ap (λ (h : Head). head_bytes h) c.head_of-head.ensures.head in
-    let one : c.put-at.new.out ≡ spliced c.args.out.now 0 c.put-at.result (head_bytes (described_head m)) =
-    subst (λ (l : List ℕ). c.put-at.new.out ≡ spliced c.args.out.now 0 c.put-at.result l) head c.put-at.ensures.puts in
+    let one : c.put-at.new.out ≡ splice c.args.out.now 0 c.put-at.result (head_bytes (described_head m)) =
+    subst (λ (l : List ℕ). c.put-at.new.out ≡ splice c.args.out.now 0 c.put-at.result l) head c.put-at.ensures.puts in
     let to_p : c.put-at.result ≡ length (head_bytes (described_head m)) = omega (arith, length-head_bytes (described_head m)) in
     let to_q : c.put_name-at.result ≡ c.put-at.result + length (padded_name m.name.now) = omega (arith, length-padded m.name.now) in
     let to_r : c.put_hash-at.result ≡ c.put_name-at.result + length hash = omega (arith, c.put_hash-at.ensures.end, c.head_of-head.ensures.hash) in

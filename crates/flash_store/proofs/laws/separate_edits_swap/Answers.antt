@@ -2,7 +2,7 @@
 use Rattle.std.proofs.Common.{◌≡◌, ◌⊎◌, inl, inr, ℕ, ◌+◌, ◌≤◌, List, length, sym, ◌∙◌, ap, arith}
 use Rattle.flash_store.specs.Bytes.{overwritten}
 use Rattle.flash_store.specs.Regions.{Range, LiesIn, bytes_in}
-use Rattle.flash_store.specs.Laws.{LieApart, edited}
+use Rattle.flash_store.specs.Laws.{LieApart, with_edit}
 use Rattle.flash_store.proofs.BytesLemmas.{overwritten-separate}
 use Rattle.flash_store.proofs.RegionLemmas.{written_beside}
 use Rattle.flash_store.proofs.laws.separate_edits_swap.Goals as goal
@@ -12,7 +12,7 @@ turned r s (inl before) = inr before
 turned r s (inr after) = inl after
 
 -- an edit of one is a write that the other doesn't see
-seen : (image : List ℕ) (r s : Range) (u : List ℕ) (last : List ℕ → List ℕ) → LiesIn r image → LieApart r s → length u ≡ r.size → edited s last (overwritten image r.start u) ≡ overwritten (overwritten image r.start u) s.start (last (bytes_in s image))
+seen : (image : List ℕ) (r s : Range) (u : List ℕ) (last : List ℕ → List ℕ) → LiesIn r image → LieApart r s → length u ≡ r.size → with_edit s last (overwritten image r.start u) ≡ overwritten (overwritten image r.start u) s.start (last (bytes_in s image))
 seen image r s u last lies apart long =
     ap (λ (l : List ℕ). overwritten (overwritten image r.start u) s.start (last l)) (written_beside s image r.start u (omega (arith, lies)) (where_it_is apart))
   where

@@ -2,7 +2,7 @@ use Rattle.std.proofs.Common.{◌∙◌, ap, sym, ◌+◌}
 use Rattle.std.proofs.lemmas.Result.{err_from_is_err_and}
 use Rattle.cbfs_walk.specs.declared.attribute_walk.Listed.TheVariants as listed
 use Rattle.cbfs_walk.proofs.Listing.{walk_step, gives_none}
-use Rattle.cbfs_walk.specs.AttrWalks.{place_of}
+use Rattle.cbfs_walk.specs.AttrWalks.{place_in_region}
 use Rattle.cbfs_walk.proofs.attribute_walk.AttrWalk.next.Goals as goal
 
 pub returns-in-Attribute-clause-head : goal.returns-in-Attribute-clause-head
@@ -25,11 +25,11 @@ returns-in_default-clause-rest g c = λ h all left.
 
 pub returns-in_err-head-clause-passes : goal.returns-in_err-head-clause-passes
 returns-in_err-head-clause-passes g c =
-    let there = ap (λ n. c.self.inside.cell.at + n) c.from.ensures ∙ ap place_of c.self.view_is in
+    let there = ap (λ n. c.self.inside.cell.at + n) c.from.ensures ∙ ap place_in_region c.self.view_is in
     rw (err_from_is_err_and c.from_residual.result c.from_residual.ensures.1).1 (rw there at c.in_err-head.ensures.passes)
 
 pub returns-in-Attribute-clause-passes : goal.returns-in-Attribute-clause-passes
-returns-in-Attribute-clause-passes g c = rw (ap (λ n. c.self.inside.cell.at + n) c.from.ensures ∙ ap place_of c.self.view_is) at c.in_ok-head.ensures.passes
+returns-in-Attribute-clause-passes g c = rw (ap (λ n. c.self.inside.cell.at + n) c.from.ensures ∙ ap place_in_region c.self.view_is) at c.in_ok-head.ensures.passes
 
 pub returns-in_default-clause-passes : goal.returns-in_default-clause-passes
-returns-in_default-clause-passes g c = rw (ap (λ n. c.self.inside.cell.at + n) c.from.ensures ∙ ap place_of c.self.view_is) at c.in_ok-head.ensures.passes
+returns-in_default-clause-passes g c = rw (ap (λ n. c.self.inside.cell.at + n) c.from.ensures ∙ ap place_in_region c.self.view_is) at c.in_ok-head.ensures.passes

@@ -1,7 +1,7 @@
 use Rattle.std.proofs.Common.{arith, length-drop, ◌≤◌, ◌-◌, ◌+◌}
 use Rattle.std.proofs.lemmas.Grind.{common_steps}
 use Rattle.flash_store.proofs.FmapLemmas.{head_read, map_head-short}
-use Rattle.flash_store.proofs.fmap.head_at.Goals as goal
+use Rattle.flash_store.proofs.fmap.map_head_at.Goals as goal
 
 pub returns-then-len-lt-HEAD_LENGTH-clause-head : goal.returns-then-len-lt-HEAD_LENGTH-clause-head
 returns-then-len-lt-HEAD_LENGTH-clause-head g c = λ h. map_head-short _ (grind (arith, length-drop, common_steps))

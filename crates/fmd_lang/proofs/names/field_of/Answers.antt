@@ -1,5 +1,5 @@
 use Rattle.fmd_lang.proofs.LayoutLemmas.{field-is}
-use Rattle.fmd_lang.proofs.names.name_field.Goals as goal
+use Rattle.fmd_lang.proofs.names.field_of.Goals as goal
 
 pub returns : goal.returns
 returns c =
