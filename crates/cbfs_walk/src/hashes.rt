@@ -114,7 +114,7 @@ fn content_digest<F: Flash>(
 }
 
 /// Whether a stored digest is the content's.
-fn compared(stored: Digest, computed: &Digest) -> HashState
+fn comparison(stored: Digest, computed: &Digest) -> HashState
     ensures { result ≡ comparison stored computed.now }
 {
     if stored.bytes() == computed.bytes() {

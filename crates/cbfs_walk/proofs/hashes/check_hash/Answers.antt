@@ -19,7 +19,7 @@ returns-in-None-2-clause-unread g c = λ told.
     HasRead-within _ _ _ 0 _ _ (omega arith) (read_to_content c.args.cell.now _ _ _ c.in-Some.is c.in_ok-at.ensures.attribute c.in_ok-at.ensures.passes c.in_ok-stored-in-Some.ensures.passes).read
 
 pub returns-in_ok-computed-in-Some-2-clause-unread : goal.returns-in_ok-computed-in-Some-2-clause-unread
-returns-in_ok-computed-in-Some-2-clause-unread g c = λ told. absurd (compared_is_told c.in-Some-2.stored c.in_ok-computed-in-Some-2.computed c.compared.result c.compared.ensures told)
+returns-in_ok-computed-in-Some-2-clause-unread g c = λ told. absurd (compared_is_told c.in-Some-2.stored c.in_ok-computed-in-Some-2.computed c.comparison.result c.comparison.ensures told)
 
 pub returns-in_err-computed-in-Some-2-clause-after : goal.returns-in_err-computed-in-Some-2-clause-after
 returns-in_err-computed-in-Some-2-clause-after g c =
