@@ -92,8 +92,8 @@ pub created_free : CreatedRegionsAreFree
 created_free n names source plan small is =
     let k = planned n names source plan is in
     let erased : List ℕ = replicate n 0xff in
-    let table : List ℕ = take plan.map_len source in
+    let flashmap : List ℕ = take plan.map_len source in
     let long_erased : length erased ≡ n = length-replicate {A = ℕ} n 0xff in
-    let long : length (overwritten erased plan.map.start table) ≡ n = length-overwritten erased plan.map.start table (omega (arith, length-take plan.map_len source, k.fits.room, k.fits.map, long_erased)) ∙ long_erased in
+    let long : length (overwritten erased plan.map.start flashmap) ≡ n = length-overwritten erased plan.map.start flashmap (omega (arith, length-take plan.map_len source, k.fits.room, k.fits.map, long_erased)) ∙ long_erased in
     let parts = or_parts (list_any (overlap plan.map) plan.regions.items) (some_overlap plan.regions.items) k.none in
-    all_free n (overwritten erased plan.map.start table) plan.regions.items small long k.fits.regions parts.1
+    all_free n (overwritten erased plan.map.start flashmap) plan.regions.items small long k.fits.regions parts.1

@@ -75,7 +75,7 @@ all_apart (place ∷ places) none =
 
 -- ---- the plan
 
--- a table lies in its source
+-- a flashmap lies in its source
 table_fits : (source : List ℕ) (head : FmapHead) → map_head source ≡ Some head → map_len head ≤ length source
 unfolding is_map
 table_fits source head is =

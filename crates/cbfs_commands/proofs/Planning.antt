@@ -1,4 +1,4 @@
--- The table of a new image, area by area, and the places that it gives to its regions.
+-- The flashmap of a new image, area by area, and the places that it gives to its regions.
 use Rattle.std.proofs.Common.{◌≡◌, ℕ, zero, suc, ◌+◌, ◌*◌, ◌<◌, ◌≤◌, Bool, cond, List, [], ◌∷◌, ◌++◌, length, map, take, drop, set, append_assoc, get_or, replicate, Option, Some, None, Result, Ok, Err, refl, sym, ap, ◌∙◌, arith}
 use Rattle.std.specs.Option.{option_or}
 use Rattle.std.proofs.Math.Seq.{get_or-append_seam, set-append_seam}
@@ -46,7 +46,7 @@ none-found [] n k e = let same : n ≡ k = omega (arith, e) in ap (λ m. replica
 none-found (name ∷ ns) zero k e = absurd (omega (arith, e))
 none-found (name ∷ ns) (suc n) k e = ap (λ (l : List (Option Area)). None ∷ l) (none-found ns n k (omega (arith, e)))
 
--- one area more of a table
+-- one area more of a flashmap
 pub areas-more : (n : ℕ) (x : List ℕ) → areas_from (suc n) x ≡ areas_from n x ++ area_of (drop (42 * n) x) ∷ []
 unfolding areas_from
 areas-more zero x = let first : 42 * 0 ≡ 0 = omega arith in ap (λ at. area_of (drop at x) ∷ []) (sym first)

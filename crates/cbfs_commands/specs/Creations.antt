@@ -1,5 +1,5 @@
--- What `create` makes of a flashmap: the table that it begins with, the places of the map and of the regions by the
--- table's areas, and the image. What is asked of them, and the order of the checks, are this project's own.
+-- What `create` makes of a source that begins with a flashmap: the places of the flashmap and of the regions by its areas,
+-- and the image. What is asked of them, and the order of the checks, are this project's own.
 use Rattle.std.specs.Prelude.{◌≡◌, ℕ, ◌+◌, ◌≤◌, Bool, false, ◌&&◌, ◌||◌, All, List, [], ◌∷◌, take, map, drop, fold, replicate, nat_lt, Option, Result, Ok, Err, ◌==◌, if◌then◌else◌}
 use Rattle.std.specs.List.{find, list_any}
 use Rattle.std.specs.Option.{ok_or}
@@ -18,9 +18,9 @@ use Rattle.cbfs_commands.specs.declared.refusal.Refusal.{Refusal}
 use Rattle.cbfs_commands.specs.declared.refusal.Refusal.TheVariants as refusals
 use Rattle.cbfs_commands.specs.Refusals.{fault_or, store_refusal}
 
--- ---- the table
+-- ---- the flashmap
 
--- the head of the table that a source begins with, where it states n bytes
+-- the head of the flashmap that a source begins with, where it states n bytes
 abbrev pub head_for : ℕ → List ℕ → Result FmapHead Refusal
 head_for n source = fault_or Err (ok_or (map_head source) refusals.TableBad) (λ head. if head.size == n then Ok head else Err refusals.TableBad)
 
@@ -30,7 +30,7 @@ first_area areas name = find (is_area name) areas
 
 -- ---- the places
 
--- where the map's area lies in an image of n bytes; it has room for a table of this length
+-- where the flashmap's own area lies in an image of n bytes; it has room for one of this length
 abbrev pub map_place : ℕ → ℕ → Option Area → Result Range Refusal
 map_place n len area = fault_or (λ fault. Err refusals.FmapArea) (region_by_area n area) (λ place. if nat_lt place.size len then Err refusals.FmapArea else Ok place)
 
@@ -54,14 +54,14 @@ some_overlap (place ∷ places) = list_any (overlap place) places || some_overla
 
 -- ---- the plan: first the map's area, then each region, then whether any two of them overlap
 
--- the plan of an image of n bytes, by the length of its table, the map's area and those of the regions
+-- the plan of an image of n bytes, by the length of its flashmap, the area of that and those of the regions
 unfoldable pub plan_of : ℕ → ℕ → Option Area → List (Option Area) → Result Plan Refusal
 plan_of n len area areas =
     fault_or Err (map_place n len area) (λ map.
     fault_or Err (region_places n areas) (λ regions.
     if some_overlap (map ∷ regions) then Err refusals.FmapArea else Ok (record { map = map; map_len = len; regions = record { items = regions } })))
 
--- the plan of an image of n bytes with these regions, by the table that the source begins with
+-- the plan of an image of n bytes with these regions, by the flashmap that the source begins with
 unfoldable pub plan_for : ℕ → List (List ℕ) → List ℕ → Result Plan Refusal
 plan_for n names source =
     fault_or Err (head_for n source) (λ head.
@@ -73,7 +73,7 @@ pub record IsPlace (n : ℕ) (place : Range) : Type 0 where
   pub inside : place.start + place.size ≤ n
   pub size : has_bad_size place.size ≡ false
 
--- What every plan meets for an image of n bytes and a source of m: the table is in the source and has room in its area, and
+-- What every plan meets for an image of n bytes and a source of m: the flashmap is in the source and has room in its area, and
 -- each region lies in the image and has the size of a CBFS.
 pub record FitsImage (n m : ℕ) (plan : Plan) : Type 0 where
   pub in_source : plan.map_len ≤ m
@@ -83,6 +83,6 @@ pub record FitsImage (n m : ℕ) (plan : Plan) : Type 0 where
 
 -- ---- the image
 
--- 0xff throughout, then the table in its area, then the regions in order, each as one empty entry
+-- 0xff throughout, then the flashmap in its area, then the regions in order, each as one empty entry
 abbrev pub created_image : ℕ → Plan → List ℕ → List ℕ
 created_image n plan source = fold (λ image place. with_edit place formatted image) (overwritten (replicate n 0xff) plan.map.start (take plan.map_len source)) plan.regions.items

@@ -1,6 +1,6 @@
 //! What a command line asks for.
 
-use crate::table::MOST_REGIONS;
+use crate::flashmap::MOST_REGIONS;
 use arrayvec::ArrayVec;
 use cbfs_edit::{HashChoice, Spot};
 

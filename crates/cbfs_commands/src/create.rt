@@ -5,7 +5,7 @@ ghost use Rattle.flash_store.specs.Device.{Calls, refusals};
 ghost use Rattle.flash_store.specs.Laws.{with_edit};
 ghost use Rattle.flash_store.specs.Pages.{OnHonest};
 ghost use Rattle.cbfs_edit.specs.Formats.{formatted};
-ghost use Rattle.cbfs_commands.specs.declared.table.TheConstants.{MOST_REGIONS};
+ghost use Rattle.cbfs_commands.specs.declared.flashmap.TheConstants.{MOST_REGIONS};
 ghost use Rattle.cbfs_commands.specs.Creations.{IsPlace};
 ghost use Rattle.cbfs_commands.specs.Deeds.{HasChanged, creates};
 
@@ -47,7 +47,7 @@ fn format_all<F: Flash>(paged: &mut Paged<F>, mut places: &[Region]) -> Result<(
     Ok(())
 }
 
-/// Makes the whole image from the flashmap that the source begins with: 0xff throughout, the table in the area FMAP, and each
+/// Makes the whole image from the flashmap that the source begins with: 0xff throughout, the flashmap in the area FMAP, and each
 /// named region one empty entry. Nothing is written before everything is checked.
 pub fn create<F: Flash, S: Source>(
     paged: &mut Paged<F>,

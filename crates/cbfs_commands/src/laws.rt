@@ -20,7 +20,7 @@ pub fn outcomes_are_of_the_region()
     ensures { OutcomesAreOfTheRegion }
 {}
 
-/// Where `create` isn't refused, the area of the map has room for the table and lies in the image, each region that was
+/// Where `create` isn't refused, the area of the flashmap has room for it and lies in the image, each region that was
 /// named lies in it and has the size of a CBFS, and no two of these have a byte in common; of areas that nobody named
 /// nothing is said.
 pub fn plans_are_laid()

@@ -15,7 +15,7 @@ mod read;
 mod refusal;
 mod remove;
 mod row;
-mod table;
+mod flashmap;
 mod write;
 
 pub use command::Command;
@@ -25,4 +25,4 @@ pub use laws::{
     outcomes_have_no_fault, plans_are_laid, writing_back_changes_nothing,
 };
 pub use refusal::Refusal;
-pub use table::{MOST_REGIONS, create_size};
+pub use flashmap::{MOST_REGIONS, create_size};

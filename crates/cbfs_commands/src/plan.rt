@@ -9,7 +9,7 @@ ghost use Rattle.cbfs_commands.specs.Creations.{FitsImage, map_place, overlap, p
 ghost use Rattle.cbfs_commands.specs.Refusals.{by_source};
 
 use crate::refusal::Refusal;
-use crate::table::{MOST_REGIONS, first_areas, head_for};
+use crate::flashmap::{MOST_REGIONS, first_areas, head_for};
 use arrayvec::ArrayVec;
 use flash_format::{Area, FmapHead};
 use flash_store::{Region, Source, region_of_area};
@@ -17,15 +17,15 @@ use flash_store::{Region, Source, region_of_area};
 /// Where everything goes in a new image.
 #[derive(Drop)]
 pub struct Plan {
-    /// The area that the table is written to.
+    /// The area that the flashmap is written to.
     pub map: Region,
-    /// How many bytes the table has.
+    /// How many bytes the flashmap has.
     pub map_len: u64,
     /// The regions that are formatted, in the order in which they were named.
     pub regions: ArrayVec<Region, MOST_REGIONS>,
 }
 
-/// Where the map's area lies, which has room for the table.
+/// Where the flashmap's own area lies, which has room for it.
 fn map_place(area: Option<Area>, map_len: u64, image_len: u64) -> Result<Region, Refusal>
     ensures { result ≡ map_place image_len map_len area }
 {
@@ -93,7 +93,7 @@ fn some_overlap(mut places: &[Region]) -> bool
     false
 }
 
-/// How many bytes a table has, with its areas.
+/// How many bytes a flashmap has, with its areas.
 fn map_len(head: &FmapHead) -> u64
     ensures { result ≡ map_len head.now }
 {
@@ -124,7 +124,7 @@ fn plan_of(
     })
 }
 
-/// The plan of an image of `image_len` bytes with the regions of these names, by the table that the source begins with.
+/// The plan of an image of `image_len` bytes with the regions of these names, by the flashmap that the source begins with.
 #[tactic(auto, unfolding(crate::specs::Creations::plan_for))]
 pub fn read_plan<S: Source>(
     names: &[&[u8]],
@@ -142,8 +142,6 @@ pub fn read_plan<S: Source>(
         ⊎ (result ≡ plan_for image_len (map (λ n. n.now) names.now) (S.facts source.old).content) }
 {
     let head = head_for(source, image_len)?;
-    let Ok(found) = first_areas(source, &head, names) else {
-        return Err(Refusal::Source);
-    };
+    let found = first_areas(source, &head, names)?;
     plan_of(&head, found.map, &found.regions[..names.len()], image_len)
 }

@@ -73,10 +73,9 @@ impl<'a> Refusal<'a> {
 
 /// Opens an image for reading alone.
 fn open<'a>(rt: &HostRuntime, path: &'a str) -> Result<Paged<FileFlash>, Refusal<'a>> {
-    match FileFlash::open_to_read(rt, path) {
-        Ok(image) => Ok(Paged::new(image)),
-        Err(fault) => Err(Refusal::of_opening(path, fault)),
-    }
+    let image = FileFlash::open_to_read(rt, path)
+        .map_err(|fault| Refusal::of_opening(path, fault))?;
+    Ok(Paged::new(image))
 }
 
 /// What a line asks for.
@@ -99,10 +98,7 @@ fn answered<'a>(
     new: &'a str,
     report: Result<Answer, ReportFault>,
 ) -> Result<Answer, Refusal<'a>> {
-    match report {
-        Ok(answer) => Ok(answer),
-        Err(fault) => Err(Refusal::of_report(old, new, fault)),
-    }
+    report.map_err(|fault| Refusal::of_report(old, new, fault))
 }
 
 /// Checks the image of a line, or the new one against the old.
@@ -157,10 +153,7 @@ fn obey<'a>(rt: &HostRuntime, words: &'a [&'a str]) -> Result<bool, Refusal<'a>>
         print(rt, USAGE.as_bytes())?;
         return Ok(false);
     }
-    let line = match read_check(rt.alloc(), words) {
-        Ok(line) => line,
-        Err(fault) => return Err(Refusal::of_words(fault)),
-    };
+    let line = read_check(rt.alloc(), words).map_err(|fault| Refusal::of_words(fault))?;
     let answer = check(rt, &line)?;
     print(rt, answer.text())?;
     Ok(answer.is_bad())

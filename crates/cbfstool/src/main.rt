@@ -118,10 +118,8 @@ fn create(
     };
     let mut source = open_source(rt, path)?;
     let size = create_size(&mut source)?;
-    let image = match FileFlash::create(rt, image, size) {
-        Ok(image) => image,
-        Err(fault) => return Err(open_refusal(fault, Refusal::Device)),
-    };
+    let image = FileFlash::create(rt, image, size)
+        .map_err(|fault| open_refusal(fault, Refusal::Device))?;
     run_from(rt, &mut Paged::new(image), command, source)
 }
 
@@ -131,10 +129,8 @@ fn execute(rt: &HostRuntime, line: &Line) -> Result<(), Refusal> {
     if matches!(command, Command::Create { .. }) {
         return create(rt, &command, line.image(), line.file());
     }
-    let image = match FileFlash::open(rt, line.image()) {
-        Ok(image) => image,
-        Err(fault) => return Err(open_refusal(fault, Refusal::Device)),
-    };
+    let image = FileFlash::open(rt, line.image())
+        .map_err(|fault| open_refusal(fault, Refusal::Device))?;
     let mut paged = Paged::new(image);
     let path = line.file().unwrap_or("");
     match command {

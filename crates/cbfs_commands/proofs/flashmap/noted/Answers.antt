@@ -1,6 +1,6 @@
 use Rattle.std.proofs.Common.{◌∙◌, None, Some, refl, sym}
 use Rattle.cbfs_commands.proofs.Planning.{noted-is}
-use Rattle.cbfs_commands.proofs.table.noted.Goals as goal
+use Rattle.cbfs_commands.proofs.flashmap.noted.Goals as goal
 
 pub returns-in-Some : goal.returns-in-Some
 returns-in-Some c = λ seen kept. noted-is seen _ c.args.area.now (Some c.in-Some.first) _ (sym c.in-Some.is ∙ kept) refl

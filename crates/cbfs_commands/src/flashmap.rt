@@ -1,4 +1,4 @@
-//! The flashmap that an image is made from: a table at the start of a source.
+//! The flashmap that an image is made from, with which a source begins.
 
 ghost use Rattle.std.specs.Prelude.{◌≡◌, ◌⊎◌, ◌<◌, ◌≤◌, ◌++◌, ◌∷◌, [], List, Option, length, map, take, drop, IsTrue, IsErrOf, IfOk, IfErr};
 ghost use Rattle.std.specs.Option.{ok_or, option_map};
@@ -34,7 +34,7 @@ pub fn create_size<S: Source>(source: &mut S) -> Result<u32, Refusal>
     }
 }
 
-/// The head of a table that is one for an image of `image_len` bytes.
+/// The head of a flashmap that is one for an image of `image_len` bytes.
 pub fn head_for<S: Source>(source: &mut S, image_len: u64) -> Result<FmapHead, Refusal>
     ensures calls { Reads 1 (faults_told by_source result) (S.facts source.old) (S.facts source.new) }
     ensures no_device { IsErrOf result Refusal.Device → ⊥ }
@@ -81,7 +81,7 @@ fn note_each(found: &mut [Option<Area>; MOST_REGIONS], names: &[&[u8]], area: &A
     }
 }
 
-/// The first area of the table with each name. The areas are read once.
+/// The first area of the flashmap with each name. The areas are read once.
 pub fn first_areas<S: Source>(
     source: &mut S,
     head: &FmapHead,

@@ -6,7 +6,7 @@ use Rattle.flash_format.specs.Flashmap.{areas_from}
 use Rattle.flash_store.proofs.DeviceLemmas.{honest_still, Reads-none, Reads-then}
 use Rattle.cbfs_commands.specs.Creations.{first_area}
 use Rattle.cbfs_commands.proofs.Planning.{areas-and, none-found}
-use Rattle.cbfs_commands.proofs.table.first_areas.Goals as goal
+use Rattle.cbfs_commands.proofs.flashmap.first_areas.Goals as goal
 
 pub loop-i-init : goal.loop-i-init
 unfolding areas_from

@@ -3,7 +3,7 @@ use lib.Chars.{codes}
 use Rattle.flash_format.specs.Flashmap.{fmap_head_len, areas_from}
 use Rattle.flash_store.specs.Device.{Reads}
 use Rattle.cbfs_commands.specs.Creations.{first_area}
-use Rattle.cbfs_commands.proofs.table.first_areas.Given as goal
+use Rattle.cbfs_commands.proofs.flashmap.first_areas.Given as goal
 
 abbrev pub invariant-loop-i : goal.invariant-loop-i
 invariant-loop-i g l = let facts = g.S.Source.facts in Reads l.i 0 (facts l.initial.source) (facts l.source)

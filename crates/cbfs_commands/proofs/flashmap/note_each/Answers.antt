@@ -4,7 +4,7 @@ use Rattle.std.proofs.lemmas.List.{length-map, get_or-map}
 use Rattle.flash_format.specs.declared.flashmap.Area.{Area}
 use Rattle.cbfs_commands.specs.Creations.{first_area}
 use Rattle.cbfs_commands.proofs.Planning.{partly, partly-all, partly-at, partly-more}
-use Rattle.cbfs_commands.proofs.table.note_each.Goals as goal
+use Rattle.cbfs_commands.proofs.flashmap.note_each.Goals as goal
 
 pub loop-i-init : goal.loop-i-init
 loop-i-init c = λ seen rest is. is
