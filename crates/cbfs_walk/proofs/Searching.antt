@@ -1,5 +1,5 @@
 -- The search for a component, from cell to cell.
-use Rattle.std.proofs.Common.{◌≡◌, ℕ, ◌+◌, ◌/◌, ◌%◌, ◌≤◌, Bool, true, false, cond, not, ◌&&◌, ◌⊎◌, inl, inr, IsTrue, List, ◌∷◌, length, Option, Some, None, Result, Ok, Err, refl, sym, ap, ◌∙◌, arith}
+use Rattle.std.proofs.Common.{◌≡◌, ℕ, ◌+◌, ◌-◌, ◌/◌, ◌%◌, ◌≤◌, Bool, true, false, cond, not, ◌&&◌, ◌⊎◌, inl, inr, IsTrue, List, ◌∷◌, length, Option, Some, None, Result, Ok, Err, refl, sym, ap, ◌∙◌, arith}
 use Rattle.std.specs.Prelude.{IsErrOf}
 use Rattle.std.specs.Str.{bytes_eq}
 use Rattle.flash_format.specs.declared.head.Head.{Head}
@@ -168,15 +168,28 @@ module _ {F : Type 0} (facts : F → Device) (r : Range) (name : List ℕ) (w : 
 
   -- ---- the walk ended
 
-  pub searching_end : (answer : IsTrue (facts now.device).honest → w.ended ≡ None → (let a : Answer = Ok steps.End in IsErrOf a faults.Device ⊎ (a ≡ answer_at (bytes_in w.region (facts now.device).content) w.at)))
-      → IsTrue (facts old.device).honest → Ok None ≡ found_cell (component_in (bytes_in r (facts old.device).content) name)
-  unfolding found_by find_cut components_from
-  searching_end answer h = sym (ap found_cell (answered (Ok steps.End) h (told_step _ _ (answer (honest_still s.read.device.calls.same_honesty h) s.going))).1)
+  module _ (step : Step) (last : ((at : ℕ) × (step ≡ steps.Tail at)) ⊎ (step ≡ steps.End)) where
+    last_reads : reads_at w.region.size w.at (Ok step) ≡ reads_over (w.region.size - w.at)
+    last_reads = elim last [
+      | inl tail ↦ ap (λ (s : Step). reads_at w.region.size w.at (Ok s)) tail.1
+      | inr end ↦ ap (λ (s : Step). reads_at w.region.size w.at (Ok s)) end
+    ]
 
-  pub searching_tail : (at : ℕ) → (answer : IsTrue (facts now.device).honest → w.ended ≡ None → (let a : Answer = Ok (steps.Tail at) in IsErrOf a faults.Device ⊎ (a ≡ answer_at (bytes_in w.region (facts now.device).content) w.at)))
-      → IsTrue (facts old.device).honest → Ok None ≡ found_cell (component_in (bytes_in r (facts old.device).content) name)
-  unfolding found_by find_cut components_from
-  searching_tail at answer h = sym (ap found_cell (answered (Ok (steps.Tail at)) h (told_step _ _ (answer (honest_still s.read.device.calls.same_honesty h) s.going))).1)
+    last_found : found_cell (found_by (bytes_in r (facts old.device).content) name (Ok step)) ≡ Ok None
+    unfolding found_by find_cut components_from
+    last_found = elim last [
+      | inl tail ↦ ap (λ (s : Step). found_cell (found_by (bytes_in r (facts old.device).content) name (Ok s))) tail.1
+      | inr end ↦ ap (λ (s : Step). found_cell (found_by (bytes_in r (facts old.device).content) name (Ok s))) end
+    ]
+
+    pub last_after : (mid : Pages F) → HasRead facts (reads_at w.region.size w.at (Ok step)) 0 now mid → HasRead facts (r.size / 16 + 2) 0 old mid
+    last_after mid reading =
+        HasRead-within facts (w.at / 16 + reads_over (w.region.size - w.at)) (r.size / 16 + 2) 0 old mid (omega (arith, s.inside, ap (λ (k : Range). k.size) s.region))
+        (HasRead-then facts (w.at / 16) (reads_over (w.region.size - w.at)) 0 old now mid s.read (rw last_reads at reading))
+
+    pub last_answer : (IsTrue (facts now.device).honest → w.ended ≡ None → (let a : Answer = Ok step in IsErrOf a faults.Device ⊎ (a ≡ answer_at (bytes_in w.region (facts now.device).content) w.at)))
+        → IsTrue (facts old.device).honest → Ok None ≡ found_cell (component_in (bytes_in r (facts old.device).content) name)
+    last_answer answer h = sym (ap found_cell (answered (Ok step) h (told_step _ _ (answer (honest_still s.read.device.calls.same_honesty h) s.going))).1 ∙ last_found)
 
   refusal : (fault : WalkFault) → found_cell (found_by (bytes_in r (facts old.device).content) name (Err fault)) ≡ Err fault
   unfolding found_by find_cut components_from refused

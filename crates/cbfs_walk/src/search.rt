@@ -39,15 +39,13 @@ pub fn find<F: Flash>(
 {
     let mut walk = Walk::new(region);
     loop {
-        match walk.next(paged) {
-            Ok(Step::Cell(cell)) => match is_component(paged, region, &cell, name) {
-                Ok(true) => return Ok(Some(cell)),
-                Ok(false) => {}
-                Err(_) => return Err(WalkFault::Device),
-            },
-            Ok(Step::Tail(_)) => return Ok(None),
-            Ok(Step::End) => return Ok(None),
-            Err(fault) => return Err(fault),
+        match walk.next(paged)? {
+            Step::Cell(cell) => {
+                if is_component(paged, region, &cell, name)? {
+                    return Ok(Some(cell));
+                }
+            }
+            Step::Tail(_) | Step::End => return Ok(None),
         }
     }
 }

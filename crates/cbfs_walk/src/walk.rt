@@ -12,7 +12,7 @@ ghost use Rattle.cbfs_walk.specs.Walks.{by_device, walk_of, walk_after, answer_a
 use crate::cell::Cell;
 use crate::entry::{damage_in, front_at};
 use flash_format::DamageKind;
-use flash_store::{Flash, Paged, Region};
+use flash_store::{Flash, FlashFault, Paged, Region};
 use std::marker::Model;
 
 /// What a walk gives next. Places count from the region's start, in bytes.
@@ -38,6 +38,16 @@ pub enum WalkFault {
     NotCbfs,
     /// The entry at this place, counted from the region's start, fails a check (9): the first that it fails.
     Damaged { at: u64, kind: DamageKind },
+}
+
+impl From<FlashFault> for WalkFault {
+    ghost use Rattle.cbfs_walk.specs.declared.walk.WalkFault.TheVariants.{Device};
+
+    ghost from_gives = { λ _ fault. fault ≡ Device };
+
+    fn from(_: FlashFault) -> WalkFault {
+        WalkFault::Device
+    }
 }
 
 /// A walk, and the answer with which it ended.
@@ -142,11 +152,10 @@ fn answer_at<F: Flash>(paged: &mut Paged<F>, region: Region, at: u64) -> Result<
         return Ok(Step::End);
     }
     let left = region.size() - at;
-    match front_at(paged, region, at) {
-        Err(_) => Err(WalkFault::Device),
-        Ok(None) if at == 0 => Err(WalkFault::NotCbfs),
-        Ok(None) => Ok(Step::Tail(at)),
-        Ok(Some(head)) => match head.check(left) {
+    match front_at(paged, region, at)? {
+        None if at == 0 => Err(WalkFault::NotCbfs),
+        None => Ok(Step::Tail(at)),
+        Some(head) => match head.check(left) {
             Err(kind) => Err(WalkFault::Damaged { at, kind }),
             Ok(extent) => cell_at(
                 paged,
@@ -175,9 +184,8 @@ fn cell_at<F: Flash>(paged: &mut Paged<F>, region: Region, cell: &Cell) -> Resul
     if cell.head.is_free() {
         return Ok(Step::Cell(*cell));
     }
-    match damage_in(paged, region, cell.at, &cell.head) {
-        Err(_) => Err(WalkFault::Device),
-        Ok(Some(kind)) => Err(WalkFault::Damaged { at: cell.at, kind }),
-        Ok(None) => Ok(Step::Cell(*cell)),
+    match damage_in(paged, region, cell.at, &cell.head)? {
+        Some(kind) => Err(WalkFault::Damaged { at: cell.at, kind }),
+        None => Ok(Step::Cell(*cell)),
     }
 }

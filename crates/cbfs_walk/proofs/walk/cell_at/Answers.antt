@@ -20,10 +20,10 @@ returns-then-is_free-clause-passes g c = Passes-within (Passes-none _ c.args.reg
 pub returns-then-is_free-clause-answer : goal.returns-then-is_free-clause-answer
 returns-then-is_free-clause-answer g c = λ h head. inr (answer_free _ c.args.cell.now head c.if-is_free.ensures)
 
-pub returns-in-Ok-Some-clause-answer : goal.returns-in-Ok-Some-clause-answer
-returns-in-Ok-Some-clause-answer g c = λ h head.
+pub returns-in-Some-clause-answer : goal.returns-in-Some-clause-answer
+returns-in-Some-clause-answer g c = λ h head.
     let rest = drop c.args.cell.now.at (bytes_in c.args.region (g.F.Flash.facts c.args.paged.now.device).content) in
-    inr (answer_damaged rest c.args.cell.now c.in-Ok-Some.kind c.if-is_free.ensures (rw c.in-Ok-Some.field-0-is at (c.in-Ok-Some.ensures.damage h)))
+    inr (answer_damaged rest c.args.cell.now c.in-Some.kind c.if-is_free.ensures (rw c.in-Some.is at (c.in_ok-kind.ensures.damage h)))
 
-pub returns-in-Ok-None-clause-answer : goal.returns-in-Ok-None-clause-answer
-returns-in-Ok-None-clause-answer g c = λ h head. inr (answer_whole _ c.args.cell.now head c.if-is_free.ensures (rw c.in-Ok-None.field-0-is at (c.in-Ok-None.ensures.damage h)))
+pub returns-in-None-clause-answer : goal.returns-in-None-clause-answer
+returns-in-None-clause-answer g c = λ h head. inr (answer_whole _ c.args.cell.now head c.if-is_free.ensures (rw c.in-None.is at (c.in_ok-kind.ensures.damage h)))
