@@ -5,7 +5,6 @@
 
 mod attribute_walk;
 mod cell;
-mod entry;
 mod hashes;
 mod laws;
 mod names;

@@ -1,17 +1,21 @@
-//! A walk from cell to cell.
-ghost use Rattle.std.specs.Prelude.{◌≡◌, ◌⊎◌, ◌+◌, ◌*◌, ◌/◌, ◌%◌, ◌<◌, ◌≤◌, None, IsSome, IfOk, IfSome, IsErrOf, drop};
+//! A walk from cell to cell, and the entry at its place.
+ghost use Rattle.std.specs.Prelude.{◌≡◌, ◌⊎◌, ℕ, ◌+◌, ◌-◌, ◌*◌, ◌/◌, ◌%◌, ◌<◌, ◌≤◌, None, IsSome, IfOk, IfSome, IsErrOf, drop};
+ghost use Rattle.flash_format.specs.Entry.{front, component, name_end};
 ghost use Rattle.flash_format.specs.Head.{head_of};
 ghost use Rattle.flash_store.specs.Device.{faults_told};
 ghost use Rattle.flash_store.specs.Pages.{HasRead, OnHonestIn};
 ghost use Rattle.flash_store.specs.Regions.{LiesIn};
 ghost use Rattle.cbfs_walk.specs.Cells.{PassesChecks, content_start};
-ghost use Rattle.cbfs_walk.specs.Passing.{Passes};
+ghost use Rattle.cbfs_walk.specs.Entries.{entry_or};
+ghost use Rattle.cbfs_walk.specs.Passing.{HasPassed, Passes, ReadsAs};
 ghost use Rattle.cbfs_walk.specs.Shapes.{has_bad_size};
 ghost use Rattle.cbfs_walk.specs.Walks.{by_device, walk_of, walk_after, answer_at, answer_of, GivesCell, reads_at};
 
+use crate::attribute_walk::are_well_formed;
 use crate::cell::Cell;
-use crate::entry::{damage_in, front_at};
-use flash_format::DamageKind;
+use crate::names::{has_name_end, name_end};
+use crate::read::read_in;
+use flash_format::{DamageKind, Head};
 use flash_store::{Flash, FlashFault, Paged, Region};
 use std::marker::Model;
 
@@ -188,4 +192,51 @@ fn cell_at<F: Flash>(paged: &mut Paged<F>, region: Region, cell: &Cell) -> Resul
         Some(kind) => Err(WalkFault::Damaged { at: cell.at, kind }),
         None => Ok(Step::Cell(*cell)),
     }
+}
+
+/// The head that the entry at a place begins with, where one stands there.
+fn front_at<F: Flash>(
+    paged: &mut Paged<F>,
+    region: Region,
+    at: u64,
+) -> Result<Option<Head>, FlashFault>
+    requires region { LiesIn region (F.facts paged.old.device).content }
+    requires inside { at ≤ region.size }
+
+    ensures passes { HasPassed F.facts region at at paged.old paged.new result }
+    ensures head { ReadsAs F.facts paged.old region result (λ x. front (drop at x)) }
+{
+    if region.size() - at < 24 {
+        return Ok(None);
+    }
+    let mut bytes = [0; 24];
+    read_in(paged, region, at, &mut bytes)?;
+    Ok(Head::read(&bytes))
+}
+
+/// What is wrong with a component after its head.
+fn damage_in<F: Flash>(
+    paged: &mut Paged<F>,
+    region: Region,
+    at: u64,
+    head: &Head,
+) -> Result<Option<DamageKind>, FlashFault>
+    requires region { LiesIn region (F.facts paged.old.device).content }
+    requires inside { at + head.now.offset ≤ region.size }
+    requires room { 24 ≤ name_end head.now }
+    requires placed { name_end head.now ≤ head.now.offset }
+
+    ensures passes { HasPassed F.facts region at (at + head.now.offset) paged.old paged.new result }
+    ensures damage { OnHonestIn F.facts paged.old.device region (λ x. IfOk result (λ damage.
+        (span : ℕ) → entry_or damage span ≡ component head.now (drop at x) span)) }
+{
+    if !has_name_end(paged, region, at, head)? {
+        return Ok(Some(DamageKind::Name));
+    }
+    paged.places_fit();
+    let from = at + u64::from(name_end(head));
+    if !are_well_formed(paged, region, from, at + u64::from(head.offset))? {
+        return Ok(Some(DamageKind::AttrLength));
+    }
+    Ok(None)
 }
