@@ -1,9 +1,12 @@
 -- Filled places obey the equations, where none is refused, and no others do.
-use Rattle.std.proofs.Common.{◌≡◌, ℕ, ◌+◌, ◌<◌, ◌≤◌, nat_le, true, List, [], ◌∷◌, Option, Some, None, refl, ◌∙◌, ap, arith}
+use Rattle.std.proofs.Common.{◌≡◌, ℕ, ◌<◌, ◌≤◌, nat_le, true, false, IsTrue, List, [], ◌∷◌, Option, Some, None, option_map, Result, Ok, Err, IfOk, Vec, Global, refl, ◌∙◌, ap, arith, rules}
 use Rattle.std.specs.List.{list_all}
 use Rattle.std.proofs.lemmas.Bool.{le-leb}
-use Rattle.fmd_lang.specs.Layout.{place_of, places_of, end_of, IsPlaced, first_misfit, misfit_of}
+use Rattle.fmd_lang.specs.Faults.{Refuses}
+use Rattle.fmd_lang.specs.Layout.{ambiguous_sibling, place_of, places_of, end_of, IsPlaced, first_misfit, misfit_of, row_fault}
 use Rattle.fmd_lang.proofs.OptionLemmas.{or-none}
+use Rattle.fmd_lang.specs.declared.fault.FmdFault.{FmdFault}
+use Rattle.fmd_lang.specs.declared.fault.FmdFault.TheVariants as faults
 use Rattle.fmd_lang.specs.declared.row.Sibling.{Sibling}
 use Rattle.fmd_lang.specs.declared.row.Place.{Place}
 
@@ -45,3 +48,13 @@ filled-inside (p ∷ ps) parent from h =
     let (fine, others) = or-none (misfit_of parent from p q) (first_misfit parent (end_of q) ps (places_of parent (end_of q) ps)) h in
     let here : nat_le (end_of q) parent ≡ true = le-leb _ _ (fits parent from p q fine).1 in
     rw here (filled-inside ps parent (end_of q) others)
+
+-- so does every place of a row that is laid
+pub laid-inside : (parent : ℕ) (row : List Sibling) (r : Result (Vec Place Global) FmdFault) →
+    IfOk r (λ v. v.items ≡ places_of parent 0 row) → Refuses (row_fault parent row) r →
+    IfOk r (λ v. IsTrue (list_all (λ q. nat_le (end_of q) parent) v.items))
+laid-inside parent row (Ok v) filled none =
+    let fitting = (or-none (option_map faults.Ambiguous (ambiguous_sibling false row)) _ none).1 in
+    let all = filled-inside row parent 0 fitting in
+    rw filled (search (rules, all))
+laid-inside parent row (Err fault) filled refused = tt

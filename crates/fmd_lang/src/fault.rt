@@ -1,5 +1,9 @@
 //! Why a descriptor is refused.
 
+ghost use Rattle.std.specs.Prelude.{◌≡◌};
+ghost use Rattle.fmd_lang.specs.declared.fault.FmdFault.TheVariants as faults;
+
+use std::alloc::{AllocError, AllocFailed};
 use thiserror::Error;
 
 /// What had to stand at a place of the text.
@@ -82,4 +86,22 @@ pub enum FmdFault {
     /// 16: more than 65,535 sections below the root, which comes after 14 and before 9; or areas in a table.
     #[error("too many areas")]
     TooManyAreas,
+}
+
+/// Memory was refused.
+impl From<AllocError> for FmdFault {
+    ghost from_gives = { λ _ fault. fault ≡ faults.Memory };
+
+    fn from(_: AllocError) -> FmdFault {
+        FmdFault::Memory
+    }
+}
+
+/// Memory was refused for a value, which is dropped.
+impl<T: Drop> From<AllocFailed<T>> for FmdFault {
+    ghost from_gives = { λ _ fault. fault ≡ faults.Memory };
+
+    fn from(_: AllocFailed<T>) -> FmdFault {
+        FmdFault::Memory
+    }
 }

@@ -80,9 +80,7 @@ fn push_areas(
             name: field_of(&part.name),
             flags: part.flags,
         };
-        if areas.push(area).is_err() {
-            return Err(FmdFault::Memory);
-        }
+        areas.push(area)?;
         push_areas(alloc, part, at + place.start, place.size, areas)?;
     }
     Ok(())
@@ -102,10 +100,7 @@ fn places(
     ensures refused { Refuses (row_fault size (spec.siblings (suc number) (views (out-Section section.now).parts.items))) result }
 {
     let row = siblings(alloc, number + 1, &section.parts)?;
-    match lay_row(alloc, size, &row) {
-        Ok(places) => Ok(places),
-        Err(fault) => Err(fault),
-    }
+    lay_row(alloc, size, &row)
 }
 
 /// The parts as a row of siblings, the first having this number.
@@ -122,9 +117,7 @@ fn siblings(alloc: Global, first: usize, parts: &[Section]) -> Result<Vec<Siblin
             offset: part.offset,
             size: part.size,
         };
-        if row.push(sibling).is_err() {
-            return Err(FmdFault::Memory);
-        }
+        row.push(sibling)?;
         number += count(part);
     }
     Ok(row)

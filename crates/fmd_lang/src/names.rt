@@ -29,9 +29,7 @@ fn push_names<'s>(section: &'s Section, all: &mut Vec<&'s [u8]>) -> Result<(), F
     ensures ok { OnOk result (map (λ r. r.now) all.new.items ≡ map (λ r. r.now) all.old.items ++ names (view section.now)) }
     ensures err { IfErr result (λ fault. fault ≡ FmdFault.Memory) }
 {
-    if all.push(section.name.as_slice()).is_err() {
-        return Err(FmdFault::Memory);
-    }
+    all.push(section.name.as_slice())?;
     for part in &section.parts {
         push_names(part, all)?;
     }
@@ -58,10 +56,8 @@ fn first_duplicate(alloc: Global, names: &[&[u8]]) -> Result<Option<usize>, FmdF
 {
     let mut seen = BTreeSet::new(alloc);
     for (number, name) in names.iter().enumerate() {
-        match seen.insert(*name) {
-            Ok(true) => (),
-            Ok(false) => return Ok(Some(number)),
-            Err(_) => return Err(FmdFault::Memory),
+        if !seen.insert(*name)? {
+            return Ok(Some(number));
         }
     }
     Ok(None)

@@ -137,9 +137,7 @@ fn sections(
             Kind::CloseBrace => return Ok((parts, token.word.end())),
             Kind::Name => {
                 let (part, to) = section(alloc, text, &token.word, depth + 1)?;
-                if parts.push(part).is_err() {
-                    return Err(FmdFault::Memory);
-                }
+                parts.push(part)?;
                 at = to;
             }
             _ => return expected(token.word.place, Expected::SectionOrClose),
@@ -260,10 +258,8 @@ fn peek<'t>(text: &'t [u8], from: usize, depth: u32) -> Result<Token<'t>, FmdFau
 {
     let word = next_word(text, from);
     let kind = word.kind();
-    match value_of(&word, kind, depth) {
-        Ok(value) => Ok(Token { word, kind, value }),
-        Err(fault) => Err(fault),
-    }
+    let value = value_of(&word, kind, depth)?;
+    Ok(Token { word, kind, value })
 }
 
 /// The value of a word of this kind, which numbers alone have; or its refusal by itself, while `depth` braces are open.
@@ -275,10 +271,7 @@ fn value_of(word: &Word<'_>, kind: Kind, depth: u32) -> Result<Option<u32>, FmdF
     let at = word.place;
     match kind {
         Kind::Bad => Err(FmdFault::BadByte { at }),
-        Kind::Number => match read_number(at, word.bytes) {
-            Ok(value) => Ok(Some(value)),
-            Err(fault) => Err(fault),
-        },
+        Kind::Number => Ok(Some(read_number(at, word.bytes)?)),
         Kind::Name if word.bytes.len() > NAME_LIMIT => Err(FmdFault::NameTooLong { at }),
         Kind::OpenBrace if depth >= DEPTH_LIMIT => Err(FmdFault::TooDeep),
         _ => Ok(None),
@@ -296,8 +289,5 @@ fn expected<T>(at: usize, what: Expected) -> Result<T, FmdFault>
 fn copied(alloc: Global, bytes: &[u8]) -> Result<Vec<u8>, FmdFault>
     ensures { MatchResult result (λ v. v.items ≡ bytes.now) (λ fault. fault ≡ FmdFault.Memory) }
 {
-    match bytes.to_vec(alloc) {
-        Ok(copy) => Ok(copy),
-        Err(_) => Err(FmdFault::Memory),
-    }
+    Ok(bytes.to_vec(alloc)?)
 }

@@ -44,13 +44,9 @@ pub fn encode(alloc: Global, table: &Table) -> Result<Vec<u8>, FmdFault>
         nareas,
     };
     let mut bytes = Vec::new(alloc);
-    if bytes.extend_from_slice(&head.write()).is_err() {
-        return Err(FmdFault::Memory);
-    }
+    bytes.extend_from_slice(&head.write())?;
     for area in &table.areas {
-        if bytes.extend_from_slice(&area.write()).is_err() {
-            return Err(FmdFault::Memory);
-        }
+        bytes.extend_from_slice(&area.write())?;
     }
     Ok(bytes)
 }

@@ -3,12 +3,12 @@ use Rattle.std.proofs.lemmas.Bool.{not-false, not-true}
 use Rattle.fmd_lang.proofs.NameLemmas.{has, no_name, duplicate-at, has-more}
 use Rattle.fmd_lang.proofs.names.first_duplicate.Goals as goal
 
-pub returns-in-Ok-false-clause-ok : goal.returns-in-Ok-false-clause-ok
-returns-in-Ok-false-clause-ok c =
+pub returns-then-not-branch-clause-ok : goal.returns-then-not-branch-clause-ok
+returns-then-not-branch-clause-ok c =
     let names = c.args.names.now in
     let n = c.loop-number.number in
     let x = (get_or names n no_name).now in
-    let there = not-false (has x c.loop-number.seen.keys) (sym c.in-Ok-false.ensures.added ∙ c.in-Ok-false.field-0-test) in
+    let there = not-false (has x c.loop-number.seen.keys) (sym c.in_ok-insert.ensures.added ∙ c.if-not-branch.true) in
     sym (c.loop-number.invariant.1 ∙ duplicate-at names n true c.loop-number-test.true (sym (c.loop-number.invariant.0 x) ∙ there))
 
 pub loop-number-preserved : goal.loop-number-preserved
@@ -16,8 +16,8 @@ loop-number-preserved c =
     let names = c.args.names.now in
     let n = c.loop-number.number in
     let x = (get_or names n no_name).now in
-    let new = not-true (has x c.loop-number.seen.keys) (sym c.in-Ok-true.ensures.added ∙ c.in-Ok-true.field-0-test) in (
-      λ q. has-more names n q _ _ c.loop-number-test.true (c.in-Ok-true.ensures.updates.0 (record no_name { now = q }))
+    let new = not-true (has x c.loop-number.seen.keys) (sym c.in_ok-insert.ensures.added ∙ c.if-not-branch.false) in (
+      λ q. has-more names n q _ _ c.loop-number-test.true (c.in_ok-insert.ensures.updates.0 (record no_name { now = q }))
           (c.loop-number.invariant.0 q),
       c.loop-number.invariant.1 ∙ duplicate-at names n false c.loop-number-test.true (sym (c.loop-number.invariant.0 x) ∙ new),
     )
