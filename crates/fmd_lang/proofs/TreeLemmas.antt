@@ -1,19 +1,18 @@
 -- The words of a tree: no word is misplaced, and they make no other tree.
-use Rattle.std.proofs.Common.{◌≡◌, ◌≢◌, ℕ, suc, ◌<◌, ◌^◌, nat_lt, Ok, Err, Bool, true, false, List, [], ◌∷◌, ◌++◌, length, Option, Some, None, unwrap_or, if◌then◌else◌, refl, sym, subst, ◌∙◌, ap, arith, inl, inr, append_assoc}
+use Rattle.std.proofs.Common.{◌≡◌, ◌≢◌, ℕ, suc, ◌<◌, nat_lt, Bool, true, false, List, [], ◌∷◌, ◌++◌, length, Option, Some, None, unwrap_or, if◌then◌else◌, refl, sym, subst, ◌∙◌, ap, arith, inl, inr, append_assoc}
 use Rattle.std.proofs.lemmas.Bool.{cond_both, lt-ltb}
 use Rattle.std.proofs.lemmas.List.{append-nil}
 use Rattle.std.specs.Int.Bits.{bit_or}
-use Rattle.std.specs.Result.{result_err}
 use Rattle.fmd_lang.specs.Words.{Word, words, kind_of}
-use Rattle.fmd_lang.specs.Numbers.{number_at, number_value}
+use Rattle.fmd_lang.specs.Numbers.{number_value}
 use Rattle.fmd_lang.specs.Tree.{Tree, section, Forest, none, some}
 use Rattle.fmd_lang.specs.Parsing.{IsBody}
 use Rattle.fmd_lang.specs.Grammar.{Then, IsA, IsSection, AreSections, AreAnnotations, IsOffset, IsSize, annotation_flag, flags_with}
-use Rattle.fmd_lang.specs.Faults.{Stage, Standing, start, in_annotations, at_sign, past, own_fault, next_standing, depth_limit, text_limit, fault_from, first_fault}
+use Rattle.fmd_lang.specs.Faults.{Stage, Standing, start, in_annotations, at_sign, past, own_fault, next_standing, text_limit, fault_from, first_fault}
 use Rattle.fmd_lang.specs.declared.fault.FmdFault.TheVariants as faults
 use Rattle.fmd_lang.specs.declared.fault.Expected.{Expected}
 use Rattle.fmd_lang.specs.declared.word.Kind.{Kind}
-use Rattle.fmd_lang.specs.declared.word.Kind.TheVariants.{Name, Number, OpenParen, CloseParen, At, OpenBrace, CloseBrace, Bad}
+use Rattle.fmd_lang.specs.declared.word.Kind.TheVariants.{Name, Number, OpenParen, CloseParen, At, OpenBrace, CloseBrace}
 use Rattle.fmd_lang.proofs.FormLemmas.{annotation-name}
 use Rattle.fmd_lang.proofs.OptionLemmas.{and-then-some, or-other}
 

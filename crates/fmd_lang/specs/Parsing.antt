@@ -1,5 +1,5 @@
 -- What a part of the parser answers.
-use Rattle.std.specs.Prelude.{◌≡◌, ◌≢◌, ℕ, ◌≤◌, ◌⊎◌, List, ◌++◌, Option, Some, None, Result, Ok, Err, MatchOption, length}
+use Rattle.std.specs.Prelude.{◌≡◌, ◌≢◌, ℕ, ◌≤◌, ◌⊎◌, List, ◌++◌, Some, None, Result, Ok, Err, MatchOption, length}
 use Rattle.fmd_lang.specs.Words.{Word, words_after, kind_of}
 use Rattle.fmd_lang.specs.Faults.{Standing, fault_from, own_fault}
 use Rattle.fmd_lang.specs.Grammar.{Enclosed, AreSections, HasValue}
