@@ -1,6 +1,7 @@
 //! Why a file was not opened.
 ghost use Rattle.std.specs.Prelude.{◌≡◌, ◌^◌, ◌<◌, ◌≤◌};
 
+use crate::storage::StorageFault;
 use std::io;
 
 /// Why a file was not opened as a device or a source. Nothing was read or written then.
@@ -25,6 +26,16 @@ impl From<io::Error> for OpenFault {
             io::ErrorKind::OutOfMemory => OpenFault::Memory,
             _ => OpenFault::Failed,
         }
+    }
+}
+
+impl From<StorageFault> for OpenFault {
+    ghost use Rattle.flash_store.specs.declared.open_fault.OpenFault.TheVariants.{Failed};
+
+    ghost from_gives = { λ _ fault. fault ≡ Failed };
+
+    fn from(_: StorageFault) -> OpenFault {
+        OpenFault::Failed
     }
 }
 

@@ -47,6 +47,7 @@ impl<W: Write> Model for WriteSink<W> {
 }
 
 impl<W: Write> WriteSink<W> {
+    /// The sink over a writer, before any call.
     pub fn new(writer: W) -> WriteSink<W>
         ensures { result ≡ record { writer = writer; faults = 0 } }
     {
@@ -56,6 +57,7 @@ impl<W: Write> WriteSink<W> {
         }
     }
 
+    /// The writer, with what it took.
     pub fn into_inner(self) -> W
         ensures { result ≡ self.writer }
     {
