@@ -26,14 +26,11 @@ fn read_text<R: TextReader>(alloc: Global, reader: &mut R) -> Result<Vec<u8>, Re
     let mut buffer = [0; 4096];
     while text.len() < READING_LIMIT {
         let room = buffer.len().min(READING_LIMIT - text.len());
-        let count = match reader.read_some(&mut buffer[..room]) {
-            Ok(0) => return Ok(text),
-            Ok(count) => count,
-            Err(_) => return Err(Refusal::Read),
-        };
-        if text.extend_from_slice(&buffer[..count]).is_err() {
-            return Err(Refusal::Descriptor(FmdFault::Memory));
+        let count = reader.read_some(&mut buffer[..room])?;
+        if count == 0 {
+            return Ok(text);
         }
+        text.extend_from_slice(&buffer[..count])?;
     }
     Ok(text)
 }
@@ -70,11 +67,7 @@ pub fn run<R: TextReader, W: Sink>(
     ensures writer_faults { W.faults writer.old ≤ W.faults writer.new }
 {
     let text = read_text(alloc, reader)?;
-    match compile(alloc, &text) {
-        Ok(table) => match put_all(writer, &table) {
-            Ok(()) => Ok(()),
-            Err(_) => Err(Refusal::Output),
-        },
-        Err(fault) => Err(Refusal::Descriptor(fault)),
-    }
+    let table = compile(alloc, &text)?;
+    put_all(writer, &table)?;
+    Ok(())
 }

@@ -50,6 +50,7 @@ impl<R: Read> Model for ReadText<R> {
 }
 
 impl<R: Read> ReadText<R> {
+    /// The text of a reader, of which nothing was read and which has not failed.
     pub fn new(reader: R) -> ReadText<R>
         ensures { result ≡ record { reader = reader; given = 0; faults = 0 } }
     {
@@ -60,6 +61,7 @@ impl<R: Read> ReadText<R> {
         }
     }
 
+    /// The reader, with what it has left.
     pub fn into_inner(self) -> R
         ensures { result ≡ self.reader }
     {

@@ -40,23 +40,20 @@ fn failure_of(fault: &io::Error, other: Failure) -> Failure
 
 /// Writes the table of one file's descriptor into another.
 fn compile_file(rt: &HostRuntime, input: &str, output: &str) -> Result<(), Failure> {
-    let mut reader = match File::open(rt, input) {
-        Ok(file) => ReadText::new(file),
-        Err(fault) => return Err(failure_of(&fault, Failure::Refused(Refusal::Read))),
-    };
-    let mut writer = match File::create(rt, output) {
-        Ok(file) => WriteSink::new(file),
-        Err(fault) => return Err(failure_of(&fault, Failure::Refused(Refusal::Output))),
-    };
+    let input = File::open(rt, input)
+        .map_err(|fault| failure_of(&fault, Failure::Refused(Refusal::Read)))?;
+    let output = File::create(rt, output)
+        .map_err(|fault| failure_of(&fault, Failure::Refused(Refusal::Output)))?;
+    let mut reader = ReadText::new(input);
+    let mut writer = WriteSink::new(output);
     Ok(run(rt.alloc(), &mut reader, &mut writer)?)
 }
 
 /// Does what the words say; without words prints the usage.
 fn obey(rt: &HostRuntime) -> Result<(), Failure> {
-    let mut words = match env::args(rt) {
-        Ok(words) => words.skip(1),
-        Err(fault) => return Err(failure_of(&fault, Failure::Usage)),
-    };
+    let mut words = env::args(rt)
+        .map_err(|fault| failure_of(&fault, Failure::Usage))?
+        .skip(1);
     match (words.next(), words.next(), words.next()) {
         (None, _, _) => rt
             .print(USAGE)

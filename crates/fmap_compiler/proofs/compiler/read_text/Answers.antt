@@ -3,20 +3,21 @@ use Rattle.std.proofs.KnownBytes.{Consumes-trans}
 use Rattle.fmap_compiler.proofs.Prefixes.{IsPrefixOf-end, IsPrefixOf-full}
 use Rattle.fmap_compiler.proofs.compiler.read_text.Goals as goal
 
-pub returns-in-Ok-eq0-clause-text : goal.returns-in-Ok-eq0-clause-text
-returns-in-Ok-eq0-clause-text g c =
-    let read = c.in-Ok-eq0.ensures in
+pub returns-then-count-eq0-clause-text : goal.returns-then-count-eq0-clause-text
+returns-then-count-eq0-clause-text g c =
+    let read = c.in_ok-count.ensures in
     let so_far = c.loop-buffer.invariant in
     let taken = length-take c.min-room.result c.loop-buffer.buffer in
     let room : 0 < length c.read_some.new.room =
     omega (arith, c.read_some.auto.room, taken, so_far.room, c.min-room.ensures, c.loop-buffer-test.true, c.len.ensures) in
-    IsPrefixOf-end _ _ _ c.loop-buffer.text.items (take c.in-Ok-eq0.field-0 c.read_some.new.room) so_far.consumed read.bytes.0
-    (ap (λ n. take n c.read_some.new.room) c.in-Ok-eq0.field-0-test) (read.bytes.1 c.in-Ok-eq0.field-0-test room) so_far.within
+    let none = c.if-count-eq0.true in
+    IsPrefixOf-end _ _ _ c.loop-buffer.text.items (take c.in_ok-count.count c.read_some.new.room) so_far.consumed read.bytes.0
+    (ap (λ n. take n c.read_some.new.room) none) (read.bytes.1 none room) so_far.within
 
-pub returns-then-is_err-clause-read : goal.returns-then-is_err-clause-read
-returns-then-is_err-clause-read g c =
-    let read = c.in-Ok.ensures in
-    let more = take c.in-Ok.count c.read_some.new.room in
+pub returns-in_err-extend_from_slice-clause-read : goal.returns-in_err-extend_from_slice-clause-read
+returns-in_err-extend_from_slice-clause-read g c =
+    let read = c.in_ok-count.ensures in
+    let more = take c.in_ok-count.count c.read_some.new.room in
     let len = length-append c.loop-buffer.text.items more in
     let room = length-take c.min-room.result c.loop-buffer.buffer in (
       c.loop-buffer.text.items ++ more,
@@ -24,9 +25,9 @@ returns-then-is_err-clause-read g c =
       omega (arith, len, read.bound.1, c.read_some.auto.room, room),
     )
 
-pub returns-then-is_err-clause-stops : goal.returns-then-is_err-clause-stops
-returns-then-is_err-clause-stops g c =
-    let read = c.in-Ok.ensures in
+pub returns-in_err-extend_from_slice-clause-stops : goal.returns-in_err-extend_from_slice-clause-stops
+returns-in_err-extend_from_slice-clause-stops g c =
+    let read = c.in_ok-count.ensures in
     let room = length-take c.min-room.result c.loop-buffer.buffer in
     omega (arith, read.given, read.bound.1, c.loop-buffer.invariant.given, c.read_some.auto.room, room)
 
