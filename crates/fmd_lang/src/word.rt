@@ -111,6 +111,7 @@ fn is_plain(byte: u8) -> bool
 }
 
 impl Word<'_> {
+    /// What the word is, by its first byte.
     pub fn kind(&self) -> Kind
         ensures { result ≡ spec.kind_of self.now.bytes.now }
     {
