@@ -20,6 +20,6 @@ pub fn empty_header(cell_len: u32, kept: bool) -> [u8; HEADER_LENGTH]
         offset: HEADER_LENGTH as u32,
     };
     let mut out = [0; HEADER_LENGTH];
-    out[..24].copy_from_slice(&head.write());
+    out[..Head::LENGTH].copy_from_slice(&head.write());
     out
 }

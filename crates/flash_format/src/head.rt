@@ -9,14 +9,18 @@ const MAGIC: [u8; 8] = *b"LARCHIVE";
 
 const DELETED: u32 = 0;
 
+/// The type that marks free space, as an erased chip has it.
 pub const NULL: u32 = 0xffff_ffff;
 
 /// The field of a name, which has at least one NUL, is padded with NULs to a multiple of this.
 pub const NAME_PADDING: usize = 4;
 
-/// How many bytes of an empty entry stand before the space that it describes: its head of 24, and the field of an empty
+/// How many bytes of an empty entry stand before the space that it describes: its head, and the field of an empty
 /// name. `lengths_are_defined` ties it to its definition.
-pub const HEADER_LENGTH: usize = 24 + NAME_PADDING;
+pub const HEADER_LENGTH: usize = Head::LENGTH + NAME_PADDING;
+
+/// Where the field of a component's name ends at the earliest: it has room for a NUL.
+const LEAST_NAME_END: u32 = Head::LENGTH as u32 + 1;
 
 /// Why an entry is damaged: the first of these checks that fails.
 #[derive(Clone, Copy, Debug, PartialEq, Eq)]
@@ -56,9 +60,12 @@ pub struct Head {
 }
 
 impl Head {
+    /// How many bytes the head has, with its magic.
+    pub const LENGTH: usize = 24;
+
     /// The head in these bytes, or `None` without the magic.
     #[tactic(auto, unfolding(crate::specs::Head::head_of, crate::specs::Head::has_magic))]
-    pub fn read(bytes: &[u8; 24]) -> Option<Head>
+    pub fn read(bytes: &[u8; Self::LENGTH]) -> Option<Head>
         ensures { result ≡ head_at bytes.now }
     {
         if !bytes.starts_with(&MAGIC) {
@@ -74,7 +81,7 @@ impl Head {
 
     /// The bytes of `struct cbfs_file` with these numbers, which are big-endian.
     #[tactic(auto, unfolding(crate::specs::Head::head_bytes))]
-    pub fn write(&self) -> [u8; 24]
+    pub fn write(&self) -> [u8; Self::LENGTH]
         ensures bytes { result ≡ head_bytes self.now }
         ensures read_back { head_at result ≡ Some self.now }
     {
@@ -84,7 +91,7 @@ impl Head {
             attributes_offset,
             offset,
         } = *self;
-        let mut out = [0; 24];
+        let mut out = [0; Self::LENGTH];
         out[..8].copy_from_slice(&MAGIC);
         BigEndian::write_u32(&mut out[8..12], len);
         BigEndian::write_u32(&mut out[12..16], kind);
@@ -107,7 +114,12 @@ impl Head {
         ensures { result ≡ extent_of self.now left }
     {
         let free = self.is_free();
-        if self.offset < if free { 24 } else { 25 } {
+        let least = if free {
+            Self::LENGTH as u32
+        } else {
+            LEAST_NAME_END
+        };
+        if self.offset < least {
             return Err(DamageKind::Offset);
         }
         if !free && self.attributes_misplaced() {
@@ -128,6 +140,6 @@ impl Head {
         ensures { result ≡ attributes_misplaced self.now }
     {
         self.attributes_offset != 0
-            && (self.attributes_offset < 25 || self.offset < self.attributes_offset)
+            && (self.attributes_offset < LEAST_NAME_END || self.offset < self.attributes_offset)
     }
 }

@@ -14,7 +14,7 @@ use byteorder::{BigEndian, ByteOrder};
 
 /// How many bytes the longest metadata has: a head, the field of a name with 127 bytes, a hash attribute with SHA-512, and a
 /// gap of 63 bytes.
-pub const LONGEST_METADATA: usize = 24 + 128 + 76 + 63;
+pub const LONGEST_METADATA: usize = Head::LENGTH + 128 + 76 + 63;
 
 /// A component, but for its content.
 #[derive(Clone, Copy, Debug, PartialEq, Eq)]
@@ -45,14 +45,14 @@ pub fn attr_len(digest: Option<&Digest>) -> usize
     }
 }
 
-/// How many bytes the metadata of a component has, besides the gap: the head's 24, the field of a name with so many bytes,
+/// How many bytes the metadata of a component has, besides the gap: its head, the field of a name with so many bytes,
 /// and a hash attribute with so many: 0 for none, 44 with SHA-256 and 76 with SHA-512, as `attr_len` says.
 pub fn meta_len(name_len: usize, attr_len: usize) -> usize
     requires name { name_len ≤ 127 }
     requires attribute { attr_len ≤ 76 }
     ensures { result ≡ meta_length name_len attr_len }
 {
-    24 + name_room(name_len) + attr_len
+    Head::LENGTH + name_room(name_len) + attr_len
 }
 
 /// Writes the metadata of a component, from `out`'s first byte on, and answers how many bytes it has. It is coreboot's
@@ -84,7 +84,7 @@ fn head_of(meta: &Meta<'_>) -> Head
     ensures hash { length (hash_bytes (option_copied meta.now.digest)) ≡ hash_len (option_copied meta.now.digest) }
     ensures digest { IsDigest (option_copied meta.now.digest) }
 {
-    let name_end = 24 + name_room(meta.name.len());
+    let name_end = Head::LENGTH + name_room(meta.name.len());
     let attr_len = attr_len(meta.digest);
     Head {
         len: meta.len,
