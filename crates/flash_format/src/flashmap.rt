@@ -3,7 +3,7 @@
 ghost use Rattle.std.specs.Prelude.{◌≡◌, ◌≤◌, length, true, Some, None, if◌then◌else◌};
 ghost use Rattle.std.specs.List.{list_any, list_all, position};
 ghost use Rattle.flash_format.specs.Entry.{is_nul};
-ghost use Rattle.flash_format.specs.Flashmap.{fmap_head_of, fmap_head_bytes, has_signature, is_named, is_valid_head, area_of, area_bytes, is_area, text_of, is_printing};
+ghost use Rattle.flash_format.specs.Flashmap.{fmap_head_of, fmap_head_bytes, has_signature, is_named, map_len, is_valid_head, area_of, area_bytes, is_area, text_of, is_printing};
 
 use byteorder::{ByteOrder, LittleEndian};
 
@@ -82,14 +82,19 @@ impl FmapHead {
         text_of(&self.name)
     }
 
+    /// How many bytes the map has, with its areas.
+    pub fn map_len(&self) -> u64
+        ensures { result ≡ map_len self.now }
+    {
+        Self::LENGTH as u64 + Area::LENGTH as u64 * u64::from(self.nareas)
+    }
+
     /// Whether a map with this head is valid, with `left` bytes from it up to the image's end.
     #[tactic(auto, unfolding(crate::specs::Flashmap::is_valid_head))]
     pub fn is_valid(&self, left: u64) -> bool
         ensures { result ≡ is_valid_head self.now left }
     {
-        self.major == 1
-            && is_named(&self.name)
-            && Self::LENGTH as u64 + Area::LENGTH as u64 * u64::from(self.nareas) <= left
+        self.major == 1 && is_named(&self.name) && self.map_len() <= left
     }
 }
 
