@@ -1,10 +1,10 @@
 -- Reads through the window: what they leave, one after the other, and how many calls they make. For every crate that
 -- reads a device.
-use Rattle.std.proofs.Common.{◌≡◌, ◌∙◌, ℕ, ◌+◌, ◌-◌, ◌*◌, ◌/◌, ◌<◌, ◌≤◌, IsTrue, List, length, take, drop, min, refl, sym, ap, subst, arith, le_refl, ⊎_elim}
+use Rattle.std.proofs.Common.{◌≡◌, ◌∙◌, ℕ, ◌+◌, ◌-◌, ◌*◌, ◌/◌, ◌<◌, ◌≤◌, IsTrue, List, length, take, min, sym, subst, arith, le_refl, ⊎_elim}
 use Rattle.std.proofs.Common.{length-take}
 use Rattle.std.specs.Prelude.{slice_range, Result, Ok, Err, IsOk}
 use Rattle.std.proofs.lemmas.Bool.{cases_lt}
-use Rattle.std.proofs.lemmas.List.{drop-drop, drop-take, take-take}
+use Rattle.std.proofs.lemmas.List.{take-take}
 use Rattle.std.proofs.Math.Seq.{take-length}
 use Rattle.flash_store.specs.Device.{Device, refusals}
 use Rattle.flash_store.specs.Pages.{Held, Nothing, Window, Piece, Pages, IsTrueTo, Covers, held_in, HasRead, HasSeen}

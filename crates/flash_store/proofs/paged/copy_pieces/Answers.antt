@@ -1,4 +1,4 @@
-use Rattle.std.proofs.Common.{◌∙◌, ◌≡◌, ◌≤◌, ◌+◌, ◌++◌, ℕ, IsTrue, length, take, drop, arith, rules}
+use Rattle.std.proofs.Common.{◌∙◌, ◌≤◌, ◌+◌, ◌++◌, ℕ, IsTrue, length, take, arith, rules}
 use Rattle.std.proofs.lemmas.List.{length-take, length-take-le}
 use Rattle.flash_store.proofs.BytesLemmas.{slice_range_is, SameOutside-trans, written-more, written-part}
 use Rattle.flash_store.proofs.CopyLemmas.{Calls-piece, Copied-front, Copied-stopped, shown-more}
