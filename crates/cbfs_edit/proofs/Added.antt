@@ -105,7 +105,7 @@ module _ (x : List ℕ) (new : NewComponent) (spot : Spot) (place : Place) (is :
   there = answered_place x new.name wanted place fine.placed
 
   is_wanted : IsWanted wanted
-  is_wanted = record { header = omega (arith, hash_short new.digest, fine.name_short); len = is.content; spot = fine.spot_good }
+  is_wanted = record { metadata_len = omega (arith, hash_short new.digest, fine.name_short); len = is.content; spot = fine.spot_good }
 
   first : IsFirstPlace wanted (length x) (runs x) place
   first = subst (λ (o : Option Place). IsPlaceAmong wanted (length x) (runs x) o) there.found (first_place-right wanted (length x) (runs x) is_wanted)

@@ -7,6 +7,6 @@ use Rattle.cbfs_edit.proofs.addition.wanted_of.Goals as goal
 pub returns : goal.returns
 returns c = λ content len.
     let new = component_of_label c.args.label.now content in
-    let header : c.meta_len.result ≡ metadata_len_of new = c.meta_len.ensures ∙ ap (λ n. meta_length (length new.name) n) (c.attribute_len.ensures.is content) in
-    ap (λ n. let w : Wanted = record { header = n; len = c.args.len; spot = c.args.spot } in w) header
+    let metadata : c.meta_len.result ≡ metadata_len_of new = c.meta_len.ensures ∙ ap (λ n. meta_length (length new.name) n) (c.attribute_len.ensures.is content) in
+    ap (λ n. let w : Wanted = record { metadata_len = n; len = c.args.len; spot = c.args.spot } in w) metadata
     ∙ ap (λ n. let w : Wanted = record { metadata_len = metadata_len_of new; len = n; spot = c.args.spot } in w) len
