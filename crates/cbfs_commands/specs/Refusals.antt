@@ -5,7 +5,7 @@ use Rattle.flash_store.specs.declared.fmap.StoreFault.TheVariants as store
 use Rattle.flash_store.specs.declared.paged.CopyFault.{CopyFault}
 use Rattle.flash_store.specs.declared.paged.CopyFault.TheVariants as copy
 use Rattle.cbfs_walk.specs.declared.walk.WalkFault.{WalkFault}
-use Rattle.cbfs_edit.specs.Refusals.{refusal_of}
+use Rattle.cbfs_edit.specs.Refusals.{edit_fault_of}
 use Rattle.cbfs_edit.specs.declared.fault.EditFault.{EditFault}
 use Rattle.cbfs_edit.specs.declared.fault.EditFault.TheVariants as edit
 use Rattle.cbfs_commands.specs.declared.refusal.Refusal.{Refusal}
@@ -37,7 +37,7 @@ edit_refusal edit.BadAlign = refusals.BadAlign
 
 -- an edit is refused as the walk that it stands on
 abbrev pub walk_refusal : WalkFault → Refusal
-walk_refusal fault = edit_refusal (refusal_of fault)
+walk_refusal fault = edit_refusal (edit_fault_of fault)
 
 -- what a fault is answered, or else what comes of the value
 abbrev pub fault_or : {T E A : Type 0} → (E → A) → Result T E → (T → A) → A

@@ -21,7 +21,7 @@ use Rattle.cbfs_edit.proofs.Added.{accepted_size, added_length, additions_add_on
 use Rattle.cbfs_walk.specs.Shaped.{place_after}
 use Rattle.cbfs_walk.specs.declared.walk.WalkFault.{WalkFault}
 use Rattle.cbfs_edit.specs.Groups.{group_of}
-use Rattle.cbfs_edit.specs.Refusals.{refusal_of}
+use Rattle.cbfs_edit.specs.Refusals.{edit_fault_of}
 use Rattle.cbfs_edit.specs.Removals.{LosesOne, removed, removal_in, unless_damaged}
 use Rattle.cbfs_edit.specs.declared.fault.EditFault.TheVariants as faults
 use Rattle.cbfs_edit.specs.declared.group.CellRange.{CellRange}
@@ -118,7 +118,7 @@ unnamed name cs none = All-weaker (λ (c : Component). bytes_eq c.name name ≡ 
 
 removal_is : (y name : List ℕ) → shape_fault y ≡ None → unless_damaged (place_after 0 (cut y).cells) (cut y).end (ok_or (group_of y name) faults.NotFound) ≡ ok_or (group_of y name) faults.NotFound → removal_in y name ≡ ok_or (group_of y name) faults.NotFound
 unfolding removal_in
-removal_is y name good through = ap (λ (o : Option WalkFault). refused_or (λ fault. Err (refusal_of fault)) o (unless_damaged (place_after 0 (cut y).cells) (cut y).end (ok_or (group_of y name) faults.NotFound))) good ∙ through
+removal_is y name good through = ap (λ (o : Option WalkFault). refused_or (λ fault. Err (edit_fault_of fault)) o (unless_damaged (place_after 0 (cut y).cells) (cut y).end (ok_or (group_of y name) faults.NotFound))) good ∙ through
 
 -- where a component has the name there is a group
 some_group : (y name : List ℕ) (c : Component) → IsFirstOf name (components y) c → (group : CellRange) × (group_of y name ≡ Some group)

@@ -1,9 +1,9 @@
 -- Searches that go over the cells of a region, one after the other: for a group, and for a place.
-use Rattle.std.proofs.Common.{◌≡◌, ℕ, ◌+◌, ◌/◌, ◌%◌, ◌≤◌, ◌⊎◌, inl, inr, IsTrue, List, [], ◌∷◌, length, Option, Some, None, Result, Ok, Err, refl, sym, ap, subst, ◌∙◌, arith, Bool, true, false, cond}
-use Rattle.std.specs.Prelude.{IsErrOf, ◌||◌, is_some, nat_lt, ok_or}
+use Rattle.std.proofs.Common.{◌≡◌, ◌≢◌, ℕ, ◌+◌, ◌-◌, ◌/◌, ◌%◌, ◌≤◌, ◌⊎◌, inl, inr, IsTrue, List, [], ◌∷◌, length, Option, Some, None, Result, Ok, Err, refl, sym, ap, subst, ◌∙◌, arith, Bool, true, false, cond}
+use Rattle.std.specs.Prelude.{IfErr, IsErrOf, ◌||◌, is_some, nat_lt, ok_or}
 use mathlib.Core.Path.{fun_ext}
 use Rattle.flash_format.specs.Cut.{Cut, cut}
-use Rattle.flash_store.specs.Device.{Device}
+use Rattle.flash_store.specs.Device.{Device, faults_told}
 use Rattle.flash_store.specs.Pages.{Pages, HasRead}
 use Rattle.flash_store.proofs.WindowLemmas.{HasRead-none, HasRead-then, HasRead-within}
 use Rattle.flash_store.specs.Regions.{Range, LiesIn, bytes_in}
@@ -11,13 +11,14 @@ use Rattle.flash_store.proofs.DeviceLemmas.{honest_still, length-bytes_in}
 use Rattle.cbfs_walk.specs.Cells.{IsCellIn, cell_in}
 use Rattle.cbfs_walk.specs.Passing.{reads_over}
 use Rattle.cbfs_walk.specs.Shapes.{shape_fault, refused_or}
-use Rattle.cbfs_walk.specs.Walks.{Answer, Walking, walk_of, answer_at, StandsIn}
+use Rattle.cbfs_walk.specs.Walks.{Answer, Walking, walk_of, answer_at, reads_at, StandsIn}
 use Rattle.cbfs_walk.specs.Shaped.{reading_of, ReadsCells, by_answer, place_after}
 use Rattle.cbfs_walk.specs.declared.cell.Cell.{Cell}
 use Rattle.cbfs_walk.specs.declared.walk.Step.{Step}
 use Rattle.cbfs_walk.specs.declared.walk.WalkFault.{WalkFault}
 use Rattle.cbfs_walk.proofs.Shapes.{shaped_step}
-use Rattle.cbfs_edit.specs.Refusals.{refusal_of}
+use Rattle.cbfs_walk.proofs.Answering.{IsLast, last_reads}
+use Rattle.cbfs_edit.specs.Refusals.{by_device, edit_fault_of}
 use Rattle.cbfs_edit.specs.Removals.{unless_damaged, unless_unsound, removal_in}
 use Rattle.cbfs_edit.specs.declared.fault.EditFault.{EditFault}
 use Rattle.std.specs.Str.{bytes_eq}
@@ -51,7 +52,7 @@ abbrev each_cell : {A : Type 0} → List ℕ → Cell → (Reading A → Result 
 each_cell c given later read = later (λ cells. read (c ∷ cells))
 
 abbrev refused : {A : Type 0} → WalkFault → Reading A → Result A EditFault
-refused fault read = Err (refusal_of fault)
+refused fault read = Err (edit_fault_of fault)
 
 law : {A : Type 0} → ReadsCells (read_cut {A = A}) (each_cell {A = A})
 law {A} at c k = fun_ext (λ (read : Reading A). refl)
@@ -67,7 +68,7 @@ found_whole {A} x read = go (shape_fault x)
     taken : Reading A → Result A EditFault
     taken = read_cut 0 (cut x)
 
-    go : (o : Option WalkFault) → refused_or (λ fault. Err (refusal_of fault)) o (taken read) ≡ refused_or refused o taken read
+    go : (o : Option WalkFault) → refused_or (λ fault. Err (edit_fault_of fault)) o (taken read) ≡ refused_or refused o taken read
     go None = refl
     go (Some fault) = refl
 
@@ -79,7 +80,7 @@ found_step : {A : Type 0} (x : List ℕ) (read : Reading A) (at : ℕ) → at �
 unfolding found_from
 found_step {A} x read at inside aligned = ap (λ (f : Reading A → Result A EditFault). f read) (shaped_step refused read_cut each_cell law x at inside aligned)
 
-found_refusal : {A : Type 0} (x : List ℕ) (read : Reading A) (fault : WalkFault) → found_by x read (Err fault) ≡ Err (refusal_of fault)
+found_refusal : {A : Type 0} (x : List ℕ) (read : Reading A) (fault : WalkFault) → found_by x read (Err fault) ≡ Err (edit_fault_of fault)
 found_refusal x read (walk.Damaged at kind) = refl
 found_refusal x read other = refl
 
@@ -158,18 +159,36 @@ module _ {F S A : Type 0} (facts : F → Device) (r : Range) (sense : S → ℕ 
 
   -- ---- the walk ended
 
-  pub surveying_last : (step : Step) → (IsTrue (facts now.device).honest → w.ended ≡ None → (let a : Answer = Ok step in IsErrOf a walk.Device ⊎ (a ≡ answer_at (bytes_in w.region (facts now.device).content) w.at)))
-      → found_by x (sense s w.at) (Ok step) ≡ sense s w.at [] → IsTrue (facts old.device).honest → sense s w.at [] ≡ want
-  surveying_last step answer last h = sym ((answered (Ok step) h (told_step _ _ (answer (honest_still i.read.device.calls.same_honesty h) i.going))).1 ∙ last)
+  module _ (step : Step) (last : IsLast step) where
+    last_found : found_by x (sense s w.at) (Ok step) ≡ sense s w.at []
+    last_found = elim last [
+      | inl tail ↦ ap (λ (t : Step). found_by x (sense s w.at) (Ok t)) tail.1
+      | inr end ↦ ap (λ (t : Step). found_by x (sense s w.at) (Ok t)) end
+    ]
+
+    pub last_after : (mid : Pages F) → HasRead facts (reads_at w.region.size w.at (Ok step)) 0 now mid → HasRead facts (r.size / 16 + 1) 0 old mid
+    last_after mid reading =
+        HasRead-within facts (w.at / 16 + reads_over (w.region.size - w.at)) (r.size / 16 + 1) 0 old mid (omega (arith, i.inside, i.aligned, ap (λ (k : Range). k.size) i.region))
+        (HasRead-then facts (w.at / 16) (reads_over (w.region.size - w.at)) 0 old now mid i.read (rw (last_reads step w.region.size w.at last) at reading))
+
+    pub last_answer : (IsTrue (facts now.device).honest → w.ended ≡ None → (let a : Answer = Ok step in IsErrOf a walk.Device ⊎ (a ≡ answer_at (bytes_in w.region (facts now.device).content) w.at)))
+        → IsTrue (facts old.device).honest → sense s w.at [] ≡ want
+    last_answer answer h = sym ((answered (Ok step) h (told_step _ _ (answer (honest_still i.read.device.calls.same_honesty h) i.going))).1 ∙ last_found)
 
   pub surveying_err : (fault : WalkFault) → (answer : IsTrue (facts now.device).honest → w.ended ≡ None → (let a : Answer = Err fault in IsErrOf a walk.Device ⊎ (a ≡ answer_at (bytes_in w.region (facts now.device).content) w.at)))
-      → IsTrue (facts old.device).honest → (let a : Result A EditFault = Err (refusal_of fault) in IsErrOf a faults.Device ⊎ (a ≡ want))
+      → IsTrue (facts old.device).honest → (let a : Result A EditFault = Err (edit_fault_of fault) in IsErrOf a faults.Device ⊎ (a ≡ want))
   surveying_err fault answer h = go (answer (honest_still i.read.device.calls.same_honesty h) i.going)
     where
       go : (let a : Answer = Err fault in IsErrOf a walk.Device ⊎ (a ≡ answer_at (bytes_in w.region (facts now.device).content) w.at))
-          → (let a : Result A EditFault = Err (refusal_of fault) in IsErrOf a faults.Device ⊎ (a ≡ want))
-      go (inl device) = let is : fault ≡ walk.Device = cc in inl (ap (λ (f : WalkFault). let a : Result A EditFault = Err (refusal_of f) in a) is)
+          → (let a : Result A EditFault = Err (edit_fault_of fault) in IsErrOf a faults.Device ⊎ (a ≡ want))
+      go (inl device) = let is : fault ≡ walk.Device = cc in inl (ap (λ (f : WalkFault). let a : Result A EditFault = Err (edit_fault_of f) in a) is)
       go (inr is) = inr (sym ((answered (Err fault) h is).1 ∙ found_refusal x (sense s w.at) fault))
+
+-- an answer that is no fault of the device tells no refused call
+pub faultless : {A : Type 0} (r : Result A EditFault) → IfErr r (λ fault. fault ≢ faults.Device) → faults_told by_device r ≡ 0
+faultless (Ok a) other = refl
+faultless (Err faults.Device) other = absurd (other refl)
+faultless (Err fault) other = refl
 
 -- ---- the search for a group
 

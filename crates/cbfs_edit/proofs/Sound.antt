@@ -6,7 +6,7 @@ use Rattle.flash_format.specs.Entry.{entry}
 use Rattle.cbfs_walk.specs.Shapes.{has_bad_size, is_absent, refused_or}
 use Rattle.cbfs_walk.specs.Shaped.{place_after}
 use Rattle.cbfs_walk.proofs.Answering.{good_size}
-use Rattle.cbfs_edit.specs.Refusals.{refusal_of}
+use Rattle.cbfs_edit.specs.Refusals.{edit_fault_of}
 use Rattle.cbfs_edit.specs.Removals.{unless_damaged, unless_unsound}
 use Rattle.cbfs_edit.specs.declared.fault.EditFault.{EditFault}
 use Rattle.cbfs_edit.specs.declared.group.CellRange.{CellRange}
@@ -25,7 +25,7 @@ pub accepted_by : {A : Type 0} (x : List ℕ) (r : Result A EditFault) (a : A) �
 accepted_by {A} x r a is = go (has_bad_size (length x)) (is_absent (entry x)) (cut x).end refl refl is
   where
     go : (b n : Bool) (e : End) → has_bad_size (length x) ≡ b → e ≡ (cut x).end
-        → refused_or (λ fault. Err (refusal_of fault)) (cond b (Some walk.RegionShape) (cond n (Some walk.NotCbfs) None)) (unless_damaged (place_after 0 (cut x).cells) e r) ≡ Ok a → IsAccepted x r a
+        → refused_or (λ fault. Err (edit_fault_of fault)) (cond b (Some walk.RegionShape) (cond n (Some walk.NotCbfs) None)) (unless_damaged (place_after 0 (cut x).cells) e r) ≡ Ok a → IsAccepted x r a
     go true n e size ends p = absurd cc
     go false true e size ends p = absurd cc
     go false false (damage kind) size ends p = absurd cc

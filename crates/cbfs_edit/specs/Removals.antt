@@ -8,7 +8,7 @@ use Rattle.flash_store.specs.Bytes.{overwritten}
 use Rattle.cbfs_walk.specs.Finding.{IsFirstOf, not_found}
 use Rattle.cbfs_walk.specs.Shapes.{shape_fault, refused_or}
 use Rattle.cbfs_walk.specs.Shaped.{place_after}
-use Rattle.cbfs_edit.specs.Refusals.{refusal_of}
+use Rattle.cbfs_edit.specs.Refusals.{edit_fault_of}
 use Rattle.cbfs_edit.specs.Groups.{group_of}
 use Rattle.cbfs_edit.specs.declared.fault.EditFault.{EditFault}
 use Rattle.cbfs_edit.specs.declared.fault.EditFault.TheVariants.{NotFound}
@@ -38,12 +38,12 @@ pub record LosesOne (name x y : List ℕ) : Type 0 where
 
 -- a damage that ends the cells comes first
 abbrev pub unless_damaged : {A : Type 0} → ℕ → End → Result A EditFault → Result A EditFault
-unless_damaged at end otherwise = result_and (result_map_both (λ none. none) refusal_of (not_found at end)) otherwise
+unless_damaged at end otherwise = result_and (result_map_both (λ none. none) edit_fault_of (not_found at end)) otherwise
 
 -- a region's own refusal comes first: its size, no entry at its start, or a damage
 abbrev pub unless_unsound : {A : Type 0} → List ℕ → Result A EditFault → Result A EditFault
 unless_unsound x otherwise =
-    refused_or (λ fault. Err (refusal_of fault)) (shape_fault x) (unless_damaged (place_after 0 (cut x).cells) (cut x).end otherwise)
+    refused_or (λ fault. Err (edit_fault_of fault)) (shape_fault x) (unless_damaged (place_after 0 (cut x).cells) (cut x).end otherwise)
 
 -- the group that a removal takes, or its first refusal
 unfoldable pub removal_in : List ℕ → List ℕ → Result CellRange EditFault

@@ -271,10 +271,7 @@ pub fn add<F: Flash, S: Source>(
     }
     let label = Label { name, kind, hash };
     let wanted = wanted_of(&label, source.len(), spot);
-    let place = match find_place(paged, region, name, wanted) {
-        Ok(place) => place,
-        Err(fault) => return Err(fault),
-    };
+    let place = find_place(paged, region, name, wanted)?;
     match insert(paged, region, wanted, place, &label, source) {
         Ok(()) => Ok(Placed {
             header: place.header,

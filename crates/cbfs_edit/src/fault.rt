@@ -1,10 +1,11 @@
 //! Why an edit is refused.
-ghost use Rattle.std.specs.Prelude.{◌≡◌, ◌≢◌};
-ghost use Rattle.cbfs_walk.specs.Walks as walks;
-ghost use Rattle.cbfs_edit.specs.Refusals.{by_device, refusal_of};
+ghost use Rattle.std.specs.Prelude.{◌≡◌};
+ghost use Rattle.cbfs_edit.specs.Refusals.{edit_fault_of};
+ghost use Rattle.cbfs_edit.specs.declared.fault.EditFault.TheVariants.{Device};
 
 use cbfs_walk::WalkFault;
 use flash_format::DamageKind;
+use flash_store::FlashFault;
 
 /// Why an edit is refused. The numbers are those of the refusals that the commands print. After `Device` the
 /// components are those of before or those of after, after `Source` those of before; after any other refusal the device is
@@ -35,16 +36,25 @@ pub enum EditFault {
     BadAlign,
 }
 
-/// The same refusal of an edit.
-pub fn refusal_of(fault: WalkFault) -> EditFault
-    ensures is { result ≡ refusal_of fault }
-    ensures device { by_device result ≡ walks.by_device fault }
-    ensures no_source { result ≢ EditFault.Source }
-{
-    match fault {
-        WalkFault::Device => EditFault::Device,
-        WalkFault::RegionShape => EditFault::RegionShape,
-        WalkFault::NotCbfs => EditFault::NotCbfs,
-        WalkFault::Damaged { at, kind } => EditFault::Damaged { at, kind },
+/// A call of the device failed.
+impl From<FlashFault> for EditFault {
+    ghost from_gives = { λ _ fault. fault ≡ Device };
+
+    fn from(_: FlashFault) -> EditFault {
+        EditFault::Device
+    }
+}
+
+/// A walk has ended.
+impl From<WalkFault> for EditFault {
+    ghost from_gives = { λ walk_fault fault. fault ≡ edit_fault_of walk_fault };
+
+    fn from(fault: WalkFault) -> EditFault {
+        match fault {
+            WalkFault::Device => EditFault::Device,
+            WalkFault::RegionShape => EditFault::RegionShape,
+            WalkFault::NotCbfs => EditFault::NotCbfs,
+            WalkFault::Damaged { at, kind } => EditFault::Damaged { at, kind },
+        }
     }
 }

@@ -38,8 +38,6 @@ pub fn format<F: Flash>(paged: &mut Paged<F>, region: Region) -> Result<(), Edit
     if end == 0 || end % 64 != 0 {
         return Err(EditFault::RegionShape);
     }
-    match write_empty_entry(paged, region, CellRange { start: 0, end }) {
-        Ok(()) => Ok(()),
-        Err(_) => Err(EditFault::Device),
-    }
+    write_empty_entry(paged, region, CellRange { start: 0, end })?;
+    Ok(())
 }

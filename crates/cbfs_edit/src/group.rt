@@ -10,7 +10,7 @@ ghost use Rattle.cbfs_edit.specs.Refusals.{by_device};
 ghost use Rattle.cbfs_edit.specs.Searches.{group_by, IsBefore};
 ghost use Rattle.cbfs_edit.specs.Removals.{removal_in};
 
-use crate::fault::{EditFault, refusal_of};
+use crate::fault::EditFault;
 use cbfs_walk::{Cell, Step, Walk, cells_stand_in_their_image, name_is};
 use flash_store::{Flash, FlashFault, Paged, Region};
 
@@ -55,14 +55,9 @@ pub fn find_group<F: Flash>(
     let mut walk = Walk::new(region);
     let mut search = Search::Looking { start: 0 };
     loop {
-        match walk.next(paged) {
-            Ok(Step::Cell(cell)) => match pass(paged, region, &cell, name, search) {
-                Ok(next) => search = next,
-                Err(_) => return Err(EditFault::Device),
-            },
-            Ok(Step::Tail(_)) => return group_in(search),
-            Ok(Step::End) => return group_in(search),
-            Err(fault) => return Err(refusal_of(fault)),
+        match walk.next(paged)? {
+            Step::Cell(cell) => search = pass(paged, region, &cell, name, search)?,
+            Step::Tail(_) | Step::End => return group_in(search),
         }
     }
 }

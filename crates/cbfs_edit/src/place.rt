@@ -12,7 +12,7 @@ ghost use Rattle.cbfs_edit.specs.Places.{Fits, IsWanted, is_bad_align, limit_of,
 ghost use Rattle.cbfs_edit.specs.Searches.{IsSurvey, place_by};
 
 use crate::empty_entry::space_end;
-use crate::fault::{EditFault, refusal_of};
+use crate::fault::EditFault;
 use crate::group::CellRange;
 use cbfs_walk::{Cell, Step, Walk, cells_stand_in_their_image, name_is};
 use flash_store::{Flash, FlashFault, Paged, Region};
@@ -90,14 +90,9 @@ pub fn find_place<F: Flash>(
         place: None,
     };
     loop {
-        match walk.next(paged) {
-            Ok(Step::Cell(cell)) => match pass(paged, region, &cell, name, wanted, survey) {
-                Ok(next) => survey = next,
-                Err(_) => return Err(EditFault::Device),
-            },
-            Ok(Step::Tail(_)) => return answer_of(wanted, region, survey),
-            Ok(Step::End) => return answer_of(wanted, region, survey),
-            Err(fault) => return Err(refusal_of(fault)),
+        match walk.next(paged)? {
+            Step::Cell(cell) => survey = pass(paged, region, &cell, name, wanted, survey)?,
+            Step::Tail(_) | Step::End => return answer_of(wanted, region, survey),
         }
     }
 }
@@ -227,8 +222,7 @@ fn limit_of(spot: Spot, region: Region, end: u64) -> u64
     ensures { result ≡ limit_of spot region.size end }
 {
     match spot {
-        Spot::First => space_end(region, end),
-        Spot::Aligned(_) => space_end(region, end),
+        Spot::First | Spot::Aligned(_) => space_end(region, end),
         Spot::Fixed(_) => end,
     }
 }

@@ -48,8 +48,6 @@ pub fn remove<F: Flash>(
 {
     paged.places_fit();
     let group = find_group(paged, region, name)?;
-    match write_empty_entry(paged, region, group) {
-        Ok(()) => Ok(group),
-        Err(_) => Err(EditFault::Device),
-    }
+    write_empty_entry(paged, region, group)?;
+    Ok(group)
 }

@@ -23,6 +23,7 @@ use Rattle.cbfs_walk.proofs.Checks.{checks_give, entry_present}
 use Rattle.cbfs_walk.proofs.Reading.{Passes-then}
 use Rattle.cbfs_walk.specs.Shapes.{has_bad_size, is_absent}
 use Rattle.cbfs_walk.specs.Walks.{Answer, Walking, EndsWalk, by_device, GivesCell, walk_after, answer_by, answer_of, answer_at, reads_at}
+use Rattle.cbfs_walk.specs.declared.walk.Step.{Step}
 use Rattle.cbfs_walk.specs.declared.walk.Step.TheVariants as steps
 use Rattle.cbfs_walk.specs.declared.walk.WalkFault.TheVariants as faults
 
@@ -133,3 +134,12 @@ pub ends_moved : (w : Walking) (a : Answer) → EndsWalk a → w.ended ≡ Some 
 ends_moved w (Ok (steps.Cell c)) e is = absurd e
 ends_moved w (Err faults.Device) e is = absurd e
 ends_moved w _ e is = ap (λ o. record w { ended = o }) is
+
+-- ---- the steps with which a walk ends
+
+abbrev pub IsLast : Step → Type 0
+IsLast step = ((at : ℕ) × (step ≡ steps.Tail at)) ⊎ (step ≡ steps.End)
+
+pub last_reads : (step : Step) (size at : ℕ) → IsLast step → reads_at size at (Ok step) ≡ reads_over (size - at)
+last_reads step size at (inl tail) = ap (λ (s : Step). reads_at size at (Ok s)) tail.1
+last_reads step size at (inr end) = ap (λ (s : Step). reads_at size at (Ok s)) end

@@ -24,6 +24,7 @@ use Rattle.flash_store.proofs.WindowLemmas.{HasRead-none, HasRead-then, HasRead-
 use Rattle.cbfs_walk.proofs.Parts.{length-region}
 use Rattle.cbfs_walk.proofs.CutLaws.{standing, cell_head, cell_len}
 use Rattle.cbfs_walk.proofs.Shapes.{shaped_step}
+use Rattle.cbfs_walk.proofs.Answering.{IsLast, last_reads}
 
 refused : WalkFault → Found
 refused fault = Err fault
@@ -168,13 +169,7 @@ module _ {F : Type 0} (facts : F → Device) (r : Range) (name : List ℕ) (w : 
 
   -- ---- the walk ended
 
-  module _ (step : Step) (last : ((at : ℕ) × (step ≡ steps.Tail at)) ⊎ (step ≡ steps.End)) where
-    last_reads : reads_at w.region.size w.at (Ok step) ≡ reads_over (w.region.size - w.at)
-    last_reads = elim last [
-      | inl tail ↦ ap (λ (s : Step). reads_at w.region.size w.at (Ok s)) tail.1
-      | inr end ↦ ap (λ (s : Step). reads_at w.region.size w.at (Ok s)) end
-    ]
-
+  module _ (step : Step) (last : IsLast step) where
     last_found : found_cell (found_by (bytes_in r (facts old.device).content) name (Ok step)) ≡ Ok None
     unfolding found_by find_cut components_from
     last_found = elim last [
@@ -185,7 +180,7 @@ module _ {F : Type 0} (facts : F → Device) (r : Range) (name : List ℕ) (w : 
     pub last_after : (mid : Pages F) → HasRead facts (reads_at w.region.size w.at (Ok step)) 0 now mid → HasRead facts (r.size / 16 + 2) 0 old mid
     last_after mid reading =
         HasRead-within facts (w.at / 16 + reads_over (w.region.size - w.at)) (r.size / 16 + 2) 0 old mid (omega (arith, s.inside, ap (λ (k : Range). k.size) s.region))
-        (HasRead-then facts (w.at / 16) (reads_over (w.region.size - w.at)) 0 old now mid s.read (rw last_reads at reading))
+        (HasRead-then facts (w.at / 16) (reads_over (w.region.size - w.at)) 0 old now mid s.read (rw (last_reads step w.region.size w.at last) at reading))
 
     pub last_answer : (IsTrue (facts now.device).honest → w.ended ≡ None → (let a : Answer = Ok step in IsErrOf a faults.Device ⊎ (a ≡ answer_at (bytes_in w.region (facts now.device).content) w.at)))
         → IsTrue (facts old.device).honest → Ok None ≡ found_cell (component_in (bytes_in r (facts old.device).content) name)

@@ -1,23 +1,17 @@
-use Rattle.std.proofs.Common.{arith, rules}
+use Rattle.std.proofs.Common.{arith}
 use Rattle.flash_store.specs.Regions.{bytes_in}
 use Rattle.flash_store.proofs.DeviceLemmas.{length-bytes_in}
 use Rattle.cbfs_edit.proofs.FormatLemmas.{format_done, format_stopped}
 use Rattle.cbfs_edit.proofs.formatting.format.Goals as goal
 
-pub returns-in-Ok-clause-after : goal.returns-in-Ok-clause-after
-returns-in-Ok-clause-after g c = search rules
-
-pub returns-in-Ok-clause-stopped : goal.returns-in-Ok-clause-stopped
-returns-in-Ok-clause-stopped g c = search rules
-
-pub returns-in-Ok-clause-formatted : goal.returns-in-Ok-clause-formatted
-returns-in-Ok-clause-formatted g c honest =
+pub returns-clause-formatted : goal.returns-clause-formatted
+returns-clause-formatted g c honest =
     let content = (g.F.Flash.facts c.args.paged.now.device).content in
     format_done (bytes_in c.args.region content) _ c.size-end.result
-    (omega (arith, length-bytes_in c.args.region content c.requires, c.size-end.ensures)) (omega arith) (c.in-Ok.ensures.written honest)
+    (omega (arith, length-bytes_in c.args.region content c.requires, c.size-end.ensures)) (omega arith) (c.in_ok-write_empty_entry.ensures.written honest)
 
-pub returns-in-Err-clause-stopped : goal.returns-in-Err-clause-stopped
-returns-in-Err-clause-stopped g c honest = λ is.
+pub returns-in_err-write_empty_entry-clause-stopped : goal.returns-in_err-write_empty_entry-clause-stopped
+returns-in_err-write_empty_entry-clause-stopped g c honest = λ is.
     let content = (g.F.Flash.facts c.args.paged.now.device).content in
     format_stopped (bytes_in c.args.region content) _ c.size-end.result c.args.region.size
     (omega (arith, length-bytes_in c.args.region content c.requires, c.size-end.ensures)) (omega (arith, c.size-end.ensures)) (omega arith) (omega arith)

@@ -1,9 +1,10 @@
-use Rattle.std.proofs.Common.{inr, ◌∙◌, refl, arith, rules}
+use Rattle.std.proofs.Common.{inr, ◌∙◌, refl, arith}
+use Rattle.std.proofs.lemmas.Result.{err_from_is_err_and}
 use Rattle.flash_store.specs.Regions.{bytes_in}
 use Rattle.flash_store.proofs.DeviceLemmas.{length-bytes_in}
 use Rattle.cbfs_edit.specs.Places.{placing_in}
 use Rattle.cbfs_edit.specs.Searches.{IsSurvey, place_by}
-use Rattle.cbfs_edit.proofs.Searches.{surveying_start, surveying_more, surveying_last, surveying_err, nothing_passed, place_searched}
+use Rattle.cbfs_edit.proofs.Searches.{surveying_start, surveying_more, faultless, last_after, last_answer, surveying_err, nothing_passed, place_searched}
 use Rattle.cbfs_edit.proofs.place.find_place.Goals as goal
 
 pub loop-cell-init : goal.loop-cell-init
@@ -16,25 +17,25 @@ loop-cell-init g c =
 
 pub loop-cell-preserved : goal.loop-cell-preserved
 loop-cell-preserved g c =
-    let is = c.in-Ok-Cell.field-0-is in
-    let given = rw is at c.in-Ok-Cell.ensures.cell in
-    let reads = rw is at c.in-Ok-Cell.ensures.after in
-    let answer = rw is at c.in-Ok-Cell.ensures.answer in
-    let moved = rw is at c.in-Ok-Cell.ensures.moved in
-    surveying_more g.F.Flash.facts c.args.region (λ s at cells. place_by c.args.name.now c.args.wanted c.args.region.size s cells) _ (IsSurvey c.args.wanted c.args.region.size) c.loop-cell.walk c.loop-cell.survey _ _ c.requires.region c.loop-cell.invariant c.in-Ok-Cell.cell _ c.in-Ok.next _ _ _
-    given reads refl c.in-Ok.ensures.after.read answer moved c.in-Ok.ensures.before c.in-Ok.ensures.passed
+    let is = c.in-Cell.is in
+    let given = rw is at c.in_ok-cell.ensures.cell in
+    let reads = rw is at c.in_ok-cell.ensures.after in
+    let answer = rw is at c.in_ok-cell.ensures.answer in
+    let moved = rw is at c.in_ok-cell.ensures.moved in
+    surveying_more g.F.Flash.facts c.args.region (λ s at cells. place_by c.args.name.now c.args.wanted c.args.region.size s cells) _ (IsSurvey c.args.wanted c.args.region.size) c.loop-cell.walk c.loop-cell.survey _ _ c.requires.region c.loop-cell.invariant c.in-Cell.cell _ c.in_ok-survey-in-Cell.survey _ _ _
+    given reads refl c.in_ok-survey-in-Cell.ensures.after.read answer moved c.in_ok-survey-in-Cell.ensures.before c.in_ok-survey-in-Cell.ensures.passed
 
-pub returns-in-Ok-Tail-clause-answer : goal.returns-in-Ok-Tail-clause-answer
-returns-in-Ok-Tail-clause-answer g c = λ h.
-    inr (c.answer_of.ensures.is c.args.name.now ∙ surveying_last _ c.args.region (λ s at cells. place_by c.args.name.now c.args.wanted c.args.region.size s cells) _ _ c.loop-cell.walk c.loop-cell.survey _ _ c.requires.region c.loop-cell.invariant _ (rw c.in-Ok-Tail.field-0-is at c.in-Ok-Tail.ensures.answer) refl h)
+pub returns-in-Tail : goal.returns-in-Tail
+returns-in-Tail g c =
+    let read = last_after _ c.args.region (λ s at cells. place_by c.args.name.now c.args.wanted c.args.region.size s cells) _ _ c.loop-cell.walk c.loop-cell.survey _ _ c.requires.region c.loop-cell.invariant _ c.in-Tail.is _ c.in_ok-cell.ensures.after in
+    record {
+      after = rw (faultless c.answer_of.result c.answer_of.ensures.fault) read;
+      no_source = c.answer_of.ensures.no_source;
+      fits = c.answer_of.ensures.fits;
+      answer = λ h. inr (c.answer_of.ensures.is c.args.name.now ∙ last_answer _ c.args.region (λ s at cells. place_by c.args.name.now c.args.wanted c.args.region.size s cells) _ _ c.loop-cell.walk c.loop-cell.survey _ _ c.requires.region c.loop-cell.invariant _ c.in-Tail.is c.in_ok-cell.ensures.answer h);
+    }
 
-pub returns-in-Ok-End-clause-answer : goal.returns-in-Ok-End-clause-answer
-returns-in-Ok-End-clause-answer g c = λ h.
-    inr (c.answer_of-in-Ok-End.ensures.is c.args.name.now ∙ surveying_last _ c.args.region (λ s at cells. place_by c.args.name.now c.args.wanted c.args.region.size s cells) _ _ c.loop-cell.walk c.loop-cell.survey _ _ c.requires.region c.loop-cell.invariant _ (rw c.in-Ok-End.field-0-is at c.in-Ok-End.ensures.answer) refl h)
-
-pub returns-in-Err-clause-answer : goal.returns-in-Err-clause-answer
-returns-in-Err-clause-answer g c = λ h.
-    rw c.refusal_of.ensures.is (surveying_err _ c.args.region (λ s at cells. place_by c.args.name.now c.args.wanted c.args.region.size s cells) _ _ c.loop-cell.walk c.loop-cell.survey _ _ c.requires.region c.loop-cell.invariant c.in-Err.fault c.in-Err.ensures.answer h)
-
-pub returns-in-Err-clause-after : goal.returns-in-Err-clause-after
-returns-in-Err-clause-after g c = search rules
+pub returns-in_err-cell-clause-answer : goal.returns-in_err-cell-clause-answer
+returns-in_err-cell-clause-answer g c = λ h.
+    let told = err_from_is_err_and c.from_residual.result c.from_residual.ensures.1 in
+    rw (told.1, told.2) (surveying_err _ c.args.region (λ s at cells. place_by c.args.name.now c.args.wanted c.args.region.size s cells) _ _ c.loop-cell.walk c.loop-cell.survey _ _ c.requires.region c.loop-cell.invariant c.in_err-cell.field-0.0 c.in_err-cell.ensures.answer h)
