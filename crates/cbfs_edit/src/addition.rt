@@ -14,12 +14,11 @@ ghost use Rattle.cbfs_edit.specs.Places.{Fits};
 ghost use Rattle.cbfs_edit.specs.Refusals.{by_device, by_source};
 ghost use Rattle.cbfs_edit.specs.Stops.{AddLeavesBefore, AddLeavesWhole, IsInsertStop, written_to};
 
-use crate::empty_entry::write_empty_entry;
 use crate::fault::EditFault;
 use crate::hashing::Hashing;
 use crate::insertion::describe;
 use crate::place::{Place, Spot, Wanted, find_place};
-use crate::write::copy_into;
+use crate::write::{copy_into, write_empty_entry};
 use flash_format::{Algorithm, Digest, Meta, meta_len};
 use flash_store::{CopyFault, Flash, Nobody, Paged, Region, Source};
 use sha2::{Sha256, Sha512};

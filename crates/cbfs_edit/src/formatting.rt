@@ -9,9 +9,9 @@ ghost use Rattle.cbfs_edit.specs.Formats.{formatted, IsOneFreeCell};
 ghost use Rattle.cbfs_edit.specs.Refusals.{by_device};
 ghost use Rattle.cbfs_edit.specs.Removals.{last_four};
 
-use crate::empty_entry::write_empty_entry;
 use crate::fault::EditFault;
 use crate::group::CellRange;
+use crate::write::write_empty_entry;
 use flash_store::{Flash, Paged, Region};
 
 /// Makes the whole region one empty entry, whatever it holds, damaged or no CBFS at all. Its last four bytes are kept.

@@ -7,7 +7,6 @@
 
 mod addition;
 mod edit;
-mod empty_entry;
 mod fault;
 mod formatting;
 mod group;

@@ -11,9 +11,9 @@ ghost use Rattle.cbfs_edit.specs.Refusals.{by_device};
 ghost use Rattle.cbfs_edit.specs.Places.{Fits, IsWanted, is_bad_align, limit_of, least_from, place_in, placing_in};
 ghost use Rattle.cbfs_edit.specs.Searches.{IsSurvey, place_by};
 
-use crate::empty_entry::space_end;
 use crate::fault::EditFault;
 use crate::group::CellRange;
+use crate::write::space_end;
 use cbfs_walk::{Cell, Step, Walk, cells_stand_in_their_image, name_is};
 use flash_store::{Flash, FlashFault, Paged, Region};
 

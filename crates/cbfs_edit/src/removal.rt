@@ -9,9 +9,9 @@ ghost use Rattle.cbfs_edit.specs.Refusals.{by_device};
 ghost use Rattle.cbfs_edit.specs.Removals.{removed, removal_in};
 ghost use Rattle.cbfs_edit.specs.Stops.{LeavesWhole};
 
-use crate::empty_entry::write_empty_entry;
 use crate::fault::EditFault;
 use crate::group::{Freed, find_group};
+use crate::write::write_empty_entry;
 use flash_store::{Flash, Paged, Region};
 
 /// Puts one empty entry in place of the first component of the name and of all free space that touches it, and answers
