@@ -9,7 +9,7 @@ ghost use Rattle.flash_store.specs.Device.{Reads, faults_told};
 ghost use Rattle.flash_store.specs.Pages.{HasChanged, OnHonestIn};
 ghost use Rattle.flash_store.specs.Regions.{LiesIn};
 ghost use Rattle.cbfs_edit.specs.Changes.{OnHonestChange, HasCopied};
-ghost use Rattle.cbfs_edit.specs.Additions.{added, added_to, addition_in, digest_of, is_bad_name, component_of_label, new_component, own_fault, placed_of, wanted_for};
+ghost use Rattle.cbfs_edit.specs.Additions.{added, added_to, addition_in, digest_of, is_bad_name, is_bad_type, component_of_label, new_component, own_fault, placed_of, wanted_for};
 ghost use Rattle.cbfs_edit.specs.Places.{Fits};
 ghost use Rattle.cbfs_edit.specs.Refusals.{by_device, by_source};
 ghost use Rattle.cbfs_edit.specs.Stops.{AddLeavesBefore, AddLeavesWhole, IsInsertStop, written_to};
@@ -178,14 +178,12 @@ fn own_fault(name: &[u8], kind: u32, spot: Spot) -> Option<EditFault>
     if is_bad_name(name) {
         return Some(EditFault::BadName);
     }
-    if kind == 0 || kind == 0xffff_ffff {
+    if is_bad_type(kind) {
         return Some(EditFault::BadType);
     }
     match spot {
         Spot::Aligned(0) => Some(EditFault::BadAlign),
-        Spot::Aligned(_) => None,
-        Spot::First => None,
-        Spot::Fixed(_) => None,
+        Spot::Aligned(_) | Spot::First | Spot::Fixed(_) => None,
     }
 }
 
@@ -200,6 +198,13 @@ fn has_nul(name: &[u8]) -> bool
     ensures { result ≡ list_any is_nul name.now }
 {
     name.iter().any(|byte| *byte == 0)
+}
+
+/// Whether an entry of the type is free space.
+fn is_bad_type(kind: u32) -> bool
+    ensures { result ≡ is_bad_type kind }
+{
+    kind == 0 || kind == 0xffff_ffff
 }
 
 /// How many bytes the attribute has that stores the digest, whatever the content.

@@ -116,7 +116,6 @@ fn group_in(search: Search) -> Result<CellRange, EditFault>
 {
     match search {
         Search::Looking { .. } => Err(EditFault::NotFound),
-        Search::Growing(group) => Ok(group),
-        Search::Whole(group) => Ok(group),
+        Search::Growing(group) | Search::Whole(group) => Ok(group),
     }
 }
