@@ -12,7 +12,7 @@ use crate::fault::ListingFault;
 use cbfs_check::Name;
 use cbfs_walk::{Cell, Step, Walk, WalkFault, cells_stand_in_their_image, name};
 use flash_store::{Flash, Paged, Region};
-use std::alloc::{AllocError, Global};
+use std::alloc::Global;
 
 /// A component as a walk gave it.
 #[derive(Debug, Drop)]
@@ -44,16 +44,18 @@ fn list_cell<F: Flash>(
     let mut field = [0; 256];
     let len = name(paged, region, cell, &mut field)?;
     let name = Name::copied(alloc, &field[..len])?;
-    add(all, Listed { name, cell: *cell })?;
-    Ok(())
+    add(all, Listed { name, cell: *cell })
 }
 
 /// Adds a component.
-fn add(all: &mut Vec<Listed>, listed: Listed) -> Result<(), AllocError>
-    ensures { OnOk result (all.new.items ≡ all.old.items ++ listed ∷ []) }
+fn add(all: &mut Vec<Listed>, listed: Listed) -> Result<(), ListingFault>
+    ensures added { OnOk result (all.new.items ≡ all.old.items ++ listed ∷ []) }
+    ensures memory { IfErr result (λ fault. fault ≡ ListingFault.Memory) }
 {
-    all.push(listed)?;
-    Ok(())
+    match all.push(listed) {
+        Ok(()) => Ok(()),
+        Err(_) => Err(ListingFault::Memory),
+    }
 }
 
 /// The components of a region in order, up to a damage; none where its shape is refused.
@@ -72,7 +74,8 @@ pub fn components<F: Flash>(
     loop {
         match walk.next(paged) {
             Ok(Step::Cell(cell)) => list_cell(alloc, paged, region, &cell, &mut all)?,
-            Ok(Step::Tail(_) | Step::End) => return Ok(all),
+            Ok(Step::Tail(_)) => return Ok(all),
+            Ok(Step::End) => return Ok(all),
             Err(fault) => {
                 ended(fault)?;
                 return Ok(all);
