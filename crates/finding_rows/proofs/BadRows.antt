@@ -11,7 +11,7 @@ use Rattle.cbfs_check.specs.declared.finding.RegionFinding.TheVariants as of_reg
 use Rattle.flashmap_check.specs.declared.finding.MapFinding.{MapFinding}
 use Rattle.flashmap_check.specs.declared.finding.MapFinding.TheVariants as of_map
 use Rattle.image_check.specs.declared.finding.ImageFinding.{ImageFinding}
-use Rattle.image_check.specs.declared.finding.ImageFinding.TheVariants.{Map, Skipped, Region, NoRegion}
+use Rattle.image_check.specs.declared.finding.ImageFinding.TheVariants.{Map, Skipped, Unchecked, Region, NoRegion}
 use Rattle.image_check.specs.Verdicts.{is_bad, is_bad_map, is_bad_region}
 use Rattle.check_rows.specs.Rows.{SeenRow}
 use Rattle.finding_rows.specs.FindingRows.{area_name, map_row, region_rows, rows_of, finding_rows}
@@ -53,6 +53,7 @@ bad_region region (of_region.Counts counts) = refl
 bad_finding : (names : List (List ℕ)) (f : ImageFinding) → list_any is_bad_row (rows_of names f) ≡ is_bad f
 bad_finding names (Map f) = bad_map f
 bad_finding names (Skipped a) = refl
+bad_finding names (Unchecked a) = refl
 bad_finding names (Region a findings) = bad_rows (region_rows (area_name a)) is_bad_region (bad_region (area_name a)) findings
 bad_finding names (NoRegion number) = refl
 

@@ -17,7 +17,7 @@ use Rattle.flashmap_check.specs.declared.finding.NumberedArea.{NumberedArea}
 use Rattle.flashmap_check.specs.declared.finding.MapFinding.{MapFinding}
 use Rattle.flashmap_check.specs.declared.finding.MapFinding.TheVariants as of_map
 use Rattle.image_check.specs.declared.finding.ImageFinding.{ImageFinding}
-use Rattle.image_check.specs.declared.finding.ImageFinding.TheVariants.{Map, Skipped, Region, NoRegion}
+use Rattle.image_check.specs.declared.finding.ImageFinding.TheVariants.{Map, Skipped, Unchecked, Region, NoRegion}
 use Rattle.image_check.specs.Verdicts.{is_bad_map, is_bad_region}
 use Rattle.check_rows.specs.declared.row.Verdict.{Verdict}
 use Rattle.check_rows.specs.declared.row.Verdict.TheVariants.{Bad, Remark}
@@ -130,6 +130,7 @@ missing_row names number = record { verdict = Bad; area = slice_get names number
 abbrev pub rows_of : List (List ℕ) → ImageFinding → List SeenRow
 rows_of names (Map finding) = map_row finding ∷ []
 rows_of names (Skipped a) = area_row Remark a (codes "isn't checked, another area has bytes of it") details.None ∷ []
+rows_of names (Unchecked a) = area_row Bad a (codes "isn't checked, although it is named: another area has bytes of it") details.None ∷ []
 rows_of names (Region a findings) = flat_map (region_rows (area_name a)) findings
 rows_of names (NoRegion number) = missing_row names number ∷ []
 

@@ -41,6 +41,10 @@ fn tell_finding(
             let what = "isn't checked, another area has bytes of it";
             report.tell(&area_row(Verdict::Remark, area, what, Detail::None))
         }
+        ImageFinding::Unchecked(area) => {
+            let what = "isn't checked, although it is named: another area has bytes of it";
+            report.tell(&area_row(Verdict::Bad, area, what, Detail::None))
+        }
         ImageFinding::Region { area, findings } => {
             tell_region(report, area.area.text(), findings.as_slice())
         }

@@ -90,6 +90,7 @@ fn areas_of_a_flashmap(rt: HostRuntime) {
         ImageFinding::Map(MapFinding::Overlap { area, other: 20 }),
         ImageFinding::Map(MapFinding::MapAreaMisses(area)),
         ImageFinding::Skipped(area),
+        ImageFinding::Unchecked(area),
     ];
     tells(
         &rt,
@@ -100,7 +101,8 @@ fn areas_of_a_flashmap(rt: HostRuntime) {
         bad\tCOREBOOT\t-\t0x1000\toverlaps the area of this number\t20\n\
         bad\tCOREBOOT\t-\t0x1000\tdoesn't hold the flashmap\n\
         remark\tCOREBOOT\t-\t0x1000\tisn't checked, another area has bytes of it\n\
-        4 bad, 2 remarks, 0 changes\n",
+        bad\tCOREBOOT\t-\t0x1000\tisn't checked, although it is named: another area has bytes of it\n\
+        5 bad, 2 remarks, 0 changes\n",
     );
 }
 

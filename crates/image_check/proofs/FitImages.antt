@@ -18,12 +18,14 @@ use Rattle.flashmap_check.specs.declared.finding.NumberedArea.{NumberedArea}
 use Rattle.flashmap_check.specs.MapFindings.{area_end, area_findings, areas_under, findings_of, findings_under, first_with, has_name, image_areas, map_areas, map_findings, name_finding, name_findings, next_findings, numbered_from, told_if}
 use Rattle.flashmap_check.proofs.Sound.{named}
 use Rattle.image_check.specs.declared.finding.ImageFinding.{ImageFinding}
-use Rattle.image_check.specs.declared.finding.ImageFinding.TheVariants.{Map, NoRegion, Region, Skipped}
-use Rattle.image_check.specs.ImageFindings.{Looked, bytes_of, image_findings, in_place, is_wanted, look, looked, max_tried, names_findings, one_tried, pass_over, range_of, region_finding, takes_place, with_region, with_skipped}
+use Rattle.image_check.specs.declared.finding.ImageFinding.TheVariants.{Map, NoRegion, Region, Skipped, Unchecked}
+use Rattle.image_check.specs.ImageFindings.{Looked, bytes_of, image_findings, has_one_of, in_place, is_wanted, look, looked, max_tried, names_findings, one_tried, pass_over, passed_finding, range_of, region_finding, takes_place, with_passed, with_region}
 use Rattle.image_check.specs.Laws.{FitImagesAreWhole, FitRegionsLoseNothing, IsFit}
+use Rattle.image_check.specs.Places.{by_place}
 use Rattle.image_check.specs.RegionAreas.{region_area, region_areas}
 use Rattle.image_check.specs.Verdicts.{is_bad, is_bad_map}
 use Rattle.image_check.proofs.Fit.{fit_region, none_of}
+use Rattle.image_check.proofs.Sorting.{All-by_place}
 use Rattle.image_check.proofs.Looking.{no_map_areas, no_name_areas}
 
 -- ---- no name stands twice
@@ -106,6 +108,7 @@ passed_good image end (Region a own) good = go (nat_lt a.area.offset end)
     go false fit = good fit
 passed_good image end (Map finding) good = good
 passed_good image end (Skipped a) good = good
+passed_good image end (Unchecked a) good = good
 passed_good image end (NoRegion number) good = good
 
 passed_all : (image : List ℕ) (end : ℕ) (findings : List ImageFinding) → All (IsGood image) findings → All (IsGood image) (map (pass_over end) findings)
@@ -117,17 +120,21 @@ one_more : (image : List ℕ) (findings : List ImageFinding) (f : ImageFinding) 
 one_more image findings f each good = All-append (IsGood image) findings (f ∷ []) each (All-cons (IsGood image) f [] good (All-nil (IsGood image)))
 
 module _ (lossless : FitRegionsLoseNothing) (verbose : Bool) (image : List ℕ) (names : List (List ℕ)) where
+  good_passed : (a : NumberedArea) (named : Bool) → IsGood image (cond named (Unchecked a) (Skipped a))
+  good_passed a true = unread image (Unchecked a) refl
+  good_passed a false = unread image (Skipped a) refl
+
   good_look : (a : NumberedArea) (later : Looked) → All (IsGood image) later.findings → region_of image (text_of a.area.name) ≡ Ok (range_of a) → (fits behind takes : Bool)
-      → All (IsGood image) (cond {A = Looked} fits (with_region verbose image a later) (cond {A = Looked} behind (with_skipped a later) (cond {A = Looked} takes (in_place verbose image a (one_tried later)) (with_skipped a (one_tried later))))).findings
+      → All (IsGood image) (cond {A = Looked} fits (with_region verbose image a later) (cond {A = Looked} behind (with_passed names a later) (cond {A = Looked} takes (in_place verbose image a (one_tried later)) (with_passed names a (one_tried later))))).findings
   good_look a later each is true behind takes = one_more image later.findings (region_finding verbose image a) each (good_region lossless verbose image a is)
-  good_look a later each is false true takes = one_more image later.findings (Skipped a) each (unread image (Skipped a) refl)
+  good_look a later each is false true takes = one_more image later.findings (passed_finding names a) each (good_passed a (has_one_of names a))
   good_look a later each is false false true = one_more image _ (region_finding verbose image a) (passed_all image (area_end a.area) later.findings each) (good_region lossless verbose image a is)
-  good_look a later each is false false false = one_more image later.findings (Skipped a) each (unread image (Skipped a) refl)
+  good_look a later each is false false false = one_more image later.findings (passed_finding names a) each (good_passed a (has_one_of names a))
 
   good_area : (a : NumberedArea) (later : Looked) → All (IsGood image) later.findings → (wanted : Bool) → (wanted ≡ true → region_of image (text_of a.area.name) ≡ Ok (range_of a))
       → All (IsGood image) (cond {A = Looked} wanted (look verbose image names a later) later).findings
   good_area a later each true is =
-      good_look a later each (is refl) (nat_le (area_end a.area) later.lowest) (nat_lt later.lowest a.area.offset || nat_le max_tried later.tried) (takes_place verbose image names a later.findings)
+      good_look a later each (is refl) (nat_le (area_end a.area) later.lowest) (nat_le max_tried later.tried) (takes_place verbose image names a later.findings)
   good_area a later each false is = each
 
   good_areas : (areas : List NumberedArea) → All (IsReached image) areas → All (IsGood image) (looked verbose image names areas).findings
@@ -165,9 +172,10 @@ areas_of told regions areas names =
 pub fit_image : FitRegionsLoseNothing → FitImagesAreWhole
 unfolding image_findings image_areas map_findings
 fit_image lossless verbose image names fit =
-    let told = (looked verbose image names (image_areas image)).findings in
+    let placed = by_place (image_areas image) in
+    let told = (looked verbose image names placed).findings in
     let regions = reverse told in
     let map_part = none_of is_bad (map Map (map_findings image)) _ fit in
     let region_part = none_of is_bad regions _ map_part.1 in
     let areas = fit_areas image (found_in image) refl (sym (of_map (map_findings image)) ∙ map_part.0) in
-    subst (All (IsFit image)) (sym (areas_of (map_findings image) regions (image_areas image) names)) (fit_areas_of image regions (reverse_good image told (good_areas lossless verbose image names (image_areas image) areas)) region_part.0)
+    subst (All (IsFit image)) (sym (areas_of (map_findings image) regions (image_areas image) names)) (fit_areas_of image regions (reverse_good image told (good_areas lossless verbose image names placed (All-by_place (IsReached image) (image_areas image) areas))) region_part.0)

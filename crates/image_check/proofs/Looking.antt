@@ -1,13 +1,14 @@
--- The areas of a map, as they are looked at from the last one on.
+-- Areas, as they are looked at from the last one on.
 use Rattle.std.proofs.Common.{◌≡◌, ◌∙◌, ℕ, suc, ◌+◌, ◌-◌, ◌*◌, ◌/◌, ◌<◌, ◌≤◌, Bool, true, false, cond, List, [], ◌∷◌, ◌++◌, length, get_or, drop, reverse, nat_lt, refl, sym, ap, subst, arith, append_assoc, append-nil}
 use Rattle.std.specs.Prelude.{map, Result, Ok, Err, IsErrAnd}
 use Rattle.std.specs.List.{list_any}
+use Rattle.std.specs.List.Sorted.{IsNonDecreasingBy}
 use Rattle.std.proofs.lemmas.Grind.{flat_map-append}
 use Rattle.flash_format.specs.Flashmap.{is_area}
 use Rattle.std.proofs.Math.Nat.{mul_comm, mul-le-mul_left}
 use Rattle.std.proofs.Math.Seq.{drop-cons, drop-length}
 use Rattle.std.proofs.lemmas.Bool.{ltb-false, le-ltb}
-use Rattle.std.proofs.lemmas.List.{map-append, reverse-append}
+use Rattle.std.proofs.lemmas.List.{get_or_default, map-append, reverse-append}
 use Rattle.flash_store.specs.Device.{Device, faults_told}
 use Rattle.flash_store.specs.Pages.{Pages, HasRead, OnHonest}
 use Rattle.flash_store.proofs.DeviceLemmas.{honest_still}
@@ -19,10 +20,11 @@ use Rattle.cbfs_check.specs.declared.finding.RegionFinding.{RegionFinding}
 use Rattle.image_check.specs.declared.fault.ImageCheckFault.{ImageCheckFault}
 use Rattle.image_check.specs.declared.finding.ImageFinding.{ImageFinding}
 use Rattle.image_check.specs.Faults.{by_device}
-use Rattle.image_check.specs.declared.finding.ImageFinding.TheVariants.{Map, NoRegion, Region, Skipped}
+use Rattle.image_check.specs.declared.finding.ImageFinding.TheVariants.{Map, NoRegion, Region, Skipped, Unchecked}
 use Rattle.image_check.specs.declared.looked.LookedAreas.{LookedAreas}
 use Rattle.image_check.specs.ImageFindings.{Looked, image_findings, look_if_wanted, looked, max_tried, name_findings, names_findings, pass_over}
 use Rattle.image_check.specs.LookedAreas.{AreInOrder, HasLooked, calls_of, told_by}
+use Rattle.image_check.specs.Places.{by_place}
 use Rattle.image_check.specs.RegionAreas.{region_area, region_areas, LieInOrder}
 
 -- ---- the regions lie in order
@@ -51,6 +53,7 @@ unpassed : (low end n : ℕ) (findings : List ImageFinding) → end ≤ low → 
 unpassed low end n [] le lie = lie
 unpassed low end n (Map finding ∷ findings) le lie = unpassed low end n findings le lie
 unpassed low end n (Skipped a ∷ findings) le lie = unpassed low end n findings le lie
+unpassed low end n (Unchecked a ∷ findings) le lie = unpassed low end n findings le lie
 unpassed low end n (NoRegion number ∷ findings) le lie = unpassed low end n findings le lie
 unpassed low end n (Region a own ∷ findings) le lie =
     let starts : end ≤ a.area.offset = omega (arith, lie.0) in
@@ -61,6 +64,7 @@ LieInOrder-passed : (low end n : ℕ) (findings : List ImageFinding) → end ≤
 LieInOrder-passed low end n [] fits lie = fits
 LieInOrder-passed low end n (Map finding ∷ findings) fits lie = LieInOrder-passed low end n findings fits lie
 LieInOrder-passed low end n (Skipped a ∷ findings) fits lie = LieInOrder-passed low end n findings fits lie
+LieInOrder-passed low end n (Unchecked a ∷ findings) fits lie = LieInOrder-passed low end n findings fits lie
 LieInOrder-passed low end n (NoRegion number ∷ findings) fits lie = LieInOrder-passed low end n findings fits lie
 LieInOrder-passed low end n (Region a own ∷ findings) fits lie =
     passed low end n a own findings lie (LieInOrder-passed (area_end a.area) end n findings fits) (unpassed (area_end a.area) end n findings) (nat_lt a.area.offset end) refl
@@ -91,6 +95,7 @@ pub record Looking {F : Type 0} (facts : F → Device) (verbose : Bool) (names :
   pub read : HasRead facts (3 * (length areas - left) + calls_of (length (facts old.device).content) later) 0 old now
   pub few : later.tried ≤ max_tried
   pub told : OnHonest facts old.device (λ image. told_by later ≡ looked verbose image names (drop left areas))
+  pub below : (k : ℕ) (d : NumberedArea) → k < left → (get_or areas k d).area.offset ≤ length (facts old.device).content → (get_or areas k d).area.offset ≤ later.lowest
   pub order : AreInOrder (length (facts old.device).content) later
   pub count : length later.findings.items + left ≤ length areas
 
@@ -116,6 +121,7 @@ looking_start facts verbose names areas later old lowest is whole =
       fits = omega arith;
       read = HasRead-within facts 0 _ 0 old old (omega arith) (HasRead-none facts old);
       few = omega arith;
+      below = λ k d lt fits. omega arith;
       told = λ h. rw (drop-length areas) (is ∙ ap (λ n. record { findings = []; lowest = n; tried = 0 }) whole);
       order = rw none (omega arith);
       count = rw none (omega arith);
@@ -139,10 +145,12 @@ looking_reads facts verbose names areas left later next refused old now new i on
 pub looking_more : {F : Type 0} (facts : F → Device) (verbose : Bool) (names : List (List ℕ)) (areas : List NumberedArea) (left i : ℕ) (d : NumberedArea) (later next : LookedAreas) (old now new : Pages F)
     → Looking facts verbose names areas left later old now → left ≡ i + 1 → HasLooked facts 3 0 later next now new
     → OnHonest facts now.device (λ image. told_by next ≡ look_if_wanted verbose image names (get_or areas i d) (told_by later))
+    → IsNonDecreasingBy (λ (a : NumberedArea). a.area.offset) areas
+    → ((at : ℕ) → at ≤ (get_or areas i d).area.offset → at ≤ later.lowest → at ≤ next.lowest)
     → (AreInOrder (length (facts now.device).content) later → AreInOrder (length (facts now.device).content) next)
     → length next.findings.items ≤ length later.findings.items + 1
     → Looking facts verbose names areas i next old new
-looking_more facts verbose names areas left i d later next old now new so_far one looked_at tells keeps few = record {
+looking_more facts verbose names areas left i d later next old now new so_far one looked_at tells rises stays keeps few = record {
   fits = omega (arith, so_far.fits);
   read = HasRead-within facts _ _ 0 old new (omega (arith, so_far.fits)) (looking_reads facts verbose names areas left later next 0 old now new so_far looked_at);
   few = looked_at.few;
@@ -151,6 +159,12 @@ looking_more facts verbose names areas left i d later next old now new so_far on
       let lt : i < length areas = omega (arith, so_far.fits) in
       let told = rw (so_far.read.device.unchanged h) at (tells (honest_still so_far.read.device.calls.same_honesty h)) in
       told ∙ ap (look_if_wanted verbose image names (get_or areas i d)) (so_far.told h ∙ ap (λ k. looked verbose image names (drop k areas)) one) ∙ sym (looked_more verbose image names areas i d lt);
+  below = λ k e lt fits.
+      let there : k < left = omega arith in
+      let near : i < length areas = omega (arith, so_far.fits) in
+      let le : (get_or areas k e).area.offset ≤ (get_or areas i e).area.offset = rises k i e (omega arith) near in
+      let same = ap (λ (a : NumberedArea). a.area.offset) (get_or_default areas i e d near) in
+      stays (get_or areas k e).area.offset (omega (arith, le, same)) (so_far.below k e there fits);
   order = rw so_far.read.device.calls.same_length at keeps so_far.order;
   count = omega (arith, so_far.count);
 }
@@ -195,7 +209,7 @@ region_areas-told told areas names first regions second all is pushed last =
     ∙ ap (λ (l : List NumberedArea). l ++ region_areas regions) (ap region_areas is ∙ no_map_areas told)
 
 pub told-image : (verbose : Bool) (image : List ℕ) (names : List (List ℕ)) (of_map : List MapFinding) (areas again : List NumberedArea) (first regions second all : List ImageFinding)
-    → first ≡ map Map of_map → of_map ≡ map_findings image → regions ≡ reverse (looked verbose image names areas).findings → areas ≡ image_areas image → again ≡ image_areas image
+    → first ≡ map Map of_map → of_map ≡ map_findings image → regions ≡ reverse (looked verbose image names areas).findings → areas ≡ by_place (image_areas image) → again ≡ image_areas image
     → second ≡ first ++ regions → all ≡ second ++ names_findings again 0 names → all ≡ image_findings verbose image names
 unfolding image_findings
 told-image verbose image names of_map areas again first regions second all is from_map told listed listed_again same last =
@@ -203,11 +217,12 @@ told-image verbose image names of_map areas again first regions second all is fr
     ∙ ap (λ (l : List ImageFinding). l ++ names_findings again 0 names) (same ∙ ap (λ (l : List ImageFinding). l ++ regions) (is ∙ ap (map Map) from_map))
     ∙ append_assoc (map Map (map_findings image)) regions (names_findings again 0 names)
     ∙ ap (λ (l : List ImageFinding). map Map (map_findings image) ++ (l ++ names_findings again 0 names)) (told ∙ ap (λ (l : List NumberedArea). reverse (looked verbose image names l).findings) listed)
-    ∙ ap (λ (l : List NumberedArea). map Map (map_findings image) ++ (reverse (looked verbose image names (image_areas image)).findings ++ names_findings l 0 names)) listed_again
+    ∙ ap (λ (l : List NumberedArea). map Map (map_findings image) ++ (reverse (looked verbose image names (by_place (image_areas image))).findings ++ names_findings l 0 names)) listed_again
 
 pub region_areas-short : (findings : List ImageFinding) → length (region_areas findings) ≤ length findings
 region_areas-short [] = omega arith
 region_areas-short (Region a own ∷ findings) = let rest = region_areas-short findings in omega (arith, rest)
 region_areas-short (Map finding ∷ findings) = let rest = region_areas-short findings in omega (arith, rest)
 region_areas-short (Skipped a ∷ findings) = let rest = region_areas-short findings in omega (arith, rest)
+region_areas-short (Unchecked a ∷ findings) = let rest = region_areas-short findings in omega (arith, rest)
 region_areas-short (NoRegion number ∷ findings) = let rest = region_areas-short findings in omega (arith, rest)

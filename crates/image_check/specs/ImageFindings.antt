@@ -9,7 +9,8 @@ use Rattle.cbfs_check.specs.declared.finding.RegionFinding.{RegionFinding}
 use Rattle.cbfs_check.specs.declared.finding.RegionFinding.TheVariants.{Complete}
 use Rattle.cbfs_check.specs.RegionFindings.{begins_with_entry, region_findings}
 use Rattle.image_check.specs.declared.finding.ImageFinding.{ImageFinding}
-use Rattle.image_check.specs.declared.finding.ImageFinding.TheVariants.{Map, Skipped, Region, NoRegion}
+use Rattle.image_check.specs.declared.finding.ImageFinding.TheVariants.{Map, Skipped, Unchecked, Region, NoRegion}
+use Rattle.image_check.specs.Places.{by_place}
 use Rattle.image_check.specs.Verdicts.{is_bad, is_bad_region}
 
 -- the area as a range of the image
@@ -61,7 +62,7 @@ pass_over end finding = finding
 abbrev pub has_before : ℕ → (ImageFinding → Bool) → List ImageFinding → Bool
 has_before end p findings = list_any (λ f. begins_before end f && p f) findings
 
--- what is told of the last areas of a map, that of the last one first; where the lowest begins of those that are looked at, or
+-- what is told of the last areas by their places, that of the last one first; where the lowest begins of those that are looked at, or
 -- where the image ends; and how many areas were tried in place of those that they meet
 pub record Looked : Type 0 where
   pub findings : List ImageFinding
@@ -72,9 +73,13 @@ pub record Looked : Type 0 where
 abbrev pub with_region : Bool → List ℕ → NumberedArea → Looked → Looked
 with_region verbose image a later = record { findings = later.findings ++ region_finding verbose image a ∷ []; lowest = a.area.offset; tried = later.tried }
 
+-- what is told of an area that is passed over
+abbrev pub passed_finding : List (List ℕ) → NumberedArea → ImageFinding
+passed_finding names a = if has_one_of names a then Unchecked a else Skipped a
+
 -- with one that is passed over
-abbrev pub with_skipped : NumberedArea → Looked → Looked
-with_skipped a later = record { findings = later.findings ++ Skipped a ∷ []; lowest = later.lowest; tried = later.tried }
+abbrev pub with_passed : List (List ℕ) → NumberedArea → Looked → Looked
+with_passed names a later = record { findings = later.findings ++ passed_finding names a ∷ []; lowest = later.lowest; tried = later.tried }
 
 -- with one that takes the place of those that begin before its end
 abbrev pub in_place : Bool → List ℕ → NumberedArea → Looked → Looked
@@ -91,7 +96,7 @@ takes_place verbose image names a findings = may_give_way names a findings && (h
 
 -- with one that is tried
 abbrev pub try_area : Bool → List ℕ → List (List ℕ) → NumberedArea → Looked → Looked
-try_area verbose image names a later = if takes_place verbose image names a later.findings then in_place verbose image a later else with_skipped a later
+try_area verbose image names a later = if takes_place verbose image names a later.findings then in_place verbose image a later else with_passed names a later
 
 -- after one more was tried
 abbrev pub one_tried : Looked → Looked
@@ -101,11 +106,11 @@ one_tried later = record { findings = later.findings; lowest = later.lowest; tri
 abbrev pub max_tried : ℕ
 max_tried = 8
 
--- with a wanted area before them: it is looked at where it ends at or before the lowest, or tried where it begins there or before
+-- with a wanted area before them: it is looked at where it ends at or before the lowest, or else tried
 abbrev pub look : Bool → List ℕ → List (List ℕ) → NumberedArea → Looked → Looked
 look verbose image names a later =
     if nat_le (area_end a.area) later.lowest then with_region verbose image a later
-    else if nat_lt later.lowest a.area.offset || nat_le max_tried later.tried then with_skipped a later
+    else if nat_le max_tried later.tried then with_passed names a later
     else try_area verbose image names a (one_tried later)
 
 -- with any area before them
@@ -126,10 +131,10 @@ abbrev pub names_findings : List NumberedArea → ℕ → List (List ℕ) → Li
 names_findings areas number [] = []
 names_findings areas number (name ∷ names) = name_findings areas number name ++ names_findings areas (number + 1) names
 
--- what is told of an image, in which areas of these names are looked at whatever they hold; that a component has no digest
--- a verbose check alone tells
+-- what is told of an image: of its map, of its areas by their places, of which those of these names are wanted whatever they
+-- hold, and of names that no area has; that a component has no digest a verbose check alone tells
 unfoldable pub image_findings : Bool → List ℕ → List (List ℕ) → List ImageFinding
 image_findings verbose image names =
     map Map (map_findings image)
-    ++ (reverse (looked verbose image names (image_areas image)).findings
+    ++ (reverse (looked verbose image names (by_place (image_areas image))).findings
     ++ names_findings (image_areas image) 0 names)

@@ -1,4 +1,5 @@
 pub mod Faults
+pub mod Places
 pub mod ImageFindings
 pub mod RegionAreas
 pub mod LookedAreas

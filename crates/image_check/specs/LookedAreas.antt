@@ -1,4 +1,4 @@
--- The last areas of a map, as they are looked at.
+-- The last areas by place, as they are looked at.
 use Rattle.std.specs.Prelude.{ℕ, ◌+◌, ◌-◌, ◌*◌, ◌/◌, ◌≤◌, length, reverse}
 use Rattle.flash_store.specs.Device.{Device}
 use Rattle.flash_store.specs.Pages.{Pages, HasRead}

@@ -4,12 +4,13 @@ use Rattle.std.specs.List.{flat_map}
 use Rattle.flashmap_check.specs.declared.finding.NumberedArea.{NumberedArea}
 use Rattle.flashmap_check.specs.MapFindings.{area_end}
 use Rattle.image_check.specs.declared.finding.ImageFinding.{ImageFinding}
-use Rattle.image_check.specs.declared.finding.ImageFinding.TheVariants.{Map, Skipped, Region, NoRegion}
+use Rattle.image_check.specs.declared.finding.ImageFinding.TheVariants.{Map, Skipped, Unchecked, Region, NoRegion}
 
 -- the area of a region's finding
 abbrev pub region_area : ImageFinding → List NumberedArea
 region_area (Map finding) = []
 region_area (Skipped a) = []
+region_area (Unchecked a) = []
 region_area (Region a findings) = a ∷ []
 region_area (NoRegion number) = []
 

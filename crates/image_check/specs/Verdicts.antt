@@ -1,4 +1,5 @@
--- Which findings are bad: those by which a command or the boot goes wrong. All others are remarks.
+-- Which findings are bad: those by which a command or the boot goes wrong, and that a named area isn't checked. All others are
+-- remarks.
 use Rattle.std.specs.Prelude.{Bool, true, false}
 use Rattle.std.specs.List.{list_any}
 use Rattle.cbfs_walk.specs.declared.hashes.HashState.TheVariants.{Invalid}
@@ -9,7 +10,7 @@ use Rattle.cbfs_check.specs.declared.finding.ComponentFinding.TheVariants.{Shado
 use Rattle.cbfs_check.specs.declared.finding.RegionFinding.{RegionFinding}
 use Rattle.cbfs_check.specs.declared.finding.RegionFinding.TheVariants as of_region
 use Rattle.image_check.specs.declared.finding.ImageFinding.{ImageFinding}
-use Rattle.image_check.specs.declared.finding.ImageFinding.TheVariants.{Map, Region, NoRegion}
+use Rattle.image_check.specs.declared.finding.ImageFinding.TheVariants.{Map, Unchecked, Region, NoRegion}
 
 abbrev pub is_bad_map : MapFinding → Bool
 is_bad_map of_map.NoMap = true
@@ -36,6 +37,7 @@ is_bad_region _ = false
 -- a region's findings are bad where one of them is
 abbrev pub is_bad : ImageFinding → Bool
 is_bad (Map finding) = is_bad_map finding
+is_bad (Unchecked a) = true
 is_bad (Region a findings) = list_any is_bad_region findings
 is_bad (NoRegion number) = true
 is_bad _ = false

@@ -41,8 +41,10 @@ impl RegionFindings {
 pub enum ImageFinding {
     /// Something of the image's flashmap.
     Map(MapFinding),
-    /// The area would be looked at, but another one that has bytes of it is.
+    /// The area begins with an entry, but another one that has bytes of it is looked at.
     Skipped(NumberedArea),
+    /// The area has one of the given names, but others that have bytes of it are looked at.
+    Unchecked(NumberedArea),
     /// What is told of the CBFS region that the area is.
     Region {
         area: NumberedArea,

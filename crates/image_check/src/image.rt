@@ -1,5 +1,6 @@
 //! The check of an image.
-ghost use Rattle.std.specs.Prelude.{◌≡◌, ◌+◌, ◌*◌, ◌/◌, ◌≤◌, [], ◌∷◌, ◌++◌, length, map, reverse, ◌||◌, OnOk, IfOk};
+ghost use Rattle.std.specs.List.Sorted.{IsNonDecreasingBy};
+ghost use Rattle.std.specs.Prelude.{ℕ, ◌≡◌, ◌+◌, ◌*◌, ◌/◌, ◌≤◌, [], ◌∷◌, ◌++◌, length, map, reverse, ◌||◌, OnOk, IfOk};
 ghost use Rattle.flash_format.specs.Flashmap.{area_len};
 ghost use Rattle.flash_store.specs.Device.{faults_told};
 ghost use Rattle.flash_store.specs.Pages.{HasRead, HasAnswered, OnHonest, OnHonestIn};
@@ -17,6 +18,7 @@ use crate::fault::ImageCheckFault;
 use crate::finding::{ImageFinding, RegionFindings};
 use crate::looked::{LookedAreas, MAX_TRIED, is_whole};
 use crate::names::{has_one_of, push_missing};
+use crate::place::by_place;
 use cbfs_check::{check_region, starts_with_entry};
 use flash_store::{Flash, FlashFault, Paged, Region};
 use flashmap_check::{MapFinding, NumberedArea, checked_map};
@@ -61,6 +63,17 @@ fn region_finding<F: Flash>(
     Ok(ImageFinding::Region { area, findings })
 }
 
+/// What is told of an area that is passed over.
+fn passed_finding(names: &[&[u8]], area: NumberedArea) -> ImageFinding
+    ensures { result ≡ told.passed_finding (map (λ n. n.now) names.now) area }
+{
+    if has_one_of(names, area) {
+        ImageFinding::Unchecked(area)
+    } else {
+        ImageFinding::Skipped(area)
+    }
+}
+
 /// Tries an area in place of those that it meets, which all begin at or behind its start.
 fn try_area<F: Flash>(
     alloc: Global,
@@ -77,6 +90,7 @@ fn try_area<F: Flash>(
 
     ensures after { HasRead F.facts (region.size / 16 + 2) (faults_told by_device result) paged.old paged.new }
     ensures lowest { later.new.lowest ≤ later.old.lowest }
+    ensures start { OnOk result (region.start ≤ later.new.lowest) }
     ensures tried { later.new.tried ≡ later.old.tried }
     ensures told { OnHonest F.facts paged.old.device (λ image. OnOk result (told_by later.new
         ≡ told.try_area is_verbose image (map (λ n. n.now) names.now) area (told_by later.old))) }
@@ -85,12 +99,12 @@ fn try_area<F: Flash>(
     ensures count { OnOk result (length later.new.findings.items ≡ length later.old.findings.items + 1) }
 {
     if !later.may_give_way(names, area) {
-        later.tell(ImageFinding::Skipped(area))?;
+        later.tell(passed_finding(names, area))?;
         return Ok(());
     }
     let finding = region_finding(alloc, paged, area, region, is_verbose)?;
     if !(has_one_of(names, area) || is_whole(&finding)) {
-        later.tell(ImageFinding::Skipped(area))?;
+        later.tell(passed_finding(names, area))?;
         return Ok(());
     }
     later.pass_over(region.start() + region.size());
@@ -111,11 +125,13 @@ fn look<F: Flash>(
 ) -> Result<(), ImageCheckFault>
     requires lies { LiesIn region (F.facts paged.old.device).content }
     requires range { region ≡ range_of area }
+    requires below { region.start ≤ later.old.lowest }
     requires few { later.old.tried ≤ max_tried }
 
     ensures after { HasLooked F.facts 2 (faults_told by_device result) later.old later.new paged.old paged.new }
     ensures told { OnHonest F.facts paged.old.device (λ image. OnOk result (told_by later.new
         ≡ told.look is_verbose image (map (λ n. n.now) names.now) area (told_by later.old))) }
+    ensures lowest { OnOk result (region.start ≤ later.new.lowest) }
     ensures order { AreInOrder (length (F.facts paged.old.device).content) later.old → OnOk result
         (AreInOrder (length (F.facts paged.old.device).content) later.new) }
     ensures count { OnOk result (length later.new.findings.items ≡ length later.old.findings.items + 1) }
@@ -126,8 +142,8 @@ fn look<F: Flash>(
         later.tell(finding)?;
         return Ok(());
     }
-    if later.lowest < region.start() || later.tried >= MAX_TRIED {
-        later.tell(ImageFinding::Skipped(area))?;
+    if later.tried >= MAX_TRIED {
+        later.tell(passed_finding(names, area))?;
         return Ok(());
     }
     later.tried += 1;
@@ -143,11 +159,15 @@ fn look_if_wanted<F: Flash>(
     is_verbose: bool,
     later: &mut LookedAreas,
 ) -> Result<(), ImageCheckFault>
+    requires below { area.area.offset ≤ length (F.facts paged.old.device).content
+        → area.area.offset ≤ later.old.lowest }
     requires few { later.old.tried ≤ max_tried }
 
     ensures after { HasLooked F.facts 3 (faults_told by_device result) later.old later.new paged.old paged.new }
     ensures told { OnHonest F.facts paged.old.device (λ image. OnOk result (told_by later.new
         ≡ told.look_if_wanted is_verbose image (map (λ n. n.now) names.now) area (told_by later.old))) }
+    ensures lowest { OnOk result ((at : ℕ) → at ≤ area.area.offset → at ≤ later.old.lowest
+        → at ≤ later.new.lowest) }
     ensures order { AreInOrder (length (F.facts paged.old.device).content) later.old → OnOk result
         (AreInOrder (length (F.facts paged.old.device).content) later.new) }
     ensures count { OnOk result (length later.new.findings.items ≤ length later.old.findings.items + 1) }
@@ -171,6 +191,8 @@ fn looked<F: Flash>(
     areas: &[NumberedArea],
     is_verbose: bool,
 ) -> Result<Vec<ImageFinding>, ImageCheckFault>
+    requires { IsNonDecreasingBy (λ a. a.area.offset) areas.now }
+
     ensures after { HasRead F.facts (3 * length areas.now + (length (F.facts paged.old.device).content / 16 * 9 + 16))
         (faults_told by_device result) paged.old paged.new }
     ensures told { OnHonest F.facts paged.old.device (λ image. IfOk result (λ findings. findings.items
@@ -242,7 +264,8 @@ pub fn checked_image<F: Flash>(
 {
     let map = checked_map(alloc, paged)?;
     let mut findings = map_part(alloc, &map.findings)?;
-    let mut regions = looked(alloc, paged, names, &map.areas, is_verbose)?;
+    let areas = by_place(alloc, &map.areas)?;
+    let mut regions = looked(alloc, paged, names, &areas, is_verbose)?;
     findings.append(&mut regions)?;
     push_missing(&mut findings, names, &map.areas)?;
     Ok(CheckedImage {
@@ -251,9 +274,9 @@ pub fn checked_image<F: Flash>(
     })
 }
 
-/// What is told of an image: of its flashmap, of each area in it that has one of the names or begins with an entry, in the
-/// map's order, and of each name that no area has; that a component has no digest in a verbose check alone. Of such areas
-/// that have bytes in common only some are looked at, mostly the inner ones.
+/// What is told of an image: of its flashmap, of each area in it that has one of the names or begins with an entry, by their
+/// places, and of each name that no area has; that a component has no digest in a verbose check alone. Of such areas that
+/// have bytes in common only some are looked at, mostly the inner ones.
 /// `Device` comes exactly where the device refused a read, and `Memory` where an allocation was refused; then nothing is
 /// told.
 pub fn check_image<F: Flash>(

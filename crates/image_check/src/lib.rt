@@ -9,6 +9,7 @@ mod image;
 mod laws;
 mod looked;
 mod names;
+mod place;
 mod verdict;
 
 pub use fault::ImageCheckFault;

@@ -1,4 +1,4 @@
-//! What is told of the last areas of a map.
+//! What is told of the last areas by place.
 ghost use Rattle.std.specs.Prelude.{◌≡◌, ℕ, ◌+◌, [], ◌∷◌, ◌++◌, length, map, OnOk};
 ghost use Rattle.std.specs.List.{list_any};
 ghost use Rattle.image_check.specs.ImageFindings as told;
@@ -13,10 +13,10 @@ use cbfs_check::RegionFinding;
 use flashmap_check::NumberedArea;
 use std::alloc::{AllocError, Global};
 
-/// How many areas are tried in place of those that they meet. Each costs a walk of its own.
+/// How many areas are tried in place of those that they meet, which may cost a walk of each.
 pub const MAX_TRIED: usize = 8;
 
-/// What is told of the last areas of a map.
+/// What is told of the last areas by place.
 #[derive(Drop)]
 pub struct LookedAreas {
     /// What is told of the last area stands first.

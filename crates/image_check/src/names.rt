@@ -1,4 +1,4 @@
-//! The names of areas that are looked at whatever they hold.
+//! The names of areas that are wanted, whatever the areas begin with.
 ghost use Rattle.std.specs.Prelude.{◌≡◌, ◌++◌, map, OnOk};
 ghost use Rattle.std.specs.List.{list_any};
 ghost use Rattle.flash_format.specs.Flashmap.{is_area};

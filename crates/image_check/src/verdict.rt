@@ -60,6 +60,7 @@ pub fn is_bad(finding: &ImageFinding) -> bool
         ImageFinding::Map(of_map) => is_bad_map(of_map),
         ImageFinding::Region { findings, .. } => has_bad_region(findings.as_slice()),
         ImageFinding::NoRegion(_) => true,
+        ImageFinding::Unchecked(_) => true,
         ImageFinding::Skipped(_) => false,
     }
 }

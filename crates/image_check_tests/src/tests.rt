@@ -18,6 +18,10 @@ const FMAP: [u8; 42] =
 const A: [u8; 42] =
     *b"\0\x01\0\0\0\x01\0\0A\0\0\0\0\0\0\0\0\0\0\0\0\0\0\0\0\0\0\0\0\0\0\0\0\0\0\0\0\0\0\0\0\0";
 
+/// Where `A` is, under another name.
+const A2: [u8; 42] =
+    *b"\0\x01\0\0\0\x01\0\0A2\0\0\0\0\0\0\0\0\0\0\0\0\0\0\0\0\0\0\0\0\0\0\0\0\0\0\0\0\0\0\0\0";
+
 /// From 512 up to the end.
 const B: [u8; 42] =
     *b"\0\x02\0\0\0\x02\0\0B\0\0\0\0\0\0\0\0\0\0\0\0\0\0\0\0\0\0\0\0\0\0\0\0\0\0\0\0\0\0\0\0\0";
@@ -89,6 +93,7 @@ fn finding_text(alloc: Global, finding: &ImageFinding) -> Result<String, AllocEr
     match finding {
         ImageFinding::Map(of_map) => map_text(alloc, of_map),
         ImageFinding::Skipped(area) => format!(in alloc; "skipped {}", area.number),
+        ImageFinding::Unchecked(area) => format!(in alloc; "unchecked {}", area.number),
         ImageFinding::Region { area, findings } => {
             let text = region_text(alloc, findings.as_slice())?;
             format!(in alloc; "region {}{}", area.number, text.as_str())
@@ -129,6 +134,37 @@ fn an_image_with_one_region(rt: HostRuntime) {
         image(&rt, &[FMAP, A, B]),
         &[],
         "map 0, region 1 complete 0 256, ",
+        false,
+    );
+}
+
+#[test]
+fn areas_that_are_not_in_order(rt: HostRuntime) {
+    let mut bytes = image(&rt, &[FMAP, B, A]);
+    put(&mut bytes, 512, &NULL_256);
+    put(&mut bytes, 520, &[0xff]);
+    let expected = "map 0, region 2 complete 0 256, region 1 other 0 0, ";
+    tells(&rt, bytes, &[], expected, true);
+}
+
+#[test]
+fn the_inner_of_nested_areas_wherever_the_map_has_it(rt: HostRuntime) {
+    tells(
+        &rt,
+        image(&rt, &[FMAP, A, OUTER]),
+        &[],
+        "map 0, skipped 2, region 1 complete 0 256, ",
+        false,
+    );
+}
+
+#[test]
+fn the_later_of_areas_in_one_place(rt: HostRuntime) {
+    tells(
+        &rt,
+        image(&rt, &[FMAP, A, A2]),
+        &[],
+        "map 0, skipped 1, region 2 complete 0 256, ",
         false,
     );
 }
@@ -180,6 +216,13 @@ fn the_named_of_nested_areas(rt: HostRuntime) {
     let inner: &[&[u8]] = &[b"A"];
     let expected = "map 0, skipped 1, region 2 other 0 0, ";
     tells(&rt, bytes, inner, expected, true);
+}
+
+#[test]
+fn nested_areas_that_are_both_named(rt: HostRuntime) {
+    let both: &[&[u8]] = &[b"OUTER", b"A"];
+    let expected = "map 0, unchecked 1, region 2 complete 0 256, ";
+    tells(&rt, image(&rt, &[FMAP, OUTER, A]), both, expected, true);
 }
 
 #[test]

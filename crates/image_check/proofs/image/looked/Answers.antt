@@ -10,7 +10,7 @@ loop-left-init g c = looking_start g.F.Flash.facts c.args.is_verbose _ c.args.ar
 pub loop-left-preserved : goal.loop-left-preserved
 loop-left-preserved g c =
     looking_more g.F.Flash.facts c.args.is_verbose _ c.args.areas.now c.loop-left.left (c.loop-left.left - 1) _ c.loop-left.later c.look_if_wanted.new.later c.args.paged.now c.loop-left.paged c.look_if_wanted.new.paged
-    c.loop-left.invariant (omega arith) c.in_ok-look_if_wanted.ensures.after c.in_ok-look_if_wanted.ensures.told c.in_ok-look_if_wanted.ensures.order c.in_ok-look_if_wanted.ensures.count
+    c.loop-left.invariant (omega arith) c.in_ok-look_if_wanted.ensures.after c.in_ok-look_if_wanted.ensures.told c.requires c.in_ok-look_if_wanted.ensures.lowest c.in_ok-look_if_wanted.ensures.order c.in_ok-look_if_wanted.ensures.count
 
 pub returns-clause-order : goal.returns-clause-order
 returns-clause-order g c =
