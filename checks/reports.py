@@ -85,16 +85,22 @@ def of_overlaps(areas):
 
 # ---- of the areas
 
+def by_place(areas):
+    """The numbers of the areas by their starts, of those with one start the larger first."""
+    return sorted(range(len(areas)), key=lambda number: (areas[number].offset, -areas[number].size))
+
+
 def looked(areas, names, image, rows_of):
     """The numbers of the areas that are looked at, and of those that are passed over, by the rows of some."""
     lowest, at, over, tried = len(image), set(), set(), 0
-    for number, area in reversed(list(enumerate(areas))):
+    for number in reversed(by_place(areas)):
+        area = areas[number]
         begins = area.size >= 24 and image[area.offset:area.offset + 8] == b"LARCHIVE"
         if ends(area) > len(image) or not (area.name in names or begins):
             continue
         met = {other for other in at if areas[other].offset < ends(area)}
         if ends(area) > lowest:
-            is_tried = area.offset <= lowest and tried < MOST_TRIED
+            is_tried = tried < MOST_TRIED
             tried += is_tried
             if not is_tried or not takes_place(areas, names, number, met, rows_of):
                 over.add(number)
@@ -110,6 +116,14 @@ def takes_place(areas, names, number, met, rows_of):
     if areas[number].name in names:
         return True
     return any(map(has_bad, map(rows_of, met))) and is_filled(rows_of(number)) and not has_bad(rows_of(number))
+
+
+def of_passed(area, names):
+    """The row of an area that is passed over."""
+    if area.name in names:
+        what = "isn't checked, although it is named: another area has bytes of it"
+        return Told("bad", area.name, None, area.offset, what, None)
+    return Told("remark", area.name, None, area.offset, "isn't checked, another area has bytes of it", None)
 
 
 def has_bad(rows):
@@ -238,7 +252,7 @@ def of_components(area, old, new, kept):
 def of_regions(areas, numbers, views_of_old, views_of_new, old, kept):
     """The rows of the components of these areas."""
     rows, left = [], len(old)
-    for number in sorted(numbers):
+    for number in [number for number in by_place(areas) if number in numbers]:
         area = areas[number]
         if area.size > left:
             rows.append(Told(verdict_of(area, kept), area.name, None, area.offset, "components not compared", None))
