@@ -40,10 +40,14 @@ fn failure_of(fault: &io::Error, other: Failure) -> Failure
 
 /// Writes the table of one file's descriptor into another.
 fn compile_file(rt: &HostRuntime, input: &str, output: &str) -> Result<(), Failure> {
-    let input = File::open(rt, input)
-        .map_err(|fault| failure_of(&fault, Failure::Refused(Refusal::Read)))?;
-    let output = File::create(rt, output)
-        .map_err(|fault| failure_of(&fault, Failure::Refused(Refusal::Output)))?;
+    let input = File::open(rt, input).map_err(|fault| failure_of(
+        &fault,
+        Failure::Refused(Refusal::Read),
+    ))?;
+    let output = File::create(rt, output).map_err(|fault| failure_of(
+        &fault,
+        Failure::Refused(Refusal::Output),
+    ))?;
     let mut reader = ReadText::new(input);
     let mut writer = WriteSink::new(output);
     Ok(run(rt.alloc(), &mut reader, &mut writer)?)

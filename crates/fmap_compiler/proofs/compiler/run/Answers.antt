@@ -13,8 +13,8 @@ pub returns-in_err-put_all-clause-refused : goal.returns-in_err-put_all-clause-r
 returns-in_err-put_all-clause-refused g c =
     let p = err_from_is_err_and c.from_residual-in_err-put_all.result c.from_residual-in_err-put_all.ensures.1 in
     rw (p.1, p.2) (HasTable-prefix _ _ _ c.deref.result.now c.in_ok-table.table.items c.deref-2.result.now
-        c.in_ok-text.ensures.text c.deref.ensures.value c.deref-2.ensures.value c.in_ok-table.ensures.compiled
-        c.in_err-put_all.ensures.part)
+    c.in_ok-text.ensures.text c.deref.ensures.value c.deref-2.ensures.value c.in_ok-table.ensures.compiled
+    c.in_err-put_all.ensures.part)
 
 pub returns-in_err-table-clause-refused : goal.returns-in_err-table-clause-refused
 returns-in_err-table-clause-refused g c =
