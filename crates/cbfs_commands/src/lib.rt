@@ -7,6 +7,7 @@ mod create;
 mod detail;
 mod engine;
 mod extract;
+mod flashmap;
 mod laws;
 mod layout;
 mod plan;
@@ -15,14 +16,13 @@ mod read;
 mod refusal;
 mod remove;
 mod row;
-mod flashmap;
 mod write;
 
 pub use command::Command;
 pub use engine::run;
+pub use flashmap::{MOST_REGIONS, create_size};
 pub use laws::{
     additions_are_extracted, created_regions_are_free, outcomes_are_of_the_region,
     outcomes_have_no_fault, plans_are_laid, writing_back_changes_nothing,
 };
 pub use refusal::Refusal;
-pub use flashmap::{MOST_REGIONS, create_size};

@@ -8,8 +8,8 @@ ghost use Rattle.flash_store.specs.Device.{Reads, faults_told};
 ghost use Rattle.cbfs_commands.specs.Creations.{FitsImage, map_place, overlap, plan_for, plan_of, region_place, region_places, some_overlap};
 ghost use Rattle.cbfs_commands.specs.Refusals.{by_source};
 
-use crate::refusal::Refusal;
 use crate::flashmap::{MOST_REGIONS, first_areas, head_for};
+use crate::refusal::Refusal;
 use arrayvec::ArrayVec;
 use flash_format::{Area, FmapHead};
 use flash_store::{Region, Source, region_of_area};

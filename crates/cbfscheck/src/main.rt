@@ -73,8 +73,9 @@ impl<'a> Refusal<'a> {
 
 /// Opens an image for reading alone.
 fn open<'a>(rt: &HostRuntime, path: &'a str) -> Result<Paged<FileFlash>, Refusal<'a>> {
-    let image = FileFlash::open_to_read(rt, path)
-        .map_err(|fault| Refusal::of_opening(path, fault))?;
+    let image = FileFlash::open_to_read(rt, path).map_err(|fault| Refusal::of_opening(
+        path, fault,
+    ))?;
     Ok(Paged::new(image))
 }
 

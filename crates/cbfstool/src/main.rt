@@ -118,8 +118,10 @@ fn create(
     };
     let mut source = open_source(rt, path)?;
     let size = create_size(&mut source)?;
-    let image = FileFlash::create(rt, image, size)
-        .map_err(|fault| open_refusal(fault, Refusal::Device))?;
+    let image = FileFlash::create(rt, image, size).map_err(|fault| open_refusal(
+        fault,
+        Refusal::Device,
+    ))?;
     run_from(rt, &mut Paged::new(image), command, source)
 }
 
@@ -129,8 +131,10 @@ fn execute(rt: &HostRuntime, line: &Line) -> Result<(), Refusal> {
     if matches!(command, Command::Create { .. }) {
         return create(rt, &command, line.image(), line.file());
     }
-    let image = FileFlash::open(rt, line.image())
-        .map_err(|fault| open_refusal(fault, Refusal::Device))?;
+    let image = FileFlash::open(rt, line.image()).map_err(|fault| open_refusal(
+        fault,
+        Refusal::Device,
+    ))?;
     let mut paged = Paged::new(image);
     let path = line.file().unwrap_or("");
     match command {
