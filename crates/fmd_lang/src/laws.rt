@@ -18,7 +18,7 @@ pub fn one_tree(text: &[u8])
     ensures { (t u : Tree) → IsSection t (words text.now) → IsSection u (words text.now) → t ≡ u }
 {}
 
-/// A text that has a tree has no misplaced word: its first fault is that of a word by itself, or that it is too long.
+/// A text that has a tree has no misplaced word: its first fault, where it has one, is another.
 pub fn trees_have_no_misplaced_word(text: &[u8])
     ensures { (t : Tree) (at : ℕ) (what : Expected) → IsSection t (words text.now)
         → first_fault text.now ≢ Some (FmdFault.Expected at what) }
