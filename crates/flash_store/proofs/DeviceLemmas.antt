@@ -1,9 +1,10 @@
 -- Calls of a device, one after the other: what holds of each holds of all. For every crate that reads a device.
-use Rattle.std.proofs.Common.{◌≡◌, ℕ, ◌+◌, ◌≤◌, Bool, IsTrue, refl, sym, ◌∙◌, subst, arith, ◌-◌, drop}
+use Rattle.std.proofs.Common.{◌≡◌, ℕ, ◌+◌, ◌≤◌, Bool, IsTrue, refl, sym, ◌∙◌, subst, arith, ◌-◌, ◌++◌, take, drop}
 use Rattle.std.specs.Prelude.{List, length, Result, Ok, Err, IsOk}
 use Rattle.std.proofs.Common.{length-take, length-drop}
 use Rattle.flash_store.specs.Regions.{Range, LiesIn, bytes_in}
-use Rattle.flash_store.specs.Device.{Device, Calls, Reads, refusals}
+use Rattle.std.proofs.lemmas.List.{length-take-le, take_at}
+use Rattle.flash_store.specs.Device.{Device, Calls, Reads, OneRead, refusals}
 
 -- a device stays honest
 pub honest_still : {old new : Bool} → new ≡ old → IsTrue old → IsTrue new
@@ -49,3 +50,10 @@ Reads-then n k refused old mid new first second = record {
 -- a region inside an image has its size
 pub length-bytes_in : (r : Range) (image : List ℕ) → LiesIn r image → length (bytes_in r image) ≡ r.size
 length-bytes_in r image lies = omega (arith, lies, length-take (r.start + r.size - r.start) (drop r.start image), length-drop r.start image)
+
+-- a read into the front of a buffer
+pub OneRead-front : {T E : Type 0} {at : ℕ} {old new : Device} {result : Result T E} (n : ℕ) (buffer part : List ℕ) → n ≤ length buffer
+    → length part ≡ length (take n buffer) → OneRead at (length (take n buffer)) old new result part → OneRead at n old new result (take n (part ++ drop n buffer))
+OneRead-front {at = at} {old = old} {new = new} {result = result} n buffer part room same_size read =
+    let size : length (take n buffer) ≡ n = length-take-le n buffer room in
+    rw (take_at part (drop n buffer) n (same_size ∙ size)) (subst (λ n. OneRead at n old new result part) size read)

@@ -1,13 +1,14 @@
 -- Bytes that are moved some at a time.
-use Rattle.std.proofs.Common.{◌≡◌, ◌⊎◌, ◌∙◌, sym, ap, subst, take-add, IsTrue, Bool, ℕ, ◌+◌, ◌-◌, ◌≤◌, List, length, take, drop, arith, ◌++◌, length-append, length-take, length-drop, replicate, refl, inl, inr}
-use Rattle.std.proofs.lemmas.List.{length-take-le, take_rest, drop-drop, length-replicate, take-replicate, replicate-append-replicate, drop-replicate, take-take, drop-take}
+use Rattle.std.proofs.Common.{◌≡◌, ◌⊎◌, ◌∙◌, sym, ap, subst, take-add, IsTrue, Bool, true, ℕ, ◌+◌, ◌-◌, ◌≤◌, List, length, take, drop, arith, ◌++◌, length-append, length-take, length-drop, replicate, refl, inl, inr}
+use Rattle.std.proofs.lemmas.List.{length-take-le, take_rest, drop-drop, length-replicate, take-replicate, replicate-append-replicate, drop-replicate, take-take, drop-take, take-append-le}
 use Rattle.std.proofs.lemmas.Slice.{take-put_mid}
 use Rattle.std.proofs.Math.Seq.{take-append-add, take-length}
 use borrow.Rule.Slice.PartMut.{put_mid}
+use Rattle.flash_format.specs.Head.{header_length}
 use Rattle.flash_store.specs.Bytes.{overwritten, SameOutside}
-use Rattle.flash_store.specs.Storing.{Stored, SameFile, SameBytes, IsErased}
-use Rattle.std.specs.Prelude.{slice_range}
-use Rattle.flash_store.proofs.BytesLemmas.{nearer, further, slice_range_is, part_of_window, overwritten_is}
+use Rattle.flash_store.specs.Storing.{Stored, SameFile, SameBytes, HasReadSome, HasWrittenSome, IsErased}
+use Rattle.std.specs.Prelude.{slice_range, Result, Ok, Err}
+use Rattle.flash_store.proofs.BytesLemmas.{nearer, further, slice_range_is, part_of_window, overwritten_is, length-overwritten, SameOutside-overwritten}
 
 -- a file is as faithful as it was
 pub faithful_still : {old new : Bool} → new ≡ old → IsTrue old → IsTrue new
@@ -101,3 +102,28 @@ Held-part window x from held at n before within short had =
     ∙ sym (slice_range_is window (at - from) n)
     ∙ part_of_window window x from held at n (had ∙ sym (slice_range_is x from held)) before (omega (arith, before, within, short))
     ∙ slice_range_is x at n
+
+-- a read into the front of a longer list
+pub front_read : {E : Type 0} (at n : ℕ) (old new : Stored) (result : Result ℕ E) (part rest : List ℕ) → n ≤ length part
+    → HasReadSome at n old new result part → HasReadSome at n old new result (part ++ rest)
+front_read at n old new (Ok k) part rest room r = record {
+  after = r.after;
+  short = r.short;
+  read = λ h. take-append-le k part rest (omega (arith, r.short, room)) ∙ r.read h;
+}
+front_read at n old new (Err fault) part rest room r = record { after = r.after; short = r.short; read = r.read }
+
+-- what a write of the first k bytes leaves of a faithful file, behind a call that left them as they were
+pub written_some : {E : Type 0} (old mid new : List ℕ) (at : ℕ) (bytes : List ℕ) (k : ℕ) → at + length bytes ≤ length old → k ≤ length bytes
+    → (length bytes ≤ header_length → k ≡ length bytes) → mid ≡ old → new ≡ overwritten mid at (take k bytes)
+    → HasWrittenSome {E = E} at bytes (record { content = old; faithful = true }) (record { content = new; faithful = true }) (Ok k)
+written_some old mid new at bytes k inside short whole kept now =
+    let size : length (take k bytes) ≡ k = length-take-le k bytes short in
+    let over : new ≡ overwritten old at (take k bytes) = now ∙ ap (λ x. overwritten x at (take k bytes)) kept in
+    record {
+      after = record { same_faith = refl; same_length = ap length over ∙ length-overwritten old at (take k bytes) (omega (arith, size, inside, short)) };
+      short = short;
+      written = λ h. over;
+      torn = λ h. rw over (SameOutside-overwritten old at (length bytes) (take k bytes) (omega (arith, size, short)) (omega (arith, inside)));
+      whole = λ h small. inr (over ∙ ap (overwritten old at) (ap (λ n. take n bytes) (whole small) ∙ take-length bytes));
+    }

@@ -1,8 +1,9 @@
 //! A file that is read ahead.
-ghost use Rattle.std.specs.Prelude.{◌≡◌, ◌+◌, ◌≤◌, IsTrue, length, take, drop};
-ghost use Rattle.flash_store.specs.Storing.{SameBytes, HasReadSome};
+ghost use Rattle.std.specs.Prelude.{◌≡◌, ◌≤◌, IsTrue, length, take, drop};
+ghost use Rattle.flash_store.specs.Storing.{SameBytes};
 
 use crate::storage::{Storage, StorageFault};
+use crate::transfer::read_front;
 use std::marker::Model;
 
 /// How many bytes are read ahead.
@@ -82,21 +83,6 @@ impl<S: Storage> Ahead<S> {
         self.to += held as u64;
         Ok(())
     }
-}
-
-/// Reads some of n bytes from `at` on into the front of `out`, and says how many.
-fn read_front<S: Storage>(
-    storage: &mut S,
-    at: u64,
-    out: &mut [u8],
-    n: usize,
-) -> Result<usize, StorageFault>
-    requires inside { at + n ≤ length (S.facts storage.old).content }
-    requires room { n ≤ length out.old }
-
-    ensures { HasReadSome at n (S.facts storage.old) (S.facts storage.new) result out.new }
-{
-    storage.read_some(at, &mut out[..n])
 }
 
 /// Copies the first bytes, as many as there are and fit, and says how many.

@@ -4,7 +4,7 @@ ghost use Rattle.flash_store.specs.Storing.{SameFile, SameBytes, IsErased};
 
 use crate::flash::PIECE;
 use crate::storage::{Storage, StorageFault};
-use crate::transfer::write_whole;
+use crate::transfer::{read_front, write_whole};
 use std::marker::Model;
 
 /// How many bytes of a new file are written at once.
@@ -138,9 +138,11 @@ fn erased_up_to<S: Storage>(storage: &mut S, at: u64, look: usize) -> u64
 {
     let mut seen = [0; LOOK];
     let n = (storage.len() - at).min(look.min(LOOK) as u64) as usize;
-    match storage.read_some(at, &mut seen[..n]) {
-        Ok(k) if is_erased(&seen[..k]) => at + k as u64,
-        Ok(_) | Err(_) => at,
+    let k = read_front(storage, at, &mut seen, n).unwrap_or(0);
+    if is_erased(&seen[..k]) {
+        at + k as u64
+    } else {
+        at
     }
 }
 

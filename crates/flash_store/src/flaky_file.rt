@@ -57,6 +57,7 @@ impl FlakyFile {
             × (self.new ≡ record self.old { left = self.old.left - 1; before = self.old.between }) }
         ensures made { 0 < self.old.left → 0 < self.old.before → IsOk result
             × (self.new ≡ record self.old { left = self.old.left - 1; before = self.old.before - 1 }) }
+        ensures same { self.new.content ≡ self.old.content }
     {
         if self.left == 0 {
             return Err(StorageFault::Failed);

@@ -44,5 +44,8 @@ pub fn checked_length(length: u64) -> Result<u32, OpenFault>
     ensures below { length < 2 ^ 32 → result ≡ Ok length }
     ensures too_large { 2 ^ 32 ≤ length → result ≡ Err OpenFault.TooLarge }
 {
-    u32::try_from(length).map_err(|_| OpenFault::TooLarge)
+    match u32::try_from(length) {
+        Ok(length) => Ok(length),
+        Err(_) => Err(OpenFault::TooLarge),
+    }
 }

@@ -106,10 +106,14 @@ const ENOLCK: i32 = 37;
 /// The answer of a call that waited for a lock. On a file system without locks one goes on without.
 fn unless_without_locks(answer: io::Result<()>) -> io::Result<()> {
     match answer {
-        Err(fault) if fault.kind() == ErrorKind::Unsupported => Ok(()),
-        Err(fault) if fault.raw_os_error() == Some(ENOLCK) => Ok(()),
+        Err(fault) if tells_no_locks(&fault) => Ok(()),
         other => other,
     }
+}
+
+/// Whether an error says that there are no locks.
+fn tells_no_locks(fault: &io::Error) -> bool {
+    fault.kind() == ErrorKind::Unsupported || fault.raw_os_error() == Some(ENOLCK)
 }
 
 /// Where a seek to the end stands, so that a block device has a length too; a pipe, a socket or a terminal can't tell it.

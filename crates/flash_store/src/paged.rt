@@ -185,14 +185,12 @@ impl<F: Flash> Paged<F> {
     fn covers(&self, at: u64, n: usize) -> bool
         ensures { IsTrue result ↔ Covers self.now.held at n }
     {
-        match self.held {
-            Buffered::Window { at: from, size } => {
-                // What is promised counts the bytes that are held.
-                let held = self.buffer[..size].len();
-                from <= at && n <= held && at - from <= (held - n) as u64
-            }
-            _ => false,
-        }
+        let Buffered::Window { at: from, size } = self.held else {
+            return false;
+        };
+        // What is promised counts the bytes that are held.
+        let held = self.buffer[..size].len();
+        from <= at && n <= held && at - from <= (held - n) as u64
     }
 
     /// Loads a window from `at` on, unless it has the n bytes from there on.

@@ -72,13 +72,12 @@ impl<W: Write> Sink for WriteSink<W> {
     ghost faults = { λ s. s.faults };
 
     fn put(&mut self, bytes: &[u8]) -> Result<usize, SinkFault> {
-        match self.writer.write(bytes) {
-            Ok(n) if n > 0 => Ok(n),
-            _ => {
-                self.faults.tick();
-                Err(SinkFault)
-            }
+        let taken = self.writer.write(bytes).unwrap_or(0);
+        if taken == 0 {
+            self.faults.tick();
+            return Err(SinkFault);
         }
+        Ok(taken)
     }
 }
 

@@ -106,8 +106,7 @@ impl StoredFlash<Ahead<Erased<OsFile>>> {
     pub fn open<R: Files<File = File>>(rt: &R, path: &str) -> Result<FileFlash, OpenFault>
         ensures { IfOk result (λ device. (device.calls ≡ 0) × (device.faults ≡ 0)) }
     {
-        let file = OsFile::open(rt, path)?;
-        Ok(StoredFlash::new(Ahead::new(Erased::new(file))))
+        Ok(device_in(Erased::new(OsFile::open(rt, path)?)))
     }
 
     /// Opens a file for reading alone, and waits while a command that may change it holds its lock; others that only read
@@ -115,8 +114,7 @@ impl StoredFlash<Ahead<Erased<OsFile>>> {
     pub fn open_to_read<R: Files<File = File>>(rt: &R, path: &str) -> Result<FileFlash, OpenFault>
         ensures { IfOk result (λ device. (device.calls ≡ 0) × (device.faults ≡ 0)) }
     {
-        let file = OsFile::open_shared(rt, path)?;
-        Ok(StoredFlash::new(Ahead::new(Erased::new(file))))
+        Ok(device_in(Erased::new(OsFile::open_shared(rt, path)?)))
     }
 
     /// Makes a file for a device of `size` bytes, or empties the one that is there once it has its lock, and writes all of
@@ -132,6 +130,13 @@ impl StoredFlash<Ahead<Erased<OsFile>>> {
             device.content ≡ replicate size 0xff) }
     {
         let file = Erased::erase(OsFile::create(rt, path, size)?)?;
-        Ok(StoredFlash::new(Ahead::new(file)))
+        Ok(device_in(file))
     }
+}
+
+/// The device in an open file.
+fn device_in(file: Erased<OsFile>) -> FileFlash
+    ensures { result ≡ stored_device file 0 0 }
+{
+    StoredFlash::new(Ahead::new(file))
 }

@@ -10,6 +10,21 @@ use flash_format::HEADER_LENGTH;
 /// How often in a row a call may be interrupted.
 const TRIES: u32 = 1000;
 
+/// Reads some of n bytes from `at` on into the front of `out`, and says how many.
+pub fn read_front<S: Storage>(
+    storage: &mut S,
+    at: u64,
+    out: &mut [u8],
+    n: usize,
+) -> Result<usize, StorageFault>
+    requires inside { at + n ≤ length (S.facts storage.old).content }
+    requires room { n ≤ length out.old }
+
+    ensures { HasReadSome at n (S.facts storage.old) (S.facts storage.new) result out.new }
+{
+    storage.read_some(at, &mut out[..n])
+}
+
 /// Reads some of the bytes from `at` on, at least one: one call, made again where it was interrupted.
 fn read_again<S: Storage>(storage: &mut S, at: u64, out: &mut [u8]) -> Result<usize, StorageFault>
     requires { at + length out.old ≤ length (S.facts storage.old).content }
@@ -19,9 +34,8 @@ fn read_again<S: Storage>(storage: &mut S, at: u64, out: &mut [u8]) -> Result<us
 {
     for _ in 0..TRIES {
         match storage.read_some(at, out) {
-            Ok(n) if n > 0 => return Ok(n),
-            Ok(_) => return Err(StorageFault::Failed),
-            Err(StorageFault::Failed) => return Err(StorageFault::Failed),
+            Ok(0) | Err(StorageFault::Failed) => return Err(StorageFault::Failed),
+            Ok(n) => return Ok(n),
             Err(StorageFault::Interrupted) => {}
         }
     }
@@ -37,9 +51,8 @@ fn write_again<S: Storage>(storage: &mut S, at: u64, bytes: &[u8]) -> Result<usi
 {
     for _ in 0..TRIES {
         match storage.write_some(at, bytes) {
-            Ok(n) if n > 0 => return Ok(n),
-            Ok(_) => return Err(StorageFault::Failed),
-            Err(StorageFault::Failed) => return Err(StorageFault::Failed),
+            Ok(0) | Err(StorageFault::Failed) => return Err(StorageFault::Failed),
+            Ok(n) => return Ok(n),
             Err(StorageFault::Interrupted) => {}
         }
     }
