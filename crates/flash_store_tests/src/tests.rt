@@ -1,27 +1,32 @@
 //! What no clause shows: bytes from outside, real files, and that each call does its work.
+ghost use Rattle.std.specs.Prelude.{◌+◌, ◌≤◌};
+
 use flash_format::{FmapHead, HEADER_LENGTH};
 use flash_store::{
     Ahead, CopyFault, Erased, FailAt, FailSource, FileFlash, FileSource, FlakyFile, Flash,
-    FlashFault, MemFlash, MemSource, OpenFault, PIECE, Paged, Sink, Source, StoreFault,
-    StoredFlash, StoredSource, WriteSink, area, find_fmap, put_all, region,
+    MemFlash, MemSource, OpenFault, PIECE, Paged, Sink, Source, StoreFault, StoredFlash,
+    StoredSource, WriteSink, area, find_fmap, put_all, region,
 };
 use std::alloc::{AllocError, Global};
 use std::fmt::Debug;
-use std::fs::{File, OpenOptions, Permissions};
+use std::fs::{self, File, Permissions};
 use std::os::unix::fs::PermissionsExt;
 use std::process::Abort;
 use std::rt::Files;
-use std::{fs, io};
 
 /// An image of 0xff with these bytes at a place, as far as they lie inside.
 fn image(alloc: Global, len: usize, at: usize, part: &[u8]) -> Result<Vec<u8>, AllocError> {
     let mut bytes = Vec::from_elem(alloc, 0xff, len)?;
-    for (i, byte) in part.iter().enumerate() {
-        if let Some(place) = bytes.get_mut(at.wrapping_add(i)) {
-            *place = *byte;
-        }
-    }
+    write_over(bytes.as_mut_slice(), at, part);
     Ok(bytes)
+}
+
+/// Puts bytes in place of those from `at` on, as far as they lie inside.
+fn write_over(bytes: &mut [u8], at: usize, part: &[u8]) {
+    let start = at.min(bytes.len());
+    let rest = &mut bytes[start..];
+    let n = part.len().min(rest.len());
+    rest[..n].copy_from_slice(&part[..n]);
 }
 
 /// A device in memory with such an image.
@@ -44,16 +49,7 @@ fn equal<T: PartialEq + Debug>(rt: &impl Abort, left: &T, right: &T) {
 
 /// Two runs of bytes are equal.
 fn same_bytes(rt: &impl Abort, left: &[u8], right: &[u8]) {
-    assert_eq!(rt; left, right);
-}
-
-/// The numbers from 0 on, each below 251.
-fn numbered(alloc: Global, len: usize) -> Result<Vec<u8>, AllocError> {
-    let mut bytes = Vec::new(alloc);
-    for i in 0..len {
-        bytes.push((i % 251) as u8)?;
-    }
-    Ok(bytes)
+    equal(rt, &left, &right);
 }
 
 /// The bytes of a range.
@@ -69,149 +65,98 @@ fn source_of<'a>(rt: &impl Abort, bytes: &'a [u8]) -> MemSource<'a> {
 }
 
 // The calls of devices and of the buffer, each after a test that its range lies inside: a test that calls these has
-// nothing to prove of its numbers.
+// nothing to prove of its numbers. Those that return nothing pass.
 
-fn read_at<F: Flash>(
-    rt: &impl Abort,
-    device: &mut F,
-    at: u64,
-    out: &mut [u8],
-) -> Result<(), FlashFault> {
-    let len = device.len();
-    assert!(rt; out.len() <= PIECE && at <= len);
-    assert!(rt; out.len() as u64 <= len - at);
-    device.read_at(at, out)
+/// Stops unless the n bytes from `at` on lie inside so many.
+fn inside(rt: &impl Abort, at: u64, n: usize, len: u64)
+    ensures { at + n ≤ len }
+{
+    assert!(rt; at <= len);
+    assert!(rt; n as u64 <= len - at);
 }
 
-fn write_at<F: Flash>(
-    rt: &impl Abort,
-    device: &mut F,
-    at: u64,
-    bytes: &[u8],
-) -> Result<(), FlashFault> {
-    let len = device.len();
-    assert!(rt; bytes.len() <= PIECE && at <= len);
-    assert!(rt; bytes.len() as u64 <= len - at);
-    device.write_at(at, bytes)
+/// Whether a read passes.
+fn reads<F: Flash>(rt: &impl Abort, device: &mut F, at: u64, out: &mut [u8]) -> bool {
+    assert!(rt; out.len() <= PIECE);
+    inside(rt, at, out.len(), device.len());
+    device.read_at(at, out).is_ok()
 }
 
-fn commit_at<F: Flash>(
+/// Whether a write passes.
+fn writes<F: Flash>(rt: &impl Abort, device: &mut F, at: u64, bytes: &[u8]) -> bool {
+    assert!(rt; bytes.len() <= PIECE);
+    inside(rt, at, bytes.len(), device.len());
+    device.write_at(at, bytes).is_ok()
+}
+
+/// Whether a commit passes.
+fn commits<F: Flash>(
     rt: &impl Abort,
     device: &mut F,
     at: u64,
     bytes: &[u8; HEADER_LENGTH],
-) -> Result<(), FlashFault> {
-    let len = device.len();
-    assert!(rt; at <= len);
-    assert!(rt; HEADER_LENGTH as u64 <= len - at);
-    device.commit_at(at, bytes)
+) -> bool {
+    inside(rt, at, HEADER_LENGTH, device.len());
+    device.commit_at(at, bytes).is_ok()
 }
 
-fn fill<F: Flash>(
-    rt: &impl Abort,
-    paged: &mut Paged<F>,
-    at: u64,
-    n: u64,
-    byte: u8,
-) -> Result<(), FlashFault> {
-    let len = paged.len();
-    assert!(rt; at <= len);
-    assert!(rt; n <= len - at);
-    paged.fill(at, n, byte)
+fn fill<F: Flash>(rt: &impl Abort, paged: &mut Paged<F>, at: u64, n: usize, byte: u8) {
+    inside(rt, at, n, paged.len());
+    assert!(rt; paged.fill(at, n as u64, byte).is_ok());
 }
 
 fn copy_in<F: Flash, S: Source>(
     rt: &impl Abort,
     paged: &mut Paged<F>,
     at: u64,
-    n: u64,
+    n: usize,
     source: &mut S,
 ) -> Result<(), CopyFault> {
-    let len = paged.len();
-    let has = source.len();
-    assert!(rt; at <= len && n <= has);
-    assert!(rt; n <= len - at);
-    paged.copy_in(at, n, source)
+    inside(rt, at, n, paged.len());
+    inside(rt, 0, n, source.len());
+    paged.copy_in(at, n as u64, source)
 }
 
-fn copy_out<F: Flash, W: Sink>(
-    rt: &impl Abort,
-    paged: &mut Paged<F>,
-    at: u64,
-    n: u64,
-    out: &mut W,
-) -> Result<(), CopyFault> {
-    let len = paged.len();
-    assert!(rt; at <= len);
-    assert!(rt; n <= len - at);
-    paged.copy_out(at, n, out)
+fn copy_out<F: Flash, W: Sink>(rt: &impl Abort, paged: &mut Paged<F>, n: usize, out: &mut W) {
+    inside(rt, 0, n, paged.len());
+    assert!(rt; paged.copy_out(0, n as u64, out).is_ok());
 }
 
-fn commit<F: Flash>(
-    rt: &impl Abort,
-    paged: &mut Paged<F>,
-    at: u64,
-    bytes: &[u8; HEADER_LENGTH],
-) -> Result<(), FlashFault> {
-    let len = paged.len();
-    assert!(rt; at <= len);
-    assert!(rt; HEADER_LENGTH as u64 <= len - at);
-    paged.commit(at, bytes)
+fn commit<F: Flash>(rt: &impl Abort, paged: &mut Paged<F>, at: u64, bytes: &[u8; HEADER_LENGTH]) {
+    inside(rt, at, HEADER_LENGTH, paged.len());
+    assert!(rt; paged.commit(at, bytes).is_ok());
 }
 
-/// Pulls all of a source, which is short, and pushes it.
+/// Pulls the first bytes of a source, and pushes them.
 fn pull_and_push<F: Flash, S: Source>(
     rt: &impl Abort,
     paged: &mut Paged<F>,
     source: &mut S,
+    n: usize,
     at: u64,
 ) {
-    let len = paged.len();
-    let has = source.len();
-    assert!(rt; at <= len && has <= PIECE as u64);
-    assert!(rt; has <= len - at);
-    let _pulled = paged.pull(source, 0, has as usize).expect(rt, "a piece");
-    paged.push(at).expect(rt, "a write");
+    assert!(rt; n <= PIECE);
+    inside(rt, 0, n, source.len());
+    inside(rt, at, n, paged.len());
+    assert!(rt; paged.pull(source, 0, n).is_ok());
+    assert!(rt; paged.push(at).is_ok());
 }
 
-fn read_small<F: Flash>(
-    rt: &impl Abort,
-    paged: &mut Paged<F>,
-    at: u64,
-    out: &mut [u8],
-) -> Result<(), FlashFault> {
-    let len = paged.len();
-    assert!(rt; out.len() <= PIECE && at <= len);
-    assert!(rt; out.len() as u64 <= len - at);
-    paged.read_small(at, out)
-}
-
-fn piece<'a, F: Flash>(
-    rt: &impl Abort,
-    paged: &'a mut Paged<F>,
-    at: u64,
-    n: usize,
-) -> Result<&'a [u8], FlashFault> {
-    let len = paged.len();
-    assert!(rt; n <= PIECE && at <= len);
-    assert!(rt; n as u64 <= len - at);
-    paged.piece(at, n)
+fn read_small<F: Flash>(rt: &impl Abort, paged: &mut Paged<F>, at: u64, out: &mut [u8]) {
+    assert!(rt; out.len() <= PIECE);
+    inside(rt, at, out.len(), paged.len());
+    assert!(rt; paged.read_small(at, out).is_ok());
 }
 
 /// The head of a flashmap named F, without areas.
-fn head() -> [u8; FmapHead::LENGTH] {
-    let mut head = [0; FmapHead::LENGTH];
-    head[..8].copy_from_slice(&FmapHead::SIGNATURE);
-    head[8] = 1;
-    head[22] = b'F';
-    head
-}
+const HEAD: [u8; FmapHead::LENGTH] = *b"__FMAP__\x01\0\0\0\0\0\0\0\0\0\0\0\0\0\
+F\0\0\0\0\0\0\0\0\0\0\0\0\0\0\0\0\0\0\0\0\0\0\0\0\0\0\0\0\0\0\0\0\0";
 
 /// Where the map is found that begins at a place.
 fn found_at(rt: &(impl Abort + AllocGlobal), place: usize) -> Option<u64> {
-    let mut paged = Paged::new(device(rt, 8192, place, &head()));
-    let found = find_fmap(&mut paged).expect(rt, "a search");
-    found.map(|map| map.at)
+    let mut paged = Paged::new(device(rt, 8192, place, &HEAD));
+    let found = find_fmap(&mut paged).expect(rt, "a search")?;
+    Some(found.at)
 }
 
 #[test]
@@ -305,8 +250,12 @@ fn look_up_in(
     expected: Result<(u64, u64), StoreFault>,
 ) {
     let mut paged = Paged::new(device(rt, len, 0, map));
-    let answer = region(&mut paged, word).map(|found| (found.start(), found.size()));
-    equal(rt, &answer, &expected);
+    equal(rt, &place_of(&mut paged, word), &expected);
+}
+
+fn place_of<F: Flash>(paged: &mut Paged<F>, word: &[u8]) -> Result<(u64, u64), StoreFault> {
+    let found = region(paged, word)?;
+    Ok((found.start(), found.size()))
 }
 
 #[test]
@@ -321,11 +270,11 @@ fn a_device_refuses_after_its_first_calls(rt: HostRuntime) {
 fn passes<F: Flash>(rt: &impl Abort, device: &mut F) -> [bool; 5] {
     let mut out = [0; 8];
     [
-        read_at(rt, device, 0, &mut out).is_ok(),
-        write_at(rt, device, 0, b"first...").is_ok(),
-        commit_at(rt, device, 0, &[2; HEADER_LENGTH]).is_ok(),
-        write_at(rt, device, 8, b"second").is_ok(),
-        write_at(rt, device, 16, b"third").is_ok(),
+        reads(rt, device, 0, &mut out),
+        writes(rt, device, 0, b"first..."),
+        commits(rt, device, 0, &[2; HEADER_LENGTH]),
+        writes(rt, device, 8, b"second"),
+        writes(rt, device, 16, b"third"),
     ]
 }
 
@@ -347,165 +296,138 @@ fn reads_twice<S: Source>(rt: &impl Abort, source: &mut S) -> [bool; 2] {
 #[test]
 fn a_sink_takes_bytes(rt: HostRuntime) {
     let mut out = WriteSink::new(Vec::new(rt.alloc()));
-    equal(&rt, &out.put(b"abc"), &Ok(3));
-    equal(&rt, &put_all(&mut out, b"de"), &Ok(()));
+    put_twice(&rt, &mut out);
     same_bytes(&rt, out.into_inner().as_slice(), b"abcde");
 }
 
-/// A device that counts its reads.
-#[derive(Drop)]
-struct Counting<F: Flash> {
-    device: F,
-    reads: u64,
+fn put_twice<W: Sink>(rt: &impl Abort, out: &mut W) {
+    equal(rt, &out.put(b"abc"), &Ok(3));
+    equal(rt, &put_all(out, b"de"), &Ok(()));
 }
 
-impl<F: Flash> Flash for Counting<F> {
-    ghost facts = { λ c. F.facts c.device };
-
-    fn len(&self) -> u64 {
-        self.device.len()
-    }
-
-    fn read_at(&mut self, at: u64, out: &mut [u8]) -> Result<(), FlashFault> {
-        self.reads = self.reads.wrapping_add(1);
-        self.device.read_at(at, out)
-    }
-
-    fn write_at(&mut self, at: u64, bytes: &[u8]) -> Result<(), FlashFault> {
-        self.device.write_at(at, bytes)
-    }
-
-    fn commit_at(&mut self, at: u64, bytes: &[u8; HEADER_LENGTH]) -> Result<(), FlashFault> {
-        self.device.commit_at(at, bytes)
-    }
-}
-
-/// A buffer over a counting device of 9000 numbered bytes.
-fn counted(rt: &(impl Abort + AllocGlobal)) -> Paged<Counting<MemFlash>> {
-    let bytes = numbered(rt.alloc(), 9000).expect(rt, "memory");
-    let device = MemFlash::new(bytes).expect(rt, "a device");
-    Paged::new(Counting { device, reads: 0 })
-}
-
-#[test]
-fn a_range_inside_the_window_makes_no_call(rt: HostRuntime) {
-    let mut paged = counted(&rt);
-    // a window from 100 on, all of it, its last byte, one byte more, and one byte before the next window
-    equal(&rt, &reads(&rt, &mut paged, 100, 1), &1);
-    equal(&rt, &reads(&rt, &mut paged, 100, 4096), &1);
-    equal(&rt, &reads(&rt, &mut paged, 4195, 1), &1);
-    equal(&rt, &reads(&rt, &mut paged, 4195, 2), &2);
-    equal(&rt, &reads(&rt, &mut paged, 4194, 1), &3);
-}
-
-/// How many reads were made once so many bytes were read.
-fn reads(rt: &impl Abort, paged: &mut Paged<Counting<MemFlash>>, at: u64, n: usize) -> u64 {
-    assert!(rt; piece(rt, paged, at, n).is_ok());
-    paged.flash().reads
-}
+/// A hundred bytes, in which no three in a row stand twice.
+const NUMBERED: [u8; 100] =
+    *b"00,01,02,03,04,05,06,07,08,09,10,11,12,13,14,15,16,17,18,19,20,21,22,23,24,25,26,27,28,29,30,31,32,.";
 
 #[test]
 fn what_is_read_after_a_write_is_what_the_device_holds(rt: HostRuntime) {
-    write_each(&rt, &mut counted(&rt));
+    write_each(&rt, &mut Paged::new(device(&rt, 9000, 100, &NUMBERED)));
 }
 
 /// Writes in each way into the window that the check before has loaded.
-fn write_each(rt: &impl Abort, paged: &mut Paged<Counting<MemFlash>>) {
-    agrees(rt, paged, &[110]);
-    pull_and_push(rt, paged, &mut source_of(rt, b"pushed"), 110);
+fn write_each(rt: &impl Abort, paged: &mut Paged<MemFlash>) {
+    agrees(rt, paged, b"3,04,");
+    pull_and_push(rt, paged, &mut source_of(rt, b"pushed"), 6, 110);
     agrees(rt, paged, b"pushed");
-    commit(rt, paged, 110, &[2; HEADER_LENGTH]).expect(rt, "a commit");
+    commit_two(rt, paged);
+    fill_seven(rt, paged);
+    copy_text(rt, paged);
+}
+
+fn commit_two(rt: &impl Abort, paged: &mut Paged<MemFlash>) {
+    commit(rt, paged, 110, &[2; HEADER_LENGTH]);
     agrees(rt, paged, &[2; HEADER_LENGTH]);
-    fill(rt, paged, 110, 5, 7).expect(rt, "a fill");
+}
+
+fn fill_seven(rt: &impl Abort, paged: &mut Paged<MemFlash>) {
+    fill(rt, paged, 110, 5, 7);
     agrees(rt, paged, &[7; 5]);
-    copy_in(rt, paged, 110, 6, &mut source_of(rt, b"copied")).expect(rt, "a copy");
+}
+
+fn copy_text(rt: &impl Abort, paged: &mut Paged<MemFlash>) {
+    let copied = copy_in(rt, paged, 110, 6, &mut source_of(rt, b"copied"));
+    assert!(rt; copied.is_ok());
     agrees(rt, paged, b"copied");
 }
 
 /// A read gives these bytes from 110 on, and after them what the device holds.
-fn agrees(rt: &impl Abort, paged: &mut Paged<Counting<MemFlash>>, written: &[u8]) {
+fn agrees(rt: &impl Abort, paged: &mut Paged<MemFlash>, written: &[u8]) {
     let mut seen = [0; 100];
-    assert!(rt; read_small(rt, paged, 110, &mut seen).is_ok());
+    read_small(rt, paged, 110, &mut seen);
     same_bytes(rt, part_of(rt, &seen, 0, written.len()), written);
-    same_bytes(
-        rt,
-        part_of(rt, paged.flash().device.bytes(), 110, 210),
-        &seen,
-    );
+    same_bytes(rt, part_of(rt, paged.flash().bytes(), 110, 210), &seen);
 }
 
-/// A file of 100 numbered bytes that moves at most 7 bytes a call and is interrupted at every fourth.
+/// A file of the hundred bytes that moves at most 7 bytes a call and is interrupted at every fourth.
 fn flaky(rt: &(impl Abort + AllocGlobal), calls: u64) -> FlakyFile {
-    let bytes = numbered(rt.alloc(), 100).expect(rt, "memory");
+    let bytes = image(rt.alloc(), 100, 0, &NUMBERED).expect(rt, "memory");
     assert!(rt; bytes.len() < 1 << 32);
     FlakyFile::new(bytes, 7, 3, calls)
 }
 
 #[test]
 fn a_device_in_a_file_moves_all(rt: HostRuntime) {
-    let mut device = StoredFlash::new(Ahead::new(Erased::new(flaky(&rt, 1000))));
+    let mut device = stored(&rt);
     move_parts(&rt, &mut device);
-    let file = device.into_inner().into_inner().into_inner();
-    holds_parts(&rt, file.bytes());
+    holds_parts(&rt, into_file(device).bytes());
 }
 
-/// Reads some of the numbered bytes, writes over some and over the first but one.
+fn stored(rt: &(impl Abort + AllocGlobal)) -> StoredFlash<Ahead<Erased<FlakyFile>>> {
+    StoredFlash::new(Ahead::new(Erased::new(flaky(rt, 1000))))
+}
+
+fn into_file(device: StoredFlash<Ahead<Erased<FlakyFile>>>) -> FlakyFile {
+    device.into_inner().into_inner().into_inner()
+}
+
+/// Reads some of the hundred bytes, writes over some and over the first but one.
 fn move_parts<F: Flash>(rt: &impl Abort, device: &mut F) {
     let mut seen = [0; 50];
-    assert!(rt; read_at(rt, device, 3, &mut seen).is_ok());
-    assert!(rt; seen[0] == 3 && seen[30] == 33 && seen[49] == 52);
-    assert!(rt; write_at(rt, device, 20, &[200; 60]).is_ok());
-    assert!(rt; commit_at(rt, device, 1, &[2; HEADER_LENGTH]).is_ok());
+    assert!(rt; reads(rt, device, 3, &mut seen));
+    same_bytes(rt, &seen, part_of(rt, &NUMBERED, 3, 53));
+    assert!(rt; writes(rt, device, 20, &[200; 60]));
+    assert!(rt; commits(rt, device, 1, &[2; HEADER_LENGTH]));
 }
 
-/// The numbered bytes with these parts.
-fn holds_parts(rt: &(impl Abort + AllocGlobal), bytes: &[u8]) {
-    let mut wanted = numbered(rt.alloc(), 100).expect(rt, "memory");
-    write_over(rt, wanted.as_mut_slice(), 20, &[200; 60]);
-    write_over(rt, wanted.as_mut_slice(), 1, &[2; HEADER_LENGTH]);
-    same_bytes(rt, bytes, wanted.as_slice());
-}
-
-/// Puts bytes in place of those from `at` on.
-fn write_over(rt: &impl Abort, bytes: &mut [u8], at: usize, new: &[u8]) {
-    assert!(rt; at <= bytes.len() && new.len() <= bytes.len() - at);
-    bytes[at..at + new.len()].copy_from_slice(new);
+/// The hundred bytes with these parts.
+fn holds_parts(rt: &impl Abort, bytes: &[u8]) {
+    let mut wanted = NUMBERED;
+    write_over(&mut wanted, 20, &[200; 60]);
+    write_over(&mut wanted, 1, &[2; HEADER_LENGTH]);
+    same_bytes(rt, bytes, &wanted);
 }
 
 #[test]
 fn a_source_in_a_file_moves_all(rt: HostRuntime) {
     let mut seen = [0; 100];
     read_source(&rt, &mut StoredSource::new(flaky(&rt, 1000)), &mut seen);
-    let wanted = numbered(rt.alloc(), 100).expect(&rt, "memory");
-    same_bytes(&rt, &seen, wanted.as_slice());
+    same_bytes(&rt, &seen, &NUMBERED);
 }
 
 /// Reads a source from its start on.
 fn read_source<S: Source>(rt: &impl Abort, source: &mut S, out: &mut [u8]) {
-    assert!(rt; out.len() <= PIECE && out.len() as u64 <= source.len());
+    assert!(rt; out.len() <= PIECE);
+    inside(rt, 0, out.len(), source.len());
     assert!(rt; source.read_at(0, out).is_ok());
 }
 
 #[test]
 fn a_file_is_erased(rt: HostRuntime) {
-    let file = Erased::erase(flaky(&rt, 1000)).expect(&rt, "an erased file");
-    let mut device = StoredFlash::new(file);
+    let mut device = erased(&rt);
     erase_parts(&rt, &mut device);
-    let file = device.into_inner().into_inner();
-    is_image(&rt, file.bytes(), 100, 31, b"ew");
+    is_image(
+        &rt,
+        device.into_inner().into_inner().bytes(),
+        100,
+        31,
+        b"ew",
+    );
+}
+
+fn erased(rt: &(impl Abort + AllocGlobal)) -> StoredFlash<Erased<FlakyFile>> {
+    StoredFlash::new(Erased::erase(flaky(rt, 1000)).expect(rt, "an erased file"))
 }
 
 /// Writes over 0xff, and 0xff over the first byte of that again.
 fn erase_parts<F: Flash>(rt: &impl Abort, device: &mut F) {
-    assert!(rt; write_at(rt, device, 10, &[0xff; 50]).is_ok());
-    assert!(rt; write_at(rt, device, 30, b"new").is_ok());
-    assert!(rt; write_at(rt, device, 20, &[0xff; 11]).is_ok());
+    assert!(rt; writes(rt, device, 10, &[0xff; 50]));
+    assert!(rt; writes(rt, device, 30, b"new"));
+    assert!(rt; writes(rt, device, 20, &[0xff; 11]));
 }
 
 #[test]
 fn a_file_that_refuses_is_not_erased(rt: HostRuntime) {
-    let refused = Erased::erase(flaky(&rt, 10)).is_err();
-    assert!(rt; refused);
+    assert!(rt; Erased::erase(flaky(&rt, 10)).is_err());
 }
 
 /// Makes a file of these bytes.
@@ -532,15 +454,10 @@ fn file_is_image(
 #[test]
 fn a_file_is_written_and_read(rt: HostRuntime) {
     write(&rt, "input.bin", b"0123456789");
-    write_image(&rt);
+    write(&rt, "image.bin", &[0xff; 5000]);
     read_image(&rt);
     remove(&rt, "image.bin");
     remove(&rt, "input.bin");
-}
-
-fn write_image(rt: &(impl Abort + AllocGlobal + Files<File = File>)) {
-    let bytes = image(rt.alloc(), 5000, 0, &[]).expect(rt, "memory");
-    write(rt, "image.bin", bytes.as_slice());
 }
 
 /// What the changed image tells, and what its file holds, are a header and the input after it.
@@ -554,9 +471,16 @@ fn read_image(rt: &(impl Abort + AllocGlobal + Files<File = File>)) {
 }
 
 fn change_file<W: Sink>(rt: &(impl Abort + Files<File = File>), out: &mut W) {
-    let device = FileFlash::open(rt, "image.bin").expect(rt, "an image");
-    let mut source = FileSource::open(rt, "input.bin").expect(rt, "a source");
-    change(rt, &mut Paged::new(device), &mut source, out);
+    let mut paged = Paged::new(open(rt, "image.bin"));
+    change(rt, &mut paged, &mut open_source(rt, "input.bin"), out);
+}
+
+fn open(rt: &(impl Abort + Files<File = File>), path: &str) -> FileFlash {
+    FileFlash::open(rt, path).expect(rt, "an image")
+}
+
+fn open_source(rt: &(impl Abort + Files<File = File>), path: &str) -> FileSource {
+    FileSource::open(rt, path).expect(rt, "a source")
 }
 
 /// Commits a header, copies the input after it, and tells the whole image.
@@ -566,9 +490,9 @@ fn change<F: Flash, S: Source, W: Sink>(
     source: &mut S,
     out: &mut W,
 ) {
-    commit(rt, paged, 4062, &[2; HEADER_LENGTH]).expect(rt, "a commit");
-    copy_in(rt, paged, 4090, 10, source).expect(rt, "a copy");
-    copy_out(rt, paged, 0, 5000, out).expect(rt, "a text");
+    commit(rt, paged, 4062, &[2; HEADER_LENGTH]);
+    assert!(rt; copy_in(rt, paged, 4090, 10, source).is_ok());
+    copy_out(rt, paged, 5000, out);
 }
 
 #[test]
@@ -579,7 +503,7 @@ fn a_file_that_was_cut_refuses_what_it_lost(rt: HostRuntime) {
 }
 
 fn read_cut(rt: &(impl Abort + Files<File = File>)) -> [bool; 2] {
-    let mut device = FileFlash::open(rt, "cut.bin").expect(rt, "an image");
+    let mut device = open(rt, "cut.bin");
     write(rt, "cut.bin", b"01234");
     first_and_last(rt, &mut device)
 }
@@ -596,31 +520,49 @@ fn a_source_that_was_cut_refuses_what_it_lost(rt: HostRuntime) {
 /// A source of 5000 bytes, of which the last 900 are gone.
 fn cut_source(rt: &(impl Abort + Files<File = File>)) -> FileSource {
     write(rt, "source.bin", &[7; 5000]);
-    let source = FileSource::open(rt, "source.bin").expect(rt, "a source");
-    write(rt, "source.bin", &[7; 4100]);
-    remove(rt, "source.bin");
+    let source = open_source(rt, "source.bin");
+    cut(rt, "source.bin");
     source
+}
+
+fn cut(rt: &(impl Abort + Files<File = File>), path: &str) {
+    write(rt, path, &[7; 4100]);
+    remove(rt, path);
 }
 
 /// Which of two reads pass.
 fn first_and_last<F: Flash>(rt: &impl Abort, device: &mut F) -> [bool; 2] {
     let mut out = [0; 5];
-    let first = read_at(rt, device, 0, &mut out).is_ok();
-    let last = read_at(rt, device, 1, &mut out).is_ok();
+    let first = reads(rt, device, 0, &mut out);
+    let last = reads(rt, device, 1, &mut out);
     [first, last]
 }
 
 fn opened(rt: &impl Files<File = File>, path: &str) -> [Result<u64, OpenFault>; 3] {
     [
-        FileFlash::open(rt, path).map(|device| device.len()),
-        FileFlash::open_to_read(rt, path).map(|device| device.len()),
-        FileSource::open(rt, path).map(|source| source.len()),
+        device_len(FileFlash::open(rt, path)),
+        device_len(FileFlash::open_to_read(rt, path)),
+        source_len(FileSource::open(rt, path)),
     ]
+}
+
+fn device_len<F: Flash>(opened: Result<F, OpenFault>) -> Result<u64, OpenFault> {
+    match opened {
+        Ok(device) => Ok(device.len()),
+        Err(fault) => Err(fault),
+    }
+}
+
+fn source_len<S: Source>(opened: Result<S, OpenFault>) -> Result<u64, OpenFault> {
+    match opened {
+        Ok(source) => Ok(source.len()),
+        Err(fault) => Err(fault),
+    }
 }
 
 #[test]
 fn files_are_opened_by_their_length(rt: HostRuntime) {
-    let _absent = fs::remove_file(&rt, "absent.bin");
+    remove_if_there(&rt, "absent.bin");
     open_sparse(&rt, 0xffff_ffff, Ok(0xffff_ffff));
     open_sparse(&rt, 1 << 32, Err(OpenFault::TooLarge));
     remove(&rt, "sparse.bin");
@@ -628,17 +570,18 @@ fn files_are_opened_by_their_length(rt: HostRuntime) {
     equal(&rt, &opened(&rt, "absent.bin"), &[failed; 3]);
 }
 
+fn remove_if_there(rt: &impl Files<File = File>, path: &str) {
+    let _absent = fs::remove_file(rt, path);
+}
+
 fn open_sparse(rt: &(impl Abort + Files<File = File>), len: u64, answer: Result<u64, OpenFault>) {
-    make_sparse(rt, len).expect(rt, "a file");
+    make_sparse(rt, len);
     equal(rt, &opened(rt, "sparse.bin"), &[answer; 3]);
 }
 
-fn make_sparse(rt: &impl Files<File = File>, len: u64) -> io::Result<()> {
-    let file = OpenOptions::new()
-        .write(true)
-        .create(true)
-        .open(rt, "sparse.bin")?;
-    file.set_len(len)
+fn make_sparse(rt: &(impl Abort + Files<File = File>), len: u64) {
+    let file = File::create(rt, "sparse.bin").expect(rt, "a file");
+    assert!(rt; file.set_len(len).is_ok());
 }
 
 /// A device that may only be read.
@@ -649,39 +592,54 @@ fn open_to_read(rt: &(impl Abort + Files<File = File>), path: &str) -> FileFlash
 #[test]
 fn two_readers_share_a_file_that_may_only_be_read(rt: HostRuntime) {
     write(&rt, "shared.bin", b"0123456789");
-    let only_read = Permissions::from_mode(0o444);
-    fs::set_permissions(&rt, "shared.bin", only_read).expect(&rt, "permissions");
-    let mut first = open_to_read(&rt, "shared.bin");
-    let mut second = open_to_read(&rt, "shared.bin");
-    reads_and_refuses_writes(&rt, &mut first);
-    reads_and_refuses_writes(&rt, &mut second);
-    equal(&rt, &locks_left(&rt, "shared.bin"), &[false, true]);
+    allow_reading_only(&rt, "shared.bin");
+    share(&rt, "shared.bin");
+    // (the locks end with the devices)
+    equal(&rt, &locks_left(&rt, "shared.bin"), &[true, true]);
     file_is_image(&rt, "shared.bin", 10, 0, b"0123456789");
     remove(&rt, "shared.bin");
 }
 
+fn allow_reading_only(rt: &(impl Abort + Files<File = File>), path: &str) {
+    let only_read = Permissions::from_mode(0o444);
+    assert!(rt; fs::set_permissions(rt, path, only_read).is_ok());
+}
+
+/// Two devices over a file, both open.
+fn share(rt: &(impl Abort + Files<File = File>), path: &str) {
+    let mut first = open_to_read(rt, path);
+    let mut second = open_to_read(rt, path);
+    read_both(rt, path, &mut first, &mut second);
+}
+
+fn read_both<F: Flash>(
+    rt: &(impl Abort + Files<File = File>),
+    path: &str,
+    first: &mut F,
+    second: &mut F,
+) {
+    reads_and_refuses_writes(rt, first);
+    reads_and_refuses_writes(rt, second);
+    equal(rt, &locks_left(rt, path), &[false, true]);
+}
+
 fn reads_and_refuses_writes<F: Flash>(rt: &impl Abort, device: &mut F) {
     let mut out = [0; 4];
-    read_at(rt, device, 6, &mut out).expect(rt, "bytes");
+    assert!(rt; reads(rt, device, 6, &mut out));
     same_bytes(rt, &out, b"6789");
-    let written = write_at(rt, device, 3, b"abc");
-    equal(rt, &written, &Err(FlashFault));
-    read_at(rt, device, 2, &mut out).expect(rt, "bytes");
+    assert!(rt; !writes(rt, device, 3, b"abc"));
+    assert!(rt; reads(rt, device, 2, &mut out));
     same_bytes(rt, &out, b"2345");
 }
 
 /// Whether another opening of the file can have its lock alone, and whether it can share it.
 fn locks_left(rt: &(impl Abort + Files<File = File>), path: &str) -> [bool; 2] {
     let file = File::open(rt, path).expect(rt, "a file");
-    [file.try_lock().is_ok(), file.try_lock_shared().is_ok()]
+    locks_of(&file)
 }
 
-#[test]
-fn the_lock_of_a_reader_ends_with_its_device(rt: HostRuntime) {
-    write(&rt, "freed.bin", b"0123456789");
-    equal(&rt, &open_to_read(&rt, "freed.bin").len(), &10);
-    equal(&rt, &locks_left(&rt, "freed.bin"), &[true, true]);
-    remove(&rt, "freed.bin");
+fn locks_of(file: &File) -> [bool; 2] {
+    [file.try_lock().is_ok(), file.try_lock_shared().is_ok()]
 }
 
 #[test]
@@ -694,13 +652,17 @@ fn a_file_is_made_for_a_device(rt: HostRuntime) {
     make(&rt, 65537);
     make(&rt, 200_000);
     remove(&rt, "made.bin");
-    let refused = FileFlash::create(&rt, "absent/made.bin", 1).map(|device| device.len());
+    let refused = made(&rt, "absent/made.bin", 1);
     equal(&rt, &refused, &Err(OpenFault::Failed));
+}
+
+/// The length of a device in a new file.
+fn made(rt: &impl Files<File = File>, path: &str, size: u32) -> Result<u64, OpenFault> {
+    device_len(FileFlash::create(rt, path, size))
 }
 
 /// The device has its length, and its file so many bytes 0xff and no others.
 fn make(rt: &(impl Abort + AllocGlobal + Files<File = File>), size: u32) {
-    let device = FileFlash::create(rt, "made.bin", size).expect(rt, "a device");
-    equal(rt, &device.len(), &u64::from(size));
+    equal(rt, &made(rt, "made.bin", size), &Ok(u64::from(size)));
     file_is_image(rt, "made.bin", size as usize, 0, &[]);
 }
