@@ -1,17 +1,19 @@
 -- The layout of a tree, one section at a time.
-use Rattle.std.proofs.Common.{◌≡◌, ℕ, suc, ◌+◌, ◌<◌, ◌≤◌, not, false, List, [], ◌∷◌, ◌++◌, codes, length, drop, take, min, replicate, get_or, Some, None, option_map, unwrap_or, length-append, refl, sym, subst, ◌∙◌, ap, arith, add-one, append_assoc}
+use Rattle.std.proofs.Common.{◌≡◌, ℕ, suc, ◌+◌, ◌<◌, ◌≤◌, not, false, List, [], ◌∷◌, ◌++◌, codes, length, drop, take, min, replicate, get_or, IsTrue, true, nat_le, rules, Some, None, option_map, unwrap_or, length-append, refl, sym, subst, ◌∙◌, ap, arith, add-one, append_assoc}
 use Rattle.std.specs.Bool.{then_some}
 use Rattle.std.specs.Option.{option_or}
 use Rattle.std.proofs.Math.Nat.{min_comm}
 use Rattle.std.proofs.Math.Seq.{drop-cons}
-use Rattle.std.proofs.lemmas.List.{take_min, drop-replicate}
+use Rattle.std.proofs.lemmas.List.{append-nil, take_min, drop_all, drop-replicate}
+use Rattle.std.proofs.lemmas.List.Elements.{All-get_or}
+use Rattle.std.proofs.lemmas.List.Sums.{AllPass-from_list_all}
 use Rattle.fmd_lang.specs.Tree.{Tree, section, Forest, none, some, section_count, names, names_of, size_of, view, views}
 use Rattle.fmd_lang.specs.declared.section.Section.TheFolds.{fold_out-Section}
 use Rattle.fmd_lang.specs.Table.{field_of, area_limit, section_area, areas_below, areas_of, AreasBelow, AreasOf, IsTable}
 use Rattle.fmd_lang.specs.Layout.{ambiguous_sibling, sibling, siblings, place_of, places_of, end_of, row_fault, misfit_of, first_misfit}
 use Rattle.fmd_lang.specs.LayoutFaults.{count_fault, parent_fault, parts_fault, layout_fault, names_fault, size_fault, table_fault, duplicate}
 use Rattle.fmd_lang.specs.declared.fault.FmdFault.TheVariants as faults
-use Rattle.std.specs.List.{list_any}
+use Rattle.std.specs.List.{list_all, list_any}
 use Rattle.std.specs.Str.{bytes_eq}
 use Rattle.fmd_lang.proofs.OptionLemmas.{map-none, or-none}
 use Rattle.fmd_lang.proofs.RowLemmas.{placed_one}
@@ -69,6 +71,28 @@ pub area-is : (at : ℕ) (q : Place) (s : Section) → section_area at q (view s
 }
 area-is at q s = rw (view-is s) refl
 
+-- the names of the parts from an index on
+pub names-from : (ss : List Section) (k : ℕ) (s : Section) → k < length ss → s ≡ get_or ss k s →
+    names_of (views (drop k ss)) ≡ names (view s) ++ names_of (views (drop (k + 1) ss))
+names-from ss k s there is = rw (next ss k s there is) refl
+
+-- how many sections those are
+pub count-from : (ss : List Section) (k : ℕ) (s : Section) → k < length ss → s ≡ get_or ss k s →
+    length (names_of (views (drop k ss))) ≡ section_count (view s) + length (names_of (views (drop (k + 1) ss)))
+count-from ss k s there is =
+    ap length (names-from ss k s there is) ∙ length-append (names (view s)) (names_of (views (drop (k + 1) ss)))
+
+-- one more sibling of a row
+pub sibling-pushed : {whole : List Sibling} {count : ℕ} (row : List Sibling) (n k : ℕ) (ss : List Section) (s : Section) →
+    (row ++ siblings n (views (drop k ss)) ≡ whole) × (n + length (names_of (views (drop k ss))) ≡ count) → k < length ss → s ≡ get_or ss k s →
+    ((row ++ record { number = n; offset = (out-Section s).offset; size = (out-Section s).size } ∷ [])
+    ++ siblings (n + section_count (view s)) (views (drop (k + 1) ss)) ≡ whole)
+    × (n + section_count (view s) + length (names_of (views (drop (k + 1) ss))) ≡ count)
+sibling-pushed row n k ss s so_far there is =
+    let items = rw (next ss k s there is) at so_far.0 in
+    let made : record { number = n; offset = (out-Section s).offset; size = (out-Section s).size } ≡ sibling n (view s) = rw (view-is s) refl in
+    (rw (made, append_assoc row) items, omega (arith, so_far.1, count-from ss k s there is))
+
 joined : (areas below rest : List Area) (a : Area) → ((areas ++ a ∷ []) ++ below) ++ rest ≡ areas ++ (a ∷ below ++ rest)
 joined areas below rest a = simp append_assoc
 
@@ -83,6 +107,32 @@ pub part-at : {old areas : List Area} {at size : ℕ} {whole : Tree} (qs : List 
 part-at qs ss shown k q s pushed same left part len place =
     let room : k < length qs = omega (arith, ap length same, left, len) in
     rw (next qs k q room place, next ss k s (rw same at left) (rw same at part)) at pushed
+
+-- no part yet
+pub none-pushed : (areas : List Area) (n at size : ℕ) (s : Section) (places : List Place) → n ≡ length areas →
+    places ≡ places_of size 0 (siblings (suc n) (views (out-Section s).parts.items)) →
+    row_fault size (siblings (suc n) (views (out-Section s).parts.items)) ≡ None →
+    IsPushed areas areas at size (view s) places (views (out-Section s).parts.items)
+none-pushed areas n at size s places counted same fine =
+    rw (view-is s) (record { count = omega arith; items = rw (same, counted) refl; faults = rw (same, ← counted, fine) refl })
+
+-- all parts
+pub all-pushed : {old areas : List Area} {at size : ℕ} {whole : Tree} {places : List Place} (ss shown : List Section) (k : ℕ) →
+    IsPushed old areas at size whole places (views (drop k ss)) → shown ≡ ss → length shown ≤ k →
+    (areas ≡ old ++ areas_below (length old) at size whole) × (length areas + 1 ≡ length old + section_count whole)
+    × (parent_fault (length old) size whole ≡ None)
+all-pushed {areas = areas} ss shown k pushed same over =
+    let last = rw (drop_all k ss (rw same at over)) at pushed in
+    (sym (append-nil areas) ∙ last.items, omega (arith, last.count), last.faults)
+
+-- Each place of a row lies in the parent.
+pub place-inside : (size : ℕ) (qs : List Place) (k : ℕ) (q : Place) → IsTrue (list_all (λ p. nat_le (end_of p) size) qs) →
+    k < length qs → q ≡ get_or qs k q → end_of q ≤ size
+place-inside size qs k q inside there is =
+    let all : list_all (λ p. nat_le (end_of p) size) qs ≡ true = search (rules, inside) in
+    let here = All-get_or (λ p. nat_le (end_of p) size ≡ true) qs k q there (AllPass-from_list_all (λ p. nat_le (end_of p) size) qs all) in
+    let fits : nat_le (end_of q) size ≡ true = rw (← is) at here in
+    grind arith
 
 -- a part that is laid
 pub part-pushed : {old before areas : List Area} {at size : ℕ} {whole t : Tree} {q : Place} {qs : List Place}

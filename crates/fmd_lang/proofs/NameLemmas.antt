@@ -32,6 +32,12 @@ pub duplicate-at : (names : List (Bor (List ℕ))) (n : ℕ) (known : Bool) → 
     ≡ cond known (Some n) (duplicate (n + 1) (texts (take (n + 1) names)) (texts (drop (n + 1) names)))
 duplicate-at names n known h is = rw (take-more names n h, drop-cons names n no_name h, is, add-one) refl
 
+-- one name, which passes a test or not
+pub any-from : (test : List ℕ → Bool) (names : List (Bor (List ℕ))) (n : ℕ) (known : Bool) → n < length names →
+    test (get_or names n no_name).now ≡ known →
+    list_any test (texts (drop n names)) ≡ (known || list_any test (texts (drop (n + 1) names)))
+any-from test names n known h is = rw (drop-cons names n no_name h, is, add-one) refl
+
 either : (a b : Bool) → cond a true b ≡ (b || (a || false))
 either true b = sym (or-true b)
 either false b = sym (or-false b)

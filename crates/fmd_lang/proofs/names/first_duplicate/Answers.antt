@@ -1,5 +1,6 @@
-use Rattle.std.proofs.Common.{◌∙◌, sym, true, false, get_or}
+use Rattle.std.proofs.Common.{◌∙◌, sym, refl, rules, true, false, get_or}
 use Rattle.std.proofs.lemmas.Bool.{not-false, not-true}
+use Rattle.std.proofs.lemmas.List.{drop_all}
 use Rattle.fmd_lang.proofs.NameLemmas.{has, no_name, duplicate-at, has-more}
 use Rattle.fmd_lang.proofs.names.first_duplicate.Goals as goal
 
@@ -21,3 +22,13 @@ loop-number-preserved c =
           (c.loop-number.invariant.0 q),
       c.loop-number.invariant.1 ∙ duplicate-at names n false c.loop-number-test.true (sym (c.loop-number.invariant.0 x) ∙ new),
     )
+
+pub loop-number-init : goal.loop-number-init
+loop-number-init c = (λ q. search rules, refl)
+
+pub returns-clause-ok : goal.returns-clause-ok
+returns-clause-ok c =
+    sym (c.loop-number.invariant.1 ∙ rw (drop_all c.loop-number.number c.args.names.now c.loop-number-test.false) refl)
+
+pub returns-in_err-insert : goal.returns-in_err-insert
+returns-in_err-insert c = search rules
