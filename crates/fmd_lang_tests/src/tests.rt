@@ -7,16 +7,15 @@ use fmd_lang::FmdFault::{
 };
 use fmd_lang::{Expected, FmdFault, Section, Table, encode, lay_out, parse};
 use std::alloc::{AllocError, Global};
-use std::fmt::Debug;
 use std::process::Abort;
 
 /// Two values are equal. A call of this is proved sooner than an assertion in place.
-fn equal<T: PartialEq + Debug>(rt: &impl Abort, left: &T, right: &T) {
-    assert_eq!(rt; *left, *right);
+fn equal<T: PartialEq>(rt: &impl Abort, left: &T, right: &T) {
+    assert!(rt; *left == *right);
 }
 
 fn same_bytes(rt: &impl Abort, left: &[u8], right: &[u8]) {
-    assert_eq!(rt; left, right);
+    assert!(rt; left == right);
 }
 
 fn expected(at: usize, what: Expected) -> FmdFault {
@@ -37,7 +36,7 @@ fn table_of(rt: &(impl Abort + AllocGlobal), text: &str) -> Table {
 /// The text is refused so.
 fn refused(rt: &(impl Abort + AllocGlobal), text: &str, fault: FmdFault) {
     let found = parse(rt.alloc(), text.as_bytes()).err();
-    assert_eq!(rt; found, Some(fault), "{text:?}");
+    assert!(rt; found == Some(fault), "{text:?}");
 }
 
 #[test]
@@ -106,7 +105,7 @@ fn at_the_limit(
 ) {
     let bytes = repeated(rt.alloc(), text, piece, times).expect(rt, "memory");
     let found = parse(rt.alloc(), &bytes).err();
-    assert_eq!(rt; found, fault, "{text:?}, {times} times {piece:?}");
+    assert!(rt; found == fault, "{text:?}, {times} times {piece:?}");
 }
 
 #[test]
@@ -123,7 +122,7 @@ fn texts_at_the_limits(rt: HostRuntime) {
 /// The layout of the text is refused so.
 fn not_laid(rt: &(impl Abort + AllocGlobal), text: &str, fault: FmdFault) {
     let found = laid(rt.alloc(), text).err();
-    assert_eq!(rt; found, Some(fault), "{text:?}");
+    assert!(rt; found == Some(fault), "{text:?}");
 }
 
 #[test]
@@ -150,7 +149,7 @@ fn layouts_that_are_refused(rt: HostRuntime) {
 /// The text has a layout.
 fn is_laid(rt: &(impl Abort + AllocGlobal), text: &str) {
     let found = laid(rt.alloc(), text).err();
-    assert_eq!(rt; found, None, "{text:?}");
+    assert!(rt; found.is_none(), "{text:?}");
 }
 
 #[test]
@@ -199,7 +198,10 @@ fn section_is(
         section.size,
         section.parts.len(),
     );
-    assert_eq!(rt; fields, (name.as_bytes(), flags, offset, size, parts));
+    assert!(rt;
+        fields == (name.as_bytes(), flags, offset, size, parts),
+        "{name}"
+    );
 }
 
 /// How many sections a tree has.
@@ -250,16 +252,15 @@ fn trees_of_short_texts(rt: HostRuntime) {
 /// The name with NULs after it.
 fn padded(text: &str) -> [u8; 32] {
     let mut name = [0; 32];
-    for (place, byte) in name.iter_mut().zip(text.as_bytes()) {
-        *place = *byte;
-    }
+    let len = text.len().min(32);
+    name[..len].copy_from_slice(&text.as_bytes()[..len]);
     name
 }
 
 /// The table has these fields, and so many areas.
 fn head_is(rt: &impl Abort, table: &Table, name: &str, base: u64, size: u32, areas: usize) {
     let fields = (table.base, table.size, table.name, table.areas.len());
-    assert_eq!(rt; fields, (base, size, padded(name), areas));
+    assert!(rt; fields == (base, size, padded(name), areas));
 }
 
 /// The area of this index has these fields.
@@ -278,7 +279,7 @@ fn area_is(
         name: padded(name),
         flags,
     };
-    assert_eq!(rt; table.areas.get(index).copied(), Some(area), "{name}");
+    assert!(rt; table.areas.get(index).copied() == Some(area), "{name}");
 }
 
 #[test]
@@ -398,7 +399,7 @@ fn a_table_has_at_most_65535_areas(rt: HostRuntime) {
 
 fn told(rt: &(impl Abort + AllocGlobal), fault: FmdFault, text: &str) {
     let told = format!(in rt.alloc(); "{fault}").expect(rt, "memory");
-    assert_eq!(rt; told.as_str(), text);
+    assert!(rt; told.as_str() == text, "{text}");
 }
 
 #[test]
