@@ -4,7 +4,6 @@ use flash_format::{
     attr_len, digest_text, digits_value, empty_header, meta_len, read_number, type_name,
     type_number, write_meta,
 };
-use std::fmt::Debug;
 use std::process::Abort;
 
 const RAW: u32 = 0x50;
@@ -28,19 +27,18 @@ const FULL_NAME: [u8; 42] = *b"\x00\x04\x00\x00\x00\x0c\x00\x00\
 01234567890123456789012345678901\x08\x00";
 
 /// Two values are equal. A call is proved in a fraction of the time of an assertion.
-fn equal<T: PartialEq + Debug>(rt: &impl Abort, left: &T, right: &T) {
-    assert_eq!(rt; *left, *right);
+fn equal<T: PartialEq>(rt: &impl Abort, left: &T, right: &T) {
+    assert!(rt; *left == *right);
 }
 
 fn same_bytes(rt: &impl Abort, left: &[u8], right: &[u8]) {
-    assert_eq!(rt; left, right);
+    assert!(rt; left == right);
 }
 
 fn padded(text: &[u8]) -> [u8; 32] {
     let mut name = [0; 32];
-    for (place, byte) in name.iter_mut().zip(text) {
-        *place = *byte;
-    }
+    let len = text.len().min(32);
+    name[..len].copy_from_slice(&text[..len]);
     name
 }
 
@@ -108,7 +106,7 @@ fn head_with(numbers: &[u32; 4]) -> [u8; 24] {
 fn checks(rt: &impl Abort, numbers: [u32; 4], left: u64, want: Result<u64, DamageKind>) {
     let head = Head::read(&head_with(&numbers)).expect(rt, "a head");
     let span = head.check(left).map(|extent| extent.span);
-    equal(rt, &(numbers, span), &(numbers, want));
+    assert!(rt; span == want, "{numbers:?}");
 }
 
 #[test]
@@ -176,8 +174,8 @@ fn an_attribute_has_a_head(rt: HostRuntime) {
 /// The attribute that these bytes begin, with so many bytes up to the content, is none, or its length is wrong.
 fn is_attribute(rt: &impl Abort, bytes: &[u8; 8], left: u64, unused: bool, wrong: bool) {
     let head = AttrHead::read(bytes);
-    let found = (bytes, head.is_unused(), head.has_bad_len(left));
-    equal(rt, &found, &(bytes, unused, wrong));
+    let found = head.is_unused() == unused && head.has_bad_len(left) == wrong;
+    assert!(rt; found, "{bytes:?}");
 }
 
 #[test]
@@ -217,12 +215,11 @@ fn a_map_has_a_head(rt: HostRuntime) {
 
 /// The head of a map with these bytes of MAP changed is valid where so many bytes are left.
 fn maps(rt: &impl Abort, at: usize, bytes: &[u8], left: u64, valid: bool) {
+    assert!(rt; at <= 54 && bytes.len() <= 56 - at);
     let mut map = MAP;
-    for (place, byte) in map.iter_mut().skip(at).zip(bytes) {
-        *place = *byte;
-    }
+    map[at..at + bytes.len()].copy_from_slice(bytes);
     let head = FmapHead::read(&map).expect(rt, "a signature");
-    equal(rt, &(at, bytes, head.is_valid(left)), &(at, bytes, valid));
+    assert!(rt; head.is_valid(left) == valid, "{bytes:?} at {at}");
 }
 
 /// The major version stands at 8, the name at 22 and the number of areas at 54.
@@ -412,8 +409,8 @@ fn types_have_numbers(rt: HostRuntime) {
 
 /// A number is read as the type of that number, and what is neither a number nor a name isn't read.
 fn numbered(rt: &impl Abort, text: &str, number: Option<u32>) {
-    let read = (text, type_number(text), read_number(text));
-    equal(rt, &read, &(text, number, number));
+    let read = type_number(text) == number && read_number(text) == number;
+    assert!(rt; read, "{text}");
 }
 
 #[test]
@@ -442,6 +439,6 @@ fn types_have_names(rt: HostRuntime) {
 }
 
 fn named(rt: &impl Abort, kind: u32, name: &str) {
-    let read = (type_name(kind), type_number(name));
-    equal(rt, &read, &(Some(name), Some(kind)));
+    let read = type_name(kind) == Some(name) && type_number(name) == Some(kind);
+    assert!(rt; read, "{name}");
 }
