@@ -4,7 +4,6 @@ use flash_store::WriteSink;
 use fmap_compiler::{ReadText, Refusal, run};
 use fmd_lang::{Expected, FmdFault};
 use std::alloc::{AllocError, Global};
-use std::fmt::Debug;
 use std::io::{self, ErrorKind, Read, Write};
 use std::process::Abort;
 
@@ -113,12 +112,12 @@ impl Write for Short {
 }
 
 /// Two values are equal. A call of this is proved sooner than an assertion in place.
-fn equal<T: PartialEq + Debug>(rt: &impl Abort, left: &T, right: &T) {
-    assert_eq!(rt; *left, *right);
+fn equal<T: PartialEq>(rt: &impl Abort, left: &T, right: &T) {
+    assert!(rt; *left == *right);
 }
 
 fn same_bytes(rt: &impl Abort, left: &[u8], right: &[u8]) {
-    assert_eq!(rt; left, right);
+    assert!(rt; left == right);
 }
 
 /// A run over this reader answers so, and writes these bytes.
@@ -234,7 +233,7 @@ fn no_more_is_read_than_tells_that_a_text_is_too_long(rt: HostRuntime) {
 
 fn told(rt: &(impl Abort + AllocGlobal), refusal: Refusal, text: &str) {
     let told = format!(in rt.alloc(); "{refusal}").expect(rt, "memory");
-    assert_eq!(rt; told.as_str(), text);
+    assert!(rt; told.as_str() == text, "{text}");
 }
 
 #[test]
