@@ -86,13 +86,17 @@ fn words_at_the_limits(rt: HostRuntime) {
 }
 
 /// A text, and after it a piece of text so many times.
-fn repeated(alloc: Global, text: &str, piece: &str, times: u32) -> Result<Vec<u8>, AllocError> {
-    let mut bytes = Vec::new(alloc);
-    bytes.extend_from_slice(text.as_bytes())?;
+fn repeated(rt: &(impl Abort + AllocGlobal), text: &str, piece: &str, times: u32) -> Vec<u8> {
+    let mut bytes = Vec::new(rt.alloc());
+    bytes
+        .extend_from_slice(text.as_bytes())
+        .expect(rt, "memory");
     for _ in 0..times {
-        bytes.extend_from_slice(piece.as_bytes())?;
+        bytes
+            .extend_from_slice(piece.as_bytes())
+            .expect(rt, "memory");
     }
-    Ok(bytes)
+    bytes
 }
 
 /// Such a text is refused so, or read where there is no fault.
@@ -103,7 +107,7 @@ fn at_the_limit(
     times: u32,
     fault: Option<FmdFault>,
 ) {
-    let bytes = repeated(rt.alloc(), text, piece, times).expect(rt, "memory");
+    let bytes = repeated(rt, text, piece, times);
     let found = parse(rt.alloc(), &bytes).err();
     assert!(rt; found == fault, "{text:?}, {times} times {piece:?}");
 }
