@@ -1,6 +1,14 @@
-//! Tests of reports, over the crate's public functions: a crate of their own, so that a report is not proved again with
-//! them.
+//! Tests of reports, of their rows and of what stands in each row, over public functions: a crate of their own, so that the code
+//! is not proved again with them.
 #![tactic(auto)]
 
 #[cfg(test)]
-mod tests;
+mod changes;
+#[cfg(test)]
+mod findings;
+#[cfg(test)]
+mod reports;
+#[cfg(test)]
+mod rows;
+#[cfg(test)]
+mod support;

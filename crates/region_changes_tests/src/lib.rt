@@ -1,6 +1,12 @@
-//! Tests of what becomes of the regions of an image, over the crate's public functions: a crate of their own, so that the
-//! comparison is not proved again with them.
+//! Tests of what changes between the areas, the regions and the components of two images, over public functions: a crate of
+//! their own, so that the comparisons are not proved again with them.
 #![tactic(auto)]
 
 #[cfg(test)]
-mod tests;
+mod areas;
+#[cfg(test)]
+mod components;
+#[cfg(test)]
+mod regions;
+#[cfg(test)]
+mod support;

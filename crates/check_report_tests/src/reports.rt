@@ -1,7 +1,9 @@
 //! Small images, whose reports are written out.
+use crate::support::same_bytes;
 use check_report::{Answer, ReportFault, Request, report_change, report_image};
 use check_rows::Form;
 use flash_store::{FailAt, MemFlash, Paged};
+use std::alloc::{AllocError, Global};
 use std::process::Abort;
 
 /// A map of 1024 bytes with two areas: its own, of 256 bytes, and `A`, of 256 bytes from 256 on.
@@ -17,45 +19,61 @@ const ONE: [u8; 50] =
 const OTHER: [u8; 50] =
     *b"LARCHIVE\0\0\0\x0a\0\0\0\x50\0\0\0\0\0\0\0\x28b\0\0\0\0\0\0\0\0\0\0\0\0\0\0\x000123456789";
 
-/// Puts a part to a place of an image.
-fn put(bytes: &mut [u8], at: usize, part: &[u8]) {
-    for (to, from) in bytes.iter_mut().skip(at).zip(part.iter()) {
-        *to = *from;
-    }
+fn bytes_with(alloc: Global, component: &[u8]) -> Result<Vec<u8>, AllocError> {
+    let mut bytes = Vec::from_slice(alloc, &MAP)?;
+    bytes.resize(256, 0xff)?;
+    bytes.extend_from_slice(component)?;
+    bytes.resize(1024, 0xff)?;
+    Ok(bytes)
 }
 
-/// An image with the map, and with a component at the start of `A`.
+/// A device with the map, and with a component at the start of `A`.
 fn image(rt: &(impl Abort + AllocGlobal), component: &[u8]) -> MemFlash {
-    let mut bytes = Vec::from_elem(rt.alloc(), 0xffu8, 1024).expect(rt, "memory");
-    put(&mut bytes, 0, &MAP);
-    put(&mut bytes, 256, component);
+    let bytes = bytes_with(rt.alloc(), component).expect(rt, "memory");
     MemFlash::new(bytes).expect(rt, "a device")
 }
 
-fn request<'a>(kept: &'a [&'a [u8]], form: Form) -> Request<'a> {
+/// A device that refuses each call.
+fn refusing(rt: &(impl Abort + AllocGlobal)) -> Paged<FailAt<MemFlash>> {
+    Paged::new(FailAt::new(image(rt, &ONE), 0, 0))
+}
+
+fn request<'a>(kept: &'a [&'a [u8]], is_verbose: bool, form: Form) -> Request<'a> {
     Request {
         areas: &[],
         kept,
-        is_verbose: false,
+        is_verbose,
         form,
     }
 }
 
 /// The report has this text, and is bad or not.
-fn tells(rt: &impl Abort, answer: Result<Answer, ReportFault>, is_bad: bool, text: &str) {
-    let answer = answer.expect(rt, "a report");
-    assert_eq!(rt; answer.text(), text.as_bytes());
-    assert_eq!(rt; answer.is_bad(), is_bad);
+fn reads(rt: &impl Abort, answer: &Answer, is_bad: bool, text: &str) {
+    same_bytes(rt, answer.text(), text.as_bytes());
+    assert!(rt; answer.is_bad() == is_bad);
+}
+
+/// The report on an image with this component has this text, and isn't bad.
+fn tells(
+    rt: &(impl Abort + AllocGlobal),
+    component: &[u8],
+    is_verbose: bool,
+    form: Form,
+    text: &str,
+) {
+    let mut paged = Paged::new(image(rt, component));
+    let request = request(&[], is_verbose, form);
+    let answer = report_image(rt.alloc(), &mut paged, request).expect(rt, "a report");
+    reads(rt, &answer, false, text);
 }
 
 #[test]
 fn the_report_on_an_image(rt: HostRuntime) {
-    let mut paged = Paged::new(image(&rt, &ONE));
-    let answer = report_image(rt.alloc(), &mut paged, request(&[], Form::Text));
     tells(
         &rt,
-        answer,
+        &ONE,
         false,
+        Form::Text,
         "remark\t-\t-\t0x0\tflashmap\n\
          remark\tA\t-\t0x40\tunused tail\n\
          remark\tA\t-\t-\tcomponents\t1\n\
@@ -67,14 +85,11 @@ fn the_report_on_an_image(rt: HostRuntime) {
 
 #[test]
 fn a_verbose_report(rt: HostRuntime) {
-    let mut paged = Paged::new(image(&rt, &ONE));
-    let mut request = request(&[], Form::Text);
-    request.is_verbose = true;
-    let answer = report_image(rt.alloc(), &mut paged, request);
     tells(
         &rt,
-        answer,
-        false,
+        &ONE,
+        true,
+        Form::Text,
         "remark\t-\t-\t0x0\tflashmap\n\
          remark\tA\ta\t0x0\tno hash\n\
          remark\tA\t-\t0x40\tunused tail\n\
@@ -86,18 +101,26 @@ fn a_verbose_report(rt: HostRuntime) {
 }
 
 #[test]
+fn a_report_as_a_document(rt: HostRuntime) {
+    tells(
+        &rt,
+        b"",
+        false,
+        Form::Json,
+        "{\"rows\":[{\"verdict\":\"remark\",\"position\":0,\"what\":\"flashmap\"}],\"bad\":0,\"remarks\":1,\"changes\":0}\n",
+    );
+}
+
+#[test]
 fn the_report_on_what_changes(rt: HostRuntime) {
     let mut old = Paged::new(image(&rt, &ONE));
     let mut new = Paged::new(image(&rt, &OTHER));
-    let answer = report_change(
-        rt.alloc(),
-        &mut old,
-        &mut new,
-        request(&[b"A", b"NONE"], Form::Text),
-    );
-    tells(
+    let kept: &[&[u8]] = &[b"A", b"NONE"];
+    let request = request(kept, false, Form::Text);
+    let answer = report_change(rt.alloc(), &mut old, &mut new, request).expect(&rt, "a report");
+    reads(
         &rt,
-        answer,
+        &answer,
         true,
         "remark\t-\t-\t0x0\tflashmap\n\
          remark\tA\t-\t0x40\tunused tail\n\
@@ -113,30 +136,18 @@ fn the_report_on_what_changes(rt: HostRuntime) {
     );
 }
 
-#[test]
-fn a_report_as_a_document(rt: HostRuntime) {
-    let mut paged = Paged::new(image(&rt, b""));
-    let answer = report_image(rt.alloc(), &mut paged, request(&[], Form::Json));
-    tells(
-        &rt,
-        answer,
-        false,
-        "{\"rows\":[{\"verdict\":\"remark\",\"position\":0,\"what\":\"flashmap\"}],\"bad\":0,\"remarks\":1,\"changes\":0}\n",
-    );
-}
-
-/// Whether the report is refused for this reason.
+/// There is no report, for this reason.
 fn refuses(rt: &impl Abort, answer: Result<Answer, ReportFault>, fault: ReportFault) {
     assert!(rt; matches!(answer, Err(told) if told == fault));
 }
 
 #[test]
 fn devices_that_refuse_a_read(rt: HostRuntime) {
-    let mut paged = Paged::new(FailAt::new(image(&rt, &ONE), 0, 0));
-    let answer = report_image(rt.alloc(), &mut paged, request(&[], Form::Text));
-    refuses(&rt, answer, ReportFault::NewDevice);
-    let mut old = Paged::new(FailAt::new(image(&rt, &ONE), 0, 0));
+    let request = request(&[], false, Form::Text);
+    let mut old = refusing(&rt);
     let mut new = Paged::new(image(&rt, &ONE));
-    let answer = report_change(rt.alloc(), &mut old, &mut new, request(&[], Form::Text));
+    let answer = report_image(rt.alloc(), &mut old, request);
+    refuses(&rt, answer, ReportFault::NewDevice);
+    let answer = report_change(rt.alloc(), &mut old, &mut new, request);
     refuses(&rt, answer, ReportFault::OldDevice);
 }

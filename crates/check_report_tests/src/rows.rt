@@ -1,4 +1,5 @@
 //! Reports whose texts are written by hand.
+use crate::support::ends;
 use check_rows::{Detail, Form, Report, Row, Verdict};
 use std::process::Abort;
 
@@ -12,22 +13,24 @@ const BARE: Row<'static> = Row {
     detail: Detail::None,
 };
 
-fn report_of(rt: &(impl Abort + AllocGlobal), form: Form, rows: &[Row]) -> Vec<u8> {
+/// The report of these rows is this.
+fn reads(rt: &(impl Abort + AllocGlobal), form: Form, rows: &[Row], expected: &[u8]) {
     let mut report = Report::new(rt.alloc(), form);
     for row in rows {
         report.tell(row).expect(rt, "memory");
     }
-    report.finish().expect(rt, "memory")
+    ends(rt, report, expected);
 }
 
-fn expect(rt: &(impl Abort + AllocGlobal), rows: &[Row], text: &[u8], document: &[u8]) {
-    assert!(rt; report_of(rt, Form::Text, rows).as_slice() == text);
-    assert!(rt; report_of(rt, Form::Json, rows).as_slice() == document);
+/// Of these rows this is the text, and that the document.
+fn tells(rt: &(impl Abort + AllocGlobal), rows: &[Row], text: &[u8], document: &[u8]) {
+    reads(rt, Form::Text, rows, text);
+    reads(rt, Form::Json, rows, document);
 }
 
 #[test]
 fn a_report_without_rows(rt: HostRuntime) {
-    expect(
+    tells(
         &rt,
         &[],
         b"0 bad, 0 remarks, 0 changes\n",
@@ -45,7 +48,7 @@ fn a_row_with_every_field(rt: HostRuntime) {
         what: "digest is another",
         detail: Detail::Number(255),
     };
-    expect(
+    tells(
         &rt,
         &[row],
         b"bad\tCOREBOOT\tfallback/payload\t0x1000\tdigest is another\t0xff\n1 bad, 0 remarks, 0 changes\n",
@@ -60,7 +63,7 @@ fn rows_with_fewer_fields(rt: HostRuntime) {
         detail: Detail::Count(12),
         ..BARE
     };
-    expect(
+    tells(
         &rt,
         &[BARE, change, change],
         b"remark\t-\t-\t-\tno map\nchange\t-\t-\t-\tno map\t12\nchange\t-\t-\t-\tno map\t12\n0 bad, 1 remarks, 2 changes\n",
@@ -80,7 +83,7 @@ fn names_of_any_bytes(rt: HostRuntime) {
         component: Some(b""),
         ..BARE
     };
-    expect(
+    tells(
         &rt,
         &[row, other],
         b"remark\ta\\x09\"\\x5c\\x01\\x7f\\x0a\t\\xc3\\xa9\t-\tno map\nremark\t\\xff1\t\t-\tno map\n0 bad, 2 remarks, 0 changes\n",

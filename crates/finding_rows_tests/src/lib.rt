@@ -1,6 +1,0 @@
-//! Tests of the rows of findings, over the public functions: a crate of their own, so that the rows are not proved again
-//! with them.
-#![tactic(auto)]
-
-#[cfg(test)]
-mod tests;

@@ -1,0 +1,115 @@
+//! Images made of parts, and what several of the tests compare.
+use flash_store::{FailAt, MemFlash, Paged};
+use flashmap_check::{MapFinding, NumberedArea};
+use std::alloc::{AllocError, Global};
+use std::fmt::Debug;
+use std::process::Abort;
+
+/// The head of a map of 1024 bytes, up to the number of its areas.
+const HEAD: [u8; 54] =
+    *b"__FMAP__\x01\x01\0\0\0\0\0\0\0\0\0\x04\0\0FLASH\0\0\0\0\0\0\0\0\0\0\0\0\0\0\0\0\0\0\0\0\0\0\0\0\0\0\0";
+
+/// The area of the map itself.
+pub const FMAP: [u8; 42] =
+    *b"\0\0\0\0\0\x01\0\0FMAP\0\0\0\0\0\0\0\0\0\0\0\0\0\0\0\0\0\0\0\0\0\0\0\0\0\0\0\0\0\0";
+
+/// What stands where, in order: each part also cuts off what earlier ones have behind its place. All else is 0xff.
+pub type Parts<'a> = &'a [(usize, &'a [u8])];
+
+fn push_at(bytes: &mut Vec<u8>, at: usize, part: &[u8]) -> Result<(), AllocError> {
+    bytes.resize(at, 0xff)?;
+    bytes.extend_from_slice(part)
+}
+
+/// So many bytes, which begin with these and have these parts.
+fn completed(bytes: Vec<u8>, len: usize, parts: Parts) -> Result<Vec<u8>, AllocError> {
+    let mut bytes = bytes;
+    for (at, part) in parts {
+        push_at(&mut bytes, *at, part)?;
+    }
+    bytes.resize(len, 0xff)?;
+    Ok(bytes)
+}
+
+/// So many bytes with these parts.
+pub fn bytes_of(rt: &(impl Abort + AllocGlobal), len: usize, parts: Parts) -> Vec<u8> {
+    completed(Vec::new(rt.alloc()), len, parts).expect(rt, "memory")
+}
+
+/// The bytes of a map of these areas, whose number has these bytes.
+pub fn map_with(alloc: Global, count: &[u8; 2], areas: &[[u8; 42]]) -> Result<Vec<u8>, AllocError> {
+    let mut bytes = Vec::from_slice(alloc, &HEAD)?;
+    bytes.extend_from_slice(count)?;
+    for area in areas {
+        bytes.extend_from_slice(area)?;
+    }
+    Ok(bytes)
+}
+
+/// The bytes of a map of these areas.
+pub fn map_of(rt: &(impl Abort + AllocGlobal), areas: &[[u8; 42]]) -> Vec<u8> {
+    let count = (areas.len() % 256) as u8;
+    map_with(rt.alloc(), &[count, 0], areas).expect(rt, "memory")
+}
+
+/// So many bytes, with a map of these areas at the start, and these parts.
+pub fn image(
+    rt: &(impl Abort + AllocGlobal),
+    len: usize,
+    areas: &[[u8; 42]],
+    parts: Parts,
+) -> Vec<u8> {
+    completed(map_of(rt, areas), len, parts).expect(rt, "memory")
+}
+
+pub fn device(rt: &impl Abort, bytes: Vec<u8>) -> Paged<MemFlash> {
+    Paged::new(MemFlash::new(bytes).expect(rt, "a device"))
+}
+
+/// A device of these bytes whose first calls pass, and all later ones are refused.
+pub fn failing(rt: &impl Abort, bytes: Vec<u8>, calls: u64) -> Paged<FailAt<MemFlash>> {
+    let device = MemFlash::new(bytes).expect(rt, "a device");
+    Paged::new(FailAt::new(device, calls, 0))
+}
+
+/// Where the area of this number begins.
+pub fn offset_of(areas: &[NumberedArea], number: u16) -> Option<u32> {
+    for it in areas {
+        if it.number == number {
+            return Some(it.area.offset);
+        }
+    }
+    None
+}
+
+/// Two values are equal. A call of this is proved sooner than an assertion in place.
+pub fn equal<T: PartialEq + Debug>(rt: &impl Abort, left: &T, right: &T) {
+    assert_eq!(rt; *left, *right);
+}
+
+pub fn same_text(rt: &impl Abort, left: &str, right: &str) {
+    assert_eq!(rt; left, right);
+}
+
+/// What a finding of a map is, the number of its area, and the other number that it has, or 0.
+fn words(finding: &MapFinding) -> (&'static str, u16, u64) {
+    match finding {
+        MapFinding::NoMap => ("no map", 0, 0),
+        MapFinding::Map(map) => ("map", 0, map.at),
+        MapFinding::OtherMap(map) => ("other map", 0, map.at),
+        MapFinding::OtherSize => ("other size", 0, 0),
+        MapFinding::AreaOutside(it) => ("outside", it.number, 0),
+        MapFinding::AreaEmpty(it) => ("empty", it.number, 0),
+        MapFinding::SameName { area, first } => ("name", area.number, u64::from(*first)),
+        MapFinding::Overlap { area, other } => ("overlap", area.number, u64::from(*other)),
+        MapFinding::TooManyAreas => ("too many", 0, 0),
+        MapFinding::NoMapArea => ("no map area", 0, 0),
+        MapFinding::MapAreaMisses(it) => ("misses", it.number, 0),
+    }
+}
+
+/// A finding of a map as text.
+pub fn map_text(alloc: Global, finding: &MapFinding) -> Result<String, AllocError> {
+    let (word, number, other) = words(finding);
+    format!(in alloc; "{} {} {}, ", word, number, other)
+}
