@@ -1,5 +1,5 @@
 //! Small images, of which each finding is counted by hand.
-use crate::support::{FMAP, Parts, bytes_of, device, equal, image, map_text, offset_of, same_text};
+use crate::support::{FMAP, Parts, bytes_of, device, equal, image, map_text, same_text};
 use cbfs_check::RegionFinding;
 use image_check::{ImageFinding, check_image, checked_image, has_bad};
 use std::alloc::{AllocError, Global};
@@ -278,5 +278,4 @@ fn an_image_with_its_areas(rt: HostRuntime) {
         false,
     );
     equal(&rt, &checked.areas.len(), &3);
-    equal(&rt, &offset_of(&checked.areas, 1), &Some(256));
 }

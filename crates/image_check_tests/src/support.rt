@@ -1,6 +1,6 @@
 //! Images made of parts, and what several of the tests compare.
 use flash_store::{FailAt, MemFlash, Paged};
-use flashmap_check::{MapFinding, NumberedArea};
+use flashmap_check::MapFinding;
 use std::alloc::{AllocError, Global};
 use std::fmt::Debug;
 use std::process::Abort;
@@ -70,16 +70,6 @@ pub fn device(rt: &impl Abort, bytes: Vec<u8>) -> Paged<MemFlash> {
 pub fn failing(rt: &impl Abort, bytes: Vec<u8>, calls: u64) -> Paged<FailAt<MemFlash>> {
     let device = MemFlash::new(bytes).expect(rt, "a device");
     Paged::new(FailAt::new(device, calls, 0))
-}
-
-/// Where the area of this number begins.
-pub fn offset_of(areas: &[NumberedArea], number: u16) -> Option<u32> {
-    for it in areas {
-        if it.number == number {
-            return Some(it.area.offset);
-        }
-    }
-    None
 }
 
 /// Two values are equal. A call of this is proved sooner than an assertion in place.

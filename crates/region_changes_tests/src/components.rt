@@ -51,7 +51,13 @@ fn changes_of<F: Flash, G: Flash>(
 }
 
 /// From a region of these parts to one of those, this changes.
-fn tells(rt: &(impl Abort + AllocGlobal), size: usize, old: Parts, new: Parts, expected: &str) {
+fn tells<'a>(
+    rt: &(impl Abort + AllocGlobal),
+    size: usize,
+    old: Parts<'a>,
+    new: Parts<'a>,
+    expected: &str,
+) {
     let mut old = device(rt, bytes_of(rt, size, old));
     let mut new = device(rt, bytes_of(rt, size, new));
     let changes = changes_of(rt, &mut old, &mut new).expect(rt, "changes");

@@ -3,7 +3,8 @@ use crate::support::{
     A_10 as ONE, B_10 as OTHER, FMAP, Parts, device, equal, failing, image, same_text,
 };
 use cbfs_changes::{ChangeFault, ComponentChange};
-use flashmap_check::checked_map;
+use flash_store::{Flash, Paged};
+use flashmap_check::{NumberedArea, checked_map};
 use image_check::checked_image;
 use region_changes::{RegionChange, region_changes};
 use std::alloc::{AllocError, Global};
@@ -70,27 +71,37 @@ fn text_of(alloc: Global, changes: &[RegionChange]) -> Result<String, AllocError
     Ok(text)
 }
 
+/// The areas of an image.
+fn areas_of(rt: &(impl Abort + AllocGlobal), image: Vec<u8>) -> Vec<NumberedArea> {
+    let mut paged = device(rt, image);
+    let map = checked_map(rt.alloc(), &mut paged).expect(rt, "a map");
+    map.areas
+}
+
+/// What becomes of the regions of an image with these areas.
+fn changes_of<F: Flash, G: Flash>(
+    rt: &(impl Abort + AllocGlobal),
+    old: &mut Paged<F>,
+    areas: &[NumberedArea],
+    new: &mut Paged<G>,
+) -> Result<Vec<RegionChange>, ChangeFault> {
+    let checked = checked_image(rt.alloc(), new, &[], false).expect(rt, "findings");
+    region_changes(rt.alloc(), old, areas, new, &checked.findings)
+}
+
 /// This becomes of the regions of 1024 bytes with these areas and parts where those are flashed over them.
-fn tells(
+fn tells<'a>(
     rt: &(impl Abort + AllocGlobal),
     old_areas: &[[u8; 42]],
-    old: Parts,
+    old: Parts<'a>,
     new_areas: &[[u8; 42]],
-    new: Parts,
+    new: Parts<'a>,
     expected: &str,
 ) {
+    let areas = areas_of(rt, image(rt, 1024, old_areas, old));
     let mut old = device(rt, image(rt, 1024, old_areas, old));
     let mut new = device(rt, image(rt, 1024, new_areas, new));
-    let map = checked_map(rt.alloc(), &mut old).expect(rt, "a map");
-    let checked = checked_image(rt.alloc(), &mut new, &[], false).expect(rt, "findings");
-    let changes = region_changes(
-        rt.alloc(),
-        &mut old,
-        &map.areas,
-        &mut new,
-        &checked.findings,
-    )
-    .expect(rt, "changes");
+    let changes = changes_of(rt, &mut old, &areas, &mut new).expect(rt, "changes");
     let text = text_of(rt.alloc(), &changes).expect(rt, "memory");
     same_text(rt, &text, expected);
 }
@@ -176,19 +187,11 @@ fn an_old_area_that_ends_outside(rt: HostRuntime) {
 fn fault_is(rt: &(impl Abort + AllocGlobal), old: u64, new: u64, expected: Option<ChangeFault>) {
     let parts: Parts = &[(256, &ONE), (5120, &ONE)];
     let areas = [FMAP, A, FAR];
-    let mut first = device(rt, image(rt, 8192, &areas, parts));
-    let map = checked_map(rt.alloc(), &mut first).expect(rt, "a map");
+    let places = areas_of(rt, image(rt, 8192, &areas, parts));
     let mut old = failing(rt, image(rt, 8192, &areas, parts), old);
     let mut new = failing(rt, image(rt, 8192, &areas, parts), new);
-    let checked = checked_image(rt.alloc(), &mut new, &[], false).expect(rt, "findings");
-    let changes = region_changes(
-        rt.alloc(),
-        &mut old,
-        &map.areas,
-        &mut new,
-        &checked.findings,
-    );
-    equal(rt, &changes.err(), &expected);
+    let fault = changes_of(rt, &mut old, &places, &mut new).err();
+    equal(rt, &fault, &expected);
 }
 
 #[test]
