@@ -84,8 +84,8 @@ fn tells_if(
     are(rt, &findings, expected, is_bad);
 }
 
-/// This is what is told of 1024 bytes with a map of these areas, with a formatted region of 256 bytes behind it and these
-/// parts over that, and whether some of it is bad.
+/// This is what is told of 1024 bytes with a map of these areas, with a formatted region of 256 bytes behind it and this
+/// part over that, and whether some of it is bad.
 fn tells(
     rt: &(impl Abort + AllocGlobal),
     areas: &[[u8; 42]],
