@@ -1,0 +1,19 @@
+use Rattle.std.proofs.Common.{refl, ◌∙◌, arith}
+use Rattle.cbfs_line.specs.Table.{with_row, with_rows}
+use Rattle.cbfs_line.proofs.Tables.{one_more, ended}
+use Rattle.cbfs_line.proofs.words.with_rows.Goals as goal
+
+pub loop-rows-init : goal.loop-rows-init
+loop-rows-init c = record { local = c.requires; shape = refl }
+
+pub loop-rows-preserved : goal.loop-rows-preserved
+loop-rows-preserved c = record {
+  local = c.in_ok-command.ensures.local;
+  shape = one_more with_row with_rows (λ a row rows. refl) c.loop-rows.rows.now _ _ _ (omega arith) c.in_ok-command.ensures.shape ∙ c.loop-rows.invariant.shape;
+}
+
+pub returns : goal.returns
+returns c = record {
+  local = c.loop-rows.invariant.local;
+  shape = ended with_rows (λ a. refl) c.loop-rows.rows.now _ _ (omega arith) c.loop-rows.invariant.shape;
+}
