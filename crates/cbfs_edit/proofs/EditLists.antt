@@ -1,10 +1,10 @@
 -- Edits' steps, and lists of them.
-use Rattle.std.proofs.Common.{◌≡◌, ◌≢◌, ◌⊎◌, ⊎_elim, List, ℕ, Result, Ok, Err, ap, refl, sym, ◌+◌, ◌<◌, [], ◌∷◌, ◌++◌, length, take, drop, set, get_or, IsTrue, subst, ◌∙◌, arith, rules}
+use Rattle.std.proofs.Common.{◌≡◌, ◌≢◌, ◌⊎◌, ⊎_elim, List, ℕ, Result, Ok, Err, ap, refl, sym, ◌+◌, ◌<◌, ◌≤◌, [], ◌∷◌, ◌++◌, length, take, drop, set, get_or, IsTrue, subst, ◌∙◌, arith, rules}
 use Rattle.std.specs.Borrow.{Bor}
 use Rattle.std.specs.Prelude.{IsErrOf, IfErr, IfOk, OnOk, sum_by}
 use Rattle.flash_store.specs.Regions.{Range, bytes_in}
 use Rattle.cbfs_edit.specs.Additions.{new_component, addition_in, added_to, placed_of}
-use Rattle.cbfs_edit.specs.Refusals.{by_fault, by_device}
+use Rattle.cbfs_edit.specs.Refusals.{by_fault, by_device, by_source}
 use Rattle.cbfs_edit.specs.Removals.{removed, removal_in}
 use Rattle.cbfs_edit.specs.Steps.{IsReply, Run, Step, edit_calls, faults_of}
 use Rattle.cbfs_edit.specs.Stops.{LeavesWhole, AddLeavesWhole, AddLeavesBefore}
@@ -16,7 +16,7 @@ use Rattle.cbfs_edit.specs.declared.group.CellRange.{CellRange}
 use Rattle.cbfs_edit.specs.declared.place.Place.{Place}
 use Rattle.cbfs_edit.specs.declared.place.Spot.{Spot}
 use Rattle.cbfs_edit.proofs.Added.{same_fault, told_as}
-use Rattle.std.proofs.lemmas.List.{take_more, take_more_set, drop-set-lt, drop-drop, get_or-drop}
+use Rattle.std.proofs.lemmas.List.{take_all, take_more, take_more_set, drop-set-lt, drop-drop, get_or-drop}
 use Rattle.std.proofs.Math.ListN.{length-set}
 use Rattle.std.proofs.lemmas.List.Sums.{sum_by_more, sum_by-append}
 use Rattle.flash_store.specs.Device.{Device}
@@ -55,6 +55,11 @@ removal_step facts name r honest old now (Err fault) no_source answer changed re
     (λ e. stopped h (told_as fault faults.Device e))
     (λ e. no_source (told_as fault faults.Source e))
     (λ other _. (⊎_elim (λ failed. absurd (other (same_fault fault faults.Device failed))) (λ is. sym is) (answer h), ap (λ (l : List ℕ). bytes_in r l) (refused h other)))
+
+-- what is no fault of the source tells none of its calls
+pub sourceless : (fault : EditFault) → (let a : Result CellRange EditFault = Err fault in IsErrOf a faults.Source → ⊥) → by_source fault ≡ 0
+sourceless faults.Source no_source = absurd (no_source (told_as faults.Source faults.Source refl))
+sourceless fault no_source = refl
 
 -- an addition is refused as its place is
 placed-refused : (place : Result Place EditFault) (fault : EditFault) → Err fault ≡ placed_of place → place ≡ Err fault
@@ -142,3 +147,25 @@ module _ {F S : Type 0} (device : F → Device) (facts : S → Device) where
             run_more facts region olds edits replies i e f reply (device old.device) (device now.device) (device new.device) in_olds in_edits in_replies so_far.run
             (subst (λ (k : Edit S). Step facts region k f (device now.device) reply (device new.device)) was step);
       }
+
+  -- none has gone by
+  pub applied_none : (region : Range) (olds : List (Edit S)) (replies : List Reply) (old : Pages F) → length olds ≡ length replies → Applied region olds olds replies 0 old old
+  applied_none region olds replies old same = record {
+    after = record {
+      calls = record { no_fewer = omega arith; no_more = omega arith; faults = omega arith; same_honesty = refl; same_length = refl };
+      outside = λ h. record { before = refl; after = refl };
+    };
+    as_many = refl;
+    replied = sym same;
+    others = refl;
+    run = refl;
+  }
+
+  -- all have gone by
+  pub applied_all : (region : Range) (olds edits : List (Edit S)) (replies : List Reply) (i : ℕ) (old now : Pages F) → Applied region olds edits replies i old now → length olds ≤ i
+      → HasChanged device region (sum_by (edit_calls region.size) olds) (sum_by (faults_of by_device) replies) old now × Run facts region olds edits replies (device old.device) (device now.device)
+  applied_all region olds edits replies i old now all ended =
+      let first : take i olds ≡ olds = take_all i olds ended in
+      let second : take i edits ≡ edits = take_all i edits (omega (arith, ended, all.as_many)) in
+      let third : take i replies ≡ replies = take_all i replies (omega (arith, ended, all.replied)) in
+      (rw (first, third) at all.after, rw (first, second, third) at all.run)
