@@ -44,7 +44,7 @@ pub struct Placed {
 }
 
 /// What is stored of a component beside its content.
-#[derive(Clone, Copy, Debug)]
+#[derive(Clone, Copy)]
 pub struct Label<'a> {
     pub name: &'a [u8],
     /// The type.

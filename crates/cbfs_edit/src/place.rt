@@ -31,7 +31,7 @@ pub enum Spot {
 }
 
 /// What a place is looked for.
-#[derive(Clone, Copy, Debug, PartialEq, Eq)]
+#[derive(Clone, Copy)]
 pub struct Wanted {
     /// How many bytes of metadata stand before the content, besides a gap.
     pub metadata_len: u64,
@@ -42,7 +42,7 @@ pub struct Wanted {
 }
 
 /// Where a component is put, counted from the region's start.
-#[derive(Clone, Copy, Debug, PartialEq, Eq)]
+#[derive(Clone, Copy)]
 pub struct Place {
     /// The run of free cells that it is put into.
     pub run: CellRange,
