@@ -55,7 +55,7 @@ tells-stopped old new refusal text t (inr (inr failed)) =
     inr (inr (failed.0, (failed.1.0, omega (arith, length-append text t.written, failed.1.1), some)))
 
 -- an answer that hands a refusal on
-handed : (answer : Answer) (refusal : Refusal) → IsErrAnd answer (λ r. r ≡ refusal) → (let a : Answer = Err refusal in a) ≡ answer
+pub handed : (answer : Answer) (refusal : Refusal) → IsErrAnd answer (λ r. r ≡ refusal) → (let a : Answer = Err refusal in a) ≡ answer
 handed (Ok done) refusal is = absurd is
 handed (Err other) refusal is = ap (λ (r : Refusal). (let a : Answer = Err r in a)) (sym is)
 
