@@ -17,6 +17,7 @@ use crate::listing::{Listed, components};
 use cbfs_check::Name;
 use flash_store::{Flash, Paged, Region};
 use std::alloc::{AllocError, Global};
+use std::hash::RandomState;
 
 /// What is told so far.
 #[derive(Drop)]
@@ -202,6 +203,7 @@ fn listing_changes<'a, F: Flash, G: Flash>(
 /// What changes between two regions that have these components.
 fn list_changes<'a, F: Flash, G: Flash>(
     alloc: Global,
+    keys: RandomState,
     old: &mut Paged<F>,
     old_region: Region,
     old_list: &'a [Listed],
@@ -217,8 +219,8 @@ fn list_changes<'a, F: Flash, G: Flash>(
     ensures changes { OnHonestIn F.facts old.old.device old_region (λ x. OnHonestIn G.facts new.old.device new_region (λ y.
         IfOk result (λ changes. changes.items ≡ changes_between (states_in x old_list.now) (states_in y new_list.now)))) }
 {
-    let before = with_firsts(alloc, old_region, old_list)?;
-    let after = with_firsts(alloc, new_region, new_list)?;
+    let before = with_firsts(alloc, keys, old_region, old_list)?;
+    let after = with_firsts(alloc, keys, new_region, new_list)?;
     listing_changes(alloc, old, &before, new, &after)
 }
 
@@ -261,6 +263,7 @@ fn new_components<F: Flash>(
 /// What changes between two regions, cell by cell.
 fn cell_changes<F: Flash, G: Flash>(
     alloc: Global,
+    keys: RandomState,
     old: &mut Paged<F>,
     old_region: Region,
     new: &mut Paged<G>,
@@ -276,13 +279,14 @@ fn cell_changes<F: Flash, G: Flash>(
     let old_list = old_components(alloc, old, old_region)?;
     let new_list = new_components(alloc, new, new_region)?;
     list_changes(
-        alloc, old, old_region, &old_list, new, new_region, &new_list,
+        alloc, keys, old, old_region, &old_list, new, new_region, &new_list,
     )
 }
 
 /// What changes between two regions. Those of the same bytes are seen to be so before their cells are listed.
 fn region_changes<F: Flash, G: Flash>(
     alloc: Global,
+    keys: RandomState,
     old: &mut Paged<F>,
     old_region: Region,
     new: &mut Paged<G>,
@@ -298,14 +302,15 @@ fn region_changes<F: Flash, G: Flash>(
     if are_same(old, old_region, new, new_region)? {
         return Ok(Vec::new(alloc));
     }
-    cell_changes(alloc, old, old_region, new, new_region)
+    cell_changes(alloc, keys, old, old_region, new, new_region)
 }
 
 /// What changes between the components of a region of the old device and one of the new; `None` stands for a region
-/// without components. `OldDevice` and `NewDevice` come exactly where that device refused a read, and `Memory` where an
-/// allocation was refused; then nothing is told.
+/// without components. They are the same with any keys for the hasher of names. `OldDevice` and `NewDevice` come exactly where
+/// that device refused a read, and `Memory` where an allocation was refused; then nothing is told.
 pub fn component_changes<F: Flash, G: Flash>(
     alloc: Global,
+    keys: RandomState,
     old: &mut Paged<F>,
     old_region: Option<Region>,
     new: &mut Paged<G>,
@@ -326,5 +331,5 @@ pub fn component_changes<F: Flash, G: Flash>(
 {
     let old_region = old_region.unwrap_or_default();
     let new_region = new_region.unwrap_or_default();
-    region_changes(alloc, old, old_region, new, new_region)
+    region_changes(alloc, keys, old, old_region, new, new_region)
 }

@@ -10,11 +10,10 @@ use cbfs_walk::Cell;
 use flash_store::Region;
 use std::alloc::{AllocError, Global};
 use std::collections::HashMap;
-use std::hash::{BuildHasherDefault, DefaultHasher};
+use std::hash::RandomState;
 
-/// The cells of names. Whoever makes an image picks its names, so the hasher is one for which names that collide are dear
-/// to find.
-pub type Firsts<'a> = HashMap<&'a [u8], Cell, BuildHasherDefault<DefaultHasher>>;
+/// The cells of names. Whoever makes an image picks its names, so they are hashed with keys that nobody knows before.
+pub type Firsts<'a> = HashMap<&'a [u8], Cell, RandomState>;
 
 /// The components of a region, and of each name the cell of the first.
 #[derive(Drop)]
@@ -48,6 +47,7 @@ impl<'a> Listing<'a> {
 /// The same of these components.
 pub fn with_firsts<'a>(
     alloc: Global,
+    keys: RandomState,
     region: Region,
     all: &'a [Listed],
 ) -> Result<Listing<'a>, AllocError>
@@ -56,7 +56,7 @@ pub fn with_firsts<'a>(
     ensures region { IfOk result (λ l. l.region ≡ region) }
     ensures all { IfOk result (λ l. l.all.now ≡ all.now) }
 {
-    let mut first = HashMap::with_hasher(alloc, BuildHasherDefault::new());
+    let mut first = HashMap::with_hasher(alloc, keys);
     let mut left = all.len();
     // The last one of a name is noted first, so that the first one stays.
     while left > 0 {

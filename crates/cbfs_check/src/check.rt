@@ -16,6 +16,7 @@ use crate::report::Report;
 use cbfs_walk::{Cell, Step, Walk, WalkFault, cells_stand_in_their_image, check_hash, name};
 use flash_store::{Flash, Paged, Region};
 use std::alloc::{AllocError, Global};
+use std::hash::RandomState;
 
 /// Tells what there is to tell of a free cell.
 fn tell_free(cell: &Cell, report: &mut Report) -> Result<(), AllocError>
@@ -73,10 +74,12 @@ fn refused(
     }
 }
 
-/// What is told of a region, cell by cell; that a component has no digest in a verbose check alone. `Device` comes exactly
-/// where the device refused a read, and `Memory` where an allocation was refused; then nothing is told.
+/// What is told of a region, cell by cell; that a component has no digest in a verbose check alone. It is the same with any
+/// keys for the hasher of names. `Device` comes exactly where the device refused a read, and `Memory` where an allocation was
+/// refused; then nothing is told.
 pub fn check_region<F: Flash>(
     alloc: Global,
+    keys: RandomState,
     paged: &mut Paged<F>,
     region: Region,
     is_verbose: bool,
@@ -91,7 +94,7 @@ pub fn check_region<F: Flash>(
         IfOk result (λ findings. findings.items ≡ region_findings is_verbose x)) }
 {
     paged.places_fit();
-    let mut report = Report::new(alloc);
+    let mut report = Report::new(alloc, keys);
     let mut count = Count::new();
     let mut walk = Walk::new(region);
     loop {

@@ -4,11 +4,10 @@ ghost use Rattle.cbfs_check.specs.Names.{HasNames, is_among};
 
 use std::alloc::{AllocError, Global};
 use std::collections::HashSet;
-use std::hash::{BuildHasherDefault, DefaultHasher};
+use std::hash::RandomState;
 
-/// Names as a set. Whoever makes an image picks its names, so the hasher is one for which names that collide are dear to
-/// find.
-pub type Names = HashSet<Vec<u8>, BuildHasherDefault<DefaultHasher>>;
+/// Names as a set. Whoever makes an image picks its names, so they are hashed with keys that nobody knows before.
+pub type Names = HashSet<Vec<u8>, RandomState>;
 
 /// Adds a name, and answers whether it is new.
 pub fn add_name(alloc: Global, names: &mut Names, name: &[u8]) -> Result<bool, AllocError>

@@ -8,7 +8,7 @@ use cbfs_walk::HashState;
 use flash_format::type_name;
 use std::alloc::{AllocError, Global};
 use std::collections::HashSet;
-use std::hash::BuildHasherDefault;
+use std::hash::RandomState;
 
 /// What is told so far, and the names of the components so far.
 #[derive(Drop)]
@@ -23,14 +23,14 @@ impl Report {
     ghost use Rattle.cbfs_check.specs.Reports.{AddsFindings, TellsMore, told_component};
 
     /// Nothing is told yet.
-    pub fn new(alloc: Global) -> Report
+    pub fn new(alloc: Global, keys: RandomState) -> Report
         ensures findings { result.findings.items ≡ [] }
         ensures names { result.names.keys ≡ [] }
     {
         Report {
             alloc,
             findings: Vec::new(alloc),
-            names: HashSet::with_hasher(alloc, BuildHasherDefault::new()),
+            names: HashSet::with_hasher(alloc, keys),
         }
     }
 

@@ -6,6 +6,7 @@ pub use check_report::{Answer, ReportFault, Request, report_change, report_image
 use check_rows::Form;
 use flash_store::{FileFlash, OpenFault, Paged};
 use std::env;
+use std::hash::RandomState;
 use std::io::{self, ErrorKind, Write};
 use std::process::ExitCode;
 use thiserror::Error;
@@ -34,6 +35,8 @@ enum Refusal<'a> {
     Memory,
     #[error("output fault")]
     Output,
+    #[error("no random numbers")]
+    Random,
     #[error("{path}: {fault}")]
     Image { path: &'a str, fault: ImageFault },
 }
@@ -102,17 +105,23 @@ fn answered<'a>(
     report.map_err(|fault| Refusal::of_report(old, new, fault))
 }
 
+/// Keys for the hasher of names.
+fn random_keys<'a>(rt: &HostRuntime) -> Result<RandomState, Refusal<'a>> {
+    RandomState::new(rt).map_err(|_| Refusal::Random)
+}
+
 /// Checks the image of a line, or the new one against the old.
 fn check<'a>(rt: &HostRuntime, line: &CheckLine<'a>) -> Result<Answer, Refusal<'a>> {
     let request = request_of(line);
+    let keys = random_keys(rt)?;
     let path = line.image();
     let mut image = open(rt, path)?;
     let Some(new_path) = line.new_image() else {
-        let report = report_image(rt.alloc(), &mut image, request);
+        let report = report_image(rt.alloc(), keys, &mut image, request);
         return answered(path, path, report);
     };
     let mut new_image = open(rt, new_path)?;
-    let report = report_change(rt.alloc(), &mut image, &mut new_image, request);
+    let report = report_change(rt.alloc(), keys, &mut image, &mut new_image, request);
     answered(path, new_path, report)
 }
 

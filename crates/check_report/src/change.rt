@@ -23,6 +23,7 @@ use flashmap_check::{NumberedArea, image_areas};
 use image_check::{CheckedImage, checked_image};
 use region_changes::{RegionChange, region_changes};
 use std::alloc::{AllocError, Global};
+use std::hash::RandomState;
 
 /// What changes from an old image to a new one.
 #[derive(Drop)]
@@ -38,6 +39,7 @@ struct Changes {
 /// What changes to a new image of which so much is told.
 fn changes_to<F: Flash, G: Flash>(
     alloc: Global,
+    keys: RandomState,
     old: &mut Paged<F>,
     new: &mut Paged<G>,
     checked: &CheckedImage,
@@ -54,7 +56,7 @@ fn changes_to<F: Flash, G: Flash>(
 {
     let old_areas = image_areas(alloc, old)?;
     let changes = image_changes(alloc, old, &old_areas, new, &checked.areas)?;
-    let regions = region_changes(alloc, old, &old_areas, new, &checked.findings)?;
+    let regions = region_changes(alloc, keys, old, &old_areas, new, &checked.findings)?;
     Ok(Changes {
         old_len: old.len(),
         new_len: new.len(),
@@ -82,10 +84,11 @@ fn tell_changes(
 }
 
 /// The report on a new image and on what it changes of an old one: a row for each finding of the new image, and then one
-/// for each change. A difference in one of the kept areas is bad. `OldDevice` comes exactly where the device with the old
+/// for each change, the same with any keys for the hasher of names. A difference in one of the kept areas is bad. `OldDevice` comes exactly where the device with the old
 /// image refused a read, and `NewDevice` where the other one did.
 pub fn report_change<F: Flash, G: Flash>(
     alloc: Global,
+    keys: RandomState,
     old: &mut Paged<F>,
     new: &mut Paged<G>,
     request: Request<'_>,
@@ -99,8 +102,8 @@ pub fn report_change<F: Flash, G: Flash>(
     ensures answer { OnHonest F.facts old.old.device (λ x. OnHonest G.facts new.old.device (λ y.
         IfOk result (λ answer. answer ≡ answer_of request.entry.form (change_rows (wish_of request.entry) x y)))) }
 {
-    let checked = checked_image(alloc, new, request.areas, request.is_verbose)?;
-    let changes = changes_to(alloc, old, new, &checked)?;
+    let checked = checked_image(alloc, keys, new, request.areas, request.is_verbose)?;
+    let changes = changes_to(alloc, keys, old, new, &checked)?;
     let mut report = Report::new(alloc, request.form);
     tell_findings(&mut report, &checked.findings, request.areas)?;
     tell_changes(&mut report, request.kept, &changes, &checked.areas)?;

@@ -12,10 +12,12 @@ use finding_rows::tell_findings;
 use flash_store::{Flash, Paged};
 use image_check::check_image;
 use std::alloc::Global;
+use std::hash::RandomState;
 
-/// The report on an image: a row for each of its findings. `NewDevice` comes exactly where the device refused a read.
+/// The report on an image: a row for each of its findings, which are the same with any keys for the hasher of names. `NewDevice` comes exactly where the device refused a read.
 pub fn report_image<F: Flash>(
     alloc: Global,
+    keys: RandomState,
     paged: &mut Paged<F>,
     request: Request<'_>,
 ) -> Result<Answer, ReportFault>
@@ -28,7 +30,7 @@ pub fn report_image<F: Flash>(
     ensures answer { OnHonest F.facts paged.old.device (λ image.
         IfOk result (λ answer. answer ≡ answer_of request.entry.form (image_rows (wish_of request.entry) image))) }
 {
-    let findings = check_image(alloc, paged, request.areas, request.is_verbose)?;
+    let findings = check_image(alloc, keys, paged, request.areas, request.is_verbose)?;
     let mut report = Report::new(alloc, request.form);
     tell_findings(&mut report, &findings, request.areas)?;
     Ok(Answer::of(report)?)

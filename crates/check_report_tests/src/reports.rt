@@ -1,10 +1,11 @@
 //! Small images, whose reports are written out.
-use crate::support::same_bytes;
+use crate::support::{keys, same_bytes};
 use check_report::{Answer, ReportFault, Request, report_change, report_image};
 use check_rows::Form;
 use flash_store::{FailAt, MemFlash, Paged};
 use std::alloc::{AllocError, Global};
 use std::process::Abort;
+use std::random::RandomSource;
 
 /// A map of 1024 bytes with two areas: its own, of 256 bytes, and `A`, of 256 bytes from 256 on.
 const MAP: [u8; 140] =
@@ -28,13 +29,13 @@ fn bytes_with(alloc: Global, component: &[u8]) -> Result<Vec<u8>, AllocError> {
 }
 
 /// A device with the map, and with a component at the start of `A`.
-fn image(rt: &(impl Abort + AllocGlobal), component: &[u8]) -> MemFlash {
+fn image(rt: &(impl Abort + AllocGlobal + RandomSource), component: &[u8]) -> MemFlash {
     let bytes = bytes_with(rt.alloc(), component).expect(rt, "memory");
     MemFlash::new(bytes).expect(rt, "a device")
 }
 
 /// A device that refuses each call.
-fn refusing(rt: &(impl Abort + AllocGlobal)) -> Paged<FailAt<MemFlash>> {
+fn refusing(rt: &(impl Abort + AllocGlobal + RandomSource)) -> Paged<FailAt<MemFlash>> {
     Paged::new(FailAt::new(image(rt, &ONE), 0, 0))
 }
 
@@ -55,7 +56,7 @@ fn reads(rt: &impl Abort, answer: &Answer, is_bad: bool, text: &str) {
 
 /// The report on an image with this component has this text, and isn't bad.
 fn tells(
-    rt: &(impl Abort + AllocGlobal),
+    rt: &(impl Abort + AllocGlobal + RandomSource),
     component: &[u8],
     is_verbose: bool,
     form: Form,
@@ -63,7 +64,7 @@ fn tells(
 ) {
     let mut paged = Paged::new(image(rt, component));
     let request = request(&[], is_verbose, form);
-    let answer = report_image(rt.alloc(), &mut paged, request).expect(rt, "a report");
+    let answer = report_image(rt.alloc(), keys(rt), &mut paged, request).expect(rt, "a report");
     reads(rt, &answer, false, text);
 }
 
@@ -117,7 +118,9 @@ fn the_report_on_what_changes(rt: HostRuntime) {
     let mut new = Paged::new(image(&rt, &OTHER));
     let kept: &[&[u8]] = &[b"A", b"NONE"];
     let request = request(kept, false, Form::Text);
-    let answer = report_change(rt.alloc(), &mut old, &mut new, request).expect(&rt, "a report");
+    let answer = report_change(rt.alloc(), keys(&rt), &mut old, &mut new, request).expect(
+        &rt, "a report",
+    );
     reads(
         &rt,
         &answer,
@@ -146,8 +149,8 @@ fn devices_that_refuse_a_read(rt: HostRuntime) {
     let request = request(&[], false, Form::Text);
     let mut old = refusing(&rt);
     let mut new = Paged::new(image(&rt, &ONE));
-    let answer = report_image(rt.alloc(), &mut old, request);
+    let answer = report_image(rt.alloc(), keys(&rt), &mut old, request);
     refuses(&rt, answer, ReportFault::NewDevice);
-    let answer = report_change(rt.alloc(), &mut old, &mut new, request);
+    let answer = report_change(rt.alloc(), keys(&rt), &mut old, &mut new, request);
     refuses(&rt, answer, ReportFault::OldDevice);
 }

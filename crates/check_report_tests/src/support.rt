@@ -3,7 +3,9 @@ use cbfs_check::Name;
 use check_rows::{Form, Report};
 use flash_format::Area;
 use flashmap_check::NumberedArea;
+use std::hash::RandomState;
 use std::process::Abort;
+use std::random::RandomSource;
 
 pub fn same_bytes(rt: &impl Abort, left: &[u8], right: &[u8]) {
     assert_eq!(rt; left, right);
@@ -41,4 +43,9 @@ pub fn area(number: u16, offset: u32, size: u32, name: [u8; 32]) -> NumberedArea
 /// A name of these bytes.
 pub fn name(rt: &(impl Abort + AllocGlobal), bytes: &[u8]) -> Name {
     Name::copied(rt.alloc(), bytes).expect(rt, "memory")
+}
+
+/// Keys for the hasher of names.
+pub fn keys(rt: &(impl Abort + RandomSource)) -> RandomState {
+    RandomState::new(rt).expect(rt, "random numbers")
 }

@@ -23,6 +23,7 @@ use cbfs_check::{check_region, starts_with_entry};
 use flash_store::{Flash, FlashFault, Paged, Region};
 use flashmap_check::{MapFinding, NumberedArea, checked_map};
 use std::alloc::{AllocError, Global};
+use std::hash::RandomState;
 
 /// Whether the area is to be looked at, which is this region: it has one of the names, or begins with an entry.
 fn is_wanted<F: Flash>(
@@ -46,6 +47,7 @@ fn is_wanted<F: Flash>(
 /// What is told of an area that is looked at, which is this region.
 fn region_finding<F: Flash>(
     alloc: Global,
+    keys: RandomState,
     paged: &mut Paged<F>,
     area: NumberedArea,
     region: Region,
@@ -59,7 +61,7 @@ fn region_finding<F: Flash>(
     ensures told { OnHonest F.facts paged.old.device (λ image.
         IfOk result (λ finding. finding ≡ told.region_finding is_verbose image area)) }
 {
-    let findings = RegionFindings::new(check_region(alloc, paged, region, is_verbose)?);
+    let findings = RegionFindings::new(check_region(alloc, keys, paged, region, is_verbose)?);
     Ok(ImageFinding::Region { area, findings })
 }
 
@@ -77,6 +79,7 @@ fn passed_finding(names: &[&[u8]], area: NumberedArea) -> ImageFinding
 /// Tries an area in place of those that it meets, which all begin at or behind its start.
 fn try_area<F: Flash>(
     alloc: Global,
+    keys: RandomState,
     paged: &mut Paged<F>,
     names: &[&[u8]],
     area: NumberedArea,
@@ -102,7 +105,7 @@ fn try_area<F: Flash>(
         later.tell(passed_finding(names, area))?;
         return Ok(());
     }
-    let finding = region_finding(alloc, paged, area, region, is_verbose)?;
+    let finding = region_finding(alloc, keys, paged, area, region, is_verbose)?;
     if !(has_one_of(names, area) || is_whole(&finding)) {
         later.tell(passed_finding(names, area))?;
         return Ok(());
@@ -116,6 +119,7 @@ fn try_area<F: Flash>(
 /// Looks at a wanted area, which is this region, before those of which is told.
 fn look<F: Flash>(
     alloc: Global,
+    keys: RandomState,
     paged: &mut Paged<F>,
     names: &[&[u8]],
     area: NumberedArea,
@@ -138,7 +142,7 @@ fn look<F: Flash>(
 {
     if region.start() + region.size() <= later.lowest {
         later.lowest = region.start();
-        let finding = region_finding(alloc, paged, area, region, is_verbose)?;
+        let finding = region_finding(alloc, keys, paged, area, region, is_verbose)?;
         later.tell(finding)?;
         return Ok(());
     }
@@ -147,12 +151,13 @@ fn look<F: Flash>(
         return Ok(());
     }
     later.tried += 1;
-    try_area(alloc, paged, names, area, region, is_verbose, later)
+    try_area(alloc, keys, paged, names, area, region, is_verbose, later)
 }
 
 /// Looks at an area where it is wanted, before those of which is told.
 fn look_if_wanted<F: Flash>(
     alloc: Global,
+    keys: RandomState,
     paged: &mut Paged<F>,
     names: &[&[u8]],
     area: NumberedArea,
@@ -178,7 +183,7 @@ fn look_if_wanted<F: Flash>(
         return Ok(());
     };
     if is_wanted(paged, names, area, region)? {
-        look(alloc, paged, names, area, region, is_verbose, later)?;
+        look(alloc, keys, paged, names, area, region, is_verbose, later)?;
     }
     Ok(())
 }
@@ -186,6 +191,7 @@ fn look_if_wanted<F: Flash>(
 /// What is told of these areas, which are looked at from the last one on.
 fn looked<F: Flash>(
     alloc: Global,
+    keys: RandomState,
     paged: &mut Paged<F>,
     names: &[&[u8]],
     areas: &[NumberedArea],
@@ -205,7 +211,7 @@ fn looked<F: Flash>(
     let mut left = areas.len();
     while left > 0 {
         left -= 1;
-        look_if_wanted(alloc, paged, names, areas[left], is_verbose, &mut later)?;
+        look_if_wanted(alloc, keys, paged, names, areas[left], is_verbose, &mut later)?;
     }
     let mut findings = later.findings;
     findings.reverse();
@@ -243,6 +249,7 @@ pub struct CheckedImage {
 /// What `check_image` tells, and the areas with it, for which the map is read once.
 pub fn checked_image<F: Flash>(
     alloc: Global,
+    keys: RandomState,
     paged: &mut Paged<F>,
     names: &[&[u8]],
     is_verbose: bool,
@@ -265,7 +272,7 @@ pub fn checked_image<F: Flash>(
     let map = checked_map(alloc, paged)?;
     let mut findings = map_part(alloc, &map.findings)?;
     let areas = by_place(alloc, &map.areas)?;
-    let mut regions = looked(alloc, paged, names, &areas, is_verbose)?;
+    let mut regions = looked(alloc, keys, paged, names, &areas, is_verbose)?;
     findings.append(&mut regions)?;
     push_missing(&mut findings, names, &map.areas)?;
     Ok(CheckedImage {
@@ -281,6 +288,7 @@ pub fn checked_image<F: Flash>(
 /// told.
 pub fn check_image<F: Flash>(
     alloc: Global,
+    keys: RandomState,
     paged: &mut Paged<F>,
     names: &[&[u8]],
     is_verbose: bool,
@@ -293,6 +301,6 @@ pub fn check_image<F: Flash>(
     ensures findings { OnHonest F.facts paged.old.device (λ image. IfOk result (λ findings.
         findings.items ≡ image_findings is_verbose image (map (λ n. n.now) names.now))) }
 {
-    let checked = checked_image(alloc, paged, names, is_verbose)?;
+    let checked = checked_image(alloc, keys, paged, names, is_verbose)?;
     Ok(checked.findings)
 }

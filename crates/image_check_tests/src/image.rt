@@ -1,9 +1,10 @@
 //! Small images, of which each finding is counted by hand.
-use crate::support::{FMAP, Parts, bytes_of, device, equal, image, map_text, same_text};
+use crate::support::{FMAP, Parts, bytes_of, device, equal, image, keys, map_text, same_text};
 use cbfs_check::RegionFinding;
 use image_check::{ImageFinding, check_image, checked_image, has_bad};
 use std::alloc::{AllocError, Global};
 use std::process::Abort;
+use std::random::RandomSource;
 
 /// From 256 up to 512.
 const A: [u8; 42] =
@@ -64,7 +65,12 @@ fn text_of(alloc: Global, findings: &[ImageFinding]) -> Result<String, AllocErro
 }
 
 /// The findings are these, and some of them bad or not.
-fn are(rt: &(impl Abort + AllocGlobal), findings: &[ImageFinding], expected: &str, is_bad: bool) {
+fn are(
+    rt: &(impl Abort + AllocGlobal + RandomSource),
+    findings: &[ImageFinding],
+    expected: &str,
+    is_bad: bool,
+) {
     let text = text_of(rt.alloc(), findings).expect(rt, "memory");
     same_text(rt, &text, expected);
     equal(rt, &has_bad(findings), &is_bad);
@@ -72,7 +78,7 @@ fn are(rt: &(impl Abort + AllocGlobal), findings: &[ImageFinding], expected: &st
 
 /// This is what is told of an image, and whether some of it is bad.
 fn tells_if(
-    rt: &(impl Abort + AllocGlobal),
+    rt: &(impl Abort + AllocGlobal + RandomSource),
     is_verbose: bool,
     image: Vec<u8>,
     names: &[&[u8]],
@@ -80,14 +86,16 @@ fn tells_if(
     is_bad: bool,
 ) {
     let mut paged = device(rt, image);
-    let findings = check_image(rt.alloc(), &mut paged, names, is_verbose).expect(rt, "findings");
+    let findings = check_image(rt.alloc(), keys(rt), &mut paged, names, is_verbose).expect(
+        rt, "findings",
+    );
     are(rt, &findings, expected, is_bad);
 }
 
 /// This is what is told of 1024 bytes with a map of these areas, with a formatted region of 256 bytes behind it and this
 /// part over that, and whether some of it is bad.
 fn tells(
-    rt: &(impl Abort + AllocGlobal),
+    rt: &(impl Abort + AllocGlobal + RandomSource),
     areas: &[[u8; 42]],
     over: (usize, &[u8]),
     names: &[&[u8]],
@@ -152,7 +160,7 @@ fn the_later_of_areas_in_one_place(rt: HostRuntime) {
 
 /// Of an area in another one, the inner one is looked at, and this is told of its region.
 fn tells_inner(
-    rt: &(impl Abort + AllocGlobal),
+    rt: &(impl Abort + AllocGlobal + RandomSource),
     over: (usize, &[u8]),
     names: &[&[u8]],
     expected: &str,
@@ -270,7 +278,9 @@ fn an_image_with_its_areas(rt: HostRuntime) {
         &rt,
         image(&rt, 1024, &[FMAP, OUTER, A], &[(256, &NULL_256)]),
     );
-    let checked = checked_image(rt.alloc(), &mut paged, &[], true).expect(&rt, "findings");
+    let checked = checked_image(rt.alloc(), keys(&rt), &mut paged, &[], true).expect(
+        &rt, "findings",
+    );
     are(
         &rt,
         &checked.findings,

@@ -1,8 +1,9 @@
 //! What is told of regions that are written out as bytes.
-use crate::support::{Parts, bytes_of, device, equal, failing, same_text};
+use crate::support::{Parts, bytes_of, device, equal, failing, keys, same_text};
 use cbfs_check::{RegionCheckFault, RegionFinding, check_region};
 use flash_store::{Flash, Paged, Region};
 use std::process::Abort;
+use std::random::RandomSource;
 
 /// The component `a` of ten bytes.
 const A: [u8; 40] =
@@ -35,18 +36,18 @@ const NULL_512: [u8; 28] = *b"LARCHIVE\0\0\x01\xe4\xff\xff\xff\xff\0\0\0\0\0\0\0
 
 /// What a check of the whole of a device finds, in which all is asked for or not.
 fn findings_on<F: Flash>(
-    rt: &(impl Abort + AllocGlobal),
+    rt: &(impl Abort + AllocGlobal + RandomSource),
     paged: &mut Paged<F>,
     is_verbose: bool,
 ) -> Result<Vec<RegionFinding>, RegionCheckFault> {
     let len = paged.len();
     let region = Region::within(0, len, len).expect(rt, "a region");
-    check_region(rt.alloc(), paged, region, is_verbose)
+    check_region(rt.alloc(), keys(rt), paged, region, is_verbose)
 }
 
 /// A check of a region of these bytes, in which all is asked for or not, tells this.
 fn tells_if(
-    rt: &(impl Abort + AllocGlobal),
+    rt: &(impl Abort + AllocGlobal + RandomSource),
     is_verbose: bool,
     size: usize,
     parts: Parts,
@@ -59,7 +60,12 @@ fn tells_if(
 }
 
 /// A check of a region of these bytes in which all is asked for tells this.
-fn tells(rt: &(impl Abort + AllocGlobal), size: usize, parts: Parts, expected: &str) {
+fn tells(
+    rt: &(impl Abort + AllocGlobal + RandomSource),
+    size: usize,
+    parts: Parts,
+    expected: &str,
+) {
     tells_if(rt, true, size, parts, expected);
 }
 

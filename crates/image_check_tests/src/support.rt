@@ -3,7 +3,9 @@ use flash_store::{FailAt, MemFlash, Paged};
 use flashmap_check::MapFinding;
 use std::alloc::{AllocError, Global};
 use std::fmt::Debug;
+use std::hash::RandomState;
 use std::process::Abort;
+use std::random::RandomSource;
 
 /// The head of a map of 1024 bytes, up to the number of its areas.
 const HEAD: [u8; 54] =
@@ -102,4 +104,9 @@ fn words(finding: &MapFinding) -> (&'static str, u16, u64) {
 pub fn map_text(alloc: Global, finding: &MapFinding) -> Result<String, AllocError> {
     let (word, number, other) = words(finding);
     format!(in alloc; "{} {} {}, ", word, number, other)
+}
+
+/// Keys for the hasher of names.
+pub fn keys(rt: &(impl Abort + RandomSource)) -> RandomState {
+    RandomState::new(rt).expect(rt, "random numbers")
 }

@@ -16,6 +16,7 @@ use flash_store::{Flash, Paged, Region};
 use flashmap_check::{AreaNames, NumberedArea};
 use image_check::ImageFinding;
 use std::alloc::Global;
+use std::hash::RandomState;
 
 /// An old area as a region, where it is compared: it ends inside an image of `len` bytes, and is no longer than what is left
 /// to read.
@@ -46,6 +47,7 @@ fn region_of(area: NumberedArea, len: u64) -> Region
 /// taken, where it is compared.
 fn region_change<F: Flash, G: Flash>(
     alloc: Global,
+    keys: RandomState,
     old: &mut Paged<F>,
     new: &mut Paged<G>,
     pair: Pair,
@@ -66,7 +68,7 @@ fn region_change<F: Flash, G: Flash>(
     };
     *left -= u64::from(pair.old.area.size);
     let new_region = region_of(area, new.len());
-    let changes = component_changes(alloc, old, Some(old_region), new, Some(new_region))?;
+    let changes = component_changes(alloc, keys, old, Some(old_region), new, Some(new_region))?;
     Ok(RegionChange::Compared {
         area,
         changes: ComponentChanges::new(changes),
@@ -76,6 +78,7 @@ fn region_change<F: Flash, G: Flash>(
 /// What becomes of the components of these areas, one pair after the other.
 fn pair_changes<F: Flash, G: Flash>(
     alloc: Global,
+    keys: RandomState,
     old: &mut Paged<F>,
     new: &mut Paged<G>,
     pairs: &[Pair],
@@ -91,7 +94,7 @@ fn pair_changes<F: Flash, G: Flash>(
     let mut left = old.len();
     let mut changes = Vec::new(alloc);
     for pair in pairs {
-        let change = region_change(alloc, old, new, *pair, &mut left)?;
+        let change = region_change(alloc, keys, old, new, *pair, &mut left)?;
         push(&mut changes, change)?;
     }
     Ok(changes)
@@ -104,6 +107,7 @@ fn pair_changes<F: Flash, G: Flash>(
 /// then nothing is told.
 pub fn region_changes<'a, F: Flash, G: Flash>(
     alloc: Global,
+    keys: RandomState,
     old: &mut Paged<F>,
     old_areas: &'a [NumberedArea],
     new: &mut Paged<G>,
@@ -123,5 +127,5 @@ pub fn region_changes<'a, F: Flash, G: Flash>(
 {
     let names = AreaNames::of(alloc, old_areas)?;
     let pairs = pairs(alloc, &names, findings)?;
-    pair_changes(alloc, old, new, &pairs)
+    pair_changes(alloc, keys, old, new, &pairs)
 }

@@ -1,8 +1,11 @@
 //! What changes between regions that are written out as bytes.
-use crate::support::{A_10 as A, B_10 as B, Parts, bytes_of, device, equal, failing, same_text};
+use crate::support::{
+    A_10 as A, B_10 as B, Parts, bytes_of, device, equal, failing, keys, same_text,
+};
 use cbfs_changes::{ChangeFault, ComponentChange, component_changes};
 use flash_store::{Flash, Paged, Region};
 use std::process::Abort;
+use std::random::RandomSource;
 
 /// The component `a` of another type, and of nine bytes.
 const A_RAW: [u8; 50] =
@@ -33,26 +36,30 @@ const NULL_64: [u8; 28] = *b"LARCHIVE\0\0\0\x24\xff\xff\xff\xff\0\0\0\0\0\0\0\x1
 const NULL_128: [u8; 28] = *b"LARCHIVE\0\0\0\x64\xff\xff\xff\xff\0\0\0\0\0\0\0\x1c\0\0\0\0";
 
 /// These are the changes.
-fn are(rt: &(impl Abort + AllocGlobal), changes: &[ComponentChange], expected: &str) {
+fn are(
+    rt: &(impl Abort + AllocGlobal + RandomSource),
+    changes: &[ComponentChange],
+    expected: &str,
+) {
     let text = format!(in rt.alloc(); "{:?}", changes).expect(rt, "memory");
     same_text(rt, &text, expected);
 }
 
 /// What changes between two devices that are regions as wholes.
 fn changes_of<F: Flash, G: Flash>(
-    rt: &(impl Abort + AllocGlobal),
+    rt: &(impl Abort + AllocGlobal + RandomSource),
     old: &mut Paged<F>,
     new: &mut Paged<G>,
 ) -> Result<Vec<ComponentChange>, ChangeFault> {
     let (old_len, new_len) = (old.len(), new.len());
     let before = Region::within(0, old_len, old_len).expect(rt, "a region");
     let after = Region::within(0, new_len, new_len).expect(rt, "a region");
-    component_changes(rt.alloc(), old, Some(before), new, Some(after))
+    component_changes(rt.alloc(), keys(rt), old, Some(before), new, Some(after))
 }
 
 /// From a region of these parts to one of those, this changes.
 fn tells<'a>(
-    rt: &(impl Abort + AllocGlobal),
+    rt: &(impl Abort + AllocGlobal + RandomSource),
     size: usize,
     old: Parts<'a>,
     new: Parts<'a>,
@@ -211,7 +218,7 @@ fn what_is_behind_a_damage_does_not_count(rt: HostRuntime) {
 
 /// What changes where only the old image has a region, or only the new one.
 fn lone_changes<F: Flash, G: Flash>(
-    rt: &(impl Abort + AllocGlobal),
+    rt: &(impl Abort + AllocGlobal + RandomSource),
     paged: &mut Paged<F>,
     other: &mut Paged<G>,
     is_old: bool,
@@ -219,14 +226,14 @@ fn lone_changes<F: Flash, G: Flash>(
     let len = paged.len();
     let region = Region::within(0, len, len).expect(rt, "a region");
     if is_old {
-        component_changes(rt.alloc(), paged, Some(region), other, None)
+        component_changes(rt.alloc(), keys(rt), paged, Some(region), other, None)
     } else {
-        component_changes(rt.alloc(), other, None, paged, Some(region))
+        component_changes(rt.alloc(), keys(rt), other, None, paged, Some(region))
     }
 }
 
 /// These are the changes where only one of the images has a region, with the component `a`.
-fn tells_lone(rt: &(impl Abort + AllocGlobal), is_old: bool, expected: &str) {
+fn tells_lone(rt: &(impl Abort + AllocGlobal + RandomSource), is_old: bool, expected: &str) {
     let mut paged = device(rt, bytes_of(rt, 64, &[(0, &A)]));
     let mut other = device(rt, bytes_of(rt, 64, &[]));
     let changes = lone_changes(rt, &mut paged, &mut other, is_old).expect(rt, "changes");
@@ -241,7 +248,12 @@ fn a_region_that_is_absent(rt: HostRuntime) {
 
 /// The fault where the old device refuses its call of this number, counted from 0, and the new one that of that number.
 /// The devices differ in the last byte of a content: two calls compare the regions, one lists them, two compare contents.
-fn fault_is(rt: &(impl Abort + AllocGlobal), old: u64, new: u64, expected: Option<ChangeFault>) {
+fn fault_is(
+    rt: &(impl Abort + AllocGlobal + RandomSource),
+    old: u64,
+    new: u64,
+    expected: Option<ChangeFault>,
+) {
     let mut old = failing(rt, bytes_of(rt, 5056, &[(0, &L)]), old);
     let mut new = failing(rt, bytes_of(rt, 5056, &[(0, &L), (5039, b"x")]), new);
     let fault = changes_of(rt, &mut old, &mut new).err();

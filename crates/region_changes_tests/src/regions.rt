@@ -1,6 +1,6 @@
 //! Small images, of which what becomes of each region is counted by hand.
 use crate::support::{
-    A_10 as ONE, B_10 as OTHER, FMAP, Parts, device, equal, failing, image, same_text,
+    A_10 as ONE, B_10 as OTHER, FMAP, Parts, device, equal, failing, image, keys, same_text,
 };
 use cbfs_changes::{ChangeFault, ComponentChange};
 use flash_store::{Flash, Paged};
@@ -9,6 +9,7 @@ use image_check::checked_image;
 use region_changes::{RegionChange, region_changes};
 use std::alloc::{AllocError, Global};
 use std::process::Abort;
+use std::random::RandomSource;
 
 /// Three areas of 256 bytes each, from 256 on.
 const A: [u8; 42] =
@@ -72,7 +73,7 @@ fn text_of(alloc: Global, changes: &[RegionChange]) -> Result<String, AllocError
 }
 
 /// The areas of an image.
-fn areas_of(rt: &(impl Abort + AllocGlobal), image: Vec<u8>) -> Vec<NumberedArea> {
+fn areas_of(rt: &(impl Abort + AllocGlobal + RandomSource), image: Vec<u8>) -> Vec<NumberedArea> {
     let mut paged = device(rt, image);
     let map = checked_map(rt.alloc(), &mut paged).expect(rt, "a map");
     map.areas
@@ -80,18 +81,18 @@ fn areas_of(rt: &(impl Abort + AllocGlobal), image: Vec<u8>) -> Vec<NumberedArea
 
 /// What becomes of the regions of an image with these areas.
 fn changes_of<F: Flash, G: Flash>(
-    rt: &(impl Abort + AllocGlobal),
+    rt: &(impl Abort + AllocGlobal + RandomSource),
     old: &mut Paged<F>,
     areas: &[NumberedArea],
     new: &mut Paged<G>,
 ) -> Result<Vec<RegionChange>, ChangeFault> {
-    let checked = checked_image(rt.alloc(), new, &[], false).expect(rt, "findings");
-    region_changes(rt.alloc(), old, areas, new, &checked.findings)
+    let checked = checked_image(rt.alloc(), keys(rt), new, &[], false).expect(rt, "findings");
+    region_changes(rt.alloc(), keys(rt), old, areas, new, &checked.findings)
 }
 
 /// This becomes of the regions of 1024 bytes with these areas and parts where those are flashed over them.
 fn tells<'a>(
-    rt: &(impl Abort + AllocGlobal),
+    rt: &(impl Abort + AllocGlobal + RandomSource),
     old_areas: &[[u8; 42]],
     old: Parts<'a>,
     new_areas: &[[u8; 42]],
@@ -184,7 +185,12 @@ fn an_old_area_that_ends_outside(rt: HostRuntime) {
 
 /// The fault where the device with the old image refuses its call of this number, counted from 0, and that with the new one
 /// its call of that number, of which the first seven check the image and leave the first piece at hand.
-fn fault_is(rt: &(impl Abort + AllocGlobal), old: u64, new: u64, expected: Option<ChangeFault>) {
+fn fault_is(
+    rt: &(impl Abort + AllocGlobal + RandomSource),
+    old: u64,
+    new: u64,
+    expected: Option<ChangeFault>,
+) {
     let parts: Parts = &[(256, &ONE), (5120, &ONE)];
     let areas = [FMAP, A, FAR];
     let places = areas_of(rt, image(rt, 8192, &areas, parts));

@@ -2,7 +2,9 @@
 use flash_store::{FailAt, MemFlash, Paged};
 use std::alloc::{AllocError, Global};
 use std::fmt::Debug;
+use std::hash::RandomState;
 use std::process::Abort;
+use std::random::RandomSource;
 
 /// The head of a map of 1024 bytes, up to the number of its areas.
 const HEAD: [u8; 54] =
@@ -80,4 +82,9 @@ pub fn equal<T: PartialEq + Debug>(rt: &impl Abort, left: &T, right: &T) {
 
 pub fn same_text(rt: &impl Abort, left: &str, right: &str) {
     assert_eq!(rt; left, right);
+}
+
+/// Keys for the hasher of names.
+pub fn keys(rt: &(impl Abort + RandomSource)) -> RandomState {
+    RandomState::new(rt).expect(rt, "random numbers")
 }
