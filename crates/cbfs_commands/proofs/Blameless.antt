@@ -17,9 +17,8 @@ use Rattle.cbfs_walk.specs.Shapes.{has_bad_size, is_absent, refused_or, shape_fa
 use Rattle.cbfs_walk.specs.declared.walk.WalkFault.{WalkFault}
 use Rattle.cbfs_walk.specs.declared.walk.WalkFault.TheVariants as walk
 use Rattle.cbfs_edit.specs.Additions.{NewComponent, added, addition_in, is_bad_name, is_bad_type, new_component, wanted_for}
-use Rattle.cbfs_edit.specs.Groups.{group_of}
+use Rattle.cbfs_edit.specs.Removals.{group_of, removal_in, removed, unless_damaged, unless_unsound}
 use Rattle.cbfs_edit.specs.Places.{first_place, is_bad_align, placing_in}
-use Rattle.cbfs_edit.specs.Removals.{removal_in, removed, unless_damaged, unless_unsound}
 use Rattle.cbfs_edit.specs.Runs.{runs}
 use Rattle.cbfs_edit.specs.declared.fault.EditFault.{EditFault}
 use Rattle.cbfs_edit.specs.declared.fault.EditFault.TheVariants as edit
@@ -28,12 +27,11 @@ use Rattle.cbfs_commands.specs.declared.plan.Plan.{Plan}
 use Rattle.cbfs_commands.specs.declared.refusal.Refusal.{Refusal}
 use Rattle.cbfs_commands.specs.declared.refusal.Refusal.TheVariants as refusals
 use Rattle.cbfs_commands.specs.Creations.{head_for, map_place, plan_for, plan_of, region_place, region_places, some_overlap}
-use Rattle.cbfs_commands.specs.Deeds.{changes, deed, edits, outcome}
+use Rattle.cbfs_commands.specs.Deeds.{changes, deed, edits, outcome, Request}
 use Rattle.cbfs_commands.specs.Rows.{area_row, layout, map_row}
 use Rattle.cbfs_commands.specs.Outcomes.{StopsIn, extract_region, print_region, told_component, told_in}
 use Rattle.cbfs_commands.specs.Refusals.{HasNoFault, edit_refusal, fault_or, store_refusal, walk_refusal}
-use Rattle.cbfs_commands.specs.Requests.{Request}
-use Rattle.cbfs_commands.specs.Requests as requests
+use Rattle.cbfs_commands.specs.Deeds as requests
 use Rattle.cbfs_commands.specs.Told.{Told, refuses, shows}
 
 -- a refusal that blames no side

@@ -2,15 +2,14 @@
 use Rattle.std.proofs.Common.{◌≡◌, ℕ, false, List, [], length, Result, Ok, Err, ◌==◌, refl, sym, ◌∙◌}
 use Rattle.std.specs.Prelude.{if◌then◌else◌}
 use Rattle.std.specs.Result.{result_unwrap_or}
-use Rattle.flash_store.specs.Bytes.{overwritten}
+use Rattle.flash_store.specs.Device.{overwritten}
 use Rattle.flash_store.specs.Regions.{Range, bytes_in, region_of}
 use Rattle.cbfs_edit.specs.Additions.{NewComponent, added, addition_in, new_component}
 use Rattle.cbfs_edit.specs.Removals.{removal_in, removed}
 use Rattle.cbfs_commands.specs.declared.refusal.Refusal.{Refusal}
 use Rattle.cbfs_commands.specs.declared.refusal.Refusal.TheVariants as refusals
-use Rattle.cbfs_commands.specs.Deeds.{changes, deed, edits, outcome}
-use Rattle.cbfs_commands.specs.Requests.{Task, on_region}
-use Rattle.cbfs_commands.specs.Requests as tasks
+use Rattle.cbfs_commands.specs.Deeds.{changes, deed, edits, outcome, Task, on_region}
+use Rattle.cbfs_commands.specs.Deeds as tasks
 use Rattle.cbfs_commands.specs.Refusals.{edit_refusal, fault_or}
 use Rattle.cbfs_commands.specs.Outcomes.{Outcome, StopsIn, extract_region, print_region, told_in}
 use Rattle.cbfs_commands.specs.Told.{Told, shows}

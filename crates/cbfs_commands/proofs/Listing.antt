@@ -2,9 +2,9 @@
 use Rattle.std.proofs.Common.{◌≡◌, List, [], ◌∷◌, map, Option, Some, None, sym, ap, ◌∙◌}
 use Rattle.std.specs.List.{flat_map}
 use Rattle.flash_format.specs.declared.attribute.AttrHead.{AttrHead}
-use Rattle.flash_format.specs.Attributes.{Attribute}
+use Rattle.flash_format.specs.Entry.{Attribute}
 use Rattle.cbfs_walk.specs.AttrWalks.{first_head, after_first, head_of_attribute}
-use Rattle.cbfs_commands.specs.Details.{attribute_line}
+use Rattle.cbfs_commands.specs.Rows.{attribute_line}
 use Rattle.cbfs_commands.proofs.Telling.{text_then}
 use Rattle.cbfs_commands.specs.Told.{Told, shows}
 

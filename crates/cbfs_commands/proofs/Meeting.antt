@@ -1,7 +1,7 @@
 -- A creation may change all bytes of its image.
 use Rattle.std.proofs.Common.{◌≡◌, ◌∙◌, ℕ, List, length, drop, length-drop, ◌+◌, refl, sym, arith}
 use Rattle.std.proofs.lemmas.List.{nil_from_length}
-use Rattle.flash_store.specs.Bytes.{SameOutside}
+use Rattle.flash_store.specs.Device.{SameOutside}
 
 -- all bytes lie in the whole image
 pub whole-image : (image now : List ℕ) → length now ≡ length image → SameOutside 0 (length image) image now

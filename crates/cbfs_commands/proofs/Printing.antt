@@ -19,7 +19,7 @@ use Rattle.cbfs_commands.specs.declared.refusal.Refusal.{Refusal}
 use Rattle.cbfs_commands.specs.declared.refusal.Refusal.TheVariants as refusals
 use Rattle.cbfs_commands.specs.Outcomes.{print_cut, print_region}
 use Rattle.cbfs_commands.specs.Refusals.{by_device, walk_refusal}
-use Rattle.cbfs_commands.specs.Details.{rows_from, shown_cell}
+use Rattle.cbfs_commands.specs.Rows.{rows_from, shown_cell}
 use Rattle.cbfs_commands.specs.Told.{Answer, HasTold, Told, cell_of, shows, refuses}
 use Rattle.cbfs_commands.proofs.Telling.{ToldSoFar, so_far-ends, so_far-more, text_then, told-after, told-none, told-refusal, told-stopped}
 use Rattle.flash_store.proofs.DeviceLemmas.{length-bytes_in}

@@ -7,7 +7,7 @@ use lib.Chars.{codes}
 use Rattle.flash_format.specs.declared.flashmap.FmapHead.{FmapHead}
 use Rattle.flash_format.specs.declared.flashmap.Area.{Area}
 use Rattle.flash_format.specs.Flashmap.{fmap_head_len, map_len, areas_from, is_area}
-use Rattle.flash_store.specs.Bytes.{overwritten}
+use Rattle.flash_store.specs.Device.{overwritten}
 use Rattle.flash_store.specs.Fmap.{map_head}
 use Rattle.flash_store.specs.Laws.{with_edit}
 use Rattle.flash_store.specs.Regions.{Range, region_by_area}

@@ -1,26 +1,51 @@
--- What a command is to an image: its outcome, what it may change, which sides it uses, and what a stop leaves.
-use Rattle.std.specs.Prelude.{◌≡◌, ℕ, ◌+◌, ◌/◌, ◌⊎◌, Bool, true, false, List, [], length, Option, Some, None, is_some, MatchOption, Result, Ok, Err, IsErrOf, IsTrue, ◌==◌, if◌then◌else◌}
+-- What a command asks for, and what it is to an image: its outcome, what it may change, which sides it uses, and what a
+-- stop leaves.
+use Rattle.std.specs.Prelude.{ℕ, Bool, List, map, ◌≡◌, ◌+◌, ◌/◌, ◌⊎◌, true, false, [], length, Option, Some, None, is_some, MatchOption, Result, Ok, Err, IsErrOf, IsTrue, ◌==◌, if◌then◌else◌}
+use Rattle.cbfs_edit.specs.declared.addition.HashChoice.{HashChoice}
+use Rattle.cbfs_edit.specs.declared.place.Spot.{Spot}
+use Rattle.cbfs_commands.specs.declared.command.Command.{Command}
+use Rattle.cbfs_commands.specs.declared.command.Command.TheVariants as commands
 use Rattle.std.specs.Option.{option_map_or}
 use Rattle.std.specs.Result.{ForOk, result_ok, result_unwrap_or}
 use Rattle.flash_format.specs.Flashmap.{area_len}
-use Rattle.flash_store.specs.Bytes.{SameOutside, overwritten}
-use Rattle.flash_store.specs.Device.{Device, Calls, faults_told}
+use Rattle.flash_store.specs.Device.{SameOutside, overwritten, Device, Calls, faults_told}
 use Rattle.flash_store.specs.Pages.{Pages, OnHonest}
 use Rattle.flash_store.specs.Regions.{Range, bytes_in, region_of}
 use Rattle.cbfs_edit.specs.Additions.{added, addition_in, new_component}
 use Rattle.cbfs_edit.specs.Removals.{removal_in, removed}
-use Rattle.cbfs_edit.specs.Stops.{LeavesWhole}
-use Rattle.cbfs_edit.specs.declared.addition.HashChoice.{HashChoice}
-use Rattle.cbfs_edit.specs.declared.place.Spot.{Spot}
+use Rattle.cbfs_edit.specs.Changes.{LeavesWhole}
 use Rattle.cbfs_commands.specs.declared.refusal.Refusal.{Refusal}
 use Rattle.cbfs_commands.specs.declared.refusal.Refusal.TheVariants as refusals
 use Rattle.cbfs_commands.specs.Creations.{created_image, plan_for}
-use Rattle.cbfs_commands.specs.Rows.{layout}
+use Rattle.cbfs_commands.specs.Rows as rows
 use Rattle.cbfs_commands.specs.Refusals.{by_device, by_source, edit_refusal, fault_or, store_refusal}
-use Rattle.cbfs_commands.specs.Requests.{Request}
-use Rattle.cbfs_commands.specs.Requests as requests
 use Rattle.cbfs_commands.specs.Outcomes.{Outcome, StopsIn, AddStopsIn, LeavesOr, print_region, extract_region, told_in}
 use Rattle.cbfs_commands.specs.Told.{Answer, Told, Tells, shows}
+
+-- what is asked of a region
+pub data Task : Type 0 where
+  print : Bool → Task
+  extract : List ℕ → Task
+  add : List ℕ → ℕ → HashChoice → Spot → Task
+  remove : List ℕ → Task
+  read : Task
+  write : Task
+
+-- a command by the bytes of its words: of the region of a name, or of the whole image
+pub data Request : Type 0 where
+  on_region : List ℕ → Task → Request
+  layout : Request
+  create : List (List ℕ) → Request
+
+abbrev pub request_of : Command → Request
+request_of (commands.Print region verbose) = on_region region.now (print verbose)
+request_of commands.Layout = layout
+request_of (commands.Extract region name) = on_region region.now (extract name.now)
+request_of (commands.Add region name kind hash spot) = on_region region.now (add name.now kind hash spot)
+request_of (commands.Remove region name) = on_region region.now (remove name.now)
+request_of (commands.Read region) = on_region region.now read
+request_of (commands.Write region) = on_region region.now write
+request_of (commands.Create regions) = create (map (λ name. name.now) regions.items)
 
 -- A change of the image: what it makes of the image and the source, the region that it may change, by how many calls of the
 -- source, by its length, where it reads one, and what a stop leaves, by the image, the source, the answer and what is left.
@@ -101,14 +126,14 @@ creates names = record {
 
 -- each command
 abbrev pub deed : Request → Deed
-deed (requests.on_region region (requests.print verbose)) = tells (λ image. told_in image region (λ x. print_region x verbose))
-deed (requests.on_region region (requests.extract name)) = tells (λ image. told_in image region (λ x. extract_region x name))
-deed (requests.on_region region (requests.add name kind hash spot)) = changes (adds region name kind hash spot)
-deed (requests.on_region region (requests.remove name)) = changes (removes region name)
-deed (requests.on_region region requests.read) = tells (λ image. told_in image region shows)
-deed (requests.on_region region requests.write) = changes (replaces region)
-deed requests.layout = tells layout
-deed (requests.create names) = changes (creates names)
+deed (on_region region (print verbose)) = tells (λ image. told_in image region (λ x. print_region x verbose))
+deed (on_region region (extract name)) = tells (λ image. told_in image region (λ x. extract_region x name))
+deed (on_region region (add name kind hash spot)) = changes (adds region name kind hash spot)
+deed (on_region region (remove name)) = changes (removes region name)
+deed (on_region region read) = tells (λ image. told_in image region shows)
+deed (on_region region write) = changes (replaces region)
+deed layout = tells rows.layout
+deed (create names) = changes (creates names)
 
 -- the source is honest, where the command reads it
 abbrev pub Serves : Deed → Device → Type 0

@@ -1,7 +1,7 @@
 -- What holds of the outcomes of the commands.
 use Rattle.std.specs.Prelude.{◌≡◌, ℕ, ◌^◌, ◌<◌, All, List, ◌∷◌, length, Ok}
 use Rattle.std.specs.List.{AllPairs}
-use Rattle.flash_store.specs.Bytes.{overwritten}
+use Rattle.flash_store.specs.Device.{overwritten}
 use Rattle.flash_store.specs.Regions.{Range, bytes_in, region_of}
 use Rattle.flash_store.specs.Laws.{LieApart}
 use Rattle.cbfs_edit.specs.Additions.{NewComponent, added}
@@ -11,10 +11,9 @@ use Rattle.cbfs_edit.specs.declared.place.Place.{Place}
 use Rattle.cbfs_edit.specs.declared.place.Spot.{Spot}
 use Rattle.cbfs_commands.specs.declared.plan.Plan.{Plan}
 use Rattle.cbfs_commands.specs.Creations.{FitsImage, created_image, plan_for}
-use Rattle.cbfs_commands.specs.Deeds.{deed, outcome, replaces}
+use Rattle.cbfs_commands.specs.Deeds.{deed, outcome, replaces, Request, Task, on_region}
 use Rattle.cbfs_commands.specs.Outcomes.{extract_region, told_in}
 use Rattle.cbfs_commands.specs.Refusals.{HasNoFault}
-use Rattle.cbfs_commands.specs.Requests.{Request, Task, on_region}
 use Rattle.cbfs_commands.specs.Told.{shows}
 
 -- an outcome's own answer blames no side, since it is a function of the image, the command and the source alone

@@ -1,7 +1,5 @@
-pub mod Requests
 pub mod Refusals
 pub mod Rows
-pub mod Details
 pub mod Told
 pub mod Creations
 pub mod Outcomes

@@ -3,9 +3,9 @@ use Rattle.std.specs.Prelude.{◌≡◌, ◌≢◌, ℕ, ◌⊎◌, Bool, List, 
 use Rattle.std.specs.Option.{option_map_or}
 use Rattle.flash_format.specs.Components.{Component, is_packed}
 use Rattle.flash_format.specs.Cut.{Cut, cut}
-use Rattle.flash_store.specs.Bytes.{FirstWritten, PartWritten}
+use Rattle.flash_store.specs.Device.{FirstWritten, PartWritten}
 use Rattle.flash_store.specs.Regions.{Range, bytes_in, region_of}
-use Rattle.cbfs_edit.specs.Stops.{AddLeavesBefore, AddLeavesWhole}
+use Rattle.cbfs_edit.specs.Changes.{AddLeavesBefore, AddLeavesWhole}
 use Rattle.cbfs_edit.specs.Additions.{NewComponent}
 use Rattle.cbfs_edit.specs.declared.place.Spot.{Spot}
 use Rattle.cbfs_walk.specs.Finding.{component_in, not_found}
@@ -13,7 +13,7 @@ use Rattle.cbfs_walk.specs.Shaped.{place_after}
 use Rattle.cbfs_walk.specs.Shapes.{shape_fault, refused_or}
 use Rattle.cbfs_commands.specs.declared.refusal.Refusal.TheVariants as refusals
 use Rattle.cbfs_commands.specs.Refusals.{fault_or, store_refusal, walk_refusal}
-use Rattle.cbfs_commands.specs.Details.{rows_from}
+use Rattle.cbfs_commands.specs.Rows.{rows_from}
 use Rattle.cbfs_commands.specs.Told.{Answer, Told, shows, refuses}
 
 -- what a command tells, and the image that it leaves

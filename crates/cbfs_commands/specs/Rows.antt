@@ -1,12 +1,12 @@
--- What `print` writes, a row for each cell of a region, and `layout`: the place of an image's map, and its areas. The forms of
--- the texts are this project's own.
-use Rattle.std.specs.Prelude.{ℕ, List, ◌++◌, ◌==◌, drop, if◌then◌else◌, Option, Some, None, unwrap_or}
+-- What `print` writes, a row for each cell of a region, and with `-v` a line for each attribute and one for the digest; and
+-- `layout`: the place of an image's map, and its areas. The forms of the texts are this project's own.
+use Rattle.std.specs.Prelude.{ℕ, List, ◌++◌, ◌==◌, drop, if◌then◌else◌, Option, Some, None, unwrap_or, ◌+◌, Bool, not, ◌&&◌, [], ◌∷◌, length, map}
 use Rattle.std.specs.List.{flat_map}
 use Rattle.std.specs.Option.{option_map_or}
 use Rattle.std.specs.Fmt.{decimal}
 use lib.Chars.{codes}
 use Rattle.flash_format.specs.Head.{head_of, is_free}
-use Rattle.flash_format.specs.Components.{cell_name, cell_attributes, packing}
+use Rattle.flash_format.specs.Components.{cell_name, cell_attributes, packing, cell_content}
 use Rattle.flash_format.specs.TypeNames.{name_of_type}
 use Rattle.flash_format.specs.Flashmap.{fmap_head_of, text_of, map_of, areas_at}
 use Rattle.flash_format.specs.declared.flashmap.FmapHead.{FmapHead}
@@ -15,6 +15,15 @@ use Rattle.flash_format.specs.declared.head.Head.{Head}
 use Rattle.printed_fields.specs.Printed.{hexadecimal, printed_name, tab, line_feed}
 use Rattle.cbfs_commands.specs.Told.{Told, shows, refuses}
 use Rattle.cbfs_commands.specs.declared.refusal.Refusal.TheVariants as refusals
+use Rattle.byteorder.specs.Endian.{big_bytes}
+use Rattle.hex.specs.Hex.{encode_lower}
+use Rattle.flash_format.specs.declared.attribute.AttrHead.{AttrHead}
+use Rattle.cbfs_walk.specs.AttrWalks.{head_of_attribute}
+use Rattle.flash_format.specs.Made.{algorithm_row, algorithm, digest_bytes}
+use Rattle.flash_format.specs.declared.digest.Digest.{Digest}
+use Rattle.cbfs_walk.specs.Hashes.{hash_state}
+use Rattle.cbfs_walk.specs.declared.hashes.HashState.{HashState}
+use Rattle.cbfs_walk.specs.declared.hashes.HashState.TheVariants.{Absent, Valid, Invalid, Unsupported}
 
 -- a type by its name, or else by its number
 unfoldable pub printed_type : ℕ → List ℕ
@@ -46,3 +55,35 @@ area_row a = printed_name (text_of a.name) ++ tab ++ hexadecimal a.offset ++ tab
 
 unfoldable pub layout : List ℕ → Told
 layout image = option_map_or (λ q. shows (map_row q (fmap_head_of (drop q image)) ++ flat_map area_row (areas_at image q))) (map_of image) (refuses refusals.NoFmap)
+
+-- the line of an attribute's head: its tag with eight digits, and its length, which counts the head
+unfoldable pub attribute_line : AttrHead → List ℕ
+attribute_line head = codes "\tattr\t0x" ++ encode_lower (big_bytes 4 head.tag) ++ tab ++ decimal head.len ++ line_feed
+
+-- the line of a digest: its algorithm, its digits, and whether it is the content's
+abbrev pub digest_line : Digest → List ℕ → List ℕ
+digest_line d verdict = codes "\thash\t" ++ (algorithm_row (algorithm d)).name ++ tab ++ encode_lower (digest_bytes d) ++ tab ++ verdict ++ line_feed
+
+-- the line of what the first hash attribute says, where there is one
+unfoldable pub hash_line : HashState → List ℕ
+hash_line Absent = []
+hash_line (Valid d) = digest_line d (codes "valid")
+hash_line (Invalid d) = digest_line d (codes "invalid")
+hash_line Unsupported = codes "\thash\tunsupported\n"
+
+-- the line of a component's digest
+abbrev pub hash_text : List ℕ → List ℕ
+hash_text x = hash_line (hash_state (cell_attributes x) (cell_content x))
+
+-- all lines of a component
+abbrev pub details : List ℕ → List ℕ
+details x = flat_map attribute_line (map head_of_attribute (cell_attributes x)) ++ hash_text x
+
+-- the row of a cell of these bytes at a place, with the lines after it
+abbrev pub shown_cell : Bool → ℕ → List ℕ → List ℕ
+shown_cell verbose at x = row at x ++ (if verbose && not (is_free (head_of x)) then details x else [])
+
+-- the same of cells, of which the first stands at this place
+unfoldable pub rows_from : Bool → ℕ → List (List ℕ) → List ℕ
+rows_from verbose at [] = []
+rows_from verbose at (x ∷ cells) = shown_cell verbose at x ++ rows_from verbose (at + length x) cells

@@ -10,7 +10,7 @@ ghost use Rattle.flash_format.specs.Components.{cell_attributes, cell_content};
 ghost use Rattle.printed_fields.specs.Printed.{Pushes};
 ghost use Rattle.cbfs_walk.specs.AttrWalks.{head_of_attribute};
 ghost use Rattle.cbfs_walk.specs.Hashes.{hash_state};
-ghost use Rattle.cbfs_commands.specs.Details.{attribute_line, details, digest_line, hash_line, hash_text};
+ghost use Rattle.cbfs_commands.specs.Rows.{attribute_line, details, digest_line, hash_line, hash_text};
 ghost use Rattle.cbfs_commands.specs.Told.{HasTold, IsComponentOf, cell_of, shows};
 
 use crate::refusal::Refusal;
@@ -34,7 +34,7 @@ fn push_tag(row: &mut Row, tag: u32)
 }
 
 /// The line of an attribute.
-#[tactic(auto, unfolding(crate::specs::Details::attribute_line))]
+#[tactic(auto, unfolding(crate::specs::Rows::attribute_line))]
 fn set_attribute_row(row: &mut Row, head: &AttrHead)
     ensures { row.new.items ≡ attribute_line head.now }
 {
@@ -72,7 +72,7 @@ fn set_digest_row(row: &mut Row, digest: &Digest, verdict: &[u8])
 }
 
 /// The line of what the first hash attribute says; none where there is no such attribute.
-#[tactic(auto, unfolding(crate::specs::Details::hash_line))]
+#[tactic(auto, unfolding(crate::specs::Rows::hash_line))]
 fn set_hash_row(row: &mut Row, state: &HashState)
     ensures { row.new.items ≡ hash_line state.now }
 {

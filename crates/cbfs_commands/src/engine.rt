@@ -2,8 +2,7 @@
 
 ghost use Rattle.std.specs.Prelude.{◌≡◌, ◌+◌, ◌*◌, ◌/◌, ◌<◌, ◌≤◌, ◌⊎◌, false, length, IsTrue, IsErrOf};
 ghost use Rattle.flash_store.specs.Device.{Calls, faults_told};
-ghost use Rattle.cbfs_commands.specs.Deeds.{Meets, MayHaveWritten, Serves, SparesOutside, change_of, deed, reads_source, source_calls, writes_output};
-ghost use Rattle.cbfs_commands.specs.Requests.{request_of};
+ghost use Rattle.cbfs_commands.specs.Deeds.{Meets, MayHaveWritten, Serves, SparesOutside, change_of, deed, reads_source, source_calls, writes_output, request_of};
 ghost use Rattle.cbfs_commands.specs.Refusals.{by_device, by_source};
 
 use crate::add::add;

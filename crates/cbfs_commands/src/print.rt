@@ -4,8 +4,7 @@ ghost use Rattle.std.specs.Prelude.{◌≡◌, ◌+◌, ◌*◌, ◌/◌, ◌<�
 ghost use Rattle.flash_store.specs.Pages.{HasAnswered, OnHonest};
 ghost use Rattle.flash_store.specs.Regions.{LiesIn, bytes_in};
 ghost use Rattle.cbfs_commands.specs.Outcomes.{print_region, told_in};
-ghost use Rattle.cbfs_commands.specs.Details.{shown_cell};
-ghost use Rattle.cbfs_commands.specs.Rows.{row};
+ghost use Rattle.cbfs_commands.specs.Rows.{shown_cell, row};
 ghost use Rattle.cbfs_commands.specs.Told.{HasTold, IsCellOf, cell_of, shows};
 
 use crate::detail::print_details;

@@ -6,22 +6,20 @@ use Rattle.std.proofs.lemmas.Bool.{cond_both, eqb-false, eqb-true, ltb-false, or
 use Rattle.std.proofs.lemmas.List.Elements.{Contains-append_right}
 use Rattle.flash_format.specs.Head.{round64}
 use Rattle.flash_format.specs.Entry.{is_nul}
-use Rattle.flash_format.specs.EmptyEntries.{empty_entry, padding}
+use Rattle.flash_format.specs.Made.{empty_entry, padding, IsDigest, IsMade, meta_length, made_metadata}
 use Rattle.flash_format.specs.Cut.{cut}
 use Rattle.flash_format.specs.Components.{components}
 use Rattle.flash_format.specs.Splices.{splice}
-use Rattle.flash_format.specs.Made.{IsDigest, IsMade, meta_length, made_metadata}
 use Rattle.flash_format.specs.Placings.{HasOneMore, IsSpace, IsPlacing, space_cells}
 use Rattle.flash_format.proofs.MadeLaws.{length-metadata, hash_as_long, made_as_long, made_alone}
 use Rattle.flash_format.proofs.Placed.{empty_is_space, components_placed}
-use Rattle.flash_store.specs.Bytes.{SameOutside}
+use Rattle.flash_store.specs.Device.{SameOutside}
 use Rattle.flash_store.proofs.BytesLemmas.{SameOutside-overwritten, further, length-overwritten}
-use Rattle.cbfs_edit.specs.Groups.{IsCellRange}
+use Rattle.cbfs_edit.specs.Removals.{IsCellRange, kept_at, space_end}
 use Rattle.cbfs_edit.specs.Runs.{runs}
-use Rattle.cbfs_edit.specs.Removals.{kept_at, space_end}
 use Rattle.cbfs_edit.specs.Places.{is_bad_align, IsWanted, IsFirstPlace, IsPlaceAmong, placing_in}
 use Rattle.cbfs_edit.specs.Places.{Fits}
-use Rattle.cbfs_edit.specs.Stops.{AddLeavesWhole, AddLeavesBefore, IsOldOrEmptied, written_to, IsInsertStop}
+use Rattle.cbfs_edit.specs.Changes.{AddLeavesWhole, AddLeavesBefore, IsOldOrEmptied, written_to, IsInsertStop}
 use Rattle.cbfs_edit.specs.Additions.{NewComponent, AddsOne, added, added_component, addition_in, empty_between, cell_end, metadata_len_of, is_bad_name, is_bad_type, kept_from, made_at, own_fault, wanted_for, added_to, digest_of}
 use Rattle.cbfs_edit.specs.Laws.{AdditionsAddOneComponent, IsAdded}
 use Rattle.cbfs_edit.specs.declared.fault.EditFault.{EditFault}

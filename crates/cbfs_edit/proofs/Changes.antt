@@ -2,14 +2,12 @@
 use Rattle.std.proofs.Common.{◌≡◌, ℕ, ◌-◌, ◌<◌, ◌≤◌, Bool, true, false, cond, List, length, Option, Some, None, ap, refl, arith, length-drop, ◌⊎◌, inl, inr, ◌+◌, sym, ◌∙◌, subst}
 use Rattle.std.specs.Prelude.{◌==◌, is_some, max}
 use Rattle.std.proofs.lemmas.Bool.{cond_both, ne_eqb, eqb-false, eqb-true}
-use Rattle.flash_format.specs.Made.{KeepsFour}
+use Rattle.flash_format.specs.Made.{KeepsFour, empty_header, header_length}
 use Rattle.cbfs_edit.specs.Removals.{last_four, kept_at}
-use Rattle.flash_format.specs.Head.{header_length}
-use Rattle.flash_format.specs.EmptyEntries.{empty_header}
-use Rattle.flash_store.specs.Bytes.{SameOutside, overwritten}
+use Rattle.flash_store.specs.Device.{SameOutside, overwritten}
 use Rattle.flash_store.proofs.BytesLemmas.{SameOutside-overwritten, SameOutside-trans}
 use Rattle.cbfs_edit.specs.declared.place.Place.{Place}
-use Rattle.cbfs_edit.specs.Insertions.{HasRoom, with_bound, held_back, IsUnfinished}
+use Rattle.cbfs_edit.specs.Additions.{HasRoom, with_bound, held_back, IsUnfinished}
 
 -- ---- the last four bytes of a region, where an empty entry keeps them
 

@@ -1,20 +1,18 @@
 -- The state between the first commit of an edit and its last, by the header of an empty entry over a group of cells.
 use Rattle.std.proofs.Common.{◌≡◌, ◌⊎◌, inl, inr, ℕ, ◌+◌, ◌-◌, ◌≤◌, List, ◌++◌, length, sym, ◌∙◌, ap, arith, refl, ◌%◌, Bool, true, false, cond, take, drop, replicate, Some, None, subst, append_assoc, length-append, length-drop, ◌^◌, ◌<◌}
 use Rattle.std.specs.Prelude.{slice_range, ◌==◌}
-use Rattle.flash_format.specs.Head.{header_length}
-use Rattle.flash_format.specs.EmptyEntries.{empty_header, padding}
+use Rattle.flash_format.specs.Made.{header_length, empty_header, padding}
 use Rattle.flash_format.proofs.EmptyEntryLaws.{length-empty_header}
-use Rattle.flash_store.specs.Bytes.{overwritten, SameOutside}
+use Rattle.flash_store.specs.Device.{overwritten, SameOutside}
 use Rattle.flash_store.proofs.BytesLemmas.{SameOutside-overwritten, SameOutside-trans, SameOutside-wider, overwritten-more_at, length-overwritten, length-slice_range, changed-overwritten, overwritten-front, slice_range_is, further}
-use Rattle.cbfs_edit.specs.Stops.{IsEmptied, IsOldOrEmptied, IsStopped, SameCells}
+use Rattle.cbfs_edit.specs.Changes.{IsEmptied, IsOldOrEmptied, IsStopped, SameCells}
 use Rattle.cbfs_edit.specs.declared.group.CellRange.{CellRange}
 use Rattle.cbfs_edit.proofs.Changes.{again, unchanged, within, is_some-cond}
 use Rattle.std.proofs.lemmas.List.{length-replicate, take_all}
 use Rattle.std.proofs.lemmas.Bool.{cond_both, eqb-false, eqb-true}
 use Rattle.flash_store.specs.Regions.{Range, LiesIn, bytes_in}
 use Rattle.flash_store.proofs.DeviceLemmas.{length-bytes_in}
-use Rattle.cbfs_edit.specs.Groups.{IsCellRange}
-use Rattle.cbfs_edit.specs.Removals.{last_four, kept_at, removed, space_end}
+use Rattle.cbfs_edit.specs.Removals.{IsCellRange, last_four, kept_at, removed, space_end}
 use Rattle.std.specs.List.{concat}
 use Rattle.flash_format.specs.Cut.{cut}
 use Rattle.flash_format.specs.Components.{components_from, components}

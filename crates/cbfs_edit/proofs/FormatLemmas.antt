@@ -4,18 +4,17 @@ use Rattle.std.specs.Prelude.{◌==◌}
 use Rattle.std.proofs.lemmas.List.{append-nil, drop_all}
 use Rattle.std.proofs.lemmas.Bool.{eq-eqb}
 use Rattle.std.proofs.lemmas.List.Elements.{All-nil, All-cons}
-use Rattle.flash_format.specs.Head.{header_length, head_of, is_free}
-use Rattle.flash_format.specs.EmptyEntries.{empty_header, empty_entry, padding}
+use Rattle.flash_format.specs.Head.{head_of, is_free}
+use Rattle.flash_format.specs.Made.{header_length, empty_header, empty_entry, padding}
 use Rattle.flash_format.specs.Entry.{entry, cell}
 use Rattle.flash_format.specs.Cut.{complete, IsCell}
 use Rattle.flash_format.proofs.CutLaws.{cut_unique}
 use Rattle.flash_format.proofs.EmptyEntryLaws.{empty_header-cell, length-empty_header}
 use Rattle.flash_format.proofs.MadeLaws.{length-padding}
-use Rattle.flash_store.specs.Bytes.{overwritten}
+use Rattle.flash_store.specs.Device.{overwritten}
 use Rattle.flash_store.proofs.BytesLemmas.{further}
-use Rattle.cbfs_edit.specs.Groups.{IsCellRange}
-use Rattle.cbfs_edit.specs.Removals.{removed, last_four, kept_at, space_end}
-use Rattle.cbfs_edit.specs.Stops.{IsOldOrEmptied}
+use Rattle.cbfs_edit.specs.Removals.{IsCellRange, removed, last_four, kept_at, space_end}
+use Rattle.cbfs_edit.specs.Changes.{IsOldOrEmptied}
 use Rattle.cbfs_edit.specs.Formats.{formatted, IsOneFreeCell}
 use Rattle.cbfs_edit.specs.Laws.{FormattedIsOneFreeCell}
 use Rattle.cbfs_edit.specs.declared.group.CellRange.{CellRange}

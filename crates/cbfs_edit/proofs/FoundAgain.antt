@@ -20,9 +20,7 @@ use Rattle.cbfs_edit.specs.declared.place.Place.{Place}
 use Rattle.cbfs_edit.proofs.Added.{accepted_size, added_length, additions_add_one, there, region_some}
 use Rattle.cbfs_walk.specs.Shaped.{place_after}
 use Rattle.cbfs_walk.specs.declared.walk.WalkFault.{WalkFault}
-use Rattle.cbfs_edit.specs.Groups.{group_of}
-use Rattle.cbfs_edit.specs.Refusals.{edit_fault_of}
-use Rattle.cbfs_edit.specs.Removals.{LosesOne, removed, removal_in, unless_damaged}
+use Rattle.cbfs_edit.specs.Removals.{group_of, LosesOne, removed, removal_in, unless_damaged, edit_fault_of}
 use Rattle.cbfs_edit.specs.declared.fault.EditFault.TheVariants as faults
 use Rattle.cbfs_edit.specs.declared.group.CellRange.{CellRange}
 use Rattle.cbfs_edit.proofs.Groups.{group_none}

@@ -13,7 +13,7 @@ use Rattle.std.proofs.lemmas.Bool.{both_ways, cases_Bool}
 use Rattle.std.proofs.lemmas.List.Elements.{All-nil, All-cons, All-push, All-append, All-weaker, All-head, All-tail, All-contains, Contains-append_right}
 use Rattle.flash_format.specs.Head.{head_of, is_free}
 use Rattle.flash_format.specs.Components.{cell_name}
-use Rattle.cbfs_edit.specs.Groups.{by_rows, group_from, group_of, row_end, IsComponent, IsNot, IsRangeAmong, IsGroupOf}
+use Rattle.cbfs_edit.specs.Removals.{by_rows, group_from, group_of, row_end, IsComponent, IsNot, IsRangeAmong, IsGroupOf}
 use Rattle.cbfs_edit.specs.Laws.{GroupsAreExact}
 
 abbrev pub IsFree : List ℕ → Type 0

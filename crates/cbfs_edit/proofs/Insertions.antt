@@ -3,17 +3,15 @@ use Rattle.std.proofs.Common.{◌≡◌, ⊎_elim, ℕ, ◌+◌, ◌-◌, ◌≤
 use Rattle.std.specs.Prelude.{◌==◌, is_some, max, OnErr, option_copied}
 use Rattle.std.proofs.lemmas.Bool.{cases_eq, eq-eqb, ne_eqb, cond_both, eqb-false}
 use Rattle.std.proofs.lemmas.List.{append-nil, length-replicate, length-take-le}
-use Rattle.flash_format.specs.Head.{header_length, round64}
-use Rattle.flash_format.specs.EmptyEntries.{empty_header, empty_entry, padding}
-use Rattle.flash_format.specs.Made.{KeepsFour, hash_len, made, made_metadata, metadata_of, described_len}
+use Rattle.flash_format.specs.Head.{round64}
+use Rattle.flash_format.specs.Made.{header_length, empty_header, empty_entry, padding, KeepsFour, hash_len, made, made_metadata, metadata_of, described_len}
 use Rattle.flash_format.proofs.EmptyEntryLaws.{length-empty_header}
 use Rattle.flash_format.proofs.MadeLaws.{length-padding}
-use Rattle.flash_store.specs.Bytes.{overwritten, SameOutside}
+use Rattle.flash_store.specs.Device.{overwritten, SameOutside}
 use Rattle.flash_store.proofs.BytesLemmas.{length-overwritten, drop-overwritten, further}
 use Rattle.cbfs_edit.specs.declared.place.Place.{Place}
 use Rattle.cbfs_edit.specs.Removals.{last_four, kept_at, removed, space_end}
-use Rattle.cbfs_edit.specs.Additions.{empty_between, NewComponent, added, digest_of, metadata_len_of, component_of_label, wanted_for}
-use Rattle.cbfs_edit.specs.Insertions.{HasRoom, held_back, with_metadata, with_bound, shown_by, with_component, IsUnfinished}
+use Rattle.cbfs_edit.specs.Additions.{empty_between, NewComponent, added, digest_of, metadata_len_of, component_of_label, wanted_for, HasRoom, held_back, with_metadata, with_bound, shown_by, with_component, IsUnfinished}
 use Rattle.cbfs_edit.proofs.Changes.{is_some-cond, keeps, kept-none}
 use Rattle.cbfs_edit.proofs.Lists.{over_part, padding-begins, padding-split}
 use Rattle.flash_format.specs.declared.digest.Digest.{Digest}
@@ -21,7 +19,7 @@ use Rattle.flash_format.specs.declared.meta.Meta.{Meta}
 use Rattle.flash_store.specs.Regions.{Range, LiesIn, bytes_in}
 use Rattle.flash_store.proofs.DeviceLemmas.{length-bytes_in}
 use Rattle.cbfs_edit.specs.Places.{Fits}
-use Rattle.cbfs_edit.specs.Stops.{IsEmptied, IsInsertStop, IsOldOrEmptied, written_to}
+use Rattle.cbfs_edit.specs.Changes.{IsEmptied, IsInsertStop, IsOldOrEmptied, written_to}
 use Rattle.flash_format.specs.declared.digest.Digest.TheVariants as digests
 use Rattle.cbfs_edit.specs.declared.addition.Label.{Label}
 use Rattle.cbfs_edit.specs.declared.group.CellRange.{CellRange}

@@ -7,7 +7,7 @@ use Rattle.std.proofs.lemmas.Bool.{eqb-false, leb-false, leb-true}
 use Rattle.std.proofs.lemmas.List.Elements.{All-nil, All-cons, All-head, All-tail, All-weaker}
 use Rattle.std.proofs.Math.Nat.{add-mod-mod, mul-mod_left, mod-lt, div-add-mod, lt_of_mul-lt-mul_right, mul-le-mul_right}
 use Rattle.cbfs_edit.specs.Places.{is_bad_align, Allows, HasNoRoom, IsAllowed, IsHeaderOf, IsFirstPlace, IsPlaceAmong, IsWanted, limit_of, least_from, place_in, first_place, placing_in}
-use Rattle.cbfs_edit.specs.Groups.{IsCellRange}
+use Rattle.cbfs_edit.specs.Removals.{IsCellRange}
 use Rattle.cbfs_edit.specs.Laws.{PlacesAreExact}
 use Rattle.cbfs_edit.specs.Places.{Fits}
 use Rattle.cbfs_edit.specs.Runs.{runs}

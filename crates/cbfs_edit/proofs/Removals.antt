@@ -4,11 +4,10 @@ use Rattle.std.specs.Prelude.{IsErrOf, ok_or}
 use Rattle.flash_store.specs.Regions.{Range, LiesIn, bytes_in}
 use Rattle.flash_store.proofs.DeviceLemmas.{length-bytes_in}
 use Rattle.flash_format.specs.Cut.{cut}
-use Rattle.cbfs_edit.specs.Groups.{IsCellRange, IsGroupOf, group_of, IsComponent, IsNot}
-use Rattle.cbfs_edit.specs.Removals.{removal_in, removed, space_end}
-use Rattle.flash_store.specs.Bytes.{overwritten, SameOutside}
+use Rattle.cbfs_edit.specs.Removals.{IsCellRange, IsGroupOf, group_of, IsComponent, IsNot, removal_in, removed, space_end}
+use Rattle.flash_store.specs.Device.{overwritten, SameOutside}
 use Rattle.flash_store.proofs.RegionLemmas.{image_is}
-use Rattle.cbfs_edit.specs.Stops.{IsOldOrEmptied, LeavesWhole}
+use Rattle.cbfs_edit.specs.Changes.{IsOldOrEmptied, LeavesWhole}
 use Rattle.cbfs_edit.specs.Laws.{EmptiedGroupsLackTheComponent, RemovalsTakeOneComponent}
 use Rattle.cbfs_edit.specs.declared.fault.EditFault.{EditFault}
 use Rattle.cbfs_edit.specs.declared.group.CellRange.{CellRange}

@@ -9,22 +9,20 @@ use Rattle.flash_store.proofs.WindowLemmas.{HasRead-none, HasRead-then, HasRead-
 use Rattle.flash_store.specs.Regions.{Range, LiesIn, bytes_in}
 use Rattle.flash_store.proofs.DeviceLemmas.{honest_still, length-bytes_in}
 use Rattle.cbfs_walk.specs.Cells.{IsCellIn, cell_in}
-use Rattle.cbfs_walk.specs.Passing.{reads_over}
+use Rattle.cbfs_walk.specs.Walks.{reads_over, Answer, Walking, walk_of, answer_at, reads_at, StandsIn}
 use Rattle.cbfs_walk.specs.Shapes.{shape_fault, refused_or}
-use Rattle.cbfs_walk.specs.Walks.{Answer, Walking, walk_of, answer_at, reads_at, StandsIn}
 use Rattle.cbfs_walk.specs.Shaped.{reading_of, ReadsCells, by_answer, place_after}
 use Rattle.cbfs_walk.specs.declared.cell.Cell.{Cell}
 use Rattle.cbfs_walk.specs.declared.walk.Step.{Step}
 use Rattle.cbfs_walk.specs.declared.walk.WalkFault.{WalkFault}
 use Rattle.cbfs_walk.proofs.Shapes.{shaped_step}
 use Rattle.cbfs_walk.proofs.Answering.{IsLast, last_reads}
-use Rattle.cbfs_edit.specs.Refusals.{by_device, edit_fault_of}
-use Rattle.cbfs_edit.specs.Removals.{unless_damaged, unless_unsound, removal_in}
+use Rattle.cbfs_edit.specs.Changes.{by_device}
+use Rattle.cbfs_edit.specs.Removals.{edit_fault_of, unless_damaged, unless_unsound, removal_in, by_rows}
 use Rattle.cbfs_edit.specs.declared.fault.EditFault.{EditFault}
 use Rattle.std.specs.Str.{bytes_eq}
 use Rattle.flash_format.specs.Head.{head_of, is_free}
 use Rattle.flash_format.specs.Components.{cell_name, Component, components_from, component_at}
-use Rattle.cbfs_edit.specs.Groups.{by_rows}
 use Rattle.cbfs_edit.specs.Searches.{group_by, place_by}
 use Rattle.cbfs_edit.specs.declared.group.CellRange.{CellRange}
 use Rattle.cbfs_edit.specs.declared.group.Search.TheVariants.{Looking}

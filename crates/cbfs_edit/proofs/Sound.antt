@@ -6,8 +6,7 @@ use Rattle.flash_format.specs.Entry.{entry}
 use Rattle.cbfs_walk.specs.Shapes.{has_bad_size, is_absent, refused_or}
 use Rattle.cbfs_walk.specs.Shaped.{place_after}
 use Rattle.cbfs_walk.proofs.Answering.{good_size}
-use Rattle.cbfs_edit.specs.Refusals.{edit_fault_of}
-use Rattle.cbfs_edit.specs.Removals.{unless_damaged, unless_unsound}
+use Rattle.cbfs_edit.specs.Removals.{edit_fault_of, unless_damaged, unless_unsound}
 use Rattle.cbfs_edit.specs.declared.fault.EditFault.{EditFault}
 use Rattle.cbfs_edit.specs.declared.group.CellRange.{CellRange}
 use Rattle.cbfs_walk.specs.declared.walk.WalkFault.TheVariants as walk

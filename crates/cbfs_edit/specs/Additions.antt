@@ -2,18 +2,17 @@
 use Rattle.std.specs.List.{list_any}
 use Rattle.std.specs.Option.{option_map_or}
 use Rattle.std.specs.Result.{result_map_both, result_ok}
-use Rattle.std.specs.Prelude.{◌≡◌, ℕ, ◌+◌, ◌-◌, ◌==◌, ◌||◌, max, Bool, List, [], ◌∷◌, ◌++◌, length, slice_range, nat_lt, Option, Some, None, Result, Err, if◌then◌else◌}
+use Rattle.std.specs.Prelude.{◌≡◌, ℕ, ◌+◌, ◌-◌, ◌==◌, ◌||◌, max, Bool, List, [], ◌∷◌, ◌++◌, length, slice_range, nat_lt, Option, Some, None, Result, Err, if◌then◌else◌, ◌^◌, ◌<◌, ◌≤◌, false, take, drop}
 use Rattle.flash_format.specs.Head.{round64}
+use Rattle.flash_format.specs.Made.{header_length, empty_entry, empty_header, hash_len, meta_length, made}
 use Rattle.flash_format.specs.Entry.{is_nul}
-use Rattle.flash_format.specs.EmptyEntries.{empty_entry}
 use Rattle.flash_format.specs.Components.{Component}
-use Rattle.flash_format.specs.Made.{hash_len, meta_length, made}
 use Rattle.flash_format.specs.Placings.{HasOneMore, made_component, space_cells}
 use Rattle.flash_format.specs.Splices.{AllFree, CellsBetween}
 use Rattle.flash_format.specs.declared.digest.Digest.{Digest}
-use Rattle.flash_store.specs.Bytes.{overwritten}
+use Rattle.flash_store.specs.Device.{overwritten, SameOutside}
 use Rattle.cbfs_walk.specs.Hashes.{sha256_of, sha512_of}
-use Rattle.cbfs_edit.specs.Removals.{kept_at}
+use Rattle.cbfs_edit.specs.Removals.{kept_at, IsCellRange}
 use Rattle.cbfs_edit.specs.Places.{is_bad_align, placing_in}
 use Rattle.cbfs_edit.specs.declared.addition.HashChoice.{HashChoice}
 use Rattle.cbfs_edit.specs.declared.addition.HashChoice.TheVariants.{Plain, Sha256, Sha512}
@@ -117,3 +116,39 @@ placed_of place = result_map_both (λ p. record { header = p.header; content = p
 -- the region after the addition: as it was where that is refused
 abbrev pub added_to : List ℕ → NewComponent → Spot → List ℕ
 added_to x new spot = option_map_or (added x new) (result_ok (addition_in x new spot)) x
+
+-- a component with so many bytes before its content fits there, with a cell that ends at `end`
+pub record HasRoom (size : ℕ) (place : Place) (end metadata : ℕ) : Type 0 where
+  pub run : IsCellRange place.run size
+  pub small : size < 2 ^ 32
+  pub start_below : place.run.start ≤ place.header
+  pub cell : IsCellRange (record { start = place.header; end = end }) place.run.end
+  pub metadata_is : place.header + metadata ≡ place.content
+  pub metadata_long : header_length ≤ metadata
+  pub metadata_short : metadata ≤ 4096
+  pub content_below : place.content ≤ end
+
+-- how many bytes of a component's metadata the last commit writes, which shows the component: those at the run's start
+abbrev pub held_back : Place → ℕ
+held_back place = if place.header == place.run.start then header_length else 0
+
+-- the rest of the metadata
+abbrev pub with_metadata : List ℕ → Place → List ℕ → List ℕ
+with_metadata y place metadata = overwritten y (place.header + held_back place) (drop (held_back place) metadata)
+
+-- the header of the empty entry after the component, where there is one
+abbrev pub with_bound : List ℕ → ℕ → ℕ → List ℕ
+with_bound y end run_end = if end == run_end then y else overwritten y end (empty_header (run_end - end) (run_end == length y))
+
+-- what the last commit writes: the begin of the metadata, or the header of the empty entry before the component
+abbrev pub shown_by : Place → List ℕ → List ℕ
+shown_by place metadata = if place.header == place.run.start then take header_length metadata else empty_header (place.header - place.run.start) false
+
+-- all that is written after the content
+abbrev pub with_component : List ℕ → Place → ℕ → List ℕ → List ℕ
+with_component y place end metadata = overwritten (with_bound (with_metadata y place metadata) end place.run.end) place.run.start (shown_by place metadata)
+
+-- before the last commit nothing has changed but bytes of the run behind the header of its empty entry, and of the run's last four
+-- only those before the content
+abbrev pub IsUnfinished : Place → List ℕ → List ℕ → Type 0
+IsUnfinished place y z = SameOutside (place.run.start + header_length) (max place.content (place.run.end - 4) - (place.run.start + header_length)) y z

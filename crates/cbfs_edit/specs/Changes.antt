@@ -1,12 +1,34 @@
--- What becomes of the bytes of a region.
-use Rattle.std.specs.Prelude.{◌≡◌, ℕ, ◌+◌, ◌/◌, List, length, Result, IsTrue, IsErrOf, OnOk}
-use Rattle.flash_store.specs.Bytes.{overwritten, SameOutside}
-use Rattle.flash_store.specs.Copies.{by_device, by_source}
-use Rattle.flash_store.specs.Device.{Device, Reads, faults_told, refusals}
+-- What becomes of the bytes of a region, which side a refusal blames, and what an edit leaves that stops.
+use Rattle.std.specs.Prelude.{◌≡◌, ℕ, ◌+◌, ◌/◌, List, length, Result, IsTrue, IsErrOf, OnOk, ◌⊎◌, ◌-◌, max, drop, Ok, ◌==◌}
+use Rattle.flash_store.specs.Device.{overwritten, SameOutside, Device, Reads, faults_told, refusals}
+use Rattle.flash_store.specs.Pages as copies
 use Rattle.flash_store.specs.Pages.{Pages, HasChanged}
 use Rattle.flash_store.specs.Regions.{Range, bytes_in}
 use Rattle.flash_store.specs.declared.paged.CopyFault.{CopyFault}
 use Rattle.flash_store.specs.declared.paged.CopyFault.TheVariants as causes
+use Rattle.flash_format.specs.Made.{header_length, empty_header}
+use Rattle.flash_format.specs.Cut.{cut}
+use Rattle.flash_format.specs.Components.{components}
+use Rattle.cbfs_edit.specs.Removals.{removed, removal_in, space_end}
+use Rattle.cbfs_edit.specs.Additions.{NewComponent, addition_in, added, kept_from}
+use Rattle.cbfs_edit.specs.declared.fault.EditFault.{EditFault}
+use Rattle.cbfs_edit.specs.declared.fault.EditFault.TheVariants as faults
+use Rattle.cbfs_edit.specs.declared.group.CellRange.{CellRange}
+use Rattle.cbfs_edit.specs.declared.place.Spot.{Spot}
+use Rattle.cbfs_edit.specs.declared.place.Place.{Place}
+
+-- of a fault: what is said of the device's, of the source's, or of any refusal
+abbrev pub by_fault {ℓ} : {X : Type ℓ} → EditFault → X → X → X → X
+by_fault faults.Device device source refused = device
+by_fault faults.Source device source refused = source
+by_fault _ device source refused = refused
+
+-- how many refused calls of the device a fault tells, and how many of the source
+abbrev pub by_device : EditFault → ℕ
+by_device fault = by_fault fault 1 0 0
+
+abbrev pub by_source : EditFault → ℕ
+by_source fault = by_fault fault 0 1 0
 
 -- P of the bytes of a region before and after, where the device is honest
 abbrev pub OnHonestChange : {F : Type 0} → (F → Device) → Range → Pages F → Pages F → (List ℕ → List ℕ → Type 0) → Type 0
@@ -23,8 +45,54 @@ pub record HasWrittenIn {F T E : Type 0} (facts : F → Device) (region : Range)
 -- What is left after a whole source was to be copied to a place of a region. What was copied is told of an honest device
 -- and an honest source, what is outside of an honest device whatever the source.
 pub record HasCopied {F T : Type 0} (facts : F → Device) (region : Range) (at : ℕ) (old new : Pages F) (input input_now : Device) (result : Result T CopyFault) : Type 0 where
-  pub after : HasChanged facts region ((length input.content + 4095) / 4096) (faults_told by_device result) old new
-  pub source : Reads ((length input.content + 4095) / 4096) (faults_told by_source result) input input_now
+  pub after : HasChanged facts region ((length input.content + 4095) / 4096) (faults_told copies.by_device result) old new
+  pub source : Reads ((length input.content + 4095) / 4096) (faults_told copies.by_source result) input input_now
   pub no_output : IsErrOf result causes.Output → ⊥
   pub copied : OnHonestChange facts region old new (λ x y. IsTrue input.honest → OnOk result (y ≡ overwritten x at input.content))
   pub torn : OnHonestChange facts region old new (SameOutside at (length input.content))
+
+-- Between the first commit of an edit and its last: the header of an empty entry over the whole group stands at its start,
+-- and what is behind it, up to a place, may be anything.
+pub record IsEmptied (group : CellRange) (to : ℕ) (x y : List ℕ) : Type 0 where
+  pub same_length : length y ≡ length x
+  pub same : SameOutside (group.start + header_length) (to - (group.start + header_length)) (overwritten x group.start (empty_header (group.end - group.start) (group.end == length x))) y
+
+-- where the writes of an empty entry stop
+abbrev pub IsOldOrEmptied : CellRange → ℕ → List ℕ → List ℕ → Type 0
+IsOldOrEmptied group to x y = (y ≡ x) ⊎ IsEmptied group to x y
+
+-- the same components, each with its place and its bytes, and the same end
+pub record SameCells (x y : List ℕ) : Type 0 where
+  pub components : components x ≡ components y
+  pub end : (cut x).end ≡ (cut y).end
+
+-- The components are those of before or those of the finished edit, and nothing else has changed; from a place on all
+-- bytes are kept.
+pub record IsStopped (x : List ℕ) (group : CellRange) (done : List ℕ) (kept : ℕ) (y : List ℕ) : Type 0 where
+  pub components : (components y ≡ components x) ⊎ (components y ≡ components done)
+  pub end : (cut y).end ≡ (cut x).end
+  pub same_length : length y ≡ length x
+  pub outside : SameOutside group.start (group.end - group.start) x y
+  pub last : drop kept y ≡ drop kept x
+
+-- the bytes that a removal leaves after a fault of the device: those before, or those of a stop of an accepted removal,
+-- with the region's last four as they were
+abbrev pub LeavesWhole : List ℕ → List ℕ → List ℕ → Type 0
+LeavesWhole x name y = (y ≡ x) ⊎ ((group : CellRange) × (removal_in x name ≡ Ok group) × IsStopped x group (removed x group) (length x - 4) y)
+
+-- those that an addition leaves after a fault of the device: of the region's last four those after the content's end stay
+abbrev pub AddLeavesWhole : List ℕ → NewComponent → Spot → List ℕ → Type 0
+AddLeavesWhole x new spot y = (y ≡ x) ⊎ ((place : Place) × (addition_in x new spot ≡ Ok place) × IsStopped x place.run (added x new place) (kept_from x new place) y)
+
+-- and after a fault of the source, with the components of before
+abbrev pub AddLeavesBefore : List ℕ → NewComponent → Spot → List ℕ → Type 0
+AddLeavesBefore x new spot y = AddLeavesWhole x new spot y × (components y ≡ components x)
+
+-- up to where an addition writes that puts so many bytes of content there: the region's last four after it are kept
+abbrev pub written_to : ℕ → ℕ → Place → ℕ
+written_to size len place = max (place.content + len) (space_end size place.run.end)
+
+-- where the writes of an addition stop: at those of an empty entry over the run, or they are done; from a place on all
+-- bytes are kept
+abbrev pub IsInsertStop : CellRange → ℕ → Type 0 → List ℕ → List ℕ → Type 0
+IsInsertStop run to Done x y = IsOldOrEmptied run to x y ⊎ (Done × (drop to y ≡ drop to x))

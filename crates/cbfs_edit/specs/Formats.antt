@@ -1,7 +1,7 @@
 -- What the formatting of a region leaves.
 use Rattle.std.specs.Prelude.{◌≡◌, ℕ, true, List, [], ◌∷◌, length, Some}
 use Rattle.flash_format.specs.Head.{head_of, is_free}
-use Rattle.flash_format.specs.EmptyEntries.{empty_entry}
+use Rattle.flash_format.specs.Made.{empty_entry}
 use Rattle.flash_format.specs.Cut.{cut, complete}
 use Rattle.cbfs_edit.specs.Removals.{last_four}
 

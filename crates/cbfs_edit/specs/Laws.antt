@@ -7,9 +7,8 @@ use Rattle.flash_format.specs.Components.{Component, components}
 use Rattle.flash_format.specs.Made.{IsDigest}
 use Rattle.cbfs_walk.specs.Finding.{component_in}
 use Rattle.cbfs_edit.specs.Additions.{NewComponent, AddsOne, added, added_component, addition_in}
-use Rattle.cbfs_edit.specs.Groups.{group_of, IsNot, IsGroupOf}
-use Rattle.cbfs_edit.specs.Removals.{LosesOne, removed, removal_in}
-use Rattle.cbfs_edit.specs.Stops.{IsEmptied, SameCells}
+use Rattle.cbfs_edit.specs.Removals.{group_of, IsNot, IsGroupOf, LosesOne, removed, removal_in}
+use Rattle.cbfs_edit.specs.Changes.{IsEmptied, SameCells}
 use Rattle.cbfs_edit.specs.Formats.{formatted, IsOneFreeCell}
 use Rattle.cbfs_edit.specs.Runs.{runs, IsRunOf}
 use Rattle.cbfs_edit.specs.Places.{IsWanted, IsPlaceAmong, first_place}

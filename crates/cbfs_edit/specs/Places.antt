@@ -4,9 +4,8 @@ use Rattle.std.specs.Int.{next_multiple_of}
 use Rattle.std.specs.Prelude.{◌≡◌, ℕ, ◌+◌, ◌-◌, ◌*◌, ◌/◌, ◌%◌, ◌^◌, ◌<◌, ◌≤◌, ⊤, ◌&&◌, ◌==◌, Bool, false, nat_le, if◌then◌else◌, is_some, List, ◌∷◌, ◌++◌, All, length, Option, Some, None, MatchOption, Result, Err, ok_or}
 use Rattle.flash_format.specs.Components.{components}
 use Rattle.cbfs_walk.specs.Finding.{first_named}
-use Rattle.cbfs_edit.specs.Groups.{IsCellRange}
+use Rattle.cbfs_edit.specs.Removals.{IsCellRange, space_end, unless_unsound}
 use Rattle.cbfs_edit.specs.Runs.{runs}
-use Rattle.cbfs_edit.specs.Removals.{space_end, unless_unsound}
 use Rattle.cbfs_edit.specs.declared.fault.EditFault.{EditFault}
 use Rattle.cbfs_edit.specs.declared.fault.EditFault.TheVariants.{Exists, NoSpace}
 use Rattle.cbfs_edit.specs.declared.group.CellRange.{CellRange}

@@ -1,18 +1,85 @@
--- What a removal leaves, and how it is refused.
+-- Groups of neighbouring cells, a component with the free cells that touch it; what a removal of one leaves, and how it is
+-- refused.
+use Rattle.std.specs.List.{concat, last_or, slice_get}
+use Rattle.std.specs.Prelude.{ℕ, ◌+◌, ◌%◌, ◌≡◌, ◌≤◌, IfSome, true, false, All, List, [], ◌∷◌, ◌++◌, length, Option, Some, None, if◌then◌else◌, ◌-◌, drop, Result, Err, ok_or, ◌==◌}
+use Rattle.std.specs.Str.{bytes_eq}
+use Rattle.flash_format.specs.Head.{head_of, is_free}
+use Rattle.flash_format.specs.Cut.{cut, End}
+use Rattle.flash_format.specs.Components.{cell_name, Component, components}
+use Rattle.flash_format.specs.Splices.{AllFree}
+use Rattle.cbfs_edit.specs.declared.group.CellRange.{CellRange}
 use Rattle.std.specs.Result.{result_and, result_map_both}
-use Rattle.std.specs.Prelude.{◌≡◌, ℕ, ◌-◌, List, ◌++◌, length, drop, Option, Some, None, Result, Err, ok_or, ◌==◌, if◌then◌else◌}
-use Rattle.flash_format.specs.EmptyEntries.{empty_entry}
-use Rattle.flash_format.specs.Components.{Component, components}
-use Rattle.flash_format.specs.Cut.{End, cut}
-use Rattle.flash_store.specs.Bytes.{overwritten}
+use Rattle.flash_format.specs.Made.{empty_entry}
+use Rattle.flash_store.specs.Device.{overwritten}
 use Rattle.cbfs_walk.specs.Finding.{IsFirstOf, not_found}
 use Rattle.cbfs_walk.specs.Shapes.{shape_fault, refused_or}
 use Rattle.cbfs_walk.specs.Shaped.{place_after}
-use Rattle.cbfs_edit.specs.Refusals.{edit_fault_of}
-use Rattle.cbfs_edit.specs.Groups.{group_of}
+use Rattle.cbfs_walk.specs.declared.walk.WalkFault.{WalkFault}
+use Rattle.cbfs_walk.specs.declared.walk.WalkFault.TheVariants as faults
 use Rattle.cbfs_edit.specs.declared.fault.EditFault.{EditFault}
-use Rattle.cbfs_edit.specs.declared.fault.EditFault.TheVariants.{NotFound}
-use Rattle.cbfs_edit.specs.declared.group.CellRange.{CellRange}
+use Rattle.cbfs_edit.specs.declared.fault.EditFault.TheVariants.{RegionShape, NotCbfs, Damaged, Device, NotFound}
+
+-- What is made of cells of which the first stands at a place, where the free cells right before that place begin at `start`:
+-- at a component by `each`, of where the free cells before it begin, its place, its bytes, the cells after it and what is made
+-- of those; and by `last` where the cells end.
+unfoldable pub by_rows : {A : Type 0} → (ℕ → ℕ → A) → (ℕ → ℕ → List ℕ → List (List ℕ) → A → A) → ℕ → ℕ → List (List ℕ) → A
+by_rows last each start at [] = last start at
+by_rows last each start at (x ∷ cells) =
+    let next = at + length x in
+    if is_free (head_of x) then by_rows last each start next cells else each start at x cells (by_rows last each next next cells)
+
+-- where the free cells end that come first, of cells that begin at a place
+abbrev pub row_end : ℕ → List (List ℕ) → ℕ
+row_end at = by_rows (λ start end. end) (λ start end x cells later. end) 0 at
+
+-- the first component of a name with the free cells that touch it in an unbroken row on either side
+abbrev pub group_from : List ℕ → ℕ → ℕ → List (List ℕ) → Option CellRange
+group_from name = by_rows (λ start at. None) (λ start at x cells later.
+    if bytes_eq (cell_name x) name then Some (record { start = start; end = row_end (at + length x) cells }) else later)
+
+-- the same of a region
+abbrev pub group_of : List ℕ → List ℕ → Option CellRange
+group_of x name = group_from name 0 0 (cut x).cells
+
+-- a group of cells may stand there, in a region of this size
+pub record IsCellRange (group : CellRange) (size : ℕ) : Type 0 where
+  pub some : group.start + 64 ≤ group.end
+  pub start_aligned : group.start % 64 ≡ 0
+  pub end_aligned : group.end % 64 ≡ 0
+  pub inside : group.end ≤ size
+
+-- ---- the same as a relation
+
+abbrev pub IsComponent : List ℕ → Type 0
+IsComponent c = is_free (head_of c) ≡ false
+
+-- a cell is no component of a name
+abbrev pub IsNot : List ℕ → List ℕ → Type 0
+IsNot name c = IsComponent c → bytes_eq (cell_name c) name ≡ false
+
+-- a range of neighbouring cells among others, with a component, or nothing, on either side
+pub record IsRangeAmong (cells : List (List ℕ)) (range : CellRange) : Type 0 where
+  pub before : List (List ℕ)
+  pub row : List (List ℕ)
+  pub after : List (List ℕ)
+  pub whole : cells ≡ before ++ (row ++ after)
+  pub no_more_before : IfSome (last_or None before) IsComponent
+  pub no_more_after : IfSome (slice_get after 0) IsComponent
+  pub start_is : length (concat before) ≡ range.start
+  pub end_is : range.start + length (concat row) ≡ range.end
+
+-- a group among cells: the first component of a name, and all free cells that touch it in an unbroken row
+pub record IsGroupOf (name : List ℕ) (cells : List (List ℕ)) (group : CellRange) : Type 0 where
+  pub range : IsRangeAmong cells group
+  pub row_before : List (List ℕ)
+  pub component : List ℕ
+  pub row_after : List (List ℕ)
+  pub row_is : range.row ≡ row_before ++ (component ∷ row_after)
+  pub is_component : IsComponent component
+  pub named : bytes_eq (cell_name component) name ≡ true
+  pub first : All (IsNot name) range.before
+  pub row_before_free : AllFree row_before
+  pub row_after_free : AllFree row_after
 
 abbrev pub last_four : List ℕ → List ℕ
 last_four x = drop (length x - 4) x
@@ -35,6 +102,13 @@ pub record LosesOne (name x y : List ℕ) : Type 0 where
   pub was : IsFirstOf name (components x) component
   pub is : components y ≡ was.before ++ was.after
   pub same_end : (cut y).end ≡ (cut x).end
+
+-- the same refusal, where a walk ends with a fault
+abbrev pub edit_fault_of : WalkFault → EditFault
+edit_fault_of faults.Device = Device
+edit_fault_of faults.RegionShape = RegionShape
+edit_fault_of faults.NotCbfs = NotCbfs
+edit_fault_of (faults.Damaged at kind) = Damaged at kind
 
 -- a damage that ends the cells comes first
 abbrev pub unless_damaged : {A : Type 0} → ℕ → End → Result A EditFault → Result A EditFault

@@ -1,6 +1,6 @@
 -- The runs of free cells.
 use Rattle.std.specs.Prelude.{ℕ, ◌<◌, List, [], ◌∷◌, nat_lt, if◌then◌else◌}
-use Rattle.cbfs_edit.specs.Groups.{IsRangeAmong, by_rows}
+use Rattle.cbfs_edit.specs.Removals.{IsRangeAmong, by_rows}
 use Rattle.flash_format.specs.Splices.{AllFree}
 use Rattle.flash_format.specs.Cut.{cut}
 use Rattle.cbfs_edit.specs.declared.group.CellRange.{CellRange}

@@ -2,10 +2,9 @@
 use Rattle.std.specs.Prelude.{◌≡◌, ℕ, ◌+◌, ◌/◌, IsTrue, List, [], ◌∷◌, length, Ok, Err}
 use Rattle.flash_store.specs.Device.{Calls, Device, Reads}
 use Rattle.flash_store.specs.Regions.{Range, bytes_in}
-use Rattle.cbfs_edit.specs.Refusals.{by_fault, by_device, by_source}
+use Rattle.cbfs_edit.specs.Changes.{by_fault, by_device, by_source, LeavesWhole, AddLeavesWhole, AddLeavesBefore}
 use Rattle.cbfs_edit.specs.Removals.{removed, removal_in}
 use Rattle.cbfs_edit.specs.Additions.{new_component, addition_in, added_to, placed_of}
-use Rattle.cbfs_edit.specs.Stops.{LeavesWhole, AddLeavesWhole, AddLeavesBefore}
 use Rattle.cbfs_edit.specs.declared.edit.Edit.{Edit}
 use Rattle.cbfs_edit.specs.declared.edit.Edit.TheVariants.{Add, Remove}
 use Rattle.cbfs_edit.specs.declared.edit.Reply.{Reply}

@@ -3,16 +3,13 @@ ghost use Rattle.std.specs.Prelude.{ℕ, List, ◌≡◌, ◌≢◌, ◌⊎◌, 
 ghost use Rattle.std.specs.List.{list_any};
 ghost use Rattle.flash_format.specs.Entry.{is_nul};
 ghost use Rattle.flash_format.specs.Made.{hash_len};
-ghost use Rattle.flash_store.specs.Bytes.{overwritten};
-ghost use Rattle.flash_store.specs.Copies as copies;
-ghost use Rattle.flash_store.specs.Device.{Reads, faults_told};
+ghost use Rattle.flash_store.specs.Device.{overwritten, Reads, faults_told};
+ghost use Rattle.flash_store.specs.Pages as copies;
 ghost use Rattle.flash_store.specs.Pages.{HasChanged, OnHonestIn};
 ghost use Rattle.flash_store.specs.Regions.{LiesIn};
-ghost use Rattle.cbfs_edit.specs.Changes.{OnHonestChange, HasCopied};
+ghost use Rattle.cbfs_edit.specs.Changes.{OnHonestChange, HasCopied, AddLeavesBefore, AddLeavesWhole, IsInsertStop, written_to, by_device, by_source};
 ghost use Rattle.cbfs_edit.specs.Additions.{added, added_to, addition_in, digest_of, is_bad_name, is_bad_type, component_of_label, new_component, own_fault, placed_of, wanted_for};
 ghost use Rattle.cbfs_edit.specs.Places.{Fits};
-ghost use Rattle.cbfs_edit.specs.Refusals.{by_device, by_source};
-ghost use Rattle.cbfs_edit.specs.Stops.{AddLeavesBefore, AddLeavesWhole, IsInsertStop, written_to};
 
 use crate::fault::EditFault;
 use crate::hashing::Hashing;

@@ -2,7 +2,7 @@
 ghost use Rattle.std.specs.Prelude.{◌≡◌, length, sum_by};
 ghost use Rattle.flash_store.specs.Pages.{HasChanged};
 ghost use Rattle.flash_store.specs.Regions.{LiesIn};
-ghost use Rattle.cbfs_edit.specs.Refusals.{by_device};
+ghost use Rattle.cbfs_edit.specs.Changes.{by_device};
 ghost use Rattle.cbfs_edit.specs.Steps.{Run, Step, edit_calls, faults_of};
 
 use crate::addition::{HashChoice, Placed, add};

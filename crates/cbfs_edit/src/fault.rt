@@ -1,6 +1,6 @@
 //! Why an edit is refused.
 ghost use Rattle.std.specs.Prelude.{◌≡◌};
-ghost use Rattle.cbfs_edit.specs.Refusals.{edit_fault_of};
+ghost use Rattle.cbfs_edit.specs.Removals.{edit_fault_of};
 ghost use Rattle.cbfs_edit.specs.declared.fault.EditFault.TheVariants.{Device};
 
 use cbfs_walk::WalkFault;

@@ -4,9 +4,8 @@ ghost use Rattle.flash_store.specs.Device.{faults_told};
 ghost use Rattle.flash_store.specs.Pages.{HasChanged};
 ghost use Rattle.flash_store.specs.Regions.{LiesIn};
 ghost use Rattle.cbfs_walk.specs.Shapes.{has_bad_size};
-ghost use Rattle.cbfs_edit.specs.Changes.{OnHonestChange};
+ghost use Rattle.cbfs_edit.specs.Changes.{OnHonestChange, by_device};
 ghost use Rattle.cbfs_edit.specs.Formats.{formatted, IsOneFreeCell};
-ghost use Rattle.cbfs_edit.specs.Refusals.{by_device};
 ghost use Rattle.cbfs_edit.specs.Removals.{last_four};
 
 use crate::fault::EditFault;

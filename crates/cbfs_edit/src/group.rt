@@ -5,10 +5,9 @@ ghost use Rattle.flash_store.specs.Pages.{HasRead, HasAnswered, OnHonestIn};
 ghost use Rattle.flash_store.specs.Regions.{LiesIn};
 ghost use Rattle.cbfs_walk.specs.Cells.{IsCellIn, cell_in};
 ghost use Rattle.cbfs_walk.specs.Walks.{StandsIn};
-ghost use Rattle.cbfs_edit.specs.Groups.{IsCellRange};
-ghost use Rattle.cbfs_edit.specs.Refusals.{by_device};
+ghost use Rattle.cbfs_edit.specs.Removals.{IsCellRange, removal_in};
+ghost use Rattle.cbfs_edit.specs.Changes.{by_device};
 ghost use Rattle.cbfs_edit.specs.Searches.{group_by, IsBefore};
-ghost use Rattle.cbfs_edit.specs.Removals.{removal_in};
 
 use crate::fault::EditFault;
 use cbfs_walk::{Cell, Step, Walk, cells_stand_in_their_image, name_is};
@@ -63,7 +62,7 @@ pub fn find_group<F: Flash>(
 }
 
 /// The search after a cell: it comes to the same.
-#[tactic(auto, unfolding(crate::specs::Groups::by_rows))]
+#[tactic(auto, unfolding(crate::specs::Removals::by_rows))]
 fn pass<F: Flash>(
     paged: &mut Paged<F>,
     region: Region,
@@ -108,7 +107,7 @@ fn pass<F: Flash>(
 }
 
 /// What the search has found where the cells end.
-#[tactic(auto, unfolding(crate::specs::Groups::by_rows))]
+#[tactic(auto, unfolding(crate::specs::Removals::by_rows))]
 fn group_in(search: Search) -> Result<CellRange, EditFault>
     ensures is { (name : List ℕ) (at : ℕ) → result ≡ group_by name search at [] }
     ensures group { IfOk result (λ group. (at size : ℕ) → IsBefore at search → at ≤ size → IsCellRange group size) }

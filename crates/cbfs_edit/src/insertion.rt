@@ -3,11 +3,10 @@
 //! The header of an empty entry over the whole run is committed first, and what shows the component last, so that whatever is
 //! written between the two commits is free space.
 ghost use Rattle.std.specs.Prelude.{◌≡◌, ◌⊎◌, ◌-◌, ◌%◌, ◌^◌, ◌<◌, ◌≤◌, length};
-ghost use Rattle.flash_format.specs.Head.{header_length};
-ghost use Rattle.flash_format.specs.Made.{metadata_of, described_len};
+ghost use Rattle.flash_format.specs.Made.{header_length, metadata_of, described_len};
 ghost use Rattle.flash_store.specs.Regions.{LiesIn};
 ghost use Rattle.cbfs_edit.specs.Changes.{HasWrittenIn};
-ghost use Rattle.cbfs_edit.specs.Insertions.{HasRoom, IsUnfinished, with_bound, with_component, with_metadata, held_back, shown_by};
+ghost use Rattle.cbfs_edit.specs.Additions.{HasRoom, IsUnfinished, with_bound, with_component, with_metadata, held_back, shown_by};
 
 use crate::place::Place;
 use crate::write::{commit_in, write_in};

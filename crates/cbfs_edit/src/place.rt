@@ -6,8 +6,8 @@ ghost use Rattle.flash_store.specs.Pages.{HasRead, HasAnswered, OnHonestIn};
 ghost use Rattle.flash_store.specs.Regions.{LiesIn};
 ghost use Rattle.cbfs_walk.specs.Cells.{IsCellIn, cell_in};
 ghost use Rattle.cbfs_walk.specs.Walks.{StandsIn};
-ghost use Rattle.cbfs_edit.specs.Groups.{IsCellRange};
-ghost use Rattle.cbfs_edit.specs.Refusals.{by_device};
+ghost use Rattle.cbfs_edit.specs.Removals.{IsCellRange};
+ghost use Rattle.cbfs_edit.specs.Changes.{by_device};
 ghost use Rattle.cbfs_edit.specs.Places.{Fits, IsWanted, is_bad_align, limit_of, least_from, place_in, placing_in};
 ghost use Rattle.cbfs_edit.specs.Searches.{IsSurvey, place_by};
 
@@ -98,7 +98,7 @@ pub fn find_place<F: Flash>(
 }
 
 /// The search after a cell: it comes to the same.
-#[tactic(auto, unfolding(flash_format::specs::Components::components_from, crate::specs::Groups::by_rows))]
+#[tactic(auto, unfolding(flash_format::specs::Components::components_from, crate::specs::Removals::by_rows))]
 fn pass<F: Flash>(
     paged: &mut Paged<F>,
     region: Region,

@@ -1,13 +1,10 @@
 //! The removal of a component.
 ghost use Rattle.std.specs.Prelude.{◌≡◌, ◌≢◌, ◌⊎◌, ◌+◌, ◌/◌, ◌<◌, IsTrue, IfOk, IfErr, IsErrOf};
-ghost use Rattle.flash_store.specs.Bytes.{overwritten};
-ghost use Rattle.flash_store.specs.Device.{faults_told};
+ghost use Rattle.flash_store.specs.Device.{overwritten, faults_told};
 ghost use Rattle.flash_store.specs.Pages.{HasChanged, OnHonestIn};
 ghost use Rattle.flash_store.specs.Regions.{LiesIn};
-ghost use Rattle.cbfs_edit.specs.Changes.{OnHonestChange};
-ghost use Rattle.cbfs_edit.specs.Refusals.{by_device};
+ghost use Rattle.cbfs_edit.specs.Changes.{OnHonestChange, LeavesWhole, by_device};
 ghost use Rattle.cbfs_edit.specs.Removals.{removed, removal_in};
-ghost use Rattle.cbfs_edit.specs.Stops.{LeavesWhole};
 
 use crate::fault::EditFault;
 use crate::group::{Freed, find_group};

@@ -1,12 +1,10 @@
 //! Writes at places of a region, and one empty entry in place of a group.
 ghost use Rattle.std.specs.Prelude.{◌≡◌, ◌⊎◌, ℕ, List, ◌++◌, ◌+◌, ◌/◌, ◌<◌, ◌≤◌, length, IsTrue, OnOk, OnErr, replicate};
-ghost use Rattle.flash_format.specs.Head.{header_length};
-ghost use Rattle.flash_store.specs.Bytes.{overwritten, SameOutside};
+ghost use Rattle.flash_format.specs.Made.{header_length};
+ghost use Rattle.flash_store.specs.Device.{overwritten, SameOutside};
 ghost use Rattle.flash_store.specs.Regions.{LiesIn};
-ghost use Rattle.cbfs_edit.specs.Changes.{HasCopied, HasWrittenIn};
-ghost use Rattle.cbfs_edit.specs.Groups.{IsCellRange};
-ghost use Rattle.cbfs_edit.specs.Removals.{removed, space_end};
-ghost use Rattle.cbfs_edit.specs.Stops.{IsOldOrEmptied};
+ghost use Rattle.cbfs_edit.specs.Changes.{HasCopied, HasWrittenIn, IsOldOrEmptied};
+ghost use Rattle.cbfs_edit.specs.Removals.{IsCellRange, removed, space_end};
 
 use crate::group::CellRange;
 use flash_format::{HEADER_LENGTH, empty_header};

@@ -5,7 +5,7 @@ use lib.Chars.{codes}
 use Rattle.clap.specs.Words.{fault_of}
 use Rattle.clap.specs.declared.error.kind.ErrorKind.TheVariants as kinds
 use Rattle.clap.proofs.OnLiterals.{clap_on_literals}
-use Rattle.cbfs_commands.specs.Requests.{Request, on_region, print, layout, extract, add, remove, read, write, create}
+use Rattle.cbfs_commands.specs.Deeds.{Request, on_region, print, layout, extract, add, remove, read, write, create}
 use Rattle.flash_format.specs.Numbers.{number_of}
 use Rattle.flash_format.specs.TypeNames.{type_of_text}
 use Rattle.cbfs_edit.specs.declared.addition.HashChoice.TheVariants.{Plain, Sha256}

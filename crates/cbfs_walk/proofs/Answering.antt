@@ -8,8 +8,7 @@ use Rattle.flash_format.specs.declared.head.Extent.{Extent}
 use Rattle.flash_format.specs.declared.head.DamageKind.{DamageKind}
 use Rattle.flash_format.specs.declared.head.DamageKind.TheVariants as kinds
 use Rattle.flash_format.specs.Head.{head_of, is_free, extent_of}
-use Rattle.flash_format.specs.Attributes.{attributes}
-use Rattle.flash_format.specs.Entry.{Entry, absent, damaged, cell, entry, front, present, component, has_name, name_field, attribute_field}
+use Rattle.flash_format.specs.Entry.{attributes, Entry, absent, damaged, cell, entry, front, present, component, has_name, name_field, attribute_field}
 use Rattle.flash_format.proofs.CutSteps.{front_some}
 use Rattle.flash_format.proofs.EntryLaws.{present_by}
 use Rattle.flash_store.specs.Device.{Device, faults_told}
@@ -18,11 +17,10 @@ use Rattle.flash_store.specs.Regions.{Range}
 use Rattle.flash_store.proofs.WindowLemmas.{HasRead-within}
 use Rattle.cbfs_walk.specs.declared.cell.Cell.{Cell}
 use Rattle.cbfs_walk.specs.Cells.{PassesChecks, content_start}
-use Rattle.cbfs_walk.specs.Passing.{Passes, reads_over}
+use Rattle.cbfs_walk.specs.Walks.{Passes, reads_over, Answer, Walking, EndsWalk, by_device, GivesCell, walk_after, answer_by, answer_of, answer_at, reads_at}
 use Rattle.cbfs_walk.proofs.Checks.{checks_give, entry_present}
 use Rattle.cbfs_walk.proofs.Reading.{Passes-then}
 use Rattle.cbfs_walk.specs.Shapes.{has_bad_size, is_absent}
-use Rattle.cbfs_walk.specs.Walks.{Answer, Walking, EndsWalk, by_device, GivesCell, walk_after, answer_by, answer_of, answer_at, reads_at}
 use Rattle.cbfs_walk.specs.declared.walk.Step.{Step}
 use Rattle.cbfs_walk.specs.declared.walk.Step.TheVariants as steps
 use Rattle.cbfs_walk.specs.declared.walk.WalkFault.TheVariants as faults

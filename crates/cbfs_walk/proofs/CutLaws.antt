@@ -9,8 +9,7 @@ use Rattle.flash_format.specs.declared.head.Extent.{Extent}
 use Rattle.flash_format.specs.declared.head.DamageKind.{DamageKind}
 use Rattle.flash_format.specs.declared.head.DamageKind.TheVariants as kinds
 use Rattle.flash_format.specs.Head.{head_of, is_free}
-use Rattle.flash_format.specs.Entry.{Entry, absent, damaged, cell, entry, present, component, name_field, has_name, attribute_field}
-use Rattle.flash_format.specs.Attributes.{attributes}
+use Rattle.flash_format.specs.Entry.{Entry, absent, damaged, cell, entry, present, component, name_field, has_name, attribute_field, attributes}
 use Rattle.flash_format.specs.Cut.{after, cut}
 use Rattle.flash_format.proofs.CutSteps.{cell_is, cut_empty, cut_step, cut_cell}
 use Rattle.flash_format.proofs.EntryLaws.{from_head, present_by}

@@ -11,16 +11,15 @@ use Rattle.flash_format.specs.declared.digest.Digest.{Digest}
 use Rattle.flash_format.specs.declared.digest.Digest.TheVariants as digests
 use Rattle.flash_format.specs.declared.head.Head.{Head}
 use Rattle.flash_format.specs.Head.{be32}
-use Rattle.flash_format.specs.Attributes.{data_of, HASH}
+use Rattle.flash_format.specs.Entry.{data_of, HASH}
 use Rattle.flash_format.specs.Components.{cell_attributes, cell_content}
 use Rattle.std.proofs.lemmas.List.{take-append-drop}
 use Rattle.flash_store.specs.Device.{Device}
 use Rattle.flash_store.specs.Pages.{Pages}
 use Rattle.flash_store.specs.Regions.{Range, LiesIn, bytes_in}
-use Rattle.cbfs_walk.specs.Passing.{Passes}
+use Rattle.cbfs_walk.specs.Walks.{Passes, StandsIn}
 use Rattle.cbfs_walk.specs.Cells.{IsComponentIn, cell_in, attributes_start, content_start, content_end}
-use Rattle.cbfs_walk.specs.Listed.{IsAttrOf, Placed, searched_to}
-use Rattle.cbfs_walk.specs.Walks.{StandsIn}
+use Rattle.cbfs_walk.specs.AttrWalks.{IsAttrOf, Placed, searched_to}
 use Rattle.cbfs_walk.specs.Hashes.{sha256_of, sha512_of, digest_like, digest_by, stored_digest, comparison, state_of, hash_state, content_at, hash_state_in, IsUncompared}
 use Rattle.cbfs_walk.specs.declared.cell.Cell.{Cell}
 use Rattle.cbfs_walk.specs.declared.hashes.HashState.{HashState}

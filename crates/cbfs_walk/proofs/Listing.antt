@@ -6,16 +6,14 @@ use Rattle.std.proofs.lemmas.Bool.{le-ltb}
 use Rattle.flash_format.specs.declared.attribute.AttrHead.{AttrHead}
 use Rattle.flash_format.specs.declared.head.Head.{Head}
 use Rattle.flash_format.specs.Head.{head_of, is_free}
-use Rattle.flash_format.specs.Attributes.{Attribute, attribute, attributes, attr_head_of, ends_list, is_malformed, is_unused, has_bad_len, least_len}
-use Rattle.flash_format.specs.Entry.{attribute_field, name_end}
+use Rattle.flash_format.specs.Entry.{Attribute, attribute, attributes, attr_head_of, ends_list, is_malformed, is_unused, has_bad_len, least_len, attribute_field, name_end}
 use Rattle.flash_format.specs.Components.{cell_attributes}
 use Rattle.flash_format.proofs.Fronts.{attr_head_of-take}
 use Rattle.flash_format.proofs.AttributeSteps.{attribute_len, attributes_end, attributes_malformed, attributes_more}
 use Rattle.flash_store.specs.Regions.{Range, LiesIn, bytes_in}
 use Rattle.cbfs_walk.specs.Cells.{cell_in}
 use Rattle.cbfs_walk.specs.Walks.{StandsIn}
-use Rattle.cbfs_walk.specs.AttrWalks.{AttrWalking, attr_walk_of, attributes_left, first_head, after_first}
-use Rattle.cbfs_walk.specs.Listed.{listed_in}
+use Rattle.cbfs_walk.specs.AttrWalks.{AttrWalking, attr_walk_of, attributes_left, first_head, after_first, listed_in}
 use Rattle.cbfs_walk.specs.declared.cell.Cell.{Cell}
 use Rattle.cbfs_walk.specs.declared.attribute_walk.Listed as declared
 use Rattle.cbfs_walk.specs.declared.attribute_walk.Listed.TheVariants.{End, Malformed}

@@ -6,7 +6,7 @@ use Rattle.flash_store.specs.Pages.{Pages, HasAnswered, HasSeen}
 use Rattle.flash_store.specs.Regions.{Range, LiesIn}
 use Rattle.flash_store.specs.Scans.{ScansTo, SpendsTo}
 use Rattle.flash_store.proofs.WindowLemmas.{ScansTo-none, ScansTo-on, SpendsTo-on, ScansTo-more, SpendsTo-more, ScansTo-then, SpendsTo-then, ScansTo-spends, SpendsTo-reads}
-use Rattle.cbfs_walk.specs.Passing.{Passes, reads_over}
+use Rattle.cbfs_walk.specs.Walks.{Passes, reads_over}
 
 -- an answer that equals one equals what equals it
 pub IfOk-to : {E : Type 0} (result : Result ℕ E) (v w : ℕ) → v ≡ w → IfOk result (λ x. x ≡ v) → IfOk result (λ x. x ≡ w)

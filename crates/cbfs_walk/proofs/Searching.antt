@@ -9,9 +9,8 @@ use Rattle.flash_format.specs.Components.{Component, cell_name, component_at, co
 use Rattle.flash_store.specs.Device.{Device, faults_told}
 use Rattle.flash_store.specs.Pages.{Pages, HasRead}
 use Rattle.flash_store.specs.Regions.{Range, LiesIn, bytes_in}
-use Rattle.cbfs_walk.specs.Passing.{reads_over}
+use Rattle.cbfs_walk.specs.Walks.{reads_over, Answer, Walking, walk_of, answer_at, StandsIn, GivesCell, reads_at, by_device, walk_after}
 use Rattle.cbfs_walk.specs.Cells.{IsCellIn, cell_in}
-use Rattle.cbfs_walk.specs.Walks.{Answer, Walking, walk_of, answer_at, StandsIn, GivesCell, reads_at, by_device, walk_after}
 use Rattle.cbfs_walk.specs.Shaped.{reading_of, ReadsCells, by_answer, place_after}
 use Rattle.cbfs_walk.specs.Finding.{Found, first_named, not_found, found_or, component_in, found_cell}
 use Rattle.cbfs_walk.specs.declared.cell.Cell.{Cell}

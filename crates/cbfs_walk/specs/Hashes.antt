@@ -11,13 +11,13 @@ use Rattle.flash_format.specs.declared.digest.Algorithm.{Algorithm}
 use Rattle.flash_format.specs.declared.digest.Digest.{Digest}
 use Rattle.flash_format.specs.declared.digest.Digest.TheVariants.{Sha256, Sha512}
 use Rattle.flash_format.specs.Head.{be32}
-use Rattle.flash_format.specs.Attributes.{Attribute, data_of, HASH}
+use Rattle.flash_format.specs.Entry.{Attribute, data_of, HASH}
 use Rattle.flash_format.specs.Made.{algorithm_row, algorithm_numbered, digest_with, digest_bytes}
 use Rattle.cbfs_walk.specs.declared.cell.Cell.{Cell}
 use Rattle.cbfs_walk.specs.declared.hashes.HashState.{HashState}
 use Rattle.cbfs_walk.specs.declared.hashes.HashState.TheVariants.{Absent, Valid, Invalid, Unsupported}
 use Rattle.cbfs_walk.specs.Cells.{content_start, content_end}
-use Rattle.cbfs_walk.specs.Listed.{Placed, first_of}
+use Rattle.cbfs_walk.specs.AttrWalks.{Placed, first_of}
 
 -- ---- digests
 

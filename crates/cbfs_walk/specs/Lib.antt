@@ -1,11 +1,8 @@
-pub mod Passing
 pub mod Cells
 pub mod Shapes
-pub mod Entries
 pub mod Walks
 pub mod Shaped
 pub mod AttrWalks
-pub mod Listed
 pub mod Finding
 pub mod Hashes
 pub mod Laws

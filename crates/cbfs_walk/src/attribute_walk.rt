@@ -1,16 +1,13 @@
 //! The attributes of a component.
 ghost use Rattle.std.specs.Prelude.{◌≡◌, ℕ, ◌+◌, ◌-◌, ◌/◌, ◌≤◌, min, false, List, slice_range, IfOk, IfSome, Some, None, is_some};
 ghost use Rattle.flash_format.specs.Head.{is_free, be32};
-ghost use Rattle.flash_format.specs.Attributes.{Attribute, attributes, COMPRESSION};
+ghost use Rattle.flash_format.specs.Entry.{Attribute, attributes, COMPRESSION, name_end};
 ghost use Rattle.flash_format.specs.Components.{cell_attributes, packing};
-ghost use Rattle.flash_format.specs.Entry.{name_end};
 ghost use Rattle.flash_store.specs.Pages.{HasAnswered, OnHonestIn};
 ghost use Rattle.flash_store.specs.Regions.{LiesIn};
-ghost use Rattle.cbfs_walk.specs.Passing.{HasPassed, ReadsAs, reads_over};
+ghost use Rattle.cbfs_walk.specs.Walks.{HasPassed, ReadsAs, reads_over, StandsIn, ReadsCellAs};
 ghost use Rattle.cbfs_walk.specs.Cells.{IsComponentIn, attributes_start, cell_in};
-ghost use Rattle.cbfs_walk.specs.Walks.{StandsIn, ReadsCellAs};
-ghost use Rattle.cbfs_walk.specs.AttrWalks.{place_in_region, attr_walk_of, attr_moved, attr_reads, IsAttrIn, attributes_left, first_head, after_first};
-ghost use Rattle.cbfs_walk.specs.Listed.{IsListedIn, listed_in, IsAttrOf, first_of, searched_to, value_in};
+ghost use Rattle.cbfs_walk.specs.AttrWalks.{place_in_region, attr_walk_of, attr_moved, attr_reads, IsAttrIn, attributes_left, first_head, after_first, IsListedIn, listed_in, IsAttrOf, first_of, searched_to, value_in};
 
 use crate::cell::{Cell, content_fits};
 use crate::names::name_end;

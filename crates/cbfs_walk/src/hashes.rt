@@ -4,9 +4,8 @@ ghost use Rattle.flash_format.specs.declared.digest.Digest.TheVariants as digest
 ghost use Rattle.flash_format.specs.Components.{cell_attributes, cell_content};
 ghost use Rattle.flash_store.specs.Pages.{HasAnswered, HasRead, OnHonestIn};
 ghost use Rattle.flash_store.specs.Regions.{LiesIn};
-ghost use Rattle.cbfs_walk.specs.Passing.{HasPassed, ReadsAs, reads_over};
+ghost use Rattle.cbfs_walk.specs.Walks.{HasPassed, ReadsAs, reads_over, ReadsCellAs};
 ghost use Rattle.cbfs_walk.specs.Cells.{IsComponentIn, PassesChecks, content_start, content_end};
-ghost use Rattle.cbfs_walk.specs.Walks.{ReadsCellAs};
 ghost use Rattle.cbfs_walk.specs.Hashes.{digest_like, stored_digest, comparison, hash_state, content_at, hash_state_in, IsUncompared};
 
 use crate::attribute_walk::{first_attribute, value_at};

@@ -6,9 +6,8 @@ ghost use Rattle.flash_format.specs.Entry.{name_field, name_end, has_name, is_nu
 ghost use Rattle.flash_format.specs.Components.{cell_name};
 ghost use Rattle.flash_store.specs.Pages.{HasAnswered, OnHonestIn};
 ghost use Rattle.flash_store.specs.Regions.{LiesIn};
-ghost use Rattle.cbfs_walk.specs.Passing.{HasPassed, ReadsAs};
+ghost use Rattle.cbfs_walk.specs.Walks.{HasPassed, ReadsAs, StandsIn, ReadsCellAs};
 ghost use Rattle.cbfs_walk.specs.Cells.{IsComponentIn, cell_in};
-ghost use Rattle.cbfs_walk.specs.Walks.{StandsIn, ReadsCellAs};
 
 use crate::cell::{Cell, content_fits};
 use crate::read::piece_in;

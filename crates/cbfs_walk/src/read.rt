@@ -5,7 +5,7 @@ ghost use Rattle.std.specs.Io.BufRead.{Rests};
 ghost use Rattle.flash_store.specs.Pages.{OnHonestIn};
 ghost use Rattle.flash_store.specs.Regions.{LiesIn};
 ghost use Rattle.flash_store.specs.contracts.paged.Paged.{the_row};
-ghost use Rattle.cbfs_walk.specs.Passing.{HasPassed};
+ghost use Rattle.cbfs_walk.specs.Walks.{HasPassed};
 
 use flash_store::{Flash, FlashFault, Paged, Region};
 

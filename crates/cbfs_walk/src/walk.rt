@@ -6,10 +6,8 @@ ghost use Rattle.flash_store.specs.Device.{faults_told};
 ghost use Rattle.flash_store.specs.Pages.{HasRead, OnHonestIn};
 ghost use Rattle.flash_store.specs.Regions.{LiesIn};
 ghost use Rattle.cbfs_walk.specs.Cells.{PassesChecks, content_start};
-ghost use Rattle.cbfs_walk.specs.Entries.{entry_or};
-ghost use Rattle.cbfs_walk.specs.Passing.{HasPassed, Passes, ReadsAs};
+ghost use Rattle.cbfs_walk.specs.Walks.{entry_or, by_device, walk_of, walk_after, answer_at, answer_of, GivesCell, reads_at, HasPassed, Passes, ReadsAs};
 ghost use Rattle.cbfs_walk.specs.Shapes.{has_bad_size};
-ghost use Rattle.cbfs_walk.specs.Walks.{by_device, walk_of, walk_after, answer_at, answer_of, GivesCell, reads_at};
 
 use crate::attribute_walk::are_well_formed;
 use crate::cell::Cell;

@@ -9,7 +9,7 @@ use Rattle.cbfs_check.specs.RegionFindings.{region_findings}
 use Rattle.image_check.specs.ImageFindings.{bytes_of, image_findings}
 use Rattle.image_check.specs.RegionAreas.{region_areas}
 use Rattle.image_check.specs.Verdicts.{is_bad, is_bad_region}
-use Rattle.cbfs_commands.specs.Details.{rows_from}
+use Rattle.cbfs_commands.specs.Rows.{rows_from}
 use Rattle.cbfs_commands.specs.Outcomes.{extract_region, print_region, told_component, told_in}
 use Rattle.cbfs_commands.specs.Told.{shows}
 

@@ -3,7 +3,7 @@ use Rattle.std.proofs.Common.{◌≡◌, ℕ, zero, suc, pred, ◌≤◌, true, 
 use Rattle.std.specs.Option.{option_map}
 use Rattle.std.proofs.lemmas.Bool.Decides.{nat_tests}
 use Rattle.flash_format.proofs.Fronts.{drop-pred}
-use Rattle.flash_format.specs.Attributes.{Attribute, attr_head_of, attribute, attributes, attributes_after, ends_list, is_malformed, least_len}
+use Rattle.flash_format.specs.Entry.{Attribute, attr_head_of, attribute, attributes, attributes_after, ends_list, is_malformed, least_len}
 
 -- what is known of the length of an attribute that is no fault
 pub record IsAttributeLen (x : List ℕ) (len : ℕ) : Type 0 where

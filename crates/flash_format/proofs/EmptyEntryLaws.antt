@@ -6,8 +6,8 @@ use Rattle.std.proofs.lemmas.List.{take_at}
 use Rattle.flash_format.specs.declared.head.Head.{Head}
 use Rattle.flash_format.specs.declared.head.Extent.{Extent}
 use Rattle.flash_format.specs.declared.head.DamageKind.{DamageKind}
-use Rattle.flash_format.specs.Head.{header_length, head_of, head_at, head_bytes, is_free, attributes_misplaced, extent_of, round64}
-use Rattle.flash_format.specs.EmptyEntries.{empty_header}
+use Rattle.flash_format.specs.Head.{head_of, head_at, head_bytes, is_free, attributes_misplaced, extent_of, round64}
+use Rattle.flash_format.specs.Made.{header_length, empty_header}
 use Rattle.flash_format.specs.Entry.{cell, entry, present}
 use Rattle.flash_format.proofs.Fronts.{head_at-take}
 use Rattle.flash_format.proofs.CutSteps.{head_is}

@@ -7,7 +7,7 @@ use Rattle.byteorder.specs.Endian.{big_number, little_number}
 use Rattle.std.proofs.lemmas.List.{get_or-take}
 use Rattle.flash_format.specs.Flashmap.{le, fmap_head_of, has_signature, area_of}
 use Rattle.flash_format.specs.Head.{be32, head_of, has_magic, head_at}
-use Rattle.flash_format.specs.Attributes.{attr_head_of}
+use Rattle.flash_format.specs.Entry.{attr_head_of}
 
 pub range-take : (x : List ℕ) (n a b : ℕ) → b ≤ n → slice_range (take n x) a b ≡ slice_range x a b
 range-take x n a b le = between_is (take n x) a b ∙ ap (drop a) (take-take b n x le) ∙ sym (between_is x a b)

@@ -17,11 +17,9 @@ use Rattle.flash_format.specs.declared.head.DamageKind.TheVariants as kinds
 use Rattle.flash_format.specs.declared.digest.Digest.{Digest}
 use Rattle.flash_format.specs.declared.digest.Digest.TheVariants as digests
 use Rattle.flash_format.specs.declared.attribute.AttrHead.{AttrHead}
-use Rattle.flash_format.specs.Head.{name_padding, head_of, head_at, head_bytes, is_free, round64, be32}
-use Rattle.flash_format.specs.Attributes.{Attribute, attr_head_of, attributes, attributes_after, attribute, ends_list, is_malformed, is_unused, has_bad_len, HASH}
-use Rattle.flash_format.specs.Entry.{damaged, cell, present, component, is_nul, name_end, name_field, has_name, attribute_field}
-use Rattle.flash_format.specs.EmptyEntries.{padding}
-use Rattle.flash_format.specs.Made.{IsDigest, IsMade, KeepsFour, name_room, meta_length, algorithm_row, algorithm, digest_bytes, digest_len, hash_attribute, hash_bytes, hash_len, made_head, padded_name, made_metadata, made, made_attributes}
+use Rattle.flash_format.specs.Head.{head_of, head_at, head_bytes, is_free, round64, be32}
+use Rattle.flash_format.specs.Made.{name_padding, padding, IsDigest, IsMade, KeepsFour, name_room, meta_length, algorithm_row, algorithm, digest_bytes, digest_len, hash_attribute, hash_bytes, hash_len, made_head, padded_name, made_metadata, made, made_attributes}
+use Rattle.flash_format.specs.Entry.{Attribute, attr_head_of, attributes, attributes_after, attribute, ends_list, is_malformed, is_unused, has_bad_len, HASH, damaged, cell, present, component, is_nul, name_end, name_field, has_name, attribute_field}
 use Rattle.flash_format.specs.Components.{component_at}
 use Rattle.flash_format.specs.Placings.{IsReadAs, made_component}
 use Rattle.flash_format.proofs.AttributeSteps.{attributes_end, attributes_more}

@@ -3,8 +3,7 @@ use Rattle.std.specs.Prelude.{ℕ, ◌+◌, Bool, not, List, [], ◌∷◌, leng
 use Rattle.std.specs.List.{before_first}
 use Rattle.std.specs.Option.{option_map_or}
 use Rattle.flash_format.specs.Head.{be32, head_of, is_free}
-use Rattle.flash_format.specs.Attributes.{Attribute, attributes, data_of, COMPRESSION}
-use Rattle.flash_format.specs.Entry.{is_nul, name_field, attribute_field}
+use Rattle.flash_format.specs.Entry.{Attribute, attributes, data_of, COMPRESSION, is_nul, name_field, attribute_field}
 use Rattle.flash_format.specs.Cut.{cut}
 
 -- where a component stands in its region, what is read from its cell, and all the cell's bytes

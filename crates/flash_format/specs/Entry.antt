@@ -1,15 +1,72 @@
--- An entry: what stands at a place of a region, by all bytes from there up to the region's end.
--- It is coreboot's CBFS file header with its name and attributes; that an entry fails the first of five checks and is
--- damaged is this project's own.
-use Rattle.std.specs.Prelude.{ℕ, Bool, not, List, [], length, take, slice_range, Option, None, Result, Ok, Err, nat_lt, ◌==◌, if◌then◌else◌, is_some}
-use Rattle.std.specs.List.{list_any}
-use Rattle.std.specs.Option.{option_map_or}
+-- An entry: what stands at a place of a region, by all bytes from there up to the region's end; and the attributes of a
+-- component: records of a tag, a length that counts the eight bytes of both, and data.
+-- They are coreboot's CBFS file header with its name, and `struct cbfs_file_attribute`; that an entry fails the first of five
+-- checks and is damaged, where a list of attributes ends and which lengths are well formed is this project's own.
+use Rattle.std.specs.Prelude.{ℕ, zero, suc, pred, Bool, ◌||◌, List, [], ◌∷◌, length, slice_range, Option, Some, None, nat_lt, ◌==◌, if◌then◌else◌, not, take, Result, Ok, Err, is_some}
+use Rattle.std.specs.List.{find, list_any}
+use Rattle.std.specs.Option.{option_map, option_map_or}
+use Rattle.flash_format.specs.declared.attribute.AttrHead.{AttrHead}
+use Rattle.flash_format.specs.Head.{be32, head_at, is_free, extent_of}
 use Rattle.flash_format.specs.declared.head.Head.{Head}
 use Rattle.flash_format.specs.declared.head.Extent.{Extent}
 use Rattle.flash_format.specs.declared.head.DamageKind.{DamageKind}
 use Rattle.flash_format.specs.declared.head.DamageKind.TheVariants as kinds
-use Rattle.flash_format.specs.Head.{head_at, is_free, extent_of}
-use Rattle.flash_format.specs.Attributes.{attributes}
+
+unfoldable pub attr_head_of : List ℕ → AttrHead
+attr_head_of x = record { tag = be32 0 x; len = be32 4 x }
+
+pub record Attribute : Type 0 where
+  pub tag : ℕ
+  pub contents : List ℕ
+
+-- the tag of a compression attribute: a value, then the size of the content once decompressed
+abbrev pub COMPRESSION : ℕ
+COMPRESSION = 0x42435a4c
+
+-- the tag of a hash attribute: an algorithm, then the digest
+abbrev pub HASH : ℕ
+HASH = 0x68736148
+
+-- tags that are no attribute and come last
+abbrev pub is_unused : ℕ → Bool
+is_unused tag = tag == 0 || tag == 0xffffffff
+
+-- an attribute of this tag has at least so many bytes
+abbrev pub least_len : ℕ → ℕ
+least_len tag = if tag == COMPRESSION then 16 else (if tag == HASH then 12 else 8)
+
+-- the list ends here: no head of an attribute is left, or its tag is unused
+abbrev pub ends_list : List ℕ → Bool
+ends_list x = nat_lt (length x) 8 || is_unused (attr_head_of x).tag
+
+-- an attribute is too short for its tag, or longer than the bytes that are left
+abbrev pub has_bad_len : AttrHead → ℕ → Bool
+has_bad_len h left = nat_lt h.len (least_len h.tag) || nat_lt left h.len
+
+abbrev pub is_malformed : List ℕ → Bool
+is_malformed x = has_bad_len (attr_head_of x) (length x)
+
+-- the attribute that these bytes begin with
+abbrev pub attribute : List ℕ → Attribute
+attribute x = let h = attr_head_of x in record { tag = h.tag; contents = slice_range x 8 h.len }
+
+-- The attributes in bytes of which the first `skip` still belong to the one before.
+unfoldable pub attributes_after : ℕ → List ℕ → Option (List Attribute)
+attributes_after skip [] = Some []
+attributes_after (suc skip) (b ∷ rest) = attributes_after skip rest
+attributes_after zero (b ∷ rest) =
+    let x = b ∷ rest in
+    if ends_list x then Some []
+    else (if is_malformed x then None
+    else option_map (λ others. attribute x ∷ others) (attributes_after (pred (attr_head_of x).len) rest))
+
+-- the attributes in these bytes, or None where one is malformed
+abbrev pub attributes : List ℕ → Option (List Attribute)
+attributes x = attributes_after 0 x
+
+-- the data of the first attribute with a tag
+abbrev pub data_of : ℕ → List Attribute → Option (List ℕ)
+data_of tag all = option_map (λ (a : Attribute). a.contents) (find (λ (a : Attribute). a.tag == tag) all)
 
 -- the name field ends at the attributes, or at the content where there are none
 abbrev pub name_end : Head → ℕ

@@ -14,14 +14,6 @@ use Rattle.flash_format.specs.declared.head.DamageKind.TheVariants as kinds
 abbrev pub round64 : ℕ → ℕ
 round64 n = (n + 63) / 64 * 64
 
--- a name and its NUL are padded to a multiple of this
-abbrev pub name_padding : ℕ
-name_padding = 4
-
--- how many bytes of an empty entry stand before the space that it describes: the head, and the field of an empty name
-abbrev pub header_length : ℕ
-header_length = 24 + name_padding
-
 -- the big-endian number in the four bytes from a place on
 abbrev pub be32 : ℕ → List ℕ → ℕ
 be32 at x = big_number 4 (slice_range x at (at + 4))

@@ -2,13 +2,12 @@
 use Rattle.std.specs.Prelude.{◌≡◌, ◌≢◌, ℕ, ◌+◌, ◌-◌, ◌%◌, ◌^◌, ◌<◌, ◌≤◌, Bool, true, List, [], ◌∷◌, ◌++◌, length, take, drop, All, MatchOption, Some, Option}
 use Rattle.std.specs.List.{concat, flat_map, sum_by}
 use Rattle.flash_format.specs.declared.digest.Digest.{Digest}
-use Rattle.flash_format.specs.Head.{header_length, head_of, is_free, round64}
-use Rattle.flash_format.specs.EmptyEntries.{empty_header}
+use Rattle.flash_format.specs.Head.{head_of, is_free, round64}
+use Rattle.flash_format.specs.Made.{header_length, empty_header, IsDigest, IsMade, KeepsFour, meta_length, hash_len, made_metadata, made}
 use Rattle.flash_format.specs.Entry.{entry, cell}
 use Rattle.flash_format.specs.Cut.{cut, after, IsSpan, IsCell, IsCut}
 use Rattle.flash_format.specs.Components.{components, components_from, shifted_by}
 use Rattle.flash_format.specs.Splices.{AllFree, CellsBetween, splice}
-use Rattle.flash_format.specs.Made.{IsDigest, IsMade, KeepsFour, meta_length, hash_len, made_metadata, made}
 use Rattle.flash_format.specs.Placings.{IsPlacing, IsReadAs, HasOneMore, space_cells, made_component}
 use Rattle.flash_format.specs.Flashmap.{area_bytes, areas_from, fmap_head_bytes, fmap_head_len, fmap_head_of, is_map, is_named}
 use Rattle.flash_format.specs.declared.flashmap.Area.{Area}

@@ -1,6 +1,4 @@
 pub mod Head
-pub mod EmptyEntries
-pub mod Attributes
 pub mod Entry
 pub mod Cut
 pub mod Components

@@ -1,7 +1,9 @@
--- Made cells: the components that an edit writes.
--- The fields are those of coreboot's `struct cbfs_file` and `struct cbfs_file_attr_hash`. To which multiple the field of
--- a name is padded, and that a gap and what is left of a cell are 0xff, is this project's own.
-use Rattle.std.specs.Prelude.{◌≡◌, ℕ, ◌+◌, ◌-◌, ◌*◌, ◌/◌, ◌^◌, ◌<◌, ◌≤◌, ◌==◌, ◌||◌, false, List, [], ◌∷◌, ◌++◌, length, replicate, Option, IfSome, is_some, if◌then◌else◌}
+-- What an edit makes: empty entries, which describe free space, and cells of components.
+-- The fields are those of coreboot's `struct cbfs_file` and `struct cbfs_file_attr_hash`. To which multiple the field of a name
+-- is padded, so that one of an empty entry has four bytes, all NUL; that an empty entry at a region's end spares the last four
+-- bytes, where older images keep a pointer; and that a gap and what is left of a cell are 0xff, is this project's own.
+use Rattle.std.specs.Prelude.{ℕ, ◌-◌, Bool, List, ◌++◌, drop, replicate, Option, Some, None, is_some, if◌then◌else◌, ◌≡◌, ◌+◌, ◌*◌, ◌/◌, ◌^◌, ◌<◌, ◌≤◌, ◌==◌, ◌||◌, false, [], ◌∷◌, length, IfSome}
+use Rattle.flash_format.specs.Head.{head_bytes, round64}
 use Rattle.std.specs.List.{find, list_any}
 use Rattle.std.specs.Option.{option_copied, option_map_or}
 use lib.Chars.{codes}
@@ -12,10 +14,31 @@ use Rattle.flash_format.specs.declared.digest.Algorithm.TheVariants.{Sha256, Sha
 use Rattle.flash_format.specs.declared.digest.Digest.{Digest}
 use Rattle.flash_format.specs.declared.digest.Digest.TheVariants as digests
 use Rattle.flash_format.specs.declared.meta.Meta.{Meta}
-use Rattle.flash_format.specs.Head.{name_padding, head_bytes, round64}
-use Rattle.flash_format.specs.Attributes.{Attribute, HASH}
-use Rattle.flash_format.specs.Entry.{is_nul}
-use Rattle.flash_format.specs.EmptyEntries.{padding}
+use Rattle.flash_format.specs.Entry.{Attribute, HASH, is_nul}
+
+-- a name and its NUL are padded to a multiple of this
+abbrev pub name_padding : ℕ
+name_padding = 4
+
+-- how many bytes of an empty entry stand before the space that it describes: the head, and the field of an empty name
+abbrev pub header_length : ℕ
+header_length = 24 + name_padding
+
+-- The header of an empty entry of so many bytes: its head and an empty name. Where `kept`, the cell's last four bytes are not
+-- part of the space that it describes.
+unfoldable pub empty_header : ℕ → Bool → List ℕ
+empty_header size kept =
+    head_bytes (record { len = size - header_length - (if kept then 4 else 0); kind = 0xffffffff; attributes_offset = 0; offset = header_length })
+    ++ replicate (header_length - 24) 0
+
+-- n bytes 0xff up to a cell's end, where the last of them, up to four, may be kept
+abbrev pub padding : ℕ → Option (List ℕ) → List ℕ
+padding n None = replicate n 0xff
+padding n (Some last) = replicate (n - 4) 0xff ++ drop (4 - n) last
+
+-- an empty entry of so many bytes, which keeps these four at its end
+abbrev pub empty_entry : ℕ → Option (List ℕ) → List ℕ
+empty_entry size last = empty_header size (is_some last) ++ padding (size - header_length) last
 
 -- how long the field of a name of k bytes is: the least multiple of the padding that holds the name and a NUL
 abbrev pub name_room : ℕ → ℕ

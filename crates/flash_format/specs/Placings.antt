@@ -1,12 +1,11 @@
 -- A component in place of free cells.
 use Rattle.std.specs.Prelude.{◌≡◌, ℕ, ◌+◌, ◌-◌, ◌%◌, ◌^◌, ◌<◌, ◌≤◌, Bool, false, List, [], ◌∷◌, ◌++◌, length, Option}
 use Rattle.flash_format.specs.declared.digest.Digest.{Digest}
-use Rattle.flash_format.specs.EmptyEntries.{empty_header}
+use Rattle.flash_format.specs.Made.{empty_header, made_attributes}
 use Rattle.flash_format.specs.Head.{head_of, is_free}
 use Rattle.flash_format.specs.Entry.{cell, entry}
 use Rattle.flash_format.specs.Cut.{cut, IsCut}
 use Rattle.flash_format.specs.Components.{Component, component_at, components_from, components}
-use Rattle.flash_format.specs.Made.{made_attributes}
 use Rattle.flash_format.specs.Splices.{CellsBetween}
 
 -- free space of so many bytes: none, or an empty entry's header and then anything

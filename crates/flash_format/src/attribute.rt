@@ -1,7 +1,7 @@
 //! The head of a component's attribute.
 
 ghost use Rattle.std.specs.Prelude.{◌≡◌};
-ghost use Rattle.flash_format.specs.Attributes.{attr_head_of, is_unused, least_len, has_bad_len};
+ghost use Rattle.flash_format.specs.Entry.{attr_head_of, is_unused, least_len, has_bad_len};
 
 use byteorder::{BigEndian, ByteOrder};
 
@@ -22,7 +22,7 @@ impl AttrHead {
     pub const HASH: u32 = 0x6873_6148;
 
     /// The head in these bytes, which are big-endian.
-    #[tactic(auto, unfolding(crate::specs::Attributes::attr_head_of))]
+    #[tactic(auto, unfolding(crate::specs::Entry::attr_head_of))]
     pub fn read(bytes: &[u8; 8]) -> AttrHead
         ensures { result ≡ attr_head_of bytes.now }
     {

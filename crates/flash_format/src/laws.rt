@@ -2,11 +2,9 @@
 
 ghost use Rattle.std.specs.Prelude.{◌≡◌, ℕ, ◌+◌, ◌%◌, ◌<◌, ◌≤◌, true, List, length, drop, Option, Some};
 ghost use Rattle.flash_format.specs.declared.digest.Digest.{Digest};
-ghost use Rattle.flash_format.specs.Head.{name_padding, header_length};
-ghost use Rattle.flash_format.specs.EmptyEntries.{empty_entry};
+ghost use Rattle.flash_format.specs.Made.{name_padding, header_length, empty_entry, KeepsFour, name_room};
 ghost use Rattle.flash_format.specs.Cut.{End, cut, IsCut};
 ghost use Rattle.flash_format.specs.Splices.{CellsBetween};
-ghost use Rattle.flash_format.specs.Made.{KeepsFour, name_room};
 ghost use Rattle.flash_format.specs.Placings.{IsSpace};
 ghost use Rattle.flash_format.specs.Flashmap.{fmap_head_len, area_len, is_map, map_of};
 ghost use Rattle.flash_format.specs.Laws.{EntriesAreReadAlike, CutsGoOn, EmptyHeadersAreFreeCells, GroupsAreReplaced, MadeCellsAreReadAsMade, ComponentsArePlaced, NoMapBelow, IsMapOf, MapsAreReadBack, NamesAreReadBack};

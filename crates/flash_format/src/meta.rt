@@ -3,7 +3,7 @@
 ghost use Rattle.std.specs.Prelude.{◌≡◌, ◌≤◌, ◌<◌, ◌+◌, ◌++◌, length, take, drop, replicate};
 ghost use Rattle.std.specs.Option.{option_copied};
 ghost use Rattle.byteorder.specs.Endian.{big_bytes};
-ghost use Rattle.flash_format.specs.Attributes.{HASH};
+ghost use Rattle.flash_format.specs.Entry.{HASH};
 ghost use Rattle.flash_format.specs.Made.{IsDigest, meta_length, name_room, padded_name, hash_attribute, hash_bytes, hash_len, metadata_of, described_len, described_head};
 ghost use Rattle.flash_format.specs.Splices.{splice};
 

@@ -4,7 +4,7 @@ use Rattle.std.specs.Prelude.{slice_range}
 use Rattle.std.proofs.lemmas.List.{append_assoc, take-take, drop-drop, drop-take, take_at, drop_at, length-take-le, take-append-le, drop-append-le}
 use Rattle.std.proofs.Math.Seq.{take-add}
 use Rattle.std.proofs.lemmas.Slice.{take-put_mid_below, take-put_mid, drop-put_mid}
-use Rattle.flash_store.specs.Bytes.{overwritten, SameOutside, PartWritten}
+use Rattle.flash_store.specs.Device.{overwritten, SameOutside, PartWritten}
 use borrow.Rule.Slice.PartMut.{put_mid}
 
 -- a part as a length from a place on

@@ -5,10 +5,9 @@ use Rattle.std.specs.Io.KnownBytes.{Appends, Keeps}
 use Rattle.std.proofs.KnownBytes.{Appends-trans}
 use Rattle.std.proofs.Math.Seq.{take-add}
 use Rattle.std.proofs.lemmas.List.{drop-drop, take-take, length-take-le, take-replicate, drop-replicate}
-use Rattle.flash_store.specs.Bytes.{overwritten, FirstWritten}
+use Rattle.flash_store.specs.Device.{overwritten, FirstWritten, Device, Calls}
 use Rattle.flash_store.proofs.BytesLemmas.{slice_range_is, length-slice_range}
 use Rattle.flash_store.proofs.DeviceLemmas.{Calls-then, Calls-at_most}
-use Rattle.flash_store.specs.Device.{Device, Calls}
 use Rattle.flash_store.specs.Pages.{Pages, HasRead}
 use Rattle.flash_store.proofs.WindowLemmas.{HasRead-then, HasRead-within}
 use Rattle.flash_store.specs.Output.{AppendsPart, AppendsPieces}

@@ -2,7 +2,7 @@
 use Rattle.std.proofs.Common.{◌≡◌, ◌⊎◌, inl, inr, ℕ, ◌+◌, ◌-◌, ◌≤◌, List, length, take, drop, refl, sym, ◌∙◌, ap, arith}
 use Rattle.std.specs.Prelude.{slice_range, Result, Ok, Err, OnOk}
 use Rattle.std.proofs.lemmas.List.{take-take, drop-drop, drop-take}
-use Rattle.flash_store.specs.Bytes.{overwritten, SameOutside}
+use Rattle.flash_store.specs.Device.{overwritten, SameOutside}
 use Rattle.flash_store.specs.Regions.{Range, LiesIn, bytes_in}
 use Rattle.flash_store.proofs.BytesLemmas.{slice_range_is, SameOutside-overwritten, SameOutside-trans, length-overwritten, overwritten-range, overwritten-later, overwritten-earlier, changed-overwritten}
 use Rattle.flash_store.proofs.DeviceLemmas.{length-bytes_in}

@@ -4,8 +4,8 @@ use Rattle.std.proofs.lemmas.List.{length-take-le, take_rest, drop-drop, length-
 use Rattle.std.proofs.lemmas.Slice.{take-put_mid}
 use Rattle.std.proofs.Math.Seq.{take-append-add, take-length}
 use borrow.Rule.Slice.PartMut.{put_mid}
-use Rattle.flash_format.specs.Head.{header_length}
-use Rattle.flash_store.specs.Bytes.{overwritten, SameOutside}
+use Rattle.flash_format.specs.Made.{header_length}
+use Rattle.flash_store.specs.Device.{overwritten, SameOutside}
 use Rattle.flash_store.specs.Storing.{Stored, SameFile, SameBytes, HasReadSome, HasWrittenSome, IsErased}
 use Rattle.std.specs.Prelude.{slice_range, Result, Ok, Err}
 use Rattle.flash_store.proofs.BytesLemmas.{nearer, further, slice_range_is, part_of_window, overwritten_is, length-overwritten, SameOutside-overwritten}

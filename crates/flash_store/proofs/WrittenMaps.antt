@@ -6,7 +6,7 @@ use Rattle.flash_format.specs.declared.flashmap.FmapHead.{FmapHead}
 use Rattle.flash_format.specs.Flashmap.{areas_from, fmap_head_len, fmap_head_of, is_map}
 use Rattle.flash_format.specs.Laws.{IsReadAsMap}
 use Rattle.flash_format.proofs.MapBytes.{lowest_found}
-use Rattle.flash_store.specs.Bytes.{overwritten}
+use Rattle.flash_store.specs.Device.{overwritten}
 use Rattle.flash_store.specs.Laws.{WrittenMapsAreFound}
 use Rattle.flash_store.specs.declared.fmap.FoundMap.{FoundMap}
 

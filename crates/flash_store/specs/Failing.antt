@@ -1,7 +1,6 @@
 -- A device and a source that refuse the calls after the first few.
 use Rattle.std.specs.Prelude.{◌≡◌, ℕ, ◌+◌, ◌-◌, ◌<◌, Bool, false, List, take, Result, IsTrue, IsErr}
-use Rattle.flash_store.specs.Bytes.{overwritten}
-use Rattle.flash_store.specs.Device.{Device, refusals}
+use Rattle.flash_store.specs.Device.{overwritten, Device, refusals}
 
 -- What contracts see of such a device: the one that it stands over, how many calls still pass, how much of the first refused
 -- write is written, whether that is still to come, and its own calls and faults. A source is seen as a device without writes.

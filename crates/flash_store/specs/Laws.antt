@@ -5,7 +5,7 @@ use Rattle.flash_format.specs.Laws.{IsReadAsMap}
 pub use Rattle.flash_format.specs.Laws.{NoMapBelow}
 use Rattle.flash_format.specs.declared.flashmap.Area.{Area}
 use Rattle.flash_format.specs.declared.flashmap.FmapHead.{FmapHead}
-use Rattle.flash_store.specs.Bytes.{overwritten, SameOutside}
+use Rattle.flash_store.specs.Device.{overwritten, SameOutside}
 use Rattle.flash_store.specs.Fmap.{found_in}
 use Rattle.flash_store.specs.Regions.{Range, LiesIn, bytes_in}
 

@@ -1,5 +1,3 @@
-pub mod Bytes
-pub mod Copies
 pub mod Device
 pub mod Failing
 pub mod Fmap

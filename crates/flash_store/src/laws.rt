@@ -1,7 +1,7 @@
 //! Laws of writes, which the crates above rest on. These functions do nothing: their contracts are the laws.
 
 ghost use Rattle.std.specs.Prelude.{◌≡◌, ℕ, ◌+◌, ◌≤◌, List, length};
-ghost use Rattle.flash_store.specs.Bytes.{overwritten};
+ghost use Rattle.flash_store.specs.Device.{overwritten};
 ghost use Rattle.flash_store.specs.Regions.{Range, LiesIn, bytes_in};
 ghost use Rattle.flash_store.specs.Laws.{WritesInRegions, WrittenMapsAreFound, LieApart, with_edit};
 

@@ -1,6 +1,6 @@
 //! A device in memory, which is honest and never fails.
 ghost use Rattle.std.specs.Prelude.{◌≡◌, ◌+◌, ◌^◌, ◌<◌, ◌≤◌, true, length, MatchResult, vec_len};
-ghost use Rattle.flash_store.specs.Bytes.{overwritten};
+ghost use Rattle.flash_store.specs.Device.{overwritten};
 
 use crate::counter::Counter;
 use crate::flash::{Flash, FlashFault};

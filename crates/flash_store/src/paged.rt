@@ -1,7 +1,7 @@
 //! A device and one buffer, through which everything passes in pieces.
 ghost use Rattle.std.specs.Prelude.{◌≡◌, ℕ, List, ◌++◌, ◌+◌, ◌/◌, ◌^◌, ◌<◌, ◌≤◌, ◌↔◌, length, take, IsTrue, OnOk, IfOk, IsErrOf, slice_range, replicate};
 ghost use Rattle.flash_store.specs.Device.{OneCall, OneRead, OneWrite, OneCommit, refusals};
-ghost use Rattle.flash_store.specs.Copies.{HasFilled, HasCopiedIn, HasCopiedOut};
+ghost use Rattle.flash_store.specs.Pages.{HasFilled, HasCopiedIn, HasCopiedOut};
 ghost use Rattle.flash_store.specs.Output.{AppendsPieces};
 ghost use Rattle.std.specs.Io.KnownBytes.{Keeps};
 

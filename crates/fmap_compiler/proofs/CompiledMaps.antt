@@ -1,6 +1,6 @@
 -- The table of a text is found where it is written.
 use Rattle.std.proofs.Common.{List, ℕ, sym, subst}
-use Rattle.flash_store.specs.Bytes.{overwritten}
+use Rattle.flash_store.specs.Device.{overwritten}
 use Rattle.flash_store.specs.Laws.{FindsMap, NoMapBelow}
 use Rattle.flash_store.proofs.WrittenMaps.{maps_found}
 use Rattle.fmd_lang.specs.Table.{table_bytes, table_head}

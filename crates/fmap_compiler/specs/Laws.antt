@@ -1,6 +1,6 @@
 -- What the table of a text is in an image.
 use Rattle.std.specs.Prelude.{ℕ, ◌≤◌, List, length}
-use Rattle.flash_store.specs.Bytes.{overwritten}
+use Rattle.flash_store.specs.Device.{overwritten}
 use Rattle.flash_store.specs.Laws.{FindsMap, NoMapBelow}
 use Rattle.fmd_lang.specs.Words.{words}
 use Rattle.fmd_lang.specs.Tree.{Tree}

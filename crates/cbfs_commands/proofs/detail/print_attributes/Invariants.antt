@@ -1,5 +1,5 @@
 use Rattle.std.proofs.Common.{◌≡◌, ◌-◌, ◌/◌, ◌≤◌, List, Some}
-use Rattle.flash_format.specs.Attributes.{Attribute}
+use Rattle.flash_format.specs.Entry.{Attribute}
 use Rattle.flash_format.specs.Components.{cell_attributes}
 use Rattle.flash_store.specs.Pages.{OnHonestIn}
 use Rattle.flash_store.specs.Regions.{bytes_in}

@@ -1,5 +1,5 @@
 use Rattle.std.proofs.Common.{arith, refl}
-use Rattle.cbfs_commands.specs.Details.{hash_text}
+use Rattle.cbfs_commands.specs.Rows.{hash_text}
 use Rattle.cbfs_commands.specs.Told.{cell_of, shows}
 use Rattle.cbfs_commands.proofs.Telling.{so_far-ends, so_far-of, still_cell, told-stopped, told-within}
 use Rattle.cbfs_commands.proofs.detail.print_details.Goals as goal

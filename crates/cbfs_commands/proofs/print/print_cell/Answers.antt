@@ -1,7 +1,7 @@
 use Rattle.std.proofs.Common.{◌≡◌, ◌∙◌, ◌&&◌, not, Bool, false, cond, List, ℕ, [], refl, sym, ap, arith}
 use Rattle.flash_format.specs.Head.{head_of, is_free}
 use Rattle.flash_format.specs.declared.head.Head.{Head}
-use Rattle.cbfs_commands.specs.Details.{details}
+use Rattle.cbfs_commands.specs.Rows.{details}
 use Rattle.cbfs_commands.specs.Told.{Told, cell_of, shows}
 use Rattle.cbfs_commands.proofs.Telling.{so_far-ends, so_far-of, still_cell, told-stopped, told-within}
 use Rattle.cbfs_commands.proofs.print.print_cell.Goals as goal

@@ -1,7 +1,7 @@
 use Rattle.std.proofs.Common.{ap, ◌∙◌, ◌+◌, arith, refl, le_refl}
 use Rattle.std.proofs.lemmas.Bool.{eq-eqb, ne_eqb}
 use Rattle.std.proofs.lemmas.Result.{err_from_is_err_and}
-use Rattle.cbfs_walk.specs.Listed.{first_in}
+use Rattle.cbfs_walk.specs.AttrWalks.{first_in}
 use Rattle.cbfs_walk.proofs.CellNames.{has_field}
 use Rattle.cbfs_walk.proofs.Reading.{Passes-then}
 use Rattle.cbfs_walk.proofs.Scanning.{scanning_start, lies_still, asked_more, asked_here, first_more, first_here, first_none, first_is}

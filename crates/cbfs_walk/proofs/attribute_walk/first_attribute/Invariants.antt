@@ -1,5 +1,5 @@
 use Rattle.std.proofs.Common.{◌-◌}
-use Rattle.cbfs_walk.specs.Listed.{first_in}
+use Rattle.cbfs_walk.specs.AttrWalks.{first_in}
 use Rattle.cbfs_walk.proofs.Scanning.{Scanning, AsksRest}
 use Rattle.cbfs_walk.proofs.attribute_walk.first_attribute.Given as goal
 

@@ -1,5 +1,5 @@
 use Rattle.std.proofs.Common.{refl, ap, ◌∙◌, true, false}
-use Rattle.flash_format.specs.Attributes.{attr_head_of}
+use Rattle.flash_format.specs.Entry.{attr_head_of}
 use Rattle.cbfs_walk.proofs.Listing.{listed_tested}
 use Rattle.cbfs_walk.proofs.Reading.{Passes-none}
 use Rattle.cbfs_walk.proofs.attribute_walk.listed_at.Goals as goal

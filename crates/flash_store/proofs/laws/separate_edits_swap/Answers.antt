@@ -1,6 +1,6 @@
 -- Edits of two regions that lie apart.
 use Rattle.std.proofs.Common.{◌≡◌, ◌⊎◌, inl, inr, ℕ, ◌+◌, ◌≤◌, List, length, sym, ◌∙◌, ap, arith}
-use Rattle.flash_store.specs.Bytes.{overwritten}
+use Rattle.flash_store.specs.Device.{overwritten}
 use Rattle.flash_store.specs.Regions.{Range, LiesIn, bytes_in}
 use Rattle.flash_store.specs.Laws.{LieApart, with_edit}
 use Rattle.flash_store.proofs.BytesLemmas.{overwritten-separate}

@@ -1,6 +1,5 @@
 use Rattle.std.specs.Prelude.{◌≡◌, ◌+◌, ◌<◌, ◌≤◌, ◌-◌, ◌/◌, ◌%◌, ◌++◌, ℕ, List, IsTrue, take}
-use Rattle.flash_store.specs.Bytes.{overwritten, SameOutside}
-use Rattle.flash_store.specs.Device.{Calls, Reads}
+use Rattle.flash_store.specs.Device.{overwritten, SameOutside, Calls, Reads}
 use Rattle.flash_store.proofs.paged.copy_pieces.Given as goal
 
 abbrev pub invariant-loop-done : goal.invariant-loop-done

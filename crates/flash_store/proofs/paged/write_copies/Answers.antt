@@ -1,6 +1,6 @@
 use Rattle.std.proofs.Common.{◌≤◌, ◌+◌, ◌∙◌, IsTrue, length, replicate, take, ap, arith, rules}
 use Rattle.std.proofs.lemmas.List.{length-replicate, length-take, take_all}
-use Rattle.flash_store.specs.Bytes.{overwritten}
+use Rattle.flash_store.specs.Device.{overwritten}
 use Rattle.flash_store.proofs.BytesLemmas.{written-more, written-outside, written-torn, written-part}
 use Rattle.flash_store.proofs.CopyLemmas.{Calls-piece, copies-part, OnErr-from}
 use Rattle.flash_store.proofs.DeviceLemmas.{honest_still}

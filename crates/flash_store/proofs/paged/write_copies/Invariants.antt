@@ -1,6 +1,5 @@
 use Rattle.std.specs.Prelude.{◌≡◌, ◌+◌, ◌<◌, ◌≤◌, ◌-◌, ◌/◌, ◌%◌, IsTrue, replicate, take}
-use Rattle.flash_store.specs.Bytes.{overwritten}
-use Rattle.flash_store.specs.Device.{Calls}
+use Rattle.flash_store.specs.Device.{overwritten, Calls}
 use Rattle.flash_store.proofs.paged.write_copies.Given as goal
 
 abbrev pub invariant-loop-done : goal.invariant-loop-done
