@@ -1,11 +1,10 @@
-//! One command at a time.
+//! One command at a time; those that only hand their region on to `cbfs_edit` stand here.
 
 ghost use Rattle.std.specs.Prelude.{◌≡◌, ◌+◌, ◌*◌, ◌/◌, ◌<◌, ◌≤◌, ◌⊎◌, false, length, IsTrue, IsErrOf};
 ghost use Rattle.flash_store.specs.Device.{Calls, faults_told};
-ghost use Rattle.cbfs_commands.specs.Deeds.{Meets, MayHaveWritten, Serves, SparesOutside, change_of, deed, reads_source, source_calls, writes_output, request_of};
+ghost use Rattle.cbfs_commands.specs.Deeds.{Meets, MayHaveWritten, Serves, SparesOutside, change_of, deed, reads_source, source_calls, writes_output, request_of, HasChanged, adds, no_source, removes};
 ghost use Rattle.cbfs_commands.specs.Refusals.{by_device, by_source};
 
-use crate::add::add;
 use crate::command::Command;
 use crate::create::create;
 use crate::extract::extract;
@@ -13,9 +12,37 @@ use crate::layout::layout;
 use crate::print::print;
 use crate::read::read;
 use crate::refusal::Refusal;
-use crate::remove::remove;
 use crate::write::write;
+use cbfs_edit::{HashChoice, Spot};
 use flash_store::{Flash, Paged, Sink, Source};
+
+/// Puts the source into free space of the region, as the content of a component.
+fn add<F: Flash, S: Source>(
+    paged: &mut Paged<F>,
+    region: &[u8],
+    name: &[u8],
+    kind: u32,
+    hash: HashChoice,
+    spot: Spot,
+    source: &mut S,
+) -> Result<(), Refusal>
+    ensures { HasChanged F.facts (2 * length (F.facts paged.old.device).content + 64) (adds region.now name.now kind hash spot)
+        paged.old paged.new (S.facts source.old) (S.facts source.new) result }
+{
+    let region = flash_store::region(paged, region)?;
+    cbfs_edit::add(paged, region, name, kind, hash, spot, source)?;
+    Ok(())
+}
+
+/// Puts free space in place of the first component of the name.
+fn remove<F: Flash>(paged: &mut Paged<F>, region: &[u8], name: &[u8]) -> Result<(), Refusal>
+    ensures { HasChanged F.facts (2 * length (F.facts paged.old.device).content + 64)
+        (removes region.now name.now) paged.old paged.new no_source no_source result }
+{
+    let region = flash_store::region(paged, region)?;
+    cbfs_edit::remove(paged, region, name)?;
+    Ok(())
+}
 
 /// Runs a command on an image. It takes no memory.
 pub fn run<F: Flash, S: Source, W: Sink>(

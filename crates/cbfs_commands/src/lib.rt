@@ -1,7 +1,6 @@
 //! The commands on an image: print, layout, extract, add, remove, read, write and create.
 #![tactic(auto)]
 
-mod add;
 mod command;
 mod create;
 mod detail;
@@ -14,7 +13,6 @@ mod plan;
 mod print;
 mod read;
 mod refusal;
-mod remove;
 mod row;
 mod write;
 

@@ -1,5 +1,5 @@
 use Rattle.std.proofs.Common.{rules}
-use Rattle.cbfs_commands.proofs.remove.remove.Goals as goal
+use Rattle.cbfs_commands.proofs.engine.remove.Goals as goal
 
 pub returns-in_err-remove : goal.returns-in_err-remove
 returns-in_err-remove g c =

@@ -1,5 +1,5 @@
 use Rattle.std.proofs.Common.{◌≡◌, inl, inr, rules}
-use Rattle.cbfs_commands.proofs.add.add.Goals as goal
+use Rattle.cbfs_commands.proofs.engine.add.Goals as goal
 
 pub returns-in_err-add : goal.returns-in_err-add
 returns-in_err-add g c =
