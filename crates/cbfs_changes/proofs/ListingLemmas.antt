@@ -58,10 +58,6 @@ pub adds_one : {E : Type 0} (result : Result (Unit {0}) E) (old new : List Liste
 adds_one (Err fault) old new c name used added = tt
 adds_one (Ok done) old new c name used added = inr (record { name = name; used = used; added = added })
 
--- free space adds nothing
-pub listed_none : (x : List ℕ) (old new : List Listed) (c : Cell) → is_free c.head ≡ true → new ≡ old → map (state_in x) new ≡ map (state_in x) old ++ cell_states x c
-listed_none x old new c free same = rw (free, same) (sym (append-nil (map (state_in x) old)))
-
 -- ---- what a region has from a place on
 
 rest_read : ℕ → Cut → List ComponentState

@@ -77,11 +77,6 @@ different_blocks-all x y m n common longer count all old_len new_len few many is
 bytes_in-whole : (r : Range) (x : List ℕ) (n : ℕ) → r ≡ record { start = 0; size = n } → n ≡ length x → bytes_in r x ≡ x
 bytes_in-whole r x n is long = ap (λ (r : Range). bytes_in r x) is ∙ slice_range_is x 0 n ∙ take_all n x (omega (arith, long))
 
--- an image is the region of its length
-pub different_blocks-whole : (r s : Range) (x y : List ℕ) (m n : ℕ) → r ≡ record { start = 0; size = m } → s ≡ record { start = 0; size = n } → m ≡ length x → n ≡ length y → different_blocks (bytes_in r x) (bytes_in s y) ≡ different_blocks x y
-different_blocks-whole r s x y m n r_is s_is old_len new_len =
-    ap (λ (l : List ℕ). different_blocks l (bytes_in s y)) (bytes_in-whole r x m r_is old_len) ∙ ap (different_blocks x) (bytes_in-whole s y n s_is new_len)
-
 -- ---- blocks of which it is known
 
 -- a whole block of a region that begins at a block is one of the image
@@ -128,11 +123,6 @@ different_among-more x y number count one different is counted so_far =
     rw (next, so_far, counted, is) refl
 
 -- all of one length have their blocks, and one more where they do not fill them
-pub blocks_of-whole : (x y : List ℕ) → min (length x) (length y) % 4096 ≡ 0 → different_among x y (min (length x) (length y) / 4096) + 0 ≡ different_among x y (blocks_of (min (length x) (length y)))
-blocks_of-whole x y whole =
-    let same : min (length x) (length y) / 4096 ≡ blocks_of (min (length x) (length y)) = omega (arith, whole) in
-    omega arith ∙ ap (different_among x y) same
-
 pub blocks_of-more : (x y : List ℕ) (n number one : ℕ) (different : Bool) → n ≡ min (length x) (length y) → 0 < n % 4096 → number ≡ n / 4096 → different ≡ differs x y number → one ≡ (if different then 1 else 0) → different_among x y (min (length x) (length y) / 4096) + one ≡ different_among x y (blocks_of (min (length x) (length y)))
 blocks_of-more x y n number one different long more at is counted =
     let here : number ≡ min (length x) (length y) / 4096 = omega (arith, long, at) in

@@ -1,11 +1,10 @@
 -- Areas, as they are looked at from the last one on.
-use Rattle.std.proofs.Common.{◌≡◌, ◌∙◌, ℕ, suc, ◌+◌, ◌-◌, ◌*◌, ◌/◌, ◌<◌, ◌≤◌, Bool, true, false, cond, List, [], ◌∷◌, ◌++◌, length, get_or, drop, reverse, nat_lt, refl, sym, ap, subst, arith, append_assoc, append-nil}
+use Rattle.std.proofs.Common.{◌≡◌, ◌∙◌, ℕ, suc, ◌+◌, ◌-◌, ◌*◌, ◌<◌, ◌≤◌, Bool, true, false, cond, List, [], ◌∷◌, ◌++◌, length, get_or, drop, reverse, nat_lt, refl, sym, ap, subst, arith, append_assoc, append-nil}
 use Rattle.std.specs.Prelude.{map, Result, Ok, Err, IsErrAnd}
 use Rattle.std.specs.List.{list_any}
 use Rattle.std.specs.List.Sorted.{IsNonDecreasingBy}
 use Rattle.std.proofs.lemmas.Grind.{flat_map-append}
 use Rattle.flash_format.specs.Flashmap.{is_area}
-use Rattle.std.proofs.Math.Nat.{mul_comm, mul-le-mul_left}
 use Rattle.std.proofs.Math.Seq.{drop-cons, drop-length}
 use Rattle.std.proofs.lemmas.Bool.{ltb-false, le-ltb}
 use Rattle.std.proofs.lemmas.List.{get_or_default, map-append, reverse-append}
@@ -168,16 +167,6 @@ looking_more facts verbose names areas left i d later next old now new so_far on
   order = rw so_far.read.device.calls.same_length at keeps so_far.order;
   count = omega (arith, so_far.count);
 }
-
--- all of them were
-tried_calls : (tried k : ℕ) → tried ≤ max_tried → tried * k ≤ max_tried * k
-tried_calls tried k few = rw (mul_comm tried k, mul_comm max_tried k) (mul-le-mul_left k few)
-
-pub looked_reads : {F : Type 0} (facts : F → Device) (areas : ℕ) (k : ℕ) (later : LookedAreas) (refused : ℕ) (old new : Pages F) → k ≤ 3 * areas → later.tried ≤ max_tried → HasRead facts (k + calls_of (length (facts old.device).content) later) refused old new
-    → HasRead facts (3 * areas + (length (facts old.device).content / 16 * 9 + 16)) refused old new
-looked_reads facts areas k later refused old new few tried read =
-    let n = length (facts old.device).content in
-    HasRead-within facts _ _ refused old new (omega (arith, few, tried_calls later.tried (n / 16 + 2) tried)) read
 
 -- ---- the whole
 

@@ -1,4 +1,4 @@
-use Rattle.std.proofs.Common.{ap, subst, arith, length, take, drop, ◌≡◌, ◌≤◌}
+use Rattle.std.proofs.Common.{subst, arith, length, take, ◌≡◌}
 use Rattle.std.proofs.lemmas.List.{length-take-le}
 use Rattle.flash_store.specs.Storing.{HasReadSome}
 use Rattle.flash_store.proofs.StoringLemmas.{front_read}

@@ -1,4 +1,4 @@
-use Rattle.std.proofs.Common.{◌∙◌, ap, refl, length, arith}
+use Rattle.std.proofs.Common.{◌∙◌, ap, refl, arith}
 use Rattle.std.proofs.lemmas.List.{take_all}
 use Rattle.flash_store.specs.Device.{overwritten}
 use Rattle.flash_store.proofs.transfer.write_once.Goals as goal
