@@ -211,7 +211,15 @@ fn looked<F: Flash>(
     let mut left = areas.len();
     while left > 0 {
         left -= 1;
-        look_if_wanted(alloc, keys, paged, names, areas[left], is_verbose, &mut later)?;
+        look_if_wanted(
+            alloc,
+            keys,
+            paged,
+            names,
+            areas[left],
+            is_verbose,
+            &mut later,
+        )?;
     }
     let mut findings = later.findings;
     findings.reverse();
