@@ -14,11 +14,3 @@ returns-in_err-add g c =
           let same : found ≡ c.in_ok-region.region = elim (c.in_ok-region.ensures.answer h) [ inl device ↦ absurd cc | inr here ↦ cc ] in
           rw (same, ← (c.in_ok-region.ensures.after.device.unchanged h)) (search rules);
     }
-
-pub returns-in_err-region : goal.returns-in_err-region
-returns-in_err-region g c =
-    record { calls = search rules; source_calls = search rules; no_output = search rules; spares = search rules; refused = search rules; left = search rules; stopped = search rules }
-
-pub returns : goal.returns
-returns g c =
-    record { calls = search rules; source_calls = search rules; no_output = search rules; spares = search rules; refused = search rules; left = search rules; stopped = search rules }

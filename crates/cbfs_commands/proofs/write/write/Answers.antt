@@ -5,11 +5,3 @@ use Rattle.cbfs_commands.proofs.write.write.Goals as goal
 pub returns-in_err-copy_in : goal.returns-in_err-copy_in
 returns-in_err-copy_in g c =
     record { calls = search rules; source_calls = search rules; no_output = search rules; spares = search rules; refused = search rules; left = search rules; stopped = grind (arith, common_steps) }
-
-pub returns-in_err-region : goal.returns-in_err-region
-returns-in_err-region g c =
-    record { calls = search rules; source_calls = search rules; no_output = search rules; spares = search rules; refused = search rules; left = search rules; stopped = grind (arith, common_steps) }
-
-pub returns : goal.returns
-returns g c =
-    record { calls = search rules; source_calls = search rules; no_output = search rules; spares = search rules; refused = search rules; left = grind (arith, common_steps); stopped = search rules }
