@@ -1,6 +1,12 @@
-//! Tests of the compiler of descriptors, over its public functions: a crate of their own, so that the compiler is not
-//! proved again with them.
+//! Tests of the formats, of the language of descriptors and of its compiler, over public functions: a crate of their own, so
+//! that none of them is proved again with them.
 #![tactic(auto)]
 
 #[cfg(test)]
-mod tests;
+mod compiler;
+#[cfg(test)]
+mod descriptors;
+#[cfg(test)]
+mod formats;
+#[cfg(test)]
+mod support;

@@ -1,44 +1,12 @@
-//! Readers and writers by pieces and with failures, texts that are refused, and what is told of each refusal.
+//! Readers and writers by pieces and with failures, and how much is read of a text.
 
+use crate::descriptors::{TABLE, TEXT};
+use crate::support::{equal, same_bytes};
 use flash_store::WriteSink;
 use fmap_compiler::{ReadText, Refusal, run};
 use fmd_lang::{Expected, FmdFault};
-use std::alloc::{AllocError, Global};
 use std::io::{self, ErrorKind, Read, Write};
 use std::process::Abort;
-
-const TEXT: &[u8] = b"FLASH@0xff000000 0x1000 { FMAP 0x200 COREBOOT(CBFS) }";
-
-/// The head of the text's table: the signature and the version 1.1; the base, the size and the name; two areas.
-const HEAD: [u8; 56] = [
-    0x5f, 0x5f, 0x46, 0x4d, 0x41, 0x50, 0x5f, 0x5f, 0x01, 0x01, 0x00, 0x00, 0x00, 0xff, 0x00, 0x00,
-    0x00, 0x00, 0x00, 0x10, 0x00, 0x00, 0x46, 0x4c, 0x41, 0x53, 0x48, 0x00, 0x00, 0x00, 0x00, 0x00,
-    0x00, 0x00, 0x00, 0x00, 0x00, 0x00, 0x00, 0x00, 0x00, 0x00, 0x00, 0x00, 0x00, 0x00, 0x00, 0x00,
-    0x00, 0x00, 0x00, 0x00, 0x00, 0x00, 0x02, 0x00,
-];
-
-/// The area FMAP: at 0, of 0x200 bytes, with no flags.
-const FMAP_AREA: [u8; 42] = [
-    0x00, 0x00, 0x00, 0x00, 0x00, 0x02, 0x00, 0x00, 0x46, 0x4d, 0x41, 0x50, 0x00, 0x00, 0x00, 0x00,
-    0x00, 0x00, 0x00, 0x00, 0x00, 0x00, 0x00, 0x00, 0x00, 0x00, 0x00, 0x00, 0x00, 0x00, 0x00, 0x00,
-    0x00, 0x00, 0x00, 0x00, 0x00, 0x00, 0x00, 0x00, 0x00, 0x00,
-];
-
-/// The area COREBOOT: at 0x200, of the 0xe00 bytes that are left, with no flags.
-const COREBOOT_AREA: [u8; 42] = [
-    0x00, 0x02, 0x00, 0x00, 0x00, 0x0e, 0x00, 0x00, 0x43, 0x4f, 0x52, 0x45, 0x42, 0x4f, 0x4f, 0x54,
-    0x00, 0x00, 0x00, 0x00, 0x00, 0x00, 0x00, 0x00, 0x00, 0x00, 0x00, 0x00, 0x00, 0x00, 0x00, 0x00,
-    0x00, 0x00, 0x00, 0x00, 0x00, 0x00, 0x00, 0x00, 0x00, 0x00,
-];
-
-/// The 140 bytes of the text's table.
-fn table(alloc: Global) -> Result<Vec<u8>, AllocError> {
-    let mut bytes = Vec::new(alloc);
-    bytes.extend_from_slice(&HEAD)?;
-    bytes.extend_from_slice(&FMAP_AREA)?;
-    bytes.extend_from_slice(&COREBOOT_AREA)?;
-    Ok(bytes)
-}
 
 /// A reader over memory whose reads give as many bytes as the pieces say, and then one byte each; it fails once
 /// `good` bytes are given.
@@ -111,15 +79,6 @@ impl Write for Short {
     }
 }
 
-/// Two values are equal. A call of this is proved sooner than an assertion in place.
-fn equal<T: PartialEq>(rt: &impl Abort, left: &T, right: &T) {
-    assert!(rt; *left == *right);
-}
-
-fn same_bytes(rt: &impl Abort, left: &[u8], right: &[u8]) {
-    assert!(rt; left == right);
-}
-
 /// A run over this reader answers so, and writes these bytes.
 fn compiles<R: Read + Drop>(
     rt: &(impl Abort + AllocGlobal),
@@ -144,12 +103,11 @@ fn in_pieces(pieces: &[usize], good: usize) -> Pieces<'_> {
 
 #[test]
 fn any_pieces_make_the_same_table(rt: HostRuntime) {
-    let table = table(rt.alloc()).expect(&rt, "memory");
     let sizes = [1, 2, 3, 5, 8, 13, 21];
-    compiles(&rt, in_pieces(&[], usize::MAX), Ok(()), &table);
-    compiles(&rt, in_pieces(&sizes, usize::MAX), Ok(()), &table);
-    compiles(&rt, in_pieces(&[4096], usize::MAX), Ok(()), &table);
-    compiles(&rt, TEXT, Ok(()), &table);
+    compiles(&rt, in_pieces(&[], usize::MAX), Ok(()), &TABLE);
+    compiles(&rt, in_pieces(&sizes, usize::MAX), Ok(()), &TABLE);
+    compiles(&rt, in_pieces(&[4096], usize::MAX), Ok(()), &TABLE);
+    compiles(&rt, TEXT, Ok(()), &TABLE);
 }
 
 #[test]
@@ -184,12 +142,11 @@ fn writes(
     wanted: Result<(), Refusal>,
     written: usize,
 ) {
-    let table = table(rt.alloc()).expect(rt, "memory");
     let taken = Vec::new(rt.alloc());
     let mut writer = WriteSink::new(Short { taken, piece, room });
     let answer = run(rt.alloc(), &mut ReadText::new(TEXT), &mut writer);
     equal(rt, &answer, &wanted);
-    let prefix = table.get(..written).expect(rt, "a prefix");
+    let prefix = TABLE.get(..written).expect(rt, "a prefix");
     same_bytes(rt, &writer.into_inner().taken, prefix);
 }
 
@@ -229,17 +186,4 @@ fn no_more_is_read_than_tells_that_a_text_is_too_long(rt: HostRuntime) {
     refused_blanks(&rt, 3_000_000, FmdFault::TextTooLong, 1_048_577);
     let no_section = FmdFault::Expected { at: 0, what };
     refused_blanks(&rt, 0, no_section, 0);
-}
-
-fn told(rt: &(impl Abort + AllocGlobal), refusal: Refusal, text: &str) {
-    let told = format!(in rt.alloc(); "{refusal}").expect(rt, "memory");
-    assert!(rt; told.as_str() == text, "{text}");
-}
-
-#[test]
-fn refusals_are_told_by_their_texts(rt: HostRuntime) {
-    let fault = Refusal::Descriptor(FmdFault::NoFmap);
-    told(&rt, fault, "no FMAP section");
-    told(&rt, Refusal::Read, "read fault");
-    told(&rt, Refusal::Output, "output fault");
 }
