@@ -113,7 +113,7 @@ with() {
     at=$(((content - header) / 64 * 64))
     end=$(((content + size + 63) / 64 * 64))
     free_to=$to
-    [ "$to" != "$length" ] || [ $((content + size)) -gt $((to - 4)) ] || free_to=$((to - 4))
+    [ "$to" != "$length" ] || free_to=$((content + size > to - 4 ? content + size : to - 4))
     ones $((free_to - from)) | put wanted.rom $((start + from))
     mv rows before
     {

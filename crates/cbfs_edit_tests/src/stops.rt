@@ -181,6 +181,11 @@ fn refused_at_once(rt: &(impl Abort + AllocGlobal), new: New, want: EditFault) {
 fn what_the_words_refuse_makes_no_call(rt: HostRuntime) {
     let nameless = New { name: b"", ..NEW_A };
     refused_at_once(&rt, nameless, EditFault::BadName);
+    let nul = New {
+        name: b"a\0",
+        ..NEW_A
+    };
+    refused_at_once(&rt, nul, EditFault::BadName);
     let free = New { kind: 0, ..NEW_A };
     refused_at_once(&rt, free, EditFault::BadType);
     let nowhere = New {
