@@ -93,13 +93,6 @@ fn some_overlap(mut places: &[Region]) -> bool
     false
 }
 
-/// How many bytes a flashmap has, with its areas.
-fn map_len(head: &FmapHead) -> u64
-    ensures { result ≡ map_len head.now }
-{
-    FmapHead::LENGTH as u64 + Area::LENGTH as u64 * u64::from(head.nareas)
-}
-
 /// The plan by the areas that were found.
 #[tactic(auto, unfolding(crate::specs::Creations::plan_of))]
 fn plan_of(
@@ -111,7 +104,7 @@ fn plan_of(
     requires { length regions.now ≤ MOST_REGIONS }
     ensures { result ≡ plan_of image_len (map_len head.now) map regions.now }
 {
-    let map_len = map_len(head);
+    let map_len = head.map_len();
     let map = map_place(map, map_len, image_len)?;
     let regions = region_places(regions, image_len)?;
     if overlaps_any(&map, &regions) || some_overlap(&regions) {
