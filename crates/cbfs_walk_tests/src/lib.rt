@@ -1,7 +1,12 @@
-//! Tests of the walk, over its public functions: a crate of their own, so that the walk is not proved again with them.
+//! Tests of the walk and of what it stands on, the devices and the buffer, over public functions: a crate of their own, so
+//! that neither is proved again with them.
 #![tactic(auto)]
 
 #[cfg(test)]
 mod hashes;
 #[cfg(test)]
-mod tests;
+mod store;
+#[cfg(test)]
+mod support;
+#[cfg(test)]
+mod walks;

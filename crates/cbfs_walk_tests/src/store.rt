@@ -1,14 +1,14 @@
 //! What no clause shows: bytes from outside, real files, and that each call does its work.
 ghost use Rattle.std.specs.Prelude.{◌+◌, ◌≤◌};
 
-use flash_format::{FmapHead, HEADER_LENGTH};
+use crate::support::{equal, same_bytes, write_over};
+use flash_format::HEADER_LENGTH;
 use flash_store::{
     Ahead, CopyFault, Erased, FailAt, FailSource, FileFlash, FileSource, FlakyFile, Flash,
     MemFlash, MemSource, OpenFault, PIECE, Paged, Sink, Source, StoreFault, StoredFlash,
     StoredSource, WriteSink, area, find_fmap, put_all, region,
 };
 use std::alloc::{AllocError, Global};
-use std::fmt::Debug;
 use std::fs::{self, File, Permissions};
 use std::os::unix::fs::PermissionsExt;
 use std::process::Abort;
@@ -21,14 +21,6 @@ fn image(alloc: Global, len: usize, at: usize, part: &[u8]) -> Result<Vec<u8>, A
     Ok(bytes)
 }
 
-/// Puts bytes in place of those from `at` on, as far as they lie inside.
-fn write_over(bytes: &mut [u8], at: usize, part: &[u8]) {
-    let start = at.min(bytes.len());
-    let rest = &mut bytes[start..];
-    let n = part.len().min(rest.len());
-    rest[..n].copy_from_slice(&part[..n]);
-}
-
 /// A device in memory with such an image.
 fn device(rt: &(impl Abort + AllocGlobal), len: usize, at: usize, part: &[u8]) -> MemFlash {
     let bytes = image(rt.alloc(), len, at, part).expect(rt, "memory");
@@ -39,17 +31,6 @@ fn device(rt: &(impl Abort + AllocGlobal), len: usize, at: usize, part: &[u8]) -
 fn is_image(rt: &(impl Abort + AllocGlobal), bytes: &[u8], len: usize, at: usize, part: &[u8]) {
     let expected = image(rt.alloc(), len, at, part).expect(rt, "memory");
     same_bytes(rt, bytes, expected.as_slice());
-}
-
-/// Two values are equal. A test that calls this is proved in a third of a second, and not in the two seconds of an
-/// assertion of its own.
-fn equal<T: PartialEq + Debug>(rt: &impl Abort, left: &T, right: &T) {
-    assert_eq!(rt; *left, *right);
-}
-
-/// Two runs of bytes are equal.
-fn same_bytes(rt: &impl Abort, left: &[u8], right: &[u8]) {
-    equal(rt, &left, &right);
 }
 
 /// The bytes of a range.
@@ -148,30 +129,6 @@ fn read_small<F: Flash>(rt: &impl Abort, paged: &mut Paged<F>, at: u64, out: &mu
     assert!(rt; paged.read_small(at, out).is_ok());
 }
 
-/// The head of a flashmap named F, without areas.
-const HEAD: [u8; FmapHead::LENGTH] = *b"__FMAP__\x01\0\0\0\0\0\0\0\0\0\0\0\0\0\
-F\0\0\0\0\0\0\0\0\0\0\0\0\0\0\0\0\0\0\0\0\0\0\0\0\0\0\0\0\0\0\0\0\0";
-
-/// Where the map is found that begins at a place.
-fn found_at(rt: &(impl Abort + AllocGlobal), place: usize) -> Option<u64> {
-    let mut paged = Paged::new(device(rt, 8192, place, &HEAD));
-    let found = find_fmap(&mut paged).expect(rt, "a search")?;
-    Some(found.at)
-}
-
-#[test]
-fn a_map_is_found_at_each_place_across_pieces(rt: HostRuntime) {
-    for place in 4083..4104 {
-        equal(&rt, &found_at(&rt, place), &Some(place as u64));
-    }
-}
-
-#[test]
-fn a_map_may_end_with_the_image(rt: HostRuntime) {
-    equal(&rt, &found_at(&rt, 8192 - 56), &Some(8192 - 56));
-    equal(&rt, &found_at(&rt, 8192 - 55), &None);
-}
-
 /// The map of a flash of 4096 bytes at 0xff000000 with the areas FMAP of 512 bytes and COREBOOT of the rest.
 const MAP: [u8; 140] = *b"__FMAP__\x01\x01\x00\x00\x00\xff\x00\x00\x00\x00\x00\x10\x00\x00\
 FLASH\x00\x00\x00\x00\x00\x00\x00\x00\x00\x00\x00\x00\x00\x00\x00\x00\x00\x00\x00\x00\x00\x00\x00\x00\x00\x00\x00\x02\x00\
@@ -180,12 +137,16 @@ FMAP\x00\x00\x00\x00\x00\x00\x00\x00\x00\x00\x00\x00\x00\x00\x00\x00\x00\x00\x00
 \x00\x02\x00\x00\x00\x0e\x00\x00\
 COREBOOT\x00\x00\x00\x00\x00\x00\x00\x00\x00\x00\x00\x00\x00\x00\x00\x00\x00\x00\x00\x00\x00\x00\x00\x00\x00\x00";
 
+/// The map at 0x80, its second area, the region of its name, and none of a name with a NUL, which no words can have.
 #[test]
 fn areas_are_those_of_the_map(rt: HostRuntime) {
-    expect_area(&rt, &mut Paged::new(device(&rt, 4096, 0x80, &MAP)));
+    let mut paged = Paged::new(device(&rt, 4096, 0x80, &MAP));
+    expect_area(&rt, &mut paged);
+    equal(&rt, &place_of(&mut paged, b"COREBOOT"), &Ok((0x200, 0xe00)));
+    let none = Err(StoreFault::NoRegion);
+    equal(&rt, &place_of(&mut paged, b"COREBOOT\0"), &none);
 }
 
-/// The map of MAP at 0x80, and its second area.
 fn expect_area<F: Flash>(rt: &impl Abort, paged: &mut Paged<F>) {
     let found = find_fmap(paged).expect(rt, "a search");
     let map = found.expect(rt, "a map");
@@ -196,61 +157,6 @@ fn expect_area<F: Flash>(rt: &impl Abort, paged: &mut Paged<F>) {
         &(map.at, second.offset, second.size),
         &(0x80, 0x200, 0xe00),
     );
-}
-
-#[test]
-fn a_region_is_refused_in_order(rt: HostRuntime) {
-    look_up(&rt, 4096, b"COREBOOT", Ok((0x200, 0xe00)));
-    look_up(&rt, 768, b"COREBOOT", Err(StoreFault::RegionOutside));
-    look_up(&rt, 768, b"NONE", Err(StoreFault::NoRegion));
-    look_up(&rt, 100, b"COREBOOT", Err(StoreFault::NoFmap));
-    look_up(&rt, 4095, b"COREBOOT", Err(StoreFault::RegionOutside));
-    look_up(&rt, 140, b"COREBOOT", Err(StoreFault::RegionOutside));
-    look_up(&rt, 139, b"COREBOOT", Err(StoreFault::NoFmap));
-    look_up(&rt, 4096, b"COREBOO", Err(StoreFault::NoRegion));
-    look_up(&rt, 4096, b"COREBOOT\0", Err(StoreFault::NoRegion));
-}
-
-/// A map of three areas: COREBOOT of 1024 bytes, COREBOOT again, and one with a name of 32 bytes that begins 512 bytes
-/// before 2^32 and has 768.
-const ODD_MAP: [u8; 182] = *b"__FMAP__\x01\x01\0\0\0\xff\0\0\0\0\0\x10\0\0\
-FLASH\0\0\0\0\0\0\0\0\0\0\0\0\0\0\0\0\0\0\0\0\0\0\0\0\0\0\0\x03\0\
-\0\x04\0\0\0\x04\0\0COREBOOT\0\0\0\0\0\0\0\0\0\0\0\0\0\0\0\0\0\0\0\0\0\0\0\0\0\0\
-\0\x08\0\0\0\x08\0\0COREBOOT\0\0\0\0\0\0\0\0\0\0\0\0\0\0\0\0\0\0\0\0\0\0\0\0\0\0\
-\0\xfe\xff\xff\0\x03\0\001234567890123456789012345678901\0\0";
-
-#[test]
-fn areas_at_the_limits(rt: HostRuntime) {
-    let first = Ok((0x400, 0x400));
-    let full = b"01234567890123456789012345678901";
-    let outside = Err(StoreFault::RegionOutside);
-    let none = Err(StoreFault::NoRegion);
-    look_up_in(&rt, &ODD_MAP, 4096, b"COREBOOT", first);
-    look_up_in(&rt, &ODD_MAP, 2048, b"COREBOOT", first);
-    look_up_in(&rt, &ODD_MAP, 2047, b"COREBOOT", outside);
-    look_up_in(&rt, &ODD_MAP, 4096, full, outside);
-    look_up_in(&rt, &ODD_MAP, 4096, &full[..31], none);
-}
-
-/// The region of a name in so many bytes that begin with the map.
-fn look_up(
-    rt: &(impl Abort + AllocGlobal),
-    len: usize,
-    word: &[u8],
-    expected: Result<(u64, u64), StoreFault>,
-) {
-    look_up_in(rt, &MAP, len, word, expected);
-}
-
-fn look_up_in(
-    rt: &(impl Abort + AllocGlobal),
-    map: &[u8],
-    len: usize,
-    word: &[u8],
-    expected: Result<(u64, u64), StoreFault>,
-) {
-    let mut paged = Paged::new(device(rt, len, 0, map));
-    equal(rt, &place_of(&mut paged, word), &expected);
 }
 
 fn place_of<F: Flash>(paged: &mut Paged<F>, word: &[u8]) -> Result<(u64, u64), StoreFault> {

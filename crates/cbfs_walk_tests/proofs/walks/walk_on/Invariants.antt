@@ -1,6 +1,6 @@
 use Rattle.std.proofs.Common.{◌-◌, ◌≡◌}
 use Rattle.flash_store.specs.Regions.{LiesIn}
-use Rattle.cbfs_walk_tests.proofs.tests.walk_on.Given as goal
+use Rattle.cbfs_walk_tests.proofs.walks.walk_on.Given as goal
 
 abbrev pub invariant-loop : goal.invariant-loop
 invariant-loop g l = record {
