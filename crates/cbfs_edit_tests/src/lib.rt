@@ -1,17 +1,16 @@
-//! Tests of the edits, over their public functions: a crate of their own, so that the edits are not proved again with them.
+//! Tests of the edits and of the commands, over their public functions: a crate of their own, so that they are not proved again
+//! with them.
 #![tactic(auto)]
 
 #[cfg(test)]
-mod additions;
+mod commands;
 #[cfg(test)]
-mod bytes;
+mod deeds;
 #[cfg(test)]
-mod files;
-#[cfg(test)]
-mod formats;
+mod halves;
 #[cfg(test)]
 mod lists;
 #[cfg(test)]
-mod removals;
-#[cfg(test)]
 mod stops;
+#[cfg(test)]
+mod support;

@@ -1,6 +1,6 @@
 use Rattle.std.proofs.Common.{◌-◌, ◌≡◌}
 use Rattle.flash_store.specs.Regions.{LiesIn}
-use Rattle.cbfs_edit_tests.proofs.stops.walk_on.Given as goal
+use Rattle.cbfs_edit_tests.proofs.support.walk_on.Given as goal
 
 abbrev pub invariant-loop-cell : goal.invariant-loop-cell
 invariant-loop-cell l = record {

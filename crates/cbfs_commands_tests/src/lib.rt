@@ -1,5 +1,0 @@
-//! Tests of the commands, over their public functions.
-#![tactic(auto)]
-
-#[cfg(test)]
-mod tests;

@@ -1,0 +1,182 @@
+//! Outputs that fail at each place, the size of a new image, and creations that are refused or stopped.
+
+use crate::deeds::{COREBOOT, Short, stopped};
+use crate::support::{
+    Held, LEN, MAP, device_of, device_with, equal, filled, image_of, same_bytes, source_of,
+};
+use arrayvec::ArrayVec;
+use cbfs_commands::{Command, MOST_REGIONS, Refusal, create_size, run};
+use flash_store::{Counter, FailSource, MemFlash, MemSource, Paged, Source};
+use std::process::Abort;
+
+const PRINT: Command<'static> = Command::Print {
+    region: COREBOOT,
+    verbose: false,
+};
+
+// ---- outputs
+
+/// What a command on a device answers.
+fn output_of(device: MemFlash, command: &Command, out: &mut Short<'_>) -> Result<(), Refusal> {
+    let mut paged = Paged::new(device);
+    run(&mut paged, command, &mut MemSource::new(b""), out)
+}
+
+/// A command into a sink that takes so many bytes a call and so many in all writes this text.
+fn tells(
+    rt: &(impl Abort + AllocGlobal),
+    command: &Command,
+    piece: usize,
+    room: usize,
+    text: &[u8],
+    answer: Result<(), Refusal>,
+) {
+    let device = device_of(rt, Held::WithA);
+    let mut out = Short {
+        rest: text,
+        piece,
+        room,
+        differs: false,
+        faults: Counter::new(),
+    };
+    equal(rt, &output_of(device, command, &mut out), &answer);
+    assert!(rt; out.rest.is_empty() && !out.differs);
+}
+
+/// A command writes this text, by three bytes a call too, and as much of it as there is room for.
+fn tells_what_has_room(rt: &(impl Abort + AllocGlobal), command: &Command, text: &[u8]) {
+    for room in 0..text.len() {
+        let first = text.get(..room).unwrap_or(text);
+        tells(rt, command, 4096, room, first, Err(Refusal::Output));
+    }
+    tells(rt, command, 0, 4096, b"", Err(Refusal::Output));
+    tells(rt, command, 3, 4096, text, Ok(()));
+}
+
+fn prints(rt: &(impl Abort + AllocGlobal)) {
+    let rows = b"a\t0x0\traw\t10\tnone\n(empty)\t0x40\tnull\t416\tnone\n";
+    tells_what_has_room(rt, &PRINT, rows);
+}
+
+fn lays_out(rt: &(impl Abort + AllocGlobal)) {
+    let areas = b"fmap\t0x0\tFLASH\t1536\t3\nFMAP\t0x0\t512\t0x0\nCOREBOOT\t0x200\t512\t0x0\n\
+REST\t0x400\t512\t0x0\n";
+    tells_what_has_room(rt, &Command::Layout, areas);
+}
+
+fn extracts(rt: &(impl Abort + AllocGlobal)) {
+    let extract = Command::Extract {
+        region: COREBOOT,
+        name: b"a",
+    };
+    tells_what_has_room(rt, &extract, b"0123456789");
+}
+
+fn reads(rt: &(impl Abort + AllocGlobal)) {
+    let image = image_of(rt, Held::WithA);
+    let region = image.get(0x200..0x400).unwrap_or(&[]);
+    equal(rt, &region.len(), &0x200);
+    tells_what_has_room(rt, &Command::Read { region: COREBOOT }, region);
+}
+
+#[test]
+fn an_output_that_fails_anywhere(rt: HostRuntime) {
+    prints(&rt);
+    lays_out(&rt);
+    extracts(&rt);
+    reads(&rt);
+}
+
+/// A listing on a device that refuses the first read.
+fn prints_nothing(rt: &(impl Abort + AllocGlobal)) {
+    let device = device_of(rt, Held::WithA);
+    let (answer, _) = stopped(device, 0, 0, &PRINT, MemSource::new(b""), 0);
+    equal(rt, &answer, &Err(Refusal::Device));
+}
+
+#[test]
+fn a_device_that_fails_as_it_is_read(rt: HostRuntime) {
+    prints_nothing(&rt);
+}
+
+// ---- creations
+
+/// The size of an image from this source is answered so, where it refuses all reads after the first few.
+fn has_size(rt: &impl Abort, map: &[u8], reads: u64, answer: Result<u32, Refusal>) {
+    let mut source = FailSource::new(source_of(rt, map), reads);
+    equal(rt, &create_size(&mut source), &answer);
+}
+
+#[test]
+fn the_size_of_a_flashmap(rt: HostRuntime) {
+    has_size(&rt, &MAP, 1, Ok(1536));
+    has_size(&rt, &MAP[..55], 1, Err(Refusal::TableBad));
+    has_size(&rt, &MAP, 0, Err(Refusal::Source));
+}
+
+/// A creation with regions of these names, and what it leaves of a device.
+fn creation(
+    device: MemFlash,
+    calls: u64,
+    names: &[&[u8]],
+    source: MemSource<'_>,
+    reads: u64,
+) -> (Result<(), Refusal>, MemFlash) {
+    let mut regions: ArrayVec<&[u8], MOST_REGIONS> = ArrayVec::new();
+    let _fits = regions.try_extend_from_slice(names);
+    stopped(
+        device,
+        calls,
+        17,
+        &Command::Create { regions },
+        source,
+        reads,
+    )
+}
+
+/// A creation from this flashmap on a device of so many bytes is refused, and leaves them.
+fn refuses(
+    rt: &(impl Abort + AllocGlobal),
+    len: usize,
+    names: &[&[u8]],
+    map: &[u8],
+    refusal: Refusal,
+) {
+    let source = source_of(rt, map);
+    let device = device_with(rt, filled(rt, 7, len));
+    let (answer, device) = creation(device, 1000, names, source, 1000);
+    equal(rt, &answer, &Err(refusal));
+    same_bytes(rt, device.bytes(), &filled(rt, 7, len));
+}
+
+#[test]
+fn what_is_refused_leaves_the_image(rt: HostRuntime) {
+    refuses(&rt, LEN, &[COREBOOT, COREBOOT], &MAP, Refusal::FmapArea);
+    refuses(&rt, LEN, &[COREBOOT], &MAP[..181], Refusal::TableBad);
+    refuses(&rt, 2 * LEN, &[COREBOOT], &MAP, Refusal::TableBad);
+}
+
+/// A creation ends so, where the device refuses all calls after the first `calls`, and the source all reads after the
+/// first `reads`.
+fn creates(rt: &(impl Abort + AllocGlobal), calls: u64, reads: u64, want: Result<(), Refusal>) {
+    let device = device_with(rt, filled(rt, 7, LEN));
+    let (answer, _) = creation(device, calls, &[COREBOOT], MemSource::new(&MAP), reads);
+    equal(rt, &answer, &want);
+}
+
+/// One call fills, one writes the table, and two make the region an empty entry. One read is for the head, one for each of
+/// three areas, and one for the table.
+fn stop_creations(rt: &(impl Abort + AllocGlobal)) {
+    for calls in 0..4 {
+        creates(rt, calls, 5, Err(Refusal::Device));
+    }
+    for reads in 0..5 {
+        creates(rt, 4, reads, Err(Refusal::Source));
+    }
+    creates(rt, 4, 5, Ok(()));
+}
+
+#[test]
+fn a_stop_of_either_side(rt: HostRuntime) {
+    stop_creations(&rt);
+}

@@ -1,0 +1,205 @@
+//! What is done to the region of the small image: edits, and commands that edit.
+ghost use Rattle.std.specs.Prelude.{None};
+
+use crate::support::{
+    Held, MAGIC_20, SIZE, START, components, device_of, equal, holds, region_of, source_of,
+};
+use cbfs_commands::{Command, Refusal, run};
+use cbfs_edit::{EditFault, HashChoice, Spot, add, format, remove};
+use flash_store::{
+    Counter, FailAt, FailSource, Flash, MemFlash, MemSource, Paged, Sink, SinkFault, Source,
+};
+use std::process::Abort;
+
+pub const COREBOOT: &[u8] = b"COREBOOT";
+
+pub const RUN_ADD: Command<'static> = Command::Add {
+    region: COREBOOT,
+    name: b"b",
+    kind: 0x50,
+    hash: HashChoice::Plain,
+    spot: Spot::First,
+};
+
+const RUN_REMOVE: Command<'static> = Command::Remove {
+    region: COREBOOT,
+    name: b"a",
+};
+
+/// The first removal joins free space on both sides, and the second takes the first of two components of a name.
+#[derive(Clone, Copy)]
+pub enum Deed {
+    Join,
+    FirstOfTwo,
+    Format,
+    Add,
+    AddLater,
+    RunAdd,
+    RunRemove,
+}
+
+/// What the region holds before it.
+pub fn before(deed: Deed) -> Held {
+    match deed {
+        Deed::Join => Held::Between,
+        Deed::FirstOfTwo => Held::Twice,
+        Deed::Add => Held::Fresh,
+        _ => Held::WithA,
+    }
+}
+
+/// What the region holds when it is done.
+pub fn after(deed: Deed) -> Held {
+    match deed {
+        Deed::FirstOfTwo => Held::Once,
+        Deed::Add => Held::WithA,
+        Deed::AddLater => Held::WithLater,
+        Deed::RunAdd => Held::Both,
+        _ => Held::Fresh,
+    }
+}
+
+/// A sink that is to be given this text, takes `piece` bytes a call, and fails once it has taken `room` bytes.
+#[derive(Drop)]
+pub struct Short<'a> {
+    /// What is left of the text.
+    pub rest: &'a [u8],
+    pub piece: usize,
+    pub room: usize,
+    /// Whether it was given anything else.
+    pub differs: bool,
+    pub faults: Counter,
+}
+
+impl Sink for Short<'_> {
+    ghost contents = { λ _. None };
+
+    ghost faults = { λ s. s.faults };
+
+    fn put(&mut self, bytes: &[u8]) -> Result<usize, SinkFault> {
+        let n = bytes.len().min(self.piece).min(self.room);
+        if n == 0 {
+            self.faults.tick();
+            return Err(SinkFault);
+        }
+        let taken = &bytes[..n];
+        if self.rest.get(..n).unwrap_or(&[]) != taken {
+            self.differs = true;
+        }
+        self.rest = self.rest.get(n..).unwrap_or(&[]);
+        self.room = self.room.saturating_sub(n);
+        Ok(n)
+    }
+}
+
+/// What a command answers into a sink that takes nothing.
+pub fn answer_of<F: Flash, S: Source>(
+    paged: &mut Paged<F>,
+    command: &Command,
+    source: &mut S,
+) -> Result<(), Refusal> {
+    let mut out = Short {
+        rest: &[],
+        piece: 0,
+        room: 0,
+        differs: false,
+        faults: Counter::new(),
+    };
+    run(paged, command, source, &mut out)
+}
+
+/// What a command answers and leaves where the device refuses all calls after the first `calls`, and keeps the first `part` bytes
+/// of the write that it refuses first, and the source refuses all reads after the first `reads`.
+pub fn stopped(
+    device: MemFlash,
+    calls: u64,
+    part: usize,
+    command: &Command,
+    source: MemSource<'_>,
+    reads: u64,
+) -> (Result<(), Refusal>, MemFlash) {
+    let mut paged = Paged::new(FailAt::new(device, calls, part));
+    let answer = answer_of(&mut paged, command, &mut FailSource::new(source, reads));
+    (answer, paged.into_flash().into_inner())
+}
+
+/// What becomes of the fault of an edit as a command tells it; the other refusals are one here.
+fn told(fault: Option<EditFault>) -> Result<(), Refusal> {
+    match fault {
+        None => Ok(()),
+        Some(EditFault::Device) => Err(Refusal::Device),
+        Some(EditFault::Source) => Err(Refusal::Source),
+        Some(_) => Err(Refusal::NotFound),
+    }
+}
+
+/// Adds a component of the usual type.
+fn adds<F: Flash>(
+    rt: &impl Abort,
+    paged: &mut Paged<F>,
+    name: &[u8],
+    spot: Spot,
+    content: &[u8],
+) -> Option<EditFault> {
+    let region = region_of(rt, paged);
+    let mut source = source_of(rt, content);
+    let plain = HashChoice::Plain;
+    add(paged, region, name, 0x50, plain, spot, &mut source).err()
+}
+
+fn removes<F: Flash>(rt: &impl Abort, paged: &mut Paged<F>, name: &[u8]) -> Option<EditFault> {
+    let region = region_of(rt, paged);
+    remove(paged, region, name).err()
+}
+
+fn formats<F: Flash>(rt: &impl Abort, paged: &mut Paged<F>) -> Option<EditFault> {
+    let region = region_of(rt, paged);
+    format(paged, region).err()
+}
+
+/// Does this, and answers how it has ended.
+pub fn does<F: Flash>(rt: &impl Abort, paged: &mut Paged<F>, deed: Deed) -> Result<(), Refusal> {
+    match deed {
+        Deed::Join => told(removes(rt, paged, b"m")),
+        Deed::FirstOfTwo => told(removes(rt, paged, b"x")),
+        Deed::Format => told(formats(rt, paged)),
+        Deed::Add => told(adds(rt, paged, b"a", Spot::First, b"0123456789")),
+        Deed::AddLater => told(adds(rt, paged, b"b", Spot::Aligned(256), &MAGIC_20)),
+        Deed::RunAdd => answer_of(paged, &RUN_ADD, &mut MemSource::new(&MAGIC_20)),
+        Deed::RunRemove => answer_of(paged, &RUN_REMOVE, &mut MemSource::new(b"")),
+    }
+}
+
+/// All components of the region COREBOOT.
+fn components_of(rt: &(impl Abort + AllocGlobal), device: MemFlash) -> Vec<u8> {
+    components(rt, device, START, SIZE)
+}
+
+/// Whether these are the components of a region that holds that.
+fn are_those(rt: &(impl Abort + AllocGlobal), found: &[u8], held: Held) -> bool {
+    components_of(rt, device_of(rt, held)).as_slice() == found
+}
+
+/// The region has the components that it has where it holds the one or the other.
+pub fn leaves(rt: &(impl Abort + AllocGlobal), device: MemFlash, one: Held, other: Held) {
+    let found = components_of(rt, device);
+    let is_left = are_those(rt, &found, one) || are_those(rt, &found, other);
+    assert!(rt; is_left);
+}
+
+/// A deed has finished and left the image that it should, or the device has stopped it: then the region has the components of
+/// before or of after. Answers whether it has finished.
+pub fn has_finished(
+    rt: &(impl Abort + AllocGlobal),
+    deed: Deed,
+    answer: Result<(), Refusal>,
+    device: MemFlash,
+) -> bool {
+    if answer.is_ok() {
+        holds(rt, &device, after(deed));
+        return true;
+    }
+    equal(rt, &answer, &Err(Refusal::Device));
+    leaves(rt, device, before(deed), after(deed));
+    false
+}
