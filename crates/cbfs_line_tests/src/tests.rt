@@ -1,4 +1,4 @@
-//! Words that ask for a command, and words that don't.
+//! Words that ask for a command. Those that don't are shown by `checks/check_cbfstool`, and the limit of a list by `checks/claims`.
 
 use cbfs_commands::{Command, Refusal};
 use cbfs_edit::{HashChoice, Spot};
@@ -37,11 +37,6 @@ fn a_line_with_every_option(rt: HostRuntime) {
     asks_for(&rt, &line, "x", Ok(command));
 }
 
-#[test]
-fn a_line_without_a_command(rt: HostRuntime) {
-    assert!(rt; read_line(rt.alloc(), &["img"]).err() == Some(Refusal::Usage));
-}
-
 /// The line asks for an image with these regions.
 fn creates(rt: &impl Abort, line: &Line<'_>, wanted: &[&[u8]]) {
     let Ok(Command::Create { regions }) = line.command() else {
@@ -56,33 +51,4 @@ fn words_ask_for_a_new_image(rt: HostRuntime) {
     let line = read_line(rt.alloc(), &words).expect(&rt, "a line");
     assert!(rt; line.file() == Some("t"));
     creates(&rt, &line, &[b"B", b"C"]);
-}
-
-#[test]
-fn sixteen_regions_are_taken(rt: HostRuntime) {
-    let regions = "A,B,C,D,E,F,G,H,I,J,K,L,M,N,O,P";
-    let words = ["img", "create", "-M", "t", "-r", regions];
-    let line = read_line(rt.alloc(), &words).expect(&rt, "a line");
-    creates(
-        &rt,
-        &line,
-        &[
-            b"A", b"B", b"C", b"D", b"E", b"F", b"G", b"H", b"I", b"J", b"K", b"L", b"M", b"N",
-            b"O", b"P",
-        ],
-    );
-}
-
-#[test]
-fn seventeen_regions_are_too_many(rt: HostRuntime) {
-    let words = [
-        "img",
-        "create",
-        "-M",
-        "t",
-        "-r",
-        "A,B,C,D,E,F,G,H,I,J,K,L,M,N,O,P,Q",
-    ];
-    let line = read_line(rt.alloc(), &words).expect(&rt, "a line");
-    asks_for(&rt, &line, "t", Err(Refusal::Usage));
 }
