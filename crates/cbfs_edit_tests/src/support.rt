@@ -17,9 +17,10 @@ FLASH\0\0\0\0\0\0\0\0\0\0\0\0\0\0\0\0\0\0\0\0\0\0\0\0\0\0\0\x03\x00\
 /// How long the image is.
 pub const LEN: usize = 1536;
 
-/// Where the region COREBOOT stands in it, and how long it is.
+/// Where the region COREBOOT stands in it.
 pub const START: usize = 512;
 
+/// How long the region is.
 pub const SIZE: usize = 512;
 
 /// Deleted space of 20 bytes.
@@ -197,8 +198,8 @@ fn put_down(told: &mut Vec<u8>, cell: &Cell, bytes: &[u8]) -> Result<(), AllocEr
     told.extend_from_slice(rest.get(..n).unwrap_or(rest))
 }
 
-/// Puts down the components up to the end of a walk, and answers whether no entry is damaged. The region starts with the last
-/// of so many bytes of the device.
+/// Puts down the components up to the end of a walk through the region that begins at `start`, and answers whether no entry is
+/// damaged.
 fn walk_on(
     walk: &mut Walk,
     paged: &mut Paged<MemFlash>,
