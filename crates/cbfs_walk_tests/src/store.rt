@@ -326,9 +326,9 @@ fn erased(rt: &(impl Abort + AllocGlobal)) -> StoredFlash<Erased<FlakyFile>> {
 
 /// Writes over 0xff, and 0xff over the first byte of that again.
 fn erase_parts<F: Flash>(rt: &impl Abort, device: &mut F) {
-    assert!(rt; writes(rt, device, 10, &[0xff; 50]));
-    assert!(rt; writes(rt, device, 30, b"new"));
-    assert!(rt; writes(rt, device, 20, &[0xff; 11]));
+    equal(rt, &writes(rt, device, 10, &[0xff; 50]), &true);
+    equal(rt, &writes(rt, device, 30, b"new"), &true);
+    equal(rt, &writes(rt, device, 20, &[0xff; 11]), &true);
 }
 
 #[test]
@@ -530,12 +530,15 @@ fn read_both<F: Flash>(
 }
 
 fn reads_and_refuses_writes<F: Flash>(rt: &impl Abort, device: &mut F) {
+    reads_four(rt, device, 6, b"6789");
+    equal(rt, &writes(rt, device, 3, b"abc"), &false);
+    reads_four(rt, device, 2, b"2345");
+}
+
+fn reads_four<F: Flash>(rt: &impl Abort, device: &mut F, at: u64, want: &[u8]) {
     let mut out = [0; 4];
-    assert!(rt; reads(rt, device, 6, &mut out));
-    same_bytes(rt, &out, b"6789");
-    assert!(rt; !writes(rt, device, 3, b"abc"));
-    assert!(rt; reads(rt, device, 2, &mut out));
-    same_bytes(rt, &out, b"2345");
+    assert!(rt; reads(rt, device, at, &mut out));
+    same_bytes(rt, &out, want);
 }
 
 /// Whether another opening of the file can have its lock alone, and whether it can share it.
