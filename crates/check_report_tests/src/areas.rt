@@ -49,6 +49,14 @@ fn differ(
     }
 }
 
+fn told_between(
+    rt: &(impl Abort + AllocGlobal),
+    old: &mut Device,
+    new: &mut Device,
+) -> Result<(u32, usize), ChangeFault> {
+    differ(rt, old, new, &AREAS)
+}
+
 /// Devices that refuse all calls behind the first ones tell this of areas that hold both blocks, and each of them, where the
 /// first one differs.
 fn told_after(
@@ -59,7 +67,7 @@ fn told_after(
 ) {
     let mut old = failing(rt, 8192, &[], old_calls);
     let mut new = failing(rt, 8192, &[(0, b"x")], new_calls);
-    let told = differ(rt, &mut old, &mut new, &AREAS);
+    let told = told_between(rt, &mut old, &mut new);
     equal(rt, &told, &expected);
 }
 

@@ -46,6 +46,14 @@ fn told_on(
     count(region_changes(rt.alloc(), keys(rt), old, areas, new, &checked.findings))
 }
 
+fn told_between(
+    rt: &(impl Abort + AllocGlobal + RandomSource),
+    old: &mut Device,
+    new: &mut Device,
+) -> Result<usize, ChangeFault> {
+    told_on(rt, old, &AREAS, new)
+}
+
 /// What is told where the device with the old image refuses its call of this number, counted from 0, and that with the new
 /// one its call of that number, of which the first seven check the image and leave the first piece at hand.
 fn told_after(
@@ -56,7 +64,7 @@ fn told_after(
 ) {
     let mut old = with_both(rt, old);
     let mut new = with_both(rt, new);
-    let told = told_on(rt, &mut old, &AREAS, &mut new);
+    let told = told_between(rt, &mut old, &mut new);
     equal(rt, &told, &expected);
 }
 
