@@ -1,4 +1,4 @@
-# What the checks of cbfstool and cbfscheck share: images and lists that are edited by hand.
+# What the checks of the programs share: images, tables and lists that are made or edited by hand.
 
 # part FILE OFFSET SIZE: these bytes of a file
 part() {
