@@ -1,7 +1,31 @@
 //! What several of the tests use. A comparison by a call of this is proved in a third of a second, and not in the two seconds of
 //! an assertion in place.
+use flash_store::{FailAt, MemFlash, Paged};
 use std::fmt::Debug;
 use std::process::Abort;
+
+/// What stands where in a device, and 0xff elsewhere.
+pub type Parts<'a> = &'a [(usize, &'a [u8])];
+
+/// A device with these parts, as far as they lie inside.
+pub fn device_with(rt: &(impl Abort + AllocGlobal), size: usize, parts: Parts) -> MemFlash {
+    let mut bytes = Vec::from_elem(rt.alloc(), 0xffu8, size).expect(rt, "memory");
+    for (at, part) in parts {
+        write_over(&mut bytes, *at, part);
+    }
+    MemFlash::new(bytes).expect(rt, "a device")
+}
+
+/// A device whose calls after the first few are refused.
+pub type Failing = Paged<FailAt<MemFlash>>;
+
+/// Such a device with these parts.
+pub fn failing(rt: &(impl Abort + AllocGlobal), size: usize, parts: Parts, calls: u64) -> Failing {
+    Paged::new(FailAt::new(device_with(rt, size, parts), calls, 0))
+}
+
+/// More calls than a test makes.
+pub const ALL: u64 = 1000;
 
 /// Two values are equal.
 pub fn equal<T: PartialEq + Debug>(rt: &impl Abort, left: &T, right: &T) {
@@ -14,7 +38,7 @@ pub fn same_bytes(rt: &impl Abort, left: &[u8], right: &[u8]) {
 }
 
 /// Puts bytes in place of those from `at` on, as far as they lie inside.
-pub fn write_over(bytes: &mut [u8], at: usize, part: &[u8]) {
+fn write_over(bytes: &mut [u8], at: usize, part: &[u8]) {
     let start = at.min(bytes.len());
     let rest = &mut bytes[start..];
     let n = part.len().min(rest.len());
