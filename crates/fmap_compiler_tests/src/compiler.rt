@@ -1,12 +1,22 @@
 //! Readers and writers by pieces and with failures, and how much is read of a text.
 
-use crate::descriptors::{TABLE, TEXT};
-use crate::support::{equal, same_bytes};
+use crate::support::equal;
 use flash_store::WriteSink;
 use fmap_compiler::{ReadText, Refusal, run};
 use fmd_lang::{Expected, FmdFault};
 use std::io::{self, ErrorKind, Read, Write};
 use std::process::Abort;
+
+/// A flash of 4096 bytes at 0xff000000: an area of 512 bytes for the table, and the rest.
+const TEXT: &[u8] = b"FLASH@0xff000000 0x1000 { FMAP 0x200 COREBOOT(CBFS) }";
+
+/// Its table.
+const TABLE: [u8; 140] = *b"__FMAP__\x01\x01\x00\x00\x00\xff\x00\x00\x00\x00\x00\x10\x00\x00\
+FLASH\0\0\0\0\0\0\0\0\0\0\0\0\0\0\0\0\0\0\0\0\0\0\0\0\0\0\0\x02\x00\
+\x00\x00\x00\x00\x00\x02\x00\x00\
+FMAP\0\0\0\0\0\0\0\0\0\0\0\0\0\0\0\0\0\0\0\0\0\0\0\0\0\0\0\0\x00\x00\
+\x00\x02\x00\x00\x00\x0e\x00\x00\
+COREBOOT\0\0\0\0\0\0\0\0\0\0\0\0\0\0\0\0\0\0\0\0\0\0\0\0\x00\x00";
 
 /// A reader over memory whose reads give as many bytes as the pieces say, and then one byte each; it fails once
 /// `good` bytes are given.
@@ -53,24 +63,28 @@ impl Read for Blanks {
     }
 }
 
-/// A writer over memory that takes `piece` bytes a call, and fails once it has `room` bytes.
+/// A writer that is to be given these bytes, takes `piece` of them a call, and fails once it has taken `room` bytes.
 #[derive(Drop)]
-struct Short {
-    taken: Vec<u8>,
+struct Short<'a> {
+    /// What is left of the bytes.
+    rest: &'a [u8],
     piece: usize,
     room: usize,
+    /// Whether it was given anything else.
+    differs: bool,
 }
 
-impl Write for Short {
+impl Write for Short<'_> {
     fn write(&mut self, buf: &[u8]) -> io::Result<usize> {
-        let left = self.room.saturating_sub(self.taken.len());
-        let n = buf.len().min(self.piece).min(left);
-        if left == 0 {
+        if self.room == 0 {
             return Err(io::Error::from(ErrorKind::StorageFull));
         }
-        if self.taken.extend_from_slice(&buf[..n]).is_err() {
-            return Err(io::Error::from(ErrorKind::OutOfMemory));
+        let n = buf.len().min(self.piece).min(self.room);
+        if !self.rest.starts_with(&buf[..n]) {
+            self.differs = true;
         }
+        self.rest = self.rest.get(n..).unwrap_or(&[]);
+        self.room = self.room.saturating_sub(n);
         Ok(n)
     }
 
@@ -79,50 +93,62 @@ impl Write for Short {
     }
 }
 
-/// A run over this reader answers so, and writes these bytes.
-fn compiles<R: Read + Drop>(
-    rt: &(impl Abort + AllocGlobal),
-    reader: R,
-    wanted: Result<(), Refusal>,
-    bytes: &[u8],
-) {
-    let mut writer = WriteSink::new(Vec::new(rt.alloc()));
-    let answer = run(rt.alloc(), &mut ReadText::new(reader), &mut writer);
-    equal(rt, &answer, &wanted);
-    same_bytes(rt, &writer.into_inner(), bytes);
+/// A writer of these bytes.
+fn writer(piece: usize, room: usize, bytes: &[u8]) -> WriteSink<Short<'_>> {
+    WriteSink::new(Short {
+        rest: bytes,
+        piece,
+        room,
+        differs: false,
+    })
+}
+
+/// It was given its bytes, and no others.
+fn has_all(rt: &impl Abort, writer: WriteSink<Short<'_>>) {
+    let Short { rest, differs, .. } = writer.into_inner();
+    assert!(rt; rest.is_empty() && !differs);
 }
 
 /// A reader of the text by pieces.
-fn in_pieces(pieces: &[usize], good: usize) -> Pieces<'_> {
-    Pieces {
+fn in_pieces(pieces: &[usize], good: usize) -> ReadText<Pieces<'_>> {
+    ReadText::new(Pieces {
         rest: TEXT,
         pieces,
         good,
-    }
+    })
+}
+
+/// A run over this reader answers so, and writes these bytes by so many a call, of which so many have room.
+fn compiles(
+    rt: &(impl Abort + AllocGlobal),
+    mut reader: ReadText<Pieces<'_>>,
+    piece: usize,
+    room: usize,
+    wanted: Result<(), Refusal>,
+    bytes: &[u8],
+) {
+    let mut writer = writer(piece, room, bytes);
+    equal(rt, &run(rt.alloc(), &mut reader, &mut writer), &wanted);
+    has_all(rt, writer);
+}
+
+/// A run over a reader of these pieces makes the table.
+fn reads(rt: &(impl Abort + AllocGlobal), pieces: &[usize]) {
+    let reader = in_pieces(pieces, usize::MAX);
+    compiles(rt, reader, 4096, 4096, Ok(()), &TABLE);
 }
 
 #[test]
 fn any_pieces_make_the_same_table(rt: HostRuntime) {
-    let sizes = [1, 2, 3, 5, 8, 13, 21];
-    compiles(&rt, in_pieces(&[], usize::MAX), Ok(()), &TABLE);
-    compiles(&rt, in_pieces(&sizes, usize::MAX), Ok(()), &TABLE);
-    compiles(&rt, in_pieces(&[4096], usize::MAX), Ok(()), &TABLE);
-    compiles(&rt, TEXT, Ok(()), &TABLE);
-}
-
-#[test]
-fn a_reader_is_read_to_its_end(rt: HostRuntime) {
-    let mut reader = ReadText::new(TEXT);
-    let mut writer = WriteSink::new(Vec::new(rt.alloc()));
-    let answer = run(rt.alloc(), &mut reader, &mut writer);
-    assert!(rt; answer.is_ok());
-    same_bytes(&rt, reader.into_inner(), &[]);
+    reads(&rt, &[]);
+    reads(&rt, &[1, 2, 3, 5, 8, 13, 21]);
+    reads(&rt, &[4096]);
 }
 
 /// A reader that fails once so many bytes are given.
 fn failing_after(rt: &(impl Abort + AllocGlobal), good: usize) {
     let reader = in_pieces(&[10, 9, 40], good);
-    compiles(rt, reader, Err(Refusal::Read), &[]);
+    compiles(rt, reader, 4096, 4096, Err(Refusal::Read), &[]);
 }
 
 #[test]
@@ -142,12 +168,9 @@ fn writes(
     wanted: Result<(), Refusal>,
     written: usize,
 ) {
-    let taken = Vec::new(rt.alloc());
-    let mut writer = WriteSink::new(Short { taken, piece, room });
-    let answer = run(rt.alloc(), &mut ReadText::new(TEXT), &mut writer);
-    equal(rt, &answer, &wanted);
     let prefix = TABLE.get(..written).expect(rt, "a prefix");
-    same_bytes(rt, &writer.into_inner().taken, prefix);
+    let reader = in_pieces(&[4096], usize::MAX);
+    compiles(rt, reader, piece, room, wanted, prefix);
 }
 
 #[test]
@@ -166,11 +189,9 @@ fn a_writer_that_fails_has_a_prefix_of_the_table(rt: HostRuntime) {
 /// So many blanks are refused so, and so many are read.
 fn refused_blanks(rt: &(impl Abort + AllocGlobal), left: usize, fault: FmdFault, taken: usize) {
     let mut reader = ReadText::new(Blanks { left, taken: 0 });
-    let mut writer = WriteSink::new(Vec::new(rt.alloc()));
-    let answer = run(rt.alloc(), &mut reader, &mut writer);
+    let answer = run(rt.alloc(), &mut reader, &mut writer(4096, 0, &[]));
     equal(rt, &answer, &Err(Refusal::Descriptor(fault)));
     equal(rt, &reader.into_inner().taken, &taken);
-    equal(rt, &writer.into_inner().len(), &0);
 }
 
 #[test]

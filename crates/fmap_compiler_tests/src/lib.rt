@@ -5,8 +5,6 @@
 #[cfg(test)]
 mod compiler;
 #[cfg(test)]
-mod descriptors;
-#[cfg(test)]
 mod formats;
 #[cfg(test)]
 mod support;

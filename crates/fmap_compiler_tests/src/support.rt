@@ -6,7 +6,3 @@ use std::process::Abort;
 pub fn equal<T: PartialEq + Debug>(rt: &impl Abort, left: &T, right: &T) {
     assert_eq!(rt; *left, *right);
 }
-
-pub fn same_bytes(rt: &impl Abort, left: &[u8], right: &[u8]) {
-    assert_eq!(rt; left, right);
-}
