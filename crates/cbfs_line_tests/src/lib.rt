@@ -1,7 +1,3 @@
-//! Tests of both command lines, over the public functions: a crate of their own, so that neither is proved again with it.
+//! Command lines of cbfstool whose commands its definitions give, in `proofs/LineExamples.antt`: a crate of their own, so that
+//! the command line is not proved again with them.
 #![tactic(auto)]
-
-#[cfg(test)]
-mod checks;
-#[cfg(test)]
-mod tests;
