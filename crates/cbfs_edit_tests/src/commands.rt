@@ -1,12 +1,13 @@
 //! Outputs that fail at each place, the size of a new image, and creations that are refused or stopped.
 
-use crate::deeds::{COREBOOT, Short, stopped};
+use crate::deeds::{COREBOOT, Short, answer_into, stopped};
 use crate::support::{
-    Held, LEN, MAP, device_of, device_with, equal, filled, image_of, same_bytes, source_of,
+    ALL, Held, LEN, MAP, Stop, device_of, device_with, equal, failing, filled, image_of,
+    same_bytes, source_of,
 };
 use arrayvec::ArrayVec;
-use cbfs_commands::{Command, MOST_REGIONS, Refusal, create_size, run};
-use flash_store::{Counter, FailSource, MemFlash, MemSource, Paged, Source};
+use cbfs_commands::{Command, MOST_REGIONS, Refusal, create_size};
+use flash_store::{FailAt, FailSource, MemFlash, Paged};
 use std::process::Abort;
 
 const PRINT: Command<'static> = Command::Print {
@@ -16,41 +17,52 @@ const PRINT: Command<'static> = Command::Print {
 
 // ---- outputs
 
-/// What a command on a device answers.
-fn output_of(device: MemFlash, command: &Command, out: &mut Short<'_>) -> Result<(), Refusal> {
-    let mut paged = Paged::new(device);
-    run(&mut paged, command, &mut MemSource::new(b""), out)
+/// A command with no source answers this into a sink, and gives it its text.
+fn is_told(
+    rt: &impl Abort,
+    paged: &mut Paged<FailAt<MemFlash>>,
+    command: &Command,
+    out: &mut Short<'_>,
+    answer: &Result<(), Refusal>,
+) {
+    equal(rt, &answer_into(rt, paged, command, b"", 0, out), answer);
+    assert!(rt; out.rest.is_empty() && !out.differs);
 }
 
-/// A command into a sink that takes so many bytes a call and so many in all writes this text.
+/// A command into a sink that takes so many bytes a call and so many in all writes this text, where the device refuses all calls
+/// after the first few.
 fn tells(
     rt: &(impl Abort + AllocGlobal),
+    calls: u64,
     command: &Command,
     piece: usize,
     room: usize,
     text: &[u8],
     answer: Result<(), Refusal>,
 ) {
-    let device = device_of(rt, Held::WithA);
-    let mut out = Short {
-        rest: text,
-        piece,
-        room,
-        differs: false,
-        faults: Counter::new(),
+    let stop = Stop {
+        calls,
+        part: 0,
+        reads: 0,
     };
-    equal(rt, &output_of(device, command, &mut out), &answer);
-    assert!(rt; out.rest.is_empty() && !out.differs);
+    let mut paged = failing(device_of(rt, Held::WithA), stop);
+    is_told(
+        rt,
+        &mut paged,
+        command,
+        &mut Short::new(text, piece, room),
+        &answer,
+    );
 }
 
 /// A command writes this text, by three bytes a call too, and as much of it as there is room for.
 fn tells_what_has_room(rt: &(impl Abort + AllocGlobal), command: &Command, text: &[u8]) {
     for room in 0..text.len() {
         let first = text.get(..room).unwrap_or(text);
-        tells(rt, command, 4096, room, first, Err(Refusal::Output));
+        tells(rt, ALL, command, 4096, room, first, Err(Refusal::Output));
     }
-    tells(rt, command, 0, 4096, b"", Err(Refusal::Output));
-    tells(rt, command, 3, 4096, text, Ok(()));
+    tells(rt, ALL, command, 0, 4096, b"", Err(Refusal::Output));
+    tells(rt, ALL, command, 3, 4096, text, Ok(()));
 }
 
 fn prints(rt: &(impl Abort + AllocGlobal)) {
@@ -74,8 +86,7 @@ fn extracts(rt: &(impl Abort + AllocGlobal)) {
 
 fn reads(rt: &(impl Abort + AllocGlobal)) {
     let image = image_of(rt, Held::WithA);
-    let region = image.get(0x200..0x400).unwrap_or(&[]);
-    equal(rt, &region.len(), &0x200);
+    let region = image.get(0x200..0x400).expect(rt, "a region");
     tells_what_has_room(rt, &Command::Read { region: COREBOOT }, region);
 }
 
@@ -87,16 +98,9 @@ fn an_output_that_fails_anywhere(rt: HostRuntime) {
     reads(&rt);
 }
 
-/// A listing on a device that refuses the first read.
-fn prints_nothing(rt: &(impl Abort + AllocGlobal)) {
-    let device = device_of(rt, Held::WithA);
-    let (answer, _) = stopped(device, 0, 0, &PRINT, MemSource::new(b""), 0);
-    equal(rt, &answer, &Err(Refusal::Device));
-}
-
 #[test]
 fn a_device_that_fails_as_it_is_read(rt: HostRuntime) {
-    prints_nothing(&rt);
+    tells(&rt, 0, &PRINT, 4096, 4096, b"", Err(Refusal::Device));
 }
 
 // ---- creations
@@ -114,24 +118,18 @@ fn the_size_of_a_flashmap(rt: HostRuntime) {
     has_size(&rt, &MAP, 0, Err(Refusal::Source));
 }
 
-/// A creation with regions of these names, and what it leaves of a device.
+/// What a creation with regions of these names leaves that is stopped, and answers this.
 fn creation(
+    rt: &impl Abort,
     device: MemFlash,
-    calls: u64,
     names: &[&[u8]],
-    source: MemSource<'_>,
-    reads: u64,
-) -> (Result<(), Refusal>, MemFlash) {
+    map: &[u8],
+    stop: Stop,
+    want: &Result<(), Refusal>,
+) -> MemFlash {
     let mut regions: ArrayVec<&[u8], MOST_REGIONS> = ArrayVec::new();
     let _fits = regions.try_extend_from_slice(names);
-    stopped(
-        device,
-        calls,
-        17,
-        &Command::Create { regions },
-        source,
-        reads,
-    )
+    stopped(rt, device, &Command::Create { regions }, map, stop, want)
 }
 
 /// A creation from this flashmap on a device of so many bytes is refused, and leaves them.
@@ -142,10 +140,13 @@ fn refuses(
     map: &[u8],
     refusal: Refusal,
 ) {
-    let source = source_of(rt, map);
+    let stop = Stop {
+        calls: ALL,
+        part: 0,
+        reads: ALL,
+    };
     let device = device_with(rt, filled(rt, 7, len));
-    let (answer, device) = creation(device, 1000, names, source, 1000);
-    equal(rt, &answer, &Err(refusal));
+    let device = creation(rt, device, names, map, stop, &Err(refusal));
     same_bytes(rt, device.bytes(), &filled(rt, 7, len));
 }
 
@@ -159,9 +160,13 @@ fn what_is_refused_leaves_the_image(rt: HostRuntime) {
 /// A creation ends so, where the device refuses all calls after the first `calls`, and the source all reads after the
 /// first `reads`.
 fn creates(rt: &(impl Abort + AllocGlobal), calls: u64, reads: u64, want: Result<(), Refusal>) {
+    let stop = Stop {
+        calls,
+        part: 17,
+        reads,
+    };
     let device = device_with(rt, filled(rt, 7, LEN));
-    let (answer, _) = creation(device, calls, &[COREBOOT], MemSource::new(&MAP), reads);
-    equal(rt, &answer, &want);
+    let _left = creation(rt, device, &[COREBOOT], &MAP, stop, &want);
 }
 
 /// One call fills, one writes the table, and two make the region an empty entry. One read is for the head, one for each of

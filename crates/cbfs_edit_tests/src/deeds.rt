@@ -2,13 +2,12 @@
 ghost use Rattle.std.specs.Prelude.{None};
 
 use crate::support::{
-    Held, MAGIC_20, SIZE, START, components, device_of, equal, holds, region_of, source_of,
+    ALL, Held, MAGIC_20, SIZE, START, Stop, components, device_of, equal, failing, holds,
+    region_of, source_of,
 };
 use cbfs_commands::{Command, Refusal, run};
 use cbfs_edit::{EditFault, HashChoice, Spot, add, format, remove};
-use flash_store::{
-    Counter, FailAt, FailSource, Flash, MemFlash, MemSource, Paged, Sink, SinkFault, Source,
-};
+use flash_store::{Counter, FailSource, Flash, MemFlash, Paged, Sink, SinkFault};
 use std::process::Abort;
 
 pub const COREBOOT: &[u8] = b"COREBOOT";
@@ -43,6 +42,7 @@ pub fn before(deed: Deed) -> Held {
     match deed {
         Deed::Join => Held::Between,
         Deed::FirstOfTwo => Held::Twice,
+        Deed::Format => Held::WithLast,
         Deed::Add => Held::Fresh,
         _ => Held::WithA,
     }
@@ -52,6 +52,7 @@ pub fn before(deed: Deed) -> Held {
 pub fn after(deed: Deed) -> Held {
     match deed {
         Deed::FirstOfTwo => Held::Once,
+        Deed::Format => Held::FreshBeforeLast,
         Deed::Add => Held::WithA,
         Deed::AddLater => Held::WithLater,
         Deed::RunAdd => Held::Both,
@@ -64,11 +65,23 @@ pub fn after(deed: Deed) -> Held {
 pub struct Short<'a> {
     /// What is left of the text.
     pub rest: &'a [u8],
-    pub piece: usize,
-    pub room: usize,
+    piece: usize,
+    room: usize,
     /// Whether it was given anything else.
     pub differs: bool,
-    pub faults: Counter,
+    faults: Counter,
+}
+
+impl<'a> Short<'a> {
+    pub fn new(text: &'a [u8], piece: usize, room: usize) -> Short<'a> {
+        Short {
+            rest: text,
+            piece,
+            room,
+            differs: false,
+            faults: Counter::new(),
+        }
+    }
 }
 
 impl Sink for Short<'_> {
@@ -83,7 +96,7 @@ impl Sink for Short<'_> {
             return Err(SinkFault);
         }
         let taken = &bytes[..n];
-        if self.rest.get(..n).unwrap_or(&[]) != taken {
+        if !self.rest.starts_with(taken) {
             self.differs = true;
         }
         self.rest = self.rest.get(n..).unwrap_or(&[]);
@@ -92,35 +105,46 @@ impl Sink for Short<'_> {
     }
 }
 
-/// What a command answers into a sink that takes nothing.
-pub fn answer_of<F: Flash, S: Source>(
+/// What a command answers, where a source of these bytes refuses all reads after the first few.
+pub fn answer_into<F: Flash>(
+    rt: &impl Abort,
     paged: &mut Paged<F>,
     command: &Command,
-    source: &mut S,
+    bytes: &[u8],
+    reads: u64,
+    out: &mut Short<'_>,
 ) -> Result<(), Refusal> {
-    let mut out = Short {
-        rest: &[],
-        piece: 0,
-        room: 0,
-        differs: false,
-        faults: Counter::new(),
-    };
-    run(paged, command, source, &mut out)
+    let mut source = FailSource::new(source_of(rt, bytes), reads);
+    run(paged, command, &mut source, out)
 }
 
-/// What a command answers and leaves where the device refuses all calls after the first `calls`, and keeps the first `part` bytes
-/// of the write that it refuses first, and the source refuses all reads after the first `reads`.
-pub fn stopped(
-    device: MemFlash,
-    calls: u64,
-    part: usize,
+/// The same, into a sink that takes nothing.
+fn answer_of<F: Flash>(
+    rt: &impl Abort,
+    paged: &mut Paged<F>,
     command: &Command,
-    source: MemSource<'_>,
+    bytes: &[u8],
     reads: u64,
-) -> (Result<(), Refusal>, MemFlash) {
-    let mut paged = Paged::new(FailAt::new(device, calls, part));
-    let answer = answer_of(&mut paged, command, &mut FailSource::new(source, reads));
-    (answer, paged.into_flash().into_inner())
+) -> Result<(), Refusal> {
+    answer_into(rt, paged, command, bytes, reads, &mut Short::new(&[], 0, 0))
+}
+
+/// What a command leaves that is stopped, with a source of these bytes, and answers this.
+pub fn stopped(
+    rt: &impl Abort,
+    device: MemFlash,
+    command: &Command,
+    bytes: &[u8],
+    stop: Stop,
+    want: &Result<(), Refusal>,
+) -> MemFlash {
+    let mut paged = failing(device, stop);
+    equal(
+        rt,
+        &answer_of(rt, &mut paged, command, bytes, stop.reads),
+        want,
+    );
+    paged.into_flash().into_inner()
 }
 
 /// What becomes of the fault of an edit as a command tells it; the other refusals are one here.
@@ -165,8 +189,8 @@ pub fn does<F: Flash>(rt: &impl Abort, paged: &mut Paged<F>, deed: Deed) -> Resu
         Deed::Format => told(formats(rt, paged)),
         Deed::Add => told(adds(rt, paged, b"a", Spot::First, b"0123456789")),
         Deed::AddLater => told(adds(rt, paged, b"b", Spot::Aligned(256), &MAGIC_20)),
-        Deed::RunAdd => answer_of(paged, &RUN_ADD, &mut MemSource::new(&MAGIC_20)),
-        Deed::RunRemove => answer_of(paged, &RUN_REMOVE, &mut MemSource::new(b"")),
+        Deed::RunAdd => answer_of(rt, paged, &RUN_ADD, &MAGIC_20, ALL),
+        Deed::RunRemove => answer_of(rt, paged, &RUN_REMOVE, b"", ALL),
     }
 }
 

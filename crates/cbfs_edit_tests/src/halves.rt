@@ -1,10 +1,9 @@
 //! An image whose region takes several pieces, from a source and on a device that stop at each call in turn.
 
 use crate::deeds::{COREBOOT, RUN_ADD, stopped};
-use crate::support::{components, device_with, equal, filled, put, same_bytes, source_of};
+use crate::support::{ALL, Parts, Stop, components, device_with, filled, image_with, same_bytes};
 use cbfs_commands::{Command, Refusal};
 use flash_store::MemFlash;
-use std::alloc::{AllocError, Global};
 use std::process::Abort;
 
 /// The map of an image of 32,768 bytes: FMAP and COREBOOT, a half each.
@@ -26,73 +25,94 @@ const B_9000: [u8; 28] = *b"LARCHIVE\0\0\x23\x28\0\0\0\x50\0\0\0\0\0\0\0\x1cb\0\
 
 const WRITE: Command<'static> = Command::Write { region: COREBOOT };
 
-/// The image, whose region is free.
-fn halves(rt: &(impl Abort + AllocGlobal)) -> Vec<u8> {
-    let mut image = filled(rt, 0xff, 32768);
-    put(&mut image, 0, &HALVES);
-    put(&mut image, HALF, &LAST_16384);
-    image
+/// The image with these parts of its region.
+fn halves(rt: &(impl Abort + AllocGlobal), parts: Parts) -> Vec<u8> {
+    image_with(rt, 32768, &HALVES, HALF, parts)
+}
+
+/// A device with the image, whose region is free.
+fn device(rt: &(impl Abort + AllocGlobal)) -> MemFlash {
+    device_with(rt, halves(rt, &[(0, &LAST_16384)]))
 }
 
 // ---- the region is written
 
 /// As many bytes as the region has, none of them 0xff.
-fn numbered(alloc: Global) -> Result<Vec<u8>, AllocError> {
-    let mut bytes = Vec::new(alloc);
-    for i in 0..HALF {
-        bytes.push((i % 251) as u8)?;
+fn numbered(rt: &(impl Abort + AllocGlobal)) -> Vec<u8> {
+    let mut bytes = filled(rt, 0, HALF);
+    for (i, byte) in bytes.iter_mut().enumerate() {
+        *byte = (i % 251) as u8;
     }
-    Ok(bytes)
+    bytes
 }
 
-/// The region begins with so many bytes of the source, and all else is as it was.
-fn begins(rt: &(impl Abort + AllocGlobal), image: &[u8], source: &[u8], n: usize) {
-    let mut wanted = halves(rt);
-    put(&mut wanted, HALF, source.get(..n).unwrap_or(source));
-    same_bytes(rt, image, &wanted);
-}
-
-/// Writes the region, where the device and the source refuse what comes after the first `calls` and the first `reads`: it is
-/// answered so, and so many bytes of the source are written.
+/// Writes the region, where the device and the source are stopped: it is answered so, and so many bytes of the source are
+/// written before all else that was there.
 fn writes(
     rt: &(impl Abort + AllocGlobal),
     bytes: &[u8],
-    reads: u64,
-    stop: (u64, usize),
-    want: Result<(), Refusal>,
+    stop: Stop,
+    want: &Result<(), Refusal>,
     n: usize,
 ) {
-    let source = source_of(rt, bytes);
-    let device = device_with(rt, halves(rt));
-    let (answer, device) = stopped(device, stop.0, stop.1, &WRITE, source, reads);
-    equal(rt, &answer, &want);
-    begins(rt, device.bytes(), bytes, n);
+    let device = stopped(rt, device(rt), &WRITE, bytes, stop, want);
+    let written = bytes.get(..n).unwrap_or(bytes);
+    same_bytes(
+        rt,
+        device.bytes(),
+        &halves(rt, &[(0, &LAST_16384), (0, written)]),
+    );
+}
+
+/// The source refuses its reads after the first few.
+fn reads(
+    rt: &(impl Abort + AllocGlobal),
+    bytes: &[u8],
+    reads: u64,
+    want: &Result<(), Refusal>,
+    n: usize,
+) {
+    let stop = Stop {
+        calls: 5,
+        part: 0,
+        reads,
+    };
+    writes(rt, bytes, stop, want, n);
 }
 
 /// Each read of the source is refused in turn; the pieces before it are written.
 fn refuse_reads(rt: &(impl Abort + AllocGlobal), bytes: &[u8]) {
     let fault = Err(Refusal::Source);
-    writes(rt, bytes, 0, (5, 0), fault, 0);
-    writes(rt, bytes, 1, (5, 0), fault, 4096);
-    writes(rt, bytes, 2, (5, 0), fault, 8192);
-    writes(rt, bytes, 3, (5, 0), fault, 12288);
-    writes(rt, bytes, 4, (5, 0), Ok(()), HALF);
+    reads(rt, bytes, 0, &fault, 0);
+    reads(rt, bytes, 1, &fault, 4096);
+    reads(rt, bytes, 2, &fault, 8192);
+    reads(rt, bytes, 3, &fault, 12288);
+    reads(rt, bytes, 4, &Ok(()), HALF);
 }
 
 #[test]
 fn a_source_that_fails_at_any_read(rt: HostRuntime) {
-    refuse_reads(&rt, &numbered(rt.alloc()).expect(&rt, "memory"));
+    refuse_reads(&rt, &numbered(&rt));
+}
+
+/// The device refuses its calls after the first few, and keeps this part of the first refused write.
+fn calls(rt: &(impl Abort + AllocGlobal), bytes: &[u8], calls: u64, part: usize, n: usize) {
+    let stop = Stop {
+        calls,
+        part,
+        reads: 4,
+    };
+    writes(rt, bytes, stop, &Err(Refusal::Device), n);
 }
 
 /// Each call of the device is refused in turn, the one that finds the region and the four that write: the pieces before it are
 /// written, and this part of its own.
 fn refuse_calls(rt: &(impl Abort + AllocGlobal), bytes: &[u8], part: usize) {
-    let fault = Err(Refusal::Device);
-    writes(rt, bytes, 4, (0, part), fault, 0);
-    writes(rt, bytes, 4, (1, part), fault, part);
-    writes(rt, bytes, 4, (2, part), fault, part.saturating_add(4096));
-    writes(rt, bytes, 4, (3, part), fault, part.saturating_add(8192));
-    writes(rt, bytes, 4, (4, part), fault, part.saturating_add(12288));
+    calls(rt, bytes, 0, part, 0);
+    calls(rt, bytes, 1, part, part);
+    calls(rt, bytes, 2, part, part.saturating_add(4096));
+    calls(rt, bytes, 3, part, part.saturating_add(8192));
+    calls(rt, bytes, 4, part, part.saturating_add(12288));
 }
 
 fn refuse_all(rt: &(impl Abort + AllocGlobal), bytes: &[u8]) {
@@ -103,43 +123,37 @@ fn refuse_all(rt: &(impl Abort + AllocGlobal), bytes: &[u8]) {
 
 #[test]
 fn a_device_that_fails_at_any_call(rt: HostRuntime) {
-    refuse_all(&rt, &numbered(rt.alloc()).expect(&rt, "memory"));
+    refuse_all(&rt, &numbered(&rt));
 }
 
 // ---- a component is added
-
-/// The image with a component of 9000 bytes.
-fn with_b(rt: &(impl Abort + AllocGlobal), bytes: &[u8]) -> Vec<u8> {
-    let mut image = halves(rt);
-    put(&mut image, HALF, &B_9000);
-    put(&mut image, HALF + 28, bytes);
-    put(&mut image, HALF + 9088, &LAST_7296);
-    image
-}
 
 /// The device after an addition from a source that refuses all reads after the first few, which is answered so.
 fn adds(
     rt: &(impl Abort + AllocGlobal),
     bytes: &[u8],
     reads: u64,
-    want: Result<(), Refusal>,
+    want: &Result<(), Refusal>,
 ) -> MemFlash {
-    let source = source_of(rt, bytes);
-    let device = device_with(rt, halves(rt));
-    let (answer, device) = stopped(device, 1000, 0, &RUN_ADD, source, reads);
-    equal(rt, &answer, &want);
-    device
+    let stop = Stop {
+        calls: ALL,
+        part: 0,
+        reads,
+    };
+    stopped(rt, device(rt), &RUN_ADD, bytes, stop, want)
 }
 
 /// The source stops the addition, and there is no component.
 fn stops(rt: &(impl Abort + AllocGlobal), bytes: &[u8], reads: u64) {
-    let device = adds(rt, bytes, reads, Err(Refusal::Source));
+    let device = adds(rt, bytes, reads, &Err(Refusal::Source));
     same_bytes(rt, &components(rt, device, HALF, HALF), b"");
 }
 
+/// The image has then a component of 9000 bytes.
 fn finishes(rt: &(impl Abort + AllocGlobal), bytes: &[u8], reads: u64) {
-    let device = adds(rt, bytes, reads, Ok(()));
-    same_bytes(rt, device.bytes(), &with_b(rt, bytes));
+    let device = adds(rt, bytes, reads, &Ok(()));
+    let parts: Parts = &[(0, &B_9000), (28, bytes), (9088, &LAST_7296)];
+    same_bytes(rt, device.bytes(), &halves(rt, parts));
 }
 
 /// Each of three reads is refused in turn.

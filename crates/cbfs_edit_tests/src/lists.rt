@@ -39,35 +39,6 @@ fn freed(start: u64, end: u64) -> Reply {
     Reply::Freed(Freed { start, end })
 }
 
-/// The replies to an addition, the same again, and the removals of another component and of that one.
-fn replies_of_four<F: Flash>(rt: &impl Abort, paged: &mut Paged<F>) -> [Reply; 4] {
-    let mut edits = [
-        addition(rt, b"a", b"0123456789"),
-        addition(rt, b"a", b"0123456789"),
-        Edit::Remove { name: b"z" },
-        Edit::Remove { name: b"a" },
-    ];
-    let mut replies = [STOPPED; 4];
-    let region = region_of(rt, paged);
-    apply_all(paged, region, &mut edits, &mut replies);
-    replies
-}
-
-fn have_replies(rt: &(impl Abort + AllocGlobal)) {
-    let mut paged = Paged::new(device_of(rt, Held::Fresh));
-    let replies = replies_of_four(rt, &mut paged);
-    holds(rt, paged.flash(), Held::Fresh);
-    let exists = Reply::Refused(EditFault::Exists);
-    equal(rt, &replies, &[FIRST, exists, NOT_FOUND, freed(0, 512)]);
-}
-
-#[test]
-fn each_edit_of_a_list_has_its_reply(rt: HostRuntime) {
-    have_replies(&rt);
-}
-
-// ---- a device that works again
-
 /// A device that refuses one call, and does nothing then.
 #[derive(Drop)]
 struct FailOnce {

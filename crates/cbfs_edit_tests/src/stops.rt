@@ -1,19 +1,24 @@
 //! Edits and commands on a device that stops at each call in turn, and on a file that moves few bytes a call, is interrupted, and
-//! refuses from a call on; and a format.
+//! refuses from a call on.
 
 use crate::deeds::{Deed, before, does, has_finished};
 use crate::support::{
-    Held, LEN, START, device_of, equal, holds, image_of, part_of, region_of, source_of,
+    ALL, Held, LEN, Stop, device_of, equal, failing, image_of, region_of, source_of,
 };
-use cbfs_edit::{EditFault, HashChoice, Spot, add, format};
-use flash_store::{Ahead, Erased, FailAt, FlakyFile, MemFlash, Paged, StoredFlash};
+use cbfs_edit::{EditFault, HashChoice, Spot, add};
+use flash_store::{Ahead, Erased, FlakyFile, Flash, MemFlash, Paged, StoredFlash};
 use std::process::Abort;
 
 // ---- a device that refuses all calls from one on
 
 /// Does this on a device that refuses all calls after the first k. Answers whether it has finished.
 fn on_device(rt: &(impl Abort + AllocGlobal), deed: Deed, k: u64, part: usize) -> bool {
-    let mut paged = Paged::new(FailAt::new(device_of(rt, before(deed)), k, part));
+    let stop = Stop {
+        calls: k,
+        part,
+        reads: ALL,
+    };
+    let mut paged = failing(device_of(rt, before(deed)), stop);
     let answer = does(rt, &mut paged, deed);
     has_finished(rt, deed, answer, paged.into_flash().into_inner())
 }
@@ -46,6 +51,20 @@ fn an_edit_stops_at_any_call(rt: HostRuntime) {
     stop_all(&rt, 4096);
 }
 
+/// The fault of an addition of nothing.
+fn fault_of<F: Flash>(
+    rt: &impl Abort,
+    paged: &mut Paged<F>,
+    name: &[u8],
+    kind: u32,
+    spot: Spot,
+) -> Option<EditFault> {
+    let region = region_of(rt, paged);
+    let mut source = source_of(rt, b"");
+    let plain = HashChoice::Plain;
+    add(paged, region, name, kind, plain, spot, &mut source).err()
+}
+
 /// An addition to a device that refuses every call is refused so.
 fn refused_at_once(
     rt: &(impl Abort + AllocGlobal),
@@ -54,20 +73,13 @@ fn refused_at_once(
     spot: Spot,
     want: EditFault,
 ) {
-    let mut source = source_of(rt, b"");
-    let mut paged = Paged::new(FailAt::new(device_of(rt, Held::Fresh), 0, 0));
-    let region = region_of(rt, &paged);
-    let fault = add(
-        &mut paged,
-        region,
-        name,
-        kind,
-        HashChoice::Plain,
-        spot,
-        &mut source,
-    )
-    .err();
-    equal(rt, &fault, &Some(want));
+    let stop = Stop {
+        calls: 0,
+        part: 0,
+        reads: 0,
+    };
+    let mut paged = failing(device_of(rt, Held::Fresh), stop);
+    equal(rt, &fault_of(rt, &mut paged, name, kind, spot), &Some(want));
 }
 
 #[test]
@@ -77,32 +89,6 @@ fn what_the_words_refuse_makes_no_call(rt: HostRuntime) {
     refused_at_once(&rt, b"a", 0, Spot::First, EditFault::BadType);
     refused_at_once(&rt, b"a", 0x50, Spot::Aligned(0), EditFault::BadAlign);
     refused_at_once(&rt, b"a", 0x50, Spot::First, EditFault::Device);
-}
-
-/// A format of the first bytes of a region is answered so, and leaves this.
-fn formats(
-    rt: &(impl Abort + AllocGlobal),
-    size: u64,
-    before: Held,
-    want: Option<EditFault>,
-    after: Held,
-) {
-    let mut paged = Paged::new(device_of(rt, before));
-    let region = part_of(rt, &paged, START as u64, size);
-    equal(rt, &format(&mut paged, region).err(), &want);
-    holds(rt, paged.flash(), after);
-}
-
-#[test]
-fn a_region_is_formatted(rt: HostRuntime) {
-    formats(&rt, 512, Held::Twice, None, Held::Fresh);
-    formats(&rt, 512, Held::Other, None, Held::FreshBeforeLast);
-    formats(&rt, 64, Held::Cell, None, Held::FreshCell);
-    let shape = Some(EditFault::RegionShape);
-    formats(&rt, 500, Held::Twice, shape, Held::Twice);
-    formats(&rt, 65, Held::FreshCell, shape, Held::FreshCell);
-    formats(&rt, 63, Held::FreshCell, shape, Held::FreshCell);
-    formats(&rt, 0, Held::Fresh, shape, Held::Fresh);
 }
 
 // ---- a file

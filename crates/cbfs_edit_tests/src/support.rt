@@ -2,7 +2,7 @@
 ghost use Rattle.flash_store.specs.Regions.{LiesIn};
 
 use cbfs_walk::{Cell, Step, Walk};
-use flash_store::{Flash, MemFlash, MemSource, Paged, Region};
+use flash_store::{FailAt, Flash, MemFlash, MemSource, Paged, Region};
 use std::alloc::AllocError;
 use std::fmt::Debug;
 use std::process::Abort;
@@ -58,8 +58,6 @@ const EMPTY_64: [u8; 28] = *b"LARCHIVE\0\0\0\x24\xff\xff\xff\xff\0\0\0\0\0\0\0\x
 
 const EMPTY_128: [u8; 28] = *b"LARCHIVE\0\0\0\x64\xff\xff\xff\xff\0\0\0\0\0\0\0\x1c\0\0\0\0";
 
-const LAST_64: [u8; 28] = *b"LARCHIVE\0\0\0\x20\xff\xff\xff\xff\0\0\0\0\0\0\0\x1c\0\0\0\0";
-
 const LAST_192: [u8; 28] = *b"LARCHIVE\0\0\0\xa0\xff\xff\xff\xff\0\0\0\0\0\0\0\x1c\0\0\0\0";
 
 const LAST_384: [u8; 28] = *b"LARCHIVE\0\0\x01\x60\xff\xff\xff\xff\0\0\0\0\0\0\0\x1c\0\0\0\0";
@@ -89,18 +87,17 @@ pub enum Held {
     BehindFree,
     /// `b` at the start.
     WithB,
-    /// No entry, and other last four bytes.
-    Other,
+    /// The component `a`, and other last four bytes.
+    WithLast,
     /// One empty entry before these.
     FreshBeforeLast,
-    /// Nothing but the last four bytes of its first 64.
-    Cell,
-    /// An empty entry before these.
-    FreshCell,
 }
 
+/// What stands where.
+pub type Parts<'a> = &'a [(usize, &'a [u8])];
+
 /// What stands where in such a region; 0xff stands elsewhere.
-fn parts_of(held: Held) -> &'static [(usize, &'static [u8])] {
+fn parts_of(held: Held) -> Parts<'static> {
     match held {
         Held::Fresh => &[(0, &LAST_512)],
         Held::Between => &[(0, &DELETED), (64, &M), (128, &NULL_340)],
@@ -117,15 +114,13 @@ fn parts_of(held: Held) -> &'static [(usize, &'static [u8])] {
         Held::Both => &[(0, &A), (64, &B), (128, &LAST_384)],
         Held::BehindFree => &[(0, &EMPTY_64), (64, &B), (128, &LAST_384)],
         Held::WithB => &[(0, &B), (64, &LAST_448)],
-        Held::Other => &[(100, b"no entry"), (508, b"last")],
+        Held::WithLast => &[(0, &A), (64, &LAST_448), (508, b"last")],
         Held::FreshBeforeLast => &[(0, &LAST_512), (508, b"last")],
-        Held::Cell => &[(60, b"last")],
-        Held::FreshCell => &[(0, &LAST_64), (60, b"last")],
     }
 }
 
 /// Puts a part to its place, where it has room.
-pub fn put(bytes: &mut [u8], at: usize, part: &[u8]) {
+fn put(bytes: &mut [u8], at: usize, part: &[u8]) {
     if at <= bytes.len() && part.len() <= bytes.len() - at {
         bytes[at..at + part.len()].copy_from_slice(part);
     }
@@ -136,14 +131,25 @@ pub fn filled(rt: &(impl Abort + AllocGlobal), byte: u8, len: usize) -> Vec<u8> 
     Vec::from_elem(rt.alloc(), byte, len).expect(rt, "memory")
 }
 
-/// The image whose region holds that.
-pub fn image_of(rt: &(impl Abort + AllocGlobal), held: Held) -> Vec<u8> {
-    let mut image = filled(rt, 0xff, LEN);
-    put(&mut image, 0, &MAP);
-    for (at, part) in parts_of(held) {
-        put(&mut image, at.saturating_add(START), part);
+/// An image of so many bytes with this map, and these parts from `start` on; 0xff stands elsewhere.
+pub fn image_with(
+    rt: &(impl Abort + AllocGlobal),
+    len: usize,
+    map: &[u8],
+    start: usize,
+    parts: Parts,
+) -> Vec<u8> {
+    let mut image = filled(rt, 0xff, len);
+    put(&mut image, 0, map);
+    for (at, part) in parts {
+        put(&mut image, at.saturating_add(start), part);
     }
     image
+}
+
+/// The image whose region holds that.
+pub fn image_of(rt: &(impl Abort + AllocGlobal), held: Held) -> Vec<u8> {
+    image_with(rt, LEN, &MAP, START, parts_of(held))
 }
 
 pub fn device_with(rt: &impl Abort, image: Vec<u8>) -> MemFlash {
@@ -152,6 +158,23 @@ pub fn device_with(rt: &impl Abort, image: Vec<u8>) -> MemFlash {
 
 pub fn device_of(rt: &(impl Abort + AllocGlobal), held: Held) -> MemFlash {
     device_with(rt, image_of(rt, held))
+}
+
+/// When a device and a source refuse all calls: after the first `calls`, where the first `part` bytes of the write that is
+/// refused first are kept, and after the first `reads`.
+#[derive(Clone, Copy)]
+pub struct Stop {
+    pub calls: u64,
+    pub part: usize,
+    pub reads: u64,
+}
+
+/// More calls than a test makes.
+pub const ALL: u64 = 1000;
+
+/// Such a device.
+pub fn failing(device: MemFlash, stop: Stop) -> Paged<FailAt<MemFlash>> {
+    Paged::new(FailAt::new(device, stop.calls, stop.part))
 }
 
 /// A device has this image.
@@ -184,7 +207,7 @@ pub fn equal<T: PartialEq + Debug>(rt: &impl Abort, left: &T, right: &T) {
 }
 
 pub fn same_bytes(rt: &impl Abort, left: &[u8], right: &[u8]) {
-    assert_eq!(rt; left, right);
+    equal(rt, &left, &right);
 }
 
 /// Puts down a component: its place in the region, and its bytes up to the end of its content.
