@@ -36,25 +36,30 @@ const AREAS: [NumberedArea; 3] = [
     },
 ];
 
-/// In how many blocks two images with the same areas differ, and of how many areas a change is told.
-fn differ(
-    rt: &(impl Abort + AllocGlobal),
-    old: &mut Device,
-    new: &mut Device,
-    areas: &[NumberedArea],
-) -> Result<(u32, usize), ChangeFault> {
-    match image_changes(rt.alloc(), old, areas, new, areas) {
-        Ok(changes) => Ok((changes.blocks, changes.areas.len())),
-        Err(fault) => Err(fault),
-    }
-}
-
+/// In how many blocks two images with these areas differ, and of how many areas a change is told.
 fn told_between(
     rt: &(impl Abort + AllocGlobal),
     old: &mut Device,
     new: &mut Device,
 ) -> Result<(u32, usize), ChangeFault> {
-    differ(rt, old, new, &AREAS)
+    match image_changes(rt.alloc(), old, &AREAS, new, &AREAS) {
+        Ok(changes) => Ok((changes.blocks, changes.areas.len())),
+        Err(fault) => Err(fault),
+    }
+}
+
+fn has(
+    rt: &(impl Abort + AllocGlobal),
+    old: &mut Device,
+    new: &mut Device,
+    expected: &Result<(u32, usize), ChangeFault>,
+) {
+    equal(rt, &told_between(rt, old, new), expected);
+}
+
+/// A device of two blocks that begins with these bytes.
+fn beginning(rt: &(impl Abort + AllocGlobal), bytes: &[u8], calls: u64) -> Device {
+    failing(rt, 8192, &[(0, bytes)], calls)
 }
 
 /// Devices that refuse all calls behind the first ones tell this of areas that hold both blocks, and each of them, where the
@@ -65,10 +70,9 @@ fn told_after(
     new_calls: u64,
     expected: Result<(u32, usize), ChangeFault>,
 ) {
-    let mut old = failing(rt, 8192, &[], old_calls);
-    let mut new = failing(rt, 8192, &[(0, b"x")], new_calls);
-    let told = told_between(rt, &mut old, &mut new);
-    equal(rt, &told, &expected);
+    let mut old = beginning(rt, b"", old_calls);
+    let mut new = beginning(rt, b"x", new_calls);
+    has(rt, &mut old, &mut new, &expected);
 }
 
 #[test]

@@ -1,5 +1,5 @@
 //! What changes where only one image has a region, which no check of two images asks, and devices that fail.
-use crate::support::{ALL, Device, ONE, count, equal, failing, keys, same_bytes};
+use crate::support::{ALL, Device, equal, failing, keys};
 use cbfs_changes::{ChangeFault, ComponentChange, component_changes};
 use flash_store::Region;
 use std::process::Abort;
@@ -22,75 +22,77 @@ fn changes_of(
     component_changes(rt.alloc(), keys(rt), old, before, new, after)
 }
 
-/// These are the changes.
-fn are(rt: &(impl Abort + AllocGlobal), changes: &[ComponentChange], expected: &[u8]) {
-    let text = format!(in rt.alloc(); "{:?}", changes).expect(rt, "memory");
-    same_bytes(rt, text.as_bytes(), expected);
+/// What has become of the one component.
+fn word(changes: &[ComponentChange]) -> &'static str {
+    match changes {
+        [] => "same",
+        [ComponentChange::Added { at: 0, .. }] => "added",
+        [ComponentChange::Removed { at: 0, .. }] => "removed",
+        [ComponentChange::Changed { .. }] => "changed",
+        _ => "other",
+    }
 }
 
-/// These are the changes between regions of these sizes.
-fn are_between(
+/// The same of regions of these sizes.
+fn told_of(
     rt: &(impl Abort + AllocGlobal + RandomSource),
     old: &mut Device,
     old_size: u64,
     new: &mut Device,
     new_size: u64,
-    expected: &[u8],
-) {
-    let changes = changes_of(rt, old, old_size, new, new_size).expect(rt, "changes");
-    are(rt, &changes, expected);
+) -> Result<&'static str, ChangeFault> {
+    match changes_of(rt, old, old_size, new, new_size) {
+        Ok(changes) => Ok(word(&changes)),
+        Err(fault) => Err(fault),
+    }
 }
 
-/// The same of devices of 64 bytes, each with the component `a`.
+fn has(
+    rt: &(impl Abort + AllocGlobal + RandomSource),
+    old: &mut Device,
+    old_size: u64,
+    new: &mut Device,
+    new_size: u64,
+    expected: &Result<&'static str, ChangeFault>,
+) {
+    equal(rt, &told_of(rt, old, old_size, new, new_size), expected);
+}
+
+/// A device of 5056 bytes with the component, whose content ends with this; its first calls pass, and all later ones are
+/// refused.
+fn device(rt: &(impl Abort + AllocGlobal), end: &[u8], calls: u64) -> Device {
+    failing(rt, 5056, &[(0, &L), (5039, end)], calls)
+}
+
+/// What is told of regions of these sizes on two such devices, which differ in the last byte of the content.
 fn tells(
     rt: &(impl Abort + AllocGlobal + RandomSource),
+    old_calls: u64,
     old_size: u64,
+    new_calls: u64,
     new_size: u64,
-    expected: &[u8],
+    expected: Result<&'static str, ChangeFault>,
 ) {
-    let mut old = failing(rt, 64, &[(0, &ONE)], ALL);
-    let mut new = failing(rt, 64, &[(0, &ONE)], ALL);
-    are_between(rt, &mut old, old_size, &mut new, new_size, expected);
+    let mut old = device(rt, b"", old_calls);
+    let mut new = device(rt, b"x", new_calls);
+    has(rt, &mut old, old_size, &mut new, new_size, &expected);
 }
 
 #[test]
 fn a_region_that_is_absent(rt: HostRuntime) {
-    tells(
-        &rt,
-        64,
-        65,
-        b"[Removed { at: 0, name: Name { bytes: [97] } }]",
-    );
-    tells(
-        &rt,
-        65,
-        64,
-        b"[Added { at: 0, name: Name { bytes: [97] } }]",
-    );
-    tells(&rt, 65, 65, b"[]");
+    tells(&rt, ALL, 5056, ALL, 5057, Ok("removed"));
+    tells(&rt, ALL, 5057, ALL, 5056, Ok("added"));
+    tells(&rt, ALL, 5057, ALL, 5057, Ok("same"));
 }
 
-/// How many changes there are between two devices of 5056 bytes that are regions as wholes.
-fn found_between(
-    rt: &(impl Abort + AllocGlobal + RandomSource),
-    old: &mut Device,
-    new: &mut Device,
-) -> Result<usize, ChangeFault> {
-    count(changes_of(rt, old, 5056, new, 5056))
-}
-
-/// What is told where the old device refuses its call of this number, counted from 0, and the new one that of that number.
-/// The devices differ in the last byte of a content: two calls compare the regions, one lists them, two compare contents.
+/// What is told of the devices as wholes: two calls compare the regions, one lists them, two compare contents.
 fn told_after(
     rt: &(impl Abort + AllocGlobal + RandomSource),
     old: u64,
     new: u64,
-    expected: Result<usize, ChangeFault>,
+    expected: Result<&'static str, ChangeFault>,
 ) {
-    let mut old = failing(rt, 5056, &[(0, &L)], old);
-    let mut new = failing(rt, 5056, &[(0, &L), (5039, b"x")], new);
-    let told = found_between(rt, &mut old, &mut new);
-    equal(rt, &told, &expected);
+    tells(rt, old, 5056, new, 5056, expected);
 }
 
 #[test]
@@ -101,5 +103,5 @@ fn regions_on_devices_that_refuse_a_read(rt: HostRuntime) {
     told_after(&rt, 9, 2, Err(ChangeFault::NewDevice));
     told_after(&rt, 4, 9, Err(ChangeFault::OldDevice));
     told_after(&rt, 9, 4, Err(ChangeFault::NewDevice));
-    told_after(&rt, 9, 9, Ok(1));
+    told_after(&rt, 9, 9, Ok("changed"));
 }

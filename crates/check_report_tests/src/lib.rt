@@ -1,11 +1,9 @@
-//! Tests of the crates of `cbfscheck`, over public functions: devices that fail, and each public function once. They stand in
-//! a crate of their own, so that the code is not proved again with them.
+//! Tests of the crates of `cbfscheck`, over public functions: devices that fail, and what no image shows. They stand in a crate of
+//! their own, so that the code is not proved again with them.
 #![tactic(auto)]
 
 #[cfg(test)]
 mod areas;
-#[cfg(test)]
-mod changes;
 #[cfg(test)]
 mod components;
 #[cfg(test)]

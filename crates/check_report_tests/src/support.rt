@@ -1,5 +1,4 @@
 //! Devices with an image, and what several of the tests make and compare.
-use cbfs_check::Name;
 use check_rows::Report;
 use flash_store::{FailAt, MemFlash, Paged};
 use std::alloc::{AllocError, Global};
@@ -16,12 +15,9 @@ pub const MAP: [u8; 182] =
 \0\x01\0\0\0\x01\0\0A\0\0\0\0\0\0\0\0\0\0\0\0\0\0\0\0\0\0\0\0\0\0\0\0\0\0\0\0\0\0\0\0\0\
 \0\x14\0\0\0\x01\0\0B\0\0\0\0\0\0\0\0\0\0\0\0\0\0\0\0\0\0\0\0\0\0\0\0\0\0\0\0\0\0\0\0\0";
 
-/// The components `a` and `b` of the bytes `0123456789`.
+/// The component `a` of the bytes `0123456789`.
 pub const ONE: [u8; 50] =
     *b"LARCHIVE\0\0\0\x0a\0\0\0\x50\0\0\0\0\0\0\0\x28a\0\0\0\0\0\0\0\0\0\0\0\0\0\0\x000123456789";
-
-pub const OTHER: [u8; 50] =
-    *b"LARCHIVE\0\0\0\x0a\0\0\0\x50\0\0\0\0\0\0\0\x28b\0\0\0\0\0\0\0\0\0\0\0\0\0\0\x000123456789";
 
 /// What stands where, in order: each part also cuts off what earlier ones have behind its place. All else is 0xff.
 pub type Parts<'a> = &'a [(usize, &'a [u8])];
@@ -65,11 +61,6 @@ pub fn count<T: Drop, E: Copy>(told: Result<Vec<T>, E>) -> Result<usize, E> {
     }
 }
 
-/// A name of these bytes.
-pub fn name(rt: &(impl Abort + AllocGlobal), bytes: &[u8]) -> Name {
-    Name::copied(rt.alloc(), bytes).expect(rt, "memory")
-}
-
 /// Keys for the hasher of names.
 pub fn keys(rt: &(impl Abort + RandomSource)) -> RandomState {
     RandomState::new(rt).expect(rt, "random numbers")
@@ -80,12 +71,8 @@ pub fn equal<T: PartialEq + Debug>(rt: &impl Abort, left: &T, right: &T) {
     assert_eq!(rt; *left, *right);
 }
 
-pub fn same_bytes(rt: &impl Abort, left: &[u8], right: &[u8]) {
-    assert_eq!(rt; left, right);
-}
-
 /// This is all that a report says.
 pub fn ends(rt: &impl Abort, report: Report, expected: &[u8]) {
     let text = report.finish().expect(rt, "memory");
-    same_bytes(rt, &text, expected);
+    equal(rt, &text.as_slice(), &expected);
 }
