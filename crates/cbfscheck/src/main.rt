@@ -110,19 +110,40 @@ fn random_keys<'a>(rt: &HostRuntime) -> Result<RandomState, Refusal<'a>> {
     RandomState::new(rt).map_err(|_| Refusal::Random)
 }
 
+/// Checks an image.
+fn check_one<'a>(
+    rt: &HostRuntime,
+    keys: RandomState,
+    path: &'a str,
+    request: Request<'_>,
+) -> Result<Answer, Refusal<'a>> {
+    let mut image = open(rt, path)?;
+    let report = report_image(rt.alloc(), keys, &mut image, request);
+    answered(path, path, report)
+}
+
+/// Checks a new image against the old one.
+fn check_both<'a>(
+    rt: &HostRuntime,
+    keys: RandomState,
+    old: &'a str,
+    new: &'a str,
+    request: Request<'_>,
+) -> Result<Answer, Refusal<'a>> {
+    let mut old_image = open(rt, old)?;
+    let mut new_image = open(rt, new)?;
+    let report = report_change(rt.alloc(), keys, &mut old_image, &mut new_image, request);
+    answered(old, new, report)
+}
+
 /// Checks the image of a line, or the new one against the old.
 fn check<'a>(rt: &HostRuntime, line: &CheckLine<'a>) -> Result<Answer, Refusal<'a>> {
     let request = request_of(line);
     let keys = random_keys(rt)?;
-    let path = line.image();
-    let mut image = open(rt, path)?;
-    let Some(new_path) = line.new_image() else {
-        let report = report_image(rt.alloc(), keys, &mut image, request);
-        return answered(path, path, report);
-    };
-    let mut new_image = open(rt, new_path)?;
-    let report = report_change(rt.alloc(), keys, &mut image, &mut new_image, request);
-    answered(path, new_path, report)
+    match line.new_image() {
+        Some(new) => check_both(rt, keys, line.image(), new, request),
+        None => check_one(rt, keys, line.image(), request),
+    }
 }
 
 /// Prints a report, which is whole by now.

@@ -96,28 +96,19 @@ fn run_from<S: Source>(
     rt: &HostRuntime,
     paged: &mut Paged<FileFlash>,
     command: &Command,
-    mut source: S,
+    source: &mut S,
 ) -> Result<(), Refusal> {
-    run(
-        paged,
-        command,
-        &mut source,
-        &mut WriteSink::new(io::writer(rt)),
-    )
+    run(paged, command, source, &mut WriteSink::new(io::writer(rt)))
 }
 
-/// Makes the image of the flashmap in a file.
-fn create(
+/// Makes the image of a flashmap.
+fn create_from(
     rt: &HostRuntime,
     command: &Command,
     image: &str,
-    file: Option<&str>,
+    source: &mut FileSource,
 ) -> Result<(), Refusal> {
-    let Some(path) = file else {
-        return Err(Refusal::Usage);
-    };
-    let mut source = open_source(rt, path)?;
-    let size = create_size(&mut source)?;
+    let size = create_size(source)?;
     let image = FileFlash::create(rt, image, size).map_err(|fault| open_refusal(
         fault,
         Refusal::Device,
@@ -125,30 +116,44 @@ fn create(
     run_from(rt, &mut Paged::new(image), command, source)
 }
 
-/// Opens the image and the file of a line, and runs its command.
+/// Runs a command on an image that is there; the file is the one that it reads or writes.
+fn run_on(
+    rt: &HostRuntime,
+    paged: &mut Paged<FileFlash>,
+    command: &Command,
+    file: &str,
+) -> Result<(), Refusal> {
+    match command {
+        Command::Print { .. } | Command::Layout => {
+            run_into(paged, command, collect(rt, io::writer(rt))?)
+        }
+        Command::Extract { .. } | Command::Read { .. } => run_into_file(rt, paged, command, file),
+        Command::Remove { .. } => run_from(rt, paged, command, &mut MemSource::new(&[])),
+        Command::Add { .. } | Command::Write { .. } | Command::Create { .. } => {
+            run_from(rt, paged, command, &mut open_source(rt, file)?)
+        }
+    }
+}
+
+/// Opens or makes the image of a line, and runs its command.
 fn execute(rt: &HostRuntime, line: &Line) -> Result<(), Refusal> {
     let command = line.command()?;
     if matches!(command, Command::Create { .. }) {
-        return create(rt, &command, line.image(), line.file());
+        let Some(file) = line.file() else {
+            return Err(Refusal::Usage);
+        };
+        return create_from(rt, &command, line.image(), &mut open_source(rt, file)?);
     }
     let image = FileFlash::open(rt, line.image()).map_err(|fault| open_refusal(
         fault,
         Refusal::Device,
     ))?;
-    let mut paged = Paged::new(image);
-    let path = line.file().unwrap_or("");
-    match command {
-        Command::Print { .. } | Command::Layout => {
-            run_into(&mut paged, &command, collect(rt, io::writer(rt))?)
-        }
-        Command::Extract { .. } | Command::Read { .. } => {
-            run_into_file(rt, &mut paged, &command, path)
-        }
-        Command::Remove { .. } => run_from(rt, &mut paged, &command, MemSource::new(&[])),
-        Command::Add { .. } | Command::Write { .. } | Command::Create { .. } => {
-            run_from(rt, &mut paged, &command, open_source(rt, path)?)
-        }
-    }
+    run_on(
+        rt,
+        &mut Paged::new(image),
+        &command,
+        line.file().unwrap_or(""),
+    )
 }
 
 /// The words after the program's name.
