@@ -222,6 +222,12 @@ or_nothing (Some place) = refl
 abbrev closed : Wanted → ℕ → Survey → Option Place
 closed wanted size s = option_or s.place (cond (nat_lt s.row.start s.row.end) (place_in wanted size s.row) None)
 
+-- over a free cell
+pub free_step : (name : List ℕ) (wanted : Wanted) (size : ℕ) (s : Survey) (c : List ℕ) (cells : List (List ℕ)) (span : ℕ) → is_free (head_of c) ≡ true → length c ≡ span
+    → place_by name wanted size s (c ∷ cells) ≡ place_by name wanted size (record { row = record { start = s.row.start; end = s.row.end + span }; exists = s.exists; place = s.place }) cells
+unfolding components_from by_rows
+free_step name wanted size s c cells span free long = rw (free, long) refl
+
 -- over a component
 pub place_step : (name : List ℕ) (wanted : Wanted) (size : ℕ) (s : Survey) (c : List ℕ) (cells : List (List ℕ)) (span : ℕ) (named : Bool) (place : Option Place)
     → is_free (head_of c) ≡ false → length c ≡ span → named ≡ bytes_eq (cell_name c) name → place ≡ closed wanted size s

@@ -1,4 +1,4 @@
-use Rattle.std.proofs.Common.{◌-◌, ◌+◌, ap, rules}
+use Rattle.std.proofs.Common.{◌-◌, ◌+◌, IsTrue, ap, rules}
 use Rattle.std.proofs.lemmas.Result.{on_ok_weaker}
 use Rattle.flash_format.specs.Made.{header_length}
 use Rattle.flash_store.proofs.DeviceLemmas.{honest_still}
@@ -6,11 +6,9 @@ use Rattle.cbfs_edit.proofs.Emptied.{commit_left, fill_done, fill_left, same_reg
 use Rattle.cbfs_edit.proofs.write.write_empty_entry.Goals as goal
 
 pub returns-in_err-commit_in : goal.returns-in_err-commit_in
-returns-in_err-commit_in g c = record {
-  after = search rules;
-  written = search rules;
-  left = λ honest. commit_left c.args.region c.args.group _ c.empty_header-header.result c.size.result c.requires.region c.requires.group c.size.ensures c.empty_header-header.ensures _ (c.commit_in.ensures.left honest);
-}
+returns-in_err-commit_in g c =
+    let left = λ (honest : IsTrue (g.F.Flash.facts c.args.paged.now.device).honest). commit_left c.args.region c.args.group _ c.empty_header-header.result c.size.result c.requires.region c.requires.group c.size.ensures c.empty_header-header.ensures _ (c.commit_in.ensures.left honest) in
+    record { after = search rules; written = search rules; left = left }
 
 pub returns : goal.returns
 returns g c =
