@@ -10,13 +10,13 @@ returns-in_err-stored-in-Some-clause-after g c =
     rw (err_from_is_err_and c.from_residual-in_err-stored-in-Some.result c.from_residual-in_err-stored-in-Some.ensures.1).1
     (Passes-answers (read_to_content c.args.cell.now _ _ _ c.in-Some.is c.in_ok-at.ensures.attribute c.in_ok-at.ensures.passes c.in_err-stored-in-Some.ensures.passes) (omega arith))
 
-pub returns-in-None-2-clause-after : goal.returns-in-None-2-clause-after
-returns-in-None-2-clause-after g c =
-    Passes-answers (read_to_content c.args.cell.now _ _ _ c.in-Some.is c.in_ok-at.ensures.attribute c.in_ok-at.ensures.passes c.in_ok-stored-in-Some.ensures.passes) (omega arith)
-
 pub returns-in-None-2-clause-unread : goal.returns-in-None-2-clause-unread
 returns-in-None-2-clause-unread g c = λ told.
     HasRead-within _ _ _ 0 _ _ (omega arith) (read_to_content c.args.cell.now _ _ _ c.in-Some.is c.in_ok-at.ensures.attribute c.in_ok-at.ensures.passes c.in_ok-stored-in-Some.ensures.passes).read
+
+pub returns-in-None-2-clause-after : goal.returns-in-None-2-clause-after
+returns-in-None-2-clause-after g c =
+    Passes-answers (read_to_content c.args.cell.now _ _ _ c.in-Some.is c.in_ok-at.ensures.attribute c.in_ok-at.ensures.passes c.in_ok-stored-in-Some.ensures.passes) (omega arith)
 
 pub returns-in_ok-computed-in-Some-2-clause-unread : goal.returns-in_ok-computed-in-Some-2-clause-unread
 returns-in_ok-computed-in-Some-2-clause-unread g c = λ told. absurd (compared_is_told c.in-Some-2.stored c.in_ok-computed-in-Some-2.computed c.comparison.result c.comparison.ensures told)
