@@ -13,6 +13,9 @@ returns-in_err-write_empty_entry-clause-stopped g c honest = λ is.
     (c.in_ok-group.ensures.answer honest)
     (c.write_empty_entry.ensures.left (honest_still c.find_group.ensures.after.device.calls.same_honesty honest))
 
+pub returns-clause-after : goal.returns-clause-after
+returns-clause-after g c = search rules
+
 pub returns-clause-image : goal.returns-clause-image
 returns-clause-image g c honest =
     let still = honest_still c.find_group.ensures.after.device.calls.same_honesty honest in
