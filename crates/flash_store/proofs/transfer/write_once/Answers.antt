@@ -1,4 +1,4 @@
-use Rattle.std.proofs.Common.{◌∙◌, ap, refl, arith}
+use Rattle.std.proofs.Common.{◌∙◌, ap, refl, arith, rules}
 use Rattle.std.proofs.lemmas.List.{take_all}
 use Rattle.flash_store.specs.Device.{overwritten}
 use Rattle.flash_store.proofs.transfer.write_once.Goals as goal
@@ -14,3 +14,6 @@ returns g c =
       written = λ h. after.written h ∙ ap (overwritten _ c.args.at) (take_all c.in_ok-write_again.field-0 c.args.bytes.now (omega (arith, c.if-branch-lt-HEADER_LENGTH.false)));
       whole = λ h. after.whole h (omega arith);
     }
+
+pub returns-then-branch-lt-HEADER_LENGTH : goal.returns-then-branch-lt-HEADER_LENGTH
+returns-then-branch-lt-HEADER_LENGTH g c = search rules
