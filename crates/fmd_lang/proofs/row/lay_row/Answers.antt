@@ -1,17 +1,33 @@
-use Rattle.std.proofs.Common.{◌≡◌, ◌∙◌, ◌++◌, sym, ap, refl, arith, None, false}
+use Rattle.std.proofs.Common.{◌≡◌, ◌∙◌, ◌++◌, sym, ap, refl, arith, inr, None, get_or}
 use Rattle.std.proofs.lemmas.List.{append-nil, drop_all}
-use Rattle.std.proofs.lemmas.Grind.{common_steps}
+use Rattle.std.proofs.lemmas.Result.{err_from_is_err_and}
 use Rattle.fmd_lang.specs.Layout.{ambiguous_sibling, places_of}
+use Rattle.fmd_lang.proofs.RowLemmas.{fits, make, one-laid, one-refused}
 use Rattle.fmd_lang.proofs.row.lay_row.Goals as goal
 
 pub returns-clause-filled : goal.returns-clause-filled
 returns-clause-filled c =
     let none_left = drop_all c.loop-index.index c.args.row.now c.loop-index-test.false in
-    sym (c.loop-index.invariant.1 ∙ ap (λ ps. c.loop-index.places.items ++ places_of c.args.parent c.loop-index.from ps) none_left
+    sym (c.loop-index.invariant.places ∙ ap (λ ps. c.loop-index.places.items ++ places_of c.args.parent c.loop-index.from ps) none_left
     ∙ append-nil c.loop-index.places.items)
 
 pub returns-clause-refused : goal.returns-clause-refused
 returns-clause-refused c =
     let none_left = drop_all c.loop-index.index c.args.row.now c.loop-index-test.false in
-    let no_second : ambiguous_sibling false c.args.row.now ≡ None = grind (arith, common_steps) in
-    rw (no_second, c.loop-index.invariant.0) (rw none_left refl)
+    rw (sym c.first_ambiguous.ensures ∙ c.in_default.is, c.loop-index.invariant.fine) (rw none_left refl)
+
+pub loop-index-preserved : goal.loop-index-preserved
+loop-index-preserved c =
+    one-laid c.loop-index.index _ c.in_ok-place.place c.loop-index.invariant c.loop-index-test.true c.in_ok-place.ensures.ok
+    c.in_ok-push.ensures.items
+
+pub returns-in_err-place-clause-refused : goal.returns-in_err-place-clause-refused
+returns-in_err-place-clause-refused c =
+    let p = err_from_is_err_and c.from_residual.result c.from_residual.ensures.1 in
+    let first = one-refused c.loop-index.index _ c.loop-index.invariant c.loop-index-test.true c.in_err-place.ensures.err in
+    rw (p.1, p.2) (inr (rw (sym c.first_ambiguous.ensures ∙ c.in_default.is) first))
+
+pub overflow_add-from : goal.overflow_add-from
+overflow_add-from c =
+    let sibling = get_or c.args.row.now c.loop-index.index (make 0 None None) in
+    omega (arith, (fits c.args.parent c.loop-index.from sibling c.in_ok-place.place c.in_ok-place.ensures.ok.1).1)
