@@ -74,14 +74,15 @@ fn push_areas(
     let places = places(alloc, section, areas.len(), size)?;
     for (index, part) in section.parts.iter().enumerate() {
         let place = places[index];
+        let start = at + place.start;
         let area = Area {
-            offset: at + place.start,
+            offset: start,
             size: place.size,
             name: field_of(&part.name),
             flags: part.flags,
         };
         areas.push(area)?;
-        push_areas(alloc, part, at + place.start, place.size, areas)?;
+        push_areas(alloc, part, start, place.size, areas)?;
     }
     Ok(())
 }

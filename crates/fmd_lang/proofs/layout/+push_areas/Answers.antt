@@ -37,12 +37,8 @@ loop-index-init t c =
 pub index-place-requires : goal.index-place-requires
 index-place-requires t c = omega (arith, c.in_ok-places.ensures.len, ap length c.deref-part-items.ensures.value)
 
-pub overflow_add-area : goal.overflow_add-area
-overflow_add-area t c =
-    omega (arith, place-inside c.args.size c.in_ok-places.places.items c.loop-index.index c.index-place.result.now c.in_ok-places.ensures.inside (omega (arith, c.in_ok-places.ensures.len, ap length c.deref-part-items.ensures.value)) c.index-place.ensures)
-
-pub overflow_add-at : goal.overflow_add-at
-overflow_add-at t c =
+pub overflow_add-start : goal.overflow_add-start
+overflow_add-start t c =
     omega (arith, place-inside c.args.size c.in_ok-places.places.items c.loop-index.index c.index-place.result.now c.in_ok-places.ensures.inside (omega (arith, c.in_ok-places.ensures.len, ap length c.deref-part-items.ensures.value)) c.index-place.ensures)
 
 pub returns : goal.returns
