@@ -29,6 +29,3 @@ loop-number-init c = (λ q. search rules, refl)
 pub returns-clause-ok : goal.returns-clause-ok
 returns-clause-ok c =
     sym (c.loop-number.invariant.1 ∙ rw (drop_all c.loop-number.number c.args.names.now c.loop-number-test.false) refl)
-
-pub returns-in_err-insert : goal.returns-in_err-insert
-returns-in_err-insert c = search rules

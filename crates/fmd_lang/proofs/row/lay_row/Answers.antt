@@ -1,8 +1,8 @@
-use Rattle.std.proofs.Common.{◌≡◌, ◌∙◌, ◌++◌, sym, ap, refl, arith, inr, None, get_or}
+use Rattle.std.proofs.Common.{◌≡◌, ◌∙◌, ◌++◌, sym, ap, refl, arith, inr}
 use Rattle.std.proofs.lemmas.List.{append-nil, drop_all}
 use Rattle.std.proofs.lemmas.Result.{err_from_is_err_and}
 use Rattle.fmd_lang.specs.Layout.{ambiguous_sibling, places_of}
-use Rattle.fmd_lang.proofs.RowLemmas.{fits, make, one-laid, one-refused}
+use Rattle.fmd_lang.proofs.RowLemmas.{one-laid, one-refused}
 use Rattle.fmd_lang.proofs.row.lay_row.Goals as goal
 
 pub returns-clause-filled : goal.returns-clause-filled
@@ -26,8 +26,3 @@ returns-in_err-place-clause-refused c =
     let p = err_from_is_err_and c.from_residual.result c.from_residual.ensures.1 in
     let first = one-refused c.loop-index.index _ c.loop-index.invariant c.loop-index-test.true c.in_err-place.ensures.err in
     rw (p.1, p.2) (inr (rw (sym c.first_ambiguous.ensures ∙ c.in_default.is) first))
-
-pub overflow_add-from : goal.overflow_add-from
-overflow_add-from c =
-    let sibling = get_or c.args.row.now c.loop-index.index (make 0 None None) in
-    omega (arith, (fits c.args.parent c.loop-index.from sibling c.in_ok-place.place c.in_ok-place.ensures.ok.1).1)
