@@ -73,9 +73,9 @@ abbrev Adds : (List Word → Type 0) → ℕ → ℕ → ℕ → ℕ → Built �
 Adds P most most_behind depth end behind all = (ws r : List Word) → P ws →
     MakesPast most_behind depth end r behind → MakesPast most depth end (ws ++ r) all
 
-adds-then : (P Q : List Word → Type 0) (l m n depth end : ℕ) (a b c : Built) → Adds P l m depth end b c →
+adds-then : {P Q : List Word → Type 0} {l m n depth end : ℕ} {a b c : Built} → Adds P l m depth end b c →
     Adds Q m n depth end a b → Adds (Then P Q) l n depth end a c
-adds-then P Q l m n depth end a b c p q ws r (front, back, split, first, second) more k few =
+adds-then p q ws r (front, back, split, first, second) more k few =
     rw (split, append_assoc front back r) (p front (back ++ r) first (q back r second more) k few)
 
 -- The refusal of a word by itself isn't that of a word in a wrong place.
@@ -165,15 +165,10 @@ mutual
   section-makes (section name flags offset size parts) s depth end ws r l ls (a, rest, split, named, others) stands more =
       let (w, one, (is, called, short)) = named in
       let levels : List Forest = l ∷ ls in
-      let S : List Word → Type 0 = Then (IsSize size) (IsBody parts) in
       let body = body-adds parts levels depth end (λ v q are behind. sections-make parts depth end v q none levels are behind) in
-      let sized = adds-then (IsSize size) (IsBody parts) 3 4 5 depth end (nothing levels) (has 0 None None parts levels)
-      (has 0 None size parts levels) (size-adds size parts levels depth end) body in
-      let placed = adds-then (IsOffset offset) S 2 3 5 depth end (nothing levels) (has 0 None size parts levels)
-      (has 0 offset size parts levels) (offset-adds offset size parts levels depth end) sized in
-      let all = adds-then (AreAnnotations flags) (Then (IsOffset offset) S) 1 2 5 depth end (nothing levels)
-      (has 0 offset size parts levels) (has flags offset size parts levels)
-      (annotations-add flags offset size parts levels depth end) placed in
+      let sized = adds-then {m = 4} {b = has 0 None None parts levels} (size-adds size parts levels depth end) body in
+      let placed = adds-then {m = 3} {b = has 0 None size parts levels} (offset-adds offset size parts levels depth end) sized in
+      let all = adds-then {m = 2} {b = has 0 offset size parts levels} (annotations-add flags offset size parts levels depth end) placed in
       let behind = all rest r others more 0 (omega arith) in
       rw (split, one) (makes Name is (stands (annotation_flag w.bytes)) behind (rw called refl))
 
