@@ -81,13 +81,7 @@ section-is : (w : Word) (ws : List Word) → IsName w.bytes w → Ahead 4 ws →
 section-is w ws named (flags, (a, b, split, marked, (offset, (c, d, inner, placed, rest)))) =
     let (size, (e, f, last, sized, (parts, body))) = rest in (
       section w.bytes flags offset size parts,
-      (
-        w ∷ [],
-        ws,
-        refl,
-        (w, refl, named),
-        (a, b, split, marked, (c, d, inner, placed, (e, f, last, sized, body))),
-      ),
+      (w ∷ [], ws, refl, (w, refl, named), (a, b, split, marked, (c, d, inner, placed, (e, f, last, sized, body)))),
     )
 
 -- ---- one word
@@ -141,26 +135,22 @@ step (past n) OpenParen flag depth w ws is there known own rest =
     let (fits, (flags, more)) = room n 1 (in_annotations false) depth ws (omega arith) rest in
     let (front, behind, split, (a, b, inner, closed, ahead), q) =
     joined (Until CloseParen (HaveFlags flags)) (Ahead 3) (Behind depth) ws more in
-    let all = up 4 n (w ∷ front) fits
-    (flags, (w ∷ a, b, ap (λ v. w ∷ v) inner, inr (w ∷ [], a, refl, (w, refl, is), closed), ahead)) in
+    let all = up 4 n (w ∷ front) fits (flags, (w ∷ a, b, ap (λ v. w ∷ v) inner, inr (w ∷ [], a, refl, (w, refl, is), closed), ahead)) in
     (w ∷ front, behind, ap (λ v. w ∷ v) split, all, q)
 step (past n) At flag depth w ws is there known own rest =
     let (fits, (place, more)) = room n 2 at_sign depth ws (omega arith) rest in
     let (front, behind, split, (a, b, inner, at, ahead), q) = joined (One (HasValue place)) (Ahead 2) (Behind depth) ws more in
-    let all = up 3 n (w ∷ front) fits
-    (Some place, (w ∷ a, b, ap (λ v. w ∷ v) inner, (w ∷ [], a, refl, (w, refl, is), at), ahead)) in
+    let all = up 3 n (w ∷ front) fits (Some place, (w ∷ a, b, ap (λ v. w ∷ v) inner, (w ∷ [], a, refl, (w, refl, is), at), ahead)) in
     (w ∷ front, behind, ap (λ v. w ∷ v) split, all, q)
 step (past n) Number flag depth w ws is there known own rest =
     let (fits, (front, behind, split, ahead, q)) = room n 3 (past 3) depth ws (omega arith) rest in
     let (size, value) = number-is depth w is own in
-    let all = up 2 n (w ∷ front) fits
-    (Some size, (w ∷ [], front, refl, (w, refl, value), ahead)) in
+    let all = up 2 n (w ∷ front) fits (Some size, (w ∷ [], front, refl, (w, refl, value), ahead)) in
     (w ∷ front, behind, ap (λ v. w ∷ v) split, all, q)
 step (past n) OpenBrace flag depth w ws is there known own rest =
     let (fits, more) = room n 4 (past 4) (suc depth) ws (omega arith) rest in
     let (parts, (front, behind, split, closed, q)) = over (Behind (suc depth)) ws more in
-    let all = up 1 n (w ∷ front) fits
-    (parts, inr (w ∷ [], front, refl, (w, refl, is), closed)) in
+    let all = up 1 n (w ∷ front) fits (parts, inr (w ∷ [], front, refl, (w, refl, is), closed)) in
     (w ∷ front, behind, ap (λ v. w ∷ v) split, all, q)
 step (past n) Name flag (suc depth) w ws is there known own (front, behind, split, ahead, (ts, closed)) =
     let (t, one) = section-is w front (is, refl, name-short (suc depth) w (rw is at own)) ahead in
