@@ -63,12 +63,8 @@ pub record IsPushed (old areas : List Area) (at size : ℕ) (whole : Tree) (plac
 next : {X : Type 0} (xs : List X) (k : ℕ) (x : X) → k < length xs → x ≡ get_or xs k x → drop k xs ≡ x ∷ drop (k + 1) xs
 next xs k x there is = rw (drop-cons xs k x there, ← is, add-one) refl
 
-pub area-is : (at : ℕ) (q : Place) (s : Section) → section_area at q (view s) ≡ record {
-  offset = at + q.start;
-  size = q.size;
-  name = field_of (out-Section s).name.items;
-  flags = (out-Section s).flags;
-}
+pub area-is : (at : ℕ) (q : Place) (s : Section) → section_area at q (view s) ≡
+    record { offset = at + q.start; size = q.size; name = field_of (out-Section s).name.items; flags = (out-Section s).flags }
 area-is at q s = rw (view-is s) refl
 
 -- the names of the parts from an index on
@@ -194,15 +190,8 @@ mutual
       let (fine, behind) = or-none (misfit_of size from p q) (first_misfit size (end_of q) (siblings m ts) qs) fitting in
       let (inner, others) = or-none (parent_fault n q.size t) (parts_fault m ts qs) h in
       let placed = placed_one size from p.number p.offset p.size (siblings m ts) fine in
-      let below = areas-laid t n (at + q.start) q.size inner in (
-        q,
-        areas_below n (at + q.start) q.size t,
-        areas_of m at ts qs,
-        refl,
-        placed,
-        below,
-        parts-laid ts m at size (end_of q) behind others,
-      )
+      let below = areas-laid t n (at + q.start) q.size inner in
+      (q, areas_below n (at + q.start) q.size t, areas_of m at ts qs, refl, placed, below, parts-laid ts m at size (end_of q) behind others)
 
 pub table-is : (s : Section) (table : Table) → table.base ≡ unwrap_or (out-Section s).offset 0 →
     (out-Section s).size ≡ Some table.size → table.name ≡ field_of (out-Section s).name.items →

@@ -28,14 +28,11 @@ mutual
       let here = place-is size from p.number p.offset p.size q ps placed in
       let (inner, count, clear) = areas-filled t n (at + q.start) q.size below first in
       let (qs, same, outer, rest, fitting, fine) = parts-filled ts (n + section_count t) at size (end_of q) after others in
-      let a = section_area at q t in (
-        q ∷ qs,
-        ap (λ rs. q ∷ rs) same ∙ ap (λ r. r ∷ places_of size (end_of r) ps) here,
-        shape ∙ ap (λ xs. a ∷ xs ++ after) inner ∙ ap (λ xs. a ∷ areas_below n (at + q.start) q.size t ++ xs) outer,
-        omega (arith, ap length shape, length-append below after, length-append (names t) (names_of ts), count, rest),
-        rw (placed.fits) fitting,
-        rw clear fine,
-      )
+      let a = section_area at q t in
+      let filled = ap (λ rs. q ∷ rs) same ∙ ap (λ r. r ∷ places_of size (end_of r) ps) here in
+      let are = shape ∙ ap (λ xs. a ∷ xs ++ after) inner ∙ ap (λ xs. a ∷ areas_below n (at + q.start) q.size t ++ xs) outer in
+      let all : length areas ≡ length (names t ++ names_of ts) = omega (arith, ap length shape, length-append below after, length-append (names t) (names_of ts), count, rest) in
+      (q ∷ qs, filled, are, all, rw (placed.fits) fitting, rw clear fine)
 
 -- Sections that have a table have no fault of their places.
 pub table-faultless : (t : Tree) (table : Table) → IsTable t table → parent_fault 0 table.size t ≡ None
