@@ -79,10 +79,8 @@ over Q ws (front, behind, split, empty, q) = subst Q (sym (split ∙ ap (λ v. v
 
 section-is : (w : Word) (ws : List Word) → IsName w.bytes w → Ahead 4 ws → (t : Tree) × IsSection t (w ∷ ws)
 section-is w ws named (flags, (a, b, split, marked, (offset, (c, d, inner, placed, rest)))) =
-    let (size, (e, f, last, sized, (parts, body))) = rest in (
-      section w.bytes flags offset size parts,
-      (w ∷ [], ws, refl, (w, refl, named), (a, b, split, marked, (c, d, inner, placed, (e, f, last, sized, body)))),
-    )
+    let (size, (e, f, last, sized, (parts, body))) = rest in
+    (section w.bytes flags offset size parts, (w ∷ [], ws, refl, (w, refl, named), (a, b, split, marked, (c, d, inner, placed, (e, f, last, sized, body)))))
 
 -- ---- one word
 
@@ -157,13 +155,9 @@ step (past n) Name flag (suc depth) w ws is there known own (front, behind, spli
     let (a, b, whole, sections, outer) =
     joined (IsSection t) (Until CloseBrace (AreSections ts)) (Behind depth) (w ∷ ws) (w ∷ front, behind, ap (λ v. w ∷ v) split, one, closed) in
     ([], w ∷ ws, refl, up 0 n [] (omega arith) refl, (some t ts, (a, b, whole, joined (IsSection t) (AreSections ts) (One (IsA CloseBrace)) a sections, outer)))
-step (past n) CloseBrace flag (suc depth) w ws is there known own rest = (
-  [],
-  w ∷ ws,
-  refl,
-  up 0 n [] (omega arith) refl,
-  (none, (w ∷ [], ws, refl, ([], w ∷ [], refl, refl, (w, refl, is)), over (Behind depth) ws rest)),
-)
+step (past n) CloseBrace flag (suc depth) w ws is there known own rest =
+    let outer = over (Behind depth) ws rest in
+    ([], w ∷ ws, refl, up 0 n [] (omega arith) refl, (none, (w ∷ [], ws, refl, ([], w ∷ [], refl, refl, (w, refl, is)), outer)))
 step (past n) End flag depth w ws is there known own rest = absurd (there refl)
 step (past n) k flag zero w ws is there known own rest = absurd rest
 step (past n) k flag (suc depth) w ws is there known own rest = absurd rest

@@ -37,8 +37,7 @@ length-siblings n (s ∷ ss) = ap suc (length-siblings (n + section_count (view 
 
 pub length-le-count : (ss : List Section) → length ss ≤ length (names_of (views ss))
 length-le-count [] = omega arith
-length-le-count (s ∷ ss) =
-    omega (arith, length-append (names (view s)) (names_of (views ss)), some-names (view s), length-le-count ss)
+length-le-count (s ∷ ss) = omega (arith, length-append (names (view s)) (names_of (views ss)), some-names (view s), length-le-count ss)
 
 pub length-filled : (ps : List Sibling) (parent from : ℕ) → length (places_of parent from ps) ≡ length ps
 length-filled [] parent from = refl
@@ -214,7 +213,6 @@ pub root-laid : (t : Tree) (n : ℕ) (old areas shown : List Area) → names_fau
     shown ≡ areas → AreasBelow 0 0 n t areas × (layout_fault t ≡ table_fault shown)
 root-laid t n old areas shown named given size nothing pushed clear same =
     let fine = subst (λ (xs : List Area). parent_fault (length xs) n t ≡ None) nothing clear in
-    let items = subst (λ (xs : List Area). areas ≡ xs ++ areas_below (length xs) 0 n t) nothing pushed in (
-      subst (AreasBelow 0 0 n t) (sym items) (areas-laid t 0 0 n fine),
-      layout_fault-sized t n named given size ∙ rw fine (ap table_fault (sym (same ∙ items))),
-    )
+    let items = subst (λ (xs : List Area). areas ≡ xs ++ areas_below (length xs) 0 n t) nothing pushed in
+    let laid = subst (AreasBelow 0 0 n t) (sym items) (areas-laid t 0 0 n fine) in
+    (laid, layout_fault-sized t n named given size ∙ rw fine (ap table_fault (sym (same ∙ items))))
