@@ -1,7 +1,7 @@
-use Rattle.std.proofs.Common.{◌≡◌, ◌∙◌, ◌++◌, sym, ap, refl, arith, inr}
+use Rattle.std.proofs.Common.{◌∙◌, ◌++◌, sym, ap, refl, inr}
 use Rattle.std.proofs.lemmas.List.{append-nil, drop_all}
 use Rattle.std.proofs.lemmas.Result.{err_from_is_err_and}
-use Rattle.fmd_lang.specs.Layout.{ambiguous_sibling, places_of}
+use Rattle.fmd_lang.specs.Layout.{places_of}
 use Rattle.fmd_lang.proofs.RowLemmas.{one-laid, one-refused}
 use Rattle.fmd_lang.proofs.row.lay_row.Goals as goal
 
