@@ -116,6 +116,10 @@ pub one_at_most : (b : Bool) (n : ℕ) → n ≡ (if b then 1 else 0) → n ≤ 
 one_at_most true n is = omega arith
 one_at_most false n is = omega arith
 
+-- the blocks of so many bytes begin among them
+pub blocks-begin : (number count size n : ℕ) → number < count → count ≡ blocks_of size → size ≡ n → 4096 * number ≤ n
+blocks-begin number count size n before is same = omega arith
+
 -- one block more was counted
 pub different_among-more : (x y : List ℕ) (number count one : ℕ) (different : Bool) → different ≡ differs x y number → one ≡ (if different then 1 else 0) → count ≡ different_among x y number → count + one ≡ different_among x y (number + 1)
 different_among-more x y number count one different is counted so_far =

@@ -1,9 +1,45 @@
-use Rattle.std.proofs.Common.{◌≡◌, ◌∙◌, ◌+◌, ◌-◌, ap, arith}
+use Rattle.std.proofs.Common.{◌≡◌, ◌∙◌, ◌+◌, ◌-◌, ◌≤◌, sym, ap, arith}
 use Rattle.flash_store.specs.Regions.{bytes_in}
 use Rattle.flash_store.proofs.DeviceLemmas.{length-bytes_in}
-use Rattle.flashmap_changes.specs.Blocks.{different_among}
-use Rattle.flashmap_changes.proofs.BlockLemmas.{different_blocks-all}
+use Rattle.flash_store.proofs.WindowLemmas.{HasRead-then}
+use Rattle.flashmap_changes.specs.Blocks.{blocks_of, differs, different_among}
+use Rattle.flashmap_changes.proofs.BlockLemmas.{blocks-begin, different_among-more, different_blocks-all, one_at_most}
+use Rattle.flashmap_changes.proofs.ImageLemmas.{OnBoth-before, KnowsRegions-after, HasCompared-within, HasCompared-handed}
 use Rattle.flashmap_changes.proofs.blocks.different_in.Goals as goal
+
+pub is_different-requires-clause-regions : goal.is_different-requires-clause-regions
+is_different-requires-clause-regions g c =
+    KnowsRegions-after g.F.Flash.facts g.G.Flash.facts _ _ _ _ _ _ _ _ c.loop-number.invariant.old_read c.loop-number.invariant.new_read c.requires.regions
+
+pub is_different-requires-clause-old_begins : goal.is_different-requires-clause-old_begins
+is_different-requires-clause-old_begins g c = blocks-begin _ _ _ _ c.loop-number-test.true c.blocks_of-number-end.ensures (c.size.ensures ∙ sym c.requires.sizes)
+
+pub is_different-requires-clause-new_begins : goal.is_different-requires-clause-new_begins
+is_different-requires-clause-new_begins g c = blocks-begin _ _ _ _ c.loop-number-test.true c.blocks_of-number-end.ensures c.size.ensures
+
+pub returns-in_err-is_different-clause-after : goal.returns-in_err-is_different-clause-after
+returns-in_err-is_different-clause-after g c =
+    let most : c.loop-number.number + 1 ≤ blocks_of c.args.new_region.size = omega (arith, c.loop-number-test.true, c.blocks_of-number-end.ensures, c.size.ensures) in
+    let had = c.loop-number.invariant in
+    let read = c.in_err-is_different.ensures.after in
+    HasCompared-handed g.F.Flash.facts g.G.Flash.facts _ _ _ _ _ _ _ _ c.from_residual.ensures.1 most (HasRead-then _ _ 1 _ _ _ _ had.old_read read.old_read) (HasRead-then _ _ 1 _ _ _ _ had.new_read read.new_read)
+
+pub loop-number-preserved : goal.loop-number-preserved
+loop-number-preserved g c =
+    let had = c.loop-number.invariant in
+    let read = c.in_ok-is_different.ensures.after in
+    let is = OnBoth-before g.F.Flash.facts g.G.Flash.facts _ _ _ _ _ _ (λ x y. c.in_ok-is_different.field-0 ≡ differs (bytes_in c.args.old_region x) (bytes_in c.args.new_region y) c.loop-number.number) had.old_read had.new_read c.in_ok-is_different.ensures.different in
+    record {
+      old_read = HasRead-then _ _ 1 0 _ _ _ had.old_read read.old_read;
+      new_read = HasRead-then _ _ 1 0 _ _ _ had.new_read read.new_read;
+      few = omega (arith, had.few, one_at_most c.in_ok-is_different.field-0 c.one_if.result c.one_if.ensures);
+      different = λ h k. different_among-more _ _ c.loop-number.number c.loop-number.count _ c.in_ok-is_different.field-0 (is h k) c.one_if.ensures (had.different h k);
+    }
+
+pub returns-clause-after : goal.returns-clause-after
+returns-clause-after g c =
+    let most : c.loop-number.number ≤ blocks_of c.args.new_region.size = omega (arith, c.loop-number.auto.number-end, c.blocks_of-number-end.ensures, c.size.ensures) in
+    HasCompared-within g.F.Flash.facts g.G.Flash.facts _ _ _ _ _ _ _ most c.loop-number.invariant.old_read c.loop-number.invariant.new_read
 
 pub returns-clause-different : goal.returns-clause-different
 returns-clause-different g c = λ old new.

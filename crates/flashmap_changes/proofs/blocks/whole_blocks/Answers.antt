@@ -1,11 +1,29 @@
-use Rattle.std.proofs.Common.{◌≡◌, [], ◌∷◌, ap, length, length-append, arith}
-use Rattle.flash_store.specs.Regions.{bytes_in}
+use Rattle.std.proofs.Common.{◌≡◌, ◌+◌, ◌/◌, ◌≤◌, [], ◌∷◌, ap, length, length-append, arith}
+use Rattle.flash_store.specs.Regions.{Range, bytes_in}
 use Rattle.flash_store.proofs.WindowLemmas.{HasRead-then}
 use Rattle.flashmap_changes.specs.Blocks.{differs}
 use Rattle.flashmap_changes.specs.Images.{OnBoth}
 use Rattle.flashmap_changes.proofs.BlockLemmas.{different_among-more, differs-whole, KnowsBlocks-more, one_at_most}
-use Rattle.flashmap_changes.proofs.ImageLemmas.{OnBoth-before}
+use Rattle.flashmap_changes.proofs.ImageLemmas.{OnBoth-before, KnowsRegions-whole, HasCompared-within, HasCompared-handed}
 use Rattle.flashmap_changes.proofs.blocks.whole_blocks.Goals as goal
+
+pub is_different-requires-clause-regions : goal.is_different-requires-clause-regions
+is_different-requires-clause-regions g c =
+    KnowsRegions-whole g.F.Flash.facts g.G.Flash.facts _ _ _ _ _ _ _ _ _ c.whole-old_region.ensures c.whole-new_region.ensures c.len.ensures.length c.len-2.ensures.length c.loop-number.invariant.old_read c.loop-number.invariant.new_read
+
+pub returns-in_err-differs-clause-after : goal.returns-in_err-differs-clause-after
+returns-in_err-differs-clause-after g c =
+    let most : c.loop-number.number + 1 ≤ length (g.G.Flash.facts c.args.new_image.now.device).content / 4096 = omega (arith, ap (λ (r : Range). r.size) c.whole-new_region.ensures) in
+    let had = c.loop-number.invariant in
+    let read = c.in_err-differs.ensures.after in
+    HasCompared-handed g.F.Flash.facts g.G.Flash.facts _ _ _ _ _ _ _ _ c.from_residual.ensures.1 most (HasRead-then _ _ 1 _ _ _ _ had.old_read read.old_read) (HasRead-then _ _ 1 _ _ _ _ had.new_read read.new_read)
+
+pub returns-in_err-push_known-clause-after : goal.returns-in_err-push_known-clause-after
+returns-in_err-push_known-clause-after g c =
+    let most : c.loop-number.number + 1 ≤ length (g.G.Flash.facts c.args.new_image.now.device).content / 4096 = omega (arith, ap (λ (r : Range). r.size) c.whole-new_region.ensures) in
+    let had = c.loop-number.invariant in
+    let read = c.in_ok-differs.ensures.after in
+    HasCompared-handed g.F.Flash.facts g.G.Flash.facts _ _ _ _ _ _ _ _ c.from_residual-in_err-push_known.ensures.1 most (HasRead-then _ _ 1 0 _ _ _ had.old_read read.old_read) (HasRead-then _ _ 1 0 _ _ _ had.new_read read.new_read)
 
 pub loop-number-preserved : goal.loop-number-preserved
 loop-number-preserved g c =
@@ -22,3 +40,8 @@ loop-number-preserved g c =
       known = λ h k. KnowsBlocks-more c.loop-number.differ.items _ _ _ c.loop-number.number c.in_ok-differs.differs had.count (is h k) c.in_ok-push_known.ensures (had.known h k);
       different = λ h k. different_among-more _ _ c.loop-number.number c.loop-number.different _ c.in_ok-differs.differs (is h k) c.one_if-different.ensures (had.different h k);
     }
+
+pub returns-clause-after : goal.returns-clause-after
+returns-clause-after g c =
+    let most : c.loop-number.number ≤ length (g.G.Flash.facts c.args.new_image.now.device).content / 4096 = omega (arith, ap (λ (r : Range). r.size) c.whole-new_region.ensures) in
+    HasCompared-within g.F.Flash.facts g.G.Flash.facts _ _ _ _ _ _ _ most c.loop-number.invariant.old_read c.loop-number.invariant.new_read
