@@ -656,7 +656,7 @@ mistakes() {
         esac
         count=$((count + 1))
     done < <(sed -n '/^## The mistakes/,/^## Planted/p' "$file" | cut -d '|' -f 3 | grep -o '`[^`]*`' | tr -d '`' | sort -u)
-    [ "$count" -gt 60 ] || fail "claims: only $count names in MISTAKES.md"
+    [ "$count" -gt 50 ] || fail "claims: only $count names in MISTAKES.md"
 }
 
 # walks: what docs/DEVELOPING.md tells of how the program is read names files and functions that are there; its examples of a
