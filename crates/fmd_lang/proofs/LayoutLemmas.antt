@@ -103,14 +103,6 @@ part-at qs ss shown k q s pushed same left part len place =
     let room : k < length qs = omega (arith, ap length same, left, len) in
     rw (next qs k q room place, next ss k s (rw same at left) (rw same at part)) at pushed
 
--- no part yet
-pub none-pushed : (areas : List Area) (n at size : ℕ) (s : Section) (places : List Place) → n ≡ length areas →
-    places ≡ places_of size 0 (siblings (suc n) (views (out-Section s).parts.items)) →
-    row_fault size (siblings (suc n) (views (out-Section s).parts.items)) ≡ None →
-    IsPushed areas areas at size (view s) places (views (out-Section s).parts.items)
-none-pushed areas n at size s places counted same fine =
-    rw (view-is s) (record { count = omega arith; items = rw (same, counted) refl; faults = rw (same, ← counted, fine) refl })
-
 -- all parts
 pub all-pushed : {old areas : List Area} {at size : ℕ} {whole : Tree} {places : List Place} (ss shown : List Section) (k : ℕ) →
     IsPushed old areas at size whole places (views (drop k ss)) → shown ≡ ss → length shown ≤ k →

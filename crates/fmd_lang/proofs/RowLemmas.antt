@@ -1,5 +1,5 @@
 -- Filled places obey the equations, where none is refused, and no others do.
-use Rattle.std.proofs.Common.{◌≡◌, ℕ, ◌+◌, ◌-◌, ◌<◌, ◌≤◌, nat_le, true, false, IsTrue, List, [], ◌∷◌, ◌++◌, length, take, drop, get_or, add-one, append_assoc, Option, Some, None, option_map, Result, Ok, Err, IfOk, Vec, Global, refl, ◌∙◌, ap, arith, rules}
+use Rattle.std.proofs.Common.{◌≡◌, ℕ, ◌+◌, ◌-◌, ◌<◌, ◌≤◌, nat_le, true, false, IsTrue, List, [], ◌∷◌, ◌++◌, length, take, drop, get_or, add-one, Option, Some, None, option_map, Result, Ok, Err, IfOk, Vec, Global, refl, ◌∙◌, ap, arith, rules}
 use Rattle.std.specs.List.{list_all}
 use Rattle.std.proofs.lemmas.Bool.{le-leb}
 use Rattle.std.proofs.lemmas.List.{take_rest}
@@ -72,21 +72,7 @@ left-from : (row : List Sibling) (k : ℕ) (d : Sibling) → k < length row →
     drop k row ≡ get_or row k d ∷ take (length row - (k + 1)) (drop (k + 1) row)
 left-from row k d there = rw (take_rest row (k + 1), drop-cons row k d there, add-one) refl
 
--- the place of the first sibling left
-pub one-laid : {parent from : ℕ} {row : List Sibling} {made pushed : List Place} (k : ℕ) (d : Sibling) (q : Place) →
-    IsLaid parent from row (drop k row) made → k < length row →
-    (q ≡ place_of parent from (get_or row k d) (take (length row - (k + 1)) (drop (k + 1) row)))
-    × (misfit_of parent from (get_or row k d) q ≡ None) → pushed ≡ made ++ q ∷ [] →
-    IsLaid parent (end_of q) row (drop (k + 1) row) pushed
-one-laid {parent = parent} {from = from} {row = row} k d q laid there (is, fine) push =
-    let so_far = rw (left-from row k d there) at laid in
-    rw (← take_rest row (k + 1)) (record {
-      fine = so_far.fine ∙ rw (is, rw is at fine) refl;
-      places = so_far.places ∙ rw (push, is) (simp append_assoc);
-      inside = (fits parent from (get_or row k d) q fine).1;
-    })
-
--- its refusal
+-- the refusal of the first sibling left
 pub one-refused : {parent from : ℕ} {row : List Sibling} {made : List Place} {fault : FmdFault} (k : ℕ) (d : Sibling) →
     IsLaid parent from row (drop k row) made → k < length row →
     misfit_of parent from (get_or row k d) (place_of parent from (get_or row k d) (take (length row - (k + 1)) (drop (k + 1) row))) ≡ Some fault →

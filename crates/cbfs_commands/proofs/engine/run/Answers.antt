@@ -11,9 +11,3 @@ returns-in-Layout-clause-unread g c = search rules
 
 pub returns-in-Layout-clause-output : goal.returns-in-Layout-clause-output
 returns-in-Layout-clause-output g c = search rules
-
-pub returns-in-Layout-clause-outcome : goal.returns-in-Layout-clause-outcome
-returns-in-Layout-clause-outcome g c = search rules
-
-pub returns-in-Layout-clause-source_calls : goal.returns-in-Layout-clause-source_calls
-returns-in-Layout-clause-source_calls g c = search rules

@@ -1,7 +1,7 @@
-use Rattle.std.proofs.Common.{◌≡◌, ap, length, arith, rules, inl, inr}
+use Rattle.std.proofs.Common.{ap, length, arith, rules, inl, inr}
 use Rattle.std.proofs.lemmas.Result.{err_from_is_err_and}
 use Rattle.fmd_lang.specs.declared.section.Section.{out-Section}
-use Rattle.fmd_lang.proofs.LayoutLemmas.{all-pushed, area-is, none-pushed, part-at, part-pushed, part-refused, place-inside}
+use Rattle.fmd_lang.proofs.LayoutLemmas.{all-pushed, area-is, part-at, part-pushed, part-refused, place-inside}
 use Rattle.fmd_lang.proofs.layout.+push_areas.Goals as goal
 
 pub returns-in_err-push_areas-clause-refused : goal.returns-in_err-push_areas-clause-refused
@@ -27,12 +27,6 @@ loop-index-preserved t c =
     c.index-place.ensures in
     let below = c.in_ok-push_areas.ensures in
     part-pushed c.push.new.self.items here (rw (area-is c.args.at q s) (search rules)) below.ok below.count below.refused
-
-pub loop-index-init : goal.loop-index-init
-loop-index-init t c =
-    let counted : c.len.result ≡ length c.args.areas.now.items = search rules in
-    none-pushed c.args.areas.now.items c.len.result c.args.at c.args.size c.args.section.now c.in_ok-places.places.items
-    counted c.in_ok-places.ensures.ok c.in_ok-places.ensures.refused
 
 pub index-place-requires : goal.index-place-requires
 index-place-requires t c = omega (arith, c.in_ok-places.ensures.len, ap length c.deref-part-items.ensures.value)

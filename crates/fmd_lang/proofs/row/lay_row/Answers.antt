@@ -1,8 +1,8 @@
-use Rattle.std.proofs.Common.{◌∙◌, ◌++◌, sym, ap, refl, inr}
+use Rattle.std.proofs.Common.{◌∙◌, ◌++◌, sym, ap, inr}
 use Rattle.std.proofs.lemmas.List.{append-nil, drop_all}
 use Rattle.std.proofs.lemmas.Result.{err_from_is_err_and}
 use Rattle.fmd_lang.specs.Layout.{places_of}
-use Rattle.fmd_lang.proofs.RowLemmas.{one-laid, one-refused}
+use Rattle.fmd_lang.proofs.RowLemmas.{one-refused}
 use Rattle.fmd_lang.proofs.row.lay_row.Goals as goal
 
 pub returns-clause-filled : goal.returns-clause-filled
@@ -10,16 +10,6 @@ returns-clause-filled c =
     let none_left = drop_all c.loop-index.index c.args.row.now c.loop-index-test.false in
     sym (c.loop-index.invariant.places ∙ ap (λ ps. c.loop-index.places.items ++ places_of c.args.parent c.loop-index.from ps) none_left
     ∙ append-nil c.loop-index.places.items)
-
-pub returns-clause-refused : goal.returns-clause-refused
-returns-clause-refused c =
-    let none_left = drop_all c.loop-index.index c.args.row.now c.loop-index-test.false in
-    rw (sym c.first_ambiguous.ensures ∙ c.in_default.is, c.loop-index.invariant.fine) (rw none_left refl)
-
-pub loop-index-preserved : goal.loop-index-preserved
-loop-index-preserved c =
-    one-laid c.loop-index.index _ c.in_ok-place.place c.loop-index.invariant c.loop-index-test.true c.in_ok-place.ensures.ok
-    c.in_ok-push.ensures.items
 
 pub returns-in_err-place-clause-refused : goal.returns-in_err-place-clause-refused
 returns-in_err-place-clause-refused c =
