@@ -4,6 +4,9 @@ use Rattle.cbfs_commands.specs.Creations.{created_image}
 use Rattle.cbfs_commands.proofs.Meeting.{whole-image}
 use Rattle.cbfs_commands.proofs.create.create.Goals as goal
 
+pub returns-in_err-plan : goal.returns-in_err-plan
+returns-in_err-plan g c = search rules
+
 pub returns-in_err-fill : goal.returns-in_err-fill
 returns-in_err-fill g c = record { calls = search rules; source_calls = search rules; no_output = search rules; spares = λ h. whole-image _ _ (search rules); refused = search rules; left = search rules; stopped = search rules }
 

@@ -1,3 +1,4 @@
+use Rattle.std.proofs.Common.{rules}
 use Rattle.flash_store.proofs.DeviceLemmas.{honest_still}
 use Rattle.cbfs_edit.proofs.Removals.{image_of, removal_leaves}
 use Rattle.cbfs_edit.proofs.removal.remove.Goals as goal
@@ -8,6 +9,9 @@ returns-in_err-write_empty_entry-clause-stopped g c honest = λ is.
     c.requires c.places_fit.ensures (c.find_group.ensures.after.device.unchanged honest)
     (c.in_ok-group.ensures.answer honest)
     (c.write_empty_entry.ensures.left (honest_still c.find_group.ensures.after.device.calls.same_honesty honest))
+
+pub returns-clause-after : goal.returns-clause-after
+returns-clause-after g c = search rules
 
 pub returns-clause-image : goal.returns-clause-image
 returns-clause-image g c honest =
