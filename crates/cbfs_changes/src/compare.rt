@@ -59,6 +59,8 @@ pub fn are_same<F: Flash, G: Flash>(
     ensures after { HasCompared F.facts G.facts (new_region.size / 48) result old.old old.new new.old new.new }
     ensures same { OnHonestIn F.facts old.old.device old_region (λ x. OnHonestIn G.facts new.old.device new_region (λ y.
         IfOk result (λ same. same ≡ true → x ≡ y))) }
+    ensures found { OnHonestIn F.facts old.old.device old_region (λ x. OnHonestIn G.facts new.old.device new_region (λ y.
+        IfOk result (λ same. 64 ≤ new_region.size → x ≡ y → same ≡ true))) }
 {
     if new_region.size() < 64 {
         return Ok(false);
