@@ -76,18 +76,10 @@ region_whole image r a is lies =
     let all : r.size - 0 ≡ length x = omega (arith, length-bytes_in r image lies) in
     ap (λ (s : Stretch). slice_range x s.from s.end) is ∙ ap (λ n. take n x) all ∙ take-length x
 
--- stretches over two whole regions have the same bytes where these have
-pub whole_same : {E : Type 0} (result : Result Bool E) (old new : List ℕ) (r s : Range) (a b : Stretch) → a ≡ record { from = 0; end = r.size } → b ≡ record { from = 0; end = s.size } → LiesIn r old → LiesIn s new
+-- what is told of stretches over two whole regions is told of the regions' bytes
+pub whole_told : {E : Type 0} (P : Bool → Type 0) (result : Result Bool E) (old new : List ℕ) (r s : Range) (a b : Stretch) → a ≡ record { from = 0; end = r.size } → b ≡ record { from = 0; end = s.size } → LiesIn r old → LiesIn s new
     → IfOk result (λ same. same ≡ bytes_eq (slice_range (bytes_in r old) a.from a.end) (slice_range (bytes_in s new) b.from b.end))
-    → IfOk result (λ same. same ≡ true → bytes_in r old ≡ bytes_in s new)
-whole_same (Err fault) old new r s a b is_a is_b in_old in_new told = tt
-whole_same (Ok same) old new r s a b is_a is_b in_old in_new told = λ yes.
-    sym (region_whole old r a is_a in_old) ∙ (bytes_eq-Decides _ _).0 (sym told ∙ yes) ∙ region_whole new s b is_b in_new
-
--- and are told to have them
-pub whole_found : {E : Type 0} (result : Result Bool E) (old new : List ℕ) (r s : Range) (a b : Stretch) → a ≡ record { from = 0; end = r.size } → b ≡ record { from = 0; end = s.size } → LiesIn r old → LiesIn s new
-    → IfOk result (λ same. same ≡ bytes_eq (slice_range (bytes_in r old) a.from a.end) (slice_range (bytes_in s new) b.from b.end))
-    → IfOk result (λ same. 64 ≤ s.size → bytes_in r old ≡ bytes_in s new → same ≡ true)
-whole_found (Err fault) old new r s a b is_a is_b in_old in_new told = tt
-whole_found (Ok same) old new r s a b is_a is_b in_old in_new told = λ _ is_same.
-    told ∙ (bytes_eq-Decides _ _).1 (region_whole old r a is_a in_old ∙ is_same ∙ sym (region_whole new s b is_b in_new))
+    → ((same : Bool) → same ≡ bytes_eq (bytes_in r old) (bytes_in s new) → P same) → IfOk result P
+whole_told P (Err fault) old new r s a b is_a is_b in_old in_new told so = tt
+whole_told P (Ok same) old new r s a b is_a is_b in_old in_new told so =
+    so same (told ∙ ap (λ bytes. bytes_eq bytes (slice_range (bytes_in s new) b.from b.end)) (region_whole old r a is_a in_old) ∙ ap (bytes_eq (bytes_in r old)) (region_whole new s b is_b in_new))
