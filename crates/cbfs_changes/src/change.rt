@@ -2,7 +2,7 @@
 use cbfs_check::Name;
 
 /// What differs first between two components of one name.
-#[derive(Clone, Copy, Debug, PartialEq, Eq)]
+#[derive(Clone, Copy)]
 pub enum Difference {
     /// Their types.
     Type,
@@ -15,7 +15,7 @@ pub enum Difference {
 }
 
 /// What becomes of one component. Places count from the start of its region, in bytes.
-#[derive(Debug, Drop)]
+#[derive(Drop)]
 pub enum ComponentChange {
     /// Only the new region has it.
     Added {

@@ -15,7 +15,7 @@ use flash_store::{Flash, Paged, Region};
 use std::alloc::Global;
 
 /// A component as a walk gave it.
-#[derive(Debug, Drop)]
+#[derive(Drop)]
 pub struct Listed {
     pub name: Name,
     pub cell: Cell,

@@ -5,7 +5,7 @@ ghost use Rattle.flash_format.specs.Head.{is_free};
 use cbfs_walk::Cell;
 
 /// How many components a region has, and how much free space, in bytes.
-#[derive(Clone, Copy, Debug, PartialEq, Eq)]
+#[derive(Clone, Copy)]
 pub struct RegionCounts {
     pub components: u64,
     /// All free cells together.

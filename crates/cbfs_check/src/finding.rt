@@ -8,7 +8,7 @@ use std::alloc::{AllocError, Global};
 use std::marker::Model;
 
 /// The bytes of a component's name, without its NUL.
-#[derive(Debug, Drop)]
+#[derive(Drop)]
 pub struct Name {
     bytes: Vec<u8>,
 }
@@ -39,7 +39,7 @@ impl Name {
 }
 
 /// What is told of a component.
-#[derive(Clone, Copy, Debug, PartialEq, Eq)]
+#[derive(Clone, Copy)]
 pub enum ComponentFinding {
     /// A component in front of it has its name, so that no search finds it.
     Shadowed,
@@ -50,7 +50,7 @@ pub enum ComponentFinding {
 }
 
 /// One thing that is told of a region. Places count from the region's start, in bytes.
-#[derive(Debug, Drop)]
+#[derive(Drop)]
 pub enum RegionFinding {
     /// The region's size is 0 or no multiple of 64. Nothing else is told of it.
     BadSize,

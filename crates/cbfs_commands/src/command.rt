@@ -5,7 +5,7 @@ use arrayvec::ArrayVec;
 use cbfs_edit::{HashChoice, Spot};
 
 /// A command and its words. A region and a component are named by bytes.
-#[derive(Debug, PartialEq, Eq, Drop)]
+#[derive(Drop)]
 pub enum Command<'a> {
     /// Writes a row for each cell of the region; where verbose, with a line for each attribute and for the digest.
     Print {

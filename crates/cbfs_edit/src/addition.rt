@@ -21,7 +21,7 @@ use flash_store::{CopyFault, Flash, Nobody, Paged, Region, Source};
 use sha2::{Sha256, Sha512};
 
 /// The digest that is stored beside a content.
-#[derive(Clone, Copy, Debug, PartialEq, Eq)]
+#[derive(Clone, Copy)]
 pub enum HashChoice {
     /// None is stored.
     Plain,

@@ -20,7 +20,7 @@ use flash_store::{Flash, FlashFault, Paged, Region};
 /// Where the content of a new component may begin. Places count in bytes from the region's start, wherever the region
 /// stands in its image. The first free space that has room for the component at such a place is taken, and in it the
 /// least such place.
-#[derive(Clone, Copy, Debug, PartialEq, Eq)]
+#[derive(Clone, Copy)]
 pub enum Spot {
     /// Anywhere. Content keeps clear of the region's last four bytes.
     First,

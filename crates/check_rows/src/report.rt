@@ -14,7 +14,7 @@ use json::Writer;
 use std::alloc::{AllocError, Global};
 
 /// How a report is written.
-#[derive(Clone, Copy, Debug, PartialEq, Eq)]
+#[derive(Clone, Copy)]
 pub enum Form {
     /// Tab-separated fields, a line for each row.
     Text,

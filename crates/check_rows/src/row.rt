@@ -5,7 +5,7 @@ ghost use Rattle.std.specs.List.{list_any};
 ghost use Rattle.check_rows.specs.Rows.{counts_of, detail_number, is_verdict, verdict_word};
 
 /// Whether a row is bad, a remark or a change.
-#[derive(Clone, Copy, Debug, PartialEq, Eq)]
+#[derive(Clone, Copy)]
 pub enum Verdict {
     Bad,
     Remark,
@@ -39,7 +39,7 @@ impl Verdict {
 }
 
 /// How many rows have a verdict.
-#[derive(Clone, Copy, Debug, PartialEq, Eq)]
+#[derive(Clone, Copy)]
 pub struct Counts {
     pub bad: u64,
     pub remarks: u64,
@@ -66,7 +66,7 @@ impl Counts {
 }
 
 /// What a row says beside its text.
-#[derive(Clone, Copy, Debug, PartialEq, Eq)]
+#[derive(Clone, Copy)]
 pub enum Detail {
     None,
     /// A count, which is printed in decimal.
@@ -87,7 +87,7 @@ impl Detail {
 }
 
 /// One row of a report.
-#[derive(Clone, Copy, Debug, PartialEq, Eq)]
+#[derive(Clone, Copy)]
 pub struct Row<'a> {
     pub verdict: Verdict,
     /// The area that it speaks of, by its name.

@@ -5,7 +5,7 @@ ghost use Rattle.hex.specs.Hex.{encode_lower};
 ghost use Rattle.flash_format.specs.Made.{algorithm_row, algorithm_numbered, digest_with, algorithm, digest_bytes, digest_len};
 
 /// An algorithm of digests. What is known of it stands in `row` alone.
-#[derive(Clone, Copy, Debug, PartialEq, Eq)]
+#[derive(Clone, Copy)]
 pub enum Algorithm {
     /// SHA-256 (FIPS 180-4).
     Sha256,

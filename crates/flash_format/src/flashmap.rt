@@ -8,7 +8,7 @@ ghost use Rattle.flash_format.specs.Flashmap.{fmap_head_of, fmap_head_bytes, has
 use byteorder::{ByteOrder, LittleEndian};
 
 /// The head of a flashmap, without its signature.
-#[derive(Clone, Copy, Debug, PartialEq, Eq)]
+#[derive(Clone, Copy)]
 pub struct FmapHead {
     /// The version before the point: 1 in every valid map.
     pub major: u8,
@@ -99,7 +99,7 @@ impl FmapHead {
 }
 
 /// An area of a flashmap.
-#[derive(Clone, Copy, Debug, PartialEq, Eq)]
+#[derive(Clone, Copy)]
 pub struct Area {
     /// Where the area begins, counted from the image's first byte.
     pub offset: u32,

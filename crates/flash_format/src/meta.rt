@@ -17,7 +17,7 @@ use byteorder::{BigEndian, ByteOrder};
 pub const LONGEST_METADATA: usize = Head::LENGTH + 128 + 76 + 63;
 
 /// A component, but for its content.
-#[derive(Clone, Copy, Debug, PartialEq, Eq)]
+#[derive(Clone, Copy)]
 pub struct Meta<'a> {
     /// The name, without its NUL.
     pub name: &'a [u8],

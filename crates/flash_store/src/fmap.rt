@@ -25,7 +25,7 @@ const SIGNATURE_LENGTH: u64 = FmapHead::SIGNATURE.len() as u64;
 const SIGNATURE_STEP: u64 = 6;
 
 /// A valid flashmap of an image.
-#[derive(Clone, Copy, Debug, PartialEq, Eq, Drop)]
+#[derive(Clone, Copy, Drop)]
 pub struct FoundMap {
     /// Where it stands, counted from the image's first byte.
     pub at: u64,

@@ -147,7 +147,7 @@ fn area_changes<'a, F: Flash, G: Flash>(
 }
 
 /// What changes from an old image to a new one.
-#[derive(Debug, Drop)]
+#[derive(Drop)]
 pub struct ImageChanges {
     /// In how many blocks, of 4096 bytes from their starts on, they differ. The blocks of the longer one behind the end of the
     /// shorter one are among them.

@@ -6,7 +6,7 @@ use flashmap_check::NumberedArea;
 use std::alloc::AllocError;
 
 /// One thing that changes between the areas of an old image and those of a new one.
-#[derive(Clone, Copy, Debug, PartialEq, Eq, Drop)]
+#[derive(Clone, Copy, Drop)]
 pub enum AreaChange {
     /// Only the new map has an area of the name.
     Added(NumberedArea),

@@ -10,7 +10,7 @@ use flashmap_check::{AreaNames, NumberedArea};
 use std::alloc::{AllocError, Global};
 
 /// An area of the new map, and the area of the old one that its name reaches.
-#[derive(Clone, Copy, Debug, PartialEq, Eq, Drop)]
+#[derive(Clone, Copy, Drop)]
 pub struct Pair {
     pub old: Option<NumberedArea>,
     pub new: NumberedArea,

@@ -27,7 +27,7 @@ pub fn check_map<F: Flash>(
 }
 
 /// What is told of an image's flashmap, and the areas of which it is told.
-#[derive(Debug, Drop)]
+#[derive(Drop)]
 pub struct CheckedMap {
     pub findings: Vec<MapFinding>,
     /// All areas of the map, in its order; none where the image has no map.

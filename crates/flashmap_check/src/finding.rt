@@ -7,14 +7,14 @@ use flash_store::{FlashFault, FoundMap};
 use std::alloc::AllocError;
 
 /// An area with its number in the map, counted from 0.
-#[derive(Clone, Copy, Debug, PartialEq, Eq, Drop)]
+#[derive(Clone, Copy, Drop)]
 pub struct NumberedArea {
     pub number: u16,
     pub area: Area,
 }
 
 /// One thing that is told of an image's flashmap.
-#[derive(Clone, Copy, Debug, PartialEq, Eq, Drop)]
+#[derive(Clone, Copy, Drop)]
 pub enum MapFinding {
     /// The image has no valid flashmap. Nothing else is then told.
     NoMap,

@@ -27,7 +27,7 @@ const DEPTH_LIMIT: u32 = 32;
 const NAME_LIMIT: usize = 31;
 
 /// The next word, which isn't refused by itself, and its value where it is a number.
-#[derive(Clone, Copy, Debug)]
+#[derive(Clone, Copy)]
 struct Token<'t> {
     word: Word<'t>,
     kind: Kind,

@@ -1,7 +1,7 @@
 //! The tree of a descriptor.
 
 /// A section of a descriptor, with its parts.
-#[derive(Debug, Drop)]
+#[derive(Drop)]
 pub struct Section {
     /// At most 31 bytes from a text; FMAP is the one that the table goes to.
     pub name: Vec<u8>,

@@ -15,7 +15,7 @@ pub const AREA_LIMIT: usize = 65_535;
 const _: () = prove!(AREA_LIMIT == u16::MAX as usize);
 
 /// The table that a descriptor compiles to: the head's fields, and the areas.
-#[derive(Debug, Drop)]
+#[derive(Drop)]
 pub struct Table {
     /// The flash's base address: the root's offset, or 0.
     pub base: u64,

@@ -7,7 +7,7 @@ ghost use Rattle.fmd_lang.specs.Words as spec;
 ghost use Rattle.fmd_lang.specs.Lexing.{begins_word, IsFirst, end_of};
 
 /// What a word is, by its first byte.
-#[derive(Clone, Copy, Debug)]
+#[derive(Clone, Copy)]
 pub enum Kind {
     /// Plain bytes, of which the first is no digit.
     Name,
@@ -25,7 +25,7 @@ pub enum Kind {
 }
 
 /// A word, with the place of its first byte in the text.
-#[derive(Clone, Copy, Debug)]
+#[derive(Clone, Copy)]
 pub struct Word<'t> {
     pub place: usize,
     pub bytes: &'t [u8],

@@ -6,7 +6,7 @@ use flashmap_check::{MapFinding, NumberedArea};
 use std::marker::Model;
 
 /// What is told of one region.
-#[derive(Debug, Drop)]
+#[derive(Drop)]
 pub struct RegionFindings {
     findings: Vec<RegionFinding>,
 }
@@ -37,7 +37,7 @@ impl RegionFindings {
 }
 
 /// One thing that is told of an image.
-#[derive(Debug, Drop)]
+#[derive(Drop)]
 pub enum ImageFinding {
     /// Something of the image's flashmap.
     Map(MapFinding),

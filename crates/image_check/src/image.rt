@@ -247,7 +247,7 @@ fn map_part(alloc: Global, told: &[MapFinding]) -> Result<Vec<ImageFinding>, All
 }
 
 /// The areas of an image's map, and what is told of the image.
-#[derive(Debug, Drop)]
+#[derive(Drop)]
 pub struct CheckedImage {
     /// All areas of the map, in its order; none where the image has no map.
     pub areas: Vec<NumberedArea>,

@@ -7,7 +7,7 @@ use std::alloc::AllocError;
 use std::marker::Model;
 
 /// What changes between the components of two regions.
-#[derive(Debug, Drop)]
+#[derive(Drop)]
 pub struct ComponentChanges {
     changes: Vec<ComponentChange>,
 }
@@ -38,7 +38,7 @@ impl ComponentChanges {
 }
 
 /// What becomes of the components of one area of the new image.
-#[derive(Debug, Drop)]
+#[derive(Drop)]
 pub enum RegionChange {
     /// What changes from the first area of the old image with its name.
     Compared {

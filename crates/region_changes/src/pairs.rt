@@ -11,7 +11,7 @@ use image_check::ImageFinding;
 use std::alloc::{AllocError, Global};
 
 /// An area of the new image, and the first one of the old image with its name.
-#[derive(Clone, Copy, Debug, PartialEq, Eq, Drop)]
+#[derive(Clone, Copy, Drop)]
 pub struct Pair {
     pub old: NumberedArea,
     pub new: NumberedArea,
