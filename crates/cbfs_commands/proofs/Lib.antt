@@ -4,6 +4,7 @@ mod Listing
 mod Printing
 mod Planning
 mod Meeting
+mod Editing
 mod Blameless
 mod RegionPlaces
 mod ByRegion
