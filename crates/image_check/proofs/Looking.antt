@@ -1,6 +1,6 @@
 -- Areas, as they are looked at from the last one on.
 use Rattle.std.proofs.Common.{◌≡◌, ◌∙◌, ℕ, suc, ◌+◌, ◌-◌, ◌*◌, ◌<◌, ◌≤◌, Bool, true, false, cond, List, [], ◌∷◌, ◌++◌, length, get_or, drop, reverse, nat_lt, refl, sym, ap, subst, arith, append_assoc, append-nil}
-use Rattle.std.specs.Prelude.{map, Result, Ok, Err, IsErrAnd}
+use Rattle.std.specs.Prelude.{map, Result, Ok, Err, IfOk}
 use Rattle.std.specs.List.{list_any}
 use Rattle.std.specs.List.Sorted.{IsNonDecreasingBy}
 use Rattle.std.proofs.lemmas.Grind.{flat_map-append}
@@ -8,7 +8,7 @@ use Rattle.flash_format.specs.Flashmap.{is_area}
 use Rattle.std.proofs.Math.Seq.{drop-cons, drop-length}
 use Rattle.std.proofs.lemmas.Bool.{ltb-false, le-ltb}
 use Rattle.std.proofs.lemmas.List.{get_or_default, map-append, reverse-append}
-use Rattle.flash_store.specs.Device.{Device, faults_told}
+use Rattle.flash_store.specs.Device.{Device}
 use Rattle.flash_store.specs.Pages.{Pages, HasRead, OnHonest}
 use Rattle.flash_store.proofs.DeviceLemmas.{honest_still}
 use Rattle.flash_store.proofs.WindowLemmas.{HasRead-none, HasRead-then, HasRead-within}
@@ -18,7 +18,6 @@ use Rattle.flashmap_check.specs.MapFindings.{area_end, image_areas, map_findings
 use Rattle.cbfs_check.specs.declared.finding.RegionFinding.{RegionFinding}
 use Rattle.image_check.specs.declared.fault.ImageCheckFault.{ImageCheckFault}
 use Rattle.image_check.specs.declared.finding.ImageFinding.{ImageFinding}
-use Rattle.image_check.specs.Faults.{by_device}
 use Rattle.image_check.specs.declared.finding.ImageFinding.TheVariants.{Map, NoRegion, Region, Skipped, Unchecked}
 use Rattle.image_check.specs.declared.looked.LookedAreas.{LookedAreas}
 use Rattle.image_check.specs.ImageFindings.{Looked, image_findings, look_if_wanted, looked, max_tried, name_findings, names_findings, pass_over}
@@ -32,11 +31,12 @@ pub LieInOrder-from : (low at end : ℕ) (areas : List NumberedArea) → low ≤
 LieInOrder-from low at end [] le lie = let fits : low ≤ end = omega arith in fits
 LieInOrder-from low at end (a ∷ areas) le lie = let fits : low ≤ a.area.offset = omega (arith, lie.0) in (fits, lie.1)
 
--- with a region before them
-pub LieInOrder-region : (low n : ℕ) (a : NumberedArea) (f : ImageFinding) (findings next : List ImageFinding) → area_end a.area ≤ low → region_area f ≡ a ∷ [] → next ≡ findings ++ f ∷ [] → LieInOrder low n (region_areas (reverse findings)) → LieInOrder a.area.offset n (region_areas (reverse next))
-LieInOrder-region low n a f findings next fits is pushed lie =
+-- with a region before them, if it was looked at
+pub LieInOrder-region : (low n : ℕ) (a : NumberedArea) (answer : Result ImageFinding ImageCheckFault) (findings : List ImageFinding) → area_end a.area ≤ low → IfOk answer (λ f. region_area f ≡ a ∷ []) → LieInOrder low n (region_areas (reverse findings)) → IfOk answer (λ f. LieInOrder a.area.offset n (region_areas (reverse (findings ++ f ∷ []))))
+LieInOrder-region low n a (Err fault) findings fits is lie = tt
+LieInOrder-region low n a (Ok f) findings fits is lie =
     let same : a.area.offset ≤ a.area.offset = omega arith in
-    rw (pushed, reverse-append findings (f ∷ []), is) (same, LieInOrder-from (area_end a.area) low n (region_areas (reverse findings)) fits lie)
+    rw (reverse-append findings (f ∷ []), is) (same, LieInOrder-from (area_end a.area) low n (region_areas (reverse findings)) fits lie)
 
 -- without those that begin before an end
 passed : (low end n : ℕ) (a : NumberedArea) (own : List RegionFinding) (rest : List ImageFinding) → LieInOrder low n (a ∷ region_areas rest) → (LieInOrder (area_end a.area) n (region_areas rest) → LieInOrder end n (region_areas (map (pass_over end) rest))) → (end ≤ area_end a.area → LieInOrder (area_end a.area) n (region_areas rest) → LieInOrder (area_end a.area) n (region_areas (map (pass_over end) rest)))
@@ -73,18 +73,13 @@ reverse-map f [] = refl
 reverse-map f (x ∷ l) = reverse-append (f x ∷ []) (map f l) ∙ ap (λ r. r ++ f x ∷ []) (reverse-map f l) ∙ sym (ap (map f) (reverse-append (x ∷ []) l) ∙ map-append f (reverse l) (x ∷ []))
 
 -- with an area in place of those that begin before its end
-pub LieInOrder-in_place : (low n : ℕ) (a : NumberedArea) (f : ImageFinding) (findings kept next : List ImageFinding) → area_end a.area ≤ n → region_area f ≡ a ∷ [] → kept ≡ map (pass_over (area_end a.area)) findings → next ≡ kept ++ f ∷ []
-    → LieInOrder low n (region_areas (reverse findings)) → LieInOrder a.area.offset n (region_areas (reverse next))
-LieInOrder-in_place low n a f findings kept next fits is passed_over pushed lie =
+pub LieInOrder-in_place : (low n : ℕ) (a : NumberedArea) (f : ImageFinding) (findings kept : List ImageFinding) → area_end a.area ≤ n → region_area f ≡ a ∷ [] → kept ≡ map (pass_over (area_end a.area)) findings
+    → LieInOrder low n (region_areas (reverse findings)) → LieInOrder a.area.offset n (region_areas (reverse (kept ++ f ∷ [])))
+LieInOrder-in_place low n a f findings kept fits is passed_over lie =
     let end = area_end a.area in
     let same : end ≤ end = omega arith in
     let lies : LieInOrder end n (region_areas (reverse kept)) = rw (passed_over, reverse-map (pass_over end) findings) (LieInOrder-passed low end n (reverse findings) fits lie) in
-    LieInOrder-region end n a f kept next same is pushed lies
-
--- an answer that hands a fault on tells of it
-pub handed : {T : Type 0} (answer : Result T ImageCheckFault) (fault : ImageCheckFault) → IsErrAnd answer (λ f. f ≡ fault) → faults_told by_device answer ≡ by_device fault
-handed (Ok done) fault is = absurd is
-handed (Err other) fault is = ap by_device is
+    LieInOrder-region end n a (Ok f) kept same is lies
 
 -- ---- the loop
 
@@ -97,18 +92,6 @@ pub record Looking {F : Type 0} (facts : F → Device) (verbose : Bool) (names :
   pub below : (k : ℕ) (d : NumberedArea) → k < left → (get_or areas k d).area.offset ≤ length (facts old.device).content → (get_or areas k d).area.offset ≤ later.lowest
   pub order : AreInOrder (length (facts old.device).content) later
   pub count : length later.findings.items + left ≤ length areas
-
--- or one that was asked before for its first entry
-pub HasLooked-asked : {F : Type 0} (facts : F → Device) (refused : ℕ) (later next : LookedAreas) (old mid new : Pages F) → HasRead facts 1 0 old mid → HasLooked facts 2 refused later next mid new → HasLooked facts 3 refused later next old new
-HasLooked-asked facts refused later next old mid new asked one =
-    let same = asked.device.calls.same_length in
-    let grown = subst (λ n. calls_of n later ≤ calls_of n next) same one.grown in
-    let read = subst (λ n. HasRead facts (calls_of n next + 2 - calls_of n later) refused mid new) same one.read in
-    record {
-      read = HasRead-within facts _ _ refused old new (omega (arith, grown)) (HasRead-then facts 1 _ refused old mid new asked read);
-      grown = grown;
-      few = one.few;
-    }
 
 pub looking_start : {F : Type 0} (facts : F → Device) (verbose : Bool) (names : List (List ℕ)) (areas : List NumberedArea) (later : LookedAreas) (old : Pages F) (lowest : ℕ) → told_by later ≡ record { findings = []; lowest = lowest; tried = 0 } → lowest ≡ length (facts old.device).content → Looking facts verbose names areas (length areas) later old old
 unfolding looked

@@ -11,7 +11,7 @@ ghost use Rattle.image_check.specs.Faults.{by_device};
 ghost use Rattle.cbfs_check.specs.RegionFindings.{begins_with_entry};
 ghost use Rattle.image_check.specs.ImageFindings as told;
 ghost use Rattle.image_check.specs.ImageFindings.{has_one_of, range_of, max_tried, image_findings};
-ghost use Rattle.image_check.specs.LookedAreas.{AreInOrder, HasLooked, told_by};
+ghost use Rattle.image_check.specs.LookedAreas.{AreInOrder, AreInOrderWith, HasLooked, told_by, told_with};
 ghost use Rattle.image_check.specs.RegionAreas.{region_area, region_areas, LieInOrder};
 
 use crate::fault::ImageCheckFault;
@@ -76,7 +76,7 @@ fn passed_finding(names: &[&[u8]], area: NumberedArea) -> ImageFinding
     }
 }
 
-/// Tries an area in place of those that it meets, which all begin at or behind its start.
+/// What is told of an area that is tried in place of those that it meets, which all begin at or behind its start.
 fn try_area<F: Flash>(
     alloc: Global,
     keys: RandomState,
@@ -86,7 +86,7 @@ fn try_area<F: Flash>(
     region: Region,
     is_verbose: bool,
     later: &mut LookedAreas,
-) -> Result<(), ImageCheckFault>
+) -> Result<ImageFinding, ImageCheckFault>
     requires lies { LiesIn region (F.facts paged.old.device).content }
     requires range { region ≡ range_of area }
     requires below { region.start ≤ later.old.lowest }
@@ -95,28 +95,25 @@ fn try_area<F: Flash>(
     ensures lowest { later.new.lowest ≤ later.old.lowest }
     ensures start { OnOk result (region.start ≤ later.new.lowest) }
     ensures tried { later.new.tried ≡ later.old.tried }
-    ensures told { OnHonest F.facts paged.old.device (λ image. OnOk result (told_by later.new
+    ensures told { OnHonest F.facts paged.old.device (λ image. IfOk result (λ finding. told_with later.new finding
         ≡ told.try_area is_verbose image (map (λ n. n.now) names.now) area (told_by later.old))) }
-    ensures order { AreInOrder (length (F.facts paged.old.device).content) later.old → OnOk result
-        (AreInOrder (length (F.facts paged.old.device).content) later.new) }
-    ensures count { OnOk result (length later.new.findings.items ≡ length later.old.findings.items + 1) }
+    ensures order { AreInOrder (length (F.facts paged.old.device).content) later.old → IfOk result (λ finding.
+        AreInOrderWith finding (length (F.facts paged.old.device).content) later.new) }
+    ensures count { length later.new.findings.items ≡ length later.old.findings.items }
 {
     if !later.may_give_way(names, area) {
-        later.tell(passed_finding(names, area))?;
-        return Ok(());
+        return Ok(passed_finding(names, area));
     }
     let finding = region_finding(alloc, keys, paged, area, region, is_verbose)?;
     if !(has_one_of(names, area) || is_whole(&finding)) {
-        later.tell(passed_finding(names, area))?;
-        return Ok(());
+        return Ok(passed_finding(names, area));
     }
     later.pass_over(region.start() + region.size());
     later.lowest = region.start();
-    later.tell(finding)?;
-    Ok(())
+    Ok(finding)
 }
 
-/// Looks at a wanted area, which is this region, before those of which is told.
+/// What is told of a wanted area, which is this region, before those of which is told.
 fn look<F: Flash>(
     alloc: Global,
     keys: RandomState,
@@ -126,29 +123,26 @@ fn look<F: Flash>(
     region: Region,
     is_verbose: bool,
     later: &mut LookedAreas,
-) -> Result<(), ImageCheckFault>
+) -> Result<ImageFinding, ImageCheckFault>
     requires lies { LiesIn region (F.facts paged.old.device).content }
     requires range { region ≡ range_of area }
     requires below { region.start ≤ later.old.lowest }
     requires few { later.old.tried ≤ max_tried }
 
     ensures after { HasLooked F.facts 2 (faults_told by_device result) later.old later.new paged.old paged.new }
-    ensures told { OnHonest F.facts paged.old.device (λ image. OnOk result (told_by later.new
+    ensures told { OnHonest F.facts paged.old.device (λ image. IfOk result (λ finding. told_with later.new finding
         ≡ told.look is_verbose image (map (λ n. n.now) names.now) area (told_by later.old))) }
     ensures lowest { OnOk result (region.start ≤ later.new.lowest) }
-    ensures order { AreInOrder (length (F.facts paged.old.device).content) later.old → OnOk result
-        (AreInOrder (length (F.facts paged.old.device).content) later.new) }
-    ensures count { OnOk result (length later.new.findings.items ≡ length later.old.findings.items + 1) }
+    ensures order { AreInOrder (length (F.facts paged.old.device).content) later.old → IfOk result (λ finding.
+        AreInOrderWith finding (length (F.facts paged.old.device).content) later.new) }
+    ensures count { length later.new.findings.items ≡ length later.old.findings.items }
 {
     if region.start() + region.size() <= later.lowest {
         later.lowest = region.start();
-        let finding = region_finding(alloc, keys, paged, area, region, is_verbose)?;
-        later.tell(finding)?;
-        return Ok(());
+        return region_finding(alloc, keys, paged, area, region, is_verbose);
     }
     if later.tried >= MAX_TRIED {
-        later.tell(passed_finding(names, area))?;
-        return Ok(());
+        return Ok(passed_finding(names, area));
     }
     later.tried += 1;
     try_area(alloc, keys, paged, names, area, region, is_verbose, later)
@@ -183,7 +177,8 @@ fn look_if_wanted<F: Flash>(
         return Ok(());
     };
     if is_wanted(paged, names, area, region)? {
-        look(alloc, keys, paged, names, area, region, is_verbose, later)?;
+        let finding = look(alloc, keys, paged, names, area, region, is_verbose, later)?;
+        later.tell(finding)?;
     }
     Ok(())
 }

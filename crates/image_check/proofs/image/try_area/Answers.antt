@@ -1,4 +1,4 @@
-use Rattle.std.proofs.Common.{◌≡◌, ◌∙◌, ◌+◌, ◌≤◌, length, reverse, ap, subst, sym, arith}
+use Rattle.std.proofs.Common.{◌≡◌, ◌∙◌, ◌+◌, ◌≤◌, ◌∷◌, [], ◌++◌, length, reverse, ap, subst, sym, arith}
 use Rattle.flash_store.specs.Regions.{Range}
 use Rattle.flashmap_check.specs.MapFindings.{area_end}
 use Rattle.image_check.specs.RegionAreas.{region_areas, LieInOrder}
@@ -8,10 +8,10 @@ use Rattle.image_check.proofs.image.try_area.Goals as goal
 pub returns-clause-order : goal.returns-clause-order
 returns-clause-order g c = λ lie.
     let n = length (g.F.Flash.facts c.args.paged.now.device).content in
+    let finding = c.in_ok-finding.finding in
     let start : c.args.region.start ≡ c.args.area.area.offset = ap (λ (r : Range). r.start) c.requires.range in
     let size : c.args.region.size ≡ c.args.area.area.size = ap (λ (r : Range). r.size) c.requires.range in
     let ends : area_end c.args.area.area ≤ n = omega (arith, c.requires.lies) in
-    let low : c.tell-2.new.self.lowest ≡ c.args.area.area.offset = c.in_ok-tell-3.ensures.lowest ∙ c.start-later.ensures ∙ start in
     let same : c.start.result + c.size.result ≡ area_end c.args.area.area = omega (arith, c.start.ensures, c.size.ensures) in
-    subst (λ k. LieInOrder k n (region_areas (reverse c.tell-2.new.self.findings.items))) (sym low)
-    (LieInOrder-in_place c.args.later.now.lowest n c.args.area c.in_ok-finding.finding c.args.later.now.findings.items _ _ ends c.in_ok-finding.ensures.area (rw same at c.pass_over.ensures.findings) c.in_ok-tell-3.ensures.findings lie)
+    subst (λ k. LieInOrder k n (region_areas (reverse (c.pass_over.new.self.findings.items ++ finding ∷ [])))) (sym (c.start-later.ensures ∙ start))
+    (LieInOrder-in_place c.args.later.now.lowest n c.args.area finding c.args.later.now.findings.items _ ends c.in_ok-finding.ensures.area (rw same at c.pass_over.ensures.findings) lie)
