@@ -1,14 +1,8 @@
 use Rattle.std.proofs.Common.{rules}
 use Rattle.cbfs_commands.proofs.extract.extract.Goals as goal
 
-pub returns-in_err-region : goal.returns-in_err-region
-returns-in_err-region g c = record { read = search rules; sink = search rules; output = search rules; no_source = search rules; told = search rules }
-
 pub returns-in_err-cell : goal.returns-in_err-cell
 returns-in_err-cell g c = record { read = search rules; sink = search rules; output = search rules; no_source = search rules; told = search rules }
 
 pub returns-in-Some : goal.returns-in-Some
 returns-in-Some g c = record { read = search rules; sink = search rules; output = search rules; no_source = search rules; told = search rules }
-
-pub returns-in-None : goal.returns-in-None
-returns-in-None g c = record { read = search rules; sink = search rules; output = search rules; no_source = search rules; told = search rules }
