@@ -90,7 +90,7 @@ pub record Looking {F : Type 0} (facts : F → Device) (verbose : Bool) (names :
   pub few : later.tried ≤ max_tried
   pub told : OnHonest facts old.device (λ image. told_by later ≡ looked verbose image names (drop left areas))
   pub below : (k : ℕ) (d : NumberedArea) → k < left → (get_or areas k d).area.offset ≤ length (facts old.device).content → (get_or areas k d).area.offset ≤ later.lowest
-  pub order : AreInOrder (length (facts old.device).content) later
+  pub order : AreInOrder (length (facts old.device).content) (told_by later)
   pub count : length later.findings.items + left ≤ length areas
 
 pub looking_start : {F : Type 0} (facts : F → Device) (verbose : Bool) (names : List (List ℕ)) (areas : List NumberedArea) (later : LookedAreas) (old : Pages F) (lowest : ℕ) → told_by later ≡ record { findings = []; lowest = lowest; tried = 0 } → lowest ≡ length (facts old.device).content → Looking facts verbose names areas (length areas) later old old
@@ -129,7 +129,7 @@ pub looking_more : {F : Type 0} (facts : F → Device) (verbose : Bool) (names :
     → OnHonest facts now.device (λ image. told_by next ≡ look_if_wanted verbose image names (get_or areas i d) (told_by later))
     → IsNonDecreasingBy (λ (a : NumberedArea). a.area.offset) areas
     → ((at : ℕ) → at ≤ (get_or areas i d).area.offset → at ≤ later.lowest → at ≤ next.lowest)
-    → (AreInOrder (length (facts now.device).content) later → AreInOrder (length (facts now.device).content) next)
+    → (AreInOrder (length (facts now.device).content) (told_by later) → AreInOrder (length (facts now.device).content) (told_by next))
     → length next.findings.items ≤ length later.findings.items + 1
     → Looking facts verbose names areas i next old new
 looking_more facts verbose names areas left i d later next old now new so_far one looked_at tells rises stays keeps few = record {

@@ -69,6 +69,10 @@ pub record Looked : Type 0 where
   pub lowest : ℕ
   pub tried : ℕ
 
+-- with what is told of an area before them
+abbrev pub with_finding : ImageFinding → Looked → Looked
+with_finding finding later = record { findings = later.findings ++ finding ∷ []; lowest = later.lowest; tried = later.tried }
+
 -- with an area before them that is looked at
 abbrev pub with_region : Bool → List ℕ → NumberedArea → Looked → Looked
 with_region verbose image a later = record { findings = later.findings ++ region_finding verbose image a ∷ []; lowest = a.area.offset; tried = later.tried }
@@ -79,7 +83,7 @@ passed_finding names a = if has_one_of names a then Unchecked a else Skipped a
 
 -- with one that is passed over
 abbrev pub with_passed : List (List ℕ) → NumberedArea → Looked → Looked
-with_passed names a later = record { findings = later.findings ++ passed_finding names a ∷ []; lowest = later.lowest; tried = later.tried }
+with_passed names a later = with_finding (passed_finding names a) later
 
 -- with one that takes the place of those that begin before its end
 abbrev pub in_place : Bool → List ℕ → NumberedArea → Looked → Looked

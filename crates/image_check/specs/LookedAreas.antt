@@ -1,8 +1,7 @@
 -- The last areas by place, as they are looked at.
-use Rattle.std.specs.Prelude.{ℕ, [], ◌∷◌, ◌++◌, ◌+◌, ◌-◌, ◌*◌, ◌/◌, ◌≤◌, length, reverse}
+use Rattle.std.specs.Prelude.{ℕ, ◌+◌, ◌-◌, ◌*◌, ◌/◌, ◌≤◌, length, reverse}
 use Rattle.flash_store.specs.Device.{Device}
 use Rattle.flash_store.specs.Pages.{Pages, HasRead}
-use Rattle.image_check.specs.declared.finding.ImageFinding.{ImageFinding}
 use Rattle.image_check.specs.declared.looked.LookedAreas.{LookedAreas}
 use Rattle.image_check.specs.ImageFindings.{Looked, max_tried}
 use Rattle.image_check.specs.RegionAreas.{region_areas, LieInOrder}
@@ -11,17 +10,9 @@ use Rattle.image_check.specs.RegionAreas.{region_areas, LieInOrder}
 abbrev pub told_by : LookedAreas → Looked
 told_by l = record { findings = l.findings.items; lowest = l.lowest; tried = l.tried }
 
--- with what is told of an area before them
-abbrev pub told_with : LookedAreas → ImageFinding → Looked
-told_with l finding = record { findings = l.findings.items ++ finding ∷ []; lowest = l.lowest; tried = l.tried }
-
 -- their regions lie in order, from the lowest on
-abbrev pub AreInOrder : ℕ → LookedAreas → Type 0
-AreInOrder n l = LieInOrder l.lowest n (region_areas (reverse l.findings.items))
-
--- with that of an area before them, of which this is told
-abbrev pub AreInOrderWith : ImageFinding → ℕ → LookedAreas → Type 0
-AreInOrderWith finding n l = LieInOrder l.lowest n (region_areas (reverse (l.findings.items ++ finding ∷ [])))
+abbrev pub AreInOrder : ℕ → Looked → Type 0
+AreInOrder n later = LieInOrder later.lowest n (region_areas (reverse later.findings))
 
 -- how many calls the walks of an image of so many bytes may have taken
 abbrev pub calls_of : ℕ → LookedAreas → ℕ

@@ -11,7 +11,7 @@ ghost use Rattle.image_check.specs.Faults.{by_device};
 ghost use Rattle.cbfs_check.specs.RegionFindings.{begins_with_entry};
 ghost use Rattle.image_check.specs.ImageFindings as told;
 ghost use Rattle.image_check.specs.ImageFindings.{has_one_of, range_of, max_tried, image_findings};
-ghost use Rattle.image_check.specs.LookedAreas.{AreInOrder, AreInOrderWith, HasLooked, told_by, told_with};
+ghost use Rattle.image_check.specs.LookedAreas.{AreInOrder, HasLooked, told_by};
 ghost use Rattle.image_check.specs.RegionAreas.{region_area, region_areas, LieInOrder};
 
 use crate::fault::ImageCheckFault;
@@ -95,10 +95,10 @@ fn try_area<F: Flash>(
     ensures lowest { later.new.lowest ≤ later.old.lowest }
     ensures start { OnOk result (region.start ≤ later.new.lowest) }
     ensures tried { later.new.tried ≡ later.old.tried }
-    ensures told { OnHonest F.facts paged.old.device (λ image. IfOk result (λ finding. told_with later.new finding
+    ensures told { OnHonest F.facts paged.old.device (λ image. IfOk result (λ finding. told.with_finding finding (told_by later.new)
         ≡ told.try_area is_verbose image (map (λ n. n.now) names.now) area (told_by later.old))) }
-    ensures order { AreInOrder (length (F.facts paged.old.device).content) later.old → IfOk result (λ finding.
-        AreInOrderWith finding (length (F.facts paged.old.device).content) later.new) }
+    ensures order { AreInOrder (length (F.facts paged.old.device).content) (told_by later.old) → IfOk result (λ finding.
+        AreInOrder (length (F.facts paged.old.device).content) (told.with_finding finding (told_by later.new))) }
     ensures count { length later.new.findings.items ≡ length later.old.findings.items }
 {
     if !later.may_give_way(names, area) {
@@ -130,11 +130,11 @@ fn look<F: Flash>(
     requires few { later.old.tried ≤ max_tried }
 
     ensures after { HasLooked F.facts 2 (faults_told by_device result) later.old later.new paged.old paged.new }
-    ensures told { OnHonest F.facts paged.old.device (λ image. IfOk result (λ finding. told_with later.new finding
+    ensures told { OnHonest F.facts paged.old.device (λ image. IfOk result (λ finding. told.with_finding finding (told_by later.new)
         ≡ told.look is_verbose image (map (λ n. n.now) names.now) area (told_by later.old))) }
     ensures lowest { OnOk result (region.start ≤ later.new.lowest) }
-    ensures order { AreInOrder (length (F.facts paged.old.device).content) later.old → IfOk result (λ finding.
-        AreInOrderWith finding (length (F.facts paged.old.device).content) later.new) }
+    ensures order { AreInOrder (length (F.facts paged.old.device).content) (told_by later.old) → IfOk result (λ finding.
+        AreInOrder (length (F.facts paged.old.device).content) (told.with_finding finding (told_by later.new))) }
     ensures count { length later.new.findings.items ≡ length later.old.findings.items }
 {
     if region.start() + region.size() <= later.lowest {
@@ -167,8 +167,8 @@ fn look_if_wanted<F: Flash>(
         ≡ told.look_if_wanted is_verbose image (map (λ n. n.now) names.now) area (told_by later.old))) }
     ensures lowest { OnOk result ((at : ℕ) → at ≤ area.area.offset → at ≤ later.old.lowest
         → at ≤ later.new.lowest) }
-    ensures order { AreInOrder (length (F.facts paged.old.device).content) later.old → OnOk result
-        (AreInOrder (length (F.facts paged.old.device).content) later.new) }
+    ensures order { AreInOrder (length (F.facts paged.old.device).content) (told_by later.old) → OnOk result
+        (AreInOrder (length (F.facts paged.old.device).content) (told_by later.new)) }
     ensures count { OnOk result (length later.new.findings.items ≤ length later.old.findings.items + 1) }
 {
     let start = u64::from(area.area.offset);
