@@ -1,4 +1,4 @@
-use Rattle.std.proofs.Common.{◌≡◌, List, ℕ, sym, subst}
+use Rattle.std.proofs.Common.{◌≡◌, List, ℕ, rules, sym, subst}
 use Rattle.flash_format.specs.Components.{cell_attributes, cell_content}
 use Rattle.flash_store.specs.Regions.{bytes_in}
 use Rattle.flash_store.proofs.DeviceLemmas.{honest_still}
@@ -7,6 +7,15 @@ use Rattle.cbfs_walk.specs.Hashes.{hash_state}
 use Rattle.cbfs_walk.specs.Walks.{StandsIn}
 use Rattle.cbfs_check.proofs.Telling.{cell_told}
 use Rattle.cbfs_check.proofs.check.tell_cell.Goals as goal
+
+pub returns-in_err-state-clause-after : goal.returns-in_err-state-clause-after
+returns-in_err-state-clause-after g c = search rules
+
+pub returns-in_err-tell_named-clause-after : goal.returns-in_err-tell_named-clause-after
+returns-in_err-tell_named-clause-after g c = search rules
+
+pub returns-clause-after : goal.returns-clause-after
+returns-clause-after g c = search rules
 
 pub returns-clause-told : goal.returns-clause-told
 returns-clause-told g c = λ h stands. λ t told.

@@ -1,7 +1,10 @@
-use Rattle.std.proofs.Common.{sym, ◌∙◌}
+use Rattle.std.proofs.Common.{rules, sym, ◌∙◌}
 use Rattle.flash_store.proofs.DeviceLemmas.{honest_still}
 use Rattle.flashmap_check.proofs.Telling.{none-told, map-told, none-listed, map-listed}
 use Rattle.flashmap_check.proofs.check.checked_map.Goals as goal
+
+pub returns-in_default-clause-after : goal.returns-in_default-clause-after
+returns-in_default-clause-after g c = search rules
 
 pub returns-in_default-clause-answer : goal.returns-in_default-clause-answer
 returns-in_default-clause-answer g c = λ h.
