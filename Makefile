@@ -58,20 +58,29 @@ PAGE = sed -e '/^\./s/$(NAMES)/\1$(SUFFIX)\2/g' -e '/^[^.]/s/$(NAMES)/\1$(ESCAPE
 	-e 's/\<\(Xr\|Nm\) fmd\>/&$(SUFFIX)/' -e 's/^\(\.Dt [A-Z]*\)/\1$(CAPITALS)/' \
 	-e 's,^\.Pa docs/,.Pa $(DOC_SHOWN)/docs/,'
 
-# (without words a program prints its usage)
+# A first build makes the libraries below a program one after the other, in the order of crates.txt: `rt run` would read all
+# their sources once before that. Where they are there, it makes those that have changed. (without words a program prints its
+# usage)
+LIBRARIES = awk -F: -v top=$(1) '{ name[NR] = $$1; uses[NR] = $$2 } END { needed[top]; \
+	for (i = NR; i; i--) if (name[i] in needed) { n = split(uses[i], used, " "); while (n) needed[used[n--]] } \
+	for (i = 1; i <= NR; i++) if (name[i] in needed && name[i] != top) print name[i] }' crates.txt
+PROVE = for library in $$($(call LIBRARIES,$(1))); do \
+	[ -e crates/$$library/out/rlib ] || (cd crates/$$library && rt lib >&2) || exit; done; \
+	cd crates/$(1) && rt run > /dev/null
+
 all:
-	cd crates/cbfstool && rt run > /dev/null
-	cd crates/fmaptool && rt run > /dev/null
-	cd crates/cbfscheck && rt run > /dev/null
+	$(call PROVE,cbfstool)
+	$(call PROVE,fmaptool)
+	$(call PROVE,cbfscheck)
 
 $(CBFSTOOL):
-	cd crates/cbfstool && rt run > /dev/null
+	$(call PROVE,cbfstool)
 
 $(FMAPTOOL):
-	cd crates/fmaptool && rt run > /dev/null
+	$(call PROVE,fmaptool)
 
 $(CBFSCHECK):
-	cd crates/cbfscheck && rt run > /dev/null
+	$(call PROVE,cbfscheck)
 
 check:
 	checks/check
