@@ -69,18 +69,18 @@ PROVE = for library in $$($(call LIBRARIES,$(1))); do \
 	cd crates/$(1) && rt run > /dev/null
 
 all:
-	$(call PROVE,cbfstool)
-	$(call PROVE,fmaptool)
-	$(call PROVE,cbfscheck)
+	@$(call PROVE,cbfstool)
+	@$(call PROVE,fmaptool)
+	@$(call PROVE,cbfscheck)
 
 $(CBFSTOOL):
-	$(call PROVE,cbfstool)
+	@$(call PROVE,cbfstool)
 
 $(FMAPTOOL):
-	$(call PROVE,fmaptool)
+	@$(call PROVE,fmaptool)
 
 $(CBFSCHECK):
-	$(call PROVE,cbfscheck)
+	@$(call PROVE,cbfscheck)
 
 check:
 	checks/check
