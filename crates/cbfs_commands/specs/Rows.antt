@@ -12,7 +12,7 @@ use Rattle.flash_format.specs.Flashmap.{fmap_head_of, text_of, map_of, areas_at}
 use Rattle.flash_format.specs.declared.flashmap.FmapHead.{FmapHead}
 use Rattle.flash_format.specs.declared.flashmap.Area.{Area}
 use Rattle.flash_format.specs.declared.head.Head.{Head}
-use Rattle.printed_fields.specs.Printed.{hexadecimal, printed_name, tab, line_feed}
+use Rattle.flash_format.specs.Printed.{hexadecimal, printed_name, tab, line_feed}
 use Rattle.cbfs_commands.specs.Told.{Told, shows, refuses}
 use Rattle.cbfs_commands.specs.declared.refusal.Refusal.TheVariants as refusals
 use Rattle.byteorder.specs.Endian.{big_bytes}

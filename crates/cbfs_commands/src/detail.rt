@@ -7,7 +7,7 @@ ghost use Rattle.hex.specs.Hex.{encode_lower};
 ghost use Rattle.arrayvec.specs.ArrayVec.{array_vec_len};
 ghost use Rattle.flash_format.specs.Made.{digest_bytes};
 ghost use Rattle.flash_format.specs.Components.{cell_attributes, cell_content};
-ghost use Rattle.printed_fields.specs.Printed.{Pushes};
+ghost use Rattle.flash_format.specs.Printed.{Pushes};
 ghost use Rattle.cbfs_walk.specs.AttrWalks.{head_of_attribute};
 ghost use Rattle.cbfs_walk.specs.Hashes.{hash_state};
 ghost use Rattle.cbfs_commands.specs.Rows.{attribute_line, details, digest_line, hash_line, hash_text};
@@ -17,9 +17,8 @@ use crate::refusal::Refusal;
 use crate::row::{ROW_LEN, Row, push_decimal, put_row};
 use byteorder::{BigEndian, ByteOrder};
 use cbfs_walk::{Cell, HashState, attributes, cells_stand_in_their_image, check_hash};
-use flash_format::{AttrHead, Digest, digest_text};
+use flash_format::{AttrHead, Digest, digest_text, push_text};
 use flash_store::{Flash, Paged, Region, Sink};
-use printed_fields::push_text;
 
 /// Eight digits of a tag.
 fn push_tag(row: &mut Row, tag: u32)

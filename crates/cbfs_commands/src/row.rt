@@ -5,16 +5,15 @@ ghost use Rattle.std.specs.Fmt.{decimal};
 ghost use Rattle.std.specs.Option.{ForSome, option_copied, option_map_or};
 ghost use lib.Chars.{codes};
 ghost use Rattle.arrayvec.specs.ArrayVec.{array_vec_len};
-ghost use Rattle.printed_fields.specs.Printed.{Pushes, printed_name};
+ghost use Rattle.flash_format.specs.Printed.{Pushes, printed_name};
 ghost use Rattle.cbfs_commands.specs.Rows.{printed_type, printed_packing, row_text};
 ghost use Rattle.cbfs_commands.specs.Told.{Tells, shows};
 
 use crate::refusal::Refusal;
 use arrayvec::ArrayVec;
-use flash_format::{Head, type_name};
+use flash_format::{Head, push_hexadecimal, push_name, push_text, type_name};
 use flash_store::{Sink, put_all};
 use itoa::Buffer;
-use printed_fields::{push_hexadecimal, push_name, push_text};
 
 /// Room for the longest row: a name of 255 bytes, each escaped, and the other fields.
 pub const ROW_LEN: usize = 1152;

@@ -4,7 +4,7 @@ use Rattle.flashmap_check.specs.declared.finding.NumberedArea.{NumberedArea}
 use Rattle.flashmap_check.specs.MapFindings.{image_areas}
 use Rattle.image_check.specs.declared.finding.ImageFinding.{ImageFinding}
 use Rattle.image_check.specs.ImageFindings.{image_findings}
-use Rattle.finding_rows.specs.FindingRows.{finding_rows}
+use Rattle.check_report.specs.FindingRows.{finding_rows}
 use Rattle.check_report.specs.declared.change.Changes.{Changes}
 use Rattle.check_report.specs.Reports.{Wish, change_rows, with_changes}
 use Rattle.check_report.specs.Changes.{AreChanges}

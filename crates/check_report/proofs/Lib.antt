@@ -1,1 +1,4 @@
 mod Gathered
+pub mod TellingFindings
+mod TellingChanges
+pub mod BadRows

@@ -1,3 +1,6 @@
 pub mod Faults
 pub mod Reports
 pub mod Changes
+pub mod FindingRows
+pub mod ChangeRows
+pub mod Laws

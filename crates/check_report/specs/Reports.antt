@@ -12,8 +12,8 @@ use Rattle.region_changes.specs.RegionChanges.{region_changes}
 use Rattle.check_rows.specs.declared.report.Form.{Form}
 use Rattle.check_rows.specs.Rows.{SeenRow, is_bad_row}
 use Rattle.check_rows.specs.Reports.{report}
-use Rattle.finding_rows.specs.FindingRows.{finding_rows}
-use Rattle.change_rows.specs.ChangeRows as rows
+use Rattle.check_report.specs.FindingRows.{finding_rows}
+use Rattle.check_report.specs.ChangeRows as rows
 use Rattle.check_report.specs.declared.answer.Request.{Request}
 use Rattle.check_report.specs.declared.change.Changes.{Changes}
 

@@ -12,11 +12,13 @@ ghost use Rattle.check_report.specs.Reports.{answer_of, change_rows, wish_of, wi
 ghost use Rattle.check_report.specs.Changes.{AreChanges};
 
 use crate::answer::{Answer, Request};
+use crate::areas::tell_area_changes;
 use crate::fault::ReportFault;
+use crate::findings::tell_findings;
+use crate::images::tell_image_changes;
+use crate::kept::tell_missing;
 use crate::tell::tell_region_changes;
-use change_rows::{tell_area_changes, tell_image_changes, tell_missing};
 use check_rows::Report;
-use finding_rows::tell_findings;
 use flash_store::{Flash, Paged};
 use flashmap_changes::{AreaChange, image_changes};
 use flashmap_check::{NumberedArea, image_areas};

@@ -7,8 +7,8 @@ ghost use Rattle.check_report.specs.Reports.{answer_of, image_rows, wish_of};
 
 use crate::answer::{Answer, Request};
 use crate::fault::ReportFault;
+use crate::findings::tell_findings;
 use check_rows::Report;
-use finding_rows::tell_findings;
 use flash_store::{Flash, Paged};
 use image_check::check_image;
 use std::alloc::Global;

@@ -5,7 +5,8 @@ ghost use Rattle.check_rows.specs.Rows.{SeenRow};
 ghost use Rattle.check_rows.specs.Reports.{HasTold};
 ghost use Rattle.check_report.specs.Reports.{region_rows, regions_rows};
 
-use change_rows::{tell_component_changes, tell_not_compared};
+use crate::areas::tell_not_compared;
+use crate::components::tell_component_changes;
 use check_rows::Report;
 use region_changes::RegionChange;
 use std::alloc::AllocError;

@@ -8,7 +8,7 @@ use Rattle.json.specs.Token.{Token, begin_object, begin_array, end_array, end_ob
 use Rattle.json.specs.Tree.{json_tokens, items_tokens, members_tokens}
 use Rattle.json.specs.Print.{print, print_from, escape_byte}
 use Rattle.json.specs.Written.{Written}
-use Rattle.printed_fields.specs.Printed.{line_feed}
+use Rattle.flash_format.specs.Printed.{line_feed}
 use Rattle.check_rows.specs.declared.report.Form.TheVariants as forms
 use Rattle.check_rows.specs.Reports.{IsWritten, report_with}
 use Rattle.check_rows.specs.declared.row.Counts.{Counts}

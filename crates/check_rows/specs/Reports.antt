@@ -4,7 +4,7 @@ use Rattle.std.specs.List.{flat_map}
 use Rattle.json.specs.Tree.{json_tokens}
 use Rattle.json.specs.Print.{print}
 use Rattle.json.specs.Written.{Written}
-use Rattle.printed_fields.specs.Printed.{line_feed}
+use Rattle.flash_format.specs.Printed.{line_feed}
 use Rattle.check_rows.specs.declared.row.Counts.{Counts}
 use Rattle.check_rows.specs.declared.row.Verdict.{Verdict}
 use Rattle.check_rows.specs.declared.report.Form.{Form}

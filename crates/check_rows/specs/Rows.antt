@@ -3,7 +3,7 @@ use Rattle.std.specs.Prelude.{ℕ, List, [], ◌++◌, Bool, true, false, Option
 use Rattle.std.specs.Fmt.{decimal}
 use Rattle.std.specs.Option.{option_copied}
 use lib.Chars.{codes}
-use Rattle.printed_fields.specs.Printed.{hexadecimal, printed_name, tab, line_feed}
+use Rattle.flash_format.specs.Printed.{hexadecimal, printed_name, tab, line_feed}
 use Rattle.check_rows.specs.declared.row.Verdict.{Verdict}
 use Rattle.check_rows.specs.declared.row.Verdict.TheVariants as verdicts
 use Rattle.check_rows.specs.declared.row.Detail.{Detail}

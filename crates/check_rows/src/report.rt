@@ -3,7 +3,7 @@
 ghost use Rattle.std.specs.Prelude.{◌≡◌, ◌++◌, [], ◌∷◌, List, OnOk, IfOk};
 ghost use Rattle.std.specs.List.{list_any};
 ghost use Rattle.json.specs.Print.{print};
-ghost use Rattle.printed_fields.specs.Printed.{line_feed};
+ghost use Rattle.flash_format.specs.Printed.{line_feed};
 ghost use Rattle.check_rows.specs.Rows.{SeenRow, is_bad_row, seen_row};
 ghost use Rattle.check_rows.specs.Documents.{closing_tokens, opening};
 

@@ -6,8 +6,8 @@ ghost use Rattle.std.specs.Option.{option_copied};
 ghost use Rattle.check_rows.specs.Rows.{detail_field, name_or_dash, position_or_dash, row_text, seen_row, summary};
 
 use crate::row::{Counts, Detail, Row};
+use flash_format::{hexadecimal, printed_byte};
 use itoa::Buffer;
-use printed_fields::{hexadecimal, printed_byte};
 use std::alloc::AllocError;
 
 pub fn push(text: &mut Vec<u8>, part: &[u8]) -> Result<(), AllocError>

@@ -15,3 +15,4 @@ pub mod Placed
 pub mod NumberLaws
 pub mod TypeLaws
 pub mod MapBytes
+mod Digits

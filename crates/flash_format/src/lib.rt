@@ -1,11 +1,12 @@
-//! The bytes of CBFS entries and of flashmaps: heads, attributes, areas, metadata of components, digests, and types and
-//! numbers as text.
+//! The bytes of CBFS entries and of flashmaps: heads, attributes, areas, metadata of components, digests, and types,
+//! names and numbers as text.
 //!
 //! No call takes memory. The definitions of the formats, which every other crate's contracts speak of, lie in
 //! `specs/`; docs/FORMAT.md says them in words.
 #![tactic(auto)]
 
 mod attribute;
+mod buffer;
 mod digest;
 mod empty_entry;
 mod flashmap;
@@ -13,9 +14,12 @@ mod head;
 mod laws;
 mod meta;
 mod number;
+mod printed_name;
+mod printed_number;
 mod type_names;
 
 pub use attribute::AttrHead;
+pub use buffer::push_text;
 pub use digest::{Algorithm, Digest, digest_text};
 pub use empty_entry::empty_header;
 pub use flashmap::{Area, FmapHead};
@@ -27,4 +31,6 @@ pub use laws::{
 };
 pub use meta::{LONGEST_METADATA, Meta, attr_len, meta_len, write_meta};
 pub use number::{digits_value, read_number};
+pub use printed_name::{printed_byte, push_name};
+pub use printed_number::{hexadecimal, push_hexadecimal};
 pub use type_names::{type_name, type_number};

@@ -1,5 +1,5 @@
 use Rattle.std.proofs.Common.{map, ap, ◌∙◌}
-use Rattle.finding_rows.specs.FindingRows.{finding_rows}
+use Rattle.check_report.specs.FindingRows.{finding_rows}
 use Rattle.check_report.specs.Reports.{answer_of}
 use Rattle.check_report.proofs.image.report_image.Goals as goal
 

@@ -1,6 +1,6 @@
 use Rattle.std.proofs.Common.{map}
 use Rattle.check_report.specs.Reports.{region_rows}
-use Rattle.finding_rows.proofs.Telling.{rows_all, rows_more}
+use Rattle.check_report.proofs.TellingFindings.{rows_all, rows_more}
 use Rattle.check_report.proofs.tell.tell_region_changes.Goals as goal
 
 pub loop-change-preserved : goal.loop-change-preserved

@@ -1,5 +1,5 @@
 use Rattle.std.proofs.Common.{◌≡◌, ◌++◌, take}
-use Rattle.printed_fields.specs.Printed.{printed_name}
+use Rattle.flash_format.specs.Printed.{printed_name}
 use Rattle.check_rows.proofs.text.push_name.Given as goal
 
 abbrev pub invariant-loop-byte : goal.invariant-loop-byte

@@ -1,5 +1,0 @@
-use Rattle.flash_store.specs.Regions.{LiesIn}
-use Rattle.cbfs_walk_tests.proofs.walks.pass.Given as goal
-
-abbrev pub invariant-loop-call : goal.invariant-loop-call
-invariant-loop-call g l = LiesIn l.walk.region (g.F.Flash.facts l.paged.device).content

@@ -1,2 +1,0 @@
-pub mod FindingRows
-pub mod Laws

@@ -1,0 +1,42 @@
+//! Bytes of names.
+
+ghost use Rattle.std.specs.Prelude.{◌≡◌, ◌+◌, ◌*◌, ◌≤◌, length};
+ghost use Rattle.arrayvec.specs.ArrayVec.{array_vec_len};
+ghost use Rattle.flash_format.specs.Printed.{Pushes, printed_byte, printed_name};
+
+use crate::buffer::push_text;
+use crate::printed_number::digit;
+use arrayvec::ArrayVec;
+
+/// Puts a byte of a name after what a buffer has.
+#[inline]
+#[tactic(auto, unfolding(crate::specs::Printed::printed_byte))]
+fn push_byte<const N: usize>(buffer: &mut ArrayVec<u8, N>, byte: u8)
+    requires { array_vec_len buffer.old + 4 ≤ N }
+    ensures { Pushes buffer.old (printed_byte byte) 4 buffer.new }
+{
+    if matches!(byte, 0x21..=0x7e) && byte != b'\\' {
+        push_text(buffer, &[byte]);
+    } else {
+        push_text(buffer, &[b'\\', b'x', digit(byte / 16), digit(byte % 16)]);
+    }
+}
+
+/// A byte of a name: itself, or `\x` and two digits where it isn't a printing byte, or the backslash.
+pub fn printed_byte(byte: u8) -> ArrayVec<u8, 4>
+    ensures { result.items ≡ printed_byte byte }
+{
+    let mut text = ArrayVec::new();
+    push_byte(&mut text, byte);
+    text
+}
+
+/// Puts a name after what a buffer has, byte by byte as `printed_byte` gives them.
+pub fn push_name<const N: usize>(buffer: &mut ArrayVec<u8, N>, name: &[u8])
+    requires { array_vec_len buffer.old + 4 * length name.now ≤ N }
+    ensures { Pushes buffer.old (printed_name name.now) (4 * length name.now) buffer.new }
+{
+    for byte in name {
+        push_byte(buffer, *byte);
+    }
+}

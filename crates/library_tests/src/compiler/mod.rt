@@ -1,0 +1,3 @@
+//! The compiler of descriptors, and the formats.
+mod descriptors;
+mod formats;

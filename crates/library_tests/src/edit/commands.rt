@@ -1,0 +1,185 @@
+//! Outputs that fail at each place, the size of a new image, and creations that are refused or stopped.
+
+use crate::edit::deeds::{COREBOOT, Short, answer_into, stopped};
+use crate::edit::support::{Held, LEN, MAP, Stop, device_of, image_of, source_of, stopping};
+use crate::support::{ALL, device_from, equal, filled, same_bytes};
+use arrayvec::ArrayVec;
+use cbfs_commands::{Command, MOST_REGIONS, Refusal, create_size};
+use flash_store::{FailAt, FailSource, MemFlash, Paged};
+use std::process::Abort;
+
+const PRINT: Command<'static> = Command::Print {
+    region: COREBOOT,
+    verbose: false,
+};
+
+// ---- outputs
+
+/// A command with no source answers this into a sink, and gives it its text.
+fn is_told(
+    rt: &impl Abort,
+    paged: &mut Paged<FailAt<MemFlash>>,
+    command: &Command,
+    out: &mut Short<'_>,
+    answer: &Result<(), Refusal>,
+) {
+    equal(rt, &answer_into(rt, paged, command, b"", 0, out), answer);
+    assert!(rt; out.rest.is_empty() && !out.differs);
+}
+
+/// A command into a sink that takes so many bytes a call and so many in all writes this text, where the device refuses all calls
+/// after the first few.
+fn tells(
+    rt: &(impl Abort + AllocGlobal),
+    calls: u64,
+    command: &Command,
+    piece: usize,
+    room: usize,
+    text: &[u8],
+    answer: Result<(), Refusal>,
+) {
+    let stop = Stop {
+        calls,
+        part: 0,
+        reads: 0,
+    };
+    let mut paged = stopping(device_of(rt, Held::WithA), stop);
+    is_told(
+        rt,
+        &mut paged,
+        command,
+        &mut Short::new(text, piece, room),
+        &answer,
+    );
+}
+
+/// A command writes this text, by three bytes a call too, and as much of it as there is room for.
+fn tells_what_has_room(rt: &(impl Abort + AllocGlobal), command: &Command, text: &[u8]) {
+    for room in 0..text.len() {
+        let first = text.get(..room).unwrap_or(text);
+        tells(rt, ALL, command, 4096, room, first, Err(Refusal::Output));
+    }
+    tells(rt, ALL, command, 0, 4096, b"", Err(Refusal::Output));
+    tells(rt, ALL, command, 3, 4096, text, Ok(()));
+}
+
+fn prints(rt: &(impl Abort + AllocGlobal)) {
+    let rows = b"a\t0x0\traw\t10\tnone\n(empty)\t0x40\tnull\t416\tnone\n";
+    tells_what_has_room(rt, &PRINT, rows);
+}
+
+fn lays_out(rt: &(impl Abort + AllocGlobal)) {
+    let areas = b"fmap\t0x0\tFLASH\t1536\t3\nFMAP\t0x0\t512\t0x0\nCOREBOOT\t0x200\t512\t0x0\n\
+REST\t0x400\t512\t0x0\n";
+    tells_what_has_room(rt, &Command::Layout, areas);
+}
+
+fn extracts(rt: &(impl Abort + AllocGlobal)) {
+    let extract = Command::Extract {
+        region: COREBOOT,
+        name: b"a",
+    };
+    tells_what_has_room(rt, &extract, b"0123456789");
+}
+
+fn reads(rt: &(impl Abort + AllocGlobal)) {
+    let image = image_of(rt, Held::WithA);
+    let region = image.get(0x200..0x400).expect(rt, "a region");
+    tells_what_has_room(rt, &Command::Read { region: COREBOOT }, region);
+}
+
+#[test]
+fn an_output_that_fails_anywhere(rt: HostRuntime) {
+    prints(&rt);
+    lays_out(&rt);
+    extracts(&rt);
+    reads(&rt);
+}
+
+#[test]
+fn a_device_that_fails_as_it_is_read(rt: HostRuntime) {
+    tells(&rt, 0, &PRINT, 4096, 4096, b"", Err(Refusal::Device));
+}
+
+// ---- creations
+
+/// The size of an image from this source is answered so, where it refuses all reads after the first few.
+fn has_size(rt: &impl Abort, map: &[u8], reads: u64, answer: Result<u32, Refusal>) {
+    let mut source = FailSource::new(source_of(rt, map), reads);
+    equal(rt, &create_size(&mut source), &answer);
+}
+
+#[test]
+fn the_size_of_a_flashmap(rt: HostRuntime) {
+    has_size(&rt, &MAP, 1, Ok(1536));
+    has_size(&rt, &MAP[..55], 1, Err(Refusal::TableBad));
+    has_size(&rt, &MAP, 0, Err(Refusal::Source));
+}
+
+/// What a creation with regions of these names leaves that is stopped, and answers this.
+fn creation(
+    rt: &impl Abort,
+    device: MemFlash,
+    names: &[&[u8]],
+    map: &[u8],
+    stop: Stop,
+    want: &Result<(), Refusal>,
+) -> MemFlash {
+    let mut regions: ArrayVec<&[u8], MOST_REGIONS> = ArrayVec::new();
+    let _fits = regions.try_extend_from_slice(names);
+    stopped(rt, device, &Command::Create { regions }, map, stop, want)
+}
+
+/// A creation from this flashmap on a device of so many bytes is refused, and leaves them.
+fn refuses(
+    rt: &(impl Abort + AllocGlobal),
+    len: usize,
+    names: &[&[u8]],
+    map: &[u8],
+    refusal: Refusal,
+) {
+    let stop = Stop {
+        calls: ALL,
+        part: 0,
+        reads: ALL,
+    };
+    let device = device_from(rt, filled(rt, 7, len));
+    let device = creation(rt, device, names, map, stop, &Err(refusal));
+    same_bytes(rt, device.bytes(), &filled(rt, 7, len));
+}
+
+#[test]
+fn what_is_refused_leaves_the_image(rt: HostRuntime) {
+    refuses(&rt, LEN, &[COREBOOT, COREBOOT], &MAP, Refusal::FmapArea);
+    refuses(&rt, LEN, &[COREBOOT], &MAP[..181], Refusal::TableBad);
+    refuses(&rt, 2 * LEN, &[COREBOOT], &MAP, Refusal::TableBad);
+}
+
+/// A creation ends so, where the device refuses all calls after the first `calls`, and the source all reads after the
+/// first `reads`.
+fn creates(rt: &(impl Abort + AllocGlobal), calls: u64, reads: u64, want: Result<(), Refusal>) {
+    let stop = Stop {
+        calls,
+        part: 17,
+        reads,
+    };
+    let device = device_from(rt, filled(rt, 7, LEN));
+    let _left = creation(rt, device, &[COREBOOT], &MAP, stop, &want);
+}
+
+/// One call fills, one writes the table, and two make the region an empty entry. One read is for the head, one for each of
+/// three areas, and one for the table.
+fn stop_creations(rt: &(impl Abort + AllocGlobal)) {
+    for calls in 0..4 {
+        creates(rt, calls, 5, Err(Refusal::Device));
+    }
+    for reads in 0..5 {
+        creates(rt, 4, reads, Err(Refusal::Source));
+    }
+    creates(rt, 4, 5, Ok(()));
+}
+
+#[test]
+fn a_stop_of_either_side(rt: HostRuntime) {
+    stop_creations(&rt);
+}

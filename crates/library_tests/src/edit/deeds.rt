@@ -1,0 +1,229 @@
+//! What is done to the region of the small image: edits, and commands that edit.
+ghost use Rattle.std.specs.Prelude.{None};
+
+use crate::edit::support::{
+    Held, MAGIC_20, SIZE, START, Stop, components, device_of, holds, region_of, source_of, stopping,
+};
+use crate::support::{ALL, equal};
+use cbfs_commands::{Command, Refusal, run};
+use cbfs_edit::{EditFault, HashChoice, Spot, add, format, remove};
+use flash_store::{Counter, FailSource, Flash, MemFlash, Paged, Sink, SinkFault};
+use std::process::Abort;
+
+pub const COREBOOT: &[u8] = b"COREBOOT";
+
+pub const RUN_ADD: Command<'static> = Command::Add {
+    region: COREBOOT,
+    name: b"b",
+    kind: 0x50,
+    hash: HashChoice::Plain,
+    spot: Spot::First,
+};
+
+const RUN_REMOVE: Command<'static> = Command::Remove {
+    region: COREBOOT,
+    name: b"a",
+};
+
+/// The first removal joins free space on both sides, and the second takes the first of two components of a name.
+#[derive(Clone, Copy)]
+pub enum Deed {
+    Join,
+    FirstOfTwo,
+    Format,
+    Add,
+    AddLater,
+    RunAdd,
+    RunRemove,
+}
+
+/// What the region holds before it.
+pub fn before(deed: Deed) -> Held {
+    match deed {
+        Deed::Join => Held::Between,
+        Deed::FirstOfTwo => Held::Twice,
+        Deed::Format => Held::WithLast,
+        Deed::Add => Held::Fresh,
+        _ => Held::WithA,
+    }
+}
+
+/// What the region holds when it is done.
+pub fn after(deed: Deed) -> Held {
+    match deed {
+        Deed::FirstOfTwo => Held::Once,
+        Deed::Format => Held::FreshBeforeLast,
+        Deed::Add => Held::WithA,
+        Deed::AddLater => Held::WithLater,
+        Deed::RunAdd => Held::Both,
+        _ => Held::Fresh,
+    }
+}
+
+/// A sink that is to be given this text, takes `piece` bytes a call, and fails once it has taken `room` bytes.
+#[derive(Drop)]
+pub struct Short<'a> {
+    /// What is left of the text.
+    pub rest: &'a [u8],
+    piece: usize,
+    room: usize,
+    /// Whether it was given anything else.
+    pub differs: bool,
+    faults: Counter,
+}
+
+impl<'a> Short<'a> {
+    pub fn new(text: &'a [u8], piece: usize, room: usize) -> Short<'a> {
+        Short {
+            rest: text,
+            piece,
+            room,
+            differs: false,
+            faults: Counter::new(),
+        }
+    }
+}
+
+impl Sink for Short<'_> {
+    ghost contents = { λ _. None };
+
+    ghost faults = { λ s. s.faults };
+
+    fn put(&mut self, bytes: &[u8]) -> Result<usize, SinkFault> {
+        let n = bytes.len().min(self.piece).min(self.room);
+        if n == 0 {
+            self.faults.tick();
+            return Err(SinkFault);
+        }
+        let taken = &bytes[..n];
+        if !self.rest.starts_with(taken) {
+            self.differs = true;
+        }
+        self.rest = self.rest.get(n..).unwrap_or(&[]);
+        self.room = self.room.saturating_sub(n);
+        Ok(n)
+    }
+}
+
+/// What a command answers, where a source of these bytes refuses all reads after the first few.
+pub fn answer_into<F: Flash>(
+    rt: &impl Abort,
+    paged: &mut Paged<F>,
+    command: &Command,
+    bytes: &[u8],
+    reads: u64,
+    out: &mut Short<'_>,
+) -> Result<(), Refusal> {
+    let mut source = FailSource::new(source_of(rt, bytes), reads);
+    run(paged, command, &mut source, out)
+}
+
+/// The same, into a sink that takes nothing.
+fn answer_of<F: Flash>(
+    rt: &impl Abort,
+    paged: &mut Paged<F>,
+    command: &Command,
+    bytes: &[u8],
+    reads: u64,
+) -> Result<(), Refusal> {
+    answer_into(rt, paged, command, bytes, reads, &mut Short::new(&[], 0, 0))
+}
+
+/// What a command leaves that is stopped, with a source of these bytes, and answers this.
+pub fn stopped(
+    rt: &impl Abort,
+    device: MemFlash,
+    command: &Command,
+    bytes: &[u8],
+    stop: Stop,
+    want: &Result<(), Refusal>,
+) -> MemFlash {
+    let mut paged = stopping(device, stop);
+    equal(
+        rt,
+        &answer_of(rt, &mut paged, command, bytes, stop.reads),
+        want,
+    );
+    paged.into_flash().into_inner()
+}
+
+/// What becomes of the fault of an edit as a command tells it; the other refusals are one here.
+fn told(fault: Option<EditFault>) -> Result<(), Refusal> {
+    match fault {
+        None => Ok(()),
+        Some(EditFault::Device) => Err(Refusal::Device),
+        Some(EditFault::Source) => Err(Refusal::Source),
+        Some(_) => Err(Refusal::NotFound),
+    }
+}
+
+/// Adds a component of the usual type.
+fn adds<F: Flash>(
+    rt: &impl Abort,
+    paged: &mut Paged<F>,
+    name: &[u8],
+    spot: Spot,
+    content: &[u8],
+) -> Option<EditFault> {
+    let region = region_of(rt, paged);
+    let mut source = source_of(rt, content);
+    let plain = HashChoice::Plain;
+    add(paged, region, name, 0x50, plain, spot, &mut source).err()
+}
+
+fn removes<F: Flash>(rt: &impl Abort, paged: &mut Paged<F>, name: &[u8]) -> Option<EditFault> {
+    let region = region_of(rt, paged);
+    remove(paged, region, name).err()
+}
+
+fn formats<F: Flash>(rt: &impl Abort, paged: &mut Paged<F>) -> Option<EditFault> {
+    let region = region_of(rt, paged);
+    format(paged, region).err()
+}
+
+/// Does this, and answers how it has ended.
+pub fn does<F: Flash>(rt: &impl Abort, paged: &mut Paged<F>, deed: Deed) -> Result<(), Refusal> {
+    match deed {
+        Deed::Join => told(removes(rt, paged, b"m")),
+        Deed::FirstOfTwo => told(removes(rt, paged, b"x")),
+        Deed::Format => told(formats(rt, paged)),
+        Deed::Add => told(adds(rt, paged, b"a", Spot::First, b"0123456789")),
+        Deed::AddLater => told(adds(rt, paged, b"b", Spot::Aligned(256), &MAGIC_20)),
+        Deed::RunAdd => answer_of(rt, paged, &RUN_ADD, &MAGIC_20, ALL),
+        Deed::RunRemove => answer_of(rt, paged, &RUN_REMOVE, b"", ALL),
+    }
+}
+
+/// All components of the region COREBOOT.
+fn components_of(rt: &(impl Abort + AllocGlobal), device: MemFlash) -> Vec<u8> {
+    components(rt, device, START, SIZE)
+}
+
+/// Whether these are the components of a region that holds that.
+fn are_those(rt: &(impl Abort + AllocGlobal), found: &[u8], held: Held) -> bool {
+    components_of(rt, device_of(rt, held)).as_slice() == found
+}
+
+/// The region has the components that it has where it holds the one or the other.
+pub fn leaves(rt: &(impl Abort + AllocGlobal), device: MemFlash, one: Held, other: Held) {
+    let found = components_of(rt, device);
+    let is_left = are_those(rt, &found, one) || are_those(rt, &found, other);
+    assert!(rt; is_left);
+}
+
+/// A deed has finished and left the image that it should, or the device has stopped it: then the region has the components of
+/// before or of after. Answers whether it has finished.
+pub fn has_finished(
+    rt: &(impl Abort + AllocGlobal),
+    deed: Deed,
+    answer: Result<(), Refusal>,
+    device: MemFlash,
+) -> bool {
+    if answer.is_ok() {
+        holds(rt, &device, after(deed));
+        return true;
+    }
+    equal(rt, &answer, &Err(Refusal::Device));
+    leaves(rt, device, before(deed), after(deed));
+    false
+}

@@ -1,0 +1,171 @@
+//! An image whose region takes several pieces, from a source and on a device that stop at each call in turn.
+
+use crate::edit::deeds::{COREBOOT, RUN_ADD, stopped};
+use crate::edit::support::{Stop, components, image_with};
+use crate::support::{ALL, Parts, device_from, filled, same_bytes};
+use cbfs_commands::{Command, Refusal};
+use flash_store::MemFlash;
+use std::process::Abort;
+
+/// The map of an image of 32,768 bytes: FMAP and COREBOOT, a half each.
+const HALVES: [u8; 140] = *b"__FMAP__\x01\x01\0\0\0\0\0\0\0\0\0\x80\0\0\
+F\0\0\0\0\0\0\0\0\0\0\0\0\0\0\0\0\0\0\0\0\0\0\0\0\0\0\0\0\0\0\0\x02\0\
+\0\0\0\0\0\x40\0\0FMAP\0\0\0\0\0\0\0\0\0\0\0\0\0\0\0\0\0\0\0\0\0\0\0\0\0\0\0\0\0\0\
+\0\x40\0\0\0\x40\0\0COREBOOT\0\0\0\0\0\0\0\0\0\0\0\0\0\0\0\0\0\0\0\0\0\0\0\0\0\0";
+
+/// Where the region COREBOOT stands, and its length.
+const HALF: usize = 16384;
+
+/// Headers of empty entries at its end, of all of it and of 7296 bytes.
+const LAST_16384: [u8; 28] = *b"LARCHIVE\0\0\x3f\xe0\xff\xff\xff\xff\0\0\0\0\0\0\0\x1c\0\0\0\0";
+
+const LAST_7296: [u8; 28] = *b"LARCHIVE\0\0\x1c\x60\xff\xff\xff\xff\0\0\0\0\0\0\0\x1c\0\0\0\0";
+
+/// What stands before the 9000 bytes of a component `b`.
+const B_9000: [u8; 28] = *b"LARCHIVE\0\0\x23\x28\0\0\0\x50\0\0\0\0\0\0\0\x1cb\0\0\0";
+
+const WRITE: Command<'static> = Command::Write { region: COREBOOT };
+
+/// The image with these parts of its region.
+fn halves(rt: &(impl Abort + AllocGlobal), parts: Parts) -> Vec<u8> {
+    image_with(rt, 32768, &HALVES, HALF, parts)
+}
+
+/// A device with the image, whose region is free.
+fn device(rt: &(impl Abort + AllocGlobal)) -> MemFlash {
+    device_from(rt, halves(rt, &[(0, &LAST_16384)]))
+}
+
+// ---- the region is written
+
+/// As many bytes as the region has, none of them 0xff.
+fn numbered(rt: &(impl Abort + AllocGlobal)) -> Vec<u8> {
+    let mut bytes = filled(rt, 0, HALF);
+    for (i, byte) in bytes.iter_mut().enumerate() {
+        *byte = (i % 251) as u8;
+    }
+    bytes
+}
+
+/// Writes the region, where the device and the source are stopped: it is answered so, and so many bytes of the source are
+/// written before all else that was there.
+fn writes(
+    rt: &(impl Abort + AllocGlobal),
+    bytes: &[u8],
+    stop: Stop,
+    want: &Result<(), Refusal>,
+    n: usize,
+) {
+    let device = stopped(rt, device(rt), &WRITE, bytes, stop, want);
+    let written = bytes.get(..n).unwrap_or(bytes);
+    same_bytes(
+        rt,
+        device.bytes(),
+        &halves(rt, &[(0, &LAST_16384), (0, written)]),
+    );
+}
+
+/// The source refuses its reads after the first few.
+fn reads(
+    rt: &(impl Abort + AllocGlobal),
+    bytes: &[u8],
+    reads: u64,
+    want: &Result<(), Refusal>,
+    n: usize,
+) {
+    let stop = Stop {
+        calls: 5,
+        part: 0,
+        reads,
+    };
+    writes(rt, bytes, stop, want, n);
+}
+
+/// Each read of the source is refused in turn; the pieces before it are written.
+fn refuse_reads(rt: &(impl Abort + AllocGlobal), bytes: &[u8]) {
+    let fault = Err(Refusal::Source);
+    reads(rt, bytes, 0, &fault, 0);
+    reads(rt, bytes, 1, &fault, 4096);
+    reads(rt, bytes, 2, &fault, 8192);
+    reads(rt, bytes, 3, &fault, 12288);
+    reads(rt, bytes, 4, &Ok(()), HALF);
+}
+
+#[test]
+fn a_source_that_fails_at_any_read(rt: HostRuntime) {
+    refuse_reads(&rt, &numbered(&rt));
+}
+
+/// The device refuses its calls after the first few, and keeps this part of the first refused write.
+fn calls(rt: &(impl Abort + AllocGlobal), bytes: &[u8], calls: u64, part: usize, n: usize) {
+    let stop = Stop {
+        calls,
+        part,
+        reads: 4,
+    };
+    writes(rt, bytes, stop, &Err(Refusal::Device), n);
+}
+
+/// Each call of the device is refused in turn, the one that finds the region and the four that write: the pieces before it are
+/// written, and this part of its own.
+fn refuse_calls(rt: &(impl Abort + AllocGlobal), bytes: &[u8], part: usize) {
+    calls(rt, bytes, 0, part, 0);
+    calls(rt, bytes, 1, part, part);
+    calls(rt, bytes, 2, part, part.saturating_add(4096));
+    calls(rt, bytes, 3, part, part.saturating_add(8192));
+    calls(rt, bytes, 4, part, part.saturating_add(12288));
+}
+
+fn refuse_all(rt: &(impl Abort + AllocGlobal), bytes: &[u8]) {
+    refuse_calls(rt, bytes, 0);
+    refuse_calls(rt, bytes, 17);
+    refuse_calls(rt, bytes, 4096);
+}
+
+#[test]
+fn a_device_that_fails_at_any_call(rt: HostRuntime) {
+    refuse_all(&rt, &numbered(&rt));
+}
+
+// ---- a component is added
+
+/// The device after an addition from a source that refuses all reads after the first few, which is answered so.
+fn adds(
+    rt: &(impl Abort + AllocGlobal),
+    bytes: &[u8],
+    reads: u64,
+    want: &Result<(), Refusal>,
+) -> MemFlash {
+    let stop = Stop {
+        calls: ALL,
+        part: 0,
+        reads,
+    };
+    stopped(rt, device(rt), &RUN_ADD, bytes, stop, want)
+}
+
+/// The source stops the addition, and there is no component.
+fn stops(rt: &(impl Abort + AllocGlobal), bytes: &[u8], reads: u64) {
+    let device = adds(rt, bytes, reads, &Err(Refusal::Source));
+    same_bytes(rt, &components(rt, device, HALF, HALF), b"");
+}
+
+/// The image has then a component of 9000 bytes.
+fn finishes(rt: &(impl Abort + AllocGlobal), bytes: &[u8], reads: u64) {
+    let device = adds(rt, bytes, reads, &Ok(()));
+    let parts: Parts = &[(0, &B_9000), (28, bytes), (9088, &LAST_7296)];
+    same_bytes(rt, device.bytes(), &halves(rt, parts));
+}
+
+/// Each of three reads is refused in turn.
+fn stop_reads(rt: &(impl Abort + AllocGlobal), bytes: &[u8]) {
+    stops(rt, bytes, 0);
+    stops(rt, bytes, 1);
+    stops(rt, bytes, 2);
+    finishes(rt, bytes, 3);
+}
+
+#[test]
+fn a_source_stops_at_any_read(rt: HostRuntime) {
+    stop_reads(&rt, &filled(&rt, 0x61, 9000));
+}

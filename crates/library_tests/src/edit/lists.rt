@@ -1,0 +1,230 @@
+//! Lists of edits, on a device in memory and on one that refuses a single call; and single edits on that one.
+ghost use Rattle.std.specs.Prelude.{◌≡◌, ◌+◌, true, false, IsTrue};
+
+use crate::edit::deeds::{Deed, before, does, leaves};
+use crate::edit::support::{Held, MAGIC_20, device_of, holds, region_of, source_of};
+use crate::support::equal;
+use cbfs_edit::{Edit, EditFault, Freed, HashChoice, Placed, Reply, Spot, apply_all};
+use flash_format::HEADER_LENGTH;
+use flash_store::{Counter, Flash, FlashFault, MemFlash, MemSource, Paged};
+use std::process::Abort;
+
+const STOPPED: Reply = Reply::Refused(EditFault::Device);
+
+const NOT_FOUND: Reply = Reply::Refused(EditFault::NotFound);
+
+/// The reply to the first component that is added.
+const FIRST: Reply = Reply::Placed(Placed {
+    header: 0,
+    content: 28,
+});
+
+/// The reply to the next one.
+const NEXT: Reply = Reply::Placed(Placed {
+    header: 64,
+    content: 92,
+});
+
+/// A component of the usual type is to be added to the first free space.
+fn addition<'a>(rt: &impl Abort, name: &'a [u8], content: &'a [u8]) -> Edit<'a, MemSource<'a>> {
+    Edit::Add {
+        name,
+        kind: 0x50,
+        hash: HashChoice::Plain,
+        spot: Spot::First,
+        source: source_of(rt, content),
+    }
+}
+
+fn freed(start: u64, end: u64) -> Reply {
+    Reply::Freed(Freed { start, end })
+}
+
+/// A device that refuses one call, and does nothing then.
+#[derive(Drop)]
+struct FailOnce {
+    device: MemFlash,
+    /// How many calls there are up to the one that is refused; 0 once it was.
+    left: u64,
+    /// How many calls there were after that one.
+    after: u64,
+    calls: Counter,
+    faults: Counter,
+}
+
+impl FailOnce {
+    /// The call of this number is refused, from 1 on.
+    fn new(device: MemFlash, number: u64) -> FailOnce {
+        FailOnce {
+            device,
+            left: number,
+            after: 0,
+            calls: Counter::new(),
+            faults: Counter::new(),
+        }
+    }
+
+    /// Counts a call, and says whether it is the one that is refused.
+    fn is_due(&mut self) -> bool
+        ensures device { self.new.device ≡ self.old.device }
+        ensures counted { self.new.calls ≡ self.old.calls + 1 }
+        ensures due { IsTrue result → self.new.faults ≡ self.old.faults + 1 }
+        ensures passed { result ≡ false → self.new.faults ≡ self.old.faults }
+    {
+        self.calls.tick();
+        if self.left == 0 {
+            self.after = self.after.saturating_add(1);
+        }
+        let due = self.left == 1;
+        self.left = self.left.saturating_sub(1);
+        if due {
+            self.faults.tick();
+        }
+        due
+    }
+}
+
+impl Flash for FailOnce {
+    ghost facts = { λ f. record {
+      content = f.device.content;
+      calls = f.calls;
+      faults = f.faults;
+      honest = true;
+    } };
+
+    fn len(&self) -> u64 {
+        self.device.len()
+    }
+
+    fn read_at(&mut self, at: u64, out: &mut [u8]) -> Result<(), FlashFault> {
+        if self.is_due() {
+            return Err(FlashFault);
+        }
+        self.device.read_at(at, out)
+    }
+
+    fn write_at(&mut self, at: u64, bytes: &[u8]) -> Result<(), FlashFault> {
+        if self.is_due() {
+            return Err(FlashFault);
+        }
+        self.device.write_at(at, bytes)
+    }
+
+    fn commit_at(&mut self, at: u64, bytes: &[u8; HEADER_LENGTH]) -> Result<(), FlashFault> {
+        if self.is_due() {
+            return Err(FlashFault);
+        }
+        self.device.commit_at(at, bytes)
+    }
+}
+
+/// The replies to two additions and the removal of the first component.
+fn replies_of<F: Flash>(rt: &impl Abort, paged: &mut Paged<F>) -> [Reply; 3] {
+    let mut edits = [
+        addition(rt, b"a", b"0123456789"),
+        addition(rt, b"b", &MAGIC_20),
+        Edit::Remove { name: b"a" },
+    ];
+    let mut replies = [Reply::Refused(EditFault::Source); 3];
+    let region = region_of(rt, paged);
+    apply_all(paged, region, &mut edits, &mut replies);
+    replies
+}
+
+/// The number of the edit that was stopped, or 3.
+fn stopped_of(replies: &[Reply; 3]) -> usize {
+    if replies[0] == STOPPED {
+        return 0;
+    }
+    if replies[1] == STOPPED {
+        return 1;
+    }
+    if replies[2] == STOPPED { 2 } else { 3 }
+}
+
+/// The replies where this edit was stopped.
+fn wanted(stopped: usize) -> [Reply; 3] {
+    match stopped {
+        0 => [STOPPED, FIRST, NOT_FOUND],
+        1 => [FIRST, STOPPED, freed(0, 512)],
+        2 => [FIRST, NEXT, STOPPED],
+        _ => [FIRST, NEXT, freed(0, 64)],
+    }
+}
+
+/// A region with the components that are then left.
+fn left(stopped: usize) -> Held {
+    match stopped {
+        0 => Held::WithB,
+        1 => Held::Fresh,
+        _ => Held::BehindFree,
+    }
+}
+
+/// Two components are added and the first is removed, on a device that refuses the call of a number. Answers which of
+/// them was stopped.
+fn stopped_at(rt: &(impl Abort + AllocGlobal), number: u64) -> usize {
+    let mut paged = Paged::new(FailOnce::new(device_of(rt, Held::Fresh), number));
+    let replies = replies_of(rt, &mut paged);
+    has_stopped(rt, &replies, paged.into_flash().device)
+}
+
+/// Which edit was stopped. The others have the replies that they then have, and the device the components, where the removal
+/// was stopped with or without the first one.
+fn has_stopped(rt: &(impl Abort + AllocGlobal), replies: &[Reply; 3], device: MemFlash) -> usize {
+    let stopped = stopped_of(replies);
+    equal(rt, replies, &wanted(stopped));
+    let other = if stopped == 2 {
+        Held::Both
+    } else {
+        left(stopped)
+    };
+    leaves(rt, device, left(stopped), other);
+    stopped
+}
+
+/// The lists are stopped at each call in turn, first in the first edit, then in the next ones, until none is.
+fn stop_lists(rt: &(impl Abort + AllocGlobal)) {
+    let mut last = 0;
+    for number in 1..60 {
+        let stopped = stopped_at(rt, number);
+        assert!(rt; stopped == last || number > 1 && stopped == last.saturating_add(1));
+        if stopped == 3 {
+            return;
+        }
+        last = stopped;
+    }
+    panic!(rt; "no list has finished");
+}
+
+#[test]
+fn a_stopped_edit_does_not_stop_the_later_ones(rt: HostRuntime) {
+    stop_lists(&rt);
+}
+
+/// An edit on a device that refuses the call of a number, and no other: where one is refused, it is the last. Answers whether
+/// the edit has finished.
+fn ends_with(rt: &(impl Abort + AllocGlobal), deed: Deed, number: u64) -> bool {
+    let mut paged = Paged::new(FailOnce::new(device_of(rt, before(deed)), number));
+    let answer = does(rt, &mut paged, deed);
+    equal(rt, &paged.into_flash().after, &0);
+    answer.is_ok()
+}
+
+/// Each call of an edit is refused in turn, of which there is one at least.
+fn refuse_each(rt: &(impl Abort + AllocGlobal), deed: Deed) {
+    for number in 1..20 {
+        if ends_with(rt, deed, number) {
+            assert!(rt; number > 1);
+            return;
+        }
+    }
+    panic!(rt; "an edit has not finished");
+}
+
+#[test]
+fn an_edit_makes_no_call_after_a_refused_one(rt: HostRuntime) {
+    refuse_each(&rt, Deed::Join);
+    refuse_each(&rt, Deed::Format);
+    refuse_each(&rt, Deed::AddLater);
+}

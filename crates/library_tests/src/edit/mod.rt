@@ -1,0 +1,7 @@
+//! Edits, and commands.
+mod commands;
+mod deeds;
+mod halves;
+mod lists;
+mod stops;
+mod support;

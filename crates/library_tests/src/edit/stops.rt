@@ -1,0 +1,174 @@
+//! Edits and commands on a device that stops at each call in turn, and on a file that moves few bytes a call, is interrupted, and
+//! refuses from a call on.
+
+use crate::edit::deeds::{Deed, before, does, has_finished};
+use crate::edit::support::{Held, LEN, Stop, device_of, image_of, region_of, source_of, stopping};
+use crate::support::{ALL, equal};
+use cbfs_edit::{EditFault, HashChoice, Spot, add};
+use flash_store::{Ahead, Erased, FlakyFile, Flash, MemFlash, Paged, StoredFlash};
+use std::process::Abort;
+
+// ---- a device that refuses all calls from one on
+
+/// Does this on a device that refuses all calls after the first k. Answers whether it has finished.
+fn on_device(rt: &(impl Abort + AllocGlobal), deed: Deed, k: u64, part: usize) -> bool {
+    let stop = Stop {
+        calls: k,
+        part,
+        reads: ALL,
+    };
+    let mut paged = stopping(device_of(rt, before(deed)), stop);
+    let answer = does(rt, &mut paged, deed);
+    has_finished(rt, deed, answer, paged.into_flash().into_inner())
+}
+
+/// Stops it at each call in turn, until one call more lets it finish. It doesn't finish without a call.
+fn stop_each(rt: &(impl Abort + AllocGlobal), deed: Deed, part: usize) {
+    for k in 0..20 {
+        if on_device(rt, deed, k, part) {
+            assert!(rt; k > 0);
+            return;
+        }
+    }
+    panic!(rt; "an edit has not finished");
+}
+
+/// Stops all edits, where this part of the first refused write is written.
+fn stop_all(rt: &(impl Abort + AllocGlobal), part: usize) {
+    stop_each(rt, Deed::Join, part);
+    stop_each(rt, Deed::FirstOfTwo, part);
+    stop_each(rt, Deed::Format, part);
+    stop_each(rt, Deed::Add, part);
+    stop_each(rt, Deed::AddLater, part);
+}
+
+#[test]
+fn an_edit_stops_at_any_call(rt: HostRuntime) {
+    stop_all(&rt, 0);
+    stop_all(&rt, 1);
+    stop_all(&rt, 17);
+    stop_all(&rt, 4096);
+}
+
+/// The fault of an addition of nothing.
+fn fault_of<F: Flash>(
+    rt: &impl Abort,
+    paged: &mut Paged<F>,
+    name: &[u8],
+    kind: u32,
+    spot: Spot,
+) -> Option<EditFault> {
+    let region = region_of(rt, paged);
+    let mut source = source_of(rt, b"");
+    let plain = HashChoice::Plain;
+    add(paged, region, name, kind, plain, spot, &mut source).err()
+}
+
+/// An addition to a device that refuses every call is refused so.
+fn refused_at_once(
+    rt: &(impl Abort + AllocGlobal),
+    name: &[u8],
+    kind: u32,
+    spot: Spot,
+    want: EditFault,
+) {
+    let stop = Stop {
+        calls: 0,
+        part: 0,
+        reads: 0,
+    };
+    let mut paged = stopping(device_of(rt, Held::Fresh), stop);
+    equal(rt, &fault_of(rt, &mut paged, name, kind, spot), &Some(want));
+}
+
+#[test]
+fn what_the_words_refuse_makes_no_call(rt: HostRuntime) {
+    refused_at_once(&rt, b"", 0x50, Spot::First, EditFault::BadName);
+    refused_at_once(&rt, b"a\0", 0x50, Spot::First, EditFault::BadName);
+    refused_at_once(&rt, b"a", 0, Spot::First, EditFault::BadType);
+    refused_at_once(&rt, b"a", 0x50, Spot::Aligned(0), EditFault::BadAlign);
+    refused_at_once(&rt, b"a", 0x50, Spot::First, EditFault::Device);
+}
+
+// ---- a file
+
+/// The most bytes that a call of a file moves, and how many calls lie between two interruptions.
+#[derive(Clone, Copy)]
+struct Calls {
+    most: usize,
+    between: u64,
+}
+
+fn flaky(rt: &(impl Abort + AllocGlobal), held: Held, calls: Calls, made: u64) -> FlakyFile {
+    let image = image_of(rt, held);
+    assert!(rt; image.len() == LEN);
+    FlakyFile::new(image, calls.most, calls.between, made)
+}
+
+/// Does this on a file that makes so many calls. Answers whether it has finished.
+fn on_file(rt: &(impl Abort + AllocGlobal), deed: Deed, calls: Calls, made: u64) -> bool {
+    let file = flaky(rt, before(deed), calls, made);
+    // as one in a file of the system is
+    let mut paged = Paged::new(StoredFlash::new(Ahead::new(Erased::new(file))));
+    let answer = does(rt, &mut paged, deed);
+    let file = paged.into_flash().into_inner().into_inner().into_inner();
+    let left = file.bytes().to_vec(rt.alloc()).expect(rt, "memory");
+    let device = MemFlash::new(left).expect(rt, "a device");
+    has_finished(rt, deed, answer, device)
+}
+
+/// Stops it at each call of the file in turn, until one call more lets it finish. It doesn't finish without a call.
+fn stop_each_of(rt: &(impl Abort + AllocGlobal), deed: Deed, calls: Calls) {
+    for made in 0..2000 {
+        if on_file(rt, deed, calls, made) {
+            assert!(rt; made > 0);
+            return;
+        }
+    }
+    panic!(rt; "an edit has not finished");
+}
+
+fn stop_all_of(rt: &(impl Abort + AllocGlobal), most: usize, between: u64) {
+    let calls = Calls { most, between };
+    stop_each_of(rt, Deed::Join, calls);
+    stop_each_of(rt, Deed::FirstOfTwo, calls);
+    stop_each_of(rt, Deed::Format, calls);
+    stop_each_of(rt, Deed::Add, calls);
+    stop_each_of(rt, Deed::AddLater, calls);
+    stop_each_of(rt, Deed::RunAdd, calls);
+    stop_each_of(rt, Deed::RunRemove, calls);
+}
+
+#[test]
+fn a_deed_stops_at_any_call_of_a_file(rt: HostRuntime) {
+    stop_all_of(&rt, 4096, 5000);
+    stop_all_of(&rt, 21, 3);
+    stop_all_of(&rt, 30, 1);
+}
+
+/// A deed is refused by a file that makes so many calls.
+fn never(rt: &(impl Abort + AllocGlobal), deed: Deed, calls: Calls, made: u64) {
+    assert!(rt; !on_file(rt, deed, calls, made));
+}
+
+fn never_at_all(rt: &(impl Abort + AllocGlobal), calls: Calls, made: u64) {
+    never(rt, Deed::Join, calls, made);
+    never(rt, Deed::FirstOfTwo, calls, made);
+    never(rt, Deed::Format, calls, made);
+    never(rt, Deed::Add, calls, made);
+    never(rt, Deed::AddLater, calls, made);
+}
+
+#[test]
+fn a_file_that_never_answers_is_refused(rt: HostRuntime) {
+    let nothing = Calls {
+        most: 0,
+        between: 5000,
+    };
+    never_at_all(&rt, nothing, 5000);
+    let interrupted = Calls {
+        most: 4096,
+        between: 0,
+    };
+    never_at_all(&rt, interrupted, u64::MAX);
+}

@@ -1,0 +1,229 @@
+//! A small image with a region, and what the tests of edits share.
+ghost use Rattle.flash_store.specs.Regions.{LiesIn};
+
+use crate::support::{Failing, Parts, device_from, filled, same_bytes, write_over};
+use cbfs_walk::{Cell, Step, Walk};
+use flash_store::{FailAt, Flash, MemFlash, MemSource, Paged, Region};
+use std::alloc::AllocError;
+use std::process::Abort;
+
+/// The flashmap of an image of 1536 bytes: FMAP, COREBOOT and REST, of 512 bytes each.
+pub const MAP: [u8; 182] = *b"__FMAP__\x01\x01\x00\x00\x00\xff\x00\x00\x00\x00\x00\x06\x00\x00\
+FLASH\0\0\0\0\0\0\0\0\0\0\0\0\0\0\0\0\0\0\0\0\0\0\0\0\0\0\0\x03\x00\
+\x00\x00\x00\x00\x00\x02\x00\x00FMAP\0\0\0\0\0\0\0\0\0\0\0\0\0\0\0\0\0\0\0\0\0\0\0\0\0\0\0\0\0\0\
+\x00\x02\x00\x00\x00\x02\x00\x00COREBOOT\0\0\0\0\0\0\0\0\0\0\0\0\0\0\0\0\0\0\0\0\0\0\0\0\0\0\
+\x00\x04\x00\x00\x00\x02\x00\x00REST\0\0\0\0\0\0\0\0\0\0\0\0\0\0\0\0\0\0\0\0\0\0\0\0\0\0\0\0\0\0";
+
+/// How long the image is.
+pub const LEN: usize = 1536;
+
+/// Where the region COREBOOT stands in it.
+pub const START: usize = 512;
+
+/// How long the region is.
+pub const SIZE: usize = 512;
+
+/// Deleted space of 20 bytes.
+const DELETED: [u8; 28] = *b"LARCHIVE\0\0\0\x14\0\0\0\0\0\0\0\0\0\0\0\x1c\0\0\0\0";
+
+/// A component `m` of five bytes.
+const M: [u8; 45] =
+    *b"LARCHIVE\0\0\0\x05\0\0\0\x50\0\0\0\0\0\0\0\x28m\0\0\0\0\0\0\0\0\0\0\0\0\0\0\012345";
+
+/// A component `x` of one byte.
+const X1: [u8; 41] =
+    *b"LARCHIVE\0\0\0\x01\0\0\0\x50\0\0\0\0\0\0\0\x28x\0\0\0\0\0\0\0\0\0\0\0\0\0\0\01";
+
+/// A component `x` of two bytes.
+const X2: [u8; 42] =
+    *b"LARCHIVE\0\0\0\x02\0\0\0\x50\0\0\0\0\0\0\0\x28x\0\0\0\0\0\0\0\0\0\0\0\0\0\0\022";
+
+/// Free space of 340 bytes after a name field of 16.
+const NULL_340: [u8; 40] =
+    *b"LARCHIVE\0\0\x01\x54\xff\xff\xff\xff\0\0\0\0\0\0\0\x28\0\0\0\0\0\0\0\0\0\0\0\0\0\0\0\0";
+
+/// The component `a` of ten bytes, as it is added.
+const A: [u8; 38] = *b"LARCHIVE\0\0\0\x0a\0\0\0\x50\0\0\0\0\0\0\0\x1ca\0\0\00123456789";
+
+/// A component `b` of 20 bytes, as it is added, and the same but for its content, which stands behind a gap of 36.
+const B: [u8; 48] = *b"LARCHIVE\0\0\0\x14\0\0\0\x50\0\0\0\0\0\0\0\x1cb\0\0\0LARCHIVE89abcdefghij";
+
+const B_BEFORE_GAP: [u8; 28] = *b"LARCHIVE\0\0\0\x14\0\0\0\x50\0\0\0\0\0\0\0\x40b\0\0\0";
+
+/// Content that looks like an entry.
+pub const MAGIC_20: [u8; 20] = *b"LARCHIVE89abcdefghij";
+
+/// Headers of empty entries inside a region, by their sizes, and of such at its end.
+const EMPTY_64: [u8; 28] = *b"LARCHIVE\0\0\0\x24\xff\xff\xff\xff\0\0\0\0\0\0\0\x1c\0\0\0\0";
+
+const EMPTY_128: [u8; 28] = *b"LARCHIVE\0\0\0\x64\xff\xff\xff\xff\0\0\0\0\0\0\0\x1c\0\0\0\0";
+
+const LAST_192: [u8; 28] = *b"LARCHIVE\0\0\0\xa0\xff\xff\xff\xff\0\0\0\0\0\0\0\x1c\0\0\0\0";
+
+const LAST_384: [u8; 28] = *b"LARCHIVE\0\0\x01\x60\xff\xff\xff\xff\0\0\0\0\0\0\0\x1c\0\0\0\0";
+
+const LAST_448: [u8; 28] = *b"LARCHIVE\0\0\x01\xa0\xff\xff\xff\xff\0\0\0\0\0\0\0\x1c\0\0\0\0";
+
+const LAST_512: [u8; 28] = *b"LARCHIVE\0\0\x01\xe0\xff\xff\xff\xff\0\0\0\0\0\0\0\x1c\0\0\0\0";
+
+/// What a region holds.
+#[derive(Clone, Copy)]
+pub enum Held {
+    /// One empty entry.
+    Fresh,
+    /// A component between free cells.
+    Between,
+    /// Two components of a name.
+    Twice,
+    /// The second of them.
+    Once,
+    /// The component `a`.
+    WithA,
+    /// The same, and `b` with a gap before its content.
+    WithLater,
+    /// `a`, and `b` behind it.
+    Both,
+    /// These, of which `a` was removed.
+    BehindFree,
+    /// `b` at the start.
+    WithB,
+    /// The component `a`, and other last four bytes.
+    WithLast,
+    /// One empty entry before these.
+    FreshBeforeLast,
+}
+
+/// What stands where in such a region; 0xff stands elsewhere.
+fn parts_of(held: Held) -> Parts<'static> {
+    match held {
+        Held::Fresh => &[(0, &LAST_512)],
+        Held::Between => &[(0, &DELETED), (64, &M), (128, &NULL_340)],
+        Held::Twice => &[(0, &X1), (64, &X2), (128, &NULL_340)],
+        Held::Once => &[(0, &EMPTY_64), (64, &X2), (128, &NULL_340)],
+        Held::WithA => &[(0, &A), (64, &LAST_448)],
+        Held::WithLater => &[
+            (0, &A),
+            (64, &EMPTY_128),
+            (192, &B_BEFORE_GAP),
+            (256, &MAGIC_20),
+            (320, &LAST_192),
+        ],
+        Held::Both => &[(0, &A), (64, &B), (128, &LAST_384)],
+        Held::BehindFree => &[(0, &EMPTY_64), (64, &B), (128, &LAST_384)],
+        Held::WithB => &[(0, &B), (64, &LAST_448)],
+        Held::WithLast => &[(0, &A), (64, &LAST_448), (508, b"last")],
+        Held::FreshBeforeLast => &[(0, &LAST_512), (508, b"last")],
+    }
+}
+
+/// An image of so many bytes with this map, and these parts from `start` on; 0xff stands elsewhere.
+pub fn image_with(
+    rt: &(impl Abort + AllocGlobal),
+    len: usize,
+    map: &[u8],
+    start: usize,
+    parts: Parts,
+) -> Vec<u8> {
+    let mut image = filled(rt, 0xff, len);
+    write_over(&mut image, 0, map);
+    for (at, part) in parts {
+        write_over(&mut image, at.saturating_add(start), part);
+    }
+    image
+}
+
+/// The image whose region holds that.
+pub fn image_of(rt: &(impl Abort + AllocGlobal), held: Held) -> Vec<u8> {
+    image_with(rt, LEN, &MAP, START, parts_of(held))
+}
+
+pub fn device_of(rt: &(impl Abort + AllocGlobal), held: Held) -> MemFlash {
+    device_from(rt, image_of(rt, held))
+}
+
+/// When a device and a source refuse all calls: after the first `calls`, where the first `part` bytes of the write that is
+/// refused first are kept, and after the first `reads`.
+#[derive(Clone, Copy)]
+pub struct Stop {
+    pub calls: u64,
+    pub part: usize,
+    pub reads: u64,
+}
+
+/// Such a device.
+pub fn stopping(device: MemFlash, stop: Stop) -> Failing {
+    Paged::new(FailAt::new(device, stop.calls, stop.part))
+}
+
+/// A device has this image.
+pub fn holds(rt: &(impl Abort + AllocGlobal), device: &MemFlash, held: Held) {
+    same_bytes(rt, device.bytes(), &image_of(rt, held));
+}
+
+/// A part of a device.
+pub fn part_of<F: Flash>(rt: &impl Abort, paged: &Paged<F>, start: u64, size: u64) -> Region
+    ensures { LiesIn result (F.facts paged.now.device).content }
+{
+    Region::within(start, size, paged.len()).expect(rt, "a region")
+}
+
+/// The region COREBOOT.
+pub fn region_of<F: Flash>(rt: &impl Abort, paged: &Paged<F>) -> Region
+    ensures { LiesIn result (F.facts paged.now.device).content }
+{
+    part_of(rt, paged, START as u64, SIZE as u64)
+}
+
+pub fn source_of<'a>(rt: &impl Abort, bytes: &'a [u8]) -> MemSource<'a> {
+    assert!(rt; bytes.len() < 1 << 32);
+    MemSource::new(bytes)
+}
+
+/// Puts down a component: its place in the region, and its bytes up to the end of its content.
+fn put_down(told: &mut Vec<u8>, cell: &Cell, bytes: &[u8]) -> Result<(), AllocError> {
+    if cell.head.is_free() {
+        return Ok(());
+    }
+    told.extend_from_slice(&cell.at.to_be_bytes())?;
+    let n = (cell.head.offset as usize).saturating_add(cell.head.len as usize);
+    let rest = bytes.get(cell.at as usize..).unwrap_or(&[]);
+    told.extend_from_slice(rest.get(..n).unwrap_or(rest))
+}
+
+/// Puts down the components up to the end of a walk through the region that begins at `start`, and answers whether no entry is
+/// damaged.
+fn walk_on(
+    walk: &mut Walk,
+    paged: &mut Paged<MemFlash>,
+    start: usize,
+    told: &mut Vec<u8>,
+) -> Result<bool, AllocError>
+    requires { LiesIn walk.old.region paged.old.device.content }
+{
+    loop {
+        match walk.next(paged) {
+            Ok(Step::Cell(cell)) => {
+                let bytes = paged.flash().bytes();
+                put_down(told, &cell, bytes.get(start..).unwrap_or(&[]))?
+            }
+            Ok(Step::Tail(_)) => return Ok(true),
+            Ok(Step::End) => return Ok(true),
+            Err(_) => return Ok(false),
+        }
+    }
+}
+
+/// All components of a region, none of which is damaged.
+pub fn components(
+    rt: &(impl Abort + AllocGlobal),
+    device: MemFlash,
+    start: usize,
+    size: usize,
+) -> Vec<u8> {
+    let mut paged = Paged::new(device);
+    let region = part_of(rt, &paged, start as u64, size as u64);
+    let mut told = Vec::new(rt.alloc());
+    let ends = walk_on(&mut Walk::new(region), &mut paged, start, &mut told).expect(rt, "memory");
+    assert!(rt; ends);
+    told
+}

@@ -1,0 +1,90 @@
+//! Areas of two small images, on devices that fail.
+use crate::support::{Failing, equal, failing};
+use flash_format::Area;
+use flashmap_changes::{ChangeFault, image_changes};
+use flashmap_check::NumberedArea;
+use std::process::Abort;
+
+/// One of both blocks, and one of each.
+const AREAS: [NumberedArea; 3] = [
+    NumberedArea {
+        number: 0,
+        area: Area {
+            offset: 0,
+            size: 8192,
+            name: *b"BOTH\0\0\0\0\0\0\0\0\0\0\0\0\0\0\0\0\0\0\0\0\0\0\0\0\0\0\0\0",
+            flags: 0,
+        },
+    },
+    NumberedArea {
+        number: 1,
+        area: Area {
+            offset: 0,
+            size: 4096,
+            name: *b"FIRST\0\0\0\0\0\0\0\0\0\0\0\0\0\0\0\0\0\0\0\0\0\0\0\0\0\0\0",
+            flags: 0,
+        },
+    },
+    NumberedArea {
+        number: 2,
+        area: Area {
+            offset: 4096,
+            size: 4096,
+            name: *b"SECOND\0\0\0\0\0\0\0\0\0\0\0\0\0\0\0\0\0\0\0\0\0\0\0\0\0\0",
+            flags: 0,
+        },
+    },
+];
+
+/// In how many blocks two images with these areas differ, and of how many areas a change is told.
+fn told_between(
+    rt: &(impl Abort + AllocGlobal),
+    old: &mut Failing,
+    new: &mut Failing,
+) -> Result<(u32, usize), ChangeFault> {
+    match image_changes(rt.alloc(), old, &AREAS, new, &AREAS) {
+        Ok(changes) => Ok((changes.blocks, changes.areas.len())),
+        Err(fault) => Err(fault),
+    }
+}
+
+fn has(
+    rt: &(impl Abort + AllocGlobal),
+    old: &mut Failing,
+    new: &mut Failing,
+    expected: &Result<(u32, usize), ChangeFault>,
+) {
+    equal(rt, &told_between(rt, old, new), expected);
+}
+
+/// A device of two blocks that begins with these bytes.
+fn beginning(rt: &(impl Abort + AllocGlobal), bytes: &[u8], calls: u64) -> Failing {
+    failing(rt, 8192, &[(0, bytes)], calls)
+}
+
+/// Devices that refuse all calls behind the first ones tell this of areas that hold both blocks, and each of them, where the
+/// first one differs.
+fn told_after(
+    rt: &(impl Abort + AllocGlobal),
+    old_calls: u64,
+    new_calls: u64,
+    expected: Result<(u32, usize), ChangeFault>,
+) {
+    let mut old = beginning(rt, b"", old_calls);
+    let mut new = beginning(rt, b"x", new_calls);
+    has(rt, &mut old, &mut new, &expected);
+}
+
+#[test]
+fn areas_on_devices_that_refuse_a_read(rt: HostRuntime) {
+    told_after(&rt, 0, 2, Err(ChangeFault::OldDevice));
+    told_after(&rt, 1, 2, Err(ChangeFault::OldDevice));
+    told_after(&rt, 2, 0, Err(ChangeFault::NewDevice));
+    told_after(&rt, 2, 1, Err(ChangeFault::NewDevice));
+}
+
+// Each block is read once, though two areas hold it.
+#[test]
+fn areas_that_stay_take_one_pass(rt: HostRuntime) {
+    told_after(&rt, 2, 2, Ok((1, 2)));
+}

@@ -1,0 +1,61 @@
+//! Reports on devices that fail.
+use crate::report::support::{image, keys};
+use crate::support::{ALL, Failing, equal};
+use check_report::{Answer, ReportFault, Request, report_change, report_image};
+use check_rows::Form;
+use std::process::Abort;
+use std::random::RandomSource;
+
+fn request<'a>(kept: &'a [&'a [u8]], form: Form) -> Request<'a> {
+    Request {
+        areas: &[],
+        kept,
+        is_verbose: false,
+        form,
+    }
+}
+
+fn of_image(
+    rt: &(impl Abort + AllocGlobal + RandomSource),
+    paged: &mut Failing,
+) -> Result<Answer, ReportFault> {
+    report_image(rt.alloc(), keys(rt), paged, request(&[], Form::Json))
+}
+
+/// The report on what changes, where `A` is to be kept.
+fn of_change(
+    rt: &(impl Abort + AllocGlobal + RandomSource),
+    old: &mut Failing,
+    new: &mut Failing,
+) -> Result<Answer, ReportFault> {
+    report_change(rt.alloc(), keys(rt), old, new, request(&[b"A"], Form::Text))
+}
+
+/// There is no report, for this reason.
+fn is_refused(rt: &impl Abort, answer: Result<Answer, ReportFault>, fault: ReportFault) {
+    equal(rt, &answer.err(), &Some(fault));
+}
+
+#[test]
+fn a_report_on_a_device_that_refuses_a_read(rt: HostRuntime) {
+    let mut paged = image(&rt, b"", 0);
+    is_refused(&rt, of_image(&rt, &mut paged), ReportFault::NewDevice);
+}
+
+/// There is no report on what changes, for this reason.
+fn refuses_change(
+    rt: &(impl Abort + AllocGlobal + RandomSource),
+    old_calls: u64,
+    new_calls: u64,
+    fault: ReportFault,
+) {
+    let mut old = image(rt, b"", old_calls);
+    let mut new = image(rt, b"", new_calls);
+    is_refused(rt, of_change(rt, &mut old, &mut new), fault);
+}
+
+#[test]
+fn devices_that_refuse_a_read(rt: HostRuntime) {
+    refuses_change(&rt, 0, ALL, ReportFault::OldDevice);
+    refuses_change(&rt, ALL, 0, ReportFault::NewDevice);
+}

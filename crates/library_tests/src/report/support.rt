@@ -1,0 +1,42 @@
+//! An image, and what several of the tests of reports make and compare.
+use crate::support::{Failing, equal, failing};
+use check_rows::Report;
+use std::hash::RandomState;
+use std::process::Abort;
+use std::random::RandomSource;
+
+/// A map of 8192 bytes with three areas of 256 bytes: its own, `A` from 256 on, and `B` from 5120 on, so behind the first
+/// piece that is read.
+pub const MAP: [u8; 182] =
+    *b"__FMAP__\x01\x01\0\0\0\0\0\0\0\0\0\x20\0\0FLASH\0\0\0\0\0\0\0\0\0\0\0\0\0\0\0\0\0\0\0\0\0\0\0\0\0\0\0\x03\0\
+\0\0\0\0\0\x01\0\0FMAP\0\0\0\0\0\0\0\0\0\0\0\0\0\0\0\0\0\0\0\0\0\0\0\0\0\0\0\0\0\0\
+\0\x01\0\0\0\x01\0\0A\0\0\0\0\0\0\0\0\0\0\0\0\0\0\0\0\0\0\0\0\0\0\0\0\0\0\0\0\0\0\0\0\0\
+\0\x14\0\0\0\x01\0\0B\0\0\0\0\0\0\0\0\0\0\0\0\0\0\0\0\0\0\0\0\0\0\0\0\0\0\0\0\0\0\0\0\0";
+
+/// The component `a` of the bytes `0123456789`.
+pub const ONE: [u8; 50] =
+    *b"LARCHIVE\0\0\0\x0a\0\0\0\x50\0\0\0\0\0\0\0\x28a\0\0\0\0\0\0\0\0\0\0\0\0\0\0\x000123456789";
+
+/// A device of the map and this at the start of `A`, whose calls after the first few are refused.
+pub fn image(rt: &(impl Abort + AllocGlobal), component: &[u8], calls: u64) -> Failing {
+    failing(rt, 8192, &[(0, &MAP), (256, component)], calls)
+}
+
+/// How much was told. (What a function answers is dropped here, so that it needn't be at each call.)
+pub fn count<T: Drop, E: Copy>(told: Result<Vec<T>, E>) -> Result<usize, E> {
+    match told {
+        Ok(told) => Ok(told.len()),
+        Err(fault) => Err(fault),
+    }
+}
+
+/// Keys for the hasher of names.
+pub fn keys(rt: &(impl Abort + RandomSource)) -> RandomState {
+    RandomState::new(rt).expect(rt, "random numbers")
+}
+
+/// This is all that a report says.
+pub fn ends(rt: &impl Abort, report: Report, expected: &[u8]) {
+    let text = report.finish().expect(rt, "memory");
+    equal(rt, &text.as_slice(), &expected);
+}
