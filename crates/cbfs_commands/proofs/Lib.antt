@@ -12,3 +12,4 @@ mod WrittenBack
 mod Planned
 mod Created
 mod Extracted
+mod Running

@@ -1,6 +1,6 @@
 -- What a command asks for, and what it is to an image: its outcome, what it may change, which sides it uses, and what a
 -- stop leaves.
-use Rattle.std.specs.Prelude.{ℕ, Bool, List, map, ◌≡◌, ◌+◌, ◌/◌, ◌⊎◌, true, false, [], length, Option, Some, None, is_some, MatchOption, Result, Ok, Err, IsErrOf, IsTrue, ◌==◌, if◌then◌else◌}
+use Rattle.std.specs.Prelude.{ℕ, Bool, List, map, ◌≡◌, ◌+◌, ◌/◌, ◌<◌, ◌≤◌, ◌⊎◌, true, false, [], length, Option, Some, None, is_some, MatchOption, Result, Ok, Err, IsErrOf, IsTrue, ◌==◌, if◌then◌else◌}
 use Rattle.cbfs_edit.specs.declared.addition.HashChoice.{HashChoice}
 use Rattle.cbfs_edit.specs.declared.place.Spot.{Spot}
 use Rattle.cbfs_commands.specs.declared.command.Command.{Command}
@@ -167,3 +167,18 @@ pub record HasChanged {F : Type 0} (facts : F → Device) (n : ℕ) (change : Ch
   pub refused : OnHonest facts old.device (λ image. MayHaveWritten answer ⊎ ((facts new.device).content ≡ image))
   pub left : OnHonest facts old.device (λ image. Serves (changes change) source → LeavesOr (facts new.device).content answer (outcome (changes change) image source.content))
   pub stopped : OnHonest facts old.device (λ image. Serves (changes change) source → change.Stopped image source.content answer (facts new.device).content)
+
+-- What is left where a command of this deed has run, by at most n calls of the device: the sides that it doesn't use are as they
+-- were, each fault is told only where that side failed, and the rest is said of an honest device.
+pub record HasRun {F S W : Type 0} (facts : F → Device) (sources : S → Device) (contents : W → Option (List ℕ)) (faults : W → ℕ) (n : ℕ) (d : Deed) (old new : Pages F) (source_old source_new : S) (out_old out_new : W) (answer : Answer) : Type 0 where
+  pub calls : Calls n (faults_told by_device answer) (facts old.device) (facts new.device)
+  pub source_calls : Calls (source_calls d (length (sources source_old).content)) (faults_told by_source answer) (sources source_old) (sources source_new)
+  pub sink : faults out_old ≤ faults out_new
+  pub unread : reads_source d ≡ false → source_new ≡ source_old
+  pub unwritten : writes_output d ≡ false → out_new ≡ out_old
+  pub source : IsErrOf answer refusals.Source → IsTrue (reads_source d)
+  pub output : IsErrOf answer refusals.Output → IsTrue (writes_output d) × (faults out_old < faults out_new)
+  pub spares : OnHonest facts old.device (λ image. SparesOutside ((change_of d).target image) image (facts new.device).content)
+  pub refused : OnHonest facts old.device (λ image. MayHaveWritten answer ⊎ ((facts new.device).content ≡ image))
+  pub outcome : OnHonest facts old.device (λ image. Serves d (sources source_old) → Meets d (contents out_old) (contents out_new) image (sources source_old).content (facts new.device).content answer)
+  pub stopped : OnHonest facts old.device (λ image. Serves d (sources source_old) → (change_of d).Stopped image (sources source_old).content answer (facts new.device).content)

@@ -2,7 +2,7 @@
 
 ghost use Rattle.std.specs.Prelude.{◌≡◌, ◌+◌, ◌*◌, ◌/◌, ◌<◌, ◌≤◌, ◌⊎◌, false, length, IsTrue, IsErrOf};
 ghost use Rattle.flash_store.specs.Device.{Calls, faults_told};
-ghost use Rattle.cbfs_commands.specs.Deeds.{Meets, MayHaveWritten, Serves, SparesOutside, change_of, deed, reads_source, source_calls, writes_output, request_of, HasChanged, adds, no_source, removes};
+ghost use Rattle.cbfs_commands.specs.Deeds.{Meets, MayHaveWritten, Serves, SparesOutside, change_of, deed, reads_source, source_calls, writes_output, request_of, HasChanged, HasRun, adds, no_source, removes};
 ghost use Rattle.cbfs_commands.specs.Refusals.{by_device, by_source};
 
 use crate::command::Command;
@@ -42,6 +42,34 @@ fn remove<F: Flash>(paged: &mut Paged<F>, region: &[u8], name: &[u8]) -> Result<
     let region = flash_store::region(paged, region)?;
     cbfs_edit::remove(paged, region, name)?;
     Ok(())
+}
+
+/// Hands a command on to the function that is it.
+fn dispatch<F: Flash, S: Source, W: Sink>(
+    paged: &mut Paged<F>,
+    command: &Command,
+    source: &mut S,
+    out: &mut W,
+) -> Result<(), Refusal>
+    ensures { HasRun F.facts S.facts W.contents W.faults (2 * length (F.facts paged.old.device).content + 64)
+        (deed (request_of command.now)) paged.old paged.new source.old source.new out.old out.new result }
+{
+    match command {
+        Command::Print { region, verbose } => print(paged, region, *verbose, out),
+        Command::Layout => layout(paged, out),
+        Command::Extract { region, name } => extract(paged, region, name, out),
+        Command::Add {
+            region,
+            name,
+            kind,
+            hash,
+            spot,
+        } => add(paged, region, name, *kind, *hash, *spot, source),
+        Command::Remove { region, name } => remove(paged, region, name),
+        Command::Read { region } => read(paged, region, out),
+        Command::Write { region } => write(paged, region, source),
+        Command::Create { regions } => create(paged, regions.as_slice(), source),
+    }
 }
 
 /// Runs a command on an image. It takes no memory.
@@ -84,20 +112,5 @@ pub fn run<F: Flash, S: Source, W: Sink>(
         (change_of (deed (request_of command.now))).Stopped (F.facts paged.old.device).content (S.facts source.old).content result
         (F.facts paged.new.device).content }
 {
-    match command {
-        Command::Print { region, verbose } => print(paged, region, *verbose, out),
-        Command::Layout => layout(paged, out),
-        Command::Extract { region, name } => extract(paged, region, name, out),
-        Command::Add {
-            region,
-            name,
-            kind,
-            hash,
-            spot,
-        } => add(paged, region, name, *kind, *hash, *spot, source),
-        Command::Remove { region, name } => remove(paged, region, name),
-        Command::Read { region } => read(paged, region, out),
-        Command::Write { region } => write(paged, region, source),
-        Command::Create { regions } => create(paged, regions.as_slice(), source),
-    }
+    dispatch(paged, command, source, out)
 }

@@ -1,0 +1,55 @@
+-- What a call of one command leaves is what `run` promises of its deed.
+use Rattle.std.proofs.Common.{◌≡◌, ℕ, List, Option, true, refl, rules}
+use Rattle.flash_store.specs.Device.{Device}
+use Rattle.flash_store.specs.Pages.{Pages}
+use Rattle.cbfs_commands.specs.Deeds.{Change, HasChanged, HasRun, changes, no_source, reads_source, removes, tells}
+use Rattle.cbfs_commands.specs.Told.{Answer, HasTold, Told}
+
+module _ {F S W : Type 0} {facts : F → Device} {sources : S → Device} {contents : W → Option (List ℕ)} {faults : W → ℕ} {n : ℕ} {old new : Pages F} {source : S} {out : W} {answer : Answer} where
+  -- it tells something
+  pub told_runs : {t : List ℕ → Told} {out_new : W} → HasTold facts contents faults n old new out out_new answer t → HasRun facts sources contents faults n (tells t) old new source source out out_new answer
+  told_runs h = record {
+    calls = h.read.device.calls;
+    source_calls = search rules;
+    sink = h.sink;
+    unread = search rules;
+    unwritten = search rules;
+    source = search rules;
+    output = search rules;
+    spares = search rules;
+    refused = search rules;
+    outcome = search rules;
+    stopped = search rules;
+  }
+
+  -- it changes the image by what a source gives
+  pub fed_runs : {c : Change} {source_new : S} → reads_source (changes c) ≡ true → HasChanged facts n c old new (sources source) (sources source_new) answer → HasRun facts sources contents faults n (changes c) old new source source_new out out answer
+  fed_runs reads h = record {
+    calls = h.calls;
+    source_calls = h.source_calls;
+    sink = search rules;
+    unread = search rules;
+    unwritten = search rules;
+    source = search rules;
+    output = search rules;
+    spares = h.spares;
+    refused = h.refused;
+    outcome = h.left;
+    stopped = h.stopped;
+  }
+
+  -- it removes a component, which reads no source
+  pub removal_runs : (region name : List ℕ) → HasChanged facts n (removes region name) old new no_source no_source answer → HasRun facts sources contents faults n (changes (removes region name)) old new source source out out answer
+  removal_runs region name h = record {
+    calls = h.calls;
+    source_calls = search rules;
+    sink = search rules;
+    unread = search rules;
+    unwritten = search rules;
+    source = search rules;
+    output = search rules;
+    spares = h.spares;
+    refused = h.refused;
+    outcome = λ honest serves. h.left honest (λ reads. refl);
+    stopped = λ honest serves. h.stopped honest (λ reads. refl);
+  }
