@@ -5,12 +5,12 @@ use Rattle.std.proofs.Math.Seq.{take-length}
 use Rattle.std.specs.Str.{bytes_eq}
 use Rattle.std.proofs.lemmas.Bool.{false_from_ne_true}
 use Rattle.std.proofs.lemmas.Slice.Eq.{bytes_eq-Decides}
-use Rattle.flash_store.specs.Device.{Device}
-use Rattle.flash_store.specs.Pages.{Pages}
-use Rattle.flash_store.proofs.CopyLemmas.{slice_range-join}
-use Rattle.flash_store.proofs.WindowLemmas.{HasRead-none, HasRead-then, HasRead-within}
-use Rattle.flash_store.proofs.DeviceLemmas.{length-bytes_in}
-use Rattle.flash_store.specs.Regions.{Range, LiesIn, bytes_in}
+use Rattle.flash_device.specs.Device.{Device}
+use Rattle.flash_device.specs.Pages.{Pages}
+use Rattle.flash_device.proofs.CopyLemmas.{slice_range-join}
+use Rattle.flash_device.proofs.WindowLemmas.{HasRead-none, HasRead-then, HasRead-within}
+use Rattle.flash_device.proofs.DeviceLemmas.{length-bytes_in}
+use Rattle.flash_device.specs.Regions.{Range, LiesIn, bytes_in}
 use Rattle.cbfs_walk.proofs.Parts.{part-in, range-inner}
 use Rattle.cbfs_changes.specs.Sides.{HasReadBoth}
 use Rattle.cbfs_changes.specs.declared.stretch.Stretch.{Stretch}

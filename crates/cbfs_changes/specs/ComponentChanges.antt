@@ -5,7 +5,7 @@ use Rattle.std.specs.Str.{bytes_eq}
 use Rattle.flash_format.specs.Head.{head_of}
 use Rattle.flash_format.specs.Entry.{name_end}
 use Rattle.flash_format.specs.Components.{Component, components}
-use Rattle.flash_store.specs.Regions.{Range, bytes_in}
+use Rattle.flash_device.specs.Regions.{Range, bytes_in}
 use Rattle.cbfs_walk.specs.Shapes.{shape_fault, refused_or}
 use Rattle.cbfs_changes.specs.declared.change.Difference.{Difference}
 use Rattle.cbfs_changes.specs.declared.change.Difference.TheVariants.{«Type», Length, Content, Attributes}

@@ -5,9 +5,9 @@ use Rattle.std.specs.declared.alloc.Global.{Global}
 use Rattle.flash_format.specs.Head.{is_free}
 use Rattle.flash_format.specs.Entry.{name_end}
 use Rattle.flash_format.specs.Components.{component_at}
-use Rattle.flash_store.specs.Device.{Device}
-use Rattle.flash_store.specs.Pages.{Pages, OnHonestIn}
-use Rattle.flash_store.specs.Regions.{Range}
+use Rattle.flash_device.specs.Device.{Device}
+use Rattle.flash_device.specs.Pages.{Pages, OnHonestIn}
+use Rattle.flash_device.specs.Regions.{Range}
 use Rattle.cbfs_walk.specs.Cells.{IsCellIn, cell_in}
 use Rattle.cbfs_walk.specs.Hashes.{content_at}
 use Rattle.cbfs_walk.specs.declared.cell.Cell.{Cell}

@@ -1,8 +1,8 @@
 -- Two regions, each on a device of its own: faults by side, and what is left after reading both.
 use Rattle.std.specs.Prelude.{ℕ, Result}
-use Rattle.flash_store.specs.Device.{Device, faults_told}
-use Rattle.flash_store.specs.Pages.{Pages, HasRead}
-use Rattle.flash_store.specs.Regions.{Range, LiesIn}
+use Rattle.flash_device.specs.Device.{Device, faults_told}
+use Rattle.flash_device.specs.Pages.{Pages, HasRead}
+use Rattle.flash_device.specs.Regions.{Range, LiesIn}
 use Rattle.cbfs_changes.specs.declared.fault.ChangeFault.{ChangeFault}
 use Rattle.cbfs_changes.specs.declared.fault.ChangeFault.TheVariants as faults
 use Rattle.cbfs_changes.specs.declared.fault.ListingFault.{ListingFault}

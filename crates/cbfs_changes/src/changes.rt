@@ -2,9 +2,9 @@
 ghost use Rattle.std.specs.Prelude.{◌≡◌, ℕ, List, [], ◌∷◌, ◌++◌, ◌+◌, ◌/◌, All, IfOk, OnOk};
 ghost use Rattle.std.specs.List.{flat_map};
 ghost use Rattle.std.specs.Option.{ForSome};
-ghost use Rattle.flash_store.specs.Device.{faults_told};
-ghost use Rattle.flash_store.specs.Pages.{HasRead, OnHonest, OnHonestIn};
-ghost use Rattle.flash_store.specs.Regions.{LiesIn};
+ghost use Rattle.flash_device.specs.Device.{faults_told};
+ghost use Rattle.flash_device.specs.Pages.{HasRead, OnHonest, OnHonestIn};
+ghost use Rattle.flash_device.specs.Regions.{LiesIn};
 ghost use Rattle.cbfs_changes.specs.ComponentChanges.{changes_between, component_changes, pair_change, region_bytes, region_size};
 ghost use Rattle.cbfs_changes.specs.Listings.{IsListedIn, Lists, listed_change, listed_removal, spans, states_in};
 ghost use Rattle.cbfs_changes.specs.Sides.{BothLieIn, HasCompared, by_new, by_old};
@@ -15,7 +15,7 @@ use crate::fault::ChangeFault;
 use crate::first::{Listing, with_firsts};
 use crate::listing::{Listed, components};
 use cbfs_check::Name;
-use flash_store::{Flash, Paged, Region};
+use flash_device::{Flash, Paged, Region};
 use std::alloc::{AllocError, Global};
 use std::hash::RandomState;
 

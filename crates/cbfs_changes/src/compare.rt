@@ -1,7 +1,7 @@
 //! Comparing components of two devices.
 ghost use Rattle.std.specs.Prelude.{◌≡◌, ◌+◌, ◌-◌, ◌/◌, ◌≤◌, true, length, slice_range, IfOk};
 ghost use Rattle.std.specs.Str.{bytes_eq};
-ghost use Rattle.flash_store.specs.Pages.{OnHonest, OnHonestIn};
+ghost use Rattle.flash_device.specs.Pages.{OnHonest, OnHonestIn};
 ghost use Rattle.cbfs_changes.specs.Listings.{IsUsedIn, cell_difference};
 ghost use Rattle.cbfs_changes.specs.Sides.{BothLieIn, HasCompared};
 
@@ -9,7 +9,7 @@ use crate::change::Difference;
 use crate::fault::ChangeFault;
 use crate::stretch::Stretch;
 use cbfs_walk::Cell;
-use flash_store::{Flash, PIECE, Paged, Region};
+use flash_device::{Flash, PIECE, Paged, Region};
 
 /// What differs first between a component of the old region and one of the new.
 pub fn difference<F: Flash, G: Flash>(

@@ -3,7 +3,7 @@ ghost use Rattle.std.specs.Prelude.{◌≡◌};
 ghost use Rattle.cbfs_changes.specs.declared.fault.ListingFault.TheVariants as listing;
 ghost use Rattle.cbfs_changes.specs.declared.fault.ChangeFault.TheVariants as changes;
 
-use flash_store::FlashFault;
+use flash_device::FlashFault;
 use std::alloc::AllocError;
 
 /// Why no change is told.

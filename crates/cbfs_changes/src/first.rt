@@ -7,7 +7,7 @@ ghost use Rattle.cbfs_changes.specs.declared.listing.Listed.{Listed};
 
 use crate::listing::Listed;
 use cbfs_walk::Cell;
-use flash_store::Region;
+use flash_device::Region;
 use std::alloc::{AllocError, Global};
 use std::collections::HashMap;
 use std::hash::RandomState;

@@ -1,8 +1,8 @@
 //! The components of a region.
 ghost use Rattle.std.specs.Prelude.{◌≡◌, ◌≢◌, ◌+◌, ◌/◌, [], ◌∷◌, ◌++◌, IfOk, IfErr, OnOk, OnErr};
-ghost use Rattle.flash_store.specs.Device.{faults_told};
-ghost use Rattle.flash_store.specs.Pages.{HasRead, OnHonestIn};
-ghost use Rattle.flash_store.specs.Regions.{LiesIn};
+ghost use Rattle.flash_device.specs.Device.{faults_told};
+ghost use Rattle.flash_device.specs.Pages.{HasRead, OnHonestIn};
+ghost use Rattle.flash_device.specs.Regions.{LiesIn};
 ghost use Rattle.cbfs_walk.specs.Cells.{IsCellIn};
 ghost use Rattle.cbfs_walk.specs.Walks.{StandsIn};
 ghost use Rattle.cbfs_changes.specs.Listings.{AddsAtMost, Lists, cell_states, states_in};
@@ -11,7 +11,7 @@ ghost use Rattle.cbfs_changes.specs.Sides.{by_device};
 use crate::fault::ListingFault;
 use cbfs_check::Name;
 use cbfs_walk::{Cell, Step, Walk, WalkFault, cells_stand_in_their_image, name};
-use flash_store::{Flash, Paged, Region};
+use flash_device::{Flash, Paged, Region};
 use std::alloc::Global;
 
 /// A component as a walk gave it.

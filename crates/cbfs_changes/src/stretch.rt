@@ -3,7 +3,7 @@ ghost use Rattle.std.specs.Prelude.{◌≡◌, ◌+◌, ◌<◌, ◌≤◌, ◌^
 ghost use Rattle.flash_format.specs.Entry.{name_end};
 
 use cbfs_walk::Cell;
-use flash_store::Region;
+use flash_device::Region;
 
 /// The bytes between two places, counted from the region's start.
 #[derive(Clone, Copy)]

@@ -1,8 +1,8 @@
 //! The check of a region.
 ghost use Rattle.std.specs.Prelude.{◌≡◌, ◌↔◌, ◌+◌, ◌/◌, IfOk, IsErrOf};
-ghost use Rattle.flash_store.specs.Device.{faults_told};
-ghost use Rattle.flash_store.specs.Pages.{HasRead, OnHonestIn};
-ghost use Rattle.flash_store.specs.Regions.{LiesIn};
+ghost use Rattle.flash_device.specs.Device.{faults_told};
+ghost use Rattle.flash_device.specs.Pages.{HasRead, OnHonestIn};
+ghost use Rattle.flash_device.specs.Regions.{LiesIn};
 ghost use Rattle.cbfs_walk.specs.Cells.{IsCellIn, cell_in};
 ghost use Rattle.cbfs_walk.specs.Walks.{StandsIn};
 ghost use Rattle.cbfs_check.specs.Faults.{by_device};
@@ -14,7 +14,7 @@ use crate::fault::RegionCheckFault;
 use crate::finding::RegionFinding;
 use crate::report::Report;
 use cbfs_walk::{Cell, Step, Walk, WalkFault, cells_stand_in_their_image, check_hash, name};
-use flash_store::{Flash, Paged, Region};
+use flash_device::{Flash, Paged, Region};
 use std::alloc::{AllocError, Global};
 use std::hash::RandomState;
 

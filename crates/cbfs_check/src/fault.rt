@@ -2,7 +2,7 @@
 ghost use Rattle.std.specs.Prelude.{◌≡◌};
 ghost use Rattle.cbfs_check.specs.declared.fault.RegionCheckFault.TheVariants as faults;
 
-use flash_store::FlashFault;
+use flash_device::FlashFault;
 use std::alloc::AllocError;
 
 /// Why a check tells nothing of a region.

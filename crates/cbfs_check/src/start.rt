@@ -1,11 +1,11 @@
 //! Whether a region has a CBFS.
 ghost use Rattle.std.specs.Prelude.{◌≡◌, IfOk};
-ghost use Rattle.flash_store.specs.Pages.{HasAnswered, OnHonestIn};
-ghost use Rattle.flash_store.specs.Regions.{LiesIn};
+ghost use Rattle.flash_device.specs.Pages.{HasAnswered, OnHonestIn};
+ghost use Rattle.flash_device.specs.Regions.{LiesIn};
 ghost use Rattle.cbfs_check.specs.RegionFindings.{begins_with_entry};
 
+use flash_device::{Flash, FlashFault, Paged, Region};
 use flash_format::Head;
-use flash_store::{Flash, FlashFault, Paged, Region};
 
 /// Whether an entry begins at the region's start, sound or not, so that there is a CBFS to check. The region's size
 /// isn't looked at.

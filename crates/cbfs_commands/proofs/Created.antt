@@ -6,12 +6,12 @@ use Rattle.std.proofs.lemmas.Bool.{or_parts}
 use Rattle.std.proofs.lemmas.List.{length-replicate}
 use Rattle.std.proofs.lemmas.List.Elements.{All-nil, All-cons, All-head, All-tail}
 use Rattle.flash_format.proofs.Placed.{empty_is_space}
-use Rattle.flash_store.specs.Device.{overwritten}
-use Rattle.flash_store.specs.Laws.{LieApart, with_edit}
-use Rattle.flash_store.specs.Regions.{Range, LiesIn, bytes_in}
-use Rattle.flash_store.proofs.BytesLemmas.{length-overwritten}
-use Rattle.flash_store.proofs.DeviceLemmas.{length-bytes_in}
-use Rattle.flash_store.proofs.RegionLemmas.{written_beside}
+use Rattle.flash_device.specs.Device.{overwritten}
+use Rattle.flash_device.specs.Laws.{LieApart, with_edit}
+use Rattle.flash_device.specs.Regions.{Range, LiesIn, bytes_in}
+use Rattle.flash_device.proofs.BytesLemmas.{length-overwritten}
+use Rattle.flash_device.proofs.DeviceLemmas.{length-bytes_in}
+use Rattle.flash_device.proofs.RegionLemmas.{written_beside}
 use Rattle.cbfs_walk.specs.Shapes.{has_bad_size}
 use Rattle.cbfs_walk.proofs.Answering.{good_size}
 use Rattle.cbfs_edit.specs.Formats.{IsOneFreeCell, formatted}

@@ -4,10 +4,10 @@ use Rattle.std.specs.Option.{option_map_or}
 use Rattle.flash_format.specs.Components.{is_packed}
 use Rattle.flash_format.specs.Made.{made_attributes}
 use Rattle.flash_format.specs.declared.digest.Digest.{Digest}
-use Rattle.flash_store.specs.Device.{overwritten}
-use Rattle.flash_store.specs.Regions.{Range, bytes_in}
-use Rattle.flash_store.specs.declared.fmap.StoreFault.{StoreFault}
-use Rattle.flash_store.proofs.DeviceLemmas.{length-bytes_in}
+use Rattle.flash_device.specs.Device.{overwritten}
+use Rattle.flash_device.specs.Regions.{Range, bytes_in}
+use Rattle.flash_device.specs.declared.fmap.StoreFault.{StoreFault}
+use Rattle.flash_device.proofs.DeviceLemmas.{length-bytes_in}
 use Rattle.cbfs_edit.specs.Additions.{added}
 use Rattle.cbfs_edit.proofs.Added.{added_length}
 use Rattle.cbfs_edit.proofs.FoundAgain.{additions_found}

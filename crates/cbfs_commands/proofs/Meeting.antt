@@ -1,8 +1,8 @@
 -- A creation may change all bytes of its image, and nothing else is promised of one that stops.
 use Rattle.std.proofs.Common.{◌≡◌, ◌∙◌, ◌⊎◌, inl, inr, IsErrOf, Err, ℕ, List, length, drop, length-drop, ◌+◌, refl, sym, arith}
 use Rattle.std.proofs.lemmas.List.{nil_from_length}
-use Rattle.flash_store.specs.Device.{Calls, Device, SameOutside, faults_told}
-use Rattle.flash_store.specs.Pages.{OnHonest, Pages}
+use Rattle.flash_device.specs.Device.{Calls, Device, SameOutside, faults_told}
+use Rattle.flash_device.specs.Pages.{OnHonest, Pages}
 use Rattle.cbfs_commands.specs.declared.refusal.Refusal.TheVariants as refusals
 use Rattle.cbfs_commands.specs.Deeds.{HasChanged, MayHaveWritten, Serves, changes, creates, outcome, source_calls}
 use Rattle.cbfs_commands.specs.Outcomes.{LeavesOr}

@@ -6,7 +6,7 @@ use Rattle.std.proofs.lemmas.List.{drop-drop, drop_all, drop_more, length-map, l
 use Rattle.std.proofs.lemmas.List.Folds.{find-append}
 use Rattle.flash_format.specs.declared.flashmap.Area.{Area}
 use Rattle.flash_format.specs.Flashmap.{area_of, areas_from, is_area}
-use Rattle.flash_store.specs.Regions.{Range}
+use Rattle.flash_device.specs.Regions.{Range}
 use Rattle.cbfs_commands.specs.declared.refusal.Refusal.{Refusal}
 use Rattle.cbfs_commands.specs.Creations.{first_area}
 

@@ -2,9 +2,9 @@
 use Rattle.std.proofs.Common.{◌≡◌, ℕ, ◌+◌, ◌/◌, ◌%◌, ◌-◌, ◌≤◌, ◌⊎◌, inl, inr, Bool, true, false, List, [], Option, None, Ok, Err, refl, sym, ap, ◌∙◌, arith, subst}
 use Rattle.std.specs.Prelude.{IsErrOf, if◌then◌else◌}
 use Rattle.std.specs.Result.{IsErrAnd}
-use Rattle.flash_store.specs.Device.{Device, faults_told}
-use Rattle.flash_store.specs.Pages.{Pages, HasRead, OnHonest, OnHonestIn}
-use Rattle.flash_store.specs.Regions.{Range, LiesIn, bytes_in}
+use Rattle.flash_device.specs.Device.{Device, faults_told}
+use Rattle.flash_device.specs.Pages.{Pages, HasRead, OnHonest, OnHonestIn}
+use Rattle.flash_device.specs.Regions.{Range, LiesIn, bytes_in}
 use Rattle.cbfs_walk.specs.Cells.{IsCellIn}
 use Rattle.cbfs_walk.specs.Shaped.{reading_of, ReadsCells, by_answer}
 use Rattle.cbfs_walk.specs.Walks.{Walking, GivesCell, answer_at, walk_after, reads_at}
@@ -22,7 +22,7 @@ use Rattle.cbfs_commands.specs.Refusals.{by_device, walk_refusal}
 use Rattle.cbfs_commands.specs.Rows.{rows_from, shown_cell}
 use Rattle.cbfs_commands.specs.Told.{Answer, HasTold, Told, cell_of, shows, refuses}
 use Rattle.cbfs_commands.proofs.Telling.{ToldSoFar, so_far-ends, so_far-more, text_then, told-after, told-none, told-refusal, told-stopped}
-use Rattle.flash_store.proofs.DeviceLemmas.{length-bytes_in}
+use Rattle.flash_device.proofs.DeviceLemmas.{length-bytes_in}
 
 -- what is printed of a region from a place on
 abbrev pub print_from : Bool → List ℕ → ℕ → Told

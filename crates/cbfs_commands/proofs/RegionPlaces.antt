@@ -6,12 +6,12 @@ use Rattle.std.proofs.lemmas.Bool.Decides.{nat_tests}
 use Rattle.std.proofs.lemmas.List.{take-take}
 use Rattle.flash_format.specs.declared.flashmap.Area.{Area}
 use Rattle.flash_format.specs.Flashmap.{map_of, area_in}
-use Rattle.flash_store.specs.Device.{overwritten}
-use Rattle.flash_store.specs.Regions.{Range, LiesIn, bytes_in, region_by_area, region_of, region_under}
-use Rattle.flash_store.specs.declared.fmap.StoreFault.{StoreFault}
-use Rattle.flash_store.specs.declared.fmap.StoreFault.TheVariants as faults
-use Rattle.flash_store.proofs.BytesLemmas.{overwritten-range, slice_range_is}
-use Rattle.flash_store.proofs.RegionLemmas.{written_in}
+use Rattle.flash_device.specs.Device.{overwritten}
+use Rattle.flash_device.specs.Regions.{Range, LiesIn, bytes_in, region_by_area, region_of, region_under}
+use Rattle.flash_device.specs.declared.fmap.StoreFault.{StoreFault}
+use Rattle.flash_device.specs.declared.fmap.StoreFault.TheVariants as faults
+use Rattle.flash_device.proofs.BytesLemmas.{overwritten-range, slice_range_is}
+use Rattle.flash_device.proofs.RegionLemmas.{written_in}
 
 range_size : (r : Range) (start size : ℕ) → (let p : Range = record { start = start; size = size } in p) ≡ r → r.start + r.size ≡ start + size
 range_size r start size is = ap (λ (p : Range). p.start + p.size) (sym is)

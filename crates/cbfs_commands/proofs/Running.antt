@@ -1,7 +1,7 @@
 -- What a call of one command leaves is what `run` promises of its deed.
 use Rattle.std.proofs.Common.{◌≡◌, ℕ, List, Option, true, refl, rules}
-use Rattle.flash_store.specs.Device.{Device}
-use Rattle.flash_store.specs.Pages.{Pages}
+use Rattle.flash_device.specs.Device.{Device}
+use Rattle.flash_device.specs.Pages.{Pages}
 use Rattle.cbfs_commands.specs.Deeds.{Change, HasChanged, HasRun, changes, no_source, reads_source, removes, tells}
 use Rattle.cbfs_commands.specs.Told.{Answer, HasTold, Told}
 

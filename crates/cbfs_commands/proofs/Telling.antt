@@ -6,11 +6,11 @@ use Rattle.std.proofs.Math.Seq.{take-append-add}
 use Rattle.std.specs.Io.KnownBytes.{Appends}
 use Rattle.std.specs.Result.{IsErrAnd}
 use Rattle.std.proofs.KnownBytes.{Appends-nil, Appends-trans}
-use Rattle.flash_store.specs.Device.{Device}
-use Rattle.flash_store.specs.Pages.{Pages, HasRead, OnHonest}
-use Rattle.flash_store.specs.Regions.{Range, bytes_in}
-use Rattle.flash_store.proofs.DeviceLemmas.{honest_still}
-use Rattle.flash_store.proofs.WindowLemmas.{HasRead-none, HasRead-then, HasRead-within}
+use Rattle.flash_device.specs.Device.{Device}
+use Rattle.flash_device.specs.Pages.{Pages, HasRead, OnHonest}
+use Rattle.flash_device.specs.Regions.{Range, bytes_in}
+use Rattle.flash_device.proofs.DeviceLemmas.{honest_still}
+use Rattle.flash_device.proofs.WindowLemmas.{HasRead-none, HasRead-then, HasRead-within}
 use Rattle.cbfs_walk.specs.Walks.{StandsIn}
 use Rattle.cbfs_walk.specs.declared.cell.Cell.{Cell}
 use Rattle.cbfs_commands.specs.declared.refusal.Refusal.{Refusal}

@@ -1,10 +1,10 @@
 -- What was read of a region is written back.
 use Rattle.std.proofs.Common.{◌≡◌, ℕ, List, length, Result, Ok, Err, sym, ◌∙◌, ap, refl}
 use Rattle.std.proofs.lemmas.Bool.{eq-eqb}
-use Rattle.flash_store.specs.Regions.{Range, bytes_in, region_of}
-use Rattle.flash_store.specs.declared.fmap.StoreFault.{StoreFault}
-use Rattle.flash_store.proofs.BytesLemmas.{overwritten-same}
-use Rattle.flash_store.proofs.DeviceLemmas.{length-bytes_in}
+use Rattle.flash_device.specs.Regions.{Range, bytes_in, region_of}
+use Rattle.flash_device.specs.declared.fmap.StoreFault.{StoreFault}
+use Rattle.flash_device.proofs.BytesLemmas.{overwritten-same}
+use Rattle.flash_device.proofs.DeviceLemmas.{length-bytes_in}
 use Rattle.cbfs_commands.specs.declared.refusal.Refusal.{Refusal}
 use Rattle.cbfs_commands.specs.Deeds.{replaces}
 use Rattle.cbfs_commands.specs.Refusals.{fault_or, store_refusal}

@@ -8,9 +8,9 @@ use Rattle.cbfs_commands.specs.declared.command.Command.TheVariants as commands
 use Rattle.std.specs.Option.{option_map_or}
 use Rattle.std.specs.Result.{ForOk, result_ok, result_unwrap_or}
 use Rattle.flash_format.specs.Flashmap.{area_len}
-use Rattle.flash_store.specs.Device.{SameOutside, overwritten, Device, Calls, faults_told}
-use Rattle.flash_store.specs.Pages.{Pages, OnHonest}
-use Rattle.flash_store.specs.Regions.{Range, bytes_in, region_of}
+use Rattle.flash_device.specs.Device.{SameOutside, overwritten, Device, Calls, faults_told}
+use Rattle.flash_device.specs.Pages.{Pages, OnHonest}
+use Rattle.flash_device.specs.Regions.{Range, bytes_in, region_of}
 use Rattle.cbfs_edit.specs.Additions.{added, addition_in, new_component}
 use Rattle.cbfs_edit.specs.Removals.{removal_in, removed}
 use Rattle.cbfs_edit.specs.Changes.{LeavesWhole}

@@ -1,9 +1,9 @@
 -- What holds of the outcomes of the commands.
 use Rattle.std.specs.Prelude.{◌≡◌, ℕ, ◌^◌, ◌<◌, All, List, ◌∷◌, length, Ok}
 use Rattle.std.specs.List.{AllPairs}
-use Rattle.flash_store.specs.Device.{overwritten}
-use Rattle.flash_store.specs.Regions.{Range, bytes_in, region_of}
-use Rattle.flash_store.specs.Laws.{LieApart}
+use Rattle.flash_device.specs.Device.{overwritten}
+use Rattle.flash_device.specs.Regions.{Range, bytes_in, region_of}
+use Rattle.flash_device.specs.Laws.{LieApart}
 use Rattle.cbfs_edit.specs.Additions.{NewComponent, added}
 use Rattle.cbfs_edit.specs.Formats.{IsOneFreeCell}
 use Rattle.cbfs_edit.specs.Laws.{IsAdded}

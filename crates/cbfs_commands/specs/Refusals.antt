@@ -1,9 +1,9 @@
 -- The refusals of the layers below, as a command answers them, and answers that blame no side.
 use Rattle.std.specs.Prelude.{ℕ, ◌⊎◌, Result, Ok, Err, IsErrOf}
-use Rattle.flash_store.specs.declared.fmap.StoreFault.{StoreFault}
-use Rattle.flash_store.specs.declared.fmap.StoreFault.TheVariants as store
-use Rattle.flash_store.specs.declared.paged.CopyFault.{CopyFault}
-use Rattle.flash_store.specs.declared.paged.CopyFault.TheVariants as copy
+use Rattle.flash_device.specs.declared.fmap.StoreFault.{StoreFault}
+use Rattle.flash_device.specs.declared.fmap.StoreFault.TheVariants as store
+use Rattle.flash_device.specs.declared.paged.CopyFault.{CopyFault}
+use Rattle.flash_device.specs.declared.paged.CopyFault.TheVariants as copy
 use Rattle.cbfs_walk.specs.declared.walk.WalkFault.{WalkFault}
 use Rattle.cbfs_edit.specs.Removals.{edit_fault_of}
 use Rattle.cbfs_edit.specs.declared.fault.EditFault.{EditFault}

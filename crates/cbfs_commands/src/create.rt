@@ -1,9 +1,9 @@
 //! The command `create`.
 
 ghost use Rattle.std.specs.Prelude.{◌≡◌, ◌+◌, ◌*◌, ◌/◌, ◌≤◌, All, fold, length, map, OnOk, OnErr, Err};
-ghost use Rattle.flash_store.specs.Device.{Calls, refusals};
-ghost use Rattle.flash_store.specs.Laws.{with_edit};
-ghost use Rattle.flash_store.specs.Pages.{OnHonest};
+ghost use Rattle.flash_device.specs.Device.{Calls, refusals};
+ghost use Rattle.flash_device.specs.Laws.{with_edit};
+ghost use Rattle.flash_device.specs.Pages.{OnHonest};
 ghost use Rattle.cbfs_edit.specs.Formats.{formatted};
 ghost use Rattle.cbfs_commands.specs.declared.flashmap.TheConstants.{MOST_REGIONS};
 ghost use Rattle.cbfs_commands.specs.Creations.{IsPlace};
@@ -12,7 +12,7 @@ ghost use Rattle.cbfs_commands.specs.Deeds.{HasChanged, creates};
 use crate::plan::read_plan;
 use crate::refusal::Refusal;
 use cbfs_edit::{EditFault, format};
-use flash_store::{Flash, Paged, Region, Source};
+use flash_device::{Flash, Paged, Region, Source};
 
 /// Makes a region one empty entry.
 fn format_place<F: Flash>(paged: &mut Paged<F>, place: Region) -> Result<(), Refusal>

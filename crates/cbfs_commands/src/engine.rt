@@ -1,7 +1,7 @@
 //! One command at a time; those that only hand their region on to `cbfs_edit` stand here.
 
 ghost use Rattle.std.specs.Prelude.{◌≡◌, ◌+◌, ◌*◌, ◌/◌, ◌<◌, ◌≤◌, ◌⊎◌, false, length, IsTrue, IsErrOf};
-ghost use Rattle.flash_store.specs.Device.{Calls, faults_told};
+ghost use Rattle.flash_device.specs.Device.{Calls, faults_told};
 ghost use Rattle.cbfs_commands.specs.Deeds.{Meets, MayHaveWritten, Serves, SparesOutside, change_of, deed, reads_source, source_calls, writes_output, request_of, HasChanged, HasRun, adds, no_source, removes};
 ghost use Rattle.cbfs_commands.specs.Refusals.{by_device, by_source};
 
@@ -14,7 +14,7 @@ use crate::read::read;
 use crate::refusal::Refusal;
 use crate::write::write;
 use cbfs_edit::{HashChoice, Spot};
-use flash_store::{Flash, Paged, Sink, Source};
+use flash_device::{Flash, Paged, Sink, Source};
 
 /// Puts the source into free space of the region, as the content of a component.
 fn add<F: Flash, S: Source>(
@@ -29,7 +29,7 @@ fn add<F: Flash, S: Source>(
     ensures { HasChanged F.facts (2 * length (F.facts paged.old.device).content + 64) (adds region.now name.now kind hash spot)
         paged.old paged.new (S.facts source.old) (S.facts source.new) result }
 {
-    let region = flash_store::region(paged, region)?;
+    let region = flash_device::region(paged, region)?;
     cbfs_edit::add(paged, region, name, kind, hash, spot, source)?;
     Ok(())
 }
@@ -39,7 +39,7 @@ fn remove<F: Flash>(paged: &mut Paged<F>, region: &[u8], name: &[u8]) -> Result<
     ensures { HasChanged F.facts (2 * length (F.facts paged.old.device).content + 64)
         (removes region.now name.now) paged.old paged.new no_source no_source result }
 {
-    let region = flash_store::region(paged, region)?;
+    let region = flash_device::region(paged, region)?;
     cbfs_edit::remove(paged, region, name)?;
     Ok(())
 }

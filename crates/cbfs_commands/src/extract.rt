@@ -8,7 +8,7 @@ ghost use Rattle.cbfs_commands.specs.Told.{HasTold, IsComponentOf, cell_of};
 use crate::read::copy_out;
 use crate::refusal::Refusal;
 use cbfs_walk::{Cell, cells_stand_in_their_image, find, packing};
-use flash_store::{Flash, Paged, Region, Sink};
+use flash_device::{Flash, Paged, Region, Sink};
 
 /// Writes the content of a component that isn't compressed.
 fn extract_component<F: Flash, W: Sink>(
@@ -41,7 +41,7 @@ pub fn extract<F: Flash, W: Sink>(
     ensures { HasTold F.facts W.contents W.faults (2 * length (F.facts paged.old.device).content + 64)
         paged.old paged.new out.old out.new result (λ image. told_in image region.now (λ x. extract_region x name.now)) }
 {
-    let region = flash_store::region(paged, region)?;
+    let region = flash_device::region(paged, region)?;
     match find(paged, region, name)? {
         Some(cell) => extract_component(paged, region, &cell, out),
         None => Err(Refusal::NotFound),

@@ -5,14 +5,14 @@ ghost use Rattle.std.specs.Option.{ok_or, option_map};
 ghost use lib.Chars.{codes};
 ghost use Rattle.flash_format.specs.declared.flashmap.Area.{Area};
 ghost use Rattle.flash_format.specs.Flashmap.{fmap_head_len, map_len, areas_from};
-ghost use Rattle.flash_store.specs.Device.{Reads, faults_told, refusals};
-ghost use Rattle.flash_store.specs.Fmap.{map_head};
+ghost use Rattle.flash_device.specs.Device.{Reads, faults_told, refusals};
+ghost use Rattle.flash_device.specs.Fmap.{map_head};
 ghost use Rattle.cbfs_commands.specs.Creations.{head_for, first_area};
 ghost use Rattle.cbfs_commands.specs.Refusals.{by_source};
 
 use crate::refusal::Refusal;
+use flash_device::{Source, SourceFault, area_in_source, map_in_source};
 use flash_format::{Area, FmapHead};
-use flash_store::{Source, SourceFault, area_in_source, map_in_source};
 
 /// How many regions one image can be made with.
 pub const MOST_REGIONS: usize = 16;

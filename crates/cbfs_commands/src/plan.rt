@@ -4,15 +4,15 @@ ghost use Rattle.std.specs.Prelude.{◌≡◌, ◌⊎◌, ◌+◌, ◌/◌, ◌�
 ghost use Rattle.std.specs.List.{list_any};
 ghost use Rattle.std.specs.Result.{result_map_both};
 ghost use Rattle.flash_format.specs.Flashmap.{area_len, map_len};
-ghost use Rattle.flash_store.specs.Device.{Reads, faults_told};
+ghost use Rattle.flash_device.specs.Device.{Reads, faults_told};
 ghost use Rattle.cbfs_commands.specs.Creations.{FitsImage, map_place, overlap, plan_for, plan_of, region_place, region_places, some_overlap};
 ghost use Rattle.cbfs_commands.specs.Refusals.{by_source};
 
 use crate::flashmap::{MOST_REGIONS, first_areas, head_for};
 use crate::refusal::Refusal;
 use arrayvec::ArrayVec;
+use flash_device::{Region, Source, region_of_area};
 use flash_format::{Area, FmapHead};
-use flash_store::{Region, Source, region_of_area};
 
 /// Where everything goes in a new image.
 #[derive(Drop)]

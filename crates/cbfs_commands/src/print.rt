@@ -1,8 +1,8 @@
 //! The command `print`.
 
 ghost use Rattle.std.specs.Prelude.{◌≡◌, ◌+◌, ◌*◌, ◌/◌, ◌<◌, ◌≤◌, length, OnOk, if◌then◌else◌};
-ghost use Rattle.flash_store.specs.Pages.{HasAnswered, OnHonest};
-ghost use Rattle.flash_store.specs.Regions.{LiesIn, bytes_in};
+ghost use Rattle.flash_device.specs.Pages.{HasAnswered, OnHonest};
+ghost use Rattle.flash_device.specs.Regions.{LiesIn, bytes_in};
 ghost use Rattle.cbfs_commands.specs.Outcomes.{print_region, told_in};
 ghost use Rattle.cbfs_commands.specs.Rows.{shown_cell, row};
 ghost use Rattle.cbfs_commands.specs.Told.{HasTold, IsCellOf, cell_of, shows};
@@ -12,7 +12,7 @@ use crate::refusal::Refusal;
 use crate::row::{Row, put_row, set_row_text};
 use arrayvec::ArrayVec;
 use cbfs_walk::{Cell, Step, Walk, cells_stand_in_their_image, name, packing};
-use flash_store::{Flash, FlashFault, Paged, Region, Sink};
+use flash_device::{Flash, FlashFault, Paged, Region, Sink};
 
 /// Makes the buffer the row of a cell. After a fault it may hold anything.
 fn set_cell_row<F: Flash>(
@@ -109,6 +109,6 @@ pub fn print<F: Flash, W: Sink>(
     ensures { HasTold F.facts W.contents W.faults (2 * length (F.facts paged.old.device).content + 64)
         paged.old paged.new out.old out.new result (λ image. told_in image name.now (λ x. print_region x verbose)) }
 {
-    let region = flash_store::region(paged, name)?;
+    let region = flash_device::region(paged, name)?;
     print_region(paged, region, verbose, out)
 }

@@ -5,7 +5,7 @@ ghost use Rattle.cbfs_commands.specs.Outcomes.{told_in};
 ghost use Rattle.cbfs_commands.specs.Told.{HasTold, shows};
 
 use crate::refusal::Refusal;
-use flash_store::{Flash, Paged, Sink};
+use flash_device::{Flash, Paged, Sink};
 
 /// Writes a range of the image.
 pub fn copy_out<F: Flash, W: Sink>(
@@ -32,6 +32,6 @@ pub fn read<F: Flash, W: Sink>(
     ensures { HasTold F.facts W.contents W.faults (2 * length (F.facts paged.old.device).content + 64)
         paged.old paged.new out.old out.new result (λ image. told_in image name.now shows) }
 {
-    let region = flash_store::region(paged, name)?;
+    let region = flash_device::region(paged, name)?;
     copy_out(paged, region.start(), region.size(), out)
 }

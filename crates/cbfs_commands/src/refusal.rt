@@ -6,8 +6,8 @@ ghost use Rattle.cbfs_commands.specs.declared.refusal.Refusal.TheVariants as ref
 
 use cbfs_edit::EditFault;
 use cbfs_walk::WalkFault;
+use flash_device::{CopyFault, FlashFault, SinkFault, SourceFault, StoreFault};
 use flash_format::DamageKind;
-use flash_store::{CopyFault, FlashFault, SinkFault, SourceFault, StoreFault};
 use thiserror::Error;
 
 /// The refusals of a command, each with its number; the text is what the program prints of it.

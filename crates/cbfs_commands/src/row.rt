@@ -11,8 +11,8 @@ ghost use Rattle.cbfs_commands.specs.Told.{Tells, shows};
 
 use crate::refusal::Refusal;
 use arrayvec::ArrayVec;
+use flash_device::{Sink, put_all};
 use flash_format::{Head, push_hexadecimal, push_name, push_text, type_name};
-use flash_store::{Sink, put_all};
 use itoa::Buffer;
 
 /// Room for the longest row: a name of 255 bytes, each escaped, and the other fields.

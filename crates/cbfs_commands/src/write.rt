@@ -4,7 +4,7 @@ ghost use Rattle.std.specs.Prelude.{◌+◌, ◌*◌, length};
 ghost use Rattle.cbfs_commands.specs.Deeds.{HasChanged, replaces};
 
 use crate::refusal::Refusal;
-use flash_store::{Flash, Paged, Source};
+use flash_device::{Flash, Paged, Source};
 
 /// Replaces the bytes of a region, front to back, by the source, which has its size.
 pub fn write<F: Flash, S: Source>(
@@ -15,7 +15,7 @@ pub fn write<F: Flash, S: Source>(
     ensures { HasChanged F.facts (2 * length (F.facts paged.old.device).content + 64) (replaces name.now)
         paged.old paged.new (S.facts source.old) (S.facts source.new) result }
 {
-    let region = flash_store::region(paged, name)?;
+    let region = flash_device::region(paged, name)?;
     if source.len() != region.size() {
         return Err(Refusal::SourceSize);
     }

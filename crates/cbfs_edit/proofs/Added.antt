@@ -13,8 +13,8 @@ use Rattle.flash_format.specs.Splices.{splice}
 use Rattle.flash_format.specs.Placings.{HasOneMore, IsSpace, IsPlacing, space_cells}
 use Rattle.flash_format.proofs.MadeLaws.{length-metadata, hash_as_long, made_as_long, made_alone}
 use Rattle.flash_format.proofs.Placed.{empty_is_space, components_placed}
-use Rattle.flash_store.specs.Device.{SameOutside}
-use Rattle.flash_store.proofs.BytesLemmas.{SameOutside-overwritten, further, length-overwritten}
+use Rattle.flash_device.specs.Device.{SameOutside}
+use Rattle.flash_device.proofs.BytesLemmas.{SameOutside-overwritten, further, length-overwritten}
 use Rattle.cbfs_edit.specs.Removals.{IsCellRange, kept_at, space_end}
 use Rattle.cbfs_edit.specs.Runs.{runs}
 use Rattle.cbfs_edit.specs.Places.{is_bad_align, IsWanted, IsFirstPlace, IsPlaceAmong, placing_in}
@@ -35,16 +35,16 @@ use Rattle.cbfs_edit.proofs.Changes.{keeps}
 use Rattle.cbfs_edit.proofs.Insertions.{hash_short}
 use Rattle.std.specs.Option.{option_map_or}
 use Rattle.std.specs.Result.{result_ok}
-use Rattle.flash_store.specs.Regions.{Range, LiesIn, bytes_in}
-use Rattle.flash_store.specs.declared.paged.CopyFault.{CopyFault}
-use Rattle.flash_store.proofs.DeviceLemmas.{length-bytes_in}
+use Rattle.flash_device.specs.Regions.{Range, LiesIn, bytes_in}
+use Rattle.flash_device.specs.declared.paged.CopyFault.{CopyFault}
+use Rattle.flash_device.proofs.DeviceLemmas.{length-bytes_in}
 use Rattle.sha2.proofs.Facts256.{length-sha256}
 use Rattle.sha2.proofs.Facts512.{length-sha512}
 use Rattle.cbfs_walk.specs.Hashes.{sha256_of, sha512_of}
 use Rattle.cbfs_edit.specs.declared.addition.HashChoice.{HashChoice}
 use Rattle.cbfs_edit.specs.declared.addition.HashChoice.TheVariants.{Plain, Sha256, Sha512}
 use Rattle.cbfs_edit.specs.declared.fault.EditFault.TheVariants as faults
-use Rattle.flash_store.specs.declared.paged.CopyFault.TheVariants as copies
+use Rattle.flash_device.specs.declared.paged.CopyFault.TheVariants as copies
 
 -- once the caller's own faults are looked at
 pub own-is : (x : List ℕ) (new : NewComponent) (spot : Spot) (own : Option EditFault) → own ≡ own_fault new.name new.kind spot → option_map_or (λ fault. Err fault) own (placing_in x new.name (wanted_for new spot)) ≡ addition_in x new spot

@@ -4,8 +4,8 @@ use Rattle.std.specs.Prelude.{◌==◌, is_some, max}
 use Rattle.std.proofs.lemmas.Bool.{cond_both, ne_eqb, eqb-false, eqb-true}
 use Rattle.flash_format.specs.Made.{KeepsFour, empty_header, header_length}
 use Rattle.cbfs_edit.specs.Removals.{last_four, kept_at}
-use Rattle.flash_store.specs.Device.{SameOutside, overwritten}
-use Rattle.flash_store.proofs.BytesLemmas.{SameOutside-overwritten, SameOutside-trans}
+use Rattle.flash_device.specs.Device.{SameOutside, overwritten}
+use Rattle.flash_device.proofs.BytesLemmas.{SameOutside-overwritten, SameOutside-trans}
 use Rattle.cbfs_edit.specs.declared.place.Place.{Place}
 use Rattle.cbfs_edit.specs.Additions.{HasRoom, with_bound, held_back, IsUnfinished}
 

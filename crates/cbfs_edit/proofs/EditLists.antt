@@ -2,7 +2,7 @@
 use Rattle.std.proofs.Common.{◌≡◌, ◌≢◌, ◌⊎◌, ⊎_elim, List, ℕ, Result, Ok, Err, ap, refl, sym, ◌+◌, ◌<◌, ◌≤◌, [], ◌∷◌, ◌++◌, length, take, drop, set, get_or, IsTrue, subst, ◌∙◌, arith, rules}
 use Rattle.std.specs.Borrow.{Bor}
 use Rattle.std.specs.Prelude.{IsErrOf, IfErr, IfOk, OnOk, sum_by}
-use Rattle.flash_store.specs.Regions.{Range, bytes_in}
+use Rattle.flash_device.specs.Regions.{Range, bytes_in}
 use Rattle.cbfs_edit.specs.Additions.{new_component, addition_in, added_to, placed_of}
 use Rattle.cbfs_edit.specs.Changes.{by_fault, by_device, by_source, LeavesWhole, AddLeavesWhole, AddLeavesBefore}
 use Rattle.cbfs_edit.specs.Removals.{removed, removal_in}
@@ -18,8 +18,8 @@ use Rattle.cbfs_edit.proofs.Added.{same_fault, told_as}
 use Rattle.std.proofs.lemmas.List.{take_all, take_more, take_more_set, drop-set-lt, drop-drop, get_or-drop}
 use Rattle.std.proofs.Math.ListN.{length-set}
 use Rattle.std.proofs.lemmas.List.Sums.{sum_by_more, sum_by-append}
-use Rattle.flash_store.specs.Device.{Device}
-use Rattle.flash_store.specs.Pages.{Pages, HasChanged}
+use Rattle.flash_device.specs.Device.{Device}
+use Rattle.flash_device.specs.Pages.{Pages, HasChanged}
 use Rattle.cbfs_edit.specs.declared.edit.Edit.{Edit}
 use Rattle.cbfs_edit.specs.declared.edit.Edit.TheVariants.{Add, Remove}
 use Rattle.cbfs_edit.specs.declared.edit.Reply.TheVariants as replies

@@ -3,15 +3,15 @@ use Rattle.std.proofs.Common.{◌≡◌, ◌⊎◌, inl, inr, ℕ, ◌+◌, ◌-
 use Rattle.std.specs.Prelude.{slice_range, ◌==◌}
 use Rattle.flash_format.specs.Made.{header_length, empty_header, padding}
 use Rattle.flash_format.proofs.EmptyEntryLaws.{length-empty_header}
-use Rattle.flash_store.specs.Device.{overwritten, SameOutside}
-use Rattle.flash_store.proofs.BytesLemmas.{SameOutside-overwritten, SameOutside-trans, SameOutside-wider, overwritten-more_at, length-overwritten, length-slice_range, changed-overwritten, overwritten-front, slice_range_is, further}
+use Rattle.flash_device.specs.Device.{overwritten, SameOutside}
+use Rattle.flash_device.proofs.BytesLemmas.{SameOutside-overwritten, SameOutside-trans, SameOutside-wider, overwritten-more_at, length-overwritten, length-slice_range, changed-overwritten, overwritten-front, slice_range_is, further}
 use Rattle.cbfs_edit.specs.Changes.{IsEmptied, IsOldOrEmptied, IsStopped, SameCells}
 use Rattle.cbfs_edit.specs.declared.group.CellRange.{CellRange}
 use Rattle.cbfs_edit.proofs.Changes.{again, unchanged, within, is_some-cond}
 use Rattle.std.proofs.lemmas.List.{length-replicate, take_all}
 use Rattle.std.proofs.lemmas.Bool.{cond_both, eqb-false, eqb-true}
-use Rattle.flash_store.specs.Regions.{Range, LiesIn, bytes_in}
-use Rattle.flash_store.proofs.DeviceLemmas.{length-bytes_in}
+use Rattle.flash_device.specs.Regions.{Range, LiesIn, bytes_in}
+use Rattle.flash_device.proofs.DeviceLemmas.{length-bytes_in}
 use Rattle.cbfs_edit.specs.Removals.{IsCellRange, last_four, kept_at, removed, space_end}
 use Rattle.std.specs.List.{concat}
 use Rattle.flash_format.specs.Cut.{cut}

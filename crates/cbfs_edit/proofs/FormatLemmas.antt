@@ -11,8 +11,8 @@ use Rattle.flash_format.specs.Cut.{complete, IsCell}
 use Rattle.flash_format.proofs.CutLaws.{cut_unique}
 use Rattle.flash_format.proofs.EmptyEntryLaws.{empty_header-cell, length-empty_header}
 use Rattle.flash_format.proofs.MadeLaws.{length-padding}
-use Rattle.flash_store.specs.Device.{overwritten}
-use Rattle.flash_store.proofs.BytesLemmas.{further}
+use Rattle.flash_device.specs.Device.{overwritten}
+use Rattle.flash_device.proofs.BytesLemmas.{further}
 use Rattle.cbfs_edit.specs.Removals.{IsCellRange, removed, last_four, kept_at, space_end}
 use Rattle.cbfs_edit.specs.Changes.{IsOldOrEmptied}
 use Rattle.cbfs_edit.specs.Formats.{formatted, IsOneFreeCell}

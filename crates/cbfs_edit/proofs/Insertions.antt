@@ -7,8 +7,8 @@ use Rattle.flash_format.specs.Head.{round64}
 use Rattle.flash_format.specs.Made.{header_length, empty_header, empty_entry, padding, KeepsFour, hash_len, made, made_metadata, metadata_of, described_len}
 use Rattle.flash_format.proofs.EmptyEntryLaws.{length-empty_header}
 use Rattle.flash_format.proofs.MadeLaws.{length-padding}
-use Rattle.flash_store.specs.Device.{overwritten, SameOutside}
-use Rattle.flash_store.proofs.BytesLemmas.{length-overwritten, drop-overwritten, further}
+use Rattle.flash_device.specs.Device.{overwritten, SameOutside}
+use Rattle.flash_device.proofs.BytesLemmas.{length-overwritten, drop-overwritten, further}
 use Rattle.cbfs_edit.specs.declared.place.Place.{Place}
 use Rattle.cbfs_edit.specs.Removals.{last_four, kept_at, removed, space_end}
 use Rattle.cbfs_edit.specs.Additions.{empty_between, NewComponent, added, digest_of, metadata_len_of, component_of_label, wanted_for, HasRoom, held_back, with_metadata, with_bound, shown_by, with_component, IsUnfinished}
@@ -16,8 +16,8 @@ use Rattle.cbfs_edit.proofs.Changes.{is_some-cond, keeps, kept-none}
 use Rattle.cbfs_edit.proofs.Lists.{over_part, padding-begins, padding-split}
 use Rattle.flash_format.specs.declared.digest.Digest.{Digest}
 use Rattle.flash_format.specs.declared.meta.Meta.{Meta}
-use Rattle.flash_store.specs.Regions.{Range, LiesIn, bytes_in}
-use Rattle.flash_store.proofs.DeviceLemmas.{length-bytes_in}
+use Rattle.flash_device.specs.Regions.{Range, LiesIn, bytes_in}
+use Rattle.flash_device.proofs.DeviceLemmas.{length-bytes_in}
 use Rattle.cbfs_edit.specs.Places.{Fits}
 use Rattle.cbfs_edit.specs.Changes.{IsEmptied, IsInsertStop, IsOldOrEmptied, written_to}
 use Rattle.flash_format.specs.declared.digest.Digest.TheVariants as digests

@@ -5,9 +5,9 @@ use Rattle.std.proofs.lemmas.Bool.{cases_lt}
 use Rattle.std.proofs.Math.Seq.{drop-append-add}
 use Rattle.std.proofs.lemmas.List.{take_at, drop_all, drop_at, drop-drop, drop-append-le, length-replicate, length-take-le, drop-replicate, replicate-append-replicate}
 use Rattle.flash_format.specs.Made.{padding}
-use Rattle.flash_store.specs.Device.{overwritten}
+use Rattle.flash_device.specs.Device.{overwritten}
 use Rattle.std.specs.Prelude.{slice_range}
-use Rattle.flash_store.proofs.BytesLemmas.{slice_range_is}
+use Rattle.flash_device.proofs.BytesLemmas.{slice_range_is}
 
 -- ---- two parts about an element, the first of which something holds
 

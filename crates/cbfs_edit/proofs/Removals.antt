@@ -1,12 +1,12 @@
 -- An accepted removal: its group, what it leaves, and the one component that it takes.
 use Rattle.std.proofs.Common.{◌≡◌, ◌⊎◌, inl, inr, ℕ, ◌-◌, ◌%◌, ◌^◌, ◌<◌, List, length, Result, Ok, sym, ◌∙◌, ap, subst, arith, ◌+◌, false, [], ◌∷◌, ◌++◌, refl, All}
 use Rattle.std.specs.Prelude.{IsErrOf, ok_or}
-use Rattle.flash_store.specs.Regions.{Range, LiesIn, bytes_in}
-use Rattle.flash_store.proofs.DeviceLemmas.{length-bytes_in}
+use Rattle.flash_device.specs.Regions.{Range, LiesIn, bytes_in}
+use Rattle.flash_device.proofs.DeviceLemmas.{length-bytes_in}
 use Rattle.flash_format.specs.Cut.{cut}
 use Rattle.cbfs_edit.specs.Removals.{IsCellRange, IsGroupOf, group_of, IsComponent, IsNot, removal_in, removed, space_end}
-use Rattle.flash_store.specs.Device.{overwritten, SameOutside}
-use Rattle.flash_store.proofs.RegionLemmas.{image_is}
+use Rattle.flash_device.specs.Device.{overwritten, SameOutside}
+use Rattle.flash_device.proofs.RegionLemmas.{image_is}
 use Rattle.cbfs_edit.specs.Changes.{IsOldOrEmptied, LeavesWhole}
 use Rattle.cbfs_edit.specs.Laws.{EmptiedGroupsLackTheComponent, RemovalsTakeOneComponent}
 use Rattle.cbfs_edit.specs.declared.fault.EditFault.{EditFault}

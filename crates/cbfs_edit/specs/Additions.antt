@@ -10,7 +10,7 @@ use Rattle.flash_format.specs.Components.{Component}
 use Rattle.flash_format.specs.Placings.{HasOneMore, made_component, space_cells}
 use Rattle.flash_format.specs.Splices.{AllFree, CellsBetween}
 use Rattle.flash_format.specs.declared.digest.Digest.{Digest}
-use Rattle.flash_store.specs.Device.{overwritten, SameOutside}
+use Rattle.flash_device.specs.Device.{overwritten, SameOutside}
 use Rattle.cbfs_walk.specs.Hashes.{sha256_of, sha512_of}
 use Rattle.cbfs_edit.specs.Removals.{kept_at, IsCellRange}
 use Rattle.cbfs_edit.specs.Places.{is_bad_align, placing_in}

@@ -1,11 +1,11 @@
 -- What becomes of the bytes of a region, which side a refusal blames, and what an edit leaves that stops.
 use Rattle.std.specs.Prelude.{◌≡◌, ℕ, ◌+◌, ◌/◌, List, length, Result, IsTrue, IsErrOf, OnOk, ◌⊎◌, ◌-◌, max, drop, Ok, ◌==◌}
-use Rattle.flash_store.specs.Device.{overwritten, SameOutside, Device, Reads, faults_told, refusals}
-use Rattle.flash_store.specs.Pages as copies
-use Rattle.flash_store.specs.Pages.{Pages, HasChanged}
-use Rattle.flash_store.specs.Regions.{Range, bytes_in}
-use Rattle.flash_store.specs.declared.paged.CopyFault.{CopyFault}
-use Rattle.flash_store.specs.declared.paged.CopyFault.TheVariants as causes
+use Rattle.flash_device.specs.Device.{overwritten, SameOutside, Device, Reads, faults_told, refusals}
+use Rattle.flash_device.specs.Pages as copies
+use Rattle.flash_device.specs.Pages.{Pages, HasChanged}
+use Rattle.flash_device.specs.Regions.{Range, bytes_in}
+use Rattle.flash_device.specs.declared.paged.CopyFault.{CopyFault}
+use Rattle.flash_device.specs.declared.paged.CopyFault.TheVariants as causes
 use Rattle.flash_format.specs.Made.{header_length, empty_header}
 use Rattle.flash_format.specs.Cut.{cut}
 use Rattle.flash_format.specs.Components.{components}

@@ -1,7 +1,7 @@
 -- Edits of a region on a device that may stop at any call: one, and a list of them.
 use Rattle.std.specs.Prelude.{◌≡◌, ℕ, ◌+◌, ◌/◌, IsTrue, List, [], ◌∷◌, length, Ok, Err}
-use Rattle.flash_store.specs.Device.{Calls, Device, Reads}
-use Rattle.flash_store.specs.Regions.{Range, bytes_in}
+use Rattle.flash_device.specs.Device.{Calls, Device, Reads}
+use Rattle.flash_device.specs.Regions.{Range, bytes_in}
 use Rattle.cbfs_edit.specs.Changes.{by_fault, by_device, by_source, LeavesWhole, AddLeavesWhole, AddLeavesBefore}
 use Rattle.cbfs_edit.specs.Removals.{removed, removal_in}
 use Rattle.cbfs_edit.specs.Additions.{new_component, addition_in, added_to, placed_of}

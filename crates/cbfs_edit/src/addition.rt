@@ -3,10 +3,10 @@ ghost use Rattle.std.specs.Prelude.{ℕ, List, ◌≡◌, ◌≢◌, ◌⊎◌, 
 ghost use Rattle.std.specs.List.{list_any};
 ghost use Rattle.flash_format.specs.Entry.{is_nul};
 ghost use Rattle.flash_format.specs.Made.{hash_len};
-ghost use Rattle.flash_store.specs.Device.{overwritten, Reads, faults_told};
-ghost use Rattle.flash_store.specs.Pages as copies;
-ghost use Rattle.flash_store.specs.Pages.{HasChanged, OnHonestIn};
-ghost use Rattle.flash_store.specs.Regions.{LiesIn};
+ghost use Rattle.flash_device.specs.Device.{overwritten, Reads, faults_told};
+ghost use Rattle.flash_device.specs.Pages as copies;
+ghost use Rattle.flash_device.specs.Pages.{HasChanged, OnHonestIn};
+ghost use Rattle.flash_device.specs.Regions.{LiesIn};
 ghost use Rattle.cbfs_edit.specs.Changes.{OnHonestChange, HasCopied, AddLeavesBefore, AddLeavesWhole, IsInsertStop, written_to, by_device, by_source};
 ghost use Rattle.cbfs_edit.specs.Additions.{added, added_to, addition_in, digest_of, is_bad_name, is_bad_type, component_of_label, new_component, own_fault, placed_of, wanted_for};
 ghost use Rattle.cbfs_edit.specs.Places.{Fits};
@@ -16,8 +16,8 @@ use crate::hashing::Hashing;
 use crate::insertion::describe;
 use crate::place::{Place, Spot, Wanted, find_place};
 use crate::write::{copy_into, write_empty_entry};
+use flash_device::{CopyFault, Flash, Nobody, Paged, Region, Source};
 use flash_format::{Algorithm, Digest, Meta, meta_len};
-use flash_store::{CopyFault, Flash, Nobody, Paged, Region, Source};
 use sha2::{Sha256, Sha512};
 
 /// The digest that is stored beside a content.

@@ -1,7 +1,7 @@
 //! Lists of edits.
 ghost use Rattle.std.specs.Prelude.{◌≡◌, length, sum_by};
-ghost use Rattle.flash_store.specs.Pages.{HasChanged};
-ghost use Rattle.flash_store.specs.Regions.{LiesIn};
+ghost use Rattle.flash_device.specs.Pages.{HasChanged};
+ghost use Rattle.flash_device.specs.Regions.{LiesIn};
 ghost use Rattle.cbfs_edit.specs.Changes.{by_device};
 ghost use Rattle.cbfs_edit.specs.Steps.{Run, Step, edit_calls, faults_of};
 
@@ -10,7 +10,7 @@ use crate::fault::EditFault;
 use crate::group::Freed;
 use crate::place::Spot;
 use crate::removal::remove;
-use flash_store::{Flash, Paged, Region, Source};
+use flash_device::{Flash, Paged, Region, Source};
 
 /// A change of a region.
 #[derive(Drop)]

@@ -4,8 +4,8 @@ ghost use Rattle.cbfs_edit.specs.Removals.{edit_fault_of};
 ghost use Rattle.cbfs_edit.specs.declared.fault.EditFault.TheVariants.{Device};
 
 use cbfs_walk::WalkFault;
+use flash_device::FlashFault;
 use flash_format::DamageKind;
-use flash_store::FlashFault;
 
 /// Why an edit is refused. The numbers are those of the refusals that the commands print. After `Device` the
 /// components are those of before or those of after, after `Source` those of before; after any other refusal the device is

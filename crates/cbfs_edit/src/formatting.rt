@@ -1,8 +1,8 @@
 //! The formatting of a region.
 ghost use Rattle.std.specs.Prelude.{◌≡◌, ◌≢◌, ◌⊎◌, ◌+◌, ◌/◌, ◌<◌, Ok, Err, if◌then◌else◌, IsTrue, IsErrOf, IfErr, OnOk};
-ghost use Rattle.flash_store.specs.Device.{faults_told};
-ghost use Rattle.flash_store.specs.Pages.{HasChanged};
-ghost use Rattle.flash_store.specs.Regions.{LiesIn};
+ghost use Rattle.flash_device.specs.Device.{faults_told};
+ghost use Rattle.flash_device.specs.Pages.{HasChanged};
+ghost use Rattle.flash_device.specs.Regions.{LiesIn};
 ghost use Rattle.cbfs_walk.specs.Shapes.{has_bad_size};
 ghost use Rattle.cbfs_edit.specs.Changes.{OnHonestChange, by_device};
 ghost use Rattle.cbfs_edit.specs.Formats.{formatted, IsOneFreeCell};
@@ -11,7 +11,7 @@ ghost use Rattle.cbfs_edit.specs.Removals.{last_four};
 use crate::fault::EditFault;
 use crate::group::CellRange;
 use crate::write::write_empty_entry;
-use flash_store::{Flash, Paged, Region};
+use flash_device::{Flash, Paged, Region};
 
 /// Makes the whole region one empty entry, whatever it holds, damaged or no CBFS at all. Its last four bytes are kept.
 ///

@@ -1,8 +1,8 @@
 //! The search for the group of cells that a removal takes.
 ghost use Rattle.std.specs.Prelude.{◌≡◌, ◌⊎◌, ℕ, ◌+◌, ◌/◌, ◌<◌, ◌≤◌, List, [], ◌∷◌, IfOk, IfErr, IsErrOf};
-ghost use Rattle.flash_store.specs.Device.{faults_told};
-ghost use Rattle.flash_store.specs.Pages.{HasRead, HasAnswered, OnHonestIn};
-ghost use Rattle.flash_store.specs.Regions.{LiesIn};
+ghost use Rattle.flash_device.specs.Device.{faults_told};
+ghost use Rattle.flash_device.specs.Pages.{HasRead, HasAnswered, OnHonestIn};
+ghost use Rattle.flash_device.specs.Regions.{LiesIn};
 ghost use Rattle.cbfs_walk.specs.Cells.{IsCellIn, cell_in};
 ghost use Rattle.cbfs_walk.specs.Walks.{StandsIn};
 ghost use Rattle.cbfs_edit.specs.Removals.{IsCellRange, removal_in};
@@ -11,7 +11,7 @@ ghost use Rattle.cbfs_edit.specs.Searches.{group_by, IsBefore};
 
 use crate::fault::EditFault;
 use cbfs_walk::{Cell, Step, Walk, cells_stand_in_their_image, name_is};
-use flash_store::{Flash, FlashFault, Paged, Region};
+use flash_device::{Flash, FlashFault, Paged, Region};
 
 /// Neighbouring cells of a region, from `start` up to `end`: both are counted from the region's start, and multiples of 64.
 #[derive(Clone, Copy, Debug, PartialEq, Eq)]

@@ -1,7 +1,7 @@
 //! Hashers that are shown what is copied.
 ghost use Rattle.std.specs.Prelude.{◌≡◌, ℕ, List, []};
 
-use flash_store::Watch;
+use flash_device::Watch;
 use sha2::Digest;
 
 /// A hasher that is shown what is copied.

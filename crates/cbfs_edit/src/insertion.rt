@@ -4,14 +4,14 @@
 //! written between the two commits is free space.
 ghost use Rattle.std.specs.Prelude.{◌≡◌, ◌⊎◌, ◌-◌, ◌%◌, ◌^◌, ◌<◌, ◌≤◌, length};
 ghost use Rattle.flash_format.specs.Made.{header_length, metadata_of, described_len};
-ghost use Rattle.flash_store.specs.Regions.{LiesIn};
+ghost use Rattle.flash_device.specs.Regions.{LiesIn};
 ghost use Rattle.cbfs_edit.specs.Changes.{HasWrittenIn};
 ghost use Rattle.cbfs_edit.specs.Additions.{HasRoom, IsUnfinished, with_bound, with_component, with_metadata, held_back, shown_by};
 
 use crate::place::Place;
 use crate::write::{commit_in, write_in};
+use flash_device::{Flash, FlashFault, Paged, Region};
 use flash_format::{HEADER_LENGTH, LONGEST_METADATA, Meta, empty_header, write_meta};
-use flash_store::{Flash, FlashFault, Paged, Region};
 
 /// How many bytes of the component's metadata the last commit writes.
 fn held_back(place: Place) -> usize

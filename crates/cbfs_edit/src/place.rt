@@ -1,9 +1,9 @@
 //! The search for the place of a new component.
 ghost use Rattle.std.specs.Option.{option_or};
 ghost use Rattle.std.specs.Prelude.{◌≡◌, ◌≢◌, ◌⊎◌, ℕ, ◌+◌, ◌/◌, ◌^◌, ◌<◌, ◌≤◌, List, [], ◌∷◌, None, false, nat_lt, if◌then◌else◌, IfOk, IfErr, IfSome, IsErrOf};
-ghost use Rattle.flash_store.specs.Device.{faults_told};
-ghost use Rattle.flash_store.specs.Pages.{HasRead, HasAnswered, OnHonestIn};
-ghost use Rattle.flash_store.specs.Regions.{LiesIn};
+ghost use Rattle.flash_device.specs.Device.{faults_told};
+ghost use Rattle.flash_device.specs.Pages.{HasRead, HasAnswered, OnHonestIn};
+ghost use Rattle.flash_device.specs.Regions.{LiesIn};
 ghost use Rattle.cbfs_walk.specs.Cells.{IsCellIn, cell_in};
 ghost use Rattle.cbfs_walk.specs.Walks.{StandsIn};
 ghost use Rattle.cbfs_edit.specs.Removals.{IsCellRange};
@@ -15,7 +15,7 @@ use crate::fault::EditFault;
 use crate::group::CellRange;
 use crate::write::space_end;
 use cbfs_walk::{Cell, Step, Walk, cells_stand_in_their_image, name_is};
-use flash_store::{Flash, FlashFault, Paged, Region};
+use flash_device::{Flash, FlashFault, Paged, Region};
 
 /// Where the content of a new component may begin. Places count in bytes from the region's start, wherever the region
 /// stands in its image. The first free space that has room for the component at such a place is taken, and in it the

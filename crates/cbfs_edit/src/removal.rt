@@ -1,15 +1,15 @@
 //! The removal of a component.
 ghost use Rattle.std.specs.Prelude.{◌≡◌, ◌≢◌, ◌⊎◌, ◌+◌, ◌/◌, ◌<◌, IsTrue, IfOk, IfErr, IsErrOf};
-ghost use Rattle.flash_store.specs.Device.{overwritten, faults_told};
-ghost use Rattle.flash_store.specs.Pages.{HasChanged, OnHonestIn};
-ghost use Rattle.flash_store.specs.Regions.{LiesIn};
+ghost use Rattle.flash_device.specs.Device.{overwritten, faults_told};
+ghost use Rattle.flash_device.specs.Pages.{HasChanged, OnHonestIn};
+ghost use Rattle.flash_device.specs.Regions.{LiesIn};
 ghost use Rattle.cbfs_edit.specs.Changes.{OnHonestChange, LeavesWhole, by_device};
 ghost use Rattle.cbfs_edit.specs.Removals.{removed, removal_in};
 
 use crate::fault::EditFault;
 use crate::group::{Freed, find_group};
 use crate::write::write_empty_entry;
-use flash_store::{Flash, Paged, Region};
+use flash_device::{Flash, Paged, Region};
 
 /// Puts one empty entry in place of the first component of the name and of all free space that touches it, and answers
 /// from where to where it reaches. Other components of the name stay. The last four bytes of the region are kept, and so

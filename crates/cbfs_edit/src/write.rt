@@ -1,14 +1,14 @@
 //! Writes at places of a region, and one empty entry in place of a group.
 ghost use Rattle.std.specs.Prelude.{◌≡◌, ◌⊎◌, ℕ, List, ◌++◌, ◌+◌, ◌/◌, ◌<◌, ◌≤◌, length, IsTrue, OnOk, OnErr, replicate};
 ghost use Rattle.flash_format.specs.Made.{header_length};
-ghost use Rattle.flash_store.specs.Device.{overwritten, SameOutside};
-ghost use Rattle.flash_store.specs.Regions.{LiesIn};
+ghost use Rattle.flash_device.specs.Device.{overwritten, SameOutside};
+ghost use Rattle.flash_device.specs.Regions.{LiesIn};
 ghost use Rattle.cbfs_edit.specs.Changes.{HasCopied, HasWrittenIn, IsOldOrEmptied};
 ghost use Rattle.cbfs_edit.specs.Removals.{IsCellRange, removed, space_end};
 
 use crate::group::CellRange;
+use flash_device::{CopyFault, Flash, FlashFault, MemSource, Nobody, Paged, Region, Source, Watch};
 use flash_format::{HEADER_LENGTH, empty_header};
-use flash_store::{CopyFault, Flash, FlashFault, MemSource, Nobody, Paged, Region, Source, Watch};
 
 /// Replaces the bytes of a header, whole or not at all.
 pub fn commit_in<F: Flash>(

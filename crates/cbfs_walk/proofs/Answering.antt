@@ -11,10 +11,10 @@ use Rattle.flash_format.specs.Head.{head_of, is_free, extent_of}
 use Rattle.flash_format.specs.Entry.{attributes, Entry, absent, damaged, cell, entry, front, present, component, has_name, name_field, attribute_field}
 use Rattle.flash_format.proofs.CutSteps.{front_some}
 use Rattle.flash_format.proofs.EntryLaws.{present_by}
-use Rattle.flash_store.specs.Device.{Device, faults_told}
-use Rattle.flash_store.specs.Pages.{Pages, HasRead}
-use Rattle.flash_store.specs.Regions.{Range}
-use Rattle.flash_store.proofs.WindowLemmas.{HasRead-within}
+use Rattle.flash_device.specs.Device.{Device, faults_told}
+use Rattle.flash_device.specs.Pages.{Pages, HasRead}
+use Rattle.flash_device.specs.Regions.{Range}
+use Rattle.flash_device.proofs.WindowLemmas.{HasRead-within}
 use Rattle.cbfs_walk.specs.declared.cell.Cell.{Cell}
 use Rattle.cbfs_walk.specs.Cells.{PassesChecks, content_start}
 use Rattle.cbfs_walk.specs.Walks.{Passes, reads_over, Answer, Walking, EndsWalk, by_device, GivesCell, walk_after, answer_by, answer_of, answer_at, reads_at}

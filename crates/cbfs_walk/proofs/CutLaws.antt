@@ -14,7 +14,7 @@ use Rattle.flash_format.specs.Cut.{after, cut}
 use Rattle.flash_format.proofs.CutSteps.{cell_is, cut_empty, cut_step, cut_cell}
 use Rattle.flash_format.proofs.EntryLaws.{from_head, present_by}
 use Rattle.flash_format.proofs.Fronts.{head_of-take, range-take}
-use Rattle.flash_store.specs.Regions.{bytes_in}
+use Rattle.flash_device.specs.Regions.{bytes_in}
 use Rattle.cbfs_walk.specs.Cells.{IsCellIn, cell_in}
 use Rattle.cbfs_walk.specs.Shapes.{has_bad_size, is_absent, refused_or}
 use Rattle.cbfs_walk.specs.Walks.{Answer, answer_at, answer_by, StandsIn}

@@ -10,7 +10,7 @@ use Rattle.flash_format.specs.Entry.{Attribute, attribute, attributes, attr_head
 use Rattle.flash_format.specs.Components.{cell_attributes}
 use Rattle.flash_format.proofs.Fronts.{attr_head_of-take}
 use Rattle.flash_format.proofs.AttributeSteps.{attribute_len, attributes_end, attributes_malformed, attributes_more}
-use Rattle.flash_store.specs.Regions.{Range, LiesIn, bytes_in}
+use Rattle.flash_device.specs.Regions.{Range, LiesIn, bytes_in}
 use Rattle.cbfs_walk.specs.Cells.{cell_in}
 use Rattle.cbfs_walk.specs.Walks.{StandsIn}
 use Rattle.cbfs_walk.specs.AttrWalks.{AttrWalking, attr_walk_of, attributes_left, first_head, after_first, listed_in}

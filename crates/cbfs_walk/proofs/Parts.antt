@@ -11,7 +11,7 @@ use Rattle.flash_format.specs.declared.head.Head.{Head}
 use Rattle.flash_format.specs.Head.{head_at}
 use Rattle.flash_format.specs.Entry.{front, is_nul, has_name}
 use Rattle.flash_format.proofs.Fronts.{head_at-take}
-use Rattle.flash_store.specs.Regions.{Range, bytes_in, LiesIn}
+use Rattle.flash_device.specs.Regions.{Range, bytes_in, LiesIn}
 
 pub range_is : (x : List ℕ) (at n : ℕ) → slice_range x at (at + n) ≡ take n (drop at x)
 range_is x at n = ap (λ k. take k (drop at x)) {x = at + n - at} {y = n} (omega arith)

@@ -1,11 +1,11 @@
 -- Calls that read, one after the other, and what the last of them answers.
 use Rattle.std.proofs.Common.{◌≡◌, ℕ, ◌+◌, ◌-◌, ◌*◌, ◌<◌, ◌≤◌, Result, Ok, Err, ◌∙◌, refl, arith, le_refl}
 use Rattle.std.specs.Prelude.{IfOk, IsOk, length}
-use Rattle.flash_store.specs.Device.{Device, refusals}
-use Rattle.flash_store.specs.Pages.{Pages, HasAnswered, HasSeen}
-use Rattle.flash_store.specs.Regions.{Range, LiesIn}
-use Rattle.flash_store.specs.Scans.{ScansTo, SpendsTo}
-use Rattle.flash_store.proofs.WindowLemmas.{ScansTo-none, ScansTo-on, SpendsTo-on, ScansTo-more, SpendsTo-more, ScansTo-then, SpendsTo-then, ScansTo-spends, SpendsTo-reads}
+use Rattle.flash_device.specs.Device.{Device, refusals}
+use Rattle.flash_device.specs.Pages.{Pages, HasAnswered, HasSeen}
+use Rattle.flash_device.specs.Regions.{Range, LiesIn}
+use Rattle.flash_device.specs.Scans.{ScansTo, SpendsTo}
+use Rattle.flash_device.proofs.WindowLemmas.{ScansTo-none, ScansTo-on, SpendsTo-on, ScansTo-more, SpendsTo-more, ScansTo-then, SpendsTo-then, ScansTo-spends, SpendsTo-reads}
 use Rattle.cbfs_walk.specs.Walks.{Passes, reads_over}
 
 -- an answer that equals one equals what equals it

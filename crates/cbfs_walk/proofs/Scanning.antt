@@ -8,9 +8,9 @@ use Rattle.flash_format.specs.declared.attribute.AttrHead.{AttrHead}
 use Rattle.flash_format.specs.Head.{be32, is_free}
 use Rattle.flash_format.specs.Entry.{Attribute, attribute, attributes, attr_head_of, data_of, least_len, COMPRESSION, name_end}
 use Rattle.flash_format.specs.Components.{packing, cell_attributes}
-use Rattle.flash_store.specs.Device.{Device}
-use Rattle.flash_store.specs.Pages.{Pages}
-use Rattle.flash_store.specs.Regions.{Range, LiesIn, bytes_in}
+use Rattle.flash_device.specs.Device.{Device}
+use Rattle.flash_device.specs.Pages.{Pages}
+use Rattle.flash_device.specs.Regions.{Range, LiesIn, bytes_in}
 use Rattle.cbfs_walk.specs.Walks.{Passes, StandsIn}
 use Rattle.cbfs_walk.specs.Cells.{attributes_start, content_start, IsComponentIn, cell_in}
 use Rattle.cbfs_walk.specs.AttrWalks.{IsAttrIn, after_first, IsAttrOf, listed_in, Placed, by_tag, first_after, first_in, first_of, value_in}
@@ -18,7 +18,7 @@ use Rattle.cbfs_walk.specs.Hashes.{data_at}
 use Rattle.cbfs_walk.specs.declared.cell.Cell.{Cell}
 use Rattle.cbfs_walk.specs.declared.attribute_walk.Listed as declared
 use Rattle.cbfs_walk.specs.declared.attribute_walk.Listed.TheVariants as listed
-use Rattle.flash_store.proofs.DeviceLemmas.{honest_still}
+use Rattle.flash_device.proofs.DeviceLemmas.{honest_still}
 use Rattle.cbfs_walk.proofs.Reading.{Passes-none, Passes-then}
 use Rattle.cbfs_walk.proofs.Parts.{length-region, range-inner, range-after, length-range}
 use Rattle.cbfs_walk.proofs.Checks.{content_inside}

@@ -3,7 +3,7 @@
 use Rattle.std.specs.Prelude.{ℕ, ◌+◌, ◌-◌, ◌/◌, ◌≤◌, ◌≡◌, false, min, List, length, drop, slice_get, slice_range, Option, Some, None, Result, Ok, Err, option_map, zero, suc, pred, [], ◌∷◌, ⊤, ◌==◌, if◌then◌else◌}
 use Rattle.flash_format.specs.declared.attribute.AttrHead.{AttrHead}
 use Rattle.flash_format.specs.Entry.{Attribute, attributes, is_unused, least_len, attr_head_of, ends_list, is_malformed, name_end}
-use Rattle.flash_store.specs.declared.flash.FlashFault.{FlashFault}
+use Rattle.flash_device.specs.declared.flash.FlashFault.{FlashFault}
 use Rattle.cbfs_walk.specs.Cells.{content_start, attributes_start}
 use Rattle.cbfs_walk.specs.declared.cell.Cell.{Cell}
 use Rattle.std.specs.Option.{option_map_or}

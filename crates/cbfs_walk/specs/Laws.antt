@@ -4,7 +4,7 @@ use Rattle.flash_format.specs.Head.{head_of}
 use Rattle.flash_format.specs.Entry.{entry, absent}
 use Rattle.flash_format.specs.Cut.{Cut, complete, tail, damage, ends, after, cut}
 use Rattle.flash_format.specs.Components.{Component, components, cell_content}
-use Rattle.flash_store.specs.Regions.{Range, LiesIn, bytes_in}
+use Rattle.flash_device.specs.Regions.{Range, LiesIn, bytes_in}
 use Rattle.cbfs_walk.specs.Cells.{IsCellIn, cell_in}
 use Rattle.cbfs_walk.specs.Finding.{IsFirstOf, component_in}
 use Rattle.cbfs_walk.specs.Shapes.{has_bad_size, shape_fault}

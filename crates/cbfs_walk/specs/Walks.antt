@@ -1,9 +1,9 @@
 -- A walk from cell to cell of a region, and what reads of a region in order leave, and how many calls they make.
 use Rattle.std.specs.Prelude.{◌≡◌, ℕ, ◌+◌, ◌-◌, ◌/◌, List, Result, IfOk, length, drop, Option, Some, None, Ok, Err, ◌==◌, if◌then◌else◌, ⊤}
-use Rattle.flash_store.specs.Device.{Device, refusals}
-use Rattle.flash_store.specs.Pages.{Pages, HasRead, OnHonestIn}
-use Rattle.flash_store.specs.Regions.{Range}
-use Rattle.flash_store.specs.Scans.{ScansTo, SpendsTo}
+use Rattle.flash_device.specs.Device.{Device, refusals}
+use Rattle.flash_device.specs.Pages.{Pages, HasRead, OnHonestIn}
+use Rattle.flash_device.specs.Regions.{Range}
+use Rattle.flash_device.specs.Scans.{ScansTo, SpendsTo}
 use Rattle.flash_format.specs.Head.{head_of}
 use Rattle.flash_format.specs.Entry.{Entry, absent, damaged, cell, entry, present}
 use Rattle.cbfs_walk.specs.Cells.{IsCellIn, cell_in}

@@ -3,8 +3,8 @@ ghost use Rattle.std.specs.Prelude.{◌≡◌, ℕ, ◌+◌, ◌-◌, ◌/◌, �
 ghost use Rattle.flash_format.specs.Head.{is_free, be32};
 ghost use Rattle.flash_format.specs.Entry.{Attribute, attributes, COMPRESSION, name_end};
 ghost use Rattle.flash_format.specs.Components.{cell_attributes, packing};
-ghost use Rattle.flash_store.specs.Pages.{HasAnswered, OnHonestIn};
-ghost use Rattle.flash_store.specs.Regions.{LiesIn};
+ghost use Rattle.flash_device.specs.Pages.{HasAnswered, OnHonestIn};
+ghost use Rattle.flash_device.specs.Regions.{LiesIn};
 ghost use Rattle.cbfs_walk.specs.Walks.{HasPassed, ReadsAs, reads_over, StandsIn, ReadsCellAs};
 ghost use Rattle.cbfs_walk.specs.Cells.{IsComponentIn, attributes_start, cell_in};
 ghost use Rattle.cbfs_walk.specs.AttrWalks.{place_in_region, attr_walk_of, attr_moved, attr_reads, IsAttrIn, attributes_left, first_head, after_first, IsListedIn, listed_in, IsAttrOf, first_of, searched_to, value_in};
@@ -13,8 +13,8 @@ use crate::cell::{Cell, content_fits};
 use crate::names::name_end;
 use crate::read::read_in;
 use byteorder::{BigEndian, ByteOrder};
+use flash_device::{Flash, FlashFault, Paged, Region};
 use flash_format::AttrHead;
-use flash_store::{Flash, FlashFault, Paged, Region};
 use std::marker::Model;
 
 /// A walk from attribute to attribute of a component.

@@ -2,8 +2,8 @@
 ghost use Rattle.std.specs.Prelude.{◌+◌, ◌≤◌};
 ghost use Rattle.cbfs_walk.specs.Cells.{PassesChecks};
 
+use flash_device::Region;
 use flash_format::Head;
-use flash_store::Region;
 
 /// A cell: its place, counted from the region's start, its head, and how many bytes it has.
 #[derive(Clone, Copy, Debug, PartialEq, Eq)]

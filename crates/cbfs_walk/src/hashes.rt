@@ -2,8 +2,8 @@
 ghost use Rattle.std.specs.Prelude.{◌≡◌, ◌+◌, ◌≤◌, slice_range, IfOk};
 ghost use Rattle.flash_format.specs.declared.digest.Digest.TheVariants as digests;
 ghost use Rattle.flash_format.specs.Components.{cell_attributes, cell_content};
-ghost use Rattle.flash_store.specs.Pages.{HasAnswered, HasRead, OnHonestIn};
-ghost use Rattle.flash_store.specs.Regions.{LiesIn};
+ghost use Rattle.flash_device.specs.Pages.{HasAnswered, HasRead, OnHonestIn};
+ghost use Rattle.flash_device.specs.Regions.{LiesIn};
 ghost use Rattle.cbfs_walk.specs.Walks.{HasPassed, ReadsAs, reads_over, ReadsCellAs};
 ghost use Rattle.cbfs_walk.specs.Cells.{IsComponentIn, PassesChecks, content_start, content_end};
 ghost use Rattle.cbfs_walk.specs.Hashes.{digest_like, stored_digest, comparison, hash_state, content_at, hash_state_in, IsUncompared};
@@ -11,8 +11,8 @@ ghost use Rattle.cbfs_walk.specs.Hashes.{digest_like, stored_digest, comparison,
 use crate::attribute_walk::{first_attribute, value_at};
 use crate::cell::{Cell, content_fits};
 use crate::read::piece_in;
+use flash_device::{Flash, FlashFault, Paged, Region};
 use flash_format::{Algorithm, AttrHead, Digest};
-use flash_store::{Flash, FlashFault, Paged, Region};
 use sha2::{Sha256, Sha512};
 
 /// What the first hash attribute of a component says of its content, as it is stored.

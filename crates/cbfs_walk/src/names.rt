@@ -4,15 +4,15 @@ ghost use Rattle.std.specs.List.{before_first, list_any};
 ghost use Rattle.std.specs.Str.{bytes_eq};
 ghost use Rattle.flash_format.specs.Entry.{name_field, name_end, has_name, is_nul};
 ghost use Rattle.flash_format.specs.Components.{cell_name};
-ghost use Rattle.flash_store.specs.Pages.{HasAnswered, OnHonestIn};
-ghost use Rattle.flash_store.specs.Regions.{LiesIn};
+ghost use Rattle.flash_device.specs.Pages.{HasAnswered, OnHonestIn};
+ghost use Rattle.flash_device.specs.Regions.{LiesIn};
 ghost use Rattle.cbfs_walk.specs.Walks.{HasPassed, ReadsAs, StandsIn, ReadsCellAs};
 ghost use Rattle.cbfs_walk.specs.Cells.{IsComponentIn, cell_in};
 
 use crate::cell::{Cell, content_fits};
 use crate::read::piece_in;
+use flash_device::{Flash, FlashFault, Paged, Region};
 use flash_format::Head;
-use flash_store::{Flash, FlashFault, Paged, Region};
 
 /// The most bytes of a name.
 const LONGEST: usize = 255;

@@ -2,12 +2,12 @@
 ghost use Rattle.std.specs.Prelude.{◌≡◌, ◌+◌, ◌≤◌, length, slice_range, OnOk, IfOk};
 ghost use Rattle.std.specs.Borrow.{sem};
 ghost use Rattle.std.specs.Io.BufRead.{Rests};
-ghost use Rattle.flash_store.specs.Pages.{OnHonestIn};
-ghost use Rattle.flash_store.specs.Regions.{LiesIn};
-ghost use Rattle.flash_store.specs.contracts.paged.Paged.{the_row};
+ghost use Rattle.flash_device.specs.Pages.{OnHonestIn};
+ghost use Rattle.flash_device.specs.Regions.{LiesIn};
+ghost use Rattle.flash_device.specs.contracts.paged.Paged.{the_row};
 ghost use Rattle.cbfs_walk.specs.Walks.{HasPassed};
 
-use flash_store::{Flash, FlashFault, Paged, Region};
+use flash_device::{Flash, FlashFault, Paged, Region};
 
 /// Reads the bytes of the region from `at` on.
 #[inline]

@@ -3,9 +3,9 @@ ghost use Rattle.std.specs.Prelude.{◌≡◌, ◌⊎◌, ◌<◌, ◌&&◌, not
 ghost use Rattle.std.specs.Str.{bytes_eq};
 ghost use Rattle.flash_format.specs.Head.{is_free};
 ghost use Rattle.flash_format.specs.Components.{cell_name, component_at};
-ghost use Rattle.flash_store.specs.Device.{faults_told};
-ghost use Rattle.flash_store.specs.Pages.{HasRead, HasAnswered, OnHonestIn};
-ghost use Rattle.flash_store.specs.Regions.{LiesIn};
+ghost use Rattle.flash_device.specs.Device.{faults_told};
+ghost use Rattle.flash_device.specs.Pages.{HasRead, HasAnswered, OnHonestIn};
+ghost use Rattle.flash_device.specs.Regions.{LiesIn};
 ghost use Rattle.cbfs_walk.specs.Cells.{IsCellIn, PassesChecks, cell_in};
 ghost use Rattle.cbfs_walk.specs.Walks.{StandsIn, ReadsCellAs, by_device};
 ghost use Rattle.cbfs_walk.specs.Finding.{component_in, found_cell, find_reads};
@@ -13,7 +13,7 @@ ghost use Rattle.cbfs_walk.specs.Finding.{component_in, found_cell, find_reads};
 use crate::cell::Cell;
 use crate::names::name_is;
 use crate::walk::{Step, Walk, WalkFault};
-use flash_store::{Flash, FlashFault, Paged, Region};
+use flash_device::{Flash, FlashFault, Paged, Region};
 
 /// The first component of the name; without one, the damage that ends the walk, or `None`. It walks no further
 /// than the component.

@@ -2,9 +2,9 @@
 ghost use Rattle.std.specs.Prelude.{◌≡◌, ◌⊎◌, ℕ, ◌+◌, ◌-◌, ◌*◌, ◌/◌, ◌%◌, ◌<◌, ◌≤◌, None, IsSome, IfOk, IfSome, IsErrOf, drop};
 ghost use Rattle.flash_format.specs.Entry.{front, component, name_end};
 ghost use Rattle.flash_format.specs.Head.{head_of};
-ghost use Rattle.flash_store.specs.Device.{faults_told};
-ghost use Rattle.flash_store.specs.Pages.{HasRead, OnHonestIn};
-ghost use Rattle.flash_store.specs.Regions.{LiesIn};
+ghost use Rattle.flash_device.specs.Device.{faults_told};
+ghost use Rattle.flash_device.specs.Pages.{HasRead, OnHonestIn};
+ghost use Rattle.flash_device.specs.Regions.{LiesIn};
 ghost use Rattle.cbfs_walk.specs.Cells.{PassesChecks, content_start};
 ghost use Rattle.cbfs_walk.specs.Walks.{entry_or, by_device, walk_of, walk_after, answer_at, answer_of, GivesCell, reads_at, HasPassed, Passes, ReadsAs};
 ghost use Rattle.cbfs_walk.specs.Shapes.{has_bad_size};
@@ -13,8 +13,8 @@ use crate::attribute_walk::are_well_formed;
 use crate::cell::Cell;
 use crate::names::{has_name_end, name_end};
 use crate::read::read_in;
+use flash_device::{Flash, FlashFault, Paged, Region};
 use flash_format::{DamageKind, Head};
-use flash_store::{Flash, FlashFault, Paged, Region};
 use std::marker::Model;
 
 /// What a walk gives next. Places count from the region's start, in bytes.

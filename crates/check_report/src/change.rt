@@ -1,8 +1,8 @@
 //! The report on what a new image changes.
 ghost use Rattle.std.specs.Prelude.{◌≡◌, ◌+◌, ◌*◌, ◌/◌, ◌++◌, ◌≤◌, List, length, map, IfOk, OnOk};
 ghost use Rattle.flash_format.specs.Flashmap.{area_len};
-ghost use Rattle.flash_store.specs.Device.{faults_told};
-ghost use Rattle.flash_store.specs.Pages.{HasRead, OnHonest};
+ghost use Rattle.flash_device.specs.Device.{faults_told};
+ghost use Rattle.flash_device.specs.Pages.{HasRead, OnHonest};
 ghost use Rattle.image_check.specs.RegionAreas.{LieInOrder, region_areas};
 ghost use Rattle.check_rows.specs.declared.report.Form.{Form};
 ghost use Rattle.check_rows.specs.Rows.{SeenRow};
@@ -19,7 +19,7 @@ use crate::images::tell_image_changes;
 use crate::kept::tell_missing;
 use crate::tell::tell_region_changes;
 use check_rows::Report;
-use flash_store::{Flash, Paged};
+use flash_device::{Flash, Paged};
 use flashmap_changes::{AreaChange, image_changes};
 use flashmap_check::{NumberedArea, image_areas};
 use image_check::{CheckedImage, checked_image};

@@ -1,7 +1,7 @@
 //! The report on one image.
 ghost use Rattle.std.specs.Prelude.{◌≡◌, ◌+◌, ◌*◌, length, IfOk};
-ghost use Rattle.flash_store.specs.Device.{faults_told};
-ghost use Rattle.flash_store.specs.Pages.{HasRead, OnHonest};
+ghost use Rattle.flash_device.specs.Device.{faults_told};
+ghost use Rattle.flash_device.specs.Pages.{HasRead, OnHonest};
 ghost use Rattle.check_report.specs.Faults.{by_new, by_old};
 ghost use Rattle.check_report.specs.Reports.{answer_of, image_rows, wish_of};
 
@@ -9,7 +9,7 @@ use crate::answer::{Answer, Request};
 use crate::fault::ReportFault;
 use crate::findings::tell_findings;
 use check_rows::Report;
-use flash_store::{Flash, Paged};
+use flash_device::{Flash, Paged};
 use image_check::check_image;
 use std::alloc::Global;
 use std::hash::RandomState;

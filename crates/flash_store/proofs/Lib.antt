@@ -1,9 +1,1 @@
-pub mod DeviceLemmas
-pub mod BytesLemmas
-pub mod RegionLemmas
-pub mod CopyLemmas
-pub mod WindowLemmas
-pub mod FmapLemmas
-pub mod AreaLemmas
 pub mod StoringLemmas
-pub mod WrittenMaps

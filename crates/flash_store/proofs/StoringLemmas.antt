@@ -5,10 +5,10 @@ use Rattle.std.proofs.lemmas.Slice.{take-put_mid}
 use Rattle.std.proofs.Math.Seq.{take-append-add, take-length}
 use borrow.Rule.Slice.PartMut.{put_mid}
 use Rattle.flash_format.specs.Made.{header_length}
-use Rattle.flash_store.specs.Device.{overwritten, SameOutside}
+use Rattle.flash_device.specs.Device.{overwritten, SameOutside}
 use Rattle.flash_store.specs.Storing.{Stored, SameFile, SameBytes, HasReadSome, HasWrittenSome, IsErased}
 use Rattle.std.specs.Prelude.{slice_range, Result, Ok, Err}
-use Rattle.flash_store.proofs.BytesLemmas.{nearer, further, slice_range_is, part_of_window, overwritten_is, length-overwritten, SameOutside-overwritten}
+use Rattle.flash_device.proofs.BytesLemmas.{nearer, further, slice_range_is, part_of_window, overwritten_is, length-overwritten, SameOutside-overwritten}
 
 -- a file is as faithful as it was
 pub faithful_still : {old new : Bool} → new ≡ old → IsTrue old → IsTrue new

@@ -1,11 +1,2 @@
-pub mod Device
-pub mod Failing
-pub mod Fmap
-pub mod Laws
-pub mod Numbers
 pub mod Opening
-pub mod Output
-pub mod Pages
-pub mod Regions
-pub mod Scans
 pub mod Storing

@@ -1,7 +1,7 @@
 -- A file as single calls of the system see it.
 use Rattle.std.specs.Prelude.{◌≡◌, ◌⊎◌, ℕ, ◌-◌, ◌≤◌, Bool, List, length, take, drop, replicate, Result, IsTrue, IfOk, slice_range}
 use Rattle.flash_format.specs.Made.{header_length}
-use Rattle.flash_store.specs.Device.{overwritten, SameOutside, Device}
+use Rattle.flash_device.specs.Device.{overwritten, SameOutside, Device}
 
 -- what contracts see of a file: its bytes, and whether each call does what it answers
 pub record Stored : Type 0 where

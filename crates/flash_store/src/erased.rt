@@ -2,9 +2,9 @@
 ghost use Rattle.std.specs.Prelude.{◌≡◌, ◌⊎◌, ◌+◌, ◌≤◌, IfOk, IsTrue, length, replicate, slice_range};
 ghost use Rattle.flash_store.specs.Storing.{SameFile, SameBytes, IsErased};
 
-use crate::flash::PIECE;
 use crate::storage::{Storage, StorageFault};
 use crate::transfer::{read_front, write_whole};
+use flash_device::PIECE;
 use std::marker::Model;
 
 /// How many bytes of a new file are written at once.

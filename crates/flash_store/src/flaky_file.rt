@@ -1,6 +1,6 @@
 //! A file in memory for tests, which moves few bytes a call, is interrupted, and at last refuses.
 ghost use Rattle.std.specs.Prelude.{◌≡◌, ◌+◌, ◌-◌, ◌^◌, ◌<◌, ◌≤◌, Err, length, true, IsOk};
-ghost use Rattle.flash_store.specs.Device.{overwritten};
+ghost use Rattle.flash_device.specs.Device.{overwritten};
 
 use crate::storage::{Storage, StorageFault};
 use flash_format::HEADER_LENGTH;

@@ -3,13 +3,12 @@ ghost use Rattle.std.specs.Prelude.{◌≡◌, ◌+◌, IsOk, IsErr, IsTrue, OnO
 ghost use Rattle.flash_store.specs.Storing.{stored_device};
 
 use crate::ahead::Ahead;
-use crate::counter::Counter;
 use crate::erased::Erased;
-use crate::flash::{Flash, FlashFault};
 use crate::open_fault::OpenFault;
 use crate::os_file::OsFile;
 use crate::storage::{Storage, StorageFault};
 use crate::transfer::{read_whole, write_once, write_whole};
+use flash_device::{Counter, Flash, FlashFault};
 use flash_format::HEADER_LENGTH;
 use std::fs::File;
 use std::marker::Model;
@@ -24,7 +23,7 @@ pub struct StoredFlash<S: Storage> {
 }
 
 impl<S: Storage> Model for StoredFlash<S> {
-    ghost use Rattle.flash_store.specs.Device.{Device};
+    ghost use Rattle.flash_device.specs.Device.{Device};
     ghost use Rattle.flash_store.specs.Storing.{stored_device};
 
     ghost Value = { Device };

@@ -2,10 +2,9 @@
 ghost use Rattle.std.specs.Prelude.{◌≡◌};
 ghost use Rattle.flash_store.specs.Storing.{stored_device};
 
-use crate::counter::Counter;
-use crate::source::{Source, SourceFault};
 use crate::storage::Storage;
 use crate::transfer::read_whole;
+use flash_device::{Counter, Source, SourceFault};
 use std::marker::Model;
 
 /// A source in a file, which is honest exactly where the file is faithful.
@@ -17,7 +16,7 @@ pub struct StoredSource<S: Storage> {
 }
 
 impl<S: Storage> Model for StoredSource<S> {
-    ghost use Rattle.flash_store.specs.Device.{Device};
+    ghost use Rattle.flash_device.specs.Device.{Device};
     ghost use Rattle.flash_store.specs.Storing.{stored_device};
 
     ghost Value = { Device };

@@ -1,7 +1,7 @@
 //! Calls of a file made until all of the bytes are moved. What a function leaves is said as one call of a device over the
 //! file.
 ghost use Rattle.std.specs.Prelude.{◌+◌, ◌<◌, ◌≤◌, length, IfOk};
-ghost use Rattle.flash_store.specs.Device.{OneRead, OneWrite, OneCommit, refusals};
+ghost use Rattle.flash_device.specs.Device.{OneRead, OneWrite, OneCommit, refusals};
 ghost use Rattle.flash_store.specs.Storing.{stored_device, HasReadSome, HasWrittenSome};
 
 use crate::storage::{Storage, StorageFault};

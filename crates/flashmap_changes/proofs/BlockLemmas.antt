@@ -8,8 +8,8 @@ use Rattle.std.proofs.lemmas.Option.{get_or_from_slice_get, slice_get-get_or}
 use Rattle.std.proofs.Math.ListN.{get_or-append}
 use Rattle.std.proofs.Math.Seq.{get_or-append_seam}
 use Rattle.std.proofs.lemmas.Slice.Eq.{bytes_eq-Decides}
-use Rattle.flash_store.specs.Regions.{Range, bytes_in}
-use Rattle.flash_store.proofs.BytesLemmas.{slice_range_is}
+use Rattle.flash_device.specs.Regions.{Range, bytes_in}
+use Rattle.flash_device.proofs.BytesLemmas.{slice_range_is}
 use Rattle.flashmap_changes.specs.Blocks.{blocks_of, block, differs, different_among, different_blocks, KnowsBlocks}
 
 -- two limits on a length are the lower one

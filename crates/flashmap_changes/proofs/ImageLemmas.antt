@@ -1,11 +1,11 @@
 -- What holds of the bytes of both images, before and after they are read, and what several reads of both leave.
 use Rattle.std.proofs.Common.{◌≡◌, ℕ, ◌≤◌, Bool, List, [], length, sym, ap, subst, arith}
 use Rattle.std.specs.Prelude.{Result, Ok, Err, IsErrAnd}
-use Rattle.flash_store.specs.Device.{Device, faults_told}
-use Rattle.flash_store.specs.Pages.{Pages, HasRead}
-use Rattle.flash_store.specs.Regions.{Range}
-use Rattle.flash_store.proofs.DeviceLemmas.{honest_still}
-use Rattle.flash_store.proofs.WindowLemmas.{HasRead-within}
+use Rattle.flash_device.specs.Device.{Device, faults_told}
+use Rattle.flash_device.specs.Pages.{Pages, HasRead}
+use Rattle.flash_device.specs.Regions.{Range}
+use Rattle.flash_device.proofs.DeviceLemmas.{honest_still}
+use Rattle.flash_device.proofs.WindowLemmas.{HasRead-within}
 use Rattle.flashmap_changes.specs.Blocks.{KnowsBlocks}
 use Rattle.flashmap_changes.specs.Images.{by_old, by_new, OnBoth, KnowsRegions, HasCompared}
 use Rattle.flashmap_changes.specs.declared.change.ChangeFault.{ChangeFault}

@@ -3,7 +3,7 @@ use Rattle.std.specs.Prelude.{ℕ, ◌-◌, ◌*◌, Bool, false, not, ◌&&◌,
 use Rattle.std.specs.List.{find, flat_map}
 use Rattle.std.specs.Option.{option_map_or}
 use Rattle.flash_format.specs.Flashmap.{text_of}
-use Rattle.flash_store.specs.Regions.{Range, bytes_in}
+use Rattle.flash_device.specs.Regions.{Range, bytes_in}
 use Rattle.flashmap_check.specs.declared.finding.NumberedArea.{NumberedArea}
 use Rattle.flashmap_check.specs.MapFindings.{area_end, has_name}
 use Rattle.flashmap_changes.specs.declared.change.AreaChange.{AreaChange}

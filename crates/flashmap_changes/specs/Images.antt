@@ -1,8 +1,8 @@
 -- Two images, each on a device of its own, and what comparing them leaves.
 use Rattle.std.specs.Prelude.{ℕ, Bool, List, Result, IsTrue}
-use Rattle.flash_store.specs.Device.{Device, faults_told}
-use Rattle.flash_store.specs.Pages.{Pages, HasRead}
-use Rattle.flash_store.specs.Regions.{Range, LiesIn}
+use Rattle.flash_device.specs.Device.{Device, faults_told}
+use Rattle.flash_device.specs.Pages.{Pages, HasRead}
+use Rattle.flash_device.specs.Regions.{Range, LiesIn}
 use Rattle.flashmap_changes.specs.Blocks.{KnowsBlocks}
 use Rattle.flashmap_changes.specs.declared.change.ChangeFault.{ChangeFault}
 use Rattle.flashmap_changes.specs.declared.change.ChangeFault.TheVariants as faults

@@ -9,7 +9,7 @@ ghost use Rattle.flashmap_changes.specs.Images.{HasCompared, KnowsImages, OnBoth
 use crate::blocks::{different_blocks, different_in, whole_blocks};
 use crate::change::{AreaChange, ChangeFault, push_if};
 use crate::pairs::{Pair, pairs, push_gone};
-use flash_store::{Flash, Paged, Region};
+use flash_device::{Flash, Paged, Region};
 use flashmap_check::{AreaNames, NumberedArea};
 use std::alloc::{AllocError, Global};
 

@@ -1,11 +1,11 @@
 //! In how many blocks two regions differ.
 ghost use Rattle.std.specs.Prelude.{◌≡◌, ℕ, ◌+◌, ◌*◌, ◌/◌, ◌^◌, ◌<◌, ◌≤◌, List, [], ◌∷◌, ◌++◌, length, min, max, IfOk, IfSome, OnOk, if◌then◌else◌};
-ghost use Rattle.flash_store.specs.Regions.{bytes_in};
+ghost use Rattle.flash_device.specs.Regions.{bytes_in};
 ghost use Rattle.flashmap_changes.specs.Blocks.{blocks_of, differs, different_among, different_blocks, KnowsBlocks};
 ghost use Rattle.flashmap_changes.specs.Images.{HasCompared, KnowsRegions, OnBoth};
 
 use crate::change::ChangeFault;
-use flash_store::{Flash, PIECE, Paged, Region};
+use flash_device::{Flash, PIECE, Paged, Region};
 use std::alloc::{AllocError, Global};
 
 /// How many blocks so many bytes have.

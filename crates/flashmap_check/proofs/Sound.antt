@@ -10,8 +10,8 @@ use Rattle.std.proofs.lemmas.Slice.Eq.{bytes_eq-Decides}
 use lib.Chars.{codes}
 use Rattle.flash_format.specs.declared.flashmap.Area.{Area}
 use Rattle.flash_format.specs.Flashmap.{text_of}
-use Rattle.flash_store.specs.declared.fmap.FoundMap.{FoundMap}
-use Rattle.flash_store.specs.Fmap.{found_from, found_in}
+use Rattle.flash_device.specs.declared.fmap.FoundMap.{FoundMap}
+use Rattle.flash_device.specs.Fmap.{found_from, found_in}
 use Rattle.flashmap_check.specs.declared.finding.NumberedArea.{NumberedArea}
 use Rattle.flashmap_check.specs.declared.finding.MapFinding.{MapFinding}
 use Rattle.flashmap_check.specs.declared.finding.MapFinding.TheVariants as findings

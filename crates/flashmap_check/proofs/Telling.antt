@@ -1,7 +1,7 @@
 -- What is told of an image with a map, and of one without.
 use Rattle.std.proofs.Common.{◌≡◌, ℕ, ◌+◌, List, [], ◌∷◌, length, Option, Some, None, ap, ◌∙◌}
-use Rattle.flash_store.specs.declared.fmap.FoundMap.{FoundMap}
-use Rattle.flash_store.specs.Fmap.{found_from, found_in}
+use Rattle.flash_device.specs.declared.fmap.FoundMap.{FoundMap}
+use Rattle.flash_device.specs.Fmap.{found_from, found_in}
 use Rattle.flashmap_check.specs.declared.finding.NumberedArea.{NumberedArea}
 use Rattle.flashmap_check.specs.declared.finding.MapFinding.{MapFinding}
 use Rattle.flashmap_check.specs.declared.finding.MapFinding.TheVariants as findings

@@ -4,8 +4,8 @@ use Rattle.std.specs.List.{find}
 use lib.Chars.{codes}
 use Rattle.flash_format.specs.declared.flashmap.Area.{Area}
 use Rattle.flash_format.specs.Flashmap.{map_len, text_of}
-use Rattle.flash_store.specs.declared.fmap.FoundMap.{FoundMap}
-use Rattle.flash_store.specs.Fmap.{found_from, found_in}
+use Rattle.flash_device.specs.declared.fmap.FoundMap.{FoundMap}
+use Rattle.flash_device.specs.Fmap.{found_from, found_in}
 use Rattle.flashmap_check.specs.declared.finding.NumberedArea.{NumberedArea}
 use Rattle.flashmap_check.specs.declared.finding.MapFinding.TheVariants as findings
 use Rattle.flashmap_check.specs.MapFindings.{area_end, has_name, map_areas, map_findings}

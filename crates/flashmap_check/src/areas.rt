@@ -2,12 +2,12 @@
 
 ghost use Rattle.std.specs.Prelude.{◌≡◌, ◌+◌, ◌/◌, ◌≤◌, [], ◌∷◌, ◌++◌, length, IfOk, OnOk};
 ghost use Rattle.flash_format.specs.Flashmap.{area_len, map_len};
-ghost use Rattle.flash_store.specs.Device.{faults_told};
-ghost use Rattle.flash_store.specs.Pages.{HasRead, OnHonest};
+ghost use Rattle.flash_device.specs.Device.{faults_told};
+ghost use Rattle.flash_device.specs.Pages.{HasRead, OnHonest};
 ghost use Rattle.flashmap_check.specs.MapFindings.{by_device, image_areas, map_areas};
 
 use crate::finding::{MapCheckFault, NumberedArea};
-use flash_store::{Flash, FoundMap, Paged, area, find_fmap};
+use flash_device::{Flash, FoundMap, Paged, area, find_fmap};
 use std::alloc::{AllocError, Global};
 
 /// All areas of the image's map, in its order; none where the image has no map. `Device` comes exactly where the device

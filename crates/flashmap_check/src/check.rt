@@ -2,14 +2,14 @@
 
 ghost use Rattle.std.specs.Prelude.{◌≡◌, ◌+◌, ◌*◌, ◌/◌, ◌≤◌, [], ◌∷◌, length, IfOk};
 ghost use Rattle.flash_format.specs.Flashmap.{area_len};
-ghost use Rattle.flash_store.specs.Device.{faults_told};
-ghost use Rattle.flash_store.specs.Pages.{HasRead, OnHonest};
+ghost use Rattle.flash_device.specs.Device.{faults_told};
+ghost use Rattle.flash_device.specs.Pages.{HasRead, OnHonest};
 ghost use Rattle.flashmap_check.specs.MapFindings.{by_device, image_areas, map_findings};
 
 use crate::areas::map_areas;
 use crate::finding::{MapCheckFault, MapFinding, NumberedArea};
 use crate::findings::{findings_of, push_if};
-use flash_store::{Flash, Paged, find_fmap, find_fmap_from};
+use flash_device::{Flash, Paged, find_fmap, find_fmap_from};
 use std::alloc::{AllocError, Global};
 
 /// What is told of the image's flashmap, in the order of `MapFinding`. It only reads. `Device` comes exactly where the

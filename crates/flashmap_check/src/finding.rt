@@ -2,8 +2,8 @@
 
 ghost use Rattle.std.specs.Prelude.{◌≡◌};
 
+use flash_device::{FlashFault, FoundMap};
 use flash_format::Area;
-use flash_store::{FlashFault, FoundMap};
 use std::alloc::AllocError;
 
 /// An area with its number in the map, counted from 0.

@@ -9,8 +9,8 @@ ghost use Rattle.flashmap_check.specs.MapFindings.{told_if, area_findings, has_n
 use crate::finding::{MapFinding, NumberedArea};
 use crate::names::push_name_findings;
 use crate::overlaps::push_overlap_findings;
+use flash_device::FoundMap;
 use flash_format::{Area, FmapHead};
-use flash_store::FoundMap;
 use std::alloc::{AllocError, Global};
 
 /// What is told of a map with this next one and these areas, in an image of `len` bytes.

@@ -1,8 +1,8 @@
 -- The table of a text is found where it is written.
 use Rattle.std.proofs.Common.{List, ℕ, sym, subst}
-use Rattle.flash_store.specs.Device.{overwritten}
-use Rattle.flash_store.specs.Laws.{FindsMap, NoMapBelow}
-use Rattle.flash_store.proofs.WrittenMaps.{maps_found}
+use Rattle.flash_device.specs.Device.{overwritten}
+use Rattle.flash_device.specs.Laws.{FindsMap, NoMapBelow}
+use Rattle.flash_device.proofs.WrittenMaps.{maps_found}
 use Rattle.fmd_lang.specs.Table.{table_bytes, table_head}
 use Rattle.fmd_lang.proofs.TableBytes.{table_read}
 use Rattle.fmap_compiler.specs.Laws.{CompiledMapsAreFound}

@@ -1,7 +1,7 @@
 -- What a run of the compiler writes, and why it is refused.
 use Rattle.std.specs.Prelude.{◌≡◌, ℕ, ◌+◌, ◌≤◌, ◌⊎◌, List, length, take, Option, Some, None, IfSome}
 use Rattle.std.specs.Io.KnownBytes.{Consumes, Keeps}
-use Rattle.flash_store.specs.Output.{AppendsPart}
+use Rattle.flash_device.specs.Output.{AppendsPart}
 use Rattle.fmd_lang.specs.Words.{words}
 use Rattle.fmd_lang.specs.Tree.{Tree}
 use Rattle.fmd_lang.specs.Grammar.{IsSection}

@@ -6,7 +6,7 @@ ghost use Rattle.fmap_compiler.specs.Outcome.{reading_limit, Compiles, HasTable,
 
 use crate::reader::TextReader;
 use crate::refusal::Refusal;
-use flash_store::{Sink, put_all};
+use flash_device::{Sink, put_all};
 use fmd_lang::{FmdFault, TEXT_LIMIT, encode, lay_out, parse};
 use std::alloc::Global;
 

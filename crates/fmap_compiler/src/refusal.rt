@@ -5,7 +5,7 @@ ghost use Rattle.fmd_lang.specs.declared.fault.FmdFault.TheVariants as faults;
 ghost use Rattle.fmap_compiler.specs.declared.refusal.Refusal.TheVariants as refusals;
 
 use crate::reader::ReadFault;
-use flash_store::SinkFault;
+use flash_device::SinkFault;
 use fmd_lang::FmdFault;
 use std::alloc::AllocError;
 use thiserror::Error;

@@ -9,9 +9,9 @@ use Rattle.std.proofs.lemmas.List.{reverse-append}
 use Rattle.std.proofs.lemmas.List.Elements.{All-nil, All-cons, All-head, All-tail, All-append, All-weaker, All-contains_itself}
 use Rattle.flash_format.specs.declared.flashmap.Area.{Area}
 use Rattle.flash_format.specs.Flashmap.{areas_at, fmap_head_of, is_area, map_of, text_of}
-use Rattle.flash_store.specs.declared.fmap.FoundMap.{FoundMap}
-use Rattle.flash_store.specs.Fmap.{found_from, found_in}
-use Rattle.flash_store.specs.Regions.{region_of, region_under}
+use Rattle.flash_device.specs.declared.fmap.FoundMap.{FoundMap}
+use Rattle.flash_device.specs.Fmap.{found_from, found_in}
+use Rattle.flash_device.specs.Regions.{region_of, region_under}
 use Rattle.flashmap_check.specs.declared.finding.MapFinding.{MapFinding}
 use Rattle.flashmap_check.specs.declared.finding.MapFinding.TheVariants.{OtherSize}
 use Rattle.flashmap_check.specs.declared.finding.NumberedArea.{NumberedArea}

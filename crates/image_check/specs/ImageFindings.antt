@@ -2,7 +2,7 @@
 use Rattle.std.specs.Prelude.{ℕ, ◌+◌, Bool, true, false, not, ◌&&◌, ◌||◌, List, [], ◌∷◌, ◌++◌, length, map, reverse, nat_le, nat_lt, if◌then◌else◌}
 use Rattle.std.specs.List.{list_any}
 use Rattle.flash_format.specs.Flashmap.{is_area}
-use Rattle.flash_store.specs.Regions.{Range, bytes_in}
+use Rattle.flash_device.specs.Regions.{Range, bytes_in}
 use Rattle.flashmap_check.specs.declared.finding.NumberedArea.{NumberedArea}
 use Rattle.flashmap_check.specs.MapFindings.{area_end, image_areas, map_findings}
 use Rattle.cbfs_check.specs.declared.finding.RegionFinding.{RegionFinding}

@@ -6,7 +6,7 @@ use Rattle.flash_format.specs.declared.head.DamageKind.{DamageKind}
 use Rattle.flash_format.specs.Components.{Component, components}
 use Rattle.flash_format.specs.Cut.{cut, damage}
 use Rattle.flash_format.specs.Flashmap.{text_of}
-use Rattle.flash_store.specs.Regions.{region_of}
+use Rattle.flash_device.specs.Regions.{region_of}
 use Rattle.flashmap_check.specs.declared.finding.NumberedArea.{NumberedArea}
 use Rattle.cbfs_walk.specs.Finding.{component_in}
 use Rattle.cbfs_walk.specs.Hashes.{hash_state}

@@ -1,7 +1,7 @@
 -- The last areas by place, as they are looked at.
 use Rattle.std.specs.Prelude.{ℕ, ◌+◌, ◌-◌, ◌*◌, ◌/◌, ◌≤◌, length, reverse}
-use Rattle.flash_store.specs.Device.{Device}
-use Rattle.flash_store.specs.Pages.{Pages, HasRead}
+use Rattle.flash_device.specs.Device.{Device}
+use Rattle.flash_device.specs.Pages.{Pages, HasRead}
 use Rattle.image_check.specs.declared.looked.LookedAreas.{LookedAreas}
 use Rattle.image_check.specs.ImageFindings.{Looked, max_tried}
 use Rattle.image_check.specs.RegionAreas.{region_areas, LieInOrder}

@@ -4,7 +4,7 @@ ghost use Rattle.image_check.specs.Faults.{map_fault, region_fault};
 ghost use Rattle.image_check.specs.declared.fault.ImageCheckFault.TheVariants as faults;
 
 use cbfs_check::RegionCheckFault;
-use flash_store::FlashFault;
+use flash_device::FlashFault;
 use flashmap_check::MapCheckFault;
 use std::alloc::AllocError;
 

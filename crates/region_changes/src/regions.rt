@@ -1,7 +1,7 @@
 //! What becomes of the components of each region.
 ghost use Rattle.std.specs.Prelude.{◌≡◌, ◌+◌, ◌-◌, ◌*◌, ◌/◌, ◌≤◌, false, true, All, length, MatchOption, IfOk};
-ghost use Rattle.flash_store.specs.Device.{faults_told};
-ghost use Rattle.flash_store.specs.Pages.{HasRead, OnHonest};
+ghost use Rattle.flash_device.specs.Device.{faults_told};
+ghost use Rattle.flash_device.specs.Pages.{HasRead, OnHonest};
 ghost use Rattle.flashmap_check.specs.MapFindings.{area_end};
 ghost use Rattle.image_check.specs.ImageFindings.{range_of};
 ghost use Rattle.image_check.specs.RegionAreas.{region_areas, LieInOrder};
@@ -12,7 +12,7 @@ ghost use Rattle.region_changes.specs.Sizes.{EndsInside, new_sizes};
 use crate::change::{ComponentChanges, RegionChange, push};
 use crate::pairs::{Pair, pairs};
 use cbfs_changes::{ChangeFault, component_changes};
-use flash_store::{Flash, Paged, Region};
+use flash_device::{Flash, Paged, Region};
 use flashmap_check::{AreaNames, NumberedArea};
 use image_check::ImageFinding;
 use std::alloc::Global;

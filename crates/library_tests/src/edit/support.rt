@@ -1,5 +1,5 @@
 //! A small image with a region, and what the tests of edits share.
-ghost use Rattle.flash_store.specs.Regions.{LiesIn};
+ghost use Rattle.flash_device.specs.Regions.{LiesIn};
 
 use crate::support::{Failing, Parts, device_from, filled, same_bytes, write_over};
 use cbfs_walk::{Cell, Step, Walk};

@@ -1,7 +1,7 @@
 //! A device that lies, and one that fails at each call in turn. What regions have and how they are refused is shown by
 //! `checks/check_cbfstool`.
 ghost use Rattle.std.specs.Prelude.{◌≡◌};
-ghost use Rattle.flash_store.specs.Regions.{LiesIn};
+ghost use Rattle.flash_device.specs.Regions.{LiesIn};
 
 use crate::support::{ALL, Failing, Parts, equal, failing};
 use cbfs_walk::{Cell, Step, Walk, WalkFault, find};
@@ -88,7 +88,7 @@ struct Liar {
 
 impl Model for Liar {
     ghost use Rattle.std.specs.Prelude.{replicate, false};
-    ghost use Rattle.flash_store.specs.Device.{Device};
+    ghost use Rattle.flash_device.specs.Device.{Device};
 
     ghost Value = { Device };
 

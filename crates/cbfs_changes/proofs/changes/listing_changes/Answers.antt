@@ -1,4 +1,4 @@
-use Rattle.flash_store.specs.Regions.{bytes_in}
+use Rattle.flash_device.specs.Regions.{bytes_in}
 use Rattle.cbfs_changes.proofs.ChangeLemmas.{all_told}
 use Rattle.cbfs_changes.proofs.changes.listing_changes.Goals as goal
 

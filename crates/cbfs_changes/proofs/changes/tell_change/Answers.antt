@@ -1,6 +1,6 @@
 use Rattle.std.proofs.Common.{List, Option, ap, sym, ◌++◌, ◌∙◌}
 use Rattle.std.proofs.lemmas.List.{append-nil}
-use Rattle.flash_store.specs.Regions.{bytes_in}
+use Rattle.flash_device.specs.Regions.{bytes_in}
 use Rattle.cbfs_changes.specs.declared.change.ComponentChange.{ComponentChange}
 use Rattle.cbfs_changes.specs.ComponentChanges.{pair_change}
 use Rattle.cbfs_changes.specs.declared.change.Difference.{Difference}

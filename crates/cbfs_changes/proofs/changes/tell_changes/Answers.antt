@@ -1,6 +1,6 @@
 use Rattle.std.proofs.Common.{◌+◌, ◌/◌, rules}
-use Rattle.flash_store.specs.Device.{faults_told}
-use Rattle.flash_store.proofs.DeviceLemmas.{honest_still}
+use Rattle.flash_device.specs.Device.{faults_told}
+use Rattle.flash_device.proofs.DeviceLemmas.{honest_still}
 use Rattle.cbfs_changes.specs.Sides.{HasReadBoth, by_new, by_old}
 use Rattle.cbfs_changes.proofs.ChangeLemmas.{changes_more, listed_some, reads_all, reads_more}
 use Rattle.cbfs_changes.proofs.changes.tell_changes.Goals as goal

@@ -1,7 +1,7 @@
 use Rattle.std.proofs.Common.{◌≡◌, ◌++◌, ◌/◌, take, drop}
 use Rattle.std.specs.Prelude.{IsTrue}
 use Rattle.std.specs.List.{flat_map}
-use Rattle.flash_store.specs.Regions.{bytes_in}
+use Rattle.flash_device.specs.Regions.{bytes_in}
 use Rattle.cbfs_changes.specs.Listings.{listed_change, spans}
 use Rattle.cbfs_changes.specs.Sides.{HasReadBoth}
 use Rattle.cbfs_changes.proofs.changes.tell_changes.Given as goal

@@ -1,5 +1,5 @@
 use Rattle.std.proofs.Common.{◌+◌, ◌/◌, ◌<◌, arith, rules}
-use Rattle.flash_store.proofs.DeviceLemmas.{honest_still}
+use Rattle.flash_device.proofs.DeviceLemmas.{honest_still}
 use Rattle.cbfs_changes.proofs.Reading.{both-then, both-within, differ-all, same-more}
 use Rattle.cbfs_changes.proofs.compare.same_bytes.Goals as goal
 

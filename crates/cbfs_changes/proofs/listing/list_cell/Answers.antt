@@ -1,5 +1,5 @@
 use Rattle.std.proofs.Common.{sym, ◌∙◌}
-use Rattle.flash_store.specs.Regions.{bytes_in}
+use Rattle.flash_device.specs.Regions.{bytes_in}
 use Rattle.cbfs_changes.proofs.ListingLemmas.{listed_more, state_shown}
 use Rattle.cbfs_changes.proofs.listing.list_cell.Goals as goal
 

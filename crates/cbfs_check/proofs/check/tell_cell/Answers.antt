@@ -1,7 +1,7 @@
 use Rattle.std.proofs.Common.{◌≡◌, List, ℕ, rules, sym, subst}
 use Rattle.flash_format.specs.Components.{cell_attributes, cell_content}
-use Rattle.flash_store.specs.Regions.{bytes_in}
-use Rattle.flash_store.proofs.DeviceLemmas.{honest_still}
+use Rattle.flash_device.specs.Regions.{bytes_in}
+use Rattle.flash_device.proofs.DeviceLemmas.{honest_still}
 use Rattle.cbfs_walk.specs.Cells.{cell_in}
 use Rattle.cbfs_walk.specs.Hashes.{hash_state}
 use Rattle.cbfs_walk.specs.Walks.{StandsIn}

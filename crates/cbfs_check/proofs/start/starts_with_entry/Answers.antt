@@ -1,9 +1,9 @@
 use Rattle.std.proofs.Common.{◌≤◌, Ok, Option, ap, ◌∙◌, arith}
 use Rattle.std.specs.Prelude.{is_some}
 use Rattle.flash_format.specs.declared.head.Head.{Head}
-use Rattle.flash_store.specs.Regions.{bytes_in}
-use Rattle.flash_store.specs.declared.flash.FlashFault.{FlashFault}
-use Rattle.flash_store.proofs.DeviceLemmas.{length-bytes_in}
+use Rattle.flash_device.specs.Regions.{bytes_in}
+use Rattle.flash_device.specs.declared.flash.FlashFault.{FlashFault}
+use Rattle.flash_device.proofs.DeviceLemmas.{length-bytes_in}
 use Rattle.cbfs_walk.proofs.Parts.{front_read, read_part}
 use Rattle.cbfs_check.proofs.start.starts_with_entry.Goals as goal
 

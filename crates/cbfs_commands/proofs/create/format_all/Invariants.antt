@@ -1,7 +1,7 @@
 use Rattle.std.proofs.Common.{◌≡◌, ◌-◌, ◌+◌, ◌*◌, ◌/◌, ◌≤◌, length, All, IsTrue}
 use Rattle.std.specs.Prelude.{fold}
-use Rattle.flash_store.specs.Device.{Calls}
-use Rattle.flash_store.specs.Laws.{with_edit}
+use Rattle.flash_device.specs.Device.{Calls}
+use Rattle.flash_device.specs.Laws.{with_edit}
 use Rattle.cbfs_edit.specs.Formats.{formatted}
 use Rattle.cbfs_commands.specs.Creations.{IsPlace}
 use Rattle.cbfs_commands.proofs.create.format_all.Given as goal

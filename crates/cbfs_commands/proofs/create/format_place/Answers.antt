@@ -1,4 +1,4 @@
-use Rattle.flash_store.proofs.RegionLemmas.{image_is}
+use Rattle.flash_device.proofs.RegionLemmas.{image_is}
 use Rattle.cbfs_commands.proofs.create.format_place.Goals as goal
 
 pub returns-in-Ok-clause-formatted : goal.returns-in-Ok-clause-formatted

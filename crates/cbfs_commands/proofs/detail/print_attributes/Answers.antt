@@ -1,5 +1,5 @@
 use Rattle.std.proofs.Common.{◌≡◌, ◌+◌, ◌∙◌, IsTrue, List, ℕ, ap, inl, refl, subst, sym, arith}
-use Rattle.flash_store.specs.Regions.{bytes_in}
+use Rattle.flash_device.specs.Regions.{bytes_in}
 use Rattle.cbfs_walk.specs.AttrWalks.{AttrWalking, after_first, attr_reads, attributes_left}
 use Rattle.cbfs_commands.proofs.Listing.{lines-first, lines-none, lines_left}
 use Rattle.cbfs_commands.proofs.Telling.{so_far-ends, so_far-more, told-after, told-none, told-refusal, told-row, told-stopped}

@@ -1,8 +1,8 @@
 use Rattle.std.proofs.Common.{◌≡◌, ◌-◌, ◌/◌, ◌≤◌, List, Some}
 use Rattle.flash_format.specs.Entry.{Attribute}
 use Rattle.flash_format.specs.Components.{cell_attributes}
-use Rattle.flash_store.specs.Pages.{OnHonestIn}
-use Rattle.flash_store.specs.Regions.{bytes_in}
+use Rattle.flash_device.specs.Pages.{OnHonestIn}
+use Rattle.flash_device.specs.Regions.{bytes_in}
 use Rattle.cbfs_walk.specs.AttrWalks.{attributes_left}
 use Rattle.cbfs_commands.specs.Told.{cell_of}
 use Rattle.cbfs_commands.proofs.Listing.{lines, lines_left}

@@ -1,5 +1,5 @@
 use Rattle.std.proofs.Common.{IsTrue, refl, rules}
-use Rattle.flash_store.proofs.DeviceLemmas.{honest_still}
+use Rattle.flash_device.proofs.DeviceLemmas.{honest_still}
 use Rattle.cbfs_commands.proofs.Editing.{addition_refused}
 use Rattle.cbfs_commands.proofs.engine.add.Goals as goal
 

@@ -1,5 +1,5 @@
 use Rattle.std.proofs.Common.{[], IsTrue, rules}
-use Rattle.flash_store.proofs.DeviceLemmas.{honest_still}
+use Rattle.flash_device.proofs.DeviceLemmas.{honest_still}
 use Rattle.cbfs_commands.proofs.Editing.{removal_refused}
 use Rattle.cbfs_commands.proofs.engine.remove.Goals as goal
 

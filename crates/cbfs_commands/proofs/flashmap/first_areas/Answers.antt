@@ -3,7 +3,7 @@ use Rattle.std.proofs.lemmas.List.{length-map}
 use lib.Chars.{codes}
 use Rattle.flash_format.specs.declared.flashmap.Area.{Area}
 use Rattle.flash_format.specs.Flashmap.{areas_from}
-use Rattle.flash_store.proofs.DeviceLemmas.{honest_still, Reads-none, Reads-then}
+use Rattle.flash_device.proofs.DeviceLemmas.{honest_still, Reads-none, Reads-then}
 use Rattle.cbfs_commands.specs.Creations.{first_area}
 use Rattle.cbfs_commands.proofs.Planning.{areas-and, none-found}
 use Rattle.cbfs_commands.proofs.flashmap.first_areas.Goals as goal

@@ -1,7 +1,7 @@
 use Rattle.std.proofs.Common.{◌≡◌, ◌-◌, ◌++◌, length, map, drop, replicate, None, IsTrue}
 use lib.Chars.{codes}
 use Rattle.flash_format.specs.Flashmap.{fmap_head_len, areas_from}
-use Rattle.flash_store.specs.Device.{Reads}
+use Rattle.flash_device.specs.Device.{Reads}
 use Rattle.cbfs_commands.specs.Creations.{first_area}
 use Rattle.cbfs_commands.proofs.flashmap.first_areas.Given as goal
 

@@ -1,5 +1,5 @@
 use Rattle.std.proofs.Common.{Ok, Err, arith, refl}
-use Rattle.flash_store.specs.Regions.{bytes_in}
+use Rattle.flash_device.specs.Regions.{bytes_in}
 use Rattle.cbfs_commands.proofs.Printing.{print_region-from, printed-done, printed-failed, printed-more, printed-stops}
 use Rattle.cbfs_commands.proofs.Telling.{so_far-none}
 use Rattle.cbfs_commands.proofs.print.print_region.Goals as goal

@@ -1,10 +1,10 @@
 use Rattle.std.proofs.Common.{◌≡◌, ℕ, ◌+◌, inl, inr, List, Option, Err, refl, subst, arith}
 use Rattle.std.specs.Prelude.{slice_range}
 use Rattle.std.specs.Result.{IsErrAnd}
-use Rattle.flash_store.specs.Pages.{HasCopiedOut, Pages}
-use Rattle.flash_store.specs.Device.{Device}
-use Rattle.flash_store.specs.declared.paged.CopyFault.{CopyFault}
-use Rattle.flash_store.specs.declared.paged.CopyFault.TheVariants as copy
+use Rattle.flash_device.specs.Pages.{HasCopiedOut, Pages}
+use Rattle.flash_device.specs.Device.{Device}
+use Rattle.flash_device.specs.declared.paged.CopyFault.{CopyFault}
+use Rattle.flash_device.specs.declared.paged.CopyFault.TheVariants as copy
 use Rattle.cbfs_commands.specs.declared.refusal.Refusal.TheVariants as refusals
 use Rattle.cbfs_commands.specs.Refusals.{copy_refusal}
 use Rattle.cbfs_commands.specs.Told.{Answer, HasTold, shows}

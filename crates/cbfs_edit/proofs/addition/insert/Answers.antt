@@ -1,5 +1,5 @@
 use Rattle.std.proofs.Common.{rules, arith}
-use Rattle.flash_store.proofs.DeviceLemmas.{honest_still}
+use Rattle.flash_device.proofs.DeviceLemmas.{honest_still}
 use Rattle.cbfs_edit.proofs.Insertions.{empty_stop, copied_stop, on_err, room-for, shown_stop, shown_added}
 use Rattle.cbfs_edit.proofs.addition.insert.Goals as goal
 

@@ -1,6 +1,6 @@
 use Rattle.std.proofs.Common.{arith, rules}
-use Rattle.flash_store.specs.Regions.{bytes_in}
-use Rattle.flash_store.proofs.DeviceLemmas.{length-bytes_in}
+use Rattle.flash_device.specs.Regions.{bytes_in}
+use Rattle.flash_device.proofs.DeviceLemmas.{length-bytes_in}
 use Rattle.cbfs_edit.proofs.FormatLemmas.{format_done, format_stopped}
 use Rattle.cbfs_edit.proofs.formatting.format.Goals as goal
 

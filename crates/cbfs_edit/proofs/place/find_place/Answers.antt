@@ -1,7 +1,7 @@
 use Rattle.std.proofs.Common.{inr, ◌∙◌, refl, arith}
 use Rattle.std.proofs.lemmas.Result.{err_from_is_err_and}
-use Rattle.flash_store.specs.Regions.{bytes_in}
-use Rattle.flash_store.proofs.DeviceLemmas.{length-bytes_in}
+use Rattle.flash_device.specs.Regions.{bytes_in}
+use Rattle.flash_device.proofs.DeviceLemmas.{length-bytes_in}
 use Rattle.cbfs_edit.specs.Places.{placing_in}
 use Rattle.cbfs_edit.specs.Searches.{IsSurvey, place_by}
 use Rattle.cbfs_edit.proofs.Searches.{surveying_start, surveying_more, faultless, last_after, last_answer, surveying_err, nothing_passed, place_searched}

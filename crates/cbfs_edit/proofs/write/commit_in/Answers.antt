@@ -1,6 +1,6 @@
 use Rattle.std.proofs.Common.{◌+◌, rules, arith}
 use Rattle.flash_format.specs.Made.{header_length}
-use Rattle.flash_store.proofs.RegionLemmas.{outside_of, written_ok, written_whole}
+use Rattle.flash_device.proofs.RegionLemmas.{outside_of, written_ok, written_whole}
 use Rattle.cbfs_edit.proofs.Changes.{whole-outside}
 use Rattle.cbfs_edit.proofs.write.commit_in.Goals as goal
 

@@ -1,8 +1,8 @@
 use Rattle.std.proofs.Common.{ℕ, ◌+◌, ◌≡◌, List, length, take, ap, ◌∙◌, refl, arith}
 use Rattle.std.proofs.lemmas.List.{take_all}
 use Rattle.std.proofs.lemmas.Result.{on_ok_weaker}
-use Rattle.flash_store.specs.Device.{overwritten}
-use Rattle.flash_store.proofs.RegionLemmas.{outside_of, changed_at, written_ok}
+use Rattle.flash_device.specs.Device.{overwritten}
+use Rattle.flash_device.proofs.RegionLemmas.{outside_of, changed_at, written_ok}
 use Rattle.cbfs_edit.proofs.write.copy_into.Goals as goal
 
 pub returns-clause-after : goal.returns-clause-after

@@ -1,6 +1,6 @@
 use Rattle.std.proofs.Common.{ℕ, ◌+◌, replicate, arith}
 use Rattle.std.proofs.lemmas.List.{length-replicate}
-use Rattle.flash_store.proofs.RegionLemmas.{outside_of, changed_at, written_ok}
+use Rattle.flash_device.proofs.RegionLemmas.{outside_of, changed_at, written_ok}
 use Rattle.cbfs_edit.proofs.write.fill_in.Goals as goal
 
 pub returns : goal.returns

@@ -1,5 +1,5 @@
 use Rattle.std.proofs.Common.{arith, le_refl}
-use Rattle.flash_store.proofs.DeviceLemmas.{honest_still}
+use Rattle.flash_device.proofs.DeviceLemmas.{honest_still}
 use Rattle.cbfs_walk.proofs.Reading.{Passes-answers, Passes-then, IfOk-to}
 use Rattle.cbfs_walk.proofs.Scanning.{packing_found}
 use Rattle.cbfs_walk.proofs.attribute_walk.packing.Goals as goal

@@ -1,5 +1,5 @@
 use Rattle.std.proofs.Common.{arith, le_refl, rules}
-use Rattle.flash_store.proofs.WindowLemmas.{HasRead-within}
+use Rattle.flash_device.proofs.WindowLemmas.{HasRead-within}
 use Rattle.std.proofs.lemmas.Result.{err_from_is_err_and}
 use Rattle.cbfs_walk.proofs.Reading.{Passes-then, Passes-answers}
 use Rattle.cbfs_walk.proofs.Hashing.{compared_is_told, state_found, read_to_content}

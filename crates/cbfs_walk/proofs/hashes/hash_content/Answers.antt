@@ -1,5 +1,5 @@
 use Rattle.std.proofs.Common.{arith, ◌+◌}
-use Rattle.flash_store.specs.Regions.{bytes_in}
+use Rattle.flash_device.specs.Regions.{bytes_in}
 use Rattle.std.proofs.lemmas.Result.{err_from_is_err_and}
 use Rattle.cbfs_walk.proofs.Reading.{Passes-within}
 use Rattle.cbfs_walk.proofs.Scanning.{scanned, lies_still}

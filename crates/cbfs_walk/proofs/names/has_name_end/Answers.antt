@@ -1,7 +1,7 @@
 use Rattle.std.proofs.Common.{arith, ap, ◌∙◌}
 use Rattle.std.specs.List.{list_any}
 use Rattle.flash_format.specs.Entry.{is_nul, name_end}
-use Rattle.flash_store.specs.Regions.{bytes_in}
+use Rattle.flash_device.specs.Regions.{bytes_in}
 use Rattle.cbfs_walk.proofs.Parts.{name_read}
 use Rattle.cbfs_walk.proofs.names.has_name_end.Goals as goal
 

@@ -1,5 +1,5 @@
 use Rattle.std.proofs.Common.{arith, inl, inr, ◌∙◌}
-use Rattle.flash_store.specs.Regions.{bytes_in}
+use Rattle.flash_device.specs.Regions.{bytes_in}
 use Rattle.cbfs_walk.proofs.Parts.{length-region}
 use Rattle.cbfs_walk.proofs.CellNames.{has_field, name_compared, name_too_long}
 use Rattle.cbfs_walk.proofs.names.name_is.Goals.{then-name-gt-LONGEST-via-then-name-gt-LONGEST, then-name-gt-LONGEST-via-else-name-gt-LONGEST+then-name-name_room}

@@ -3,7 +3,7 @@ use Rattle.std.proofs.lemmas.Grind.{common_steps}
 use Rattle.std.proofs.lemmas.Bool.{and_left, and_right}
 use Rattle.flash_format.specs.Head.{extent_of}
 use Rattle.flash_format.specs.Entry.{absent, damaged}
-use Rattle.flash_store.proofs.DeviceLemmas.{honest_still}
+use Rattle.flash_device.proofs.DeviceLemmas.{honest_still}
 use Rattle.cbfs_walk.specs.Shapes.{has_bad_size}
 use Rattle.cbfs_walk.proofs.Parts.{length-region, length-rest}
 use Rattle.cbfs_walk.proofs.Checks.{checked_extent, entry_absent, entry_present}

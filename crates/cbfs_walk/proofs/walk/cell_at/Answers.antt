@@ -1,5 +1,5 @@
 use Rattle.std.proofs.Common.{arith, inr, le_refl, sym, drop}
-use Rattle.flash_store.specs.Regions.{bytes_in}
+use Rattle.flash_device.specs.Regions.{bytes_in}
 use Rattle.cbfs_walk.proofs.Checks.{checks_give}
 use Rattle.cbfs_walk.proofs.Reading.{Passes-none, Passes-within}
 use Rattle.cbfs_walk.proofs.Answering.{answer_free, answer_damaged, answer_whole}

@@ -1,5 +1,5 @@
 use Rattle.std.proofs.Common.{ap, ◌∙◌}
-use Rattle.flash_store.proofs.DeviceLemmas.{honest_still}
+use Rattle.flash_device.proofs.DeviceLemmas.{honest_still}
 use Rattle.check_report.specs.Reports.{answer_of, wish_of}
 use Rattle.check_report.proofs.Gathered.{gathered}
 use Rattle.check_report.proofs.change.report_change.Goals as goal

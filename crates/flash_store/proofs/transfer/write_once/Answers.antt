@@ -1,6 +1,6 @@
 use Rattle.std.proofs.Common.{◌∙◌, ap, refl, arith, rules}
 use Rattle.std.proofs.lemmas.List.{take_all}
-use Rattle.flash_store.specs.Device.{overwritten}
+use Rattle.flash_device.specs.Device.{overwritten}
 use Rattle.flash_store.proofs.transfer.write_once.Goals as goal
 
 pub returns : goal.returns

@@ -1,7 +1,7 @@
 use Rattle.std.proofs.Common.{◌+◌, ◌≤◌, ◌∙◌, IsTrue, length, ap, arith, rules}
 use Rattle.std.proofs.lemmas.List.{take_rest, take_all}
-use Rattle.flash_store.specs.Device.{overwritten}
-use Rattle.flash_store.proofs.BytesLemmas.{written-more, written-outside, written-torn}
+use Rattle.flash_device.specs.Device.{overwritten}
+use Rattle.flash_device.proofs.BytesLemmas.{written-more, written-outside, written-torn}
 use Rattle.flash_store.proofs.StoringLemmas.{faithful_still, SameFile-trans, length-rest}
 use Rattle.flash_store.proofs.transfer.write_whole.Goals as goal
 

@@ -1,5 +1,5 @@
 use Rattle.std.proofs.Common.{length, ap, arith}
-use Rattle.flash_store.proofs.WindowLemmas.{HasRead-none}
+use Rattle.flash_device.proofs.WindowLemmas.{HasRead-none}
 use Rattle.flashmap_changes.proofs.Changing.{area_changes-parts}
 use Rattle.flashmap_changes.proofs.ImageLemmas.{HasCompared-within, HasCompared-handed}
 use Rattle.flashmap_changes.proofs.areas.area_changes.Goals as goal

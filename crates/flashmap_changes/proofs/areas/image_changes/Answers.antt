@@ -1,5 +1,5 @@
 use Rattle.std.proofs.Common.{◌≡◌, ℕ, ◌+◌, ◌*◌, ◌/◌, ◌≤◌, List, length, min, arith}
-use Rattle.flash_store.proofs.WindowLemmas.{HasRead-then}
+use Rattle.flash_device.proofs.WindowLemmas.{HasRead-then}
 use Rattle.flashmap_changes.specs.AreaChanges.{area_changes}
 use Rattle.flashmap_changes.specs.Blocks.{different_among, KnowsBlocks}
 use Rattle.flashmap_changes.proofs.ImageLemmas.{OnBoth-before, OnBoth-after, HasCompared-within, HasCompared-handed}

@@ -1,5 +1,5 @@
 use Rattle.std.proofs.Common.{◌≡◌, ◌+◌, ◌-◌, ◌*◌, ◌/◌, ◌≤◌, length, le_refl, refl, ap, arith}
-use Rattle.flash_store.proofs.WindowLemmas.{HasRead-none, HasRead-then, HasRead-within}
+use Rattle.flash_device.proofs.WindowLemmas.{HasRead-none, HasRead-then, HasRead-within}
 use Rattle.flashmap_changes.specs.Blocks.{blocks_of, KnowsBlocks}
 use Rattle.flashmap_changes.proofs.Changing.{changes_in-more, reads-more, reads-all}
 use Rattle.flashmap_changes.proofs.ImageLemmas.{OnBoth-after, HasCompared-within, HasCompared-handed}

@@ -1,5 +1,5 @@
 use Rattle.std.proofs.Common.{◌≡◌, ◌+◌, ◌-◌, ◌*◌, ◌/◌, ◌≤◌, ◌++◌, length, drop, IsTrue}
-use Rattle.flash_store.specs.Pages.{HasRead}
+use Rattle.flash_device.specs.Pages.{HasRead}
 use Rattle.flashmap_changes.specs.AreaChanges.{changes_in}
 use Rattle.flashmap_changes.proofs.areas.push_changes.Given as goal
 

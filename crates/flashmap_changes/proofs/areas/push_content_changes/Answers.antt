@@ -1,6 +1,6 @@
 use Rattle.std.proofs.Common.{◌≡◌, ℕ, ◌-◌, ◌≤◌, refl, sym, ap, arith}
-use Rattle.flash_store.proofs.WindowLemmas.{HasRead-none}
-use Rattle.flash_store.specs.Regions.{Range}
+use Rattle.flash_device.proofs.WindowLemmas.{HasRead-none}
+use Rattle.flash_device.specs.Regions.{Range}
 use Rattle.flashmap_changes.specs.Blocks.{blocks_of}
 use Rattle.flashmap_changes.proofs.ImageLemmas.{HasCompared-within, HasCompared-handed}
 use Rattle.flashmap_changes.proofs.areas.push_content_changes.Goals as goal

@@ -1,7 +1,7 @@
 use Rattle.std.proofs.Common.{◌≡◌, ◌∙◌, ◌+◌, ◌-◌, ◌≤◌, sym, ap, arith}
-use Rattle.flash_store.specs.Regions.{bytes_in}
-use Rattle.flash_store.proofs.DeviceLemmas.{length-bytes_in}
-use Rattle.flash_store.proofs.WindowLemmas.{HasRead-then}
+use Rattle.flash_device.specs.Regions.{bytes_in}
+use Rattle.flash_device.proofs.DeviceLemmas.{length-bytes_in}
+use Rattle.flash_device.proofs.WindowLemmas.{HasRead-then}
 use Rattle.flashmap_changes.specs.Blocks.{blocks_of, differs, different_among}
 use Rattle.flashmap_changes.proofs.BlockLemmas.{blocks-begin, different_among-more, different_blocks-all, one_at_most}
 use Rattle.flashmap_changes.proofs.ImageLemmas.{OnBoth-before, KnowsRegions-after, HasCompared-within, HasCompared-handed}

@@ -1,6 +1,6 @@
 use Rattle.std.proofs.Common.{◌≡◌, ◌≤◌, IsTrue}
-use Rattle.flash_store.specs.Pages.{HasRead}
-use Rattle.flash_store.specs.Regions.{bytes_in}
+use Rattle.flash_device.specs.Pages.{HasRead}
+use Rattle.flash_device.specs.Regions.{bytes_in}
 use Rattle.flashmap_changes.specs.Blocks.{different_among}
 use Rattle.flashmap_changes.proofs.blocks.different_in.Given as goal
 

@@ -1,5 +1,5 @@
 use Rattle.std.proofs.Common.{◌+◌, ◌*◌, arith}
-use Rattle.flash_store.proofs.WindowLemmas.{HasRead-none, HasRead-within}
+use Rattle.flash_device.proofs.WindowLemmas.{HasRead-none, HasRead-within}
 use Rattle.flashmap_changes.proofs.BlockLemmas.{differs-bytes_in}
 use Rattle.flashmap_changes.proofs.blocks.is_different.Goals as goal
 

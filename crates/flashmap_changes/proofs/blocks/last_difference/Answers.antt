@@ -1,5 +1,5 @@
 use Rattle.std.proofs.Common.{◌≡◌, ◌/◌, length, min, refl, ap, arith}
-use Rattle.flash_store.specs.Regions.{Range}
+use Rattle.flash_device.specs.Regions.{Range}
 use Rattle.flashmap_changes.proofs.BlockLemmas.{blocks_of-more, differs-whole}
 use Rattle.flashmap_changes.proofs.blocks.last_difference.Goals as goal
 

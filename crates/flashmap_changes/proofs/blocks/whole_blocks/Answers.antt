@@ -1,6 +1,6 @@
 use Rattle.std.proofs.Common.{◌≡◌, ◌+◌, ◌/◌, ◌≤◌, [], ◌∷◌, ap, length, length-append, arith}
-use Rattle.flash_store.specs.Regions.{Range, bytes_in}
-use Rattle.flash_store.proofs.WindowLemmas.{HasRead-then}
+use Rattle.flash_device.specs.Regions.{Range, bytes_in}
+use Rattle.flash_device.proofs.WindowLemmas.{HasRead-then}
 use Rattle.flashmap_changes.specs.Blocks.{differs}
 use Rattle.flashmap_changes.specs.Images.{OnBoth}
 use Rattle.flashmap_changes.proofs.BlockLemmas.{different_among-more, differs-whole, KnowsBlocks-more, one_at_most}

@@ -1,5 +1,5 @@
 use Rattle.std.proofs.Common.{◌≡◌, ◌≤◌, length, IsTrue}
-use Rattle.flash_store.specs.Pages.{HasRead}
+use Rattle.flash_device.specs.Pages.{HasRead}
 use Rattle.flashmap_changes.specs.Blocks.{different_among, KnowsBlocks}
 use Rattle.flashmap_changes.proofs.blocks.whole_blocks.Given as goal
 

@@ -1,6 +1,6 @@
 use Rattle.std.proofs.Common.{◌+◌, [], ◌∷◌, length, ap, arith, length-append}
-use Rattle.flash_store.proofs.DeviceLemmas.{honest_still}
-use Rattle.flash_store.proofs.WindowLemmas.{HasRead-then}
+use Rattle.flash_device.proofs.DeviceLemmas.{honest_still}
+use Rattle.flash_device.proofs.WindowLemmas.{HasRead-then}
 use Rattle.flashmap_check.proofs.MapAreas.{areas-more, areas-all}
 use Rattle.flashmap_check.proofs.areas.map_areas.Goals as goal
 

@@ -1,5 +1,5 @@
 use Rattle.std.proofs.Common.{◌≡◌, ◌+◌, ◌++◌, length, IsTrue}
-use Rattle.flash_store.specs.Pages.{HasRead}
+use Rattle.flash_device.specs.Pages.{HasRead}
 use Rattle.flashmap_check.specs.MapFindings.{map_areas}
 use Rattle.flashmap_check.proofs.MapAreas.{areas_left}
 use Rattle.flashmap_check.proofs.areas.map_areas.Given as goal

@@ -1,5 +1,5 @@
 use Rattle.std.proofs.Common.{rules, sym, ◌∙◌}
-use Rattle.flash_store.proofs.DeviceLemmas.{honest_still}
+use Rattle.flash_device.proofs.DeviceLemmas.{honest_still}
 use Rattle.flashmap_check.proofs.Telling.{none-told, map-told, none-listed, map-listed}
 use Rattle.flashmap_check.proofs.check.checked_map.Goals as goal
 

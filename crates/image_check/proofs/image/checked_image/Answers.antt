@@ -1,5 +1,5 @@
 use Rattle.std.proofs.Common.{◌∙◌, length, ap, subst, sym, arith}
-use Rattle.flash_store.proofs.DeviceLemmas.{honest_still}
+use Rattle.flash_device.proofs.DeviceLemmas.{honest_still}
 use Rattle.image_check.specs.Places.{by_place}
 use Rattle.image_check.specs.RegionAreas.{region_areas, LieInOrder}
 use Rattle.image_check.proofs.Looking.{region_areas-told, region_areas-short, told-image}

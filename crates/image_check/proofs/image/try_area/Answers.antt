@@ -1,5 +1,5 @@
 use Rattle.std.proofs.Common.{◌≡◌, ◌∙◌, ◌+◌, ◌≤◌, ◌∷◌, [], ◌++◌, length, reverse, ap, subst, sym, arith}
-use Rattle.flash_store.specs.Regions.{Range}
+use Rattle.flash_device.specs.Regions.{Range}
 use Rattle.flashmap_check.specs.MapFindings.{area_end}
 use Rattle.image_check.specs.RegionAreas.{region_areas, LieInOrder}
 use Rattle.image_check.proofs.Looking.{LieInOrder-in_place}

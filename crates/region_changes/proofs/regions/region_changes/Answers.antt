@@ -1,6 +1,6 @@
 use Rattle.std.proofs.Common.{◌≡◌, ◌∙◌, ◌≤◌, List, length, ap, sym, subst, arith}
 use Rattle.std.specs.Prelude.{All, IfOk}
-use Rattle.flash_store.proofs.WindowLemmas.{HasRead-within}
+use Rattle.flash_device.proofs.WindowLemmas.{HasRead-within}
 use Rattle.image_check.specs.RegionAreas.{region_areas}
 use Rattle.region_changes.specs.declared.change.RegionChange.{RegionChange}
 use Rattle.region_changes.specs.declared.pairs.Pair.{Pair}

@@ -1,7 +1,7 @@
 use Rattle.std.proofs.Common.{◌∙◌, length, arith, sym, ap, subst, IsTrue, rules}
 use Rattle.std.proofs.Math.Seq.{take-length}
-use Rattle.flash_store.specs.Device.{overwritten}
-use Rattle.flash_store.proofs.BytesLemmas.{overwritten-same}
+use Rattle.flash_device.specs.Device.{overwritten}
+use Rattle.flash_device.proofs.BytesLemmas.{overwritten-same}
 use Rattle.flash_store.proofs.StoringLemmas.{IsErased-apart, IsErased-inside}
 use Rattle.flash_store.proofs.erased.ErasedStorage.write_some.Goals as goal
 

@@ -1,6 +1,6 @@
 use Rattle.std.proofs.Common.{◌∙◌, length, arith, ap, sym}
 use Rattle.std.proofs.Math.Seq.{take-length}
-use Rattle.flash_store.specs.Device.{overwritten}
+use Rattle.flash_device.specs.Device.{overwritten}
 use Rattle.flash_store.proofs.StoringLemmas.{written_some}
 use Rattle.flash_store.proofs.flaky_file.FlakyFileStorage.write_some.Goals as goal
 

@@ -1,5 +1,5 @@
 use Rattle.std.proofs.Common.{◌-◌, ◌≡◌}
-use Rattle.flash_store.specs.Regions.{LiesIn}
+use Rattle.flash_device.specs.Regions.{LiesIn}
 use Rattle.library_tests.proofs.edit.support.walk_on.Given as goal
 
 abbrev pub invariant-loop-cell : goal.invariant-loop-cell

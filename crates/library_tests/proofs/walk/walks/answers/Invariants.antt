@@ -1,5 +1,5 @@
 use Rattle.std.proofs.Common.{◌≡◌}
-use Rattle.flash_store.specs.Regions.{LiesIn}
+use Rattle.flash_device.specs.Regions.{LiesIn}
 use Rattle.library_tests.proofs.walk.walks.answers.Given as goal
 
 abbrev pub invariant-loop-one : goal.invariant-loop-one

@@ -1,4 +1,4 @@
-use Rattle.flash_store.specs.Regions.{LiesIn}
+use Rattle.flash_device.specs.Regions.{LiesIn}
 use Rattle.library_tests.proofs.walk.walks.pass.Given as goal
 
 abbrev pub invariant-loop-call : goal.invariant-loop-call

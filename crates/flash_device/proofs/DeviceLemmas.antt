@@ -1,0 +1,59 @@
+-- Calls of a device, one after the other: what holds of each holds of all. For every crate that reads a device.
+use Rattle.std.proofs.Common.{◌≡◌, ℕ, ◌+◌, ◌≤◌, Bool, IsTrue, refl, sym, ◌∙◌, subst, arith, ◌-◌, ◌++◌, take, drop}
+use Rattle.std.specs.Prelude.{List, length, Result, Ok, Err, IsOk}
+use Rattle.std.proofs.Common.{length-take, length-drop}
+use Rattle.flash_device.specs.Regions.{Range, LiesIn, bytes_in}
+use Rattle.std.proofs.lemmas.List.{length-take-le, take_at}
+use Rattle.flash_device.specs.Device.{Device, Calls, Reads, OneRead, refusals}
+
+-- a device stays honest
+pub honest_still : {old new : Bool} → new ≡ old → IsTrue old → IsTrue new
+honest_still {old} {new} e h = subst (λ b. IsTrue b) (sym e) h
+
+-- what is no refusal tells none
+pub refusals-ok : {T E : Type 0} (result : Result T E) → IsOk result → refusals result ≡ 0
+refusals-ok (Ok value) ok = refl
+refusals-ok (Err fault) ok = absurd cc
+
+-- more calls, of which the last may have been refused
+pub Calls-then : (n k refused : ℕ) (old mid new : Device) → Calls n 0 old mid → Calls k refused mid new → Calls (n + k) refused old new
+Calls-then n k refused old mid new first second = record {
+  no_fewer = omega (arith, first.no_fewer, second.no_fewer);
+  no_more = omega (arith, first.no_more, second.no_more);
+  faults = omega (arith, first.faults, second.faults);
+  same_honesty = second.same_honesty ∙ first.same_honesty;
+  same_length = second.same_length ∙ first.same_length;
+}
+
+-- the same calls by another bound that they keep
+pub Calls-at_most : (k n refused : ℕ) (old new : Device) → new.calls ≤ old.calls + n → Calls k refused old new → Calls n refused old new
+Calls-at_most k n refused old new few calls = record {
+  no_fewer = calls.no_fewer;
+  no_more = few;
+  faults = calls.faults;
+  same_honesty = calls.same_honesty;
+  same_length = calls.same_length;
+}
+
+pub Reads-none : (d : Device) → Reads 0 0 d d
+Reads-none d = record {
+  calls = record { no_fewer = omega arith; no_more = omega arith; faults = omega arith; same_honesty = refl; same_length = refl };
+  unchanged = λ h. refl;
+}
+
+pub Reads-then : (n k refused : ℕ) (old mid new : Device) → Reads n 0 old mid → Reads k refused mid new → Reads (n + k) refused old new
+Reads-then n k refused old mid new first second = record {
+  calls = Calls-then n k refused old mid new first.calls second.calls;
+  unchanged = λ h. second.unchanged (honest_still first.calls.same_honesty h) ∙ first.unchanged h;
+}
+
+-- a region inside an image has its size
+pub length-bytes_in : (r : Range) (image : List ℕ) → LiesIn r image → length (bytes_in r image) ≡ r.size
+length-bytes_in r image lies = omega (arith, lies, length-take (r.start + r.size - r.start) (drop r.start image), length-drop r.start image)
+
+-- a read into the front of a buffer
+pub OneRead-front : {T E : Type 0} {at : ℕ} {old new : Device} {result : Result T E} (n : ℕ) (buffer part : List ℕ) → n ≤ length buffer
+    → length part ≡ length (take n buffer) → OneRead at (length (take n buffer)) old new result part → OneRead at n old new result (take n (part ++ drop n buffer))
+OneRead-front {at = at} {old = old} {new = new} {result = result} n buffer part room same_size read =
+    let size : length (take n buffer) ≡ n = length-take-le n buffer room in
+    rw (take_at part (drop n buffer) n (same_size ∙ size)) (subst (λ n. OneRead at n old new result part) size read)

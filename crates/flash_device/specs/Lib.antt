@@ -1,0 +1,9 @@
+pub mod Device
+pub mod Failing
+pub mod Fmap
+pub mod Laws
+pub mod Numbers
+pub mod Output
+pub mod Pages
+pub mod Regions
+pub mod Scans

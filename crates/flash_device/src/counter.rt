@@ -1,0 +1,57 @@
+//! A number that only contracts see.
+
+ghost use Rattle.std.specs.Prelude.{◌≡◌, ℕ, ◌+◌};
+
+use std::marker::Model;
+use std::mem;
+use std::snapshot::Snapshot;
+
+/// Zero, or so many more than an earlier number.
+#[derive(Drop)]
+enum Number {
+    Zero,
+    More(usize, Snapshot<Number>),
+}
+
+/// A counter without a greatest value. It takes no bytes.
+#[derive(Drop)]
+pub struct Counter {
+    number: Snapshot<Number>,
+}
+
+impl Model for Counter {
+    ghost use Rattle.std.specs.Prelude.{ℕ};
+    ghost use Rattle.flash_device.specs.Numbers.{count_of};
+
+    ghost Value = { ℕ };
+
+    ghost view = { λ c. count_of c.number.value };
+}
+
+impl Counter {
+    /// A counter at zero.
+    pub fn new() -> Counter
+        ensures { result ≡ 0 }
+    {
+        Counter {
+            number: Snapshot::of(&Number::Zero),
+        }
+    }
+
+    /// Counts one more.
+    pub fn tick(&mut self)
+        ensures { self.new ≡ self.old + 1 }
+    {
+        self.add(1);
+    }
+
+    /// Counts `n` more.
+    pub fn add(&mut self, n: usize)
+        ensures { self.new ≡ self.old + n }
+    {
+        let before = mem::replace(&mut self.number, Snapshot::of(&Number::Zero));
+        self.number = Snapshot::of(&Number::More(n, before));
+    }
+}
+
+const _: () = prove!(mem::size_of::<Counter>() == 0);

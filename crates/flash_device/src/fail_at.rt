@@ -1,0 +1,148 @@
+//! A device for tests, which refuses every call after the first few.
+ghost use Rattle.std.specs.Prelude.{◌≡◌, ◌+◌, ◌-◌, ◌<◌, ◌≤◌, length, take, true, false, IsTrue};
+ghost use Rattle.flash_device.specs.Device.{OneRead, OneWrite, OneCommit};
+ghost use Rattle.flash_device.specs.Failing.{facts_over, PassedOrRefused, RefusedWrite, refused_once};
+
+use crate::counter::Counter;
+use crate::flash::{Flash, FlashFault};
+use flash_format::HEADER_LENGTH;
+use std::marker::Model;
+
+/// A device over another one, for tests: its first calls pass to the other, and all later ones are refused.
+///
+/// A refused read or commit does nothing. Of the first refused write a part still reaches the other device, as when the
+/// power fails in the midst of it; the later ones do nothing. Each refused call is one fault, its own or the other's.
+#[derive(Drop)]
+pub struct FailAt<F: Flash> {
+    device: F,
+    left: u64,
+    part: usize,
+    tears: bool,
+    calls: Counter,
+    faults: Counter,
+}
+
+impl<F: Flash> Model for FailAt<F> {
+    ghost use Rattle.flash_device.specs.Failing.{Failing};
+
+    ghost Value = { Failing F };
+
+    ghost view = { λ f. record { device = f.device; left = f.left; part = f.part; tears = f.tears; calls = f.calls; faults = f.faults } };
+}
+
+impl<F: Flash> FailAt<F> {
+    /// The first `k` calls pass. Of the first refused write the first `part` bytes are written, or all if it has fewer.
+    pub fn new(device: F, k: u64, part: usize) -> FailAt<F>
+        ensures { result ≡ record { device = device; left = k; part = part; tears = true; calls = 0; faults = 0 } }
+    {
+        FailAt {
+            device,
+            left: k,
+            part,
+            tears: true,
+            calls: Counter::new(),
+            faults: Counter::new(),
+        }
+    }
+
+    /// The other device, with what was written.
+    pub fn into_inner(self) -> F
+        ensures { result ≡ self.device }
+    {
+        let FailAt { device, .. } = self;
+        device
+    }
+
+    /// Counts a call, and says whether it passes.
+    fn admits(&mut self) -> bool
+        ensures passed { IsTrue result → (0 < self.old.left)
+            × (self.new ≡ record self.old { left = self.old.left - 1; calls = self.old.calls + 1 }) }
+        ensures refused { result ≡ false → (self.old.left ≡ 0)
+            × (self.new ≡ record self.old { calls = self.old.calls + 1 }) }
+    {
+        self.calls.tick();
+        if self.left == 0 {
+            return false;
+        }
+        self.left -= 1;
+        true
+    }
+
+    /// Counts a fault of its own.
+    fn refuse(&mut self) -> FlashFault
+        ensures { self.new ≡ record self.old { faults = self.old.faults + 1 } }
+    {
+        self.faults.tick();
+        FlashFault
+    }
+}
+
+impl<F: Flash> Flash for FailAt<F> {
+    ghost facts = { facts_over F.facts };
+
+    fn len(&self) -> u64 {
+        self.device.len()
+    }
+
+    fn read_at(&mut self, at: u64, out: &mut [u8]) -> Result<(), FlashFault>
+        requires inside { at + length out.old ≤ length (F.facts self.old.device).content }
+        requires short { length out.old ≤ 4096 }
+
+        ensures after { OneRead at (length out.old) (facts_over F.facts self.old)
+            (facts_over F.facts self.new) result out.new }
+        ensures call { PassedOrRefused F.facts self.old self.new result (self.new ≡ refused_once self.old) }
+    {
+        if self.admits() {
+            self.device.read_at(at, out)
+        } else {
+            Err(self.refuse())
+        }
+    }
+
+    fn write_at(&mut self, at: u64, bytes: &[u8]) -> Result<(), FlashFault>
+        requires inside { at + length bytes.now ≤ length (F.facts self.old.device).content }
+        requires short { length bytes.now ≤ 4096 }
+
+        ensures after { OneWrite at bytes.now (facts_over F.facts self.old) (facts_over F.facts self.new) result }
+        ensures call { PassedOrRefused F.facts self.old self.new result
+            (RefusedWrite F.facts at bytes.now self.old self.new) }
+    {
+        if self.admits() {
+            return self.device.write_at(at, bytes);
+        }
+        if !self.tears {
+            return Err(self.refuse());
+        }
+        self.tears = false;
+        write_part(&mut self.device, at, bytes, self.part)?;
+        Err(self.refuse())
+    }
+
+    fn commit_at(&mut self, at: u64, bytes: &[u8; HEADER_LENGTH]) -> Result<(), FlashFault>
+        requires { at + length bytes.now ≤ length (F.facts self.old.device).content }
+
+        ensures after { OneCommit at bytes.now (facts_over F.facts self.old) (facts_over F.facts self.new) result }
+        ensures call { PassedOrRefused F.facts self.old self.new result (self.new ≡ refused_once self.old) }
+    {
+        if self.admits() {
+            self.device.commit_at(at, bytes)
+        } else {
+            Err(self.refuse())
+        }
+    }
+}
+
+/// Writes the first `part` bytes.
+fn write_part<F: Flash>(
+    device: &mut F,
+    at: u64,
+    bytes: &[u8],
+    part: usize,
+) -> Result<(), FlashFault>
+    requires inside { at + length bytes.now ≤ length (F.facts device.old).content }
+    requires short { length bytes.now ≤ 4096 }
+
+    ensures { OneWrite at (take part bytes.now) (F.facts device.old) (F.facts device.new) result }
+{
+    device.write_at(at, &bytes[..part.min(bytes.len())])
+}

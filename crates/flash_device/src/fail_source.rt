@@ -1,0 +1,66 @@
+//! A source for tests, which refuses every read after the first few.
+ghost use Rattle.std.specs.Prelude.{◌≡◌, ◌+◌, ◌≤◌, length, false};
+ghost use Rattle.flash_device.specs.Device.{OneRead};
+ghost use Rattle.flash_device.specs.Failing.{facts_over, PassedOrRefused, refused_once};
+
+use crate::counter::Counter;
+use crate::source::{Source, SourceFault};
+use std::marker::Model;
+
+/// A source over another one, for tests: its first reads pass to the other, and all later ones are refused and do nothing.
+/// Both its own refusals and the other's faults count as its faults.
+#[derive(Drop)]
+pub struct FailSource<S: Source> {
+    source: S,
+    left: u64,
+    calls: Counter,
+    faults: Counter,
+}
+
+impl<S: Source> Model for FailSource<S> {
+    ghost use Rattle.std.specs.Prelude.{false};
+    ghost use Rattle.flash_device.specs.Failing.{Failing};
+
+    ghost Value = { Failing S };
+
+    ghost view = { λ f. record { device = f.source; left = f.left; part = 0; tears = false; calls = f.calls; faults = f.faults } };
+}
+
+impl<S: Source> FailSource<S> {
+    /// The first `k` reads pass.
+    pub fn new(source: S, k: u64) -> FailSource<S>
+        ensures { result ≡ record { device = source; left = k; part = 0; tears = false; calls = 0; faults = 0 } }
+    {
+        FailSource {
+            source,
+            left: k,
+            calls: Counter::new(),
+            faults: Counter::new(),
+        }
+    }
+}
+
+impl<S: Source> Source for FailSource<S> {
+    ghost facts = { facts_over S.facts };
+
+    fn len(&self) -> u64 {
+        self.source.len()
+    }
+
+    fn read_at(&mut self, at: u64, out: &mut [u8]) -> Result<(), SourceFault>
+        requires inside { at + length out.old ≤ length (S.facts self.old.device).content }
+        requires short { length out.old ≤ 4096 }
+
+        ensures after { OneRead at (length out.old) (facts_over S.facts self.old)
+            (facts_over S.facts self.new) result out.new }
+        ensures call { PassedOrRefused S.facts self.old self.new result (self.new ≡ refused_once self.old) }
+    {
+        self.calls.tick();
+        if self.left == 0 {
+            self.faults.tick();
+            return Err(SourceFault);
+        }
+        self.left -= 1;
+        self.source.read_at(at, out)
+    }
+}

@@ -1,0 +1,255 @@
+//! The search for a flashmap and for a region.
+ghost use Rattle.std.specs.Prelude.{◌≡◌, ◌+◌, ◌-◌, ◌*◌, ◌/◌, ◌<◌, ◌≤◌, ◌↔◌, ◌⊎◌, length, drop, OnErr, IfOk, IfSome, IsErrOf};
+ghost use Rattle.std.specs.List.{find};
+ghost use Rattle.flash_format.specs.Flashmap.{fmap_head_len, area_len, map_len, area_of, areas_from, is_area};
+ghost use Rattle.flash_device.specs.Device.{Reads, faults_told, refusals};
+ghost use Rattle.flash_device.specs.Pages.{OnHonest, HasRead, HasAnswered};
+ghost use Rattle.flash_device.specs.Fmap.{HasSignatureAt, map_head, map_head_in, found_from, found_in};
+ghost use Rattle.flash_device.specs.Regions.{LiesIn, by_device, region_by_area, region_of};
+ghost use Rattle.memchr.specs.Find.{IsFirst};
+
+use crate::flash::{Flash, FlashFault, PIECE};
+use crate::paged::Paged;
+use crate::range::Region;
+use crate::source::{Source, SourceFault};
+use flash_format::{Area, FmapHead};
+use memchr::memmem;
+
+const HEAD_LENGTH: u64 = FmapHead::LENGTH as u64;
+
+const AREA_LENGTH: u64 = Area::LENGTH as u64;
+
+const SIGNATURE_LENGTH: u64 = FmapHead::SIGNATURE.len() as u64;
+
+/// The least distance of two signatures, which begin and end with the same two bytes.
+const SIGNATURE_STEP: u64 = 6;
+
+/// A valid flashmap of an image.
+#[derive(Clone, Copy, Drop)]
+pub struct FoundMap {
+    /// Where it stands, counted from the image's first byte.
+    pub at: u64,
+    /// The head that stands there.
+    pub head: FmapHead,
+}
+
+/// Why there is no region of a name, with the number of the refusal.
+#[derive(Clone, Copy, Debug, PartialEq, Eq, Drop)]
+pub enum StoreFault {
+    /// A read of the device was refused.
+    Device = 1,
+    /// The image has no valid flashmap.
+    NoFmap = 4,
+    /// The map has no area of the name.
+    NoRegion = 5,
+    /// The area ends after the image's end.
+    RegionOutside = 6,
+}
+
+impl From<FlashFault> for StoreFault {
+    ghost use Rattle.flash_device.specs.declared.fmap.StoreFault.TheVariants.{Device};
+
+    ghost from_gives = { λ _ fault. fault ≡ Device };
+
+    fn from(_: FlashFault) -> StoreFault {
+        StoreFault::Device
+    }
+}
+
+/// The image's flashmap: the lowest valid one, or `None`.
+pub fn find_fmap<F: Flash>(paged: &mut Paged<F>) -> Result<Option<FoundMap>, FlashFault>
+    ensures after { HasAnswered F.facts (length (F.facts paged.old.device).content / 2 + 8) paged.old paged.new result }
+    ensures fits { IfOk result (λ found. IfSome found (λ map.
+        map.at + map_len map.head ≤ length (F.facts paged.old.device).content)) }
+    ensures found { OnHonest F.facts paged.old.device (λ image. IfOk result (λ found. found ≡ found_in image)) }
+{
+    find_fmap_from(paged, 0)
+}
+
+/// The lowest valid flashmap at this place or above it, or `None`.
+pub fn find_fmap_from<F: Flash>(
+    paged: &mut Paged<F>,
+    from: u64,
+) -> Result<Option<FoundMap>, FlashFault>
+    requires { from ≤ length (F.facts paged.old.device).content }
+
+    ensures after { HasAnswered F.facts (length (F.facts paged.old.device).content / 2 + 8) paged.old paged.new result }
+    ensures fits { IfOk result (λ found. IfSome found (λ map.
+        map.at + map_len map.head ≤ length (F.facts paged.old.device).content)) }
+    ensures found { OnHonest F.facts paged.old.device (λ image. IfOk result (λ found. found ≡ found_from from image)) }
+{
+    let len = paged.len();
+    let mut place = from;
+    while place + HEAD_LENGTH <= len {
+        let size = (len - place).min(PIECE as u64);
+        match signature_in(paged, place, size as usize)? {
+            Some(at) => {
+                if let Some(head) = map_head_at(paged, at, len)? {
+                    return Ok(Some(FoundMap { at, head }));
+                }
+                place = at + SIGNATURE_STEP;
+            }
+            // A signature that goes on into the next piece begins in the last seven bytes.
+            None => place += size - (SIGNATURE_LENGTH - 1),
+        }
+    }
+    Ok(None)
+}
+
+/// The first place at which the signature stands within the n bytes from `at` on.
+fn signature_in<F: Flash>(
+    paged: &mut Paged<F>,
+    at: u64,
+    n: usize,
+) -> Result<Option<u64>, FlashFault>
+    requires inside { at + n ≤ length (F.facts paged.old.device).content }
+    requires short { n ≤ 4096 }
+
+    ensures after { HasAnswered F.facts 1 paged.old paged.new result }
+    ensures within { IfOk result (λ place. IfSome place (λ q. (at ≤ q) × (q + 8 ≤ at + n))) }
+    ensures first { OnHonest F.facts paged.old.device (λ image. IfOk result (IsFirst (HasSignatureAt image) at (at + n - 7))) }
+{
+    paged.places_fit();
+    let bytes = paged.piece(at, n)?;
+    match memmem::find(bytes, &FmapHead::SIGNATURE) {
+        Some(place) => Ok(Some(at + place as u64)),
+        None => Ok(None),
+    }
+}
+
+/// The head of the valid map at a place of a device of `len` bytes.
+fn map_head_at<F: Flash>(
+    paged: &mut Paged<F>,
+    place: u64,
+    len: u64,
+) -> Result<Option<FmapHead>, FlashFault>
+    requires { len ≡ length (F.facts paged.old.device).content }
+
+    ensures after { HasAnswered F.facts 1 paged.old paged.new result }
+    ensures head { OnHonest F.facts paged.old.device (λ image. IfOk result (λ found. found ≡ map_head (drop place image))) }
+    ensures fits { IfOk result (λ found. IfSome found (λ head. place + map_len head ≤ len)) }
+{
+    if len < HEAD_LENGTH || place > len - HEAD_LENGTH {
+        return Ok(None);
+    }
+    let mut bytes = [0; FmapHead::LENGTH];
+    paged.read_small(place, &mut bytes)?;
+    Ok(head_in(&bytes, len - place))
+}
+
+/// The head in these bytes, with `left` bytes from them up to the image's end.
+fn head_in(bytes: &[u8; FmapHead::LENGTH], left: u64) -> Option<FmapHead>
+    requires { fmap_head_len ≤ left }
+    ensures head { result ≡ map_head_in bytes.now left }
+    ensures fits { IfSome result (λ head. map_len head ≤ left) }
+{
+    let head = FmapHead::read(bytes)?;
+    if !head.is_valid(left) {
+        return None;
+    }
+    Some(head)
+}
+
+/// The area of this number, counted from 0, of a map.
+pub fn area<F: Flash>(paged: &mut Paged<F>, map: &FoundMap, i: u16) -> Result<Area, FlashFault>
+    requires inside { map.now.at + map_len map.now.head ≤ length (F.facts paged.old.device).content }
+    requires number { i < map.now.head.nareas }
+
+    ensures after { HasAnswered F.facts 1 paged.old paged.new result }
+    ensures area { OnHonest F.facts paged.old.device (λ image.
+        IfOk result (λ area. area ≡ area_of (drop (map.now.at + fmap_head_len + area_len * i) image))) }
+{
+    paged.places_fit();
+    let mut bytes = [0; Area::LENGTH];
+    let at = map.at + HEAD_LENGTH + AREA_LENGTH * u64::from(i);
+    paged.read_small(at, &mut bytes)?;
+    Ok(Area::read(&bytes))
+}
+
+/// The first area of the name.
+fn area_named<F: Flash>(
+    paged: &mut Paged<F>,
+    map: &FoundMap,
+    name: &[u8],
+) -> Result<Option<Area>, FlashFault>
+    requires inside { map.now.at + map_len map.now.head ≤ length (F.facts paged.old.device).content }
+
+    ensures after { HasAnswered F.facts map.now.head.nareas paged.old paged.new result }
+    ensures first { OnHonest F.facts paged.old.device (λ image. IfOk result (λ area. area ≡ find (is_area name.now)
+        (areas_from map.now.head.nareas (drop (map.now.at + fmap_head_len) image)))) }
+{
+    for i in 0..map.head.nareas {
+        let area = area(paged, map, i)?;
+        if area.name_is(name) {
+            return Ok(Some(area));
+        }
+    }
+    Ok(None)
+}
+
+/// The area as a region of an image of `image_len` bytes. What is refused: no area (5), an area that doesn't lie inside the
+/// image (6).
+pub fn region_of_area(area: Option<Area>, image_len: u64) -> Result<Region, StoreFault>
+    ensures answer { result ≡ region_by_area image_len area }
+    ensures lies_in { IfOk result (λ region. region.start + region.size ≤ image_len) }
+    ensures no_device_fault { IsErrOf result StoreFault.Device → ⊥ }
+{
+    let Some(area) = area else {
+        return Err(StoreFault::NoRegion);
+    };
+    match Region::within(u64::from(area.offset), u64::from(area.size), image_len) {
+        Some(region) => Ok(region),
+        None => Err(StoreFault::RegionOutside),
+    }
+}
+
+/// Where the first area of the name lies, by the image's flashmap. What is refused first: no map (4), no area of the name
+/// in it (5), an area that doesn't lie inside the image (6); a fault of the device (1) where it happens.
+#[tactic(auto, unfolding(crate::specs::Regions::region_of))]
+pub fn region<F: Flash>(paged: &mut Paged<F>, name: &[u8]) -> Result<Region, StoreFault>
+    ensures after { HasRead F.facts (length (F.facts paged.old.device).content / 2
+        + length (F.facts paged.old.device).content / area_len + 8) (faults_told by_device result) paged.old paged.new }
+    ensures inside { IfOk result (λ region. LiesIn region (F.facts paged.old.device).content) }
+    ensures answer { OnHonest F.facts paged.old.device (λ image.
+        IsErrOf result StoreFault.Device ⊎ (result ≡ region_of image name.now)) }
+{
+    let Some(map) = find_fmap(paged)? else {
+        return Err(StoreFault::NoFmap);
+    };
+    let area = area_named(paged, &map, name)?;
+    region_of_area(area, paged.len())
+}
+
+/// The head of the valid map that a source begins with.
+pub fn map_in_source<S: Source>(source: &mut S) -> Result<Option<FmapHead>, SourceFault>
+    ensures calls { Reads 1 (refusals result) (S.facts source.old) (S.facts source.new) }
+    ensures fits { IfOk result (λ found. IfSome found (λ head. map_len head ≤ length (S.facts source.old).content)) }
+    ensures head { OnHonest S.facts source.old (λ content. IfOk result (λ found. found ≡ map_head content)) }
+{
+    let len = source.len();
+    if len < HEAD_LENGTH {
+        return Ok(None);
+    }
+    let mut bytes = [0; FmapHead::LENGTH];
+    source.read_at(0, &mut bytes)?;
+    Ok(head_in(&bytes, len))
+}
+
+/// The area of this number, counted from 0, of a map that a source begins with.
+pub fn area_in_source<S: Source>(
+    source: &mut S,
+    head: &FmapHead,
+    i: u16,
+) -> Result<Area, SourceFault>
+    requires inside { map_len head.now ≤ length (S.facts source.old).content }
+    requires number { i < head.now.nareas }
+
+    ensures calls { Reads 1 (refusals result) (S.facts source.old) (S.facts source.new) }
+    ensures area { OnHonest S.facts source.old (λ content.
+        IfOk result (λ area. area ≡ area_of (drop (fmap_head_len + area_len * i) content))) }
+{
+    let mut bytes = [0; Area::LENGTH];
+    let at = HEAD_LENGTH + AREA_LENGTH * u64::from(i);
+    source.read_at(at, &mut bytes)?;
+    Ok(Area::read(&bytes))
+}

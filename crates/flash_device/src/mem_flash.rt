@@ -1,0 +1,87 @@
+//! A device in memory, which is honest and never fails.
+ghost use Rattle.std.specs.Prelude.{◌≡◌, ◌+◌, ◌^◌, ◌<◌, ◌≤◌, true, length, MatchResult, vec_len};
+ghost use Rattle.flash_device.specs.Device.{overwritten};
+
+use crate::counter::Counter;
+use crate::flash::{Flash, FlashFault};
+use flash_format::HEADER_LENGTH;
+use std::marker::Model;
+
+/// A device over bytes that it owns, fewer than 2^32.
+#[derive(Drop)]
+pub struct MemFlash {
+    bytes: Vec<u8>,
+    calls: Counter,
+}
+
+impl Model for MemFlash {
+    ghost use Rattle.std.specs.Prelude.{◌^◌, ◌<◌, length};
+    ghost use Rattle.flash_device.specs.Device.{Memory};
+
+    ghost Value = { Memory };
+
+    ghost view = { λ m. record { content = m.bytes.items; calls = m.calls } };
+
+    ghost invariant = { λ m. length m.bytes.items < 2 ^ 32 };
+}
+
+impl MemFlash {
+    /// Hands the bytes back where there are 2^32 or more.
+    pub fn new(bytes: Vec<u8>) -> Result<MemFlash, Vec<u8>>
+        ensures { MatchResult result
+            (λ device. device ≡ record { content = bytes.items; calls = 0 })
+            (λ back. (back ≡ bytes) × (2 ^ 32 ≤ vec_len bytes)) }
+    {
+        if bytes.len() >= 1 << 32 {
+            return Err(bytes);
+        }
+        Ok(MemFlash {
+            bytes,
+            calls: Counter::new(),
+        })
+    }
+
+    /// All its bytes as they are now.
+    pub fn bytes(&self) -> &[u8]
+        ensures { result.now ≡ self.now.content }
+    {
+        self.bytes.as_slice()
+    }
+
+    /// Writes the bytes from `at` on, as one call.
+    fn replace(&mut self, at: u64, bytes: &[u8])
+        requires { at + length bytes.now ≤ length self.old.content }
+        ensures { self.new ≡ record { content = overwritten self.old.content at bytes.now; calls = self.old.calls + 1 } }
+    {
+        self.calls.tick();
+        let start = at as usize;
+        let end = start + bytes.len();
+        self.bytes[start..end].copy_from_slice(bytes);
+    }
+}
+
+impl Flash for MemFlash {
+    ghost facts = { λ m. record { content = m.content; calls = m.calls; faults = 0; honest = true } };
+
+    fn len(&self) -> u64 {
+        self.bytes.len() as u64
+    }
+
+    fn read_at(&mut self, at: u64, out: &mut [u8]) -> Result<(), FlashFault> {
+        self.calls.tick();
+        let start = at as usize;
+        let end = start + out.len();
+        out.copy_from_slice(&self.bytes[start..end]);
+        Ok(())
+    }
+
+    fn write_at(&mut self, at: u64, bytes: &[u8]) -> Result<(), FlashFault> {
+        self.replace(at, bytes);
+        Ok(())
+    }
+
+    fn commit_at(&mut self, at: u64, bytes: &[u8; HEADER_LENGTH]) -> Result<(), FlashFault> {
+        self.replace(at, bytes);
+        Ok(())
+    }
+}

@@ -1,0 +1,96 @@
+//! Where output goes.
+ghost use Rattle.std.specs.Prelude.{◌≡◌, ℕ, ◌+◌, ◌<◌, ◌≤◌, List, Option, length, take, OnOk, OnErr, IfOk, MatchResult};
+ghost use Rattle.std.specs.Io.KnownBytes.{Appends, Keeps};
+ghost use Rattle.flash_device.specs.Output.{AppendsPart};
+
+use crate::counter::Counter;
+use std::io::Write;
+use std::marker::Model;
+
+/// A writer that took nothing.
+#[derive(Clone, Copy, Debug, PartialEq, Eq, Drop)]
+pub struct SinkFault;
+
+/// A writer that may take less than it was given.
+pub trait Sink {
+    /// The bytes that it holds, where it tells them.
+    ghost contents: { Self → Option (List ℕ) };
+
+    /// How often the sink has failed.
+    ghost faults: { Self → ℕ };
+
+    /// Takes the first of the bytes, at least one of them.
+    fn put(&mut self, bytes: &[u8]) -> Result<usize, SinkFault>
+        requires { 0 < length bytes.now }
+
+        ensures taken { IfOk result (λ n. (0 < n) × (n ≤ length bytes.now)) }
+        ensures bytes { MatchResult result
+            (λ n. Appends (contents self.old) (contents self.new) (take n bytes.now))
+            (λ _. Keeps (contents self.old) (contents self.new)) }
+        ensures faults { faults self.old ≤ faults self.new }
+        ensures cause { OnErr result (faults self.old < faults self.new) };
+}
+
+/// The sink over a writer.
+#[derive(Drop)]
+pub struct WriteSink<W: Write> {
+    writer: W,
+    faults: Counter,
+}
+
+impl<W: Write> Model for WriteSink<W> {
+    ghost use Rattle.flash_device.specs.Output.{Writer};
+
+    ghost Value = { Writer W };
+
+    ghost view = { λ s. record { writer = s.writer; faults = s.faults } };
+}
+
+impl<W: Write> WriteSink<W> {
+    /// The sink over a writer, before any call.
+    pub fn new(writer: W) -> WriteSink<W>
+        ensures { result ≡ record { writer = writer; faults = 0 } }
+    {
+        WriteSink {
+            writer,
+            faults: Counter::new(),
+        }
+    }
+
+    /// The writer, with what it took.
+    pub fn into_inner(self) -> W
+        ensures { result ≡ self.writer }
+    {
+        let WriteSink { writer, faults: _ } = self;
+        writer
+    }
+}
+
+impl<W: Write> Sink for WriteSink<W> {
+    ghost contents = { λ s. W.contents s.writer };
+
+    ghost faults = { λ s. s.faults };
+
+    fn put(&mut self, bytes: &[u8]) -> Result<usize, SinkFault> {
+        let taken = self.writer.write(bytes).unwrap_or(0);
+        if taken == 0 {
+            self.faults.tick();
+            return Err(SinkFault);
+        }
+        Ok(taken)
+    }
+}
+
+/// Puts all the bytes. Where the sink fails, it has taken some of the first of them.
+pub fn put_all<W: Sink>(out: &mut W, bytes: &[u8]) -> Result<(), SinkFault>
+    ensures put { OnOk result (Appends (W.contents out.old) (W.contents out.new) bytes.now) }
+    ensures part { OnErr result (AppendsPart (W.contents out.old) (W.contents out.new) bytes.now) }
+    ensures faults { W.faults out.old ≤ W.faults out.new }
+    ensures cause { OnErr result (W.faults out.old < W.faults out.new) }
+{
+    let mut done = 0;
+    while done < bytes.len() {
+        done += out.put(&bytes[done..])?;
+    }
+    Ok(())
+}

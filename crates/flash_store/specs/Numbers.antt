@@ -1,8 +1,0 @@
--- The number of a counter that takes no bytes.
-use Rattle.std.specs.Prelude.{ℕ, ◌+◌}
-use Rattle.flash_store.specs.declared.counter.Number.{Number, Zero, More'}
-
--- the number that it counts
-abbrev pub count_of : Number → ℕ
-count_of Zero = 0
-count_of (More' n shape before) = count_of before + n
