@@ -638,7 +638,7 @@ libraries() {
         esac
         sed -n '/^pub use [a-z_]*::/,/;/p; s/^pub mod \(.*\);/ \1/p' "$folder/src/lib.rt" | sed 's/.*:://' | grep -oE '[A-Za-z_][A-Za-z_0-9]*' | LC_ALL=C sort > used
         sed -n '/^|---/,/^$/s/^| \([^|]*\) |.*/\1/p' "$file" | grep -oE '`[^`]*`' | tr -d '`' | LC_ALL=C sort > named
-        [ "$(wc -l < used)" -gt 1 ] && diff used named > differ || fail "claims: the README of $name names others: $(cat differ)"
+        [ -s used ] && diff used named > differ || fail "claims: the README of $name names others: $(cat differ)"
     done
 }
 

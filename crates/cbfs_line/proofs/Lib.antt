@@ -1,2 +1,1 @@
 mod Matching
-mod Tables

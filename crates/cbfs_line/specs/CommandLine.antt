@@ -1,16 +1,15 @@
--- The command line as clap's definitions have it: a subcommand that has to be there, and its options; and the line
--- that words make by it.
+-- The line that words make by clap's definition of the command line, and the command that it asks for.
 use Rattle.std.specs.Prelude.{ℕ, Bool, true, false, List, [], ◌∷◌, length, ◌==◌, ◌||◌, nat_lt, Option, Some, None, Result, Ok, Err, option_map, option_and_then, unwrap_or, if◌then◌else◌}
 use Rattle.std.specs.Borrow.{Bor}
 use Rattle.std.specs.List.{list_any, slice_split}
 use Rattle.std.specs.Option.{option_map_or}
 use Rattle.std.specs.Str.{bytes_eq}
 use lib.Chars.{codes}
-use Rattle.clap.specs.Words.{App, Rule, Row, Shape, first_of, new_rule}
+use Rattle.clap.specs.Words.{Row, first_of}
 use Rattle.clap.specs.Words as clap
-use Rattle.clap.specs.Simple.{new_shape}
 use Rattle.clap.specs.declared.error.ErrorKind.{ErrorKind}
 use Rattle.clap.specs.declared.error.ErrorKind.TheVariants.{OutOfMemory}
+use Rattle.cbfs_words.specs.Subcommands.{command_line}
 use Rattle.flash_format.specs.Numbers.{number_of}
 use Rattle.flash_format.specs.declared.digest.Algorithm.TheVariants as algorithms
 use Rattle.flash_format.specs.Made.{algorithm_row}
@@ -24,48 +23,6 @@ use Rattle.cbfs_commands.specs.Deeds as requests
 use Rattle.cbfs_commands.specs.declared.command.Command.{Command}
 use Rattle.cbfs_commands.specs.declared.refusal.Refusal.{Refusal}
 use Rattle.cbfs_commands.specs.declared.refusal.Refusal.TheVariants as refusals
-use Rattle.clap.specs.declared.builder.action.ArgAction.{ArgAction}
-use Rattle.clap.specs.declared.builder.action.ArgAction.TheVariants.{Set, SetTrue}
-
--- an option of one letter
-abbrev pub rule_of : List ℕ → ℕ → ArgAction → Bool → Rule
-rule_of id letter action required = record (new_rule id) { short = Some letter; action = Some action; required = required }
-
--- one with a value
-abbrev pub option_of : List ℕ → ℕ → Bool → Rule
-option_of id letter required = rule_of id letter Set required
-
-abbrev pub region_option : Rule
-region_option = option_of (codes "region") 114 false
-
-abbrev pub file_option : Rule
-file_option = option_of (codes "file") 102 true
-
-abbrev pub name_option : Rule
-name_option = option_of (codes "name") 110 true
-
--- a subcommand of a name with these options
-abbrev pub subcommand_of : List ℕ → List Rule → Shape
-subcommand_of name options = record (new_shape name) { rules = options }
-
--- `-v` has no value, and `-M` of create is a file too
-abbrev pub subcommands : List Shape
-subcommands =
-    subcommand_of (codes "print") (region_option ∷ rule_of (codes "verbose") 118 SetTrue false ∷ [])
-    ∷ subcommand_of (codes "layout") []
-    ∷ subcommand_of (codes "extract") (region_option ∷ file_option ∷ name_option ∷ [])
-    ∷ subcommand_of (codes "add")
-    (region_option ∷ name_option ∷ file_option ∷ option_of (codes "type") 116 true ∷ option_of (codes "alignment") 97 false
-    ∷ option_of (codes "base") 98 false ∷ option_of (codes "hash") 65 false ∷ [])
-    ∷ subcommand_of (codes "remove") (region_option ∷ name_option ∷ [])
-    ∷ subcommand_of (codes "read") (region_option ∷ file_option ∷ [])
-    ∷ subcommand_of (codes "write") (region_option ∷ file_option ∷ [])
-    ∷ subcommand_of (codes "create") (option_of (codes "file") 77 true ∷ region_option ∷ [])
-    ∷ []
-
--- the words after IMAGE
-abbrev pub command_line : App
-command_line = record { top = record (new_shape (codes "cbfstool")) { is_leaf = false; no_binary_name = true; subcommand_required = true }; subs = subcommands }
 
 -- clap's error for want of memory, or any other
 abbrev pub refusal_by : ErrorKind → Refusal

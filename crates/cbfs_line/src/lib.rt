@@ -2,6 +2,5 @@
 #![tactic(auto)]
 
 mod line;
-mod words;
 
 pub use line::{Line, read_line};

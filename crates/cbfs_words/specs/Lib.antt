@@ -1,0 +1,2 @@
+pub mod Subcommands
+pub mod Table
