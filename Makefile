@@ -1,4 +1,4 @@
-# make: proves and builds the programs, as the README says.
+# make: proves and builds the programs, as the README says; make cbfstool, make fmaptool and make cbfscheck one of them.
 # make install: puts the programs, the manual pages, the completions and the documents in place; PREFIX and DESTDIR say
 # where. With SUFFIX=-proved, or another one, programs, pages and completions have names with this end, and leave coreboot's
 # alone. It takes the programs as they lie, and builds those that aren't there.
@@ -34,9 +34,6 @@ CBFSCHECK = crates/cbfscheck/out/cbfscheck
 INSTALL = install
 INSTALL_DATA = $(INSTALL) -m 644
 
-# (the prover keeps the memory that it frees, which saves the time of taking it anew)
-export MIMALLOC_PURGE_DELAY = -1
-
 # (the pages name it too)
 VERSION = $(shell cat VERSION)
 # (whom a package names: what git is told of its user here, as `git config user.name NAME` and `git config user.email ADDRESS`
@@ -58,29 +55,20 @@ PAGE = sed -e '/^\./s/$(NAMES)/\1$(SUFFIX)\2/g' -e '/^[^.]/s/$(NAMES)/\1$(ESCAPE
 	-e 's/\<\(Xr\|Nm\) fmd\>/&$(SUFFIX)/' -e 's/^\(\.Dt [A-Z]*\)/\1$(CAPITALS)/' \
 	-e 's,^\.Pa docs/,.Pa $(DOC_SHOWN)/docs/,'
 
-# A first build makes the libraries below a program one after the other, in the order of crates.txt: `rt run` would read all
-# their sources once before that. Where they are there, it makes those that have changed. (without words a program prints its
-# usage)
-LIBRARIES = awk -F: -v top=$(1) '{ name[NR] = $$1; uses[NR] = $$2 } END { needed[top]; \
-	for (i = NR; i; i--) if (name[i] in needed) { n = split(uses[i], used, " "); while (n) needed[used[n--]] } \
-	for (i = 1; i <= NR; i++) if (name[i] in needed && name[i] != top) print name[i] }' crates.txt
-PROVE = for library in $$($(call LIBRARIES,$(1))); do \
-	[ -e crates/$$library/out/rlib ] || (cd crates/$$library && rt lib >&2) || exit; done; \
-	cd crates/$(1) && rt run > /dev/null
-
 all:
-	@$(call PROVE,cbfstool)
-	@$(call PROVE,fmaptool)
-	@$(call PROVE,cbfscheck)
+	@./prove $(PROGRAMS)
+
+$(PROGRAMS):
+	@./prove $@
 
 $(CBFSTOOL):
-	@$(call PROVE,cbfstool)
+	@./prove cbfstool
 
 $(FMAPTOOL):
-	@$(call PROVE,fmaptool)
+	@./prove fmaptool
 
 $(CBFSCHECK):
-	@$(call PROVE,cbfscheck)
+	@./prove cbfscheck
 
 check:
 	checks/check
@@ -162,4 +150,4 @@ package: put
 	chmod -R u=rwX,go=rX "$(DESTDIR)"
 	dpkg-deb --root-owner-group --build "$(DESTDIR)" "$(OUT)/cbfstool$(SUFFIX)_$(VERSION)_$$(dpkg --print-architecture).deb"
 
-.PHONY: all check install put uninstall dist deb package
+.PHONY: all $(PROGRAMS) check install put uninstall dist deb package

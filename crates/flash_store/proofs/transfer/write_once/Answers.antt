@@ -16,4 +16,4 @@ returns g c =
     }
 
 pub returns-then-branch-lt-HEADER_LENGTH : goal.returns-then-branch-lt-HEADER_LENGTH
-returns-then-branch-lt-HEADER_LENGTH g c = search rules
+returns-then-branch-lt-HEADER_LENGTH g c = search rules fits 100

@@ -37,4 +37,4 @@ pub returns-in_err-copy_piece-clause-pieces : goal.returns-in_err-copy_piece-cla
 returns-in_err-copy_piece-clause-pieces g c = λ h device.
     let had = c.loop-done.invariant in
     let left = c.loop-done-test.true in
-    AppendsPieces-kept _ _ _ _ c.args.at c.loop-done.done c.args.n left c.requires (had.whole_pieces left) (had.put h) (c.copy_piece.ensures.none (search rules))
+    AppendsPieces-kept _ _ _ _ c.args.at c.loop-done.done c.args.n left c.requires (had.whole_pieces left) (had.put h) (c.copy_piece.ensures.none (search rules fits 100))
