@@ -135,15 +135,16 @@ fn run_on(
     }
 }
 
-/// Opens or makes the image of a line, and runs its command.
-fn execute(rt: &HostRuntime, line: &Line) -> Result<(), Refusal> {
-    let command = line.command()?;
-    if matches!(command, Command::Create { .. }) {
-        let Some(file) = line.file() else {
-            return Err(Refusal::Usage);
-        };
-        return create_from(rt, &command, line.image(), &mut open_source(rt, file)?);
-    }
+/// Makes the image of a line by its command.
+fn make_image(rt: &HostRuntime, line: &Line, command: &Command) -> Result<(), Refusal> {
+    let Some(file) = line.file() else {
+        return Err(Refusal::Usage);
+    };
+    create_from(rt, command, line.image(), &mut open_source(rt, file)?)
+}
+
+/// Opens the image of a line, and runs its command.
+fn open_image(rt: &HostRuntime, line: &Line, command: &Command) -> Result<(), Refusal> {
     let image = FileFlash::open(rt, line.image()).map_err(|fault| open_refusal(
         fault,
         Refusal::Device,
@@ -151,9 +152,18 @@ fn execute(rt: &HostRuntime, line: &Line) -> Result<(), Refusal> {
     run_on(
         rt,
         &mut Paged::new(image),
-        &command,
+        command,
         line.file().unwrap_or(""),
     )
+}
+
+/// Opens or makes the image of a line, and runs its command.
+fn execute(rt: &HostRuntime, line: &Line) -> Result<(), Refusal> {
+    let command = line.command()?;
+    match command {
+        Command::Create { .. } => make_image(rt, line, &command),
+        _ => open_image(rt, line, &command),
+    }
 }
 
 /// The words after the program's name.
