@@ -3,11 +3,11 @@ use Rattle.cbfs_edit.specs.Removals.{by_rows}
 use Rattle.cbfs_edit.proofs.group.pass.Goals as goal
 
 pub returns-in-Whole-clause-passed : goal.returns-in-Whole-clause-passed
-returns-in-Whole-clause-passed g c = search rules
+returns-in-Whole-clause-passed g c = search rules fits 100
 
 pub returns-then-is_free-2-clause-after : goal.returns-then-is_free-2-clause-after
-returns-then-is_free-2-clause-after g c = search rules
+returns-then-is_free-2-clause-after g c = search rules fits 100
 
 pub returns-then-branch-clause-passed : goal.returns-then-branch-clause-passed
 unfolding by_rows
-returns-then-branch-clause-passed g c = search rules
+returns-then-branch-clause-passed g c = search rules fits 100

@@ -11,7 +11,7 @@ returns-in_err-write_empty_entry-clause-stopped g c honest = λ is.
     (c.write_empty_entry.ensures.left (honest_still c.find_group.ensures.after.device.calls.same_honesty honest))
 
 pub returns-clause-after : goal.returns-clause-after
-returns-clause-after g c = search rules
+returns-clause-after g c = search rules fits 100
 
 pub returns-clause-image : goal.returns-clause-image
 returns-clause-image g c honest =
