@@ -1,0 +1,9 @@
+-- Goals that a must-fail edit breaks, which then fails at once.
+use Rattle.std.proofs.Common.{rules}
+use Rattle.cbfs_words.proofs.words.whole_command.Goals as goal
+
+pub returns-clause-needs : goal.returns-clause-needs
+returns-clause-needs c = search rules fits 100
+
+pub returns-clause-shape : goal.returns-clause-shape
+returns-clause-shape c = search rules fits 100
