@@ -1,5 +1,5 @@
 -- An accepted addition: where it stands, what the region has after it, and what its calls have answered.
-use Rattle.std.proofs.Common.{◌≡◌, inl, inr, ℕ, ◌+◌, ◌-◌, ◌%◌, ◌^◌, ◌<◌, ◌≤◌, Bool, true, false, cond, eqb, ltb, ◌||◌, List, [], ◌∷◌, ◌++◌, length, drop, Contains, Option, Some, None, Ok, sym, ◌∙◌, ap, subst, refl, arith, length-append, ◌⊎◌, ⊎_elim, Result, Err}
+use Rattle.std.proofs.Common.{◌≡◌, inl, inr, ℕ, ◌+◌, ◌-◌, ◌/◌, ◌%◌, ◌^◌, ◌<◌, ◌≤◌, Bool, true, false, cond, eqb, ltb, ◌||◌, List, [], ◌∷◌, ◌++◌, length, drop, Contains, Option, Some, None, Ok, sym, ◌∙◌, ap, subst, refl, arith, length-append, ◌⊎◌, ⊎_elim, Result, Err}
 use Rattle.std.specs.Prelude.{◌==◌, IsErrOf}
 use Rattle.std.specs.List.{list_any}
 use Rattle.std.proofs.lemmas.Bool.{cond_both, eqb-false, eqb-true, ltb-false, or_parts}
@@ -13,7 +13,8 @@ use Rattle.flash_format.specs.Splices.{splice}
 use Rattle.flash_format.specs.Placings.{HasOneMore, IsSpace, IsPlacing, space_cells}
 use Rattle.flash_format.proofs.MadeLaws.{length-metadata, hash_as_long, made_as_long, made_alone}
 use Rattle.flash_format.proofs.Placed.{empty_is_space, components_placed}
-use Rattle.flash_device.specs.Device.{SameOutside}
+use Rattle.flash_device.specs.Device.{Device, Reads, SameOutside}
+use Rattle.flash_device.specs.Pages.{HasChanged, HasRead, Pages}
 use Rattle.flash_device.proofs.BytesLemmas.{SameOutside-overwritten, further, length-overwritten}
 use Rattle.cbfs_edit.specs.Removals.{IsCellRange, kept_at, space_end}
 use Rattle.cbfs_edit.specs.Runs.{runs}
@@ -37,7 +38,7 @@ use Rattle.std.specs.Option.{option_map_or}
 use Rattle.std.specs.Result.{result_ok}
 use Rattle.flash_device.specs.Regions.{Range, LiesIn, bytes_in}
 use Rattle.flash_device.specs.declared.paged.CopyFault.{CopyFault}
-use Rattle.flash_device.proofs.DeviceLemmas.{length-bytes_in}
+use Rattle.flash_device.proofs.DeviceLemmas.{Calls-at_most, Calls-then, honest_still, length-bytes_in}
 use Rattle.sha2.proofs.Facts256.{length-sha256}
 use Rattle.sha2.proofs.Facts512.{length-sha512}
 use Rattle.cbfs_walk.specs.Hashes.{sha256_of, sha512_of}
@@ -254,6 +255,33 @@ told fault other is = ap (λ e. Err e) (same_fault fault other is)
 
 pub told_as : {A : Type 0} (fault other : EditFault) → fault ≡ other → (let a : Result A EditFault = Err fault in IsErrOf a other)
 told_as fault other is = ap (λ e. Err e) is
+
+-- what is told of an error holds of no success, nor of another error
+pub no_error : {A E X : Type 0} {value : A} {fault : E} → (let a : Result A E = Ok value in IsErrOf a fault) → X
+no_error is = absurd cc
+
+pub device_for_source : {A X : Type 0} → (let a : Result A EditFault = Err faults.Device in IsErrOf a faults.Source) → X
+device_for_source is = absurd cc
+
+pub source_for_device : {A X : Type 0} → (let a : Result A EditFault = Err faults.Source in IsErrOf a faults.Device) → X
+source_for_device is = absurd cc
+
+-- the calls of the source
+pub content_read : (n told : ℕ) (old new : Device) → Reads ((n + 4095) / 4096) told old new → Reads (n / 4096 + 1) told old new
+content_read n told old new read = record { calls = Calls-at_most ((n + 4095) / 4096) (n / 4096 + 1) told old new (omega (arith, read.calls.no_more)) read.calls; unchanged = read.unchanged }
+
+-- and of the device: the search and the writes
+pub sought_written : {F : Type 0} (facts : F → Device) (r : Range) (told : ℕ) (old mid new : Pages F) → HasRead facts (r.size / 16 + 1) 0 old mid → HasChanged facts r (r.size / 4096 + r.size / 4096 + 6) told mid new
+    → HasChanged facts r (r.size / 16 + r.size / 2048 + 7) told old new
+sought_written facts r told old mid new read changed =
+    let n = r.size / 16 + 1 in
+    let m = r.size / 4096 + r.size / 4096 + 6 in
+    let few : r.size / 4096 + r.size / 4096 ≤ r.size / 2048 = omega arith in
+    let calls = Calls-then n m told (facts old.device) (facts mid.device) (facts new.device) read.device.calls changed.calls in
+    record {
+      calls = Calls-at_most (n + m) (r.size / 16 + r.size / 2048 + 7) told (facts old.device) (facts new.device) (omega (arith, few, calls.no_more)) calls;
+      outside = λ h. subst (λ (l : List ℕ). SameOutside r.start r.size l (facts new.device).content) (read.device.unchanged h) (changed.outside (honest_still read.device.calls.same_honesty h));
+    }
 
 -- what the search for a place has answered, once the caller's own checks are passed
 module _ (x : List ℕ) (new : NewComponent) (spot : Spot) (own : Option EditFault) (wanted : Wanted) (passed : (fault : EditFault) → own ≡ Some fault → ⊥) (own_is : own ≡ own_fault new.name new.kind spot) (wanted_is : wanted ≡ wanted_for new spot) where

@@ -1,11 +1,11 @@
-use Rattle.std.proofs.Common.{inl, inr, IsTrue, Err, Some, ap, ◌∙◌, sym, refl, arith}
+use Rattle.std.proofs.Common.{inl, inr, ℕ, IsTrue, List, Err, Some, ap, ◌∙◌, sym, refl, arith, rules}
 use Rattle.std.proofs.lemmas.Result.{err_from_is_err_and}
 use Rattle.flash_device.specs.Regions.{bytes_in}
 use Rattle.flash_device.proofs.DeviceLemmas.{honest_still}
 use Rattle.cbfs_edit.specs.Additions.{new_component, placed_of}
 use Rattle.cbfs_edit.specs.declared.fault.EditFault.TheVariants as faults
 use Rattle.cbfs_edit.specs.declared.place.Wanted.{Wanted}
-use Rattle.cbfs_edit.proofs.Added.{own-is, told, digest-sized, found_in, place_found, written, source_leaves, device_leaves}
+use Rattle.cbfs_edit.proofs.Added.{own-is, no_fault, told, digest-sized, found_in, place_found, written, source_leaves, device_leaves, no_error, device_for_source, source_for_device, content_read, sought_written}
 use Rattle.cbfs_edit.proofs.Removals.{image_of}
 use Rattle.cbfs_edit.proofs.addition.add.Goals as goal
 
@@ -24,41 +24,58 @@ returns-in_err-place-clause-answer g c honest =
       | inr is ↦ inr (inr (ap placed_of is))
     ])
 
-pub returns-in-Ok-clause-answer : goal.returns-in-Ok-clause-answer
-returns-in-Ok-clause-answer g c honest =
+pub returns-in-Ok : goal.returns-in-Ok
+returns-in-Ok g c =
     let new = new_component c.args.name.now c.args.kind c.args.hash (g.S.Source.facts c.args.source.now).content in
-    inr (inr (sym (ap placed_of (place_found _ new c.args.spot _ _ c.in_default.not-Some c.own_fault.ensures (c.wanted_of-wanted.ensures new.content c.len.ensures.length) c.in_ok-place.place (c.in_ok-place.ensures.answer honest)))))
+    let passed = no_fault c.own_fault.result c.in_default.not-Some ∙ c.own_fault.ensures in
+    let still = λ (h : IsTrue (g.F.Flash.facts c.args.paged.now.device).honest). honest_still c.find_place.ensures.after.device.calls.same_honesty h in
+    let same = c.find_place.ensures.after.device.unchanged in
+    let is = λ (h : IsTrue (g.F.Flash.facts c.args.paged.now.device).honest). place_found (bytes_in c.args.region (g.F.Flash.facts c.args.paged.now.device).content) new c.args.spot _ _ c.in_default.not-Some c.own_fault.ensures (c.wanted_of-wanted.ensures new.content c.len.ensures.length) c.in_ok-place.place (c.in_ok-place.ensures.answer h) in
+    let done = λ (h : IsTrue (g.F.Flash.facts c.args.paged.now.device).honest) (s : IsTrue (g.S.Source.facts c.args.source.now).honest). written c.args.region new c.args.spot c.in_ok-place.place _ _ _ (same h) (is h) (c.in-Ok.ensures.added (still h) s) in
+    record {
+      after = sought_written g.F.Flash.facts c.args.region _ c.args.paged.now c.find_place.new.paged c.insert.new.paged c.in_ok-place.ensures.after c.in-Ok.ensures.after;
+      source = content_read _ _ (g.S.Source.facts c.args.source.now) (g.S.Source.facts c.insert.new.source) c.in-Ok.ensures.source;
+      words = rw (← passed) tt;
+      answer = λ honest. inr (inr (sym (ap placed_of (is honest))));
+      refused = search rules;
+      before = λ honest failed. no_error failed;
+      added = done;
+      image = λ honest source_honest. image_of c.args.region _ _ _ _ c.requires (same honest) c.insert.ensures.after.calls.same_length (c.insert.ensures.after.outside (still honest)) (done honest source_honest);
+      stopped = λ honest source_honest failed. no_error failed;
+    }
 
-pub returns-in-Ok-clause-added : goal.returns-in-Ok-clause-added
-returns-in-Ok-clause-added g c honest source_honest =
+pub returns-in-Err-Device : goal.returns-in-Err-Device
+returns-in-Err-Device g c =
     let new = new_component c.args.name.now c.args.kind c.args.hash (g.S.Source.facts c.args.source.now).content in
-    let still = honest_still c.find_place.ensures.after.device.calls.same_honesty honest in
-    let same = c.find_place.ensures.after.device.unchanged honest in
-    let is = place_found _ new c.args.spot _ _ c.in_default.not-Some c.own_fault.ensures (c.wanted_of-wanted.ensures new.content c.len.ensures.length) c.in_ok-place.place (c.in_ok-place.ensures.answer honest) in
-    written c.args.region new c.args.spot c.in_ok-place.place _ _ _ same is (c.in-Ok.ensures.added still source_honest)
+    let passed = no_fault c.own_fault.result c.in_default.not-Some ∙ c.own_fault.ensures in
+    let is = λ (h : IsTrue (g.F.Flash.facts c.args.paged.now.device).honest). place_found (bytes_in c.args.region (g.F.Flash.facts c.args.paged.now.device).content) new c.args.spot _ _ c.in_default.not-Some c.own_fault.ensures (c.wanted_of-wanted.ensures new.content c.len.ensures.length) c.in_ok-place.place (c.in_ok-place.ensures.answer h) in
+    record {
+      after = sought_written g.F.Flash.facts c.args.region _ c.args.paged.now c.find_place.new.paged c.insert.new.paged c.in_ok-place.ensures.after (rw c.in-Err-Device.field-0-is at c.in-Err-Device.ensures.after);
+      source = content_read _ _ (g.S.Source.facts c.args.source.now) (g.S.Source.facts c.insert.new.source) (rw c.in-Err-Device.field-0-is at c.in-Err-Device.ensures.source);
+      words = rw (← passed) tt;
+      answer = λ honest. inl refl;
+      refused = λ honest other another. absurd (other refl);
+      before = λ honest failed. device_for_source failed;
+      added = search rules;
+      image = search rules;
+      stopped = λ honest source_honest failed. device_leaves c.args.region new c.args.spot c.in_ok-place.place _ _ _ (IsTrue (g.S.Source.facts c.args.source.now).honest) _ _ c.requires c.places_fit.ensures c.ranges.kind.fits (omega (arith, c.len.ensures)) (ap (λ (w : Wanted). w.len) (c.wanted_of-wanted.ensures new.content c.len.ensures.length))
+          (digest-sized c.args.hash new.content) (c.find_place.ensures.after.device.unchanged honest) (is honest) ((rw c.in-Err-Device.field-0-is at c.in-Err-Device.ensures.stopped) (honest_still c.find_place.ensures.after.device.calls.same_honesty honest)) source_honest;
+    }
 
-pub returns-in-Ok-clause-image : goal.returns-in-Ok-clause-image
-returns-in-Ok-clause-image g c honest source_honest =
+pub returns-in-Err-Source : goal.returns-in-Err-Source
+returns-in-Err-Source g c =
     let new = new_component c.args.name.now c.args.kind c.args.hash (g.S.Source.facts c.args.source.now).content in
-    let still = honest_still c.find_place.ensures.after.device.calls.same_honesty honest in
-    let same = c.find_place.ensures.after.device.unchanged honest in
-    let is = place_found _ new c.args.spot _ _ c.in_default.not-Some c.own_fault.ensures (c.wanted_of-wanted.ensures new.content c.len.ensures.length) c.in_ok-place.place (c.in_ok-place.ensures.answer honest) in
-    image_of c.args.region _ _ _ _ c.requires same c.insert.ensures.after.calls.same_length (c.insert.ensures.after.outside still) (written c.args.region new c.args.spot c.in_ok-place.place _ _ _ same is (c.in-Ok.ensures.added still source_honest))
-
-pub returns-in-Err-Device-clause-stopped : goal.returns-in-Err-Device-clause-stopped
-returns-in-Err-Device-clause-stopped g c honest source_honest =
-    let new = new_component c.args.name.now c.args.kind c.args.hash (g.S.Source.facts c.args.source.now).content in
-    let still = honest_still c.find_place.ensures.after.device.calls.same_honesty honest in
-    let same = c.find_place.ensures.after.device.unchanged honest in
-    let is = place_found _ new c.args.spot _ _ c.in_default.not-Some c.own_fault.ensures (c.wanted_of-wanted.ensures new.content c.len.ensures.length) c.in_ok-place.place (c.in_ok-place.ensures.answer honest) in
-    λ failed. device_leaves c.args.region new c.args.spot c.in_ok-place.place _ _ _ (IsTrue (g.S.Source.facts c.args.source.now).honest) _ _ c.requires c.places_fit.ensures c.ranges.kind.fits (omega (arith, c.len.ensures)) (ap (λ (w : Wanted). w.len) (c.wanted_of-wanted.ensures new.content c.len.ensures.length))
-    (digest-sized c.args.hash new.content) same is ((rw c.in-Err-Device.field-0-is at c.in-Err-Device.ensures.stopped) still) source_honest
-
-pub returns-in-Err-Source-clause-before : goal.returns-in-Err-Source-clause-before
-returns-in-Err-Source-clause-before g c honest =
-    let new = new_component c.args.name.now c.args.kind c.args.hash (g.S.Source.facts c.args.source.now).content in
-    let still = honest_still c.find_place.ensures.after.device.calls.same_honesty honest in
-    let same = c.find_place.ensures.after.device.unchanged honest in
-    let is = place_found _ new c.args.spot _ _ c.in_default.not-Some c.own_fault.ensures (c.wanted_of-wanted.ensures new.content c.len.ensures.length) c.in_ok-place.place (c.in_ok-place.ensures.answer honest) in
-    λ failed. source_leaves c.args.region new c.args.spot c.in_ok-place.place _ _ _ (IsTrue (g.S.Source.facts c.args.source.now).honest) _ _ c.requires c.places_fit.ensures c.ranges.kind.fits (omega (arith, c.len.ensures)) (ap (λ (w : Wanted). w.len) (c.wanted_of-wanted.ensures new.content c.len.ensures.length))
-    (digest-sized c.args.hash new.content) same is ((rw c.in-Err-Source.field-0-is at c.in-Err-Source.ensures.stopped) still) refl
+    let passed = no_fault c.own_fault.result c.in_default.not-Some ∙ c.own_fault.ensures in
+    let is = λ (h : IsTrue (g.F.Flash.facts c.args.paged.now.device).honest). place_found (bytes_in c.args.region (g.F.Flash.facts c.args.paged.now.device).content) new c.args.spot _ _ c.in_default.not-Some c.own_fault.ensures (c.wanted_of-wanted.ensures new.content c.len.ensures.length) c.in_ok-place.place (c.in_ok-place.ensures.answer h) in
+    record {
+      after = sought_written g.F.Flash.facts c.args.region _ c.args.paged.now c.find_place.new.paged c.insert.new.paged c.in_ok-place.ensures.after (rw c.in-Err-Source.field-0-is at c.in-Err-Source.ensures.after);
+      source = content_read _ _ (g.S.Source.facts c.args.source.now) (g.S.Source.facts c.insert.new.source) (rw c.in-Err-Source.field-0-is at c.in-Err-Source.ensures.source);
+      words = rw (← passed) tt;
+      answer = λ honest. inr (inl refl);
+      refused = λ honest other another. absurd (another refl);
+      before = λ honest failed. source_leaves c.args.region new c.args.spot c.in_ok-place.place _ _ _ (IsTrue (g.S.Source.facts c.args.source.now).honest) _ _ c.requires c.places_fit.ensures c.ranges.kind.fits (omega (arith, c.len.ensures)) (ap (λ (w : Wanted). w.len) (c.wanted_of-wanted.ensures new.content c.len.ensures.length))
+          (digest-sized c.args.hash new.content) (c.find_place.ensures.after.device.unchanged honest) (is honest) ((rw c.in-Err-Source.field-0-is at c.in-Err-Source.ensures.stopped) (honest_still c.find_place.ensures.after.device.calls.same_honesty honest)) refl;
+      added = search rules;
+      image = search rules;
+      stopped = λ honest source_honest failed. source_for_device failed;
+    }
