@@ -1,9 +1,16 @@
 -- A creation may change all bytes of its image, and nothing else is promised of one that stops.
-use Rattle.std.proofs.Common.{◌≡◌, ◌∙◌, ◌⊎◌, inl, inr, IsErrOf, Err, ℕ, List, length, drop, length-drop, ◌+◌, refl, sym, arith}
-use Rattle.std.proofs.lemmas.List.{nil_from_length}
-use Rattle.flash_device.specs.Device.{Calls, Device, SameOutside, faults_told}
+use Rattle.std.proofs.Common.{◌≡◌, ◌∙◌, ◌⊎◌, ◌++◌, inl, inr, IsErrOf, IsTrue, Ok, Err, Result, ℕ, List, length, drop, take, replicate, length-drop, ◌+◌, ap, refl, sym, arith}
+use Rattle.std.specs.Prelude.{fold}
+use Rattle.std.proofs.lemmas.List.{append-nil, length-replicate, nil_from_length}
+use Rattle.flash_device.specs.Device.{Calls, Device, SameOutside, faults_told, overwritten}
+use Rattle.flash_device.specs.Laws.{with_edit}
+use Rattle.flash_device.specs.Regions.{Range}
+use Rattle.cbfs_edit.specs.Formats.{formatted}
 use Rattle.flash_device.specs.Pages.{OnHonest, Pages}
+use Rattle.cbfs_commands.specs.declared.plan.Plan.{Plan}
+use Rattle.cbfs_commands.specs.declared.refusal.Refusal.{Refusal}
 use Rattle.cbfs_commands.specs.declared.refusal.Refusal.TheVariants as refusals
+use Rattle.cbfs_commands.specs.Creations.{created_image, plan_for}
 use Rattle.cbfs_commands.specs.Deeds.{HasChanged, MayHaveWritten, Serves, changes, creates, outcome, source_calls}
 use Rattle.cbfs_commands.specs.Outcomes.{LeavesOr}
 use Rattle.cbfs_commands.specs.Refusals.{by_device, by_source}
@@ -16,6 +23,15 @@ whole-image image now same = record {
   after = nil_from_length (drop (0 + length image) now) (omega (arith, same, length-drop (0 + length image) now)) ∙ sym (nil_from_length (drop (0 + length image) image) (omega (arith, length-drop (0 + length image) image)));
 }
 
+-- 0xff throughout, then the map, then the regions
+pub all-written : (image filled mapped now read source : List ℕ) (n at len : ℕ) (regions : List Range) → n ≡ length image → filled ≡ overwritten image 0 (replicate n 0xff) → read ≡ source → mapped ≡ overwritten filled at (take len read)
+    → now ≡ fold (λ image place. with_edit place formatted image) mapped regions → now ≡ fold (λ image place. with_edit place formatted image) (overwritten (replicate (length image) 0xff) at (take len source)) regions
+all-written image filled mapped now read source n at len regions long is_filled same is_mapped is =
+    let erased : List ℕ = replicate n 0xff in
+    let rest = nil_from_length (drop (0 + length erased) image) (omega (arith, long, length-drop (0 + length erased) image, length-replicate {A = ℕ} n 0xff)) in
+    let all : filled ≡ replicate (length image) 0xff = is_filled ∙ ap (λ (l : List ℕ). erased ++ l) rest ∙ append-nil erased ∙ ap (λ k. (let l : List ℕ = replicate k 0xff in l)) long in
+    is ∙ ap (λ (l : List ℕ). fold (λ image place. with_edit place formatted image) l regions) (is_mapped ∙ ap (λ (l : List ℕ). overwritten l at (take len read)) all ∙ ap (λ (l : List ℕ). overwritten (replicate (length image) 0xff) at (take len l)) same)
+
 module _ {F : Type 0} {facts : F → Device} {n : ℕ} (names : List (List ℕ)) {old new : Pages F} {source now : Device} {answer : Answer} (calls : Calls n (faults_told by_device answer) (facts old.device) (facts new.device)) (reads : Calls (source_calls (changes (creates names)) (length source.content)) (faults_told by_source answer) source now) where
   pub creation : MayHaveWritten answer → (IsErrOf answer refusals.Output → ⊥) → OnHonest facts old.device (λ image. Serves (changes (creates names)) source → LeavesOr (facts new.device).content answer (outcome (changes (creates names)) image source.content))
       → HasChanged facts n (creates names) old new source now answer
@@ -23,3 +39,9 @@ module _ {F : Type 0} {facts : F → Device} {n : ℕ} (names : List (List ℕ))
 
   pub creation_stopped : (answer ≡ Err refusals.Device) ⊎ (answer ≡ Err refusals.Source) → HasChanged facts n (creates names) old new source now answer
   creation_stopped failed = creation (inr failed) (λ output. elim failed [ inl device ↦ absurd cc | inr stopped ↦ absurd cc ]) (λ h serves. inr failed)
+
+-- one that is done has made the image of its plan
+pub creation_done : {F : Type 0} {facts : F → Device} {n : ℕ} (names : List (List ℕ)) {old new : Pages F} {source now : Device} (plan : Plan) → Calls n 0 (facts old.device) (facts new.device) → Calls (source_calls (changes (creates names)) (length source.content)) 0 source now
+    → OnHonest facts old.device (λ image. IsTrue source.honest → ((let r : Result Plan Refusal = Ok plan in IsErrOf r refusals.Source) ⊎ (Ok plan ≡ plan_for (length image) names source.content)) × ((facts new.device).content ≡ created_image (length image) plan source.content))
+    → HasChanged facts n (creates names) old new source now (Ok tt)
+creation_done names plan calls reads made = creation names calls reads (inl refl) (λ output. absurd cc) (λ h serves. let m = made h (serves refl) in elim m.0 [ inl failed ↦ absurd cc | inr is ↦ inl (rw (← is) (refl, m.1)) ])
