@@ -1,10 +1,9 @@
 //! Readers and writers by pieces and with failures, and how much is read of a text.
 
-use crate::support::equal;
-use flash_store::WriteSink;
+use crate::support::{equal, has_all, writer};
 use fmap_compiler::{ReadText, Refusal, run};
 use fmd_lang::{Expected, FmdFault};
-use std::io::{self, ErrorKind, Read, Write};
+use std::io::{self, ErrorKind, Read};
 use std::process::Abort;
 
 /// A flash of 4096 bytes at 0xff000000: an area of 512 bytes for the table, and the rest.
@@ -61,52 +60,6 @@ impl Read for Blanks {
         self.taken = self.taken.saturating_add(n);
         Ok(n)
     }
-}
-
-/// A writer that is to be given these bytes, takes `piece` of them a call, and fails once it has taken `room` bytes.
-#[derive(Drop)]
-struct Short<'a> {
-    /// What is left of the bytes.
-    rest: &'a [u8],
-    piece: usize,
-    room: usize,
-    /// Whether it was given anything else.
-    differs: bool,
-}
-
-impl Write for Short<'_> {
-    fn write(&mut self, buf: &[u8]) -> io::Result<usize> {
-        if self.room == 0 {
-            return Err(io::Error::from(ErrorKind::StorageFull));
-        }
-        let n = buf.len().min(self.piece).min(self.room);
-        if !self.rest.starts_with(&buf[..n]) {
-            self.differs = true;
-        }
-        self.rest = self.rest.get(n..).unwrap_or(&[]);
-        self.room = self.room.saturating_sub(n);
-        Ok(n)
-    }
-
-    fn flush(&mut self) -> io::Result<()> {
-        Ok(())
-    }
-}
-
-/// A writer of these bytes.
-fn writer(piece: usize, room: usize, bytes: &[u8]) -> WriteSink<Short<'_>> {
-    WriteSink::new(Short {
-        rest: bytes,
-        piece,
-        room,
-        differs: false,
-    })
-}
-
-/// It was given its bytes, and no others.
-fn has_all(rt: &impl Abort, writer: WriteSink<Short<'_>>) {
-    let Short { rest, differs, .. } = writer.into_inner();
-    assert!(rt; rest.is_empty() && !differs);
 }
 
 /// A reader of the text by pieces.

@@ -1,11 +1,11 @@
 //! Outputs that fail at each place, the size of a new image, and creations that are refused or stopped.
 
-use crate::edit::deeds::{COREBOOT, Short, answer_into, stopped};
+use crate::edit::deeds::{COREBOOT, answer_into, stopped};
 use crate::edit::support::{Held, LEN, MAP, Stop, device_of, image_of, source_of, stopping};
-use crate::support::{ALL, device_from, equal, filled, same_bytes};
+use crate::support::{ALL, device_from, ends_with, equal, filled, has_all, writer};
 use arrayvec::ArrayVec;
 use cbfs_commands::{Command, MOST_REGIONS, Refusal, create_size};
-use flash_store::{FailAt, FailSource, MemFlash, Paged};
+use flash_store::{FailSource, MemFlash};
 use std::process::Abort;
 
 const PRINT: Command<'static> = Command::Print {
@@ -14,18 +14,6 @@ const PRINT: Command<'static> = Command::Print {
 };
 
 // ---- outputs
-
-/// A command with no source answers this into a sink, and gives it its text.
-fn is_told(
-    rt: &impl Abort,
-    paged: &mut Paged<FailAt<MemFlash>>,
-    command: &Command,
-    out: &mut Short<'_>,
-    answer: &Result<(), Refusal>,
-) {
-    equal(rt, &answer_into(rt, paged, command, b"", 0, out), answer);
-    assert!(rt; out.rest.is_empty() && !out.differs);
-}
 
 /// A command into a sink that takes so many bytes a call and so many in all writes this text, where the device refuses all calls
 /// after the first few.
@@ -44,13 +32,14 @@ fn tells(
         reads: 0,
     };
     let mut paged = stopping(device_of(rt, Held::WithA), stop);
-    is_told(
+    let mut out = writer(piece, room, text);
+    equal(
         rt,
-        &mut paged,
-        command,
-        &mut Short::new(text, piece, room),
+        &answer_into(rt, &mut paged, command, b"", 0, &mut out),
         &answer,
     );
+    has_all(rt, out);
+    drop(paged);
 }
 
 /// A command writes this text, by three bytes a call too, and as much of it as there is room for.
@@ -107,6 +96,7 @@ fn a_device_that_fails_as_it_is_read(rt: HostRuntime) {
 fn has_size(rt: &impl Abort, map: &[u8], reads: u64, answer: Result<u32, Refusal>) {
     let mut source = FailSource::new(source_of(rt, map), reads);
     equal(rt, &create_size(&mut source), &answer);
+    drop(source);
 }
 
 #[test]
@@ -145,7 +135,7 @@ fn refuses(
     };
     let device = device_from(rt, filled(rt, 7, len));
     let device = creation(rt, device, names, map, stop, &Err(refusal));
-    same_bytes(rt, device.bytes(), &filled(rt, 7, len));
+    ends_with(rt, device, filled(rt, 7, len));
 }
 
 #[test]

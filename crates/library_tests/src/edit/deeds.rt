@@ -1,13 +1,11 @@
 //! What is done to the region of the small image: edits, and commands that edit.
-ghost use Rattle.std.specs.Prelude.{None};
-
 use crate::edit::support::{
     Held, MAGIC_20, SIZE, START, Stop, components, device_of, holds, region_of, source_of, stopping,
 };
-use crate::support::{ALL, equal};
+use crate::support::{ALL, Short, equal, writer};
 use cbfs_commands::{Command, Refusal, run};
 use cbfs_edit::{EditFault, HashChoice, Spot, add, format, remove};
-use flash_store::{Counter, FailSource, Flash, MemFlash, Paged, Sink, SinkFault};
+use flash_store::{FailSource, Flash, MemFlash, Paged, WriteSink};
 use std::process::Abort;
 
 pub const COREBOOT: &[u8] = b"COREBOOT";
@@ -60,51 +58,6 @@ pub fn after(deed: Deed) -> Held {
     }
 }
 
-/// A sink that is to be given this text, takes `piece` bytes a call, and fails once it has taken `room` bytes.
-#[derive(Drop)]
-pub struct Short<'a> {
-    /// What is left of the text.
-    pub rest: &'a [u8],
-    piece: usize,
-    room: usize,
-    /// Whether it was given anything else.
-    pub differs: bool,
-    faults: Counter,
-}
-
-impl<'a> Short<'a> {
-    pub fn new(text: &'a [u8], piece: usize, room: usize) -> Short<'a> {
-        Short {
-            rest: text,
-            piece,
-            room,
-            differs: false,
-            faults: Counter::new(),
-        }
-    }
-}
-
-impl Sink for Short<'_> {
-    ghost contents = { λ _. None };
-
-    ghost faults = { λ s. s.faults };
-
-    fn put(&mut self, bytes: &[u8]) -> Result<usize, SinkFault> {
-        let n = bytes.len().min(self.piece).min(self.room);
-        if n == 0 {
-            self.faults.tick();
-            return Err(SinkFault);
-        }
-        let taken = &bytes[..n];
-        if !self.rest.starts_with(taken) {
-            self.differs = true;
-        }
-        self.rest = self.rest.get(n..).unwrap_or(&[]);
-        self.room = self.room.saturating_sub(n);
-        Ok(n)
-    }
-}
-
 /// What a command answers, where a source of these bytes refuses all reads after the first few.
 pub fn answer_into<F: Flash>(
     rt: &impl Abort,
@@ -112,10 +65,12 @@ pub fn answer_into<F: Flash>(
     command: &Command,
     bytes: &[u8],
     reads: u64,
-    out: &mut Short<'_>,
+    out: &mut WriteSink<Short<'_>>,
 ) -> Result<(), Refusal> {
     let mut source = FailSource::new(source_of(rt, bytes), reads);
-    run(paged, command, &mut source, out)
+    let answer = run(paged, command, &mut source, out);
+    drop(source);
+    answer
 }
 
 /// The same, into a sink that takes nothing.
@@ -126,7 +81,7 @@ fn answer_of<F: Flash>(
     bytes: &[u8],
     reads: u64,
 ) -> Result<(), Refusal> {
-    answer_into(rt, paged, command, bytes, reads, &mut Short::new(&[], 0, 0))
+    answer_into(rt, paged, command, bytes, reads, &mut writer(0, 0, &[]))
 }
 
 /// What a command leaves that is stopped, with a source of these bytes, and answers this.
@@ -168,7 +123,9 @@ fn adds<F: Flash>(
     let region = region_of(rt, paged);
     let mut source = source_of(rt, content);
     let plain = HashChoice::Plain;
-    add(paged, region, name, 0x50, plain, spot, &mut source).err()
+    let answer = add(paged, region, name, 0x50, plain, spot, &mut source);
+    drop(source);
+    answer.err()
 }
 
 fn removes<F: Flash>(rt: &impl Abort, paged: &mut Paged<F>, name: &[u8]) -> Option<EditFault> {
@@ -194,19 +151,14 @@ pub fn does<F: Flash>(rt: &impl Abort, paged: &mut Paged<F>, deed: Deed) -> Resu
     }
 }
 
-/// All components of the region COREBOOT.
-fn components_of(rt: &(impl Abort + AllocGlobal), device: MemFlash) -> Vec<u8> {
-    components(rt, device, START, SIZE)
-}
-
 /// Whether these are the components of a region that holds that.
 fn are_those(rt: &(impl Abort + AllocGlobal), found: &[u8], held: Held) -> bool {
-    components_of(rt, device_of(rt, held)).as_slice() == found
+    components(rt, device_of(rt, held), START, SIZE).as_slice() == found
 }
 
 /// The region has the components that it has where it holds the one or the other.
 pub fn leaves(rt: &(impl Abort + AllocGlobal), device: MemFlash, one: Held, other: Held) {
-    let found = components_of(rt, device);
+    let found = components(rt, device, START, SIZE);
     let is_left = are_those(rt, &found, one) || are_those(rt, &found, other);
     assert!(rt; is_left);
 }
@@ -220,7 +172,7 @@ pub fn has_finished(
     device: MemFlash,
 ) -> bool {
     if answer.is_ok() {
-        holds(rt, &device, after(deed));
+        holds(rt, device, after(deed));
         return true;
     }
     equal(rt, &answer, &Err(Refusal::Device));

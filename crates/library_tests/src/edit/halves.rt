@@ -1,8 +1,8 @@
 //! An image whose region takes several pieces, from a source and on a device that stop at each call in turn.
 
 use crate::edit::deeds::{COREBOOT, RUN_ADD, stopped};
-use crate::edit::support::{Stop, components, image_with};
-use crate::support::{ALL, Parts, device_from, filled, same_bytes};
+use crate::edit::support::{Stop, components};
+use crate::support::{ALL, Parts, device_from, ends_with, filled, image_with, same_bytes};
 use cbfs_commands::{Command, Refusal};
 use flash_store::MemFlash;
 use std::process::Abort;
@@ -58,11 +58,7 @@ fn writes(
 ) {
     let device = stopped(rt, device(rt), &WRITE, bytes, stop, want);
     let written = bytes.get(..n).unwrap_or(bytes);
-    same_bytes(
-        rt,
-        device.bytes(),
-        &halves(rt, &[(0, &LAST_16384), (0, written)]),
-    );
+    ends_with(rt, device, halves(rt, &[(0, &LAST_16384), (0, written)]));
 }
 
 /// The source refuses its reads after the first few.
@@ -154,7 +150,7 @@ fn stops(rt: &(impl Abort + AllocGlobal), bytes: &[u8], reads: u64) {
 fn finishes(rt: &(impl Abort + AllocGlobal), bytes: &[u8], reads: u64) {
     let device = adds(rt, bytes, reads, &Ok(()));
     let parts: Parts = &[(0, &B_9000), (28, bytes), (9088, &LAST_7296)];
-    same_bytes(rt, device.bytes(), &halves(rt, parts));
+    ends_with(rt, device, halves(rt, parts));
 }
 
 /// Each of three reads is refused in turn.

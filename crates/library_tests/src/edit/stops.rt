@@ -3,7 +3,7 @@
 
 use crate::edit::deeds::{Deed, before, does, has_finished};
 use crate::edit::support::{Held, LEN, Stop, device_of, image_of, region_of, source_of, stopping};
-use crate::support::{ALL, equal};
+use crate::support::{ALL, device_from, equal};
 use cbfs_edit::{EditFault, HashChoice, Spot, add};
 use flash_store::{Ahead, Erased, FlakyFile, Flash, MemFlash, Paged, StoredFlash};
 use std::process::Abort;
@@ -24,13 +24,15 @@ fn on_device(rt: &(impl Abort + AllocGlobal), deed: Deed, k: u64, part: usize) -
 
 /// Stops it at each call in turn, until one call more lets it finish. It doesn't finish without a call.
 fn stop_each(rt: &(impl Abort + AllocGlobal), deed: Deed, part: usize) {
+    // 0 stands for none.
+    let mut finished = 0;
     for k in 0..20 {
         if on_device(rt, deed, k, part) {
-            assert!(rt; k > 0);
-            return;
+            finished = k;
+            break;
         }
     }
-    panic!(rt; "an edit has not finished");
+    assert!(rt; finished > 0);
 }
 
 /// Stops all edits, where this part of the first refused write is written.
@@ -61,7 +63,9 @@ fn fault_of<F: Flash>(
     let region = region_of(rt, paged);
     let mut source = source_of(rt, b"");
     let plain = HashChoice::Plain;
-    add(paged, region, name, kind, plain, spot, &mut source).err()
+    let answer = add(paged, region, name, kind, plain, spot, &mut source);
+    drop(source);
+    answer.err()
 }
 
 /// An addition to a device that refuses every call is refused so.
@@ -79,6 +83,7 @@ fn refused_at_once(
     };
     let mut paged = stopping(device_of(rt, Held::Fresh), stop);
     equal(rt, &fault_of(rt, &mut paged, name, kind, spot), &Some(want));
+    drop(paged);
 }
 
 #[test]
@@ -105,27 +110,37 @@ fn flaky(rt: &(impl Abort + AllocGlobal), held: Held, calls: Calls, made: u64) -
     FlakyFile::new(image, calls.most, calls.between, made)
 }
 
+/// A device in a file, as one in a file of the system is.
+type InFile = Paged<StoredFlash<Ahead<Erased<FlakyFile>>>>;
+
+fn in_file(file: FlakyFile) -> InFile {
+    Paged::new(StoredFlash::new(Ahead::new(Erased::new(file))))
+}
+
+/// A device in memory with the bytes that the file has then.
+fn left_in(rt: &(impl Abort + AllocGlobal), paged: InFile) -> MemFlash {
+    let file = paged.into_flash().into_inner().into_inner().into_inner();
+    device_from(rt, file.bytes().to_vec(rt.alloc()).expect(rt, "memory"))
+}
+
 /// Does this on a file that makes so many calls. Answers whether it has finished.
 fn on_file(rt: &(impl Abort + AllocGlobal), deed: Deed, calls: Calls, made: u64) -> bool {
-    let file = flaky(rt, before(deed), calls, made);
-    // as one in a file of the system is
-    let mut paged = Paged::new(StoredFlash::new(Ahead::new(Erased::new(file))));
+    let mut paged = in_file(flaky(rt, before(deed), calls, made));
     let answer = does(rt, &mut paged, deed);
-    let file = paged.into_flash().into_inner().into_inner().into_inner();
-    let left = file.bytes().to_vec(rt.alloc()).expect(rt, "memory");
-    let device = MemFlash::new(left).expect(rt, "a device");
-    has_finished(rt, deed, answer, device)
+    has_finished(rt, deed, answer, left_in(rt, paged))
 }
 
 /// Stops it at each call of the file in turn, until one call more lets it finish. It doesn't finish without a call.
 fn stop_each_of(rt: &(impl Abort + AllocGlobal), deed: Deed, calls: Calls) {
+    // 0 stands for none.
+    let mut finished = 0;
     for made in 0..2000 {
         if on_file(rt, deed, calls, made) {
-            assert!(rt; made > 0);
-            return;
+            finished = made;
+            break;
         }
     }
-    panic!(rt; "an edit has not finished");
+    assert!(rt; finished > 0);
 }
 
 fn stop_all_of(rt: &(impl Abort + AllocGlobal), most: usize, between: u64) {

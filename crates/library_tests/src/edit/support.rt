@@ -1,7 +1,7 @@
 //! A small image with a region, and what the tests of edits share.
 ghost use Rattle.flash_device.specs.Regions.{LiesIn};
 
-use crate::support::{Failing, Parts, device_from, filled, same_bytes, write_over};
+use crate::support::{Failing, Parts, device_from, ends_with, image_with};
 use cbfs_walk::{Cell, Step, Walk};
 use flash_store::{FailAt, Flash, MemFlash, MemSource, Paged, Region};
 use std::alloc::AllocError;
@@ -116,22 +116,6 @@ fn parts_of(held: Held) -> Parts<'static> {
     }
 }
 
-/// An image of so many bytes with this map, and these parts from `start` on; 0xff stands elsewhere.
-pub fn image_with(
-    rt: &(impl Abort + AllocGlobal),
-    len: usize,
-    map: &[u8],
-    start: usize,
-    parts: Parts,
-) -> Vec<u8> {
-    let mut image = filled(rt, 0xff, len);
-    write_over(&mut image, 0, map);
-    for (at, part) in parts {
-        write_over(&mut image, at.saturating_add(start), part);
-    }
-    image
-}
-
 /// The image whose region holds that.
 pub fn image_of(rt: &(impl Abort + AllocGlobal), held: Held) -> Vec<u8> {
     image_with(rt, LEN, &MAP, START, parts_of(held))
@@ -156,8 +140,8 @@ pub fn stopping(device: MemFlash, stop: Stop) -> Failing {
 }
 
 /// A device has this image.
-pub fn holds(rt: &(impl Abort + AllocGlobal), device: &MemFlash, held: Held) {
-    same_bytes(rt, device.bytes(), &image_of(rt, held));
+pub fn holds(rt: &(impl Abort + AllocGlobal), device: MemFlash, held: Held) {
+    ends_with(rt, device, image_of(rt, held));
 }
 
 /// A part of a device.
@@ -206,8 +190,7 @@ fn walk_on(
                 let bytes = paged.flash().bytes();
                 put_down(told, &cell, bytes.get(start..).unwrap_or(&[]))?
             }
-            Ok(Step::Tail(_)) => return Ok(true),
-            Ok(Step::End) => return Ok(true),
+            Ok(Step::Tail(_) | Step::End) => return Ok(true),
             Err(_) => return Ok(false),
         }
     }
@@ -225,5 +208,6 @@ pub fn components(
     let mut told = Vec::new(rt.alloc());
     let ends = walk_on(&mut Walk::new(region), &mut paged, start, &mut told).expect(rt, "memory");
     assert!(rt; ends);
+    drop(paged);
     told
 }

@@ -48,15 +48,6 @@ fn told_between(
     }
 }
 
-fn has(
-    rt: &(impl Abort + AllocGlobal),
-    old: &mut Failing,
-    new: &mut Failing,
-    expected: &Result<(u32, usize), ChangeFault>,
-) {
-    equal(rt, &told_between(rt, old, new), expected);
-}
-
 /// A device of two blocks that begins with these bytes.
 fn beginning(rt: &(impl Abort + AllocGlobal), bytes: &[u8], calls: u64) -> Failing {
     failing(rt, 8192, &[(0, bytes)], calls)
@@ -72,7 +63,9 @@ fn told_after(
 ) {
     let mut old = beginning(rt, b"", old_calls);
     let mut new = beginning(rt, b"x", new_calls);
-    has(rt, &mut old, &mut new, &expected);
+    equal(rt, &told_between(rt, &mut old, &mut new), &expected);
+    drop(old);
+    drop(new);
 }
 
 #[test]

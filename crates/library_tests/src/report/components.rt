@@ -48,17 +48,6 @@ fn told_of(
     }
 }
 
-fn has(
-    rt: &(impl Abort + AllocGlobal + RandomSource),
-    old: &mut Failing,
-    old_size: u64,
-    new: &mut Failing,
-    new_size: u64,
-    expected: &Result<&'static str, ChangeFault>,
-) {
-    equal(rt, &told_of(rt, old, old_size, new, new_size), expected);
-}
-
 /// A device of 5056 bytes with the component, whose content ends with this; its first calls pass, and all later ones are
 /// refused.
 fn device(rt: &(impl Abort + AllocGlobal), end: &[u8], calls: u64) -> Failing {
@@ -76,7 +65,10 @@ fn tells(
 ) {
     let mut old = device(rt, b"", old_calls);
     let mut new = device(rt, b"x", new_calls);
-    has(rt, &mut old, old_size, &mut new, new_size, &expected);
+    let told = told_of(rt, &mut old, old_size, &mut new, new_size);
+    equal(rt, &told, &expected);
+    drop(old);
+    drop(new);
 }
 
 #[test]

@@ -1,21 +1,14 @@
 //! The map of a small image, and a device that fails at each of its first calls.
 use crate::report::support::{count, image};
-use crate::support::{ALL, Failing, equal};
+use crate::support::{ALL, equal};
 use flashmap_check::{MapCheckFault, check_map};
 use std::process::Abort;
 
-/// So many findings are told.
-fn has(
-    rt: &(impl Abort + AllocGlobal),
-    paged: &mut Failing,
-    expected: &Result<usize, MapCheckFault>,
-) {
-    equal(rt, &count(check_map(rt.alloc(), paged)), expected);
-}
-
-/// Where all calls behind the first ones are refused, this is told.
+/// Where all calls behind the first ones are refused, so many findings are told.
 fn told_after(rt: &(impl Abort + AllocGlobal), calls: u64, expected: Result<usize, MapCheckFault>) {
-    has(rt, &mut image(rt, b"", calls), &expected);
+    let mut paged = image(rt, b"", calls);
+    equal(rt, &count(check_map(rt.alloc(), &mut paged)), &expected);
+    drop(paged);
 }
 
 #[test]

@@ -1,30 +1,23 @@
 //! A region of one component, and a device that fails.
 use crate::report::support::{ONE, count, keys};
-use crate::support::{ALL, Failing, equal, failing};
+use crate::support::{ALL, equal, failing};
 use cbfs_check::{RegionCheckFault, check_region};
 use flash_store::Region;
 use std::process::Abort;
 use std::random::RandomSource;
 
-/// A check of the whole of a device tells so many findings.
-fn has(
-    rt: &(impl Abort + AllocGlobal + RandomSource),
-    paged: &mut Failing,
-    expected: &Result<usize, RegionCheckFault>,
-) {
-    let len = paged.len();
-    let region = Region::within(0, len, len).expect(rt, "a region");
-    let told = count(check_region(rt.alloc(), keys(rt), paged, region, true));
-    equal(rt, &told, expected);
-}
-
-/// Where all calls behind the first ones are refused, this is told.
+/// A check of the whole of a device tells so many findings, where all calls behind the first ones are refused.
 fn told_after(
     rt: &(impl Abort + AllocGlobal + RandomSource),
     calls: u64,
     expected: Result<usize, RegionCheckFault>,
 ) {
-    has(rt, &mut failing(rt, 64, &[(0, &ONE)], calls), &expected);
+    let mut paged = failing(rt, 64, &[(0, &ONE)], calls);
+    let len = paged.len();
+    let region = Region::within(0, len, len).expect(rt, "a region");
+    let told = count(check_region(rt.alloc(), keys(rt), &mut paged, region, true));
+    equal(rt, &told, &expected);
+    drop(paged);
 }
 
 // That the component has no digest, that the cells fill the region, and the counts.

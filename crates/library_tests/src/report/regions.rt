@@ -46,15 +46,6 @@ fn told_between(
     count(region_changes(rt.alloc(), keys(rt), old, &AREAS, new, &checked.findings))
 }
 
-fn has(
-    rt: &(impl Abort + AllocGlobal + RandomSource),
-    old: &mut Failing,
-    new: &mut Failing,
-    expected: &Result<usize, ChangeFault>,
-) {
-    equal(rt, &told_between(rt, old, new), expected);
-}
-
 /// What is told where the device with the old image refuses its call of this number, counted from 0, and that with the new
 /// one its call of that number, of which the first seven check the image and leave the first piece at hand.
 fn told_after(
@@ -65,7 +56,9 @@ fn told_after(
 ) {
     let mut old = with_both(rt, old);
     let mut new = with_both(rt, new);
-    has(rt, &mut old, &mut new, &expected);
+    equal(rt, &told_between(rt, &mut old, &mut new), &expected);
+    drop(old);
+    drop(new);
 }
 
 #[test]

@@ -40,6 +40,7 @@ fn is_refused(rt: &impl Abort, answer: Result<Answer, ReportFault>, fault: Repor
 fn a_report_on_a_device_that_refuses_a_read(rt: HostRuntime) {
     let mut paged = image(&rt, b"", 0);
     is_refused(&rt, of_image(&rt, &mut paged), ReportFault::NewDevice);
+    drop(paged);
 }
 
 /// There is no report on what changes, for this reason.
@@ -52,6 +53,8 @@ fn refuses_change(
     let mut old = image(rt, b"", old_calls);
     let mut new = image(rt, b"", new_calls);
     is_refused(rt, of_change(rt, &mut old, &mut new), fault);
+    drop(old);
+    drop(new);
 }
 
 #[test]

@@ -4,7 +4,7 @@ ghost use Rattle.std.specs.Prelude.{◌≡◌, false};
 ghost use Rattle.flash_format.specs.Head.{is_free};
 ghost use Rattle.cbfs_walk.specs.Cells.{IsCellIn};
 
-use crate::support::{Failing, Parts, device_with, equal, failing};
+use crate::support::{Parts, device_with, equal, failing};
 use crate::walk::walks::whole;
 use cbfs_walk::{Cell, HashState, check_hash, find};
 use flash_format::Digest;
@@ -31,24 +31,18 @@ fn hashed(rt: &(impl Abort + AllocGlobal)) -> (Region, Cell)
     let mut paged = Paged::new(device_with(rt, 4544, PARTS));
     let region = whole(rt, &paged);
     let cell = find(&mut paged, region, b"h").expect(rt, "a search");
+    drop(paged);
     (region, cell.expect(rt, "a component"))
 }
 
-/// The component on another device that holds it has this state.
-fn has_state(
-    rt: &(impl Abort + AllocGlobal),
-    paged: &mut Failing,
-    want: &Result<HashState, FlashFault>,
-) {
+/// The component on another device that holds it has this state, where its calls after the first few fail.
+fn fails_after(rt: &(impl Abort + AllocGlobal), calls: u64, want: &Result<HashState, FlashFault>) {
+    let mut paged = failing(rt, 4544, PARTS, calls);
     let (region, cell) = hashed(rt);
     let end = region.start().checked_add(region.size());
     assert!(rt; end.expect(rt, "an end") <= paged.len());
-    equal(rt, &check_hash(paged, region, &cell), want);
-}
-
-/// So it is where its calls after the first few fail.
-fn fails_after(rt: &(impl Abort + AllocGlobal), calls: u64, want: &Result<HashState, FlashFault>) {
-    has_state(rt, &mut failing(rt, 4544, PARTS, calls), want);
+    equal(rt, &check_hash(&mut paged, region, &cell), want);
+    drop(paged);
 }
 
 #[test]

@@ -23,6 +23,7 @@ fn areas_are_those_of_the_map(rt: HostRuntime) {
     equal(&rt, &place_of(&mut paged, b"COREBOOT"), &Ok((0x200, 0xe00)));
     let none = Err(StoreFault::NoRegion);
     equal(&rt, &place_of(&mut paged, b"COREBOOT\0"), &none);
+    drop(paged);
 }
 
 fn place_of(paged: &mut Paged<MemFlash>, word: &[u8]) -> Result<(u64, u64), StoreFault> {
@@ -36,10 +37,9 @@ const NUMBERED: [u8; 100] =
 
 #[test]
 fn what_is_read_after_a_write_is_what_the_device_holds(rt: HostRuntime) {
-    write_each(
-        &rt,
-        &mut Paged::new(device_with(&rt, 9000, &[(100, &NUMBERED)])),
-    );
+    let mut paged = Paged::new(device_with(&rt, 9000, &[(100, &NUMBERED)]));
+    write_each(&rt, &mut paged);
+    drop(paged);
 }
 
 /// Writes in each way into the window that the check before has loaded.
@@ -57,34 +57,34 @@ fn write_each(rt: &impl Abort, paged: &mut Paged<MemFlash>) {
 
 fn push_six(rt: &impl Abort, paged: &mut Paged<MemFlash>) {
     assert!(rt; paged.len() == 9000);
-    assert!(rt; paged.pull(&mut MemSource::new(b"pushed"), 0, 6).is_ok());
-    assert!(rt; paged.push(110).is_ok());
+    let mut source = MemSource::new(b"pushed");
+    assert!(rt; paged.pull(&mut source, 0, 6).is_ok());
+    drop(source);
+    equal(rt, &paged.push(110).is_ok(), &true);
 }
 
 fn commit_two(rt: &impl Abort, paged: &mut Paged<MemFlash>) {
     assert!(rt; paged.len() == 9000);
-    assert!(rt; paged.commit(110, &[2; HEADER_LENGTH]).is_ok());
+    equal(rt, &paged.commit(110, &[2; HEADER_LENGTH]).is_ok(), &true);
 }
 
 fn fill_seven(rt: &impl Abort, paged: &mut Paged<MemFlash>) {
     assert!(rt; paged.len() == 9000);
-    assert!(rt; paged.fill(110, 5, 7).is_ok());
+    equal(rt, &paged.fill(110, 5, 7).is_ok(), &true);
 }
 
 fn copy_six(rt: &impl Abort, paged: &mut Paged<MemFlash>) {
     assert!(rt; paged.len() == 9000);
-    assert!(rt;
-        paged
-            .copy_in(110, 6, &mut MemSource::new(b"copied"))
-            .is_ok()
-    );
+    let mut source = MemSource::new(b"copied");
+    equal(rt, &paged.copy_in(110, 6, &mut source).is_ok(), &true);
+    drop(source);
 }
 
 /// A read gives these bytes from 110 on, and after them what the device holds.
 fn agrees(rt: &impl Abort, paged: &mut Paged<MemFlash>, written: &[u8]) {
     let mut seen = [0; 100];
     assert!(rt; paged.len() == 9000);
-    assert!(rt; paged.read_small(110, &mut seen).is_ok());
+    equal(rt, &paged.read_small(110, &mut seen).is_ok(), &true);
     same_bytes(rt, seen.get(..written.len()).unwrap_or(&[]), written);
     let held = paged.flash().bytes().get(110..210).unwrap_or(&[]);
     same_bytes(rt, held, &seen);
@@ -108,6 +108,7 @@ fn a_source_in_a_file_moves_all(rt: HostRuntime) {
     let mut source = StoredSource::new(flaky(&rt, 7, 1000));
     let mut seen = [0; 100];
     equal(&rt, &reads(&rt, &mut source, &mut seen), &true);
+    drop(source);
     same_bytes(&rt, &seen, &NUMBERED);
 }
 
@@ -116,6 +117,7 @@ fn a_source_in_a_file_moves_all(rt: HostRuntime) {
 fn a_source_in_a_file_that_gives_nothing_is_refused(rt: HostRuntime) {
     let mut source = StoredSource::new(flaky(&rt, 0, 1000));
     equal(&rt, &reads(&rt, &mut source, &mut [0; 100]), &false);
+    drop(source);
 }
 
 #[test]
@@ -129,12 +131,17 @@ fn a_file_is_erased(rt: HostRuntime) {
     same_bytes(&rt, device.into_inner().into_inner().bytes(), &wanted);
 }
 
+/// Writes bytes that end inside the file.
+fn write_part(rt: &impl Abort, device: &mut StoredFlash<Erased<FlakyFile>>, at: u64, bytes: &[u8]) {
+    assert!(rt; device.len() == 100 && at <= 50 && bytes.len() <= 50);
+    equal(rt, &device.write_at(at, bytes).is_ok(), &true);
+}
+
 /// Writes over 0xff, and 0xff over the first byte of that again.
 fn write_parts(rt: &impl Abort, device: &mut StoredFlash<Erased<FlakyFile>>) {
-    assert!(rt; device.len() == 100);
-    assert!(rt; device.write_at(10, &[0xff; 50]).is_ok());
-    assert!(rt; device.write_at(30, b"new").is_ok());
-    assert!(rt; device.write_at(20, &[0xff; 11]).is_ok());
+    write_part(rt, device, 10, &[0xff; 50]);
+    write_part(rt, device, 30, b"new");
+    write_part(rt, device, 20, &[0xff; 11]);
 }
 
 #[test]

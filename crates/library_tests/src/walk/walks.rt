@@ -137,6 +137,7 @@ fn a_walk_over_lies_ends(rt: HostRuntime) {
     let end = Err(damaged(16256, DamageKind::Extent));
     answers(&rt, &mut walk, &mut paged, &[end]);
     equal(&rt, &walk.steps(), &106);
+    drop(paged);
 }
 
 /// A long component, one whose head ends a buffer and whose name is in the next, and free space: two calls to read.
@@ -162,6 +163,8 @@ fn goes_on(rt: &(impl Abort + AllocGlobal), calls: u64, first: &[Answer], then: 
     let mut stopped = failing(rt, 4544, LONGER, calls);
     let mut sound = failing(rt, 4544, LONGER, ALL);
     walk_both(rt, &mut stopped, first, &mut sound, then);
+    drop(stopped);
+    drop(sound);
 }
 
 fn walk_both(
@@ -190,17 +193,6 @@ fn a_walk_goes_on_after_each_fault(rt: HostRuntime) {
     goes_on(&rt, 2, &[long, wide, free, end], &[end]);
 }
 
-/// A search answers this.
-fn finds(
-    rt: &impl Abort,
-    paged: &mut Failing,
-    name: &[u8],
-    want: &Result<Option<Cell>, WalkFault>,
-) {
-    let region = whole(rt, paged);
-    equal(rt, &find(paged, region, name), want);
-}
-
 /// A search of a device whose calls after the first few fail answers this.
 fn searches(
     rt: &(impl Abort + AllocGlobal),
@@ -208,7 +200,10 @@ fn searches(
     name: &[u8],
     want: &Result<Option<Cell>, WalkFault>,
 ) {
-    finds(rt, &mut failing(rt, 4544, LONGER, calls), name, want);
+    let mut paged = failing(rt, 4544, LONGER, calls);
+    let region = whole(rt, &paged);
+    equal(rt, &find(&mut paged, region, name), want);
+    drop(paged);
 }
 
 #[test]
