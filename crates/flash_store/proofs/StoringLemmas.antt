@@ -1,14 +1,14 @@
 -- Bytes that are moved some at a time.
-use Rattle.std.proofs.Common.{◌≡◌, ◌⊎◌, ◌∙◌, sym, ap, subst, take-add, IsTrue, Bool, true, ℕ, ◌+◌, ◌-◌, ◌≤◌, List, length, take, drop, arith, ◌++◌, length-append, length-take, length-drop, replicate, refl, inl, inr}
+use Rattle.std.proofs.Common.{◌≡◌, ◌⊎◌, ◌∙◌, sym, ap, subst, take-add, IsTrue, Bool, ℕ, ◌+◌, ◌-◌, ◌≤◌, List, length, take, drop, arith, ◌++◌, length-append, length-take, length-drop, replicate, refl, inl, inr}
 use Rattle.std.proofs.lemmas.List.{length-take-le, take_rest, drop-drop, length-replicate, take-replicate, replicate-append-replicate, drop-replicate, take-take, drop-take, take-append-le}
 use Rattle.std.proofs.lemmas.Slice.{take-put_mid}
 use Rattle.std.proofs.Math.Seq.{take-append-add, take-length}
 use borrow.Rule.Slice.PartMut.{put_mid}
 use Rattle.flash_format.specs.Made.{header_length}
 use Rattle.flash_device.specs.Device.{overwritten, SameOutside}
-use Rattle.flash_store.specs.Storing.{Stored, SameFile, SameBytes, HasReadSome, HasWrittenSome, IsErased}
+use Rattle.flash_store.specs.Storing.{Stored, SameFile, SameBytes, HasRoom, HasReadSome, HasWrittenSome, IsErased}
 use Rattle.std.specs.Prelude.{slice_range, Result, Ok, Err}
-use Rattle.flash_device.proofs.BytesLemmas.{nearer, further, slice_range_is, part_of_window, overwritten_is, length-overwritten, SameOutside-overwritten}
+use Rattle.flash_device.proofs.BytesLemmas.{nearer, further, slice_range_is, part_of_window, overwritten_is, length-overwritten, overwritten-range, overwritten-same, SameOutside-overwritten}
 
 -- a file is as faithful as it was
 pub faithful_still : {old new : Bool} → new ≡ old → IsTrue old → IsTrue new
@@ -113,17 +113,45 @@ front_read at n old new (Ok k) part rest room r = record {
 }
 front_read at n old new (Err fault) part rest room r = record { after = r.after; short = r.short; read = r.read }
 
+-- bytes that are there already are there if only some of them are written
+pub same-first : (x : List ℕ) (at k : ℕ) (bytes : List ℕ) → at + length bytes ≤ length x → k ≤ length bytes
+    → overwritten x at bytes ≡ x → overwritten x at (take k bytes) ≡ x
+same-first x at k bytes inside short same =
+    let n = length bytes in
+    let there : slice_range x at (at + n) ≡ bytes = ap (λ y. slice_range y at (at + n)) (sym same) ∙ overwritten-range x at bytes (omega (arith, inside)) in
+    let first : take k bytes ≡ slice_range x at (at + k) =
+    ap (take k) (sym there ∙ slice_range_is x at n) ∙ take-take k n (drop at x) short ∙ sym (slice_range_is x at k) in
+    ap (overwritten x at) first ∙ overwritten-same x at k (omega (arith, inside, short))
+
+-- what contracts see of a file whose parts are alike
+pub stored_alike : {x y : List ℕ} {faith : Bool} {a b m n : ℕ} → x ≡ y → a ≡ b → m ≡ n →
+    ◌≡◌ {A = Stored} (record { content = x; faithful = faith; written_at = a; written_len = m })
+    (record { content = y; faithful = faith; written_at = b; written_len = n })
+stored_alike same place count = rw (same, place, count) refl
+
+-- bytes that were read are there
+pub there-again : (old mid out : List ℕ) (at n : ℕ) → at + n ≤ length old → out ≡ slice_range old at (at + n) → mid ≡ old
+    → overwritten mid at out ≡ mid
+there-again old mid out at n inside read same =
+    ap (λ x. overwritten x at out) same ∙ ap (overwritten old at) read ∙ overwritten-same old at n inside ∙ sym same
+
 -- what a write of the first k bytes leaves of a faithful file, behind a call that left them as they were
-pub written_some : {E : Type 0} (old mid new : List ℕ) (at : ℕ) (bytes : List ℕ) (k : ℕ) → at + length bytes ≤ length old → k ≤ length bytes
-    → (length bytes ≤ header_length → k ≡ length bytes) → mid ≡ old → new ≡ overwritten mid at (take k bytes)
-    → HasWrittenSome {E = E} at bytes (record { content = old; faithful = true }) (record { content = new; faithful = true }) (Ok k)
-written_some old mid new at bytes k inside short whole kept now =
+pub written_some : {E : Type 0} (old new : Stored) (mid : List ℕ) (at : ℕ) (bytes : List ℕ) (k : ℕ)
+    → at + length bytes ≤ length old.content → k ≤ length bytes
+    → (length bytes ≤ header_length → HasRoom at (length bytes) old → k ≡ length bytes)
+    → mid ≡ old.content → new.content ≡ overwritten mid at (take k bytes) → new.faithful ≡ old.faithful
+    → new.written_at ≡ at → new.written_len ≡ length (take k bytes)
+    → HasWrittenSome {E = E} at bytes old new (Ok k)
+written_some old new mid at bytes k inside short whole kept now faith place count =
     let size : length (take k bytes) ≡ k = length-take-le k bytes short in
-    let over : new ≡ overwritten old at (take k bytes) = now ∙ ap (λ x. overwritten x at (take k bytes)) kept in
+    let x = old.content in
+    let over : new.content ≡ overwritten x at (take k bytes) = now ∙ ap (λ y. overwritten y at (take k bytes)) kept in
     record {
-      after = record { same_faith = refl; same_length = ap length over ∙ length-overwritten old at (take k bytes) (omega (arith, size, inside, short)) };
+      after = record { same_faith = faith; same_length = ap length over ∙ length-overwritten x at (take k bytes) (omega (arith, size, inside, short)) };
       short = short;
       written = λ h. over;
-      torn = λ h. rw over (SameOutside-overwritten old at (length bytes) (take k bytes) (omega (arith, size, short)) (omega (arith, inside)));
-      whole = λ h small. inr (over ∙ ap (overwritten old at) (ap (λ n. take n bytes) (whole small) ∙ take-length bytes));
+      torn = λ h. rw over (SameOutside-overwritten x at (length bytes) (take k bytes) (omega (arith, size, short)) (omega (arith, inside)));
+      same = λ h there. over ∙ same-first x at k bytes inside short there;
+      whole = λ h small room. inr (over ∙ ap (overwritten x at) (ap (λ n. take n bytes) (whole small room) ∙ take-length bytes));
+      room = λ h small all. record { place = place; count = count ∙ size ∙ all };
     }

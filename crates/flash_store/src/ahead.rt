@@ -59,6 +59,11 @@ impl<S: Storage> Ahead<S> {
         storage
     }
 
+    /// The other file, as it is.
+    pub fn storage(&self) -> &S {
+        &self.storage
+    }
+
     /// What the window holds from `at` on.
     fn held_from(&self, at: u64) -> &[u8]
         ensures { IsTrue self.now.faithful →

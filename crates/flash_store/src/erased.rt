@@ -1,10 +1,11 @@
 //! A file of which it is known what is still erased.
-ghost use Rattle.std.specs.Prelude.{◌≡◌, ◌⊎◌, ◌+◌, ◌≤◌, IfOk, IsTrue, length, replicate, slice_range};
+ghost use Rattle.std.specs.Prelude.{◌≡◌, ◌⊎◌, ◌+◌, ◌<◌, ◌≤◌, IfOk, IsTrue, length, replicate, slice_range};
 ghost use Rattle.flash_store.specs.Storing.{SameFile, SameBytes, IsErased};
 
 use crate::storage::{Storage, StorageFault};
 use crate::transfer::{read_front, write_whole};
 use flash_device::PIECE;
+use flash_format::HEADER_LENGTH;
 use std::marker::Model;
 
 /// How many bytes of a new file are written at once.
@@ -19,8 +20,9 @@ const UNSEEN: u32 = 15;
 /// Bytes of the erase value.
 const ERASED: [u8; MANY] = [0xff; MANY];
 
-/// A file with a stretch in which each byte is 0xff. A write of such bytes inside it makes no call, since it changes
-/// nothing; before one outside it is made, the file is looked at.
+/// A file with a stretch in which each byte is 0xff. A write of more than a header's length of such bytes
+/// inside it makes no call, since it changes nothing; before one outside it is made, the file is read
+/// there. A shorter write is always made: it may be the one that gives a header room in each block.
 #[derive(Drop)]
 pub struct Erased<S: Storage> {
     storage: S,
@@ -86,6 +88,11 @@ impl<S: Storage> Erased<S> {
         storage
     }
 
+    /// The other file, as it is.
+    pub fn storage(&self) -> &S {
+        &self.storage
+    }
+
     /// Whether 0xff is to be written where the file is seen to have it; then what is seen is the stretch from then on.
     /// The more is seen to be erased, the more is looked at; where something else is seen, the next writes aren't spared.
     fn looks_erased(&mut self, at: u64, bytes: &[u8]) -> bool
@@ -94,8 +101,9 @@ impl<S: Storage> Erased<S> {
         ensures after { SameBytes self.old self.new }
         ensures same { IsTrue result → IsTrue self.old.faithful →
             slice_range self.old.content at (at + length bytes.now) ≡ bytes.now }
+        ensures long { IsTrue result → HEADER_LENGTH < length bytes.now }
     {
-        if bytes.len() > MANY || !is_erased(bytes) {
+        if bytes.len() <= HEADER_LENGTH || bytes.len() > MANY || !is_erased(bytes) {
             return false;
         }
         if self.unseen > 0 {
@@ -116,14 +124,15 @@ impl<S: Storage> Erased<S> {
 
     /// Whether it is known that these bytes stand from `at` on.
     fn has(&self, at: u64, bytes: &[u8]) -> bool
-        ensures { IsTrue result → IsTrue self.now.faithful →
+        ensures same { IsTrue result → IsTrue self.now.faithful →
             slice_range self.now.content at (at + length bytes.now) ≡ bytes.now }
+        ensures long { IsTrue result → HEADER_LENGTH < length bytes.now }
     {
         let n = bytes.len();
-        if at < self.from || at > self.to || n as u64 > self.to - at || n > MANY {
+        if at < self.from || at > self.to || n as u64 > self.to - at {
             return false;
         }
-        is_erased(bytes)
+        n > HEADER_LENGTH && n <= MANY && is_erased(bytes)
     }
 }
 

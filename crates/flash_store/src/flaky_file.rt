@@ -1,13 +1,19 @@
 //! A file in memory for tests, which moves few bytes a call, is interrupted, and at last refuses.
 ghost use Rattle.std.specs.Prelude.{◌≡◌, ◌+◌, ◌-◌, ◌^◌, ◌<◌, ◌≤◌, Err, length, true, IsOk};
 ghost use Rattle.flash_device.specs.Device.{overwritten};
+ghost use Rattle.flash_store.specs.Storing.{HasRoom, stored};
 
 use crate::storage::{Storage, StorageFault};
 use flash_format::HEADER_LENGTH;
 use std::marker::Model;
 
-/// A faithful file over bytes that it owns, fewer than 2^32. A call moves at most `most` bytes, but a write of no more
-/// than a header moves all; after each `between` calls one is interrupted; and after `left` calls all are refused.
+/// How many bytes a block of the file has.
+const BLOCK: u64 = 4096;
+
+/// A faithful file over bytes that it owns, fewer than 2^32. A call moves at most `most` bytes, but a
+/// write of at most a header's bytes moves all of them if they lie in one block or if the last write has
+/// written the same range. After each `between` calls one is interrupted, and after `left` calls all
+/// are refused.
 #[derive(Drop)]
 pub struct FlakyFile {
     bytes: Vec<u8>,
@@ -15,6 +21,8 @@ pub struct FlakyFile {
     between: u64,
     before: u64,
     left: u64,
+    written_at: u64,
+    written_len: usize,
 }
 
 impl Model for FlakyFile {
@@ -23,7 +31,15 @@ impl Model for FlakyFile {
 
     ghost Value = { Flaky };
 
-    ghost view = { λ f. record { content = f.bytes.items; most = f.most; between = f.between; before = f.before; left = f.left } };
+    ghost view = { λ f. record {
+      content = f.bytes.items;
+      most = f.most;
+      between = f.between;
+      before = f.before;
+      left = f.left;
+      written_at = f.written_at;
+      written_len = f.written_len;
+    } };
 
     ghost invariant = { λ f. length f.bytes.items < 2 ^ 32 };
 }
@@ -32,7 +48,15 @@ impl FlakyFile {
     /// The file of these bytes, before any call. Where `between` is 0, every call is interrupted.
     pub fn new(bytes: Vec<u8>, most: usize, between: u64, left: u64) -> FlakyFile
         requires { length bytes.items < 2 ^ 32 }
-        ensures { result ≡ record { content = bytes.items; most = most; between = between; before = between; left = left } }
+        ensures { result ≡ record {
+          content = bytes.items;
+          most = most;
+          between = between;
+          before = between;
+          left = left;
+          written_at = 0;
+          written_len = 0;
+        } }
     {
         FlakyFile {
             bytes,
@@ -40,6 +64,8 @@ impl FlakyFile {
             between,
             before: between,
             left,
+            written_at: 0,
+            written_len: 0,
         }
     }
 
@@ -57,7 +83,9 @@ impl FlakyFile {
             × (self.new ≡ record self.old { left = self.old.left - 1; before = self.old.between }) }
         ensures made { 0 < self.old.left → 0 < self.old.before → IsOk result
             × (self.new ≡ record self.old { left = self.old.left - 1; before = self.old.before - 1 }) }
-        ensures same { self.new.content ≡ self.old.content }
+        ensures same { (self.new.content ≡ self.old.content)
+            × (self.new.written_at ≡ self.old.written_at)
+            × (self.new.written_len ≡ self.old.written_len) }
     {
         if self.left == 0 {
             return Err(StorageFault::Failed);
@@ -71,20 +99,51 @@ impl FlakyFile {
         Ok(())
     }
 
-    /// Writes the bytes from `at` on.
+    /// Writes the bytes from `at` on, and notes the range.
     fn replace(&mut self, at: u64, bytes: &[u8])
         requires { at + length bytes.now ≤ length self.old.content }
-        ensures { self.new ≡ record self.old { content = overwritten self.old.content at bytes.now } }
+        ensures { self.new ≡ record self.old {
+          content = overwritten self.old.content at bytes.now;
+          written_at = at;
+          written_len = length bytes.now;
+        } }
     {
         let _below = self.len();
         let start = at as usize;
         let end = start + bytes.len();
         self.bytes[start..end].copy_from_slice(bytes);
+        self.written_at = at;
+        self.written_len = bytes.len();
+    }
+
+    /// How many of these bytes a write from `at` on moves.
+    fn moved(&self, at: u64, bytes: &[u8]) -> usize
+        ensures some { result ≤ length bytes.now }
+        ensures all { length bytes.now ≤ HEADER_LENGTH →
+            HasRoom at (length bytes.now) (stored self.now) → result ≡ length bytes.now }
+    {
+        let n = bytes.len();
+        let has_room = self.written_at == at && self.written_len == n;
+        if n <= HEADER_LENGTH && (has_room || is_in_one_block(at, n)) {
+            n
+        } else {
+            n.min(self.most)
+        }
     }
 }
 
+/// Whether the n bytes from `at` on lie in one block of the file.
+fn is_in_one_block(at: u64, n: usize) -> bool {
+    at % BLOCK <= BLOCK.saturating_sub(n as u64)
+}
+
 impl Storage for FlakyFile {
-    ghost facts = { λ f. record { content = f.content; faithful = true } };
+    ghost facts = { λ f. record {
+      content = f.content;
+      faithful = true;
+      written_at = f.written_at;
+      written_len = f.written_len;
+    } };
 
     fn len(&self) -> u64 {
         self.bytes.len() as u64
@@ -100,11 +159,7 @@ impl Storage for FlakyFile {
 
     fn write_some(&mut self, at: u64, bytes: &[u8]) -> Result<usize, StorageFault> {
         self.begin()?;
-        if bytes.len() <= HEADER_LENGTH {
-            self.replace(at, bytes);
-            return Ok(bytes.len());
-        }
-        let n = bytes.len().min(self.most);
+        let n = self.moved(at, bytes);
         self.replace(at, &bytes[..n]);
         Ok(n)
     }

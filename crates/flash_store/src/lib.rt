@@ -7,6 +7,8 @@ mod file_source;
 mod flaky_file;
 mod open_fault;
 mod os_file;
+mod output;
+mod standard_descriptors;
 mod storage;
 mod stored_flash;
 mod stored_source;
@@ -24,7 +26,9 @@ pub use flash_device::{
     written_maps_are_found,
 };
 pub use open_fault::OpenFault;
-pub use os_file::OsFile;
+pub use os_file::{Lock, OsFile};
+pub use output::Output;
+pub use standard_descriptors::open_beside_standard;
 pub use storage::{Storage, StorageFault};
 pub use stored_flash::{FileFlash, StoredFlash};
 pub use stored_source::StoredSource;

@@ -1,13 +1,15 @@
 //! The system's files: each call of the trait is one call of the system. That a file is faithful is a premise: no
 //! contract says it or denies it.
-ghost use Rattle.std.specs.Prelude.{◌≡◌, IfOk, length};
+ghost use Rattle.std.specs.Prelude.{◌≡◌, ◌≢◌, Ok, Err, IfOk, IfErr, length};
+ghost use Rattle.std.specs.IoError.{error_kind};
 
 use crate::open_fault::{OpenFault, checked_length};
+use crate::standard_descriptors::open_beside_standard;
 use crate::storage::{Storage, StorageFault};
-use std::fs::{File, OpenOptions};
+use std::fs::{File, Metadata, OpenOptions};
 use std::io::{self, ErrorKind, Seek, SeekFrom};
 use std::marker::Model;
-use std::os::unix::fs::{FileExt, FileTypeExt};
+use std::os::unix::fs::{FileExt, FileTypeExt, MetadataExt};
 use std::rt::Files;
 use std::snapshot::Snapshot;
 
@@ -29,63 +31,86 @@ impl Model for OsFile {
     ghost Value = { Stored };
 
     // No clause ties what a file gives to a list of bytes, so this one can promise nothing of its bytes.
-    ghost view = { λ f. record { content = replicate f.len 0; faithful = f.faithful.value } };
+    ghost view = { λ f. record {
+      content = replicate f.len 0;
+      faithful = f.faithful.value;
+      written_at = 0;
+      written_len = 0;
+    } };
 
     ghost invariant = { λ f. f.faithful.value ≡ false };
 }
 
+/// The lock that an open file takes: one that commands which only read may share, or one for itself.
+#[derive(Clone, Copy, Debug, PartialEq, Eq, Drop)]
+pub enum Lock {
+    /// Others may hold the same lock.
+    Shared,
+    /// No other lock is held beside it.
+    Exclusive,
+}
+
+impl Lock {
+    /// Waits for this lock of a file. On a file system without locks it is not taken.
+    fn take(self, file: &File) -> io::Result<()> {
+        let answer = match self {
+            Lock::Shared => file.lock_shared(),
+            Lock::Exclusive => file.lock(),
+        };
+        match answer {
+            Err(fault) if tells_no_locks(&fault) => Ok(()),
+            other => other,
+        }
+    }
+}
+
 impl OsFile {
     /// Opens a file for reading and writing, and waits for its lock.
-    pub fn open<R: Files<File = File>>(rt: &R, path: &str) -> Result<OsFile, OpenFault> {
-        let mut file = OpenOptions::new().read(true).write(true).open(rt, path)?;
-        unless_without_locks(file.lock())?;
-        let len = length_of(&mut file)?;
-        Ok(Self::with_length(file, len))
+    pub fn open<R: Files<File = File>>(
+        rt: &R,
+        path: &str,
+        lock: Lock,
+    ) -> Result<OsFile, OpenFault> {
+        open_locked(rt, Access::Change, path, lock)?.with_all()
     }
 
     /// Makes a file for `size` bytes, waits for its lock, and only then empties it if it was there.
     pub fn create<R: Files<File = File>>(rt: &R, path: &str, size: u32) -> Result<OsFile, OpenFault>
         ensures { IfOk result (λ file. length file.content ≡ size) }
     {
-        let mut file = OpenOptions::new()
-            .read(true)
-            .write(true)
-            .create(true)
-            .open(rt, path)?;
-        unless_without_locks(file.lock())?;
-        if file.metadata()?.is_file() {
-            file.set_len(0)?;
-        } else if length_of(&mut file)? < size {
+        let mut opened = open_locked(rt, Access::Create, path, Lock::Exclusive)?;
+        if opened.metadata.is_file() {
+            opened.file.set_len(0)?;
+        } else if opened.len()? < size {
             return Err(OpenFault::Failed);
         }
-        Ok(Self::with_length(file, size))
+        Ok(Self::with_length(opened.file, size))
     }
 
-    /// Opens a file for reading, and waits for a lock that those who only read share. A pipe isn't opened, since that would
-    /// wait for one who writes, nor is a directory, whose length depends on its file system.
+    /// Opens a file for reading, and waits for a lock that other readers share. A pipe and a directory
+    /// aren't opened.
     pub fn open_shared<R: Files<File = File>>(rt: &R, path: &str) -> Result<OsFile, OpenFault> {
-        let kind = rt.metadata(path)?.file_type();
-        if kind.is_fifo() || kind.is_dir() {
-            return Err(OpenFault::Failed);
-        }
-        let mut file = OpenOptions::new().read(true).open(rt, path)?;
-        unless_without_locks(file.lock_shared())?;
-        let len = length_of(&mut file)?;
-        Ok(Self::with_length(file, len))
+        open_locked(rt, Access::Read, path, Lock::Shared)?.with_all()
     }
 
-    /// Opens a regular file for reading. Another one isn't opened, since that of a pipe would wait for one who writes.
+    /// Opens a regular file for reading. Another one isn't opened, since that of a pipe would wait for
+    /// a writer.
     pub fn open_to_read<R: Files<File = File>>(rt: &R, path: &str) -> Result<OsFile, OpenFault> {
         if !rt.metadata(path)?.is_file() {
             return Err(OpenFault::Failed);
         }
-        let file = OpenOptions::new().read(true).open(rt, path)?;
+        let file = open_beside_standard(rt, OpenOptions::new().read(true), path)?;
         let metadata = file.metadata()?;
         if !metadata.is_file() {
             return Err(OpenFault::Failed);
         }
         let len = checked_length(metadata.len())?;
         Ok(Self::with_length(file, len))
+    }
+
+    /// Gives the lock back before the file is closed.
+    pub fn unlock(&self) {
+        let _given_back = self.file.unlock();
     }
 
     /// The file, of which `len` bytes count.
@@ -103,27 +128,116 @@ impl OsFile {
 /// The system's number for a file system that keeps no locks.
 const ENOLCK: i32 = 37;
 
-/// The answer of a call that waited for a lock. On a file system without locks one goes on without.
-fn unless_without_locks(answer: io::Result<()>) -> io::Result<()> {
-    match answer {
-        Err(fault) if tells_no_locks(&fault) => Ok(()),
-        other => other,
-    }
-}
-
 /// Whether an error says that there are no locks.
 fn tells_no_locks(fault: &io::Error) -> bool {
     fault.kind() == ErrorKind::Unsupported || fault.raw_os_error() == Some(ENOLCK)
 }
 
-/// Where a seek to the end stands, so that a block device has a length too; a pipe, a socket or a terminal can't tell it.
-fn length_of(file: &mut File) -> Result<u32, OpenFault> {
-    checked_length(file.seek(SeekFrom::End(0))?)
+/// What a file is opened for.
+#[derive(Clone, Copy, PartialEq, Eq)]
+enum Access {
+    Read,
+    Change,
+    Create,
+}
+
+impl Access {
+    fn options(self) -> OpenOptions {
+        let mut how = OpenOptions::new();
+        how.read(true);
+        match self {
+            Access::Read => {}
+            Access::Change => {
+                how.write(true);
+            }
+            Access::Create => {
+                how.write(true).create(true);
+            }
+        }
+        how
+    }
+}
+
+/// Refuses a pipe, which would be opened for reading only once there is a writer, and a directory,
+/// whose length depends on its file system.
+fn refuse_pipes<R: Files<File = File>>(rt: &R, path: &str) -> Result<(), OpenFault> {
+    let kind = rt.metadata(path)?.file_type();
+    if kind.is_fifo() || kind.is_dir() {
+        return Err(OpenFault::Failed);
+    }
+    Ok(())
+}
+
+/// How often a path is opened anew because its file was replaced.
+const OPENINGS: u32 = 1000;
+
+/// Opens a file by its path, and waits for its lock. If the path names another file by then, since one
+/// was moved there meanwhile, the lock is given back and that file is opened: a change of the file that
+/// was there before would be lost.
+fn open_locked<R: Files<File = File>>(
+    rt: &R,
+    access: Access,
+    path: &str,
+    lock: Lock,
+) -> Result<Opened, OpenFault> {
+    let how = access.options();
+    for _ in 0..OPENINGS {
+        if access == Access::Read {
+            refuse_pipes(rt, path)?;
+        }
+        let file = open_beside_standard(rt, &how, path)?;
+        lock.take(&file)?;
+        let opened = Opened {
+            metadata: file.metadata()?,
+            file,
+        };
+        if opened.is_at(rt, path)? {
+            return Ok(opened);
+        }
+    }
+    Err(OpenFault::Failed)
+}
+
+/// A file that is open and locked.
+#[derive(Drop)]
+struct Opened {
+    file: File,
+    metadata: Metadata,
+}
+
+impl Opened {
+    /// Whether a path names this file.
+    fn is_at<R: Files<File = File>>(&self, rt: &R, path: &str) -> io::Result<bool> {
+        let there = match rt.metadata(path) {
+            Err(fault) if fault.kind() == ErrorKind::NotFound => return Ok(false),
+            answer => answer?,
+        };
+        Ok(self.metadata.dev() == there.dev() && self.metadata.ino() == there.ino())
+    }
+
+    /// The file's length: that of its entry, or for a block device where a seek to its end stands. A
+    /// pipe, a socket and a terminal have none.
+    fn len(&mut self) -> Result<u32, OpenFault> {
+        if self.metadata.is_file() {
+            return checked_length(self.metadata.len());
+        }
+        checked_length(self.file.seek(SeekFrom::End(0))?)
+    }
+
+    /// The file with all its bytes.
+    fn with_all(mut self) -> Result<OsFile, OpenFault> {
+        let len = self.len()?;
+        Ok(OsFile::with_length(self.file, len))
+    }
 }
 
 /// What a call of the system says, as the count that it moved.
 fn moved(answer: io::Result<usize>) -> Result<usize, StorageFault>
-    ensures { IfOk result (λ n. answer ≡ Ok n) }
+    ensures count { IfOk answer (λ n. result ≡ Ok n) }
+    ensures interrupted { IfErr answer (λ fault. error_kind fault ≡ ErrorKind.Interrupted →
+        result ≡ Err StorageFault.Interrupted) }
+    ensures failed { IfErr answer (λ fault. error_kind fault ≢ ErrorKind.Interrupted →
+        result ≡ Err StorageFault.Failed) }
 {
     match answer {
         Ok(n) => Ok(n),

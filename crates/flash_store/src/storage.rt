@@ -36,6 +36,6 @@ pub trait Storage: Drop {
         requires inside { at + length bytes.now ≤ length (facts self.old).content }
 
         ensures after { HasWrittenSome at bytes.now (facts self.old) (facts self.new) result }
-        ensures interrupted { IsTrue (facts self.old).faithful → IsErrOf result StorageFault.Interrupted →
-            (facts self.new).content ≡ (facts self.old).content };
+        ensures interrupted { IsTrue (facts self.old).faithful →
+            IsErrOf result StorageFault.Interrupted → facts self.new ≡ facts self.old };
 }

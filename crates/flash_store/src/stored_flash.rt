@@ -5,7 +5,7 @@ ghost use Rattle.flash_store.specs.Storing.{stored_device};
 use crate::ahead::Ahead;
 use crate::erased::Erased;
 use crate::open_fault::OpenFault;
-use crate::os_file::OsFile;
+use crate::os_file::{Lock, OsFile};
 use crate::storage::{Storage, StorageFault};
 use crate::transfer::{read_whole, write_once, write_whole};
 use flash_device::{Counter, Flash, FlashFault};
@@ -99,17 +99,29 @@ impl<S: Storage> Flash for StoredFlash<S> {
 pub type FileFlash = StoredFlash<Ahead<Erased<OsFile>>>;
 
 impl StoredFlash<Ahead<Erased<OsFile>>> {
-    /// Opens a file for reading and writing, and waits while another command holds its lock. A file that isn't there, may
-    /// not be read or written, is a directory, or can't tell its length, as a pipe, is `Failed`; one of 2^32 bytes or more
-    /// is `TooLarge`.
+    /// Opens a file for reading and writing, and waits while another command holds a lock of it. A file
+    /// that isn't there, may not be read or written, is a directory, or can't tell its length, as a
+    /// pipe, is `Failed`; one of 2^32 bytes or more is `TooLarge`.
     pub fn open<R: Files<File = File>>(rt: &R, path: &str) -> Result<FileFlash, OpenFault>
         ensures { IfOk result (λ device. (device.calls ≡ 0) × (device.faults ≡ 0)) }
     {
-        Ok(device_in(Erased::new(OsFile::open(rt, path)?)))
+        Self::open_with(rt, path, Lock::Exclusive)
     }
 
-    /// Opens a file for reading alone, and waits while a command that may change it holds its lock; others that only read
-    /// may share it. Each write to the device is refused. The faults are those of `open`.
+    /// Opens a file as `open` does, with this lock: a command that changes nothing takes a shared one,
+    /// and waits only while a command that may change the file holds its lock.
+    pub fn open_with<R: Files<File = File>>(
+        rt: &R,
+        path: &str,
+        lock: Lock,
+    ) -> Result<FileFlash, OpenFault>
+        ensures { IfOk result (λ device. (device.calls ≡ 0) × (device.faults ≡ 0)) }
+    {
+        Ok(device_in(Erased::new(OsFile::open(rt, path, lock)?)))
+    }
+
+    /// Opens a file for reading alone, with a shared lock. Each write to the device is refused. The
+    /// faults are those of `open`.
     pub fn open_to_read<R: Files<File = File>>(rt: &R, path: &str) -> Result<FileFlash, OpenFault>
         ensures { IfOk result (λ device. (device.calls ≡ 0) × (device.faults ≡ 0)) }
     {
@@ -130,6 +142,11 @@ impl StoredFlash<Ahead<Erased<OsFile>>> {
     {
         let file = Erased::erase(OsFile::create(rt, path, size)?)?;
         Ok(device_in(file))
+    }
+
+    /// Gives the file's lock back while the device is still there. No call should follow.
+    pub fn unlock(&self) {
+        self.storage.storage().storage().unlock();
     }
 }
 

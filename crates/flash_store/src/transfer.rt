@@ -1,8 +1,15 @@
 //! Calls of a file made until all of the bytes are moved. What a function leaves is said as one call of a device over the
 //! file.
-ghost use Rattle.std.specs.Prelude.{◌+◌, ◌<◌, ◌≤◌, length, IfOk};
+ghost use Rattle.std.specs.Prelude.{◌≡◌, ◌+◌, ◌<◌, ◌≤◌, length, IfOk, OnOk, IsTrue};
 ghost use Rattle.flash_device.specs.Device.{OneRead, OneWrite, OneCommit, refusals};
-ghost use Rattle.flash_store.specs.Storing.{stored_device, HasReadSome, HasWrittenSome};
+ghost use Rattle.flash_store.specs.Storing.{
+  stored_device,
+  SameFile,
+  HasRoom,
+  HasReadSome,
+  HasWrittenSome,
+  HasWrittenOnce,
+};
 
 use crate::storage::{Storage, StorageFault};
 use flash_format::HEADER_LENGTH;
@@ -89,7 +96,40 @@ pub fn write_whole<S: Storage>(storage: &mut S, at: u64, bytes: &[u8]) -> Result
     Ok(())
 }
 
-/// Writes a header's bytes from `at` on by one call: whole, or not at all.
+/// Writes a header's bytes from `at` on by one call. A call that writes fewer bytes is a failure.
+fn write_in_one<S: Storage>(
+    storage: &mut S,
+    at: u64,
+    bytes: &[u8; HEADER_LENGTH],
+) -> Result<(), StorageFault>
+    requires { at + length bytes.now ≤ length (S.facts storage.old).content }
+
+    ensures { HasWrittenOnce at bytes.now (S.facts storage.old) (S.facts storage.new) result }
+{
+    if write_again(storage, at, bytes)? < HEADER_LENGTH {
+        return Err(StorageFault::Failed);
+    }
+    Ok(())
+}
+
+/// Makes room for a header's bytes from `at` on, so that the next write of them is whole or absent: the
+/// bytes that are there are written once more. If a full disk, a limit of the file's size or a hole
+/// refuses a part of them, this write fails, and the file's bytes stay as they are.
+fn make_room<S: Storage>(storage: &mut S, at: u64) -> Result<(), StorageFault>
+    requires { at + HEADER_LENGTH ≤ length (S.facts storage.old).content }
+
+    ensures after { SameFile (S.facts storage.old) (S.facts storage.new) }
+    ensures same { IsTrue (S.facts storage.old).faithful →
+        (S.facts storage.new).content ≡ (S.facts storage.old).content }
+    ensures room { IsTrue (S.facts storage.old).faithful →
+        OnOk result (HasRoom at HEADER_LENGTH (S.facts storage.new)) }
+{
+    let mut header = [0; HEADER_LENGTH];
+    read_whole(storage, at, &mut header)?;
+    write_in_one(storage, at, &header)
+}
+
+/// Replaces a header's bytes from `at` on, whole or not at all.
 pub fn write_once<S: Storage>(
     storage: &mut S,
     at: u64,
@@ -100,8 +140,6 @@ pub fn write_once<S: Storage>(
     ensures { OneCommit at bytes.now (stored_device (S.facts storage.old) 0 0)
         (stored_device (S.facts storage.new) 1 (refusals result)) result }
 {
-    if write_again(storage, at, bytes)? < HEADER_LENGTH {
-        return Err(StorageFault::Failed);
-    }
-    Ok(())
+    make_room(storage, at)?;
+    write_in_one(storage, at, bytes)
 }

@@ -1,4 +1,4 @@
-use Rattle.std.proofs.Common.{◌≡◌, ◌∙◌, ◌-◌, length, arith}
+use Rattle.std.proofs.Common.{◌≡◌, ◌∙◌, ◌-◌, ap, length, arith}
 use Rattle.flash_store.proofs.StoringLemmas.{Read-more, length-ended, length-rest, faithful_still, SameBytes-trans}
 use Rattle.flash_store.proofs.transfer.read_whole.Goals as goal
 
@@ -12,5 +12,5 @@ loop-done-preserved g c =
       within = omega (arith, rw (length-rest out done) at c.in_ok-done.ensures.after.short, had.within, length-ended out c.read_again.new.out done had.within size);
       after = SameBytes-trans had.after c.read_again.ensures.after.after;
       read = λ h. Read-more out c.read_again.new.out _ c.args.at done c.in_ok-done.field-0 had.within size (had.read h)
-          (rw (had.after.unchanged h) at (c.in_ok-done.ensures.after.read (faithful_still had.after.same.same_faith h)));
+          (rw (ap (λ f. f.content) (had.after.unchanged h)) at (c.in_ok-done.ensures.after.read (faithful_still had.after.same.same_faith h)));
     }

@@ -2,10 +2,10 @@ use Rattle.std.proofs.Common.{rules}
 use Rattle.flash_store.proofs.ahead.Ahead.fill.Goals as goal
 
 pub read_front-requires-clause-inside : goal.read_front-requires-clause-inside
-read_front-requires-clause-inside g c = search rules fits 100
+read_front-requires-clause-inside g c = search rules
 
 pub invariant_of-self : goal.invariant_of-self
-invariant_of-self g c = search rules fits 100
+invariant_of-self g c = search rules
 
 pub invariant_of-self-2 : goal.invariant_of-self-2
-invariant_of-self-2 g c = search rules fits 100
+invariant_of-self-2 g c = search rules

@@ -2,8 +2,8 @@ use Rattle.std.proofs.Common.{◌∙◌, ◌+◌, ◌-◌, ◌≤◌, length, ar
 use Rattle.flash_store.proofs.StoringLemmas.{IsErased-part}
 use Rattle.flash_store.proofs.erased.Erased.has.Goals as goal
 
-pub returns : goal.returns
-returns g c = rw (← c.self.view_is) (λ same h.
+pub returns-then-n-le-MANY-clause-same : goal.returns-then-n-le-MANY-clause-same
+returns-then-n-le-MANY-clause-same g c = rw (← c.self.view_is) (λ same h.
     let n = length c.args.bytes.now in
     let before : c.args.at ≤ c.self.inside.to = c.if-at-self-2.false in
     let short : n ≤ c.self.inside.to - c.args.at = c.if-n-self.false in

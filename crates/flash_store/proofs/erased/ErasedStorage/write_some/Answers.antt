@@ -10,7 +10,7 @@ returns-then-has-clause-after g c =
     let bytes = c.args.bytes.now in
     let x = c.args.self.now.content in
     let written = λ (h : IsTrue c.args.self.now.faithful).
-    sym (ap (overwritten x c.args.at) (take-length bytes ∙ sym (c.has.ensures c.if-has.true h)) ∙ overwritten-same x c.args.at (length bytes) c.requires.inside) in
+    sym (ap (overwritten x c.args.at) (take-length bytes ∙ sym (c.has.ensures.same c.if-has.true h)) ∙ overwritten-same x c.args.at (length bytes) c.requires.inside) in
     search (rules, written)
 
 pub invariant_of-self : goal.invariant_of-self

@@ -1,6 +1,7 @@
 use Rattle.std.proofs.Common.{◌∙◌, ◌≡◌, length, arith, refl, ap}
 use Rattle.std.proofs.lemmas.Grind.{common_steps}
 use Rattle.std.proofs.lemmas.List.{take_at, length-take-le}
+use Rattle.flash_store.proofs.StoringLemmas.{stored_alike}
 use Rattle.flash_store.proofs.flaky_file.FlakyFileStorage.read_some.Goals as goal
 
 pub returns : goal.returns
@@ -8,7 +9,7 @@ returns c =
     let n = c.min-n.result in
     let size : length c.copy_from_slice.new.self ≡ n = omega (arith, c.copy_from_slice.ensures.len, length-take-le n c.args.out.now (omega (arith, c.min-n.ensures))) in
     record {
-      after = record { same = record { same_faith = refl; same_length = ap length c.begin.ensures.same }; unchanged = λ h. c.begin.ensures.same };
+      after = record { same = record { same_faith = refl; same_length = ap length c.begin.ensures.same.0 }; unchanged = λ h. stored_alike c.begin.ensures.same.0 c.begin.ensures.same.1 c.begin.ensures.same.2 };
       short = omega (arith, c.min-n.ensures);
       read = λ h. take_at c.copy_from_slice.new.self _ n size ∙ grind (arith, common_steps);
     }

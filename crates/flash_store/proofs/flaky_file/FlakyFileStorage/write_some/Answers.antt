@@ -1,16 +1,14 @@
-use Rattle.std.proofs.Common.{◌∙◌, length, arith, ap, sym}
-use Rattle.std.proofs.Math.Seq.{take-length}
-use Rattle.flash_device.specs.Device.{overwritten}
-use Rattle.flash_store.proofs.StoringLemmas.{written_some}
+use Rattle.std.proofs.Common.{◌∙◌, refl, ap}
+use Rattle.flash_store.proofs.StoringLemmas.{written_some, stored_alike}
 use Rattle.flash_store.proofs.flaky_file.FlakyFileStorage.write_some.Goals as goal
-
-pub returns-then-bytes-le-HEADER_LENGTH-clause-after : goal.returns-then-bytes-le-HEADER_LENGTH-clause-after
-returns-then-bytes-le-HEADER_LENGTH-clause-after c =
-    let bytes = c.args.bytes.now in
-    written_some _ _ _ c.args.at bytes (length bytes) c.requires.inside (omega arith) (λ short. omega arith) c.begin.ensures.same
-    (ap (λ f. f.content) c.replace.ensures ∙ ap (overwritten _ c.args.at) (sym (take-length bytes)))
 
 pub returns-clause-after : goal.returns-clause-after
 returns-clause-after c =
-    written_some _ _ _ c.args.at c.args.bytes.now c.min-n.result c.requires.inside (omega (arith, c.min-n.ensures)) (λ short. absurd (omega (arith, c.if-bytes-le-HEADER_LENGTH.false)))
-    c.begin.ensures.same (ap (λ f. f.content) c.replace-2.ensures)
+    let same = c.begin.ensures.same in
+    written_some _ _ c.begin.new.self.content c.args.at c.args.bytes.now c.moved-n.result c.requires.inside c.moved-n.ensures.some
+    (λ small room. c.moved-n.ensures.all small (record { place = same.1 ∙ room.place; count = same.2 ∙ room.count }))
+    same.0 (ap (λ f. f.content) c.replace.ensures) refl (ap (λ f. f.written_at) c.replace.ensures) (ap (λ f. f.written_len) c.replace.ensures)
+
+pub returns-in_err-begin-clause-interrupted : goal.returns-in_err-begin-clause-interrupted
+returns-in_err-begin-clause-interrupted c = λ h is.
+    stored_alike c.begin.ensures.same.0 c.begin.ensures.same.1 c.begin.ensures.same.2
