@@ -1,6 +1,8 @@
 //! Says whether a flash image is fit to be flashed, and what a new one changes.
 #![tactic(auto)]
 
+ghost use Rattle.std.specs.Prelude.{◌≡◌, if◌then◌else◌, map};
+
 pub use check_line::{CheckLine, LineFault, read_check};
 pub use check_report::{Answer, ReportFault, Request, report_change, report_image};
 use check_rows::Form;
@@ -82,8 +84,13 @@ fn open<'a>(rt: &HostRuntime, path: &'a str) -> Result<Paged<FileFlash>, Refusal
     Ok(Paged::new(image))
 }
 
-/// What a line asks for.
-fn request_of<'l>(line: &'l CheckLine<'_>) -> Request<'l> {
+/// Returns the report that a line asks for.
+fn request_of<'l>(line: &'l CheckLine<'_>) -> Request<'l>
+    ensures areas { map (λ name. name.now) result.areas.now ≡ line.now.areas }
+    ensures kept { map (λ name. name.now) result.kept.now ≡ line.now.kept }
+    ensures verbose { result.is_verbose ≡ line.now.is_verbose }
+    ensures form { result.form ≡ (if line.now.is_json then Form.Json else Form.Text) }
+{
     Request {
         areas: line.areas(),
         kept: line.kept(),

@@ -3,10 +3,12 @@
 
 pub use cbfs_commands::{Command, Refusal, create_size, run};
 pub use cbfs_line::{Line, read_line};
-use flash_store::{FileFlash, FileSource, MemSource, OpenFault, Paged, Source, WriteSink};
+use flash_store::{
+    FileFlash, FileSource, Lock, MemSource, OpenFault, Output, Paged, Source, WriteSink,
+};
 use std::env;
 use std::fs::File;
-use std::io::{self, BufWriter, ErrorKind, Write};
+use std::io::{self, ErrorKind, Write};
 use std::process::ExitCode;
 
 const USAGE: &str = "\
@@ -27,36 +29,6 @@ fn open_source(rt: &HostRuntime, path: &str) -> Result<FileSource, Refusal> {
     FileSource::open(rt, path).map_err(|fault| open_refusal(fault, Refusal::Source))
 }
 
-/// How many bytes of output are collected before they are written.
-const COLLECTED: usize = 65536;
-
-/// The file that a command writes, which is made once there is memory for its output.
-#[derive(Drop)]
-struct OutputFile {
-    file: Option<File>,
-}
-
-impl Write for OutputFile {
-    fn write(&mut self, bytes: &[u8]) -> io::Result<usize> {
-        match &mut self.file {
-            Some(file) => file.write(bytes),
-            None => Err(io::Error::from(ErrorKind::NotFound)),
-        }
-    }
-
-    fn flush(&mut self) -> io::Result<()> {
-        Ok(())
-    }
-}
-
-/// What a command writes, before it is written.
-type Collected<W> = BufWriter<W>;
-
-/// Takes the memory for what is collected.
-fn collect<W: Write + Drop>(rt: &HostRuntime, output: W) -> Result<Collected<W>, Refusal> {
-    BufWriter::with_capacity(rt.alloc(), COLLECTED, output).map_err(|_| Refusal::Memory)
-}
-
 /// Makes the file that a command writes, or empties it.
 fn make_output(rt: &HostRuntime, path: &str) -> Result<File, Refusal> {
     match File::create(rt, path) {
@@ -66,17 +38,13 @@ fn make_output(rt: &HostRuntime, path: &str) -> Result<File, Refusal> {
     }
 }
 
-/// Runs a command that writes output. What it told before a refusal is written, too.
-fn run_into<W: Write + Drop>(
-    paged: &mut Paged<FileFlash>,
-    command: &Command,
-    collected: Collected<W>,
-) -> Result<(), Refusal> {
-    let mut out = WriteSink::new(collected);
+/// Runs a command that lists an image. The text is written after the image's lock is given back, also
+/// if the command is refused at last.
+fn list(rt: &HostRuntime, paged: &mut Paged<FileFlash>, command: &Command) -> Result<(), Refusal> {
+    let mut out = WriteSink::new(Output::keeping(rt.alloc(), io::writer(rt)));
     let answer = run(paged, command, &mut MemSource::new(&[]), &mut out);
-    let written = out.into_inner().flush();
-    answer?;
-    written.map_err(|_| Refusal::Output)
+    paged.flash().unlock();
+    finish(answer, out)
 }
 
 /// Runs a command whose output goes into a file.
@@ -86,9 +54,19 @@ fn run_into_file(
     command: &Command,
     path: &str,
 ) -> Result<(), Refusal> {
-    let mut collected = collect(rt, OutputFile { file: None })?;
-    collected.get_mut().file = Some(make_output(rt, path)?);
-    run_into(paged, command, collected)
+    let mut out = WriteSink::new(Output::new(rt.alloc(), make_output(rt, path)?));
+    let answer = run(paged, command, &mut MemSource::new(&[]), &mut out);
+    finish(answer, out)
+}
+
+/// Writes what a command has written before it was done or refused.
+fn finish<W: Write + Drop>(
+    answer: Result<(), Refusal>,
+    out: WriteSink<Output<W>>,
+) -> Result<(), Refusal> {
+    let written = out.into_inner().finish();
+    answer?;
+    written.map_err(|_| Refusal::Output)
 }
 
 /// Runs a command that writes no output, on a source.
@@ -124,9 +102,7 @@ fn run_on(
     file: &str,
 ) -> Result<(), Refusal> {
     match command {
-        Command::Print { .. } | Command::Layout => {
-            run_into(paged, command, collect(rt, io::writer(rt))?)
-        }
+        Command::Print { .. } | Command::Layout => list(rt, paged, command),
         Command::Extract { .. } | Command::Read { .. } => run_into_file(rt, paged, command, file),
         Command::Remove { .. } => run_from(rt, paged, command, &mut MemSource::new(&[])),
         Command::Add { .. } | Command::Write { .. } | Command::Create { .. } => {
@@ -143,12 +119,21 @@ fn make_image(rt: &HostRuntime, line: &Line, command: &Command) -> Result<(), Re
     create_from(rt, command, line.image(), &mut open_source(rt, file)?)
 }
 
+/// The lock of the image that a command takes: a shared one if it only reads.
+fn lock_of(command: &Command) -> Lock {
+    match command {
+        Command::Print { .. } | Command::Layout => Lock::Shared,
+        Command::Extract { .. } | Command::Read { .. } => Lock::Shared,
+        Command::Add { .. } | Command::Remove { .. } => Lock::Exclusive,
+        Command::Write { .. } | Command::Create { .. } => Lock::Exclusive,
+    }
+}
+
 /// Opens the image of a line, and runs its command.
-fn open_image(rt: &HostRuntime, line: &Line, command: &Command) -> Result<(), Refusal> {
-    let image = FileFlash::open(rt, line.image()).map_err(|fault| open_refusal(
-        fault,
-        Refusal::Device,
-    ))?;
+fn run_line(rt: &HostRuntime, line: &Line, command: &Command) -> Result<(), Refusal> {
+    let image = FileFlash::open_with(rt, line.image(), lock_of(command)).map_err(
+        |fault| open_refusal(fault, Refusal::Device),
+    )?;
     run_on(
         rt,
         &mut Paged::new(image),
@@ -162,7 +147,7 @@ fn execute(rt: &HostRuntime, line: &Line) -> Result<(), Refusal> {
     let command = line.command()?;
     match command {
         Command::Create { .. } => make_image(rt, line, &command),
-        _ => open_image(rt, line, &command),
+        _ => run_line(rt, line, &command),
     }
 }
 

@@ -5,7 +5,7 @@ ghost use Rattle.std.specs.Io.{ReadsAtMost};
 ghost use Rattle.std.specs.Io.KnownBytes.{ReadConsumes};
 
 use flash_device::Counter;
-use std::io::Read;
+use std::io::{ErrorKind, Read};
 use std::marker::Model;
 
 /// A reader that gave nothing, though not for the text's end.
@@ -74,6 +74,24 @@ impl<R: Read> ReadText<R> {
     }
 }
 
+/// How often in a row a read may be interrupted.
+const TRIES: u32 = 1000;
+
+/// Reads the next bytes by one call, which is made again if it was interrupted.
+fn read_again<R: Read>(reader: &mut R, room: &mut [u8]) -> Result<usize, ReadFault>
+    ensures bound { ReadsAtMost result room.new }
+    ensures bytes { ReadConsumes (R.remaining reader.old) (R.remaining reader.new) result room.new }
+{
+    for _ in 0..TRIES {
+        match reader.read(room) {
+            Ok(count) => return Ok(count),
+            Err(fault) if fault.kind() == ErrorKind::Interrupted => {}
+            Err(_) => return Err(ReadFault),
+        }
+    }
+    Err(ReadFault)
+}
+
 impl<R: Read> TextReader for ReadText<R> {
     ghost remaining = { λ t. R.remaining t.reader };
 
@@ -82,7 +100,7 @@ impl<R: Read> TextReader for ReadText<R> {
     ghost faults = { λ t. t.faults };
 
     fn read_some(&mut self, room: &mut [u8]) -> Result<usize, ReadFault> {
-        match self.reader.read(room) {
+        match read_again(&mut self.reader, room) {
             Ok(count) => {
                 self.given.add(count);
                 Ok(count)

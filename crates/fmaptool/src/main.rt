@@ -4,12 +4,12 @@
 ghost use Rattle.std.specs.Prelude.{◌≡◌, ◌≢◌};
 ghost use Rattle.std.specs.IoError.{error_kind};
 
-use flash_store::WriteSink;
+use flash_store::{Output, WriteSink, open_beside_standard};
 use fmap_compiler::ReadText;
 pub use fmap_compiler::{Refusal, run};
 use fmd_lang::FmdFault;
 use std::env;
-use std::fs::File;
+use std::fs::{File, OpenOptions};
 use std::io::{self, ErrorKind};
 use std::process::ExitCode;
 use thiserror::Error;
@@ -40,17 +40,18 @@ fn failure_of(fault: &io::Error, other: Failure) -> Failure
 
 /// Writes the table of one file's descriptor into another.
 fn compile_file(rt: &HostRuntime, input: &str, output: &str) -> Result<(), Failure> {
-    let input = File::open(rt, input).map_err(|fault| failure_of(
-        &fault,
-        Failure::Refused(Refusal::Read),
-    ))?;
+    let input = open_beside_standard(rt, OpenOptions::new().read(true), input).map_err(
+        |fault| failure_of(&fault, Failure::Refused(Refusal::Read)),
+    )?;
     let output = File::create(rt, output).map_err(|fault| failure_of(
         &fault,
         Failure::Refused(Refusal::Output),
     ))?;
     let mut reader = ReadText::new(input);
-    let mut writer = WriteSink::new(output);
-    Ok(run(rt.alloc(), &mut reader, &mut writer)?)
+    let mut writer = WriteSink::new(Output::new(rt.alloc(), output));
+    run(rt.alloc(), &mut reader, &mut writer)?;
+    let written = writer.into_inner().finish();
+    written.map_err(|_| Failure::Refused(Refusal::Output))
 }
 
 /// Does what the words say; without words prints the usage.

@@ -5,10 +5,10 @@ use Rattle.fmap_compiler.proofs.Compiling.{HasTable-prefix, Refuses-known}
 use Rattle.fmap_compiler.proofs.compiler.run.Goals as goal
 
 pub returns-clause-read_cause : goal.returns-clause-read_cause
-returns-clause-read_cause g c = search rules fits 100
+returns-clause-read_cause g c = search rules
 
 pub returns-clause-output_cause : goal.returns-clause-output_cause
-returns-clause-output_cause g c = search rules fits 100
+returns-clause-output_cause g c = search rules
 
 pub returns-clause-ok : goal.returns-clause-ok
 returns-clause-ok g c =
