@@ -13,3 +13,4 @@ mod Planned
 mod Created
 mod Extracted
 mod Running
+mod PrintedRows

@@ -1,12 +1,12 @@
 -- What is told piece by piece: a text that was written, and then what the rest of a call does.
 use Rattle.std.proofs.Common.{◌≡◌, ℕ, ◌+◌, ◌<◌, ◌≤◌, ◌⊎◌, IsTrue, inl, inr, List, [], ◌++◌, length, take, Option, Ok, Err, refl, sym, ap, ◌∙◌, subst, arith, length-append, append_assoc}
-use Rattle.std.specs.Prelude.{OnErr}
+use Rattle.std.specs.Prelude.{IsErrOf, OnErr}
 use Rattle.std.proofs.lemmas.List.{take-append-le}
 use Rattle.std.proofs.Math.Seq.{take-append-add}
 use Rattle.std.specs.Io.KnownBytes.{Appends}
 use Rattle.std.specs.Result.{IsErrAnd}
 use Rattle.std.proofs.KnownBytes.{Appends-nil, Appends-trans}
-use Rattle.flash_device.specs.Device.{Device}
+use Rattle.flash_device.specs.Device.{Device, faults_told}
 use Rattle.flash_device.specs.Pages.{Pages, HasRead, OnHonest}
 use Rattle.flash_device.specs.Regions.{Range, bytes_in}
 use Rattle.flash_device.proofs.DeviceLemmas.{honest_still}
@@ -202,3 +202,13 @@ still_cell {region = region} {cell = cell} read is = record {
       let before = subst (λ b. IsTrue b) read.device.calls.same_honesty h in
       subst (λ (l : List ℕ). StandsIn (bytes_in region l) cell) (sym (read.device.unchanged before)) (is.stands before);
 }
+
+-- what a call leaves that only reads the device, from what it tells and the other parts
+pub told_by_parts : {F W : Type 0} {facts : F → Device} {contents : W → Option (List ℕ)} {faults : W → ℕ} {n : ℕ} {old new : Pages F} {out_old out_new : W} {answer : Answer} {t : List ℕ → Told}
+    → OnHonest facts old.device (λ image. Tells (contents out_old) (contents out_new) answer (t image))
+    → HasRead facts n (faults_told by_device answer) old new
+    → faults out_old ≤ faults out_new
+    → (IsErrOf answer refusals.Output → faults out_old < faults out_new)
+    → (IsErrOf answer refusals.Source → ⊥)
+    → HasTold facts contents faults n old new out_old out_new answer t
+told_by_parts told read sink output no_source = record { read = read; sink = sink; output = output; no_source = no_source; told = told }

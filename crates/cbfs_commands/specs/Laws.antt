@@ -1,6 +1,11 @@
 -- What holds of the outcomes of the commands.
-use Rattle.std.specs.Prelude.{◌≡◌, ℕ, ◌^◌, ◌<◌, All, List, ◌∷◌, length, Ok}
-use Rattle.std.specs.List.{AllPairs}
+use Rattle.std.specs.Prelude.{◌≡◌, ℕ, ◌+◌, ◌^◌, ◌<◌, ⊤, false, All, List, [], ◌∷◌, ◌++◌, length, Ok}
+use Rattle.std.specs.List.{AllPairs, flat_map}
+use Rattle.flash_format.specs.Head.{head_of, is_free}
+use Rattle.flash_format.specs.Components.{cell_attributes, cell_name, packing}
+use Rattle.flash_format.specs.Flashmap.{text_of}
+use Rattle.flash_format.specs.declared.flashmap.Area.{Area}
+use Rattle.flash_format.specs.declared.flashmap.FmapHead.{FmapHead}
 use Rattle.flash_device.specs.Device.{overwritten}
 use Rattle.flash_device.specs.Regions.{Range, bytes_in, region_of}
 use Rattle.flash_device.specs.Laws.{LieApart}
@@ -14,6 +19,7 @@ use Rattle.cbfs_commands.specs.Creations.{FitsImage, created_image, plan_for}
 use Rattle.cbfs_commands.specs.Deeds.{deed, outcome, replaces, Request, Task, on_region}
 use Rattle.cbfs_commands.specs.Outcomes.{extract_region, told_in}
 use Rattle.cbfs_commands.specs.Refusals.{HasNoFault}
+use Rattle.cbfs_commands.specs.Rows.{area_row, map_row, row, rows_from}
 use Rattle.cbfs_commands.specs.Told.{shows}
 
 -- an outcome's own answer blames no side, since it is a function of the image, the command and the source alone
@@ -50,3 +56,91 @@ abbrev pub AddedFilesAreExtracted : Type 0
 AddedFilesAreExtracted = (image name : List ℕ) (new : NewComponent) (spot : Spot) (region : Range) (place : Place) → region_of image name ≡ Ok region → IsAdded (bytes_in region image) new spot place
     → let now = overwritten image region.start (added (bytes_in region image) new place) in
     region_of now name ≡ Ok region → told_in now name (λ x. extract_region x new.name) ≡ shows new.content
+
+-- ---- printed rows
+
+-- the numbers that a row shows of a cell of these bytes fit into 64 bits; those of bytes into 32
+pub record HasNumbers (x : List ℕ) : Type 0 where
+  pub kind : (head_of x).kind < 2 ^ 64
+  pub len : (head_of x).len < 2 ^ 64
+  pub compression : packing (cell_attributes x) < 2 ^ 64
+
+-- two cells, each at its place, have all in common that a row shows: the place, the type and the
+-- content's length, and of components, which free space is not, the name and the compression
+pub record IsSameCell (at : ℕ) (x : List ℕ) (other : ℕ) (y : List ℕ) : Type 0 where
+  pub place : at ≡ other
+  pub kind : (head_of x).kind ≡ (head_of y).kind
+  pub len : (head_of x).len ≡ (head_of y).len
+  pub name : is_free (head_of x) ≡ false → cell_name x ≡ cell_name y
+  pub compression : is_free (head_of x) ≡ false
+      → packing (cell_attributes x) ≡ packing (cell_attributes y)
+
+-- the same of cells, of which the first stands at a place
+abbrev pub HaveNumbers : ℕ → List (List ℕ) → Type 0
+HaveNumbers at [] = ⊤
+HaveNumbers at (x ∷ cells) = (at < 2 ^ 64) × HasNumbers x × HaveNumbers (at + length x) cells
+
+-- as many cells, each with the other's place and with all that a row shows of it
+abbrev pub AreSameCells : ℕ → List (List ℕ) → ℕ → List (List ℕ) → Type 0
+AreSameCells at [] other [] = ⊤
+AreSameCells at (x ∷ cells) other (y ∷ others) =
+    IsSameCell at x other y × AreSameCells (at + length x) cells (other + length y) others
+AreSameCells at cells other others = ⊥
+
+-- different cells have different rows, whatever text follows, and so have different listings
+pub record RowsAreReadBack : Type 0 where
+  pub rows : (at other : ℕ) (x y more rest : List ℕ) → at < 2 ^ 64 → other < 2 ^ 64
+      → HasNumbers x → HasNumbers y → row at x ++ more ≡ row other y ++ rest
+      → IsSameCell at x other y × (more ≡ rest)
+  pub listings : (at other : ℕ) (cells others : List (List ℕ))
+      → HaveNumbers at cells → HaveNumbers other others
+      → rows_from false at cells ≡ rows_from false other others
+      → AreSameCells at cells other others
+
+-- the numbers of an area fit into 64 bits; those of bytes fit into 32
+pub record HasAreaNumbers (a : Area) : Type 0 where
+  pub offset : a.offset < 2 ^ 64
+  pub size : a.size < 2 ^ 64
+  pub flags : a.flags < 2 ^ 64
+
+-- two areas have the same name, up to its NUL, and the same offset, size and flags
+pub record IsSameArea (a b : Area) : Type 0 where
+  pub name : text_of a.name ≡ text_of b.name
+  pub offset : a.offset ≡ b.offset
+  pub size : a.size ≡ b.size
+  pub flags : a.flags ≡ b.flags
+
+-- the same of areas
+abbrev pub HaveAreaNumbers : List Area → Type 0
+HaveAreaNumbers [] = ⊤
+HaveAreaNumbers (a ∷ areas) = HasAreaNumbers a × HaveAreaNumbers areas
+
+-- as many areas, each with all that a line shows of the other
+abbrev pub AreSameAreas : List Area → List Area → Type 0
+AreSameAreas [] [] = ⊤
+AreSameAreas (a ∷ areas) (b ∷ others) = IsSameArea a b × AreSameAreas areas others
+AreSameAreas areas others = ⊥
+
+-- the numbers of a map at a place fit into 64 bits; those of bytes fit into 32
+pub record HasMapNumbers (q : ℕ) (h : FmapHead) : Type 0 where
+  pub place : q < 2 ^ 64
+  pub size : h.size < 2 ^ 64
+  pub nareas : h.nareas < 2 ^ 64
+
+-- two maps, each at its place, have the same place, name, size and number of areas
+pub record IsSameMap (q : ℕ) (h : FmapHead) (p : ℕ) (k : FmapHead) : Type 0 where
+  pub place : q ≡ p
+  pub name : text_of h.name ≡ text_of k.name
+  pub size : h.size ≡ k.size
+  pub nareas : h.nareas ≡ k.nareas
+
+-- different maps and different areas have different lines, whatever text follows, and so have
+-- different layouts
+pub record LinesAreReadBack : Type 0 where
+  pub maps : (q p : ℕ) (h k : FmapHead) (more rest : List ℕ) → HasMapNumbers q h
+      → HasMapNumbers p k → map_row q h ++ more ≡ map_row p k ++ rest
+      → IsSameMap q h p k × (more ≡ rest)
+  pub areas : (a b : Area) (more rest : List ℕ) → HasAreaNumbers a → HasAreaNumbers b
+      → area_row a ++ more ≡ area_row b ++ rest → IsSameArea a b × (more ≡ rest)
+  pub all_areas : (areas others : List Area) → HaveAreaNumbers areas → HaveAreaNumbers others
+      → flat_map area_row areas ≡ flat_map area_row others → AreSameAreas areas others

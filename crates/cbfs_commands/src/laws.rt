@@ -1,5 +1,5 @@
 //! Laws of the definitions. These functions do nothing: their contracts are the laws.
-ghost use Rattle.cbfs_commands.specs.Laws.{AddedFilesAreExtracted, AdditionsAreExtracted, CreatedRegionsAreFree, OutcomesAreOfTheRegion, OutcomesHaveNoFault, PlansAreLaid, WritingBackChangesNothing};
+ghost use Rattle.cbfs_commands.specs.Laws.{AddedFilesAreExtracted, AdditionsAreExtracted, CreatedRegionsAreFree, LinesAreReadBack, OutcomesAreOfTheRegion, OutcomesHaveNoFault, PlansAreLaid, RowsAreReadBack, WritingBackChangesNothing};
 
 /// An outcome's own answer is never a fault of the device, the output or the source: where `run` answers one, it
 /// isn't the outcome's.
@@ -39,4 +39,20 @@ pub fn created_regions_are_free()
 pub fn additions_are_extracted()
     ensures region { AdditionsAreExtracted }
     ensures image { AddedFilesAreExtracted }
+{}
+
+/// The row of a cell determines the position, the type and the length of the content, and of a
+/// component the name and the compression, whatever text follows the row. So the listing of a region
+/// determines all of these of its cells. The law holds if these numbers are below 2^64. A row shows
+/// no other bytes of a cell, so it doesn't determine them.
+pub fn rows_are_read_back()
+    ensures { RowsAreReadBack }
+{}
+
+/// The line of an area determines its name, offset, size and flags, and the line of a map its
+/// position, name, size and number of areas, whatever text follows the line. So a layout determines
+/// all of these of its map. The law holds if these numbers are below 2^64. A name counts up to its
+/// first NUL, since no line shows the bytes after it.
+pub fn lines_are_read_back()
+    ensures { LinesAreReadBack }
 {}

@@ -13,6 +13,7 @@ pub mod PutLemmas
 pub mod MadeLaws
 pub mod Placed
 pub mod NumberLaws
+pub mod PrintedLaws
 pub mod TypeLaws
 pub mod MapBytes
 mod Digits

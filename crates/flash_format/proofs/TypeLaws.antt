@@ -1,9 +1,10 @@
 -- The names of types are read back.
-use Rattle.std.proofs.Common.{◌≡◌, ℕ, Bool, true, false, List, [], ◌∷◌, Option, Some, None, refl, sym, ap, arith, eqb, ◌&&◌}
+use Rattle.std.proofs.Common.{◌≡◌, ℕ, Bool, true, false, nat_le, List, [], ◌∷◌, Option, Some, None, refl, sym, ap, arith, eqb, ◌&&◌}
 use Rattle.std.specs.List.{find}
 use Rattle.std.specs.Option.{option_map}
 use Rattle.std.proofs.lemmas.Bool.{eqb-true, and_parts}
 use Rattle.std.proofs.lemmas.Bool.Decides.{nat_tests}
+use Rattle.flash_format.specs.Printed.{is_field}
 use Rattle.flash_format.specs.TypeNames.{type_table, name_of_type, type_of_text}
 
 abbrev is_some_of : ℕ → Option ℕ → Bool
@@ -40,3 +41,36 @@ every_row = refl
 pub read_back : (kind : ℕ) (name : List ℕ) → name_of_type kind ≡ Some name → type_of_text name ≡ Some kind
 unfolding name_of_type
 read_back kind name is = among type_table kind name every_row is
+
+-- ---- the names are words
+
+-- a text that begins with a letter, as no number does, and that can stand between tabs
+abbrev pub is_word : List ℕ → Bool
+is_word [] = false
+is_word (b ∷ text) = nat_le 65 b && is_field (b ∷ text)
+
+pub word_is_field : (text : List ℕ) → is_word text ≡ true → is_field text ≡ true
+word_is_field [] word = refl
+word_is_field (b ∷ text) word = (and_parts (nat_le 65 b) (is_field (b ∷ text)) word).1
+
+abbrev are_words : List (ℕ × List ℕ) → Bool
+are_words [] = true
+are_words (row ∷ rows) = is_word row.1 && are_words rows
+
+word_by_row : (row : ℕ × List ℕ) (rows : List (ℕ × List ℕ)) (kind : ℕ) (name : List ℕ) → is_word row.1 ≡ true → (name_in rows kind ≡ Some name → is_word name ≡ true)
+    → name_in (row ∷ rows) kind ≡ Some name → is_word name ≡ true
+word_by_row row rows kind name here later is = go (eqb row.0 kind) refl is
+  where
+    go : (same : Bool) → eqb row.0 kind ≡ same → name_in (row ∷ rows) kind ≡ Some name → is_word name ≡ true
+    go true same is = let first : row.1 ≡ name = (let whole : Some row.1 ≡ Some name = (rw same at is) in cc) in rw (← first) here
+    go false same is = later (rw same at is)
+
+word_among : (rows : List (ℕ × List ℕ)) (kind : ℕ) (name : List ℕ) → are_words rows ≡ true → name_in rows kind ≡ Some name → is_word name ≡ true
+word_among [] kind name words is = absurd cc
+word_among (row ∷ rows) kind name words is =
+    let parts = and_parts (is_word row.1) (are_words rows) words in
+    word_by_row row rows kind name parts.0 (word_among rows kind name parts.1) is
+
+pub type_is_word : (kind : ℕ) (name : List ℕ) → name_of_type kind ≡ Some name → is_word name ≡ true
+unfolding name_of_type
+type_is_word kind name is = word_among type_table kind name refl is

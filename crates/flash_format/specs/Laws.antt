@@ -12,6 +12,7 @@ use Rattle.flash_format.specs.Placings.{IsPlacing, IsReadAs, HasOneMore, space_c
 use Rattle.flash_format.specs.Flashmap.{area_bytes, areas_from, fmap_head_bytes, fmap_head_len, fmap_head_of, is_map, is_named}
 use Rattle.flash_format.specs.declared.flashmap.Area.{Area}
 use Rattle.flash_format.specs.declared.flashmap.FmapHead.{FmapHead}
+use Rattle.flash_format.specs.Printed.{hexadecimal, is_field, printed_name}
 use Rattle.flash_format.specs.TypeNames.{name_of_type, type_of_text}
 
 -- how the cell of an entry is read
@@ -110,3 +111,11 @@ MapsAreReadBack = (h : FmapHead) (areas : List Area) (more : List ℕ) → IsMap
 -- the name of a type is read as that type
 abbrev pub NamesAreReadBack : Type 0
 NamesAreReadBack = (kind : ℕ) (name : List ℕ) → name_of_type kind ≡ Some name → type_of_text name ≡ Some kind
+
+-- the text of a name is the text of no other, and so is that of a number of 64 bits; each can stand
+-- between tabs
+pub record PrintedTextsAreReadBack : Type 0 where
+  pub names : (a b : List ℕ) → printed_name a ≡ printed_name b → a ≡ b
+  pub name_fields : (name : List ℕ) → is_field (printed_name name) ≡ true
+  pub numbers : (m n : ℕ) → m < 2 ^ 64 → n < 2 ^ 64 → hexadecimal m ≡ hexadecimal n → m ≡ n
+  pub number_fields : (n : ℕ) → n < 2 ^ 64 → is_field (hexadecimal n) ≡ true

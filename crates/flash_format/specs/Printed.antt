@@ -1,6 +1,6 @@
 -- How names and numbers are printed. The forms of the texts are this project's own.
-use Rattle.std.specs.Prelude.{◌≡◌, ℕ, ◌+◌, ◌≤◌, ◌/◌, ◌%◌, false, not, ◌&&◌, List, [], ◌∷◌, ◌++◌, ◌==◌, if◌then◌else◌}
-use Rattle.std.specs.List.{flat_map}
+use Rattle.std.specs.Prelude.{◌≡◌, ℕ, ◌+◌, ◌≤◌, ◌/◌, ◌%◌, Bool, false, not, nat_le, ◌&&◌, List, [], ◌∷◌, ◌++◌, ◌==◌, if◌then◌else◌}
+use Rattle.std.specs.List.{flat_map, list_all}
 use Rattle.std.specs.Fmt.{digits, digit_glyph}
 use lib.Chars.{codes}
 use Rattle.arrayvec.specs.ArrayVec.{ArrayVec, array_vec_len}
@@ -24,6 +24,10 @@ tab = codes "\t"
 
 abbrev pub line_feed : List ℕ
 line_feed = codes "\n"
+
+-- a text that can stand between tabs: it has no byte below the blank, so no tab and no line feed
+abbrev pub is_field : List ℕ → Bool
+is_field text = list_all (nat_le 32) text
 
 -- a buffer has a text after what it had, of at most so many bytes
 pub record Pushes (old : ArrayVec ℕ) (text : List ℕ) (most : ℕ) (new : ArrayVec ℕ) : Type 0 where

@@ -7,7 +7,7 @@ ghost use Rattle.flash_format.specs.Cut.{End, cut, IsCut};
 ghost use Rattle.flash_format.specs.Splices.{CellsBetween};
 ghost use Rattle.flash_format.specs.Placings.{IsSpace};
 ghost use Rattle.flash_format.specs.Flashmap.{fmap_head_len, area_len, is_map, map_of};
-ghost use Rattle.flash_format.specs.Laws.{EntriesAreReadAlike, CutsGoOn, EmptyHeadersAreFreeCells, GroupsAreReplaced, MadeCellsAreReadAsMade, ComponentsArePlaced, NoMapBelow, IsMapOf, MapsAreReadBack, NamesAreReadBack};
+ghost use Rattle.flash_format.specs.Laws.{EntriesAreReadAlike, CutsGoOn, EmptyHeadersAreFreeCells, GroupsAreReplaced, MadeCellsAreReadAsMade, ComponentsArePlaced, NoMapBelow, IsMapOf, MapsAreReadBack, NamesAreReadBack, PrintedTextsAreReadBack};
 
 use crate::flashmap::{Area, FmapHead};
 use crate::head::HEADER_LENGTH;
@@ -82,4 +82,10 @@ pub fn maps_are_read_back()
 /// The name of a type is read as that type.
 pub fn type_names_are_read_back()
     ensures { NamesAreReadBack }
+{}
+
+/// A printed name is the text of no other name, and a printed number that of no other number below
+/// 2^64. Neither has a byte below the blank, so a tab ends it.
+pub fn printed_texts_are_read_back()
+    ensures { PrintedTextsAreReadBack }
 {}

@@ -27,7 +27,7 @@ pub use head::{DamageKind, Extent, HEADER_LENGTH, Head};
 pub use laws::{
     components_are_placed, cuts_are_made_of_cells, cuts_go_on, empty_headers_are_free_cells,
     entries_are_read_alike, groups_are_replaced, lengths_are_defined, made_cells_are_read_as_made,
-    maps_are_read_back, maps_are_the_lowest, type_names_are_read_back,
+    maps_are_read_back, maps_are_the_lowest, printed_texts_are_read_back, type_names_are_read_back,
 };
 pub use meta::{LONGEST_METADATA, Meta, attr_len, meta_len, write_meta};
 pub use number::{digits_value, read_number};

@@ -4,19 +4,19 @@ use Rattle.cbfs_commands.proofs.Meeting.{all-written, creation_done, creation_st
 use Rattle.cbfs_commands.proofs.create.create.Goals as goal
 
 pub returns-in_err-plan : goal.returns-in_err-plan
-returns-in_err-plan g c = search rules fits 300
+returns-in_err-plan g c = search rules
 
 pub returns-in_err-fill : goal.returns-in_err-fill
-returns-in_err-fill g c = creation_stopped _ (search rules fits 100) (search rules fits 100) (search rules fits 100)
+returns-in_err-fill g c = creation_stopped _ (search rules) (search rules) (search rules)
 
 pub returns-in_err-copy_in : goal.returns-in_err-copy_in
-returns-in_err-copy_in g c = creation_stopped _ (search rules fits 300) (search rules fits 300) (search rules fits 100)
+returns-in_err-copy_in g c = creation_stopped _ (search rules) (search rules) (search rules)
 
 pub returns-in_err-format_all : goal.returns-in_err-format_all
-returns-in_err-format_all g c = creation_stopped _ (search rules) (search rules fits 100) (search rules fits 100)
+returns-in_err-format_all g c = creation_stopped _ (search rules) (search rules) (search rules)
 
 pub returns : goal.returns
-returns g c = creation_done _ c.in_ok-plan.plan (search rules) (search rules fits 100) (λ h honest.
+returns g c = creation_done _ c.in_ok-plan.plan (search rules) (search rules) (λ h honest.
     let facts = g.F.Flash.facts in
     let image = (facts c.args.paged.now.device).content in
     let source = g.S.Source.facts c.args.source.now in

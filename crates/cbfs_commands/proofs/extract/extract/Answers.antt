@@ -1,8 +1,9 @@
 use Rattle.std.proofs.Common.{rules}
+use Rattle.cbfs_commands.proofs.Telling.{told_by_parts}
 use Rattle.cbfs_commands.proofs.extract.extract.Goals as goal
 
 pub returns-in_err-cell : goal.returns-in_err-cell
-returns-in_err-cell g c = record { read = search rules fits 300; sink = search rules fits 100; output = search rules fits 100; no_source = search rules fits 100; told = search rules fits 300 }
+returns-in_err-cell g c = told_by_parts (search rules) (search rules) (search rules) (search rules) (search rules)
 
 pub returns-in-Some : goal.returns-in-Some
-returns-in-Some g c = record { read = search rules fits 100; sink = search rules fits 100; output = search rules fits 100; no_source = search rules fits 100; told = search rules fits 300 }
+returns-in-Some g c = record { read = search rules; sink = search rules; output = search rules; no_source = search rules; told = search rules }

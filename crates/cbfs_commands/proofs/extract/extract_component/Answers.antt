@@ -3,8 +3,8 @@ use Rattle.std.proofs.Common.{rules}
 use Rattle.cbfs_commands.proofs.extract.extract_component.Goals as goal
 
 pub returns : goal.returns
-returns g c = search rules fits 100
+returns g c = search rules
 
 pub returns-in_err-packing : goal.returns-in_err-packing
 returns-in_err-packing g c =
-    record { read = search rules fits 100; sink = search rules fits 100; output = search rules fits 100; no_source = search rules fits 100; told = search rules fits 100 }
+    record { read = search rules; sink = search rules; output = search rules; no_source = search rules; told = search rules }

@@ -3,7 +3,7 @@ use Rattle.std.proofs.Common.{rules}
 use Rattle.cbfs_commands.proofs.read.read.Goals as goal
 
 pub returns-in_err-region : goal.returns-in_err-region
-returns-in_err-region g c = record { read = search rules fits 300; sink = search rules fits 100; output = search rules fits 100; no_source = search rules fits 100; told = search rules fits 100 }
+returns-in_err-region g c = record { read = search rules; sink = search rules; output = search rules; no_source = search rules; told = search rules }
 
 pub returns : goal.returns
-returns g c = record { read = search rules fits 100; sink = search rules fits 100; output = search rules fits 100; no_source = search rules fits 100; told = search rules fits 100 }
+returns g c = record { read = search rules; sink = search rules; output = search rules; no_source = search rules; told = search rules }

@@ -5,6 +5,9 @@ use Rattle.hex.specs.Hex.{encode_lower, lower_digits}
 use Rattle.hex.proofs.HexLemmas.{length-encode_with}
 use Rattle.flash_format.proofs.digest.digest_text.Goals as goal
 
+pub returns-clause-count : goal.returns-clause-count
+returns-clause-count c = omega arith
+
 pub returns-clause-text : goal.returns-clause-text
 returns-clause-text c =
     let bytes = c.bytes-bytes.result.now in

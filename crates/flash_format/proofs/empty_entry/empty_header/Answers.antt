@@ -5,4 +5,4 @@ use Rattle.flash_format.proofs.empty_entry.empty_header.Goals as goal
 
 pub returns : goal.returns
 unfolding empty_header head_bytes
-returns c = search rules fits 100
+returns c = search rules

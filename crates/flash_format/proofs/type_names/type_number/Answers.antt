@@ -4,4 +4,4 @@ use Rattle.flash_format.proofs.type_names.type_number.Goals as goal
 
 pub returns-in-None : goal.returns-in-None
 unfolding type_of_text
-returns-in-None c = search rules fits 100
+returns-in-None c = search rules

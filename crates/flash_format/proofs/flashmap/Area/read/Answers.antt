@@ -4,4 +4,4 @@ use Rattle.flash_format.proofs.flashmap.Area.read.Goals as goal
 
 pub returns : goal.returns
 unfolding area_of
-returns c = search rules fits 100
+returns c = search rules

@@ -4,4 +4,4 @@ use Rattle.flash_format.proofs.flashmap.FmapHead.read.Goals as goal
 
 pub returns : goal.returns
 unfolding fmap_head_of has_signature
-returns c = search rules fits 300
+returns c = search rules

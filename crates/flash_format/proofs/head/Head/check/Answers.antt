@@ -4,4 +4,4 @@ use Rattle.flash_format.proofs.head.Head.check.Goals as goal
 
 pub returns : goal.returns
 unfolding extent_of
-returns c = search rules fits 100
+returns c = search rules

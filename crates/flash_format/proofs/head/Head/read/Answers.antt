@@ -4,4 +4,4 @@ use Rattle.flash_format.proofs.head.Head.read.Goals as goal
 
 pub returns : goal.returns
 unfolding head_of has_magic
-returns c = search rules fits 100
+returns c = search rules

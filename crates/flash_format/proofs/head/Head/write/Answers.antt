@@ -5,4 +5,4 @@ use Rattle.flash_format.proofs.head.Head.write.Goals as goal
 
 pub returns-clause-read_back : goal.returns-clause-read_back
 unfolding head_bytes
-returns-clause-read_back c = head_is_read_back _ c.args.self.now (search rules fits 100) (omega arith) (omega arith) (omega arith) (omega arith)
+returns-clause-read_back c = head_is_read_back _ c.args.self.now (search rules) (omega arith) (omega arith) (omega arith) (omega arith)
