@@ -10,7 +10,7 @@ returns-in_err-tell_change-clause-after g c =
     let all = c.args.after.now.all.now in
     let l = c.listed-item.result in
     let lt = c.loop-listed-test.true in
-    let step : HasReadBoth g.F.Flash.facts g.G.Flash.facts (2 + l.cell.span / 4096) (faults_told by_old c.from_residual.result) (faults_told by_new c.from_residual.result) c.loop-listed.old c.tell_change.new.old c.loop-listed.new c.tell_change.new.new = search rules fits 100 in
+    let step : HasReadBoth g.F.Flash.facts g.G.Flash.facts (2 + l.cell.span / 4096) (faults_told by_old c.from_residual.result) (faults_told by_new c.from_residual.result) c.loop-listed.old c.tell_change.new.old c.loop-listed.new c.tell_change.new.new = search rules in
     reads_all g.F.Flash.facts g.G.Flash.facts all c.loop-listed.listed-index _ _ l _ _ _ _ _ _ lt c.listed-item.is (listed_some _ all _ l lt c.listed-item.is c.args.after.now.cells) c.loop-listed.invariant.read step
 
 pub loop-listed-preserved : goal.loop-listed-preserved

@@ -15,4 +15,4 @@ pub same_stretch-requires-2-clause-new_order : goal.same_stretch-requires-2-clau
 same_stretch-requires-2-clause-new_order g c = rw c.attributes-b.ensures (omega (arith, name_first _ _ c.requires.after))
 
 pub returns-then-not-branch-2-clause-difference : goal.returns-then-not-branch-2-clause-difference
-returns-then-not-branch-2-clause-difference g c = search rules fits 300
+returns-then-not-branch-2-clause-difference g c = search rules

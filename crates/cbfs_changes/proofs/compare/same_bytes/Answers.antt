@@ -26,4 +26,4 @@ loop-done-preserved g c =
     }
 
 pub returns-clause-same : goal.returns-clause-same
-returns-clause-same g c = search rules fits 100
+returns-clause-same g c = search rules

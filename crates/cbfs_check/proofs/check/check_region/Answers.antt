@@ -3,7 +3,7 @@ use Rattle.cbfs_check.proofs.Checking.{checking_start, checking_more, checking_e
 use Rattle.cbfs_check.proofs.check.check_region.Goals as goal
 
 pub returns-in-Ok-End-clause-after : goal.returns-in-Ok-End-clause-after
-returns-in-Ok-End-clause-after g c = search rules fits 300
+returns-in-Ok-End-clause-after g c = search rules
 
 pub loop-cell-init : goal.loop-cell-init
 loop-cell-init g c = rw (c.new-walk.ensures, c.new-count.ensures) (checking_start g.F.Flash.facts c.args.is_verbose c.args.region c.new-report.result c.args.paged.now c.new-report.ensures.findings c.new-report.ensures.names)

@@ -9,13 +9,13 @@ use Rattle.cbfs_check.proofs.Telling.{cell_told}
 use Rattle.cbfs_check.proofs.check.tell_cell.Goals as goal
 
 pub returns-in_err-state-clause-after : goal.returns-in_err-state-clause-after
-returns-in_err-state-clause-after g c = search rules fits 100
+returns-in_err-state-clause-after g c = search rules
 
 pub returns-in_err-tell_named-clause-after : goal.returns-in_err-tell_named-clause-after
-returns-in_err-tell_named-clause-after g c = search rules fits 300
+returns-in_err-tell_named-clause-after g c = search rules
 
 pub returns-clause-after : goal.returns-clause-after
-returns-clause-after g c = search rules fits 300
+returns-clause-after g c = search rules
 
 pub returns-clause-told : goal.returns-clause-told
 returns-clause-told g c = λ h stands. λ t told.

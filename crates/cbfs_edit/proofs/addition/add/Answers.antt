@@ -37,7 +37,7 @@ returns-in-Ok g c =
       source = content_read _ _ (g.S.Source.facts c.args.source.now) (g.S.Source.facts c.insert.new.source) c.in-Ok.ensures.source;
       words = rw (← passed) tt;
       answer = λ honest. inr (inr (sym (ap placed_of (is honest))));
-      refused = search rules fits 100;
+      refused = search rules;
       before = λ honest failed. no_error failed;
       added = done;
       image = λ honest source_honest. image_of c.args.region _ _ _ _ c.requires (same honest) c.insert.ensures.after.calls.same_length (c.insert.ensures.after.outside (still honest)) (done honest source_honest);
@@ -56,8 +56,8 @@ returns-in-Err-Device g c =
       answer = λ honest. inl refl;
       refused = λ honest other another. absurd (other refl);
       before = λ honest failed. device_for_source failed;
-      added = search rules fits 100;
-      image = search rules fits 100;
+      added = search rules;
+      image = search rules;
       stopped = λ honest source_honest failed. device_leaves c.args.region new c.args.spot c.in_ok-place.place _ _ _ (IsTrue (g.S.Source.facts c.args.source.now).honest) _ _ c.requires c.places_fit.ensures c.ranges.kind.fits (omega (arith, c.len.ensures)) (ap (λ (w : Wanted). w.len) (c.wanted_of-wanted.ensures new.content c.len.ensures.length))
           (digest-sized c.args.hash new.content) (c.find_place.ensures.after.device.unchanged honest) (is honest) ((rw c.in-Err-Device.field-0-is at c.in-Err-Device.ensures.stopped) (honest_still c.find_place.ensures.after.device.calls.same_honesty honest)) source_honest;
     }
@@ -75,7 +75,7 @@ returns-in-Err-Source g c =
       refused = λ honest other another. absurd (another refl);
       before = λ honest failed. source_leaves c.args.region new c.args.spot c.in_ok-place.place _ _ _ (IsTrue (g.S.Source.facts c.args.source.now).honest) _ _ c.requires c.places_fit.ensures c.ranges.kind.fits (omega (arith, c.len.ensures)) (ap (λ (w : Wanted). w.len) (c.wanted_of-wanted.ensures new.content c.len.ensures.length))
           (digest-sized c.args.hash new.content) (c.find_place.ensures.after.device.unchanged honest) (is honest) ((rw c.in-Err-Source.field-0-is at c.in-Err-Source.ensures.stopped) (honest_still c.find_place.ensures.after.device.calls.same_honesty honest)) refl;
-      added = search rules fits 100;
-      image = search rules fits 100;
+      added = search rules;
+      image = search rules;
       stopped = λ honest source_honest failed. source_for_device failed;
     }

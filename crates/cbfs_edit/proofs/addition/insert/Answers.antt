@@ -31,7 +31,7 @@ returns-in_err-describe-clause-stopped g c honest =
     _ c.write_empty_entry.ensures.after.calls.same_length _ c.copy_content.ensures.after.after.calls.same_length (c.in_ok-write_empty_entry.ensures.written honest) (c.copy_content.ensures.after.torn second)
     m.result c.in_ok-digest.digest m.ensures.name m.ensures.kind m.ensures.digest m.ensures.gap m.ensures.len (c.in_ok-digest.ensures.digest_len _) c.describe.ensures.metadata c.places_fit.ensures
     _ c.describe.ensures.after.after.calls.same_length
-    _ _ (search rules fits 100) c.in_ok-digest.ensures.digest (c.in_ok-digest.ensures.after.copied second) (c.describe.ensures.after.left third)
+    _ _ (search rules) c.in_ok-digest.ensures.digest (c.in_ok-digest.ensures.after.copied second) (c.describe.ensures.after.left third)
     )
 
 pub returns-clause-added : goal.returns-clause-added

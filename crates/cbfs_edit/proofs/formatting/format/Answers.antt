@@ -5,7 +5,7 @@ use Rattle.cbfs_edit.proofs.FormatLemmas.{format_done, format_stopped}
 use Rattle.cbfs_edit.proofs.formatting.format.Goals as goal
 
 pub returns-clause-after : goal.returns-clause-after
-returns-clause-after g c = search rules fits 100
+returns-clause-after g c = search rules
 
 pub returns-clause-formatted : goal.returns-clause-formatted
 returns-clause-formatted g c honest =

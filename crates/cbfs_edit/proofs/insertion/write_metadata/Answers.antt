@@ -12,7 +12,7 @@ returns g c =
     let held = c.held_back-skip.ensures in
     let x : List ℕ = bytes_in c.args.region (g.F.Flash.facts c.args.paged.now.device).content in
     record {
-      after = search rules fits 100;
+      after = search rules;
       written = λ honest.
           on_ok_weaker c.write_in.result (λ e.
           e

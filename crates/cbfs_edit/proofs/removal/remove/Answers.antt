@@ -3,6 +3,9 @@ use Rattle.flash_device.proofs.DeviceLemmas.{honest_still}
 use Rattle.cbfs_edit.proofs.Removals.{image_of, removal_leaves}
 use Rattle.cbfs_edit.proofs.removal.remove.Goals as goal
 
+pub returns-clause-refused : goal.returns-clause-refused
+returns-clause-refused g c = search rules
+
 pub returns-in_err-write_empty_entry-clause-stopped : goal.returns-in_err-write_empty_entry-clause-stopped
 returns-in_err-write_empty_entry-clause-stopped g c honest = λ is.
     removal_leaves c.args.region c.args.name.now c.in_ok-group.group (g.F.Flash.facts c.args.paged.now.device).content (g.F.Flash.facts c.find_group.new.paged.device).content _
@@ -11,7 +14,7 @@ returns-in_err-write_empty_entry-clause-stopped g c honest = λ is.
     (c.write_empty_entry.ensures.left (honest_still c.find_group.ensures.after.device.calls.same_honesty honest))
 
 pub returns-clause-after : goal.returns-clause-after
-returns-clause-after g c = search rules fits 100
+returns-clause-after g c = search rules
 
 pub returns-clause-image : goal.returns-clause-image
 returns-clause-image g c honest =

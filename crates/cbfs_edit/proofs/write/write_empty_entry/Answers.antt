@@ -8,14 +8,14 @@ use Rattle.cbfs_edit.proofs.write.write_empty_entry.Goals as goal
 pub returns-in_err-commit_in : goal.returns-in_err-commit_in
 returns-in_err-commit_in g c =
     let left = λ (honest : IsTrue (g.F.Flash.facts c.args.paged.now.device).honest). commit_left c.args.region c.args.group _ c.empty_header-header.result c.size.result c.requires.region c.requires.group c.size.ensures c.empty_header-header.ensures _ (c.commit_in.ensures.left honest) in
-    record { after = search rules fits 100; written = search rules fits 100; left = left }
+    record { after = search rules; written = search rules; left = left }
 
 pub returns : goal.returns
 returns g c =
     let n = c.space_end.result - (c.args.group.start + header_length) in
     let is_n = ap (λ k. k - (c.args.group.start + header_length)) c.space_end.ensures in
     record {
-      after = search rules fits 100;
+      after = search rules;
       written = λ honest.
           on_ok_weaker c.fill_in.result
           (fill_done c.args.region c.args.group _ c.empty_header-header.result c.size.result c.requires.region c.requires.group c.size.ensures c.empty_header-header.ensures _ _ n (c.in_ok-commit_in.ensures.written honest) is_n)

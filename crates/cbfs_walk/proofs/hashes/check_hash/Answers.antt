@@ -36,10 +36,10 @@ pub returns-in_ok-computed-in-Some-2-clause-value : goal.returns-in_ok-computed-
 returns-in_ok-computed-in-Some-2-clause-value g c = search rules
 
 pub returns-in-None-2-clause-value : goal.returns-in-None-2-clause-value
-returns-in-None-2-clause-value g c = search rules fits 100
+returns-in-None-2-clause-value g c = search rules
 
 pub returns-in-None-clause-value : goal.returns-in-None-clause-value
-returns-in-None-clause-value g c = search rules fits 100
+returns-in-None-clause-value g c = search rules
 
 pub returns-in_ok-computed-in-Some-2-clause-state : goal.returns-in_ok-computed-in-Some-2-clause-state
 returns-in_ok-computed-in-Some-2-clause-state g c = λ h stands. state_found c.args.region _ c.args.cell.now _ c.requires.region c.requires.component stands (returns-in_ok-computed-in-Some-2-clause-value g c h)

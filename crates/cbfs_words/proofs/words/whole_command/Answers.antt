@@ -3,7 +3,7 @@ use Rattle.std.proofs.Common.{rules}
 use Rattle.cbfs_words.proofs.words.whole_command.Goals as goal
 
 pub returns-clause-needs : goal.returns-clause-needs
-returns-clause-needs c = search rules fits 100
+returns-clause-needs c = search rules
 
 pub returns-clause-shape : goal.returns-clause-shape
-returns-clause-shape c = search rules fits 100
+returns-clause-shape c = search rules

@@ -17,7 +17,7 @@ loop-done-preserved g c =
     )
 
 pub returns-clause-cause : goal.returns-clause-cause
-returns-clause-cause g c = search rules fits 100
+returns-clause-cause g c = search rules
 
 pub returns-clause-part : goal.returns-clause-part
-returns-clause-part g c = search rules fits 100
+returns-clause-part g c = search rules

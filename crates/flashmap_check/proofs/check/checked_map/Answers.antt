@@ -4,7 +4,7 @@ use Rattle.flashmap_check.proofs.Telling.{none-told, map-told, none-listed, map-
 use Rattle.flashmap_check.proofs.check.checked_map.Goals as goal
 
 pub returns-in_default-clause-after : goal.returns-in_default-clause-after
-returns-in_default-clause-after g c = search rules fits 100
+returns-in_default-clause-after g c = search rules
 
 pub returns-in_default-clause-answer : goal.returns-in_default-clause-answer
 returns-in_default-clause-answer g c = λ h.

@@ -15,7 +15,7 @@ returns-in_err-push_areas-clause-refused t c =
     rw (p.1, p.2) (elim c.in_err-push_areas.ensures.refused [
       | inl memory ↦ inl memory
       | inr first ↦ inr (part-refused c.push.new.self.items c.in_err-push_areas.field-0.0 here
-          (rw (area-is c.args.at q s) (search rules fits 100)) first)
+          (rw (area-is c.args.at q s) (search rules)) first)
     ])
 
 pub loop-index-preserved : goal.loop-index-preserved
@@ -26,7 +26,7 @@ loop-index-preserved t c =
     c.loop-index.invariant c.deref-part-items.ensures.value c.loop-index-test.true c.part-item.is c.in_ok-places.ensures.len
     c.index-place.ensures in
     let below = c.in_ok-push_areas.ensures in
-    part-pushed c.push.new.self.items here (rw (area-is c.args.at q s) (search rules fits 100)) below.ok below.count below.refused
+    part-pushed c.push.new.self.items here (rw (area-is c.args.at q s) (search rules)) below.ok below.count below.refused
 
 pub index-place-requires : goal.index-place-requires
 index-place-requires t c = omega (arith, c.in_ok-places.ensures.len, ap length c.deref-part-items.ensures.value)

@@ -12,7 +12,7 @@ returns c =
     let few = few-sections (view c.args.root.now) c.in_ok-check_names_of.ensures in
     let given = sym (view-size c.args.root.now) ∙ size.ensures.size in
     record {
-      table = table-is c.args.root.now _ (search rules fits 100) given (search rules fits 100) laid.0;
+      table = table-is c.args.root.now _ (search rules) given (search rules) laid.0;
       few = omega (arith, ap length c.new-areas.ensures.items, pushed.count, few);
       refused = laid.1 ∙ c.in_ok-check_fmap.ensures;
     }

@@ -10,14 +10,14 @@ use Rattle.fmd_lang.proofs.layout.places.Goals as goal
 pub lay_row-requires : goal.lay_row-requires
 lay_row-requires c =
     let parts = (out-Section c.args.section.now).parts.items in
-    let row : c.deref-2.result.now ≡ siblings (suc c.args.number) (views parts) = search rules fits 100 in
+    let row : c.deref-2.result.now ≡ siblings (suc c.args.number) (views parts) = search rules in
     let count = view-count c.args.section.now in
     omega (arith, ap length row, length-siblings (suc c.args.number) parts, length-le-count parts, count, c.requires)
 
 pub returns-clause-len : goal.returns-clause-len
 returns-clause-len c =
     let parts = (out-Section c.args.section.now).parts.items in
-    let row : c.deref-2.result.now ≡ siblings (suc c.args.number) (views parts) = search rules fits 100 in
+    let row : c.deref-2.result.now ≡ siblings (suc c.args.number) (views parts) = search rules in
     let len = length-filled c.deref-2.result.now c.args.size 0 ∙ ap length row ∙ length-siblings (suc c.args.number) parts in
     IfOk-weaker c.lay_row.result (λ v. v.items ≡ places_of c.args.size 0 c.deref-2.result.now)
     (λ v. length v.items ≡ length parts) (λ v filled. ap length filled ∙ len) c.lay_row.ensures.filled
@@ -29,5 +29,5 @@ returns-clause-inside c =
 pub returns-clause-refused : goal.returns-clause-refused
 returns-clause-refused c =
     let row : c.deref-2.result.now ≡ siblings (suc c.args.number) (views (out-Section c.args.section.now).parts.items) =
-    search rules fits 100 in
+    search rules in
     rw (← row) c.lay_row.ensures.refused

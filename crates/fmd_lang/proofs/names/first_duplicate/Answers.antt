@@ -24,7 +24,7 @@ loop-number-preserved c =
     )
 
 pub loop-number-init : goal.loop-number-init
-loop-number-init c = (λ q. search rules fits 100, refl)
+loop-number-init c = (λ q. search rules, refl)
 
 pub returns-clause-ok : goal.returns-clause-ok
 returns-clause-ok c =

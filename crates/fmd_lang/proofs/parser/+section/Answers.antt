@@ -46,7 +46,7 @@ sections-loop-parts-preserved t c =
     token-takes {to = end_of token.word} (λ x. x ≡ w) (past 4) (past 0, suc c.args.depth) Name next refl c.in-Name.is (λ e. cc) refl refl in
     let part = rw add-one at c.in_ok-part-in-Name.ensures.1 in
     let one = reads-as (section-opens w (view c.in_ok-part-in-Name.part)) (reads-then word.reads part) in
-    let parts : c.push.new.self.items ≡ c.loop-parts.parts.items ++ c.in_ok-part-in-Name.part ∷ [] = search rules fits 100 in (
+    let parts : c.push.new.self.items ≡ c.loop-parts.parts.items ++ c.in_ok-part-in-Name.part ∷ [] = search rules in (
       omega (arith, c.loop-parts.invariant.0, word.ahead, c.in_ok-part-in-Name.ensures.0),
       rw parts (reads-as (sections-snoc c.loop-parts.parts.items c.in_ok-part-in-Name.part)
           (reads-then c.loop-parts.invariant.1 one)),

@@ -8,6 +8,6 @@ returns-clause-refused c = rw (le-ltb area_limit (length c.args.table.now.areas.
 
 pub loop-area-init : goal.loop-area-init
 loop-area-init c =
-    let len : c.len.result ≡ length c.args.table.now.areas.items = search rules fits 100 in
+    let len : c.len.result ≡ length c.args.table.now.areas.items = search rules in
     rw (c.in_ok-extend_from_slice.ensures.items, c.new-bytes.ensures.items, c.write.ensures.bytes, c.in-Ok.ensures.1, len, c.deref-area-items.ensures.value)
     refl

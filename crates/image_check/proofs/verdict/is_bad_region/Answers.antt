@@ -2,4 +2,4 @@ use Rattle.std.proofs.Common.{rules}
 use Rattle.image_check.proofs.verdict.is_bad_region.Goals as goal
 
 pub returns-in-Damaged : goal.returns-in-Damaged
-returns-in-Damaged c = search rules fits 100
+returns-in-Damaged c = search rules

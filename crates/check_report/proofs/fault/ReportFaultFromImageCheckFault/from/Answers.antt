@@ -2,4 +2,4 @@ use Rattle.std.proofs.Common.{rules}
 use Rattle.check_report.proofs.fault.ReportFaultFromImageCheckFault.from.Goals as goal
 
 pub returns-in-Device : goal.returns-in-Device
-returns-in-Device c = search rules fits 100
+returns-in-Device c = search rules

@@ -4,6 +4,9 @@ use Rattle.flash_device.proofs.DeviceLemmas.{honest_still}
 use Rattle.flash_device.proofs.WindowLemmas.{Covers-part}
 use Rattle.flash_device.proofs.paged.Paged.copy_out.Goals as goal
 
+pub copy_piece-requires-clause-short : goal.copy_piece-requires-clause-short
+copy_piece-requires-clause-short g c = omega arith
+
 pub loop-done-preserved : goal.loop-done-preserved
 loop-done-preserved g c =
     let had = c.loop-done.invariant in
@@ -37,4 +40,4 @@ pub returns-in_err-copy_piece-clause-pieces : goal.returns-in_err-copy_piece-cla
 returns-in_err-copy_piece-clause-pieces g c = λ h device.
     let had = c.loop-done.invariant in
     let left = c.loop-done-test.true in
-    AppendsPieces-kept _ _ _ _ c.args.at c.loop-done.done c.args.n left c.requires (had.whole_pieces left) (had.put h) (c.copy_piece.ensures.none (search rules fits 100))
+    AppendsPieces-kept _ _ _ _ c.args.at c.loop-done.done c.args.n left c.requires (had.whole_pieces left) (had.put h) (c.copy_piece.ensures.none (search rules))

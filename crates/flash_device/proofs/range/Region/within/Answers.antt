@@ -2,4 +2,4 @@ use Rattle.std.proofs.Common.{rules}
 use Rattle.flash_device.proofs.range.Region.within.Goals as goal
 
 pub returns : goal.returns
-returns c = search rules fits 100
+returns c = search rules
