@@ -10,6 +10,8 @@ mod edit;
 #[cfg(test)]
 mod report;
 #[cfg(test)]
+mod rows;
+#[cfg(test)]
 mod support;
 #[cfg(test)]
 mod walk;

@@ -115,8 +115,19 @@ pub fn writer(piece: usize, room: usize, bytes: &[u8]) -> WriteSink<Short<'_>> {
     })
 }
 
+/// Whether it was given its bytes, and no others.
+pub fn took_all(writer: WriteSink<Short<'_>>) -> bool {
+    let Short { rest, differs, .. } = writer.into_inner();
+    rest.is_empty() && !differs
+}
+
 /// It was given its bytes, and no others.
 pub fn has_all(rt: &impl Abort, writer: WriteSink<Short<'_>>) {
+    assert!(rt; took_all(writer));
+}
+
+/// It was given nothing, of so many bytes that were wanted.
+pub fn took_none(rt: &impl Abort, writer: WriteSink<Short<'_>>, wanted: usize) {
     let Short { rest, differs, .. } = writer.into_inner();
-    assert!(rt; rest.is_empty() && !differs);
+    assert!(rt; rest.len() == wanted && !differs);
 }

@@ -1,3 +1,3 @@
 //! The compiler of descriptors, and the formats.
-mod descriptors;
+pub mod descriptors;
 mod formats;

@@ -1,7 +1,9 @@
 //! Outputs that fail at each place, the size of a new image, and creations that are refused or stopped.
 
 use crate::edit::deeds::{COREBOOT, answer_into, stopped};
-use crate::edit::support::{Held, LEN, MAP, Stop, device_of, image_of, source_of, stopping};
+use crate::edit::support::{LEN, MAP, Stop, source_of, stopping};
+use crate::rows::hostile::{A_AND_404, PADDED};
+use crate::rows::support::board;
 use crate::support::{ALL, device_from, ends_with, equal, filled, has_all, writer};
 use arrayvec::ArrayVec;
 use cbfs_commands::{Command, MOST_REGIONS, Refusal, create_size};
@@ -31,7 +33,7 @@ fn tells(
         part: 0,
         reads: 0,
     };
-    let mut paged = stopping(device_of(rt, Held::WithA), stop);
+    let mut paged = stopping(device_from(rt, board(rt, PADDED)), stop);
     let mut out = writer(piece, room, text);
     equal(
         rt,
@@ -53,13 +55,12 @@ fn tells_what_has_room(rt: &(impl Abort + AllocGlobal), command: &Command, text:
 }
 
 fn prints(rt: &(impl Abort + AllocGlobal)) {
-    let rows = b"a\t0x0\traw\t10\tnone\n(empty)\t0x40\tnull\t416\tnone\n";
-    tells_what_has_room(rt, &PRINT, rows);
+    tells_what_has_room(rt, &PRINT, A_AND_404);
 }
 
 fn lays_out(rt: &(impl Abort + AllocGlobal)) {
-    let areas = b"fmap\t0x0\tFLASH\t1536\t3\nFMAP\t0x0\t512\t0x0\nCOREBOOT\t0x200\t512\t0x0\n\
-REST\t0x400\t512\t0x0\n";
+    let areas = b"fmap\t0x0\tFLASH\t4096\t3\nFMAP\t0x0\t512\t0x0\nCOREBOOT\t0x200\t512\t0x0\n\
+REST\t0x400\t3072\t0x0\n";
     tells_what_has_room(rt, &Command::Layout, areas);
 }
 
@@ -72,7 +73,7 @@ fn extracts(rt: &(impl Abort + AllocGlobal)) {
 }
 
 fn reads(rt: &(impl Abort + AllocGlobal)) {
-    let image = image_of(rt, Held::WithA);
+    let image = board(rt, PADDED);
     let region = image.get(0x200..0x400).expect(rt, "a region");
     tells_what_has_room(rt, &Command::Read { region: COREBOOT }, region);
 }

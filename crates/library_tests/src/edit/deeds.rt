@@ -10,7 +10,7 @@ use std::process::Abort;
 
 pub const COREBOOT: &[u8] = b"COREBOOT";
 
-pub const RUN_ADD: Command<'static> = Command::Add {
+const RUN_ADD: Command<'static> = Command::Add {
     region: COREBOOT,
     name: b"b",
     kind: 0x50,

@@ -1,9 +1,10 @@
 //! An image whose region takes several pieces, from a source and on a device that stop at each call in turn.
 
-use crate::edit::deeds::{COREBOOT, RUN_ADD, stopped};
+use crate::edit::deeds::{COREBOOT, stopped};
 use crate::edit::support::{Stop, components};
 use crate::support::{ALL, Parts, device_from, ends_with, filled, image_with, same_bytes};
 use cbfs_commands::{Command, Refusal};
+use cbfs_edit::{HashChoice, Spot};
 use flash_store::MemFlash;
 use std::process::Abort;
 
@@ -16,13 +17,23 @@ F\0\0\0\0\0\0\0\0\0\0\0\0\0\0\0\0\0\0\0\0\0\0\0\0\0\0\0\0\0\0\0\x02\0\
 /// Where the region COREBOOT stands, and its length.
 const HALF: usize = 16384;
 
-/// Headers of empty entries at its end, of all of it and of 7296 bytes.
+/// Headers of empty entries at its end, of all of it and of 7104 bytes, and of one of 192 bytes.
 const LAST_16384: [u8; 28] = *b"LARCHIVE\0\0\x3f\xe0\xff\xff\xff\xff\0\0\0\0\0\0\0\x1c\0\0\0\0";
 
-const LAST_7296: [u8; 28] = *b"LARCHIVE\0\0\x1c\x60\xff\xff\xff\xff\0\0\0\0\0\0\0\x1c\0\0\0\0";
+const LAST_7104: [u8; 28] = *b"LARCHIVE\0\0\x1b\xa0\xff\xff\xff\xff\0\0\0\0\0\0\0\x1c\0\0\0\0";
 
-/// What stands before the 9000 bytes of a component `b`.
-const B_9000: [u8; 28] = *b"LARCHIVE\0\0\x23\x28\0\0\0\x50\0\0\0\0\0\0\0\x1cb\0\0\0";
+const EMPTY_192: [u8; 28] = *b"LARCHIVE\0\0\0\xa4\xff\xff\xff\xff\0\0\0\0\0\0\0\x1c\0\0\0\0";
+
+/// What stands before a gap of 36 bytes and the 9000 bytes of a component `b`.
+const B_9000: [u8; 28] = *b"LARCHIVE\0\0\x23\x28\0\0\0\x50\0\0\0\0\0\0\0\x40b\0\0\0";
+
+const ADD: Command<'static> = Command::Add {
+    region: COREBOOT,
+    name: b"b",
+    kind: 0x50,
+    hash: HashChoice::Plain,
+    spot: Spot::Aligned(256),
+};
 
 const WRITE: Command<'static> = Command::Write { region: COREBOOT };
 
@@ -137,7 +148,7 @@ fn adds(
         part: 0,
         reads,
     };
-    stopped(rt, device(rt), &RUN_ADD, bytes, stop, want)
+    stopped(rt, device(rt), &ADD, bytes, stop, want)
 }
 
 /// The source stops the addition, and there is no component.
@@ -149,7 +160,12 @@ fn stops(rt: &(impl Abort + AllocGlobal), bytes: &[u8], reads: u64) {
 /// The image has then a component of 9000 bytes.
 fn finishes(rt: &(impl Abort + AllocGlobal), bytes: &[u8], reads: u64) {
     let device = adds(rt, bytes, reads, &Ok(()));
-    let parts: Parts = &[(0, &B_9000), (28, bytes), (9088, &LAST_7296)];
+    let parts: Parts = &[
+        (0, &EMPTY_192),
+        (192, &B_9000),
+        (256, bytes),
+        (9280, &LAST_7104),
+    ];
     ends_with(rt, device, halves(rt, parts));
 }
 

@@ -2,7 +2,7 @@
 ghost use Rattle.std.specs.Prelude.{◌≡◌, ◌+◌, true, false, IsTrue};
 
 use crate::edit::deeds::{Deed, before, does, leaves};
-use crate::edit::support::{Held, MAGIC_20, device_of, holds, region_of, source_of};
+use crate::edit::support::{Held, MAGIC_20, device_of, region_of, source_of};
 use crate::support::equal;
 use cbfs_edit::{Edit, EditFault, Freed, HashChoice, Placed, Reply, Spot, apply_all};
 use flash_format::HEADER_LENGTH;

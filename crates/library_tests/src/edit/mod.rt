@@ -1,7 +1,7 @@
 //! Edits, and commands.
 mod commands;
-mod deeds;
+pub mod deeds;
 mod halves;
 mod lists;
 mod stops;
-mod support;
+pub mod support;

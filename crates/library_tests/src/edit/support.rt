@@ -24,47 +24,48 @@ pub const START: usize = 512;
 pub const SIZE: usize = 512;
 
 /// Deleted space of 20 bytes.
-const DELETED: [u8; 28] = *b"LARCHIVE\0\0\0\x14\0\0\0\0\0\0\0\0\0\0\0\x1c\0\0\0\0";
+pub const DELETED: [u8; 28] = *b"LARCHIVE\0\0\0\x14\0\0\0\0\0\0\0\0\0\0\0\x1c\0\0\0\0";
 
 /// A component `m` of five bytes.
-const M: [u8; 45] =
+pub const M: [u8; 45] =
     *b"LARCHIVE\0\0\0\x05\0\0\0\x50\0\0\0\0\0\0\0\x28m\0\0\0\0\0\0\0\0\0\0\0\0\0\0\012345";
 
 /// A component `x` of one byte.
-const X1: [u8; 41] =
+pub const X1: [u8; 41] =
     *b"LARCHIVE\0\0\0\x01\0\0\0\x50\0\0\0\0\0\0\0\x28x\0\0\0\0\0\0\0\0\0\0\0\0\0\0\01";
 
 /// A component `x` of two bytes.
-const X2: [u8; 42] =
+pub const X2: [u8; 42] =
     *b"LARCHIVE\0\0\0\x02\0\0\0\x50\0\0\0\0\0\0\0\x28x\0\0\0\0\0\0\0\0\0\0\0\0\0\0\022";
 
 /// Free space of 340 bytes after a name field of 16.
-const NULL_340: [u8; 40] =
+pub const NULL_340: [u8; 40] =
     *b"LARCHIVE\0\0\x01\x54\xff\xff\xff\xff\0\0\0\0\0\0\0\x28\0\0\0\0\0\0\0\0\0\0\0\0\0\0\0\0";
 
 /// The component `a` of ten bytes, as it is added.
-const A: [u8; 38] = *b"LARCHIVE\0\0\0\x0a\0\0\0\x50\0\0\0\0\0\0\0\x1ca\0\0\00123456789";
+pub const A: [u8; 38] = *b"LARCHIVE\0\0\0\x0a\0\0\0\x50\0\0\0\0\0\0\0\x1ca\0\0\00123456789";
 
 /// A component `b` of 20 bytes, as it is added, and the same but for its content, which stands behind a gap of 36.
-const B: [u8; 48] = *b"LARCHIVE\0\0\0\x14\0\0\0\x50\0\0\0\0\0\0\0\x1cb\0\0\0LARCHIVE89abcdefghij";
+pub const B: [u8; 48] =
+    *b"LARCHIVE\0\0\0\x14\0\0\0\x50\0\0\0\0\0\0\0\x1cb\0\0\0LARCHIVE89abcdefghij";
 
-const B_BEFORE_GAP: [u8; 28] = *b"LARCHIVE\0\0\0\x14\0\0\0\x50\0\0\0\0\0\0\0\x40b\0\0\0";
+pub const B_BEFORE_GAP: [u8; 28] = *b"LARCHIVE\0\0\0\x14\0\0\0\x50\0\0\0\0\0\0\0\x40b\0\0\0";
 
 /// Content that looks like an entry.
 pub const MAGIC_20: [u8; 20] = *b"LARCHIVE89abcdefghij";
 
 /// Headers of empty entries inside a region, by their sizes, and of such at its end.
-const EMPTY_64: [u8; 28] = *b"LARCHIVE\0\0\0\x24\xff\xff\xff\xff\0\0\0\0\0\0\0\x1c\0\0\0\0";
+pub const EMPTY_64: [u8; 28] = *b"LARCHIVE\0\0\0\x24\xff\xff\xff\xff\0\0\0\0\0\0\0\x1c\0\0\0\0";
 
-const EMPTY_128: [u8; 28] = *b"LARCHIVE\0\0\0\x64\xff\xff\xff\xff\0\0\0\0\0\0\0\x1c\0\0\0\0";
+pub const EMPTY_128: [u8; 28] = *b"LARCHIVE\0\0\0\x64\xff\xff\xff\xff\0\0\0\0\0\0\0\x1c\0\0\0\0";
 
-const LAST_192: [u8; 28] = *b"LARCHIVE\0\0\0\xa0\xff\xff\xff\xff\0\0\0\0\0\0\0\x1c\0\0\0\0";
+pub const LAST_192: [u8; 28] = *b"LARCHIVE\0\0\0\xa0\xff\xff\xff\xff\0\0\0\0\0\0\0\x1c\0\0\0\0";
 
-const LAST_384: [u8; 28] = *b"LARCHIVE\0\0\x01\x60\xff\xff\xff\xff\0\0\0\0\0\0\0\x1c\0\0\0\0";
+pub const LAST_384: [u8; 28] = *b"LARCHIVE\0\0\x01\x60\xff\xff\xff\xff\0\0\0\0\0\0\0\x1c\0\0\0\0";
 
-const LAST_448: [u8; 28] = *b"LARCHIVE\0\0\x01\xa0\xff\xff\xff\xff\0\0\0\0\0\0\0\x1c\0\0\0\0";
+pub const LAST_448: [u8; 28] = *b"LARCHIVE\0\0\x01\xa0\xff\xff\xff\xff\0\0\0\0\0\0\0\x1c\0\0\0\0";
 
-const LAST_512: [u8; 28] = *b"LARCHIVE\0\0\x01\xe0\xff\xff\xff\xff\0\0\0\0\0\0\0\x1c\0\0\0\0";
+pub const LAST_512: [u8; 28] = *b"LARCHIVE\0\0\x01\xe0\xff\xff\xff\xff\0\0\0\0\0\0\0\x1c\0\0\0\0";
 
 /// What a region holds.
 #[derive(Clone, Copy)]

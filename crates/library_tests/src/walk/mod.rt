@@ -1,4 +1,4 @@
 //! Walks, digests, and what they stand on: devices, the buffer, files.
 mod hashes;
 mod store;
-mod walks;
+pub mod walks;

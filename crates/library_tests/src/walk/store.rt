@@ -1,6 +1,6 @@
 //! What no clause shows of the store: bytes from outside, and that calls do their work. Files of the system, their lengths and
 //! locks are shown by `checks/check_cbfstool`, `checks/check_create`, `checks/check_files` and `checks/check_cbfscheck`.
-use crate::support::{device_with, equal, same_bytes};
+use crate::support::{device_with, equal, filled, same_bytes, write_over};
 use flash_format::HEADER_LENGTH;
 use flash_store::{
     Erased, FlakyFile, Flash, MemFlash, MemSource, Paged, Source, StoreFault, StoredFlash,
@@ -147,4 +147,39 @@ fn write_parts(rt: &impl Abort, device: &mut StoredFlash<Erased<FlakyFile>>) {
 #[test]
 fn a_file_that_refuses_is_not_erased(rt: HostRuntime) {
     assert!(rt; Erased::erase(flaky(&rt, 7, 10)).is_err());
+}
+
+// ---- a header over a border between two blocks of a file
+
+/// Where a header begins that has twelve bytes in one block and sixteen in the next.
+const OVER_THE_BORDER: u64 = 4096 - 12;
+
+const NEW_HEADER: [u8; HEADER_LENGTH] = *b"twenty-eight bytes of header";
+
+/// Commits the header to a file that moves at most so many bytes a call and refuses all calls after
+/// the first few. It is done or not, and the file has the new bytes or the old ones.
+fn commits(rt: &(impl Abort + AllocGlobal), most: usize, calls: u64, is_done: bool) {
+    let mut wanted = filled(rt, b'o', 8192);
+    let old = filled(rt, b'o', 8192);
+    assert!(rt; old.len() == 8192);
+    let mut device = StoredFlash::new(FlakyFile::new(old, most, 5000, calls));
+    assert!(rt; device.len() == 8192);
+    let answer = device.commit_at(OVER_THE_BORDER, &NEW_HEADER);
+    equal(rt, &answer.is_ok(), &is_done);
+    if is_done {
+        write_over(&mut wanted, 4096 - 12, &NEW_HEADER);
+    }
+    same_bytes(rt, device.into_inner().bytes(), &wanted);
+    drop(wanted);
+}
+
+/// A file that writes no more than twelve bytes of it at first refuses it.
+#[test]
+fn a_header_over_a_border_is_whole_or_absent(rt: HostRuntime) {
+    commits(&rt, 12, 5000, false);
+    commits(&rt, 27, 5000, false);
+    commits(&rt, 28, 0, false);
+    commits(&rt, 28, 1, false);
+    commits(&rt, 28, 2, false);
+    commits(&rt, 28, 3, true);
 }

@@ -10,7 +10,7 @@ use flash_store::{Counter, Flash, FlashFault, Paged, Region};
 use std::marker::Model;
 use std::process::Abort;
 
-type Answer = Result<Step, WalkFault>;
+pub type Answer = Result<Step, WalkFault>;
 
 /// Free space of 340 bytes.
 const NULL_340: [u8; 40] =
@@ -27,9 +27,9 @@ const WIDE: [u8; 24] = *b"LARCHIVE\0\0\0\x0a\0\0\0\x50\0\0\0\0\0\0\0\x58";
 const LIE: [u8; 64] =
     *b"LARCHIVE\0\0\0\0\0\0\0\x50\0\0\0\0\0\0\0\x28l\0\0\0\0\0\0\0\0\0\0\0\0\0\0\0\0\0\0\0\0\0\0\0\0\0\0\0\0\0\0\0\0\0\0\0\0\0\0\0";
 
-const RAW: u32 = 0x50;
+pub const RAW: u32 = 0x50;
 
-const NULL: u32 = 0xffff_ffff;
+pub const NULL: u32 = 0xffff_ffff;
 
 /// The whole of a device.
 pub fn whole<F: Flash>(rt: &impl Abort, paged: &Paged<F>) -> Region
@@ -39,7 +39,7 @@ pub fn whole<F: Flash>(rt: &impl Abort, paged: &Paged<F>) -> Region
 }
 
 /// The next answers of a walk are these.
-fn answers<F: Flash>(rt: &impl Abort, walk: &mut Walk, paged: &mut Paged<F>, want: &[Answer])
+pub fn answers<F: Flash>(rt: &impl Abort, walk: &mut Walk, paged: &mut Paged<F>, want: &[Answer])
     requires { LiesIn walk.old.region (F.facts paged.old.device).content }
     ensures region { walk.new.region ≡ walk.old.region }
     ensures lies { LiesIn walk.new.region (F.facts paged.new.device).content }
@@ -70,7 +70,7 @@ fn cell(at: u64, len: u32, kind: u32, span: u64) -> Cell {
     Cell { at, head, span }
 }
 
-fn gives(at: u64, len: u32, kind: u32, span: u64) -> Answer {
+pub fn gives(at: u64, len: u32, kind: u32, span: u64) -> Answer {
     Ok(Step::Cell(cell(at, len, kind, span)))
 }
 
