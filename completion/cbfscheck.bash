@@ -1,22 +1,53 @@
-# Completion of cbfscheck for bash: options, and files for its two images. It offers no names of areas.
+# Completion of cbfscheck for bash: options, files for its two images, and the areas of an image on the line, as cbfstool
+# lists them (none of an image that may not be written, or that another command has locked for a second).
+
+# _cbfscheck_areas: offers the areas of the image that the line names first; `before` is what stands before a name in the word
+_cbfscheck_areas() {
+    local head shown name tool=cbfstool quote=""
+    [[ ${COMP_WORDS[0]} != */* ]] || tool=${COMP_WORDS[0]%/*}/cbfstool
+    [[ -n $image && $image != -* ]] || return 0
+    image=${image//[\"\'\\]/}
+    [[ $image != "~/"* ]] || image=$HOME/${image#"~/"}
+    {
+        IFS= read -r head && [[ $head == fmap$'\t'* ]] || return 0
+        while IFS=$'\t' read -r shown _; do
+            printf -v name %b "$shown"
+            [[ $before$name != "$cur"* ]] || { printf -v shown '%s%q' "$before" "$name" && COMPREPLY+=("$shown"); }
+        done
+    } < <(timeout 1 "$tool" "$image" layout 2> /dev/null)
+}
 
 _cbfscheck() {
-    local cur=${COMP_WORDS[COMP_CWORD]} word option text="" images=0 given=" "
+    local cur=${COMP_WORDS[COMP_CWORD]} word option text="" images=0 image="" given=" " before="" at wanted=""
     COMPREPLY=()
-    for word in "${COMP_WORDS[@]:1:COMP_CWORD-1}"; do
+    for ((at = 1; at < ${#COMP_WORDS[@]}; at++)); do
+        word=${COMP_WORDS[at]}
+        # (whether the word at the cursor is the text of an option)
+        [[ $at != "$COMP_CWORD" ]] || wanted=$text
         if [[ $text ]]; then
             # (bash parts `--keep=NAME` at its mark)
             [[ $word == "=" ]] || text=
             continue
         fi
+        [[ $at != "$COMP_CWORD" ]] || continue
         case $word in
-            -r | --keep) given+="$word " text=yes ;;
+            -r | --keep) text=yes ;;
+            -* | =) ;;
+            *) [[ $image ]] || image=$word ;;
+        esac
+        [[ $at -lt $COMP_CWORD ]] || continue
+        case $word in
+            -r | --keep) given+="$word " ;;
             -r*) given+="-r " ;;
             -*) given+="$word " ;;
             *) images=$((images + 1)) ;;
         esac
     done
-    if [[ $text ]]; then
+    [[ $cur != "=" ]] || cur=
+    if [[ $wanted || $cur == -r?* ]]; then
+        [[ $cur != *,* ]] || before=${cur%,*},
+        [[ $wanted || $before ]] || before=-r
+        _cbfscheck_areas
         return 0
     elif [[ $cur != -* ]]; then
         ((images > 1)) || compopt -o default

@@ -1,15 +1,17 @@
-# Completion of cbfscheck for fish: options, and files for its two images. It offers no names of areas.
+# Completion of cbfscheck for fish: options, files for its two images, and the areas of an image on the line, as cbfstool lists
+# them (none of an image that may not be written, or that another command has locked for a second).
 
-# Whether no word before begins with this option.
+# Whether no word before begins with this option, but the last one where its text is still to come.
 function __cbfscheck_lacks
-    not string match -q -- "$argv[1]*" (commandline -opc)[2..]
+    set -l words (commandline -opc)
+    contains -- $words[-1] -r --keep; and set -e words[-1]
+    not string match -q -- "$argv[1]*" $words[2..]
 end
 
-# Whether the words before have fewer than two images, and the last one isn't an option that wants a name.
-function __cbfscheck_wants_image
+# Of the words that are given the images, without the texts of options.
+function __cbfscheck_images
     set -l text no
-    set -l images 0
-    for word in (commandline -opc)[2..]
+    for word in $argv[2..]
         if test $text = yes
             set text no
             continue
@@ -19,15 +21,45 @@ function __cbfscheck_wants_image
                 set text yes
             case '-*'
             case '*'
-                set images (math $images + 1)
+                printf '%s\n' $word
         end
     end
-    test $text = no -a $images -lt 2
+    test $text = no
+end
+
+# Whether the words before have fewer than two images, and the last one isn't an option that wants a name.
+function __cbfscheck_wants_image
+    set -l images (__cbfscheck_images (commandline -opc)); or return 1
+    test (count $images) -lt 2
+end
+
+# The areas of the image that the line names first.
+function __cbfscheck_areas
+    set -l words (commandline -op)
+    set -l tool cbfstool
+    string match -q '*/*' -- $words[1]; and set tool (string replace -r '/[^/]*$' /cbfstool -- (string unescape -- $words[1]))
+    # (the words before the one at the cursor, and those after it)
+    set -l given (commandline -opc)
+    set -l next (math (count $given) + 1)
+    test -z "$(commandline -ct)"; or set next (math $next + 1)
+    # (the text that is completed is none of them)
+    set -l later
+    test $next -gt (count $words); or set later $words[$next..]
+    set -l images (__cbfscheck_images $given) (__cbfscheck_images $words[1] $later)
+    set -q images[1]; or return
+    set -l image (string replace -r '^~/' "$HOME/" -- (string unescape -- $images[1]))
+    set -l rows (timeout 1 $tool $image layout 2> /dev/null)
+    string match -q -r '^fmap\t' -- $rows[1]; or return
+    # (what stands before the names, without the option in the same word)
+    set -l before (string replace -r '^(-r|--keep=)' '' -- (commandline -ct) | string match -r '^.*,')
+    for shown in (printf '%s\n' $rows[2..] | cut -f 1)
+        printf '%s%b\n' "$before" $shown
+    end
 end
 
 complete -c cbfscheck -f
 complete -c cbfscheck -n __cbfscheck_wants_image -F
-complete -c cbfscheck -n '__cbfscheck_lacks -r' -s r -x -d 'areas that are looked at as a CBFS'
-complete -c cbfscheck -n '__cbfscheck_lacks -v' -s v -d 'tell components without a digest too'
+complete -c cbfscheck -n '__cbfscheck_lacks -r' -s r -x -a '(__cbfscheck_areas)' -d 'areas that are checked as a CBFS'
+complete -c cbfscheck -n '__cbfscheck_lacks -v' -s v -d 'report components without a digest too'
 complete -c cbfscheck -n '__cbfscheck_lacks --json' -l json -d 'report as one JSON document'
-complete -c cbfscheck -n '__cbfscheck_lacks --keep' -l keep -x -d 'areas that the new image must not change'
+complete -c cbfscheck -n '__cbfscheck_lacks --keep' -l keep -x -a '(__cbfscheck_areas)' -d 'areas that the new image must not change'

@@ -1,5 +1,6 @@
 # Completion of cbfstool for bash: commands, options, types and digests; regions as `layout` lists them, and components as
-# `print` does. A program of the same name that lists otherwise gives no names.
+# `print` does. A program of the same name that lists otherwise gives no names, and an image that another command has locked
+# for a second gives none either.
 
 # _cbfstool_words: `words` are the words up to the cursor, joined again where bash parts them at one of its marks
 _cbfstool_words() {
@@ -38,6 +39,11 @@ _cbfstool_offer() {
     [[ $quote || -z $mark ]] || COMPREPLY=("${COMPREPLY[@]#"$mark"}")
 }
 
+# _cbfstool_list FILE COMMAND..: what the program lists, unless that takes more than a second
+_cbfstool_list() {
+    timeout 1 "$tool" "$@" 2> /dev/null
+}
+
 # _cbfstool_regions FILE: the names of the areas, as `names`; none where the listing isn't ours
 _cbfstool_regions() {
     local head shown name
@@ -48,14 +54,16 @@ _cbfstool_regions() {
             printf -v name %b "$shown"
             names+=("$name")
         done
-    } < <("$tool" "$1" layout 2> /dev/null)
+    } < <(_cbfstool_list "$1" layout)
 }
 
 # _cbfstool_holding FILE: those of the `names` whose region holds components
 _cbfstool_holding() {
-    local name held=()
+    local name first held=()
     for name in "${names[@]}"; do
-        [[ -z $("$tool" "$1" print "-r=$name" 2> /dev/null | head -c 1) ]] || held+=("$name")
+        # (124 is that of `timeout`)
+        first=$(_cbfstool_list "$1" print "-r=$name" | head -c 1; ((PIPESTATUS[0] != 124))) || break
+        [[ -z $first ]] || held+=("$name")
     done
     names=("${held[@]}")
 }
@@ -70,7 +78,7 @@ _cbfstool_components() {
         [[ $shown != "(empty)" || $kind != @(null|deleted) ]] || continue
         printf -v name %b "$shown"
         names+=("$name")
-    done < <("$tool" "$1" print "-r=$2" 2> /dev/null)
+    done < <(_cbfstool_list "$1" print "-r=$2")
 }
 
 # _cbfstool_given LETTER: whether the option was given; its text as `given`

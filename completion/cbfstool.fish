@@ -1,5 +1,6 @@
 # Completion of cbfstool for fish: commands, options, types and digests; regions as `layout` lists them, and components as
-# `print` does. A program of the same name that lists otherwise gives no names.
+# `print` does. A program of the same name that lists otherwise gives no names, and an image that another command has locked
+# for a second gives none either.
 
 # The file of the image, without what quotes it.
 function __cbfstool_image
@@ -56,7 +57,7 @@ end
 function __cbfstool_areas
     set -l words (commandline -opc)
     string unescape -- $words[1] | read -l tool
-    set -l rows ($tool $argv[1] layout 2> /dev/null)
+    set -l rows (timeout 1 $tool $argv[1] layout 2> /dev/null)
     string match -q -r '^fmap\t' -- $rows[1]; or return 1
     printf '%s\n' $rows[2..] | cut -f 1
 end
@@ -66,7 +67,11 @@ function __cbfstool_holding
     set -l words (commandline -opc)
     string unescape -- $words[1] | read -l tool
     while read -l name
-        $tool $argv[1] print -r=$name 2> /dev/null | read -l row; and printf '%s\n' $name
+        timeout 1 $tool $argv[1] print -r=$name 2> /dev/null | read -l row
+        set -l ended $pipestatus
+        # (124 is that of `timeout`)
+        test $ended[1] -ne 124; or return
+        test $ended[2] -eq 0; and printf '%s\n' $name
     end
 end
 
@@ -91,7 +96,7 @@ function __cbfstool_components
     set -l file (__cbfstool_image)
     __cbfstool_areas $file > /dev/null; or return
     string unescape -- $words[1] | read -l tool
-    $tool $file print -r=$region 2> /dev/null |
+    timeout 1 $tool $file print -r=$region 2> /dev/null |
         string match -rv '^\(empty\)\t[^\t]*\t(null|deleted)\t' | cut -f 1 | __cbfstool_names
 end
 
