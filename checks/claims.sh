@@ -1,4 +1,5 @@
 # What checks/claims compares, with the pages of the folder `pages`.
+# shellcheck shell=bash
 
 # claims CHECK..: these checks of the pages, in a new folder
 claims() {
@@ -41,6 +42,7 @@ tried() {
     again "$@"
 }
 again() {
+    tick
     status=0
     cbfstool tried.rom "$@" > printed 2> told || status=$?
 }
@@ -179,6 +181,11 @@ defaults() {
     [ "$count" = "$(section cbfstool.1 DESCRIPTION | grep -ci 'the default is')" ] && [ "$count" -gt 2 ] || fail "claims: $count defaults were tried"
 }
 
+# format: the file of docs/FORMAT.md
+format() {
+    if [ -e "$pages/FORMAT.md" ]; then echo "$pages/FORMAT.md"; else echo "$top/docs/FORMAT.md"; fi
+}
+
 # listed_refusals: the pages list the refusals of the sources with their numbers, and FORMAT.md lists those of the pages
 listed_refusals() {
     # (with the place and the word of the page's example)
@@ -194,6 +201,11 @@ listed_refusals() {
     sed -n '/^fn damage/,/^}/s/.*=> "\(.*\)",/\1/p' "$top/crates/cbfs_commands/src/refusal.rt" | sort | diff kinds - ||
         fail "claims: cbfstool.1 has other kinds of damage"
     mv listed refusals
+    # (each kind of damage has the number that it has in the sources)
+    sed -n '/^pub enum DamageKind/,/^}/s/^ *\([A-Za-z]*\) = \([0-9]*\),$/\2 \1/p' "$top/crates/flash_format/src/head.rt" > sources
+    [ "$(wc -l < sources)" = 5 ] || fail "claims: the sources have $(wc -l < sources) kinds of damage"
+    sed -n '/^## Entries/,/^## Cuts/s/^| \([0-9]*\) \([A-Za-z]*\) |.*/\1 \2/p' "$(format)" | diff sources - > differ ||
+        fail "claims: FORMAT.md has other numbers of damage: $(cat differ)"
     awk '/\/\/\/ [0-9]+: / { number = $2 + 0 } /#\[error\("/ { text = $0; sub(/.*#\[error\("/, "", text); sub(/".*/, "", text)
         if (number && text != "{0}") print number, text }' "$top/crates/fmd_lang/src/fault.rt" "$top/crates/fmap_compiler/src/refusal.rt" |
         sed 's/{at}/N/; s/{section}/N/; s/{what}/W/' > sources
@@ -447,6 +459,7 @@ compiler_refusals() {
 
 # compiles TEXT: what the compiler says of a descriptor
 compiles() {
+    tick
     status=0
     printf '%s' "$1" > text.fmd
     fmaptool text.fmd out.fmap 2> told || status=$?
@@ -502,7 +515,7 @@ limit() {
 
 # limits: what the pages say of the most and the least holds, and one more or less is refused
 limits() {
-    local type list text
+    local type list text at
     # types
     while read -r type; do
         tried add -n new -t "$type" -f abc
@@ -527,6 +540,15 @@ limits() {
     [ "$status" = 0 ] || fail "claims: a name of $limit bytes is refused"
     tried add -n "$(printf "%0$((limit + 1))d" 0)" -t raw -f abc
     [ "$status" = 1 ] || fail "claims: a name of $((limit + 1)) bytes is taken"
+    # the gap before a content, at 65 places of the content (the header and the field of the name have 28 bytes)
+    limit cbfstool.1 'Up to N bytes of 0xff may separate header and content'
+    for at in $(seq 32768 32832); do
+        tried add -n new -t raw -f abc -b "$at"
+        cbfstool tried.rom print > listed
+        echo $((at - $(sed -n 's/^new\t\(0x[0-9a-f]*\)\t.*/\1/p' listed) - 28))
+    done | sort -nu > gaps
+    seq 0 "$limit" | diff gaps - > differ || fail "claims: the gaps have other lengths: $(cat differ)"
+    grep "^| up to $limit | the gap, bytes 0xff," "$(format)" > /dev/null || fail "claims: FORMAT.md has no gap of $limit bytes"
     # regions of a new image
     limit cbfstool.1 'a list of at most N names'
     list=$(seq -s , -f R%.0f "$limit")
@@ -682,13 +704,59 @@ walks() {
     done < lines
 }
 
-# versions: the pages and the newest heading of CHANGELOG.md name the version
+# versions: the pages and the newest heading of CHANGELOG.md name the version, and that release has a date, from which
+# the archive and the package take the times of their files
 versions() {
-    local page version
+    local page version date
     version=$(cat "$top/VERSION")
     [[ $version =~ ^[0-9]+(\.[0-9]+)+$ ]] || fail "claims: $version is no version"
-    for page in cbfstool.1 fmaptool.1 fmd.5; do
+    for page in cbfstool.1 fmaptool.1 cbfscheck.1 fmd.5; do
         section "$page" HISTORY | grep -xF "This page is of version $version." > /dev/null || fail "claims: $page isn't of version $version"
     done
     [ "$(grep -m 1 '^## ' "$top/CHANGELOG.md")" = "## $version" ] || fail "claims: CHANGELOG.md begins with $(grep -m 1 '^## ' "$top/CHANGELOG.md"), and not with $version"
+    date=$(sed -n '/^## /,/^- /s/^Released on \(.*\)\.$/\1/p' "$top/CHANGELOG.md" | head -n 1)
+    [ "$(sed -n '/^## /{n;n;p;q}' "$top/CHANGELOG.md")" = "Released on $date." ] && LC_ALL=C date -u -d "$date" > /dev/null ||
+        fail "claims: CHANGELOG.md has no date of $version"
+}
+
+# wording: texts that users misread stand in no page for users any more, each with what took its place
+wording() {
+    local file found
+    for file in "$pages"/*.[15] "$top"/README.md "$top"/CONTRIBUTING.md "$top"/dist/README.md "$top"/docs/MOVING.md "$top"/CHANGELOG.md; do
+        # (as one line, since a text may be broken; without the macros of a page)
+        found=$(sed -E 's/^\.[A-Z][a-z]? //' "$file" | tr '\n' ' ' | grep -oE -e 'fit to be flashed' -e '\b(is|are) told\b' -e ', of which\b' -e '\bso is\b' \
+            -e 'any device call fails' -e 'which they .?on.t replace' -e 'what is there is lost' -e 'but (one of|by) .?create' \
+            -e 'bad where a command' -e 'it always hides that' || :)
+        [ -z "$found" ] || fail "claims: ${file##*/} says: $found"
+    done
+}
+
+# first_screen: the first 40 lines of a page name what answers the common question
+first_screen() {
+    local page text
+    while IFS='|' read -r page text; do
+        [ -e "$pages/$page" ] || fail "claims: there is no page $page"
+        awk '/^\.Sh DESCRIPTION/ { inside = 1 } inside && n++ < 40' "$pages/$page" | sed 's/\\-/-/g' | grep -F -e "$text" > /dev/null ||
+            fail "claims: $page doesn't begin with: $text"
+    done <<'ROWS'
+cbfstool.1|.Dl cbfstool image.rom print
+cbfstool.1|.Xr cbfscheck 1
+cbfscheck.1|.Dl cbfscheck -r COREBOOT image.rom
+cbfscheck.1|.Ss Not checked
+fmaptool.1|.Dl fmaptool board.fmd board.fmap
+fmd.5|COREBOOT(CBFS)
+ROWS
+}
+
+# readme: the README's first lines have the two commands, it names each of its three promises once, and its picture stands after
+# "Getting it" and has at most eight boxes
+readme() {
+    local file=$pages/README.md picture boxes
+    [ -e "$file" ] || file=$top/README.md
+    [ "$(head -n 12 "$file" | grep -cE '^\| `make (cbfstool|test)` \|')" = 2 ] || fail "claims: the README doesn't begin with make cbfstool and make test"
+    [ "$(sed -n '/^## What is promised/,/^## Building/p' "$file" | grep -cE '^[0-9]+\. ')" = 3 ] || fail "claims: the README hasn't three promises"
+    [ "$(grep -nE '^!\[|^## Getting it' "$file" | sed 's/.*](\(.*\)).*/\1/; s/.*## //' | head -n 1)" = "Getting it" ] || fail "claims: the README has a picture first"
+    picture=$(sed -n 's/^!\[.*](\(.*\))$/\1/p' "$file")
+    boxes=$(grep -c '<rect x=' "$top/$picture")
+    [ "$boxes" -gt 2 ] && [ "$boxes" -le 8 ] || fail "claims: $picture has $boxes boxes"
 }

@@ -21,7 +21,7 @@ zmodload zsh/zpty || exit
 PROMPT=
 fpath=(${(q)1} \$fpath)
 autoload -U compinit
-compinit -u -d ${(q)3}
+compinit -u -d ${(q)${3:a}}
 bindkey '^I' complete-word
 zstyle ':completion:*' insert-tab false
 compadd() {

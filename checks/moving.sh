@@ -1,4 +1,5 @@
 # What checks/moving runs its rows with: the files, what is compared, and what is made at random.
+# shellcheck shell=bash
 
 # board NUMBER: writes the descriptor of one of two boards, whose regions have the same names, other places and other sizes
 board() {

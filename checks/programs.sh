@@ -1,5 +1,7 @@
 # What the scripts share that run the programs by their names; for any shell of POSIX.
 
+. checks/counts.sh
+
 # programs [--built | CBFSTOOL FMAPTOOL CBFSCHECK]: goes to a new folder, with copies of the programs first on PATH: those
 # that it builds, those that lie in out/, or those given. Needs the repository as the current folder, which is `top` then.
 programs() {
@@ -15,6 +17,7 @@ programs() {
     [ $# = 3 ] || fail "wanted: nothing, --built, or three programs"
     work=$(mktemp -d)
     trap 'rm -rf "$work"' EXIT
+    count_in "$work"
     mkdir "$work/bin" "$work/scratch"
     cp "$1" "$work/bin/cbfstool"
     cp "$2" "$work/bin/fmaptool"

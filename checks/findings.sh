@@ -1,0 +1,88 @@
+# What the checks of cbfscheck share: reports, whose rows are written by hand, with | for a tab. The
+# texts that are seen go to the file seen; `cbfstool` stands in the current folder.
+
+# reports STATUS WORDS..: the program ends with this status, tells nothing, and prints the rows that
+# are read, whose fields are parted by |
+reports() {
+    local wanted=$1 status=0
+    shift
+    tick
+    tr '|' '\t' > wanted
+    "$tool" "$@" > printed 2> told || status=$?
+    empty told
+    diff wanted printed || fail "$name $*: other rows"
+    [ "$status" = "$wanted" ] || fail "$name $*: status $status"
+    sed '$d' printed | cut -f 1,5 >> seen
+}
+
+# counted: the last line of a report with the rows that are read
+counted() {
+    awk -F '[|\t]' '
+        { n[$1]++ }
+        END { printf "%d bad, %d remarks, %d changes\n", n["bad"], n["remark"], n["change"] }'
+}
+
+# finds STATUS WORDS..: the same of an image with a map at 0, whose row comes before the rows that
+# are read and the counts behind
+finds() {
+    { echo 'remark|-|-|0x0|flashmap' && cat; } > rows
+    { cat rows && counted < rows; } | reports "$@"
+}
+
+# differs STATUS WORDS..: the same of what changes, where all remarks are left out; the last line
+# has the counts that the rows have
+differs() {
+    local wanted=$1 status=0
+    shift
+    tick
+    tr '|' '\t' > wanted
+    "$tool" "$@" > printed 2> told || status=$?
+    empty told
+    sed '$d; /^remark/d' printed | diff wanted - || fail "$name $*: other rows"
+    [ "$status" = "$wanted" ] || fail "$name $*: status $status"
+    # (what is kept is told under another verdict)
+    [[ " $*" = *" --keep"* ]] || sed '$d' printed | cut -f 1,5 >> seen
+    [ "$(tail -n 1 printed)" = "$(sed '$d' printed | counted)" ] || fail "$name $*: other counts"
+}
+
+# trips TEXT WORDS..: cbfstool refuses the words with this text
+trips() {
+    local text=$1 status=0
+    shift
+    tick
+    ./cbfstool "$@" > tripped 2> told || status=$?
+    [ "$status" = 1 ] || fail "cbfstool $*: status $status"
+    has told "cbfstool: $text"
+}
+
+# says_in_json STATUS WORDS..: the program ends with this status, and with --json too, where it prints
+# one line, a document that says just what the rows say
+says_in_json() {
+    local wanted=$1 status=0 other=0
+    shift
+    tick
+    "$tool" "$@" > rows 2> told || status=$?
+    empty told
+    "$tool" --json "$@" > json_text 2> told || other=$?
+    empty told
+    [ "$status" = "$wanted" ] || fail "$name $*: status $status"
+    [ "$other" = "$wanted" ] || fail "$name --json $*: status $other"
+    [ "$(wc -l < json_text)" = 1 ] ||
+        fail "$name --json $*: the document has $(wc -l < json_text) lines"
+    python3 - rows json_text <<'COMPARED' || fail "$name --json $*: the document says otherwise"
+import json, re, sys
+rows = [line.rstrip("\n").split("\t") for line in open(sys.argv[1])]
+document = json.load(open(sys.argv[2]))
+shown = lambda name: re.sub(r"[^!-\[\]-~]", lambda byte: "\\x%02x" % ord(byte[0]), name)
+wanted = []
+for row in document.pop("rows"):
+    fields = [row["verdict"], shown(row.get("area", "-")), shown(row.get("component", "-"))]
+    fields += [hex(row["position"]) if "position" in row else "-", row["what"]]
+    wanted.append((fields, row.get("value")))
+found = [(row[:5], int(row[5], 0) if len(row) > 5 else None) for row in rows[:-1]]
+assert wanted == found, (wanted, found)
+counts = "%(bad)d bad, %(remarks)d remarks, %(changes)d changes" % document
+assert [counts] == rows[-1], document
+assert list(document) == ["bad", "remarks", "changes"], document
+COMPARED
+}

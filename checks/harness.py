@@ -1,0 +1,154 @@
+"""What the checks in Python share: the programs under test, the count of checks, and images.
+
+A check that finds a fault ends the script with status 1 and says what it saw.
+"""
+
+import hashlib
+import os
+import shutil
+import struct
+import sys
+import tempfile
+
+NAMES = ("cbfstool", "fmaptool", "cbfscheck")
+
+
+class Fault(Exception):
+    """A check that found something else than it wanted."""
+
+
+class Checks:
+    """Counts checks, and says at the end how many there were and what was skipped."""
+
+    def __init__(self, name):
+        self.name = name
+        self.count = 0
+        self.skipped = []
+
+    def want(self, holds, text):
+        """One check: `text` says what was seen if it does not hold."""
+        self.count += 1
+        if not holds:
+            raise Fault(text)
+
+    def skip(self, what):
+        """Notes that a part was not tried."""
+        self.skipped.append(what)
+
+    def summary(self):
+        """The last line of a script."""
+        text = f"{self.name}: {self.count} checks"
+        return text + (f", skipped: {'; '.join(self.skipped)}" if self.skipped else "")
+
+
+def programs(words):
+    """Copies the programs that the words name to a new folder, and returns their paths by name.
+
+    The words are `--built`, three programs, or nothing, which builds them.
+    """
+    if len(words) == 3:
+        paths = words
+    elif words in ([], ["--built"]):
+        if not words:
+            for name in NAMES:
+                if os.system(f"cd crates/{name} && rt run > /dev/null"):
+                    raise Fault(f"{name} is not built")
+        paths = [f"crates/{name}/out/{name}" for name in NAMES]
+    else:
+        raise Fault("wanted: nothing, --built, or three programs")
+    folder = tempfile.mkdtemp()
+    copies = {}
+    for name, path in zip(NAMES, paths):
+        copies[name] = os.path.join(folder, name)
+        shutil.copyfile(path, copies[name])
+        os.chmod(copies[name], 0o755)
+    os.chmod(folder, 0o755)
+    return folder, copies
+
+
+def script(name, check, planted):
+    """Runs a script: `check` with the programs, or with --planted `planted` too."""
+    os.chdir(os.path.join(os.path.dirname(os.path.abspath(sys.argv[0])), ".."))
+    words = sys.argv[1:]
+    is_planted = words[:1] == ["--planted"]
+    folder = None
+    checks = Checks(name)
+    try:
+        folder, copies = programs(words[1:] if is_planted else words)
+        checks.top = os.getcwd()
+        checks.folder = folder
+        os.chdir(folder)
+        (planted if is_planted else check)(checks, copies)
+        print(checks.summary())
+        return 0
+    except Fault as fault:
+        print(f"{name}: {fault}", file=sys.stderr)
+        return 1
+    finally:
+        if folder:
+            os.chdir("/")
+            shutil.rmtree(folder, ignore_errors=True)
+
+
+# ---- images, written out by the public format
+
+HEADER = 28
+FREE = (0, 0xFFFFFFFF)
+
+
+def entry(name, content, kind=0x50, digest=None):
+    """A component: its header, name, digest if one is asked for, content, and 0xff up to a multiple of 64."""
+    padded = name + b"\0" * (4 - len(name) % 4)
+    attributes = b""
+    if digest:
+        number, digest_of = {"sha256": (2, hashlib.sha256), "sha512": (3, hashlib.sha512)}[digest]
+        value = digest_of(content).digest()
+        attributes = struct.pack(">III", 0x68736148, 12 + len(value), number) + value
+    at = 24 + len(padded) if attributes else 0
+    offset = 24 + len(padded) + len(attributes)
+    head = b"LARCHIVE" + struct.pack(">IIII", len(content), kind, at, offset)
+    cell = head + padded + attributes + content
+    return cell.ljust(-(-len(cell) // 64) * 64, b"\xff")
+
+
+def empty_entry(span, fill=b"\xff", kept=b""):
+    """An empty entry of this span, which leaves the bytes that are kept at its end."""
+    head = b"LARCHIVE" + struct.pack(">IIII", span - HEADER - len(kept), 0xFFFFFFFF, 0, HEADER)
+    return (head + b"\0" * 4).ljust(span - len(kept), fill) + kept
+
+
+def flashmap(size, areas, name=b"F"):
+    """The table of these areas, each a name, an offset and a size."""
+    head = b"__FMAP__\1\1" + struct.pack("<QI32sH", 0, size, name, len(areas))
+    return head + b"".join(struct.pack("<II32sH", at, n, area, 0) for area, at, n in areas)
+
+
+def components(region):
+    """The components of a region, by the public format: each a place, a name, a type and all its bytes.
+
+    The end is the place where the entries end, and why they end there.
+    """
+    found, at = [], 0
+    while at + 24 <= len(region) and region[at : at + 8] == b"LARCHIVE":
+        length, kind, attributes, offset = struct.unpack(">IIII", region[at + 8 : at + 24])
+        if offset < 24 or at + offset + length > len(region):
+            return found, (at, "damaged")
+        span = -(-(offset + length) // 64) * 64
+        cell = region[at : at + span]
+        if kind not in FREE:
+            name = cell[24 : attributes or offset].split(b"\0")[0]
+            found.append((at, name, kind, cell[: offset + length]))
+        at += span
+    return found, (at, "end" if at == len(region) else "tail")
+
+
+def read(path):
+    """The bytes of a file."""
+    with open(path, "rb") as file:
+        return file.read()
+
+
+def write(path, data):
+    """Makes a file of these bytes."""
+    with open(path, "wb") as file:
+        file.write(data)
