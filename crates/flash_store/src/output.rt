@@ -1,4 +1,8 @@
 //! The bytes that a program writes, collected before they are written.
+ghost use Rattle.std.specs.Prelude.{◌≡◌, ◌+◌, ◌≤◌, ◌++◌, length};
+ghost use Rattle.std.specs.Io.{WritesAtMost};
+ghost use Rattle.std.specs.Vec.{vec_capacity, vec_len};
+
 use std::alloc::Global;
 use std::io::{self, Write};
 use std::mem;
@@ -75,6 +79,19 @@ impl<W: Write + Drop> Output<W> {
         self.pass_on()
     }
 
+    /// Writes bytes for which the block has no room: the first of them, as many as a block takes.
+    #[cold]
+    #[inline(never)]
+    fn write_at_border(&mut self, bytes: &[u8]) -> io::Result<usize>
+        ensures { WritesAtMost result bytes.now }
+    {
+        let n = bytes.len().min(self.room()?);
+        if n == 0 || self.block.extend_from_slice(&bytes[..n]).is_err() {
+            return self.out.write(bytes);
+        }
+        Ok(n)
+    }
+
     /// Writes the blocks that are kept, and the last one. They are collected no more, even if the
     /// writer fails.
     fn pass_on(&mut self) -> io::Result<()> {
@@ -97,15 +114,28 @@ fn write_blocks<W: Write>(out: &mut W, blocks: &[Vec<u8>]) -> io::Result<()> {
 }
 
 impl<W: Write + Drop> Write for Output<W> {
+    /// Collects the bytes if the block has room for all of them, which most calls find.
+    #[inline(always)]
     fn write(&mut self, bytes: &[u8]) -> io::Result<usize> {
-        let n = bytes.len().min(self.room()?);
-        if n == 0 || self.block.extend_from_slice(&bytes[..n]).is_err() {
-            return self.out.write(bytes);
+        if bytes.len() < self.block.capacity() - self.block.len() {
+            append(&mut self.block, bytes);
+            return Ok(bytes.len());
         }
-        Ok(n)
+        self.write_at_border(bytes)
     }
 
     fn flush(&mut self) -> io::Result<()> {
         self.pass_on()
     }
+}
+
+/// Appends bytes to a block that has room for them.
+#[inline(always)]
+fn append(block: &mut Vec<u8>, bytes: &[u8])
+    requires { vec_len block.old + length bytes.now ≤ vec_capacity block.old }
+    ensures { block.new.items ≡ block.old.items ++ bytes.now }
+{
+    let Ok(()) = block.extend_from_slice(bytes) else {
+        unreachable!()
+    };
 }
