@@ -5,7 +5,7 @@ ghost use Rattle.std.specs.Prelude.{◌≡◌, if◌then◌else◌, map};
 
 pub use check_line::{CheckLine, LineFault, read_check};
 pub use check_report::{Answer, ReportFault, Request, report_change, report_image};
-use check_rows::Form;
+use check_report::Form;
 use flash_store::{FileFlash, OpenFault, Paged};
 use std::env;
 use std::hash::RandomState;

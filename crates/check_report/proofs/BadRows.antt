@@ -5,17 +5,17 @@ use Rattle.std.specs.List.{flat_map, list_any}
 use Rattle.std.proofs.lemmas.List.Concat.{flat_map-cons}
 use Rattle.std.proofs.lemmas.List.Folds.{list_any-append}
 use Rattle.cbfs_walk.specs.declared.hashes.HashState.TheVariants.{Absent, Valid, Invalid, Unsupported}
-use Rattle.cbfs_check.specs.declared.finding.ComponentFinding.TheVariants.{Shadowed, UnknownType, Hash}
-use Rattle.cbfs_check.specs.declared.finding.RegionFinding.{RegionFinding}
-use Rattle.cbfs_check.specs.declared.finding.RegionFinding.TheVariants as of_region
-use Rattle.flashmap_check.specs.declared.finding.MapFinding.{MapFinding}
-use Rattle.flashmap_check.specs.declared.finding.MapFinding.TheVariants as of_map
-use Rattle.image_check.specs.declared.finding.ImageFinding.{ImageFinding}
-use Rattle.image_check.specs.declared.finding.ImageFinding.TheVariants.{Map, Skipped, Unchecked, Region, NoRegion}
-use Rattle.image_check.specs.Verdicts.{is_bad, is_bad_map, is_bad_region}
-use Rattle.check_rows.specs.Rows.{SeenRow}
+use Rattle.check_findings.specs.declared.region.finding.ComponentFinding.TheVariants.{Shadowed, UnknownType, Hash}
+use Rattle.check_findings.specs.declared.region.finding.RegionFinding.{RegionFinding}
+use Rattle.check_findings.specs.declared.region.finding.RegionFinding.TheVariants as of_region
+use Rattle.check_findings.specs.declared.map.finding.MapFinding.{MapFinding}
+use Rattle.check_findings.specs.declared.map.finding.MapFinding.TheVariants as of_map
+use Rattle.check_findings.specs.declared.image.finding.ImageFinding.{ImageFinding}
+use Rattle.check_findings.specs.declared.image.finding.ImageFinding.TheVariants.{Map, Skipped, Unchecked, Region, NoRegion}
+use Rattle.check_findings.specs.Image.Verdicts.{is_bad, is_bad_map, is_bad_region}
+use Rattle.check_report.specs.Rows.Rows.{SeenRow}
 use Rattle.check_report.specs.FindingRows.{area_name, map_row, region_rows, rows_of, finding_rows}
-use Rattle.check_rows.specs.Rows.{is_bad_row}
+use Rattle.check_report.specs.Rows.Rows.{is_bad_row}
 
 -- where that holds of each finding, it holds of all
 bad_rows : {X : Type 0} (rows : X → List SeenRow) (bad : X → Bool) → ((x : X) → list_any is_bad_row (rows x) ≡ bad x) → (xs : List X) → list_any is_bad_row (flat_map rows xs) ≡ list_any bad xs

@@ -1,9 +1,9 @@
 -- The rows of what was gathered of two images.
 use Rattle.std.proofs.Common.{◌≡◌, ℕ, List, refl}
-use Rattle.flashmap_check.specs.declared.finding.NumberedArea.{NumberedArea}
-use Rattle.flashmap_check.specs.MapFindings.{image_areas}
-use Rattle.image_check.specs.declared.finding.ImageFinding.{ImageFinding}
-use Rattle.image_check.specs.ImageFindings.{image_findings}
+use Rattle.check_findings.specs.declared.map.finding.NumberedArea.{NumberedArea}
+use Rattle.check_findings.specs.Map.MapFindings.{image_areas}
+use Rattle.check_findings.specs.declared.image.finding.ImageFinding.{ImageFinding}
+use Rattle.check_findings.specs.Image.ImageFindings.{image_findings}
 use Rattle.check_report.specs.FindingRows.{finding_rows}
 use Rattle.check_report.specs.declared.change.Changes.{Changes}
 use Rattle.check_report.specs.Reports.{Wish, change_rows, with_changes}

@@ -1,3 +1,4 @@
+pub mod RowLemmas
 mod Gathered
 pub mod TellingFindings
 mod TellingChanges

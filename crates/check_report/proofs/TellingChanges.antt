@@ -6,11 +6,11 @@ use Rattle.std.proofs.lemmas.List.{map-append, map_more, take_all}
 use Rattle.std.proofs.Math.Seq.{drop-cons}
 use Rattle.std.proofs.lemmas.List.Elements.{filter-append}
 use Rattle.std.specs.Borrow.{Bor}
-use Rattle.flashmap_check.specs.declared.finding.NumberedArea.{NumberedArea}
-use Rattle.check_rows.specs.declared.report.Form.{Form}
-use Rattle.check_rows.specs.declared.report.Report.{Report}
-use Rattle.check_rows.specs.Reports.{HasTold}
-use Rattle.check_rows.specs.Rows.{SeenRow}
+use Rattle.check_findings.specs.declared.map.finding.NumberedArea.{NumberedArea}
+use Rattle.check_report.specs.declared.rows.report.Form.{Form}
+use Rattle.check_report.specs.declared.rows.report.Report.{Report}
+use Rattle.check_report.specs.Rows.Reports.{HasTold}
+use Rattle.check_report.specs.Rows.Rows.{SeenRow}
 use Rattle.check_report.specs.ChangeRows.{is_missing, missing_row, missing_rows}
 
 -- a test of each, where the elements are taken from others

@@ -2,10 +2,10 @@
 use Rattle.std.proofs.Common.{◌≡◌, ◌∙◌, ℕ, ◌+◌, ◌<◌, ◌≤◌, List, [], ◌∷◌, ◌++◌, length, get_or, take, ap, sym, subst, append_assoc}
 use Rattle.std.proofs.lemmas.List.{flat_map_more, take_all, take_more}
 use Rattle.std.specs.List.{flat_map}
-use Rattle.check_rows.specs.declared.report.Form.{Form}
-use Rattle.check_rows.specs.declared.report.Report.{Report}
-use Rattle.check_rows.specs.Rows.{SeenRow}
-use Rattle.check_rows.specs.Reports.{HasTold}
+use Rattle.check_report.specs.declared.rows.report.Form.{Form}
+use Rattle.check_report.specs.declared.rows.report.Report.{Report}
+use Rattle.check_report.specs.Rows.Rows.{SeenRow}
+use Rattle.check_report.specs.Rows.Reports.{HasTold}
 
 -- one finding more
 pub rows_more : {X : Type 0} (rows : X → List SeenRow) (xs : List X) (i : ℕ) (x : X) (form : Form) (told : List SeenRow) (report : Report) → i < length xs → x ≡ get_or xs i x

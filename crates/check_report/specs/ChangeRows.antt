@@ -3,20 +3,20 @@ use Rattle.std.specs.Prelude.{ℕ, Bool, not, ◌||◌, List, [], ◌∷◌, ◌
 use Rattle.std.specs.List.{list_any}
 use lib.Chars.{codes}
 use Rattle.flash_format.specs.Flashmap.{text_of}
-use Rattle.flashmap_check.specs.declared.finding.NumberedArea.{NumberedArea}
-use Rattle.flashmap_check.specs.MapFindings.{has_name}
-use Rattle.flashmap_changes.specs.declared.change.AreaChange.{AreaChange}
-use Rattle.flashmap_changes.specs.declared.change.AreaChange.TheVariants as areas
-use Rattle.cbfs_changes.specs.declared.change.Difference.{Difference}
-use Rattle.cbfs_changes.specs.declared.change.Difference.TheVariants.{«Type», Length, Content, Attributes}
-use Rattle.cbfs_changes.specs.declared.change.ComponentChange.{ComponentChange}
-use Rattle.cbfs_changes.specs.declared.change.ComponentChange.TheVariants as components
-use Rattle.image_check.specs.ImageFindings.{has_one_of}
-use Rattle.check_rows.specs.declared.row.Verdict.{Verdict}
-use Rattle.check_rows.specs.declared.row.Verdict.TheVariants as verdicts
-use Rattle.check_rows.specs.declared.row.Detail.{Detail}
-use Rattle.check_rows.specs.declared.row.Detail.TheVariants as details
-use Rattle.check_rows.specs.Rows.{SeenRow}
+use Rattle.check_findings.specs.declared.map.finding.NumberedArea.{NumberedArea}
+use Rattle.check_findings.specs.Map.MapFindings.{has_name}
+use Rattle.check_changes.specs.declared.areas.change.AreaChange.{AreaChange}
+use Rattle.check_changes.specs.declared.areas.change.AreaChange.TheVariants as areas
+use Rattle.check_changes.specs.declared.components.change.Difference.{Difference}
+use Rattle.check_changes.specs.declared.components.change.Difference.TheVariants.{«Type», Length, Content, Attributes}
+use Rattle.check_changes.specs.declared.components.change.ComponentChange.{ComponentChange}
+use Rattle.check_changes.specs.declared.components.change.ComponentChange.TheVariants as components
+use Rattle.check_findings.specs.Image.ImageFindings.{has_one_of}
+use Rattle.check_report.specs.declared.rows.row.Verdict.{Verdict}
+use Rattle.check_report.specs.declared.rows.row.Verdict.TheVariants as verdicts
+use Rattle.check_report.specs.declared.rows.row.Detail.{Detail}
+use Rattle.check_report.specs.declared.rows.row.Detail.TheVariants as details
+use Rattle.check_report.specs.Rows.Rows.{SeenRow}
 
 -- what differs in an area is bad where its name is kept, and else a mere change
 abbrev pub verdict_of : List (List ℕ) → NumberedArea → Verdict

@@ -1,11 +1,11 @@
 -- What is gathered of two images before it is told.
 use Rattle.std.specs.Prelude.{◌≡◌, ℕ, List, length}
-use Rattle.flashmap_check.specs.declared.finding.NumberedArea.{NumberedArea}
-use Rattle.flashmap_check.specs.MapFindings.{image_areas}
-use Rattle.image_check.specs.declared.finding.ImageFinding.{ImageFinding}
-use Rattle.flashmap_changes.specs.AreaChanges.{area_changes}
-use Rattle.flashmap_changes.specs.Blocks.{different_blocks}
-use Rattle.region_changes.specs.RegionChanges.{region_changes}
+use Rattle.check_findings.specs.declared.map.finding.NumberedArea.{NumberedArea}
+use Rattle.check_findings.specs.Map.MapFindings.{image_areas}
+use Rattle.check_findings.specs.declared.image.finding.ImageFinding.{ImageFinding}
+use Rattle.check_changes.specs.Areas.AreaChanges.{area_changes}
+use Rattle.check_changes.specs.Areas.Blocks.{different_blocks}
+use Rattle.check_changes.specs.Regions.RegionChanges.{region_changes}
 use Rattle.check_report.specs.declared.change.Changes.{Changes}
 
 -- these are the changes from an image x to an image y with these areas and findings

@@ -1,13 +1,13 @@
 -- Why there is no report, by the fault of a part.
 use Rattle.std.specs.Prelude.{ℕ}
-use Rattle.flashmap_check.specs.declared.finding.MapCheckFault.{MapCheckFault}
-use Rattle.flashmap_check.specs.declared.finding.MapCheckFault.TheVariants as map
-use Rattle.image_check.specs.declared.fault.ImageCheckFault.{ImageCheckFault}
-use Rattle.image_check.specs.declared.fault.ImageCheckFault.TheVariants as image
-use Rattle.flashmap_changes.specs.declared.change.ChangeFault as of_maps
-use Rattle.flashmap_changes.specs.declared.change.ChangeFault.TheVariants as areas
-use Rattle.cbfs_changes.specs.declared.fault.ChangeFault as of_regions
-use Rattle.cbfs_changes.specs.declared.fault.ChangeFault.TheVariants as components
+use Rattle.check_findings.specs.declared.fault.CheckFault.{CheckFault}
+use Rattle.check_findings.specs.declared.fault.CheckFault.TheVariants as map
+use Rattle.check_findings.specs.declared.fault.CheckFault.{CheckFault}
+use Rattle.check_findings.specs.declared.fault.CheckFault.TheVariants as image
+use Rattle.check_changes.specs.declared.areas.change.ChangeFault as of_maps
+use Rattle.check_changes.specs.declared.areas.change.ChangeFault.TheVariants as areas
+use Rattle.check_changes.specs.declared.components.fault.ChangeFault as of_regions
+use Rattle.check_changes.specs.declared.components.fault.ChangeFault.TheVariants as components
 use Rattle.check_report.specs.declared.fault.ReportFault.{ReportFault}
 use Rattle.check_report.specs.declared.fault.ReportFault.TheVariants as faults
 
@@ -23,11 +23,11 @@ by_new faults.OldDevice = 0
 by_new faults.NewDevice = 1
 by_new faults.Memory = 0
 
-abbrev pub of_image : ImageCheckFault → ReportFault
+abbrev pub of_image : CheckFault → ReportFault
 of_image image.Device = faults.NewDevice
 of_image image.Memory = faults.Memory
 
-abbrev pub of_old_map : MapCheckFault → ReportFault
+abbrev pub of_old_map : CheckFault → ReportFault
 of_old_map map.Device = faults.OldDevice
 of_old_map map.Memory = faults.Memory
 

@@ -8,22 +8,22 @@ use Rattle.flash_format.specs.declared.head.DamageKind.{DamageKind}
 use Rattle.flash_format.specs.declared.head.DamageKind.TheVariants as kinds
 use Rattle.cbfs_walk.specs.declared.hashes.HashState.{HashState}
 use Rattle.cbfs_walk.specs.declared.hashes.HashState.TheVariants.{Absent, Valid, Invalid, Unsupported}
-use Rattle.cbfs_check.specs.declared.count.RegionCounts.{RegionCounts}
-use Rattle.cbfs_check.specs.declared.finding.ComponentFinding.{ComponentFinding}
-use Rattle.cbfs_check.specs.declared.finding.ComponentFinding.TheVariants.{Shadowed, UnknownType, Hash}
-use Rattle.cbfs_check.specs.declared.finding.RegionFinding.{RegionFinding}
-use Rattle.cbfs_check.specs.declared.finding.RegionFinding.TheVariants as of_region
-use Rattle.flashmap_check.specs.declared.finding.NumberedArea.{NumberedArea}
-use Rattle.flashmap_check.specs.declared.finding.MapFinding.{MapFinding}
-use Rattle.flashmap_check.specs.declared.finding.MapFinding.TheVariants as of_map
-use Rattle.image_check.specs.declared.finding.ImageFinding.{ImageFinding}
-use Rattle.image_check.specs.declared.finding.ImageFinding.TheVariants.{Map, Skipped, Unchecked, Region, NoRegion}
-use Rattle.image_check.specs.Verdicts.{is_bad_map, is_bad_region}
-use Rattle.check_rows.specs.declared.row.Verdict.{Verdict}
-use Rattle.check_rows.specs.declared.row.Verdict.TheVariants.{Bad, Remark}
-use Rattle.check_rows.specs.declared.row.Detail.{Detail}
-use Rattle.check_rows.specs.declared.row.Detail.TheVariants as details
-use Rattle.check_rows.specs.Rows.{SeenRow}
+use Rattle.check_findings.specs.declared.region.count.RegionCounts.{RegionCounts}
+use Rattle.check_findings.specs.declared.region.finding.ComponentFinding.{ComponentFinding}
+use Rattle.check_findings.specs.declared.region.finding.ComponentFinding.TheVariants.{Shadowed, UnknownType, Hash}
+use Rattle.check_findings.specs.declared.region.finding.RegionFinding.{RegionFinding}
+use Rattle.check_findings.specs.declared.region.finding.RegionFinding.TheVariants as of_region
+use Rattle.check_findings.specs.declared.map.finding.NumberedArea.{NumberedArea}
+use Rattle.check_findings.specs.declared.map.finding.MapFinding.{MapFinding}
+use Rattle.check_findings.specs.declared.map.finding.MapFinding.TheVariants as of_map
+use Rattle.check_findings.specs.declared.image.finding.ImageFinding.{ImageFinding}
+use Rattle.check_findings.specs.declared.image.finding.ImageFinding.TheVariants.{Map, Skipped, Unchecked, Region, NoRegion}
+use Rattle.check_findings.specs.Image.Verdicts.{is_bad_map, is_bad_region}
+use Rattle.check_report.specs.declared.rows.row.Verdict.{Verdict}
+use Rattle.check_report.specs.declared.rows.row.Verdict.TheVariants.{Bad, Remark}
+use Rattle.check_report.specs.declared.rows.row.Detail.{Detail}
+use Rattle.check_report.specs.declared.rows.row.Detail.TheVariants as details
+use Rattle.check_report.specs.Rows.Rows.{SeenRow}
 
 abbrev pub verdict_of : Bool → Verdict
 verdict_of true = Bad

@@ -1,9 +1,9 @@
 -- What the verdicts of the rows say of the findings.
 use Rattle.std.specs.Prelude.{◌≡◌, ℕ, List}
 use Rattle.std.specs.List.{list_any}
-use Rattle.image_check.specs.declared.finding.ImageFinding.{ImageFinding}
-use Rattle.image_check.specs.Verdicts.{is_bad}
-use Rattle.check_rows.specs.Rows.{is_bad_row}
+use Rattle.check_findings.specs.declared.image.finding.ImageFinding.{ImageFinding}
+use Rattle.check_findings.specs.Image.Verdicts.{is_bad}
+use Rattle.check_report.specs.Rows.Rows.{is_bad_row}
 use Rattle.check_report.specs.FindingRows.{finding_rows}
 
 -- some row is bad exactly where some finding is

@@ -1,3 +1,4 @@
+pub mod Rows
 pub mod Faults
 pub mod Reports
 pub mod Changes

@@ -1,17 +1,17 @@
 -- The rows of a report. What is told, and in which order, is this project's own.
 use Rattle.std.specs.Prelude.{ℕ, Bool, List, ◌++◌, length, map}
 use Rattle.std.specs.List.{flat_map, list_any}
-use Rattle.flashmap_check.specs.declared.finding.NumberedArea.{NumberedArea}
-use Rattle.flashmap_check.specs.MapFindings.{image_areas}
-use Rattle.image_check.specs.ImageFindings.{image_findings}
-use Rattle.flashmap_changes.specs.AreaChanges.{area_changes}
-use Rattle.flashmap_changes.specs.Blocks.{different_blocks}
-use Rattle.region_changes.specs.declared.change.RegionChange.{RegionChange}
-use Rattle.region_changes.specs.declared.change.RegionChange.TheVariants.{Compared, NotCompared}
-use Rattle.region_changes.specs.RegionChanges.{region_changes}
-use Rattle.check_rows.specs.declared.report.Form.{Form}
-use Rattle.check_rows.specs.Rows.{SeenRow, is_bad_row}
-use Rattle.check_rows.specs.Reports.{report}
+use Rattle.check_findings.specs.declared.map.finding.NumberedArea.{NumberedArea}
+use Rattle.check_findings.specs.Map.MapFindings.{image_areas}
+use Rattle.check_findings.specs.Image.ImageFindings.{image_findings}
+use Rattle.check_changes.specs.Areas.AreaChanges.{area_changes}
+use Rattle.check_changes.specs.Areas.Blocks.{different_blocks}
+use Rattle.check_changes.specs.declared.regions.change.RegionChange.{RegionChange}
+use Rattle.check_changes.specs.declared.regions.change.RegionChange.TheVariants.{Compared, NotCompared}
+use Rattle.check_changes.specs.Regions.RegionChanges.{region_changes}
+use Rattle.check_report.specs.declared.rows.report.Form.{Form}
+use Rattle.check_report.specs.Rows.Rows.{SeenRow, is_bad_row}
+use Rattle.check_report.specs.Rows.Reports.{report}
 use Rattle.check_report.specs.FindingRows.{finding_rows}
 use Rattle.check_report.specs.ChangeRows as rows
 use Rattle.check_report.specs.declared.answer.Request.{Request}

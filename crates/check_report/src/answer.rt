@@ -1,11 +1,11 @@
 //! What is asked of a report, and what it answers.
 ghost use Rattle.std.specs.Prelude.{◌≡◌, ◌++◌, List, IfOk};
-ghost use Rattle.check_rows.specs.declared.report.Form.{Form};
-ghost use Rattle.check_rows.specs.Rows.{SeenRow};
-ghost use Rattle.check_rows.specs.Reports.{HasTold};
+ghost use Rattle.check_report.specs.declared.rows.report.Form.{Form};
+ghost use Rattle.check_report.specs.Rows.Rows.{SeenRow};
+ghost use Rattle.check_report.specs.Rows.Reports.{HasTold};
 ghost use Rattle.check_report.specs.Reports.{answer_of};
 
-use check_rows::{Form, Report};
+use crate::rows::{Form, Report};
 use std::alloc::AllocError;
 use std::marker::Model;
 

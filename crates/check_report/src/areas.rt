@@ -1,14 +1,14 @@
 //! Rows of areas.
 ghost use Rattle.std.specs.Prelude.{◌∷◌, [], ◌++◌, List, map, OnOk};
-ghost use Rattle.check_rows.specs.declared.report.Form.{Form};
-ghost use Rattle.check_rows.specs.Reports.{HasTold};
-ghost use Rattle.check_rows.specs.Rows.{SeenRow};
+ghost use Rattle.check_report.specs.declared.rows.report.Form.{Form};
+ghost use Rattle.check_report.specs.Rows.Reports.{HasTold};
+ghost use Rattle.check_report.specs.Rows.Rows.{SeenRow};
 ghost use Rattle.check_report.specs.ChangeRows.{area_change_row, area_row, area_rows, not_compared_rows};
 
 use crate::kept::verdict_of;
-use check_rows::{Detail, Report, Row};
-use flashmap_changes::AreaChange;
-use flashmap_check::NumberedArea;
+use crate::rows::{Detail, Report, Row};
+use check_changes::AreaChange;
+use check_findings::NumberedArea;
 use std::alloc::AllocError;
 
 fn tell_area<'a>(

@@ -1,15 +1,15 @@
 //! Rows of components.
 ghost use Rattle.std.specs.Prelude.{◌≡◌, ◌∷◌, [], ◌++◌, List, map, OnOk};
-ghost use Rattle.check_rows.specs.declared.report.Form.{Form};
-ghost use Rattle.check_rows.specs.Reports.{HasTold};
-ghost use Rattle.check_rows.specs.Rows.{SeenRow};
+ghost use Rattle.check_report.specs.declared.rows.report.Form.{Form};
+ghost use Rattle.check_report.specs.Rows.Reports.{HasTold};
+ghost use Rattle.check_report.specs.Rows.Rows.{SeenRow};
 ghost use Rattle.check_report.specs.ChangeRows.{component_change_row, component_row, component_rows, difference_words};
 
 use crate::kept::verdict_of;
-use cbfs_changes::{ComponentChange, Difference};
-use cbfs_check::Name;
-use check_rows::{Detail, Report, Row, Verdict};
-use flashmap_check::NumberedArea;
+use check_changes::{ComponentChange, Difference};
+use check_findings::Name;
+use crate::rows::{Detail, Report, Row, Verdict};
+use check_findings::NumberedArea;
 use std::alloc::AllocError;
 
 /// An area with the verdict of what changes in it.

@@ -3,8 +3,8 @@ ghost use Rattle.std.specs.Prelude.{◌≡◌};
 ghost use Rattle.check_report.specs.Faults.{of_areas, of_components, of_image, of_old_map};
 ghost use Rattle.check_report.specs.declared.fault.ReportFault.TheVariants as faults;
 
-use flashmap_check::MapCheckFault;
-use image_check::ImageCheckFault;
+use check_findings::CheckFault;
+use check_findings::CheckFault;
 use std::alloc::AllocError;
 
 /// Why there is no report.
@@ -28,51 +28,51 @@ impl From<AllocError> for ReportFault {
 }
 
 /// The check of the new image, or of the only one, failed.
-impl From<ImageCheckFault> for ReportFault {
+impl From<CheckFault> for ReportFault {
     ghost from_gives = { λ why fault. fault ≡ of_image why };
 
-    fn from(fault: ImageCheckFault) -> ReportFault {
+    fn from(fault: CheckFault) -> ReportFault {
         match fault {
-            ImageCheckFault::Device => ReportFault::NewDevice,
-            ImageCheckFault::Memory => ReportFault::Memory,
+            CheckFault::Device => ReportFault::NewDevice,
+            CheckFault::Memory => ReportFault::Memory,
         }
     }
 }
 
 /// The flashmap of the old image couldn't be read.
-impl From<MapCheckFault> for ReportFault {
+impl From<CheckFault> for ReportFault {
     ghost from_gives = { λ why fault. fault ≡ of_old_map why };
 
-    fn from(fault: MapCheckFault) -> ReportFault {
+    fn from(fault: CheckFault) -> ReportFault {
         match fault {
-            MapCheckFault::Device => ReportFault::OldDevice,
-            MapCheckFault::Memory => ReportFault::Memory,
+            CheckFault::Device => ReportFault::OldDevice,
+            CheckFault::Memory => ReportFault::Memory,
         }
     }
 }
 
 /// The areas couldn't be compared.
-impl From<flashmap_changes::ChangeFault> for ReportFault {
+impl From<check_changes::ChangeFault> for ReportFault {
     ghost from_gives = { λ why fault. fault ≡ of_areas why };
 
-    fn from(fault: flashmap_changes::ChangeFault) -> ReportFault {
+    fn from(fault: check_changes::ChangeFault) -> ReportFault {
         match fault {
-            flashmap_changes::ChangeFault::OldDevice => ReportFault::OldDevice,
-            flashmap_changes::ChangeFault::NewDevice => ReportFault::NewDevice,
-            flashmap_changes::ChangeFault::Memory => ReportFault::Memory,
+            check_changes::ChangeFault::OldDevice => ReportFault::OldDevice,
+            check_changes::ChangeFault::NewDevice => ReportFault::NewDevice,
+            check_changes::ChangeFault::Memory => ReportFault::Memory,
         }
     }
 }
 
 /// The components couldn't be compared.
-impl From<cbfs_changes::ChangeFault> for ReportFault {
+impl From<check_changes::ChangeFault> for ReportFault {
     ghost from_gives = { λ why fault. fault ≡ of_components why };
 
-    fn from(fault: cbfs_changes::ChangeFault) -> ReportFault {
+    fn from(fault: check_changes::ChangeFault) -> ReportFault {
         match fault {
-            cbfs_changes::ChangeFault::OldDevice => ReportFault::OldDevice,
-            cbfs_changes::ChangeFault::NewDevice => ReportFault::NewDevice,
-            cbfs_changes::ChangeFault::Memory => ReportFault::Memory,
+            check_changes::ChangeFault::OldDevice => ReportFault::OldDevice,
+            check_changes::ChangeFault::NewDevice => ReportFault::NewDevice,
+            check_changes::ChangeFault::Memory => ReportFault::Memory,
         }
     }
 }

@@ -1,16 +1,16 @@
 //! The rows of an image's findings.
 ghost use Rattle.std.specs.Prelude.{◌≡◌, ◌++◌, ◌∷◌, [], List, OnOk, map, slice_get};
 ghost use Rattle.std.specs.Option.{option_copied};
-ghost use Rattle.check_rows.specs.Rows.{SeenRow, seen_row};
-ghost use Rattle.check_rows.specs.Reports.{HasTold};
-ghost use Rattle.check_rows.specs.declared.report.Form.{Form};
+ghost use Rattle.check_report.specs.Rows.Rows.{SeenRow, seen_row};
+ghost use Rattle.check_report.specs.Rows.Reports.{HasTold};
+ghost use Rattle.check_report.specs.declared.rows.report.Form.{Form};
 ghost use Rattle.check_report.specs.FindingRows as rows;
 ghost use Rattle.check_report.specs.FindingRows.{finding_rows};
 
 use crate::map::{area_row, map_row};
 use crate::region::tell_region;
-use check_rows::{Detail, Report, Row, Verdict};
-use image_check::ImageFinding;
+use crate::rows::{Detail, Report, Row, Verdict};
+use check_findings::ImageFinding;
 use std::alloc::AllocError;
 
 fn missing_row<'a>(names: &[&'a [u8]], number: usize) -> Row<'a>

@@ -8,9 +8,9 @@ ghost use Rattle.check_report.specs.Reports.{answer_of, image_rows, wish_of};
 use crate::answer::{Answer, Request};
 use crate::fault::ReportFault;
 use crate::findings::tell_findings;
-use check_rows::Report;
+use crate::rows::Report;
 use flash_device::{Flash, Paged};
-use image_check::check_image;
+use check_findings::check_image;
 use std::alloc::Global;
 use std::hash::RandomState;
 

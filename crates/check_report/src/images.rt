@@ -1,11 +1,11 @@
 //! Rows of whole images.
 ghost use Rattle.std.specs.Prelude.{◌∷◌, [], ◌++◌, List, OnOk};
-ghost use Rattle.check_rows.specs.declared.report.Form.{Form};
-ghost use Rattle.check_rows.specs.Reports.{HasTold};
-ghost use Rattle.check_rows.specs.Rows.{SeenRow};
+ghost use Rattle.check_report.specs.declared.rows.report.Form.{Form};
+ghost use Rattle.check_report.specs.Rows.Reports.{HasTold};
+ghost use Rattle.check_report.specs.Rows.Rows.{SeenRow};
 ghost use Rattle.check_report.specs.ChangeRows.{image_row, image_rows, told_if};
 
-use check_rows::{Detail, Report, Row, Verdict};
+use crate::rows::{Detail, Report, Row, Verdict};
 use std::alloc::AllocError;
 
 fn tell_image(report: &mut Report, what: &str, detail: Detail) -> Result<(), AllocError>

@@ -1,13 +1,13 @@
 //! The areas that are to stay as they are.
 ghost use Rattle.std.specs.Prelude.{◌≡◌, ◌∷◌, [], ◌++◌, List, map, filter, OnOk, if◌then◌else◌};
-ghost use Rattle.image_check.specs.ImageFindings.{has_one_of};
-ghost use Rattle.check_rows.specs.declared.report.Form.{Form};
-ghost use Rattle.check_rows.specs.Reports.{HasTold};
-ghost use Rattle.check_rows.specs.Rows.{SeenRow};
+ghost use Rattle.check_findings.specs.Image.ImageFindings.{has_one_of};
+ghost use Rattle.check_report.specs.declared.rows.report.Form.{Form};
+ghost use Rattle.check_report.specs.Rows.Reports.{HasTold};
+ghost use Rattle.check_report.specs.Rows.Rows.{SeenRow};
 ghost use Rattle.check_report.specs.ChangeRows.{is_missing, is_there, missing_row, missing_rows, verdict_of};
 
-use check_rows::{Detail, Report, Row, Verdict};
-use flashmap_check::NumberedArea;
+use crate::rows::{Detail, Report, Row, Verdict};
+use check_findings::NumberedArea;
 use std::alloc::AllocError;
 
 fn is_kept(kept: &[&[u8]], area: NumberedArea) -> bool

@@ -15,6 +15,7 @@ mod kept;
 mod laws;
 mod map;
 mod region;
+mod rows;
 mod tell;
 
 pub use answer::{Answer, Request};
@@ -27,3 +28,4 @@ pub use image::report_image;
 pub use images::tell_image_changes;
 pub use kept::tell_missing;
 pub use laws::rows_tell_what_is_bad;
+pub use rows::{Detail, Form, Report, Row, Verdict};

@@ -1,11 +1,11 @@
 //! The rows of a flashmap's findings.
 ghost use Rattle.std.specs.Prelude.{◌≡◌};
-ghost use Rattle.check_rows.specs.Rows.{seen_row};
+ghost use Rattle.check_report.specs.Rows.Rows.{seen_row};
 ghost use Rattle.check_report.specs.FindingRows as rows;
 
-use check_rows::{Detail, Row, Verdict};
-use flashmap_check::{MapFinding, NumberedArea};
-use image_check::is_bad_map;
+use crate::rows::{Detail, Row, Verdict};
+use check_findings::{MapFinding, NumberedArea};
+use check_findings::is_bad_map;
 
 pub fn verdict_of(is_bad: bool) -> Verdict
     ensures { result ≡ rows.verdict_of is_bad }

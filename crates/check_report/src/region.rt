@@ -1,17 +1,17 @@
 //! The rows of a region's findings.
 ghost use Rattle.std.specs.Prelude.{◌≡◌, ◌++◌, ◌∷◌, [], List, OnOk};
 ghost use Rattle.std.specs.List.{flat_map};
-ghost use Rattle.check_rows.specs.Rows.{SeenRow, seen_row};
-ghost use Rattle.check_rows.specs.Reports.{HasTold};
-ghost use Rattle.check_rows.specs.declared.report.Form.{Form};
+ghost use Rattle.check_report.specs.Rows.Rows.{SeenRow, seen_row};
+ghost use Rattle.check_report.specs.Rows.Reports.{HasTold};
+ghost use Rattle.check_report.specs.declared.rows.report.Form.{Form};
 ghost use Rattle.check_report.specs.FindingRows as rows;
 
 use crate::map::verdict_of;
-use cbfs_check::{ComponentFinding, RegionCounts, RegionFinding};
+use check_findings::{ComponentFinding, RegionCounts, RegionFinding};
 use cbfs_walk::HashState;
-use check_rows::{Detail, Report, Row, Verdict};
+use crate::rows::{Detail, Report, Row, Verdict};
 use flash_format::{DamageKind, Digest};
-use image_check::is_bad_region;
+use check_findings::is_bad_region;
 use std::alloc::AllocError;
 
 fn hash_text(state: HashState) -> &'static str

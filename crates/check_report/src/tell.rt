@@ -1,14 +1,14 @@
 //! The rows of what changes.
 ghost use Rattle.std.specs.Prelude.{◌≡◌, ◌++◌, List, map, OnOk};
-ghost use Rattle.check_rows.specs.declared.report.Form.{Form};
-ghost use Rattle.check_rows.specs.Rows.{SeenRow};
-ghost use Rattle.check_rows.specs.Reports.{HasTold};
+ghost use Rattle.check_report.specs.declared.rows.report.Form.{Form};
+ghost use Rattle.check_report.specs.Rows.Rows.{SeenRow};
+ghost use Rattle.check_report.specs.Rows.Reports.{HasTold};
 ghost use Rattle.check_report.specs.Reports.{region_rows, regions_rows};
 
 use crate::areas::tell_not_compared;
 use crate::components::tell_component_changes;
-use check_rows::Report;
-use region_changes::RegionChange;
+use crate::rows::Report;
+use check_changes::RegionChange;
 use std::alloc::AllocError;
 
 fn tell_region_change(

@@ -1,8 +1,8 @@
 //! Areas of two small images, on devices that fail.
 use crate::support::{Failing, equal, failing};
 use flash_format::Area;
-use flashmap_changes::{ChangeFault, image_changes};
-use flashmap_check::NumberedArea;
+use check_changes::{ChangeFault, image_changes};
+use check_findings::NumberedArea;
 use std::process::Abort;
 
 /// One of both blocks, and one of each.

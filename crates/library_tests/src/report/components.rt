@@ -1,7 +1,7 @@
 //! What changes where only one image has a region, which no check of two images asks, and devices that fail.
 use crate::report::support::keys;
 use crate::support::{ALL, Failing, equal, failing};
-use cbfs_changes::{ChangeFault, ComponentChange, component_changes};
+use check_changes::{ChangeFault, ComponentChange, component_changes};
 use flash_store::Region;
 use std::process::Abort;
 use std::random::RandomSource;

@@ -1,8 +1,8 @@
 //! Findings that are made by hand, as rows.
 use crate::report::support::ends;
 use check_report::{rows_tell_what_is_bad, tell_findings};
-use check_rows::{Form, Report};
-use image_check::ImageFinding;
+use check_report::{Form, Report};
+use check_findings::ImageFinding;
 
 // The last name is none that was given, which no check of an image tells.
 #[test]

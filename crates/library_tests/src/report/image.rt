@@ -1,8 +1,8 @@
 //! Which findings are bad.
 use crate::support::equal;
-use cbfs_check::RegionFinding;
-use flashmap_check::MapFinding;
-use image_check::{ImageFinding, is_bad, is_bad_map, is_bad_region};
+use check_findings::RegionFinding;
+use check_findings::MapFinding;
+use check_findings::{ImageFinding, is_bad, is_bad_map, is_bad_region};
 
 #[test]
 fn findings_that_are_bad(rt: HostRuntime) {

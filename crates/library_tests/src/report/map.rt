@@ -1,11 +1,11 @@
 //! The map of a small image, and a device that fails at each of its first calls.
 use crate::report::support::{count, image};
 use crate::support::{ALL, equal};
-use flashmap_check::{MapCheckFault, check_map};
+use check_findings::{CheckFault, check_map};
 use std::process::Abort;
 
 /// Where all calls behind the first ones are refused, so many findings are told.
-fn told_after(rt: &(impl Abort + AllocGlobal), calls: u64, expected: Result<usize, MapCheckFault>) {
+fn told_after(rt: &(impl Abort + AllocGlobal), calls: u64, expected: Result<usize, CheckFault>) {
     let mut paged = image(rt, b"", calls);
     equal(rt, &count(check_map(rt.alloc(), &mut paged)), &expected);
     drop(paged);
@@ -13,8 +13,8 @@ fn told_after(rt: &(impl Abort + AllocGlobal), calls: u64, expected: Result<usiz
 
 #[test]
 fn a_device_that_refuses_a_read(rt: HostRuntime) {
-    told_after(&rt, 0, Err(MapCheckFault::Device));
-    told_after(&rt, 1, Err(MapCheckFault::Device));
-    told_after(&rt, 2, Err(MapCheckFault::Device));
+    told_after(&rt, 0, Err(CheckFault::Device));
+    told_after(&rt, 1, Err(CheckFault::Device));
+    told_after(&rt, 2, Err(CheckFault::Device));
     told_after(&rt, ALL, Ok(1));
 }

@@ -1,7 +1,7 @@
 //! A region of one component, and a device that fails.
 use crate::report::support::{ONE, count, keys};
 use crate::support::{ALL, equal, failing};
-use cbfs_check::{RegionCheckFault, check_region};
+use check_findings::{CheckFault, check_region};
 use flash_store::Region;
 use std::process::Abort;
 use std::random::RandomSource;
@@ -10,7 +10,7 @@ use std::random::RandomSource;
 fn told_after(
     rt: &(impl Abort + AllocGlobal + RandomSource),
     calls: u64,
-    expected: Result<usize, RegionCheckFault>,
+    expected: Result<usize, CheckFault>,
 ) {
     let mut paged = failing(rt, 64, &[(0, &ONE)], calls);
     let len = paged.len();
@@ -28,5 +28,5 @@ fn the_findings_of_a_region(rt: HostRuntime) {
 
 #[test]
 fn a_region_on_a_device_that_refuses_a_read(rt: HostRuntime) {
-    told_after(&rt, 0, Err(RegionCheckFault::Device));
+    told_after(&rt, 0, Err(CheckFault::Device));
 }

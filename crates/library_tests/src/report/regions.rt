@@ -1,11 +1,11 @@
 //! Two images with two regions each, on devices that fail.
 use crate::report::support::{MAP, ONE, count, keys};
 use crate::support::{ALL, Failing, equal, failing};
-use cbfs_changes::ChangeFault;
+use check_changes::ChangeFault;
 use flash_format::Area;
-use flashmap_check::NumberedArea;
-use image_check::checked_image;
-use region_changes::region_changes;
+use check_findings::NumberedArea;
+use check_findings::checked_image;
+use check_changes::region_changes;
 use std::process::Abort;
 use std::random::RandomSource;
 

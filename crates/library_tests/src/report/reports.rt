@@ -2,7 +2,7 @@
 use crate::report::support::{image, keys};
 use crate::support::{ALL, Failing, equal};
 use check_report::{Answer, ReportFault, Request, report_change, report_image};
-use check_rows::Form;
+use check_report::Form;
 use std::process::Abort;
 use std::random::RandomSource;
 

@@ -1,7 +1,7 @@
 //! A report without rows, which no image has, and the words and numbers of a row.
 use crate::report::support::ends;
 use crate::support::equal;
-use check_rows::{Detail, Form, Report, Verdict};
+use check_report::{Detail, Form, Report, Verdict};
 
 #[test]
 fn a_report_without_rows(rt: HostRuntime) {

@@ -1,6 +1,6 @@
 //! An image, and what several of the tests of reports make and compare.
 use crate::support::{Failing, equal, failing};
-use check_rows::Report;
+use check_report::Report;
 use std::hash::RandomState;
 use std::process::Abort;
 use std::random::RandomSource;

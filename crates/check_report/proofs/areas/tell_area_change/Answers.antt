@@ -1,7 +1,7 @@
 use Rattle.std.proofs.Common.{List, ℕ, map, sym}
 use Rattle.std.specs.Borrow.{Bor}
 use lib.Chars.{codes}
-use Rattle.check_rows.specs.declared.row.Detail.TheVariants as details
+use Rattle.check_report.specs.declared.rows.row.Detail.TheVariants as details
 use Rattle.check_report.specs.ChangeRows.{area_change_row, area_row}
 use Rattle.check_report.proofs.TellingChanges.{tells_of}
 use Rattle.check_report.proofs.areas.tell_area_change.Goals as goal

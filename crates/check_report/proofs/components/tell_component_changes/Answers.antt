@@ -1,8 +1,8 @@
 use Rattle.std.proofs.Common.{◌∙◌, ◌∷◌, [], ◌++◌, ap, sym, subst, map, take}
 use Rattle.std.proofs.lemmas.List.{map_more}
-use Rattle.cbfs_changes.specs.declared.change.ComponentChange.{ComponentChange}
-use Rattle.check_rows.specs.declared.row.Verdict.{Verdict}
-use Rattle.check_rows.specs.Reports.{HasTold}
+use Rattle.check_changes.specs.declared.components.change.ComponentChange.{ComponentChange}
+use Rattle.check_report.specs.declared.rows.row.Verdict.{Verdict}
+use Rattle.check_report.specs.Rows.Reports.{HasTold}
 use Rattle.check_report.specs.ChangeRows.{component_change_row}
 use Rattle.check_report.proofs.TellingChanges.{told_behind, told_all}
 use Rattle.check_report.proofs.components.tell_component_changes.Goals as goal

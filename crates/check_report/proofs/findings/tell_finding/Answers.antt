@@ -1,7 +1,7 @@
 use Rattle.std.proofs.Common.{◌++◌, ◌∷◌, [], subst}
 use Rattle.std.specs.Prelude.{OnOk}
-use Rattle.check_rows.specs.Rows.{SeenRow}
-use Rattle.check_rows.specs.Reports.{HasTold}
+use Rattle.check_report.specs.Rows.Rows.{SeenRow}
+use Rattle.check_report.specs.Rows.Reports.{HasTold}
 use Rattle.check_report.proofs.findings.tell_finding.Goals as goal
 
 pub returns-in-Skipped : goal.returns-in-Skipped

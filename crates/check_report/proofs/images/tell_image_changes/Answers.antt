@@ -1,6 +1,6 @@
 use Rattle.std.proofs.Common.{ℕ, nat_lt, subst}
 use lib.Chars.{codes}
-use Rattle.check_rows.specs.declared.row.Detail.TheVariants as details
+use Rattle.check_report.specs.declared.rows.row.Detail.TheVariants as details
 use Rattle.check_report.specs.ChangeRows.{image_row, told_if}
 use Rattle.check_report.proofs.TellingChanges.{Tells, tells_then}
 use Rattle.check_report.proofs.images.tell_image_changes.Goals as goal

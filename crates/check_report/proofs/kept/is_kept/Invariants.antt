@@ -1,7 +1,7 @@
 use Rattle.std.proofs.Common.{◌≡◌, drop, map}
 use Rattle.std.specs.List.{list_any}
 use Rattle.flash_format.specs.Flashmap.{is_area}
-use Rattle.image_check.specs.ImageFindings.{has_one_of}
+use Rattle.check_findings.specs.Image.ImageFindings.{has_one_of}
 use Rattle.check_report.proofs.kept.is_kept.Given as goal
 
 abbrev pub invariant-loop-name : goal.invariant-loop-name

@@ -1,7 +1,7 @@
 use Rattle.std.proofs.Common.{List, ◌++◌, map, take}
-use Rattle.check_rows.specs.declared.report.Form.{Form}
-use Rattle.check_rows.specs.Reports.{HasTold}
-use Rattle.check_rows.specs.Rows.{SeenRow}
+use Rattle.check_report.specs.declared.rows.report.Form.{Form}
+use Rattle.check_report.specs.Rows.Reports.{HasTold}
+use Rattle.check_report.specs.Rows.Rows.{SeenRow}
 use Rattle.check_report.specs.ChangeRows.{missing_rows}
 use Rattle.check_report.proofs.kept.tell_missing.Given as goal
 

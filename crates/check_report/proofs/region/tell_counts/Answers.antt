@@ -1,7 +1,7 @@
 use Rattle.std.proofs.Common.{List, subst}
 use Rattle.std.specs.Prelude.{OnOk}
-use Rattle.check_rows.specs.Rows.{SeenRow}
-use Rattle.check_rows.specs.Reports.{HasTold}
+use Rattle.check_report.specs.Rows.Rows.{SeenRow}
+use Rattle.check_report.specs.Rows.Reports.{HasTold}
 use Rattle.check_report.proofs.TellingFindings.{rows_three}
 use Rattle.check_report.proofs.region.tell_counts.Goals as goal
 

@@ -1,8 +1,8 @@
 use Rattle.std.proofs.Common.{◌++◌, List, take}
 use Rattle.std.specs.List.{flat_map}
-use Rattle.check_rows.specs.declared.report.Form.{Form}
-use Rattle.check_rows.specs.Rows.{SeenRow}
-use Rattle.check_rows.specs.Reports.{HasTold}
+use Rattle.check_report.specs.declared.rows.report.Form.{Form}
+use Rattle.check_report.specs.Rows.Rows.{SeenRow}
+use Rattle.check_report.specs.Rows.Reports.{HasTold}
 use Rattle.check_report.specs.FindingRows.{region_rows}
 use Rattle.check_report.proofs.region.tell_region.Given as goal
 

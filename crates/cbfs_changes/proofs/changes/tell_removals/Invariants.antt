@@ -1,9 +1,0 @@
-use Rattle.std.proofs.Common.{◌≡◌, ℕ, ◌++◌, List, drop}
-use Rattle.std.specs.List.{flat_map}
-use Rattle.cbfs_changes.specs.Listings.{listed_removal}
-use Rattle.cbfs_changes.proofs.changes.tell_removals.Given as goal
-
-abbrev pub invariant-loop-listed : goal.invariant-loop-listed
-invariant-loop-listed l = (x y : List ℕ) →
-    let removal = listed_removal x l.before.all.now y l.after.all.now in
-    l.changes.told.items ++ flat_map removal (drop l.listed-index l.before.all.now) ≡ l.initial.changes.told.items ++ flat_map removal l.before.all.now

@@ -1,9 +1,0 @@
-use Rattle.std.proofs.Common.{subst}
-use Rattle.cbfs_changes.proofs.FirstLemmas.{notes-front, Puts}
-use Rattle.cbfs_changes.proofs.first.note.Goals as goal
-
-pub returns : goal.returns
-returns c = λ behind notes.
-    let l = c.args.listed.now in
-    let puts = subst (Puts c.args.first.now c.insert.new.self l.cell) c.as_slice.ensures c.in_ok-insert.ensures.updates in
-    notes-front c.args.first.now c.insert.new.self l behind puts notes

@@ -1,9 +1,0 @@
-use Rattle.std.proofs.Common.{◌-◌}
-use Rattle.cbfs_check.proofs.Checking.{Checking}
-use Rattle.cbfs_check.proofs.check.check_region.Given as goal
-
-abbrev pub invariant-loop-cell : goal.invariant-loop-cell
-invariant-loop-cell g l = Checking g.F.Flash.facts l.is_verbose l.fn.region l.walk l.report l.count l.initial.paged l.paged
-
-abbrev pub decreases-loop-cell : goal.decreases-loop-cell
-decreases-loop-cell g l = l.walk.region.size - l.walk.at

@@ -1,5 +1,0 @@
-use Rattle.cbfs_check.proofs.Unshadowed.{unshadowed_first}
-use Rattle.cbfs_check.proofs.laws.unshadowed_components_are_found.Goals as goal
-
-pub returns : goal.returns
-returns c = λ verbose x k good listed none. c.listed_components_are_found.ensures.found x k.name k good (unshadowed_first verbose x k good listed none)

@@ -1,6 +1,0 @@
-pub mod Faults
-pub mod Counts
-pub mod Names
-pub mod RegionFindings
-pub mod Reports
-pub mod Laws

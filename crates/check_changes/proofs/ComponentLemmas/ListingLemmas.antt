@@ -1,0 +1,196 @@
+-- The components of a region, cell by cell.
+use Rattle.std.proofs.Common.{◌≡◌, ℕ, ◌+◌, ◌/◌, ◌%◌, ◌≤◌, ◌⊎◌, inl, inr, IsTrue, Bool, true, false, cond, List, [], ◌∷◌, ◌++◌, length, map, None, Result, Ok, Err, refl, sym, ap, ◌∙◌, arith, append_assoc}
+use Rattle.std.specs.Prelude.{All, IsErrOf, OnOk, slice_range}
+use Rattle.std.proofs.lemmas.List.{map-append, append-nil}
+use Rattle.std.proofs.lemmas.List.Elements.{All-nil, All-push}
+use Rattle.std.proofs.lemmas.List.Sums.{sum_by-append}
+use Rattle.flash_format.specs.declared.head.Head.{Head}
+use Rattle.flash_format.specs.Head.{head_of, is_free}
+use Rattle.flash_format.specs.Entry.{name_end}
+use Rattle.flash_format.specs.Cut.{Cut}
+use Rattle.flash_format.specs.Components.{component_at, components_from, cell_name}
+use Rattle.flash_device.specs.Device.{Device}
+use Rattle.flash_device.specs.Pages.{Pages, HasRead}
+use Rattle.flash_device.proofs.WindowLemmas.{HasRead-none, HasRead-then, HasRead-within}
+use Rattle.flash_device.specs.Regions.{Range, LiesIn, bytes_in}
+use Rattle.flash_device.proofs.DeviceLemmas.{honest_still, length-bytes_in}
+use Rattle.cbfs_walk.specs.Cells.{IsCellIn, cell_in}
+use Rattle.cbfs_walk.specs.Hashes.{content_at}
+use Rattle.cbfs_walk.specs.Walks.{reads_over, Answer, Walking, walk_of, answer_at, StandsIn}
+use Rattle.cbfs_walk.specs.Shaped.{reading_of, ReadsCells, by_answer}
+use Rattle.cbfs_walk.specs.declared.cell.Cell.{Cell}
+use Rattle.cbfs_walk.specs.declared.walk.Step.TheVariants as steps
+use Rattle.cbfs_walk.specs.declared.walk.WalkFault.{WalkFault}
+use Rattle.cbfs_walk.specs.declared.walk.WalkFault.TheVariants as walk
+use Rattle.cbfs_walk.proofs.Parts.{range-inner}
+use Rattle.cbfs_walk.proofs.Shapes.{shaped_step}
+use Rattle.check_changes.specs.Components.ComponentChanges.{ComponentState, state_of, states}
+use Rattle.check_changes.specs.Components.Listings.{IsListedIn, AddsAtMost, cell_states, spans, state_at, state_in}
+use Rattle.check_changes.specs.declared.components.listing.Listed.{Listed}
+
+-- ---- one cell
+
+-- what is compared of a component's cell is what its bytes show
+pub state_shown : (x : List ℕ) (c : Cell) (name : List ℕ) → is_free c.head ≡ false → name ≡ cell_name (cell_in x c) → head_of (cell_in x c) ≡ c.head → c.head.offset + c.head.len ≤ c.span
+    → state_at x name c ∷ [] ≡ cell_states x c
+state_shown x c name used is_name is_head fits = rw used (ap (λ (s : ComponentState). s ∷ []) same)
+  where
+    content : content_at x c ≡ slice_range (cell_in x c) c.head.offset (c.head.offset + c.head.len)
+    content = sym (range-inner x c.at (c.at + c.span) c.head.offset (c.head.offset + c.head.len) (omega (arith, fits)))
+
+    attributes : slice_range x (c.at + name_end c.head) (c.at + c.head.offset) ≡ slice_range (cell_in x c) (name_end c.head) c.head.offset
+    attributes = sym (range-inner x c.at (c.at + c.span) (name_end c.head) c.head.offset (omega (arith, fits)))
+
+    same : state_at x name c ≡ state_of (component_at c.at (cell_in x c))
+    same =
+        ap (λ (n : List ℕ). record (state_at x name c) { name = n }) is_name
+        ∙ ap (λ (l : List ℕ). record (state_at x (cell_name (cell_in x c)) c) { content = l }) content
+        ∙ ap (λ (l : List ℕ). record (state_at x (cell_name (cell_in x c)) c) { content = slice_range (cell_in x c) c.head.offset (c.head.offset + c.head.len); attributes = l }) attributes
+        ∙ ap (λ (h : Head). record { at = c.at; name = cell_name (cell_in x c); kind = h.kind; content = slice_range (cell_in x c) h.offset (h.offset + h.len); attributes = slice_range (cell_in x c) (name_end h) h.offset }) (sym is_head)
+
+-- a component more
+pub listed_more : {E : Type 0} (result : Result (Unit {0}) E) (x : List ℕ) (old new : List Listed) (l : Listed) → state_in x l ∷ [] ≡ cell_states x l.cell → OnOk result (new ≡ old ++ l ∷ [])
+    → OnOk result (map (state_in x) new ≡ map (state_in x) old ++ cell_states x l.cell)
+listed_more (Err fault) x old new l shown added = tt
+listed_more (Ok done) x old new l shown added = ap (map (state_in x)) added ∙ map-append (state_in x) old (l ∷ []) ∙ ap (λ (s : List ComponentState). map (state_in x) old ++ s) shown
+
+pub adds_one : {E : Type 0} (result : Result (Unit {0}) E) (old new : List Listed) (c : Cell) (name : List ℕ) → is_free c.head ≡ false → OnOk result (new ≡ old ++ record { name = name; cell = c } ∷ []) → OnOk result (AddsAtMost c old new)
+adds_one (Err fault) old new c name used added = tt
+adds_one (Ok done) old new c name used added = inr (record { name = name; used = used; added = added })
+
+-- ---- what a region has from a place on
+
+rest_read : ℕ → Cut → List ComponentState
+rest_read at k = map state_of (components_from at k.cells)
+
+rest_cell : List ℕ → Cell → List ComponentState → List ComponentState
+rest_cell bytes c later = cond (is_free c.head) [] (state_of (component_at c.at bytes) ∷ []) ++ later
+
+law : ReadsCells rest_read rest_cell
+unfolding rest_read rest_cell components_from
+law at bytes k = go (is_free (head_of bytes)) (components_from (at + length bytes) k.cells)
+  where
+    go : (free : Bool) (others : _) → map state_of (cond free others (component_at at bytes ∷ others)) ≡ cond free [] (state_of (component_at at bytes) ∷ []) ++ map state_of others
+    go true others = refl
+    go false others = refl
+
+pub states_from : List ℕ → ℕ → List ComponentState
+states_from x at = reading_of (λ fault. []) rest_read x at
+
+states_whole : (x : List ℕ) → states x ≡ states_from x 0
+unfolding states states_from reading_of rest_read
+states_whole x = refl
+
+-- the same by the answer of a walk
+states_by : List ℕ → Answer → List ComponentState
+states_by x answer = by_answer (λ fault. []) rest_read rest_cell x answer
+
+states_step : (x : List ℕ) (at : ℕ) → at ≤ length x → at % 64 ≡ 0 → states_from x at ≡ states_by x (answer_at x at)
+unfolding states_from states_by
+states_step x at inside aligned = shaped_step (λ fault. []) rest_read rest_cell law x at inside aligned
+
+abbrev pub IsNoCell : Answer → Type 0
+IsNoCell a = (c : Cell) → a ≡ Ok (steps.Cell c) → ⊥
+
+states_end : (x : List ℕ) (a : Answer) → IsNoCell a → states_by x a ≡ []
+unfolding states_by rest_read components_from
+states_end x (Ok (steps.Cell c)) none = absurd (none c refl)
+states_end x (Ok steps.End) none = refl
+states_end x (Ok (steps.Tail at)) none = refl
+states_end x (Err walk.Device) none = refl
+states_end x (Err walk.RegionShape) none = refl
+states_end x (Err walk.NotCbfs) none = refl
+states_end x (Err (walk.Damaged at kind)) none = refl
+
+-- the error of an answer
+pub error_of : (fault : WalkFault) → (let a : Answer = Err fault in IsErrOf a walk.Device) → fault ≡ walk.Device
+error_of fault e = cc
+
+-- ---- the loop
+
+-- the listing has come to the walk's place
+pub record ListedSoFar {F : Type 0} (facts : F → Device) (r : Range) (w : Walking) (all : List Listed) (old now : Pages F) : Type 0 where
+  pub region : w.region ≡ r
+  pub going : w.ended ≡ None
+  pub inside : w.at ≤ r.size
+  pub aligned : w.at % 64 ≡ 0
+  pub read : HasRead facts (w.at / 24) 0 old now
+  pub cells : All (IsListedIn r.size) all
+  pub room : spans all ≤ w.at
+  pub so_far : IsTrue (facts old.device).honest → map (state_in (bytes_in r (facts old.device).content)) all ++ states_from (bytes_in r (facts old.device).content) w.at ≡ states (bytes_in r (facts old.device).content)
+
+pub listing_start : {F : Type 0} (facts : F → Device) (r : Range) (all : List Listed) (old : Pages F) → all ≡ [] → ListedSoFar facts r (walk_of r) all old old
+listing_start facts r all old none = rw none (record {
+  region = refl;
+  going = refl;
+  inside = omega arith;
+  aligned = refl;
+  read = HasRead-within facts 0 (0 / 24) 0 old old (omega arith) (HasRead-none facts old);
+  cells = All-nil (IsListedIn r.size);
+  room = omega arith;
+  so_far = λ h. sym (states_whole (bytes_in r (facts old.device).content));
+})
+
+-- the cells of one more
+cells_more : (size : ℕ) (c : Cell) (old new : List Listed) → IsCellIn size c → AddsAtMost c old new → All (IsListedIn size) old → All (IsListedIn size) new
+cells_more size c old new cell (inl same) all = rw same all
+cells_more size c old new cell (inr more) all = rw more.added (All-push (IsListedIn size) old (record { name = more.name; cell = c }) all (record { cell = cell; used = more.used }))
+
+room_more : (c : Cell) (old new : List Listed) (n : ℕ) → AddsAtMost c old new → spans old ≤ n → spans new ≤ n + c.span
+room_more c old new n (inl same) room = rw same (omega (arith, room))
+room_more c old new n (inr more) room = rw more.added (omega (arith, room, sum_by-append (λ (l : Listed). l.cell.span) old (record { name = more.name; cell = c } ∷ [])))
+
+module _ {F : Type 0} (facts : F → Device) (r : Range) (w : Walking) (all : List Listed) (old now : Pages F) (lies : LiesIn r (facts old.device).content) (i : ListedSoFar facts r w all old now) where
+  abbrev x : List ℕ
+  x = bytes_in r (facts old.device).content
+
+  -- what the walk answers on an honest device
+  abbrev pub Answers : Answer → Type 0
+  Answers a = IsTrue (facts now.device).honest → w.ended ≡ None → IsErrOf a walk.Device ⊎ (a ≡ answer_at (bytes_in w.region (facts now.device).content) w.at)
+
+  answered : (a : Answer) → (IsErrOf a walk.Device → ⊥) → Answers a → IsTrue (facts old.device).honest → (a ≡ answer_at x w.at) × (map (state_in x) all ++ states_by x a ≡ states x)
+  answered a other answer h = go (answer (honest_still i.read.device.calls.same_honesty h) i.going)
+    where
+      go : IsErrOf a walk.Device ⊎ (a ≡ answer_at (bytes_in w.region (facts now.device).content) w.at) → (a ≡ answer_at x w.at) × (map (state_in x) all ++ states_by x a ≡ states x)
+      go (inl fault) = absurd (other fault)
+      go (inr is) =
+          let len : length x ≡ r.size = length-bytes_in r (facts old.device).content lies in
+          let here : a ≡ answer_at x w.at = is ∙ ap (λ (k : Range). answer_at (bytes_in k (facts now.device).content) w.at) i.region ∙ ap (λ (l : List ℕ). answer_at (bytes_in r l) w.at) (i.read.device.unchanged h) in
+          let step : states_by x a ≡ states_from x w.at = ap (λ (b : Answer). states_by x b) here ∙ sym (states_step x w.at (omega (arith, len, i.inside)) i.aligned) in
+          (here, ap (λ (l : List ComponentState). map (state_in x) all ++ l) step ∙ i.so_far h)
+
+  -- a cell is listed
+  pub listing_more : (c : Cell) (v : Walking) (next : List Listed) (mid new : Pages F) (n : ℕ) → IsCellIn w.region.size c × (c.at ≡ w.at)
+      → HasRead facts n 0 now mid → n ≡ reads_over c.span → HasRead facts 1 0 mid new
+      → Answers (Ok (steps.Cell c))
+      → v ≡ record w { at = w.at + c.span; steps = w.steps + 1 }
+      → AddsAtMost c all next
+      → (IsTrue (facts mid.device).honest → StandsIn (bytes_in r (facts mid.device).content) c → map (state_in (bytes_in r (facts mid.device).content)) next ≡ map (state_in (bytes_in r (facts mid.device).content)) all ++ cell_states (bytes_in r (facts mid.device).content) c)
+      → ListedSoFar facts r v next old new
+  unfolding states_by states_from rest_cell
+  listing_more c v next mid new n given reads few more answer moved adds listed = rw moved (record {
+    region = i.region;
+    going = i.going;
+    inside = omega (arith, cell_of_region.inside, given.1);
+    aligned = omega (arith, i.aligned, given.0.whole);
+    read = HasRead-within facts (w.at / 24 + (n + 1)) ((w.at + c.span) / 24) 0 old new (omega (arith, few, given.0.positive, given.0.whole, i.aligned)) (HasRead-then facts (w.at / 24) (n + 1) 0 old now new i.read (HasRead-then facts n 1 0 now mid new reads more));
+    cells = cells_more r.size c all next cell_of_region adds i.cells;
+    room = room_more c all next w.at adds i.room;
+    so_far = λ h.
+        let k = honest_still i.read.device.calls.same_honesty h in
+        let same : (facts mid.device).content ≡ (facts old.device).content = reads.device.unchanged k ∙ i.read.device.unchanged h in
+        let told = answered (Ok (steps.Cell c)) (λ e. absurd cc) answer h in
+        let stands : StandsIn x c = ap (λ p. answer_at x p) given.1 ∙ sym told.0 in
+        let here : map (state_in x) next ≡ map (state_in x) all ++ cell_states x c = (rw same at (listed (honest_still reads.device.calls.same_honesty k))) stands in
+        ap (λ (l : List ComponentState). l ++ states_from x (w.at + c.span)) here
+        ∙ append_assoc (map (state_in x) all) (cell_states x c) (states_from x (w.at + c.span))
+        ∙ ap (λ p. map (state_in x) all ++ (cell_states x c ++ states_from x (p + c.span))) (sym given.1)
+        ∙ told.1;
+  })
+    where
+      cell_of_region : IsCellIn r.size c
+      cell_of_region = rw i.region at given.0
+
+  -- the walk ended
+  pub listing_end : (a : Answer) → IsNoCell a → (IsErrOf a walk.Device → ⊥) → Answers a → IsTrue (facts old.device).honest → map (state_in x) all ≡ states x
+  listing_end a none other answer h = sym (append-nil (map (state_in x) all)) ∙ ap (λ (l : List ComponentState). map (state_in x) all ++ l) (sym (states_end x a none)) ∙ (answered a other answer h).1

@@ -1,0 +1,57 @@
+-- Pairs of areas, by the findings that they come from.
+use Rattle.std.proofs.Common.{◌≡◌, ◌∙◌, ℕ, ◌+◌, ◌<◌, ◌≤◌, List, [], ◌∷◌, ◌++◌, Option, Some, None, length, get_or, drop, refl, sym, ap, add-one, append_assoc, arith}
+use Rattle.std.specs.Prelude.{All}
+use Rattle.std.specs.List.{flat_map}
+use Rattle.std.proofs.Math.Seq.{drop-cons}
+use Rattle.std.proofs.lemmas.Grind.{flat_map-append}
+use Rattle.std.proofs.lemmas.List.Elements.{All-nil, All-cons}
+use Rattle.std.proofs.lemmas.List.Sums.{sum_by-cons}
+use Rattle.check_findings.specs.declared.map.finding.NumberedArea.{NumberedArea}
+use Rattle.check_changes.specs.Areas.AreaChanges.{namesake}
+use Rattle.check_findings.specs.declared.image.finding.ImageFinding.{ImageFinding}
+use Rattle.check_findings.specs.Image.RegionAreas.{region_area, region_areas, LieInOrder}
+use Rattle.check_changes.specs.declared.regions.pairs.Pair.{Pair}
+use Rattle.check_changes.specs.Regions.RegionChanges.{pair_with, pair_of, pairs}
+use Rattle.check_changes.specs.Regions.Sizes.{EndsInside, new_sizes}
+
+-- one finding more
+pub pairs-more : (olds : List NumberedArea) (findings : List ImageFinding) (i : ℕ) (f : ImageFinding) (before after all : List Pair) → i < length findings → f ≡ get_or findings i f
+    → after ≡ before ++ flat_map (pair_of olds) (region_area f) → before ++ pairs olds (drop i findings) ≡ all → after ++ pairs olds (drop (i + 1) findings) ≡ all
+pairs-more olds findings i f before after all lt is pushed so_far =
+    let here = flat_map (pair_of olds) (region_area f) in
+    let rest = pairs olds (drop (i + 1) findings) in
+    let split : drop i findings ≡ f ∷ drop (i + 1) findings = rw (drop-cons findings i f lt, sym is, add-one) refl in
+    let left : pairs olds (drop i findings) ≡ here ++ rest = ap (λ (l : List ImageFinding). pairs olds l) split ∙ flat_map-append (pair_of olds) (region_area f) (region_areas (drop (i + 1) findings)) in
+    ap (λ (l : List Pair). l ++ rest) pushed ∙ append_assoc before here rest ∙ ap (λ (l : List Pair). before ++ l) (sym left) ∙ so_far
+
+-- ---- areas that lie in order
+
+LieInOrder-ends : (at end : ℕ) (areas : List NumberedArea) → LieInOrder at end areas → at ≤ end
+LieInOrder-ends at end [] lie = lie
+LieInOrder-ends at end (a ∷ areas) lie = let later = LieInOrder-ends (a.area.offset + a.area.size) end areas lie.1 in omega (arith, lie.0, later)
+
+-- the areas of the pairs end where the areas do that they are of
+pub pairs-inside : (olds areas : List NumberedArea) (at n : ℕ) → LieInOrder at n areas → All (EndsInside n) (flat_map (pair_of olds) areas)
+pairs-inside olds [] at n lie = All-nil (EndsInside n)
+pairs-inside olds (a ∷ areas) at n lie = go (namesake a olds) (pairs-inside olds areas (a.area.offset + a.area.size) n lie.1)
+  where
+    go : (o : Option NumberedArea) → All (EndsInside n) (flat_map (pair_of olds) areas) → All (EndsInside n) (pair_with a o ++ flat_map (pair_of olds) areas)
+    go None later = later
+    go (Some old) later = All-cons (EndsInside n) (record { old = old; new = a }) (flat_map (pair_of olds) areas) (LieInOrder-ends (a.area.offset + a.area.size) n areas lie.1) later
+
+-- and have no more bytes than lie behind the first place
+pub new_sizes-pairs : (olds areas : List NumberedArea) (at n : ℕ) → LieInOrder at n areas → at + new_sizes (flat_map (pair_of olds) areas) ≤ n
+new_sizes-pairs olds [] at n lie = let fits : at ≤ n = lie in omega arith
+new_sizes-pairs olds (a ∷ areas) at n lie = go (namesake a olds) (new_sizes-pairs olds areas (a.area.offset + a.area.size) n lie.1)
+  where
+    go : (o : Option NumberedArea) → a.area.offset + a.area.size + new_sizes (flat_map (pair_of olds) areas) ≤ n → at + new_sizes (pair_with a o ++ flat_map (pair_of olds) areas) ≤ n
+    go None later = omega (arith, lie.0, later)
+    go (Some old) later = omega (arith, lie.0, later, sum_by-cons (λ (p : Pair). p.new.area.size) (record { old = old; new = a }) (flat_map (pair_of olds) areas))
+
+pub length-pairs : (olds areas : List NumberedArea) → length (flat_map (pair_of olds) areas) ≤ length areas
+length-pairs olds [] = omega arith
+length-pairs olds (a ∷ areas) = go (namesake a olds) (length-pairs olds areas)
+  where
+    go : (o : Option NumberedArea) → length (flat_map (pair_of olds) areas) ≤ length areas → length (pair_with a o ++ flat_map (pair_of olds) areas) ≤ length (a ∷ areas)
+    go None later = omega (arith, later)
+    go (Some old) later = omega (arith, later)

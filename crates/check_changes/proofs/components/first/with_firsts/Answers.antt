@@ -1,0 +1,17 @@
+use Rattle.std.proofs.Common.{◌-◌, arith}
+use Rattle.check_changes.proofs.ComponentLemmas.FirstLemmas.{notes-more, notes-none}
+use Rattle.check_changes.proofs.components.first.with_firsts.Goals as goal
+
+pub loop-left-init : goal.loop-left-init
+loop-left-init c = record {
+  inside = omega arith;
+  notes = notes-none c.with_hasher-first.result c.args.all.now c.with_hasher-first.ensures.empty;
+}
+
+pub loop-left-preserved : goal.loop-left-preserved
+loop-left-preserved c =
+    let had = c.loop-left.invariant in
+    record {
+      inside = omega (arith, had.inside);
+      notes = notes-more c.loop-left.first c.note.new.first c.args.all.now c.loop-left.left (c.loop-left.left - 1) c.index-all-left.result (omega arith) had.inside c.index-all-left.is c.in_ok-note.ensures had.notes;
+    }

@@ -1,0 +1,46 @@
+use Rattle.std.proofs.Common.{refl, arith}
+use Rattle.check_changes.proofs.ComponentLemmas.ListingLemmas.{listing_start, listing_more, listing_end, error_of}
+use Rattle.check_changes.proofs.components.listing.components.Goals as goal
+
+pub loop-cell-init : goal.loop-cell-init
+loop-cell-init g c = rw c.new-walk.ensures (listing_start g.F.Flash.facts c.args.region c.new-all.result.items c.args.paged.now c.new-all.ensures.items)
+
+pub loop-cell-preserved : goal.loop-cell-preserved
+loop-cell-preserved g c =
+    let is = c.in-Ok-Cell.field-0-is in
+    let given = rw is at c.in-Ok-Cell.ensures.cell in
+    let reads = rw is at c.in-Ok-Cell.ensures.after in
+    let answer = rw is at c.in-Ok-Cell.ensures.answer in
+    let moved = rw is at c.in-Ok-Cell.ensures.moved in
+    listing_more g.F.Flash.facts c.args.region c.loop-cell.walk c.loop-cell.all.items _ _ c.requires c.loop-cell.invariant c.in-Ok-Cell.cell _ _ _ _ _
+    given reads refl c.in_ok-list_cell-in-Ok-Cell.ensures.after answer moved c.in_ok-list_cell-in-Ok-Cell.ensures.adds c.in_ok-list_cell-in-Ok-Cell.ensures.listed
+
+pub returns-in-Ok-Tail-clause-lists : goal.returns-in-Ok-Tail-clause-lists
+returns-in-Ok-Tail-clause-lists g c =
+    let i = c.loop-cell.invariant in
+    let answer = rw c.in-Ok-Tail.field-0-is at c.in-Ok-Tail.ensures.answer in
+    record {
+      cells = i.cells;
+      room = omega (arith, i.room, i.inside);
+      shown = listing_end g.F.Flash.facts c.args.region c.loop-cell.walk c.loop-cell.all.items _ _ c.requires i _ (λ c e. absurd cc) (λ e. absurd cc) answer;
+    }
+
+pub returns-in-Ok-End-clause-lists : goal.returns-in-Ok-End-clause-lists
+returns-in-Ok-End-clause-lists g c =
+    let i = c.loop-cell.invariant in
+    let answer = rw c.in-Ok-End.field-0-is at c.in-Ok-End.ensures.answer in
+    record {
+      cells = i.cells;
+      room = omega (arith, i.room, i.inside);
+      shown = listing_end g.F.Flash.facts c.args.region c.loop-cell.walk c.loop-cell.all.items _ _ c.requires i _ (λ c e. absurd cc) (λ e. absurd cc) answer;
+    }
+
+pub returns-in-Err-clause-lists : goal.returns-in-Err-clause-lists
+returns-in-Err-clause-lists g c =
+    let i = c.loop-cell.invariant in
+    let other = c.in_ok-ended-in-Err.ensures.ended in
+    record {
+      cells = i.cells;
+      room = omega (arith, i.room, i.inside);
+      shown = listing_end g.F.Flash.facts c.args.region c.loop-cell.walk c.loop-cell.all.items _ _ c.requires i _ (λ c e. absurd cc) (λ e. other (error_of _ e)) c.in-Err.ensures.answer;
+    }

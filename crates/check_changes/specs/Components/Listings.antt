@@ -1,0 +1,75 @@
+-- Components as a walk gave them.
+use Rattle.std.specs.Prelude.{◌≡◌, ◌⊎◌, ℕ, ◌+◌, ◌≤◌, false, List, [], ◌∷◌, ◌++◌, Vec, All, map, slice_range, Option, if◌then◌else◌}
+use Rattle.std.specs.List.{sum_by}
+use Rattle.std.specs.declared.alloc.Global.{Global}
+use Rattle.flash_format.specs.Head.{is_free}
+use Rattle.flash_format.specs.Entry.{name_end}
+use Rattle.flash_format.specs.Components.{component_at}
+use Rattle.flash_device.specs.Device.{Device}
+use Rattle.flash_device.specs.Pages.{Pages, OnHonestIn}
+use Rattle.flash_device.specs.Regions.{Range}
+use Rattle.cbfs_walk.specs.Cells.{IsCellIn, cell_in}
+use Rattle.cbfs_walk.specs.Hashes.{content_at}
+use Rattle.cbfs_walk.specs.declared.cell.Cell.{Cell}
+use Rattle.check_changes.specs.Components.ComponentChanges.{ComponentState, state_of, states, difference, change_of, removal_of}
+use Rattle.check_changes.specs.declared.components.change.ComponentChange.{ComponentChange}
+use Rattle.check_changes.specs.declared.components.change.Difference.{Difference}
+use Rattle.check_changes.specs.declared.components.listing.Listed.{Listed}
+
+-- the cell of a component in a region of this size
+pub record IsUsedIn (size : ℕ) (c : Cell) : Type 0 where
+  pub cell : IsCellIn size c
+  pub used : is_free c.head ≡ false
+
+abbrev pub IsListedIn : ℕ → Listed → Type 0
+IsListedIn size l = IsUsedIn size l.cell
+
+-- the bytes of all these cells
+abbrev pub spans : List Listed → ℕ
+spans all = sum_by (λ (l : Listed). l.cell.span) all
+
+-- what is compared of a cell, in a region of these bytes
+abbrev pub state_at : List ℕ → List ℕ → Cell → ComponentState
+state_at x name c = record {
+  at = c.at;
+  name = name;
+  kind = c.head.kind;
+  content = content_at x c;
+  attributes = slice_range x (c.at + name_end c.head) (c.at + c.head.offset);
+}
+
+abbrev pub state_in : List ℕ → Listed → ComponentState
+state_in x l = state_at x l.name l.cell
+
+abbrev pub states_in : List ℕ → List Listed → List ComponentState
+states_in x all = map (state_in x) all
+
+-- what differs first between two cells, in regions of these bytes, whatever their name
+abbrev pub cell_difference : List ℕ → Cell → List ℕ → Cell → Option Difference
+cell_difference x old y new = difference (state_at x [] old) (state_at y [] new)
+
+-- what is told of a component of the new list, and of one of the old, in regions of these bytes
+abbrev pub listed_change : List ℕ → List Listed → List ℕ → List Listed → Listed → List ComponentChange
+listed_change x old y new l = change_of (states_in x old) (states_in y new) (state_in y l)
+
+abbrev pub listed_removal : List ℕ → List Listed → List ℕ → List Listed → Listed → List ComponentChange
+listed_removal x old y new l = removal_of (states_in x old) (states_in y new) (state_in x l)
+
+-- what a cell adds in a region of these bytes
+abbrev pub cell_states : List ℕ → Cell → List ComponentState
+cell_states x c = if is_free c.head then [] else state_of (component_at c.at (cell_in x c)) ∷ []
+
+-- a list with this cell under some name, where it isn't free
+pub record AddsCell (c : Cell) (old new : List Listed) : Type 0 where
+  pub name : List ℕ
+  pub used : is_free c.head ≡ false
+  pub added : new ≡ old ++ record { name = name; cell = c } ∷ []
+
+abbrev pub AddsAtMost : Cell → List Listed → List Listed → Type 0
+AddsAtMost c old new = (new ≡ old) ⊎ AddsCell c old new
+
+-- these are the components of a region: each lies in it, together they are no longer than it, and on an honest device they are as defined
+pub record Lists {F : Type 0} (facts : F → Device) (region : Range) (pages : Pages F) (all : Vec Listed Global) : Type 0 where
+  pub cells : All (IsListedIn region.size) all.items
+  pub room : spans all.items ≤ region.size
+  pub shown : OnHonestIn facts pages.device region (λ x. states_in x all.items ≡ states x)

@@ -1,0 +1,43 @@
+//! What changes.
+use check_findings::Name;
+
+/// What differs first between two components of one name.
+#[derive(Clone, Copy)]
+pub enum Difference {
+    /// Their types.
+    Type,
+    /// The lengths of their contents.
+    Length,
+    /// Their contents, as they are stored.
+    Content,
+    /// The bytes between the name and the content, which hold the attributes.
+    Attributes,
+}
+
+/// What becomes of one component. Places count from the start of its region, in bytes.
+#[derive(Drop)]
+pub enum ComponentChange {
+    /// Only the new region has it.
+    Added {
+        at: u64,
+        name: Name,
+    },
+    /// Only the old region has it.
+    Removed {
+        at: u64,
+        name: Name,
+    },
+    /// It differs, at the same place or at another one.
+    Changed {
+        old: u64,
+        new: u64,
+        name: Name,
+        what: Difference,
+    },
+    /// It is the same, at another place.
+    Moved {
+        old: u64,
+        new: u64,
+        name: Name,
+    },
+}

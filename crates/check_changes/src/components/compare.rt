@@ -1,0 +1,157 @@
+//! Comparing components of two devices.
+ghost use Rattle.std.specs.Prelude.{◌≡◌, ◌+◌, ◌-◌, ◌/◌, ◌≤◌, true, length, slice_range, IfOk};
+ghost use Rattle.std.specs.Str.{bytes_eq};
+ghost use Rattle.flash_device.specs.Pages.{OnHonest, OnHonestIn};
+ghost use Rattle.check_changes.specs.Components.Listings.{IsUsedIn, cell_difference};
+ghost use Rattle.check_changes.specs.Components.Sides.{BothLieIn, HasCompared};
+
+use crate::components::change::Difference;
+use crate::components::fault::ChangeFault;
+use crate::components::stretch::Stretch;
+use cbfs_walk::Cell;
+use flash_device::{Flash, PIECE, Paged, Region};
+
+/// What differs first between a component of the old region and one of the new.
+pub fn difference<F: Flash, G: Flash>(
+    old: &mut Paged<F>,
+    old_region: Region,
+    before: &Cell,
+    new: &mut Paged<G>,
+    new_region: Region,
+    after: &Cell,
+) -> Result<Option<Difference>, ChangeFault>
+    requires regions { BothLieIn F.facts old.old.device old_region G.facts new.old.device new_region }
+    requires before { IsUsedIn old_region.size before.now }
+    requires after { IsUsedIn new_region.size after.now }
+
+    ensures after { HasCompared F.facts G.facts (2 + after.now.span / 4096) result old.old old.new new.old new.new }
+    ensures difference { OnHonestIn F.facts old.old.device old_region (λ x. OnHonestIn G.facts new.old.device new_region (λ y.
+        IfOk result (λ what. what ≡ cell_difference x before.now y after.now))) }
+{
+    old.places_fit();
+    new.places_fit();
+    if before.head.kind != after.head.kind {
+        return Ok(Some(Difference::Type));
+    }
+    if before.head.len != after.head.len {
+        return Ok(Some(Difference::Length));
+    }
+    let (a, b) = (Stretch::content(before), Stretch::content(after));
+    if !same_stretch(old, old_region, a, new, new_region, b)? {
+        return Ok(Some(Difference::Content));
+    }
+    let (a, b) = (Stretch::attributes(before), Stretch::attributes(after));
+    if !same_stretch(old, old_region, a, new, new_region, b)? {
+        return Ok(Some(Difference::Attributes));
+    }
+    Ok(None)
+}
+
+/// Whether two regions have the same bytes. One without room for a cell isn't looked at.
+pub fn are_same<F: Flash, G: Flash>(
+    old: &mut Paged<F>,
+    old_region: Region,
+    new: &mut Paged<G>,
+    new_region: Region,
+) -> Result<bool, ChangeFault>
+    requires { BothLieIn F.facts old.old.device old_region G.facts new.old.device new_region }
+
+    ensures after { HasCompared F.facts G.facts (new_region.size / 48) result old.old old.new new.old new.new }
+    ensures same { OnHonestIn F.facts old.old.device old_region (λ x. OnHonestIn G.facts new.old.device new_region (λ y.
+        IfOk result (λ same. same ≡ true → x ≡ y))) }
+    ensures found { OnHonestIn F.facts old.old.device old_region (λ x. OnHonestIn G.facts new.old.device new_region (λ y.
+        IfOk result (λ same. 64 ≤ new_region.size → x ≡ y → same ≡ true))) }
+{
+    if new_region.size() < 64 {
+        return Ok(false);
+    }
+    let (a, b) = (Stretch::whole(old_region), Stretch::whole(new_region));
+    same_stretch(old, old_region, a, new, new_region, b)
+}
+
+/// Whether two stretches have the same bytes.
+fn same_stretch<F: Flash, G: Flash>(
+    old: &mut Paged<F>,
+    old_region: Region,
+    before: Stretch,
+    new: &mut Paged<G>,
+    new_region: Region,
+    after: Stretch,
+) -> Result<bool, ChangeFault>
+    requires regions { BothLieIn F.facts old.old.device old_region G.facts new.old.device new_region }
+    requires before { before.end ≤ old_region.size }
+    requires after { after.end ≤ new_region.size }
+    requires old_order { before.from ≤ before.end }
+    requires new_order { after.from ≤ after.end }
+
+    ensures after { HasCompared F.facts G.facts (1 + (after.end - after.from) / 4096) result old.old old.new new.old new.new }
+    ensures same { OnHonestIn F.facts old.old.device old_region (λ x. OnHonestIn G.facts new.old.device new_region (λ y.
+        IfOk result (λ same. same ≡ bytes_eq (slice_range x before.from before.end) (slice_range y after.from after.end)))) }
+{
+    old.places_fit();
+    new.places_fit();
+    let n = before.end - before.from;
+    if n != after.end - after.from {
+        return Ok(false);
+    }
+    same_bytes(
+        old,
+        old_region.start() + before.from,
+        new,
+        new_region.start() + after.from,
+        n,
+    )
+}
+
+/// Whether n bytes of the old device and of the new are the same.
+fn same_bytes<F: Flash, G: Flash>(
+    old: &mut Paged<F>,
+    before: u64,
+    new: &mut Paged<G>,
+    after: u64,
+    n: u64,
+) -> Result<bool, ChangeFault>
+    requires before { before + n ≤ length (F.facts old.old.device).content }
+    requires after { after + n ≤ length (G.facts new.old.device).content }
+
+    ensures after { HasCompared F.facts G.facts (1 + n / 4096) result old.old old.new new.old new.new }
+    ensures same { OnHonest F.facts old.old.device (λ x. OnHonest G.facts new.old.device (λ y.
+        IfOk result (λ same. same ≡ bytes_eq (slice_range x before (before + n)) (slice_range y after (after + n))))) }
+{
+    old.places_fit();
+    new.places_fit();
+    let mut done = 0;
+    while done < n {
+        let size = (n - done).min(PIECE as u64);
+        if !same_piece(old, before + done, new, after + done, size as usize)? {
+            return Ok(false);
+        }
+        done += size;
+    }
+    Ok(true)
+}
+
+/// The same of at most 4096 bytes.
+fn same_piece<F: Flash, G: Flash>(
+    old: &mut Paged<F>,
+    before: u64,
+    new: &mut Paged<G>,
+    after: u64,
+    n: usize,
+) -> Result<bool, ChangeFault>
+    requires before { before + n ≤ length (F.facts old.old.device).content }
+    requires after { after + n ≤ length (G.facts new.old.device).content }
+    requires short { n ≤ 4096 }
+
+    ensures after { HasCompared F.facts G.facts 1 result old.old old.new new.old new.new }
+    ensures same { OnHonest F.facts old.old.device (λ x. OnHonest G.facts new.old.device (λ y.
+        IfOk result (λ same. same ≡ bytes_eq (slice_range x before (before + n)) (slice_range y after (after + n))))) }
+{
+    let Ok(old_bytes) = old.piece(before, n) else {
+        return Err(ChangeFault::OldDevice);
+    };
+    let Ok(new_bytes) = new.piece(after, n) else {
+        return Err(ChangeFault::NewDevice);
+    };
+    Ok(old_bytes == new_bytes)
+}

@@ -1,0 +1,97 @@
+//! The components of a region.
+ghost use Rattle.std.specs.Prelude.{◌≡◌, ◌≢◌, ◌+◌, ◌/◌, [], ◌∷◌, ◌++◌, IfOk, IfErr, OnOk, OnErr};
+ghost use Rattle.flash_device.specs.Device.{faults_told};
+ghost use Rattle.flash_device.specs.Pages.{HasRead, OnHonestIn};
+ghost use Rattle.flash_device.specs.Regions.{LiesIn};
+ghost use Rattle.cbfs_walk.specs.Cells.{IsCellIn};
+ghost use Rattle.cbfs_walk.specs.Walks.{StandsIn};
+ghost use Rattle.check_changes.specs.Components.Listings.{AddsAtMost, Lists, cell_states, states_in};
+ghost use Rattle.check_changes.specs.Components.Sides.{by_device};
+
+use crate::components::fault::ListingFault;
+use check_findings::Name;
+use cbfs_walk::{Cell, Step, Walk, WalkFault, cells_stand_in_their_image, name};
+use flash_device::{Flash, Paged, Region};
+use std::alloc::Global;
+
+/// A component as a walk gave it.
+#[derive(Drop)]
+pub struct Listed {
+    pub name: Name,
+    pub cell: Cell,
+}
+
+/// Adds a cell's component; free space is none.
+fn list_cell<F: Flash>(
+    alloc: Global,
+    paged: &mut Paged<F>,
+    region: Region,
+    cell: &Cell,
+    all: &mut Vec<Listed>,
+) -> Result<(), ListingFault>
+    requires region { LiesIn region (F.facts paged.old.device).content }
+    requires cell { IsCellIn region.size cell.now }
+
+    ensures after { HasRead F.facts 1 (faults_told by_device result) paged.old paged.new }
+    ensures adds { OnOk result (AddsAtMost cell.now all.old.items all.new.items) }
+    ensures listed { OnHonestIn F.facts paged.old.device region (λ x. StandsIn x cell.now →
+        OnOk result (states_in x all.new.items ≡ states_in x all.old.items ++ cell_states x cell.now)) }
+{
+    cells_stand_in_their_image();
+    if cell.head.is_free() {
+        return Ok(());
+    }
+    let mut field = [0; 256];
+    let len = name(paged, region, cell, &mut field)?;
+    let name = Name::copied(alloc, &field[..len])?;
+    add(all, Listed { name, cell: *cell })
+}
+
+/// Adds a component.
+fn add(all: &mut Vec<Listed>, listed: Listed) -> Result<(), ListingFault>
+    ensures added { OnOk result (all.new.items ≡ all.old.items ++ listed ∷ []) }
+    ensures memory { IfErr result (λ fault. fault ≡ ListingFault.Memory) }
+{
+    match all.push(listed) {
+        Ok(()) => Ok(()),
+        Err(_) => Err(ListingFault::Memory),
+    }
+}
+
+/// The components of a region in order, up to a damage; none where its shape is refused.
+pub fn components<F: Flash>(
+    alloc: Global,
+    paged: &mut Paged<F>,
+    region: Region,
+) -> Result<Vec<Listed>, ListingFault>
+    requires { LiesIn region (F.facts paged.old.device).content }
+
+    ensures after { HasRead F.facts (region.size / 24 + 2) (faults_told by_device result) paged.old paged.new }
+    ensures lists { IfOk result (Lists F.facts region paged.old) }
+{
+    let mut all = Vec::new(alloc);
+    let mut walk = Walk::new(region);
+    loop {
+        match walk.next(paged) {
+            Ok(Step::Cell(cell)) => list_cell(alloc, paged, region, &cell, &mut all)?,
+            Ok(Step::Tail(_)) => return Ok(all),
+            Ok(Step::End) => return Ok(all),
+            Err(fault) => {
+                ended(fault)?;
+                return Ok(all);
+            }
+        }
+    }
+}
+
+/// Whether a fault is but how the cells end.
+fn ended(fault: WalkFault) -> Result<(), ListingFault>
+    ensures ended { OnOk result (fault ≢ WalkFault.Device) }
+    ensures device { OnErr result (fault ≡ WalkFault.Device) }
+    ensures error { IfErr result (λ fault. fault ≡ ListingFault.Device) }
+{
+    match fault {
+        WalkFault::Device => Err(ListingFault::Device),
+        _ => Ok(()),
+    }
+}

@@ -1,0 +1,3 @@
+pub mod MapLemmas
+pub mod RegionLemmas
+pub mod ImageLemmas

@@ -1,0 +1,39 @@
+-- Counts that go on from cell to cell.
+use Rattle.std.proofs.Common.{◌≡◌, ℕ, ◌+◌, Bool, true, false, cond, List, [], ◌∷◌, length, refl, arith}
+use Rattle.std.specs.Prelude.{max}
+use Rattle.flash_format.specs.Head.{head_of, is_free}
+use Rattle.flash_format.specs.Components.{components_from, component_at}
+use Rattle.check_findings.specs.declared.region.count.RegionCounts.{RegionCounts}
+use Rattle.check_findings.specs.declared.region.count.Count.{Count}
+use Rattle.check_findings.specs.Region.Counts.{free_bytes, longest_free, nothing, count_after}
+
+-- what is counted after cells of which the first stands at a place
+abbrev pub count_all : Count → ℕ → List (List ℕ) → RegionCounts
+count_all n at cells = record {
+  components = n.counts.components + length (components_from at cells);
+  free = n.counts.free + free_bytes cells;
+  longest_free = max n.counts.longest_free (longest_free n.row cells);
+}
+
+counts_are : (c d f g l m : ℕ) → c ≡ d → f ≡ g → l ≡ m
+    → (let a : RegionCounts = record { components = c; free = f; longest_free = l } in a) ≡ record { components = d; free = g; longest_free = m }
+counts_are c d f g l m p q r = cc
+
+pub count_more : (n : Count) (at : ℕ) (x : List ℕ) (cells : List (List ℕ)) → count_all n at (x ∷ cells) ≡ count_all (count_after n (is_free (head_of x)) (length x)) (at + length x) cells
+unfolding components_from free_bytes longest_free
+count_more n at x cells = go (is_free (head_of x))
+  where
+    go : (free : Bool) → (let a : RegionCounts = record {
+      components = n.counts.components + length (cond free (components_from (at + length x) cells) (component_at at x ∷ components_from (at + length x) cells));
+      free = n.counts.free + cond free (length x + free_bytes cells) (free_bytes cells);
+      longest_free = max n.counts.longest_free (cond free (max (n.row + length x) (longest_free (n.row + length x) cells)) (longest_free 0 cells));
+    } in a) ≡ count_all (count_after n free (length x)) (at + length x) cells
+    go true = counts_are _ _ _ _ _ _ refl (omega arith) (omega arith)
+    go false = counts_are _ _ _ _ _ _ (omega arith) refl refl
+
+pub count_none : (n : Count) (at : ℕ) → count_all n at [] ≡ n.counts
+unfolding components_from free_bytes longest_free
+count_none n at = counts_are _ _ _ _ _ _ (omega arith) (omega arith) (omega arith)
+
+pub count_whole : (at : ℕ) (cells : List (List ℕ)) → count_all nothing at cells ≡ record { components = length (components_from at cells); free = free_bytes cells; longest_free = longest_free 0 cells }
+count_whole at cells = counts_are _ _ _ _ _ _ (omega arith) (omega arith) (omega arith)

@@ -1,0 +1,28 @@
+-- A set of names.
+use Rattle.std.proofs.Common.{◌≡◌, ℕ, Bool, true, false, cond, ◌||◌, List, ◌∷◌, Vec, Global, refl, sym, ap, ◌∙◌}
+use Rattle.std.proofs.lemmas.Slice.Eq.{bytes_eq-Decides}
+use Rattle.std.specs.Str.{bytes_eq}
+use Rattle.std.specs.HashSet.{HashSet, Updates}
+use Rattle.std.specs.Set.{KeepsOthers}
+use Rattle.std.specs.Cmp.Lexicographic.{nat_list_eq_equiv}
+use Rattle.check_findings.specs.Region.Names.{has, HasNames, is_among}
+
+abbrev Key : Type 0
+Key = Vec ℕ Global
+
+or-cond : (b c d : Bool) → c ≡ d → cond b true c ≡ (b || d)
+or-cond true c d same = refl
+or-cond false c d same = same
+
+module _ {S : Type 0} (x : Key) (old now : HashSet Key S) (updates : Updates (λ (a b : Key). bytes_eq a.items b.items) old now x true) where
+  -- what the set has with a name more, which is new or not
+  has-more : (q : List ℕ) (b : Bool) → bytes_eq x.items q ≡ b → has q now.keys ≡ cond b true (has q old.keys)
+  unfolding KeepsOthers
+  has-more q true same = ap (λ (n : List ℕ). has n now.keys) (sym ((bytes_eq-Decides x.items q).0 same)) ∙ updates.1
+  has-more q false other = updates.3 (λ k. bytes_eq q k.items) (λ a b. nat_list_eq_equiv.congr q a.items b.items)
+      (λ k same. nat_list_eq_equiv.symm q k.items ∙ sym (nat_list_eq_equiv.congr x.items k.items q same) ∙ other)
+
+  pub names_added : (name : List ℕ) (names : List (List ℕ)) → x.items ≡ name → HasNames old.keys names → HasNames now.keys (name ∷ names)
+  names_added name names is before = λ q.
+      has-more q (bytes_eq q name) (nat_list_eq_equiv.symm x.items q ∙ ap (bytes_eq q) is)
+      ∙ or-cond (bytes_eq q name) (has q old.keys) (is_among q names) (before q)

@@ -1,0 +1,7 @@
+use Rattle.std.proofs.Common.{◌≡◌, ◌++◌, drop}
+use Rattle.check_findings.specs.Image.ImageFindings.{names_findings}
+use Rattle.check_findings.proofs.ImageLemmas.NameLemmas.{texts}
+use Rattle.check_findings.proofs.image.names.push_missing.Given as goal
+
+abbrev pub invariant-loop-number : goal.invariant-loop-number
+invariant-loop-number l = l.findings.items ++ names_findings l.areas l.number (drop l.number (texts l.names)) ≡ l.initial.findings.items ++ names_findings l.areas 0 (texts l.names)

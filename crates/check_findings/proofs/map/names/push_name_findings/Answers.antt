@@ -1,0 +1,11 @@
+use Rattle.check_findings.proofs.MapLemmas.NameLemmas.{names-more, notes-more}
+use Rattle.check_findings.proofs.map.names.push_name_findings.Goals as goal
+
+pub loop-a-preserved : goal.loop-a-preserved
+loop-a-preserved c =
+    let areas = c.args.areas.now in
+    let i = c.loop-a.a-index in
+    record {
+      notes = notes-more areas i _ c.loop-a.names c.note.new.self c.loop-a-test.true c.in_ok-first.ensures.more c.loop-a.invariant.notes;
+      told = names-more areas i _ c.loop-a.names c.in_ok-first.first _ _ _ c.loop-a-test.true c.loop-a.invariant.notes c.in_ok-first.ensures.first c.in_ok-push_name_finding.ensures c.loop-a.invariant.told;
+    }

@@ -1,0 +1,32 @@
+use Rattle.std.proofs.Common.{◌≡◌, List, ℕ, rules, sym, subst}
+use Rattle.flash_format.specs.Components.{cell_attributes, cell_content}
+use Rattle.flash_device.specs.Regions.{bytes_in}
+use Rattle.flash_device.proofs.DeviceLemmas.{honest_still}
+use Rattle.cbfs_walk.specs.Cells.{cell_in}
+use Rattle.cbfs_walk.specs.Hashes.{hash_state}
+use Rattle.cbfs_walk.specs.Walks.{StandsIn}
+use Rattle.check_findings.proofs.RegionLemmas.Telling.{cell_told}
+use Rattle.check_findings.proofs.region.check.tell_cell.Goals as goal
+
+pub returns-in_err-state-clause-after : goal.returns-in_err-state-clause-after
+returns-in_err-state-clause-after g c = search rules
+
+pub returns-in_err-tell_named-clause-after : goal.returns-in_err-tell_named-clause-after
+returns-in_err-tell_named-clause-after g c = search rules
+
+pub returns-clause-after : goal.returns-clause-after
+returns-clause-after g c = search rules
+
+pub returns-clause-told : goal.returns-clause-told
+returns-clause-told g c = λ h stands. λ t told.
+    let r = c.args.region in
+    let cell = c.args.cell.now in
+    let image = (g.F.Flash.facts c.args.paged.now.device).content in
+    let x : List ℕ = cell_in (bytes_in r image) cell in
+    let known = c.cells_stand_in_their_image.ensures r image cell c.requires.region c.requires.cell stands in
+    let named = c.in_ok-len.ensures in
+    let same = named.after.read.device.unchanged h in
+    let there = subst (λ (l : List ℕ). StandsIn (bytes_in r l) cell) (sym same) stands in
+    let state = subst (λ (l : List ℕ). c.in_ok-state.state ≡ hash_state (cell_attributes (cell_in (bytes_in r l) cell)) (cell_content (cell_in (bytes_in r l) cell))) same
+    (c.in_ok-state.ensures.state (honest_still named.after.read.device.calls.same_honesty h) there) in
+    cell_told c.tell_named.new.self c.args.is_verbose cell.at x _ cell.head c.in_ok-state.state t (sym c.if-is_free.ensures) (named.name h stands) known.head state (c.in_ok-tell_named.ensures t told)

@@ -1,0 +1,4 @@
+pub mod Faults
+pub mod Map
+pub mod Region
+pub mod Image

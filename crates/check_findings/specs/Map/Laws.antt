@@ -1,0 +1,45 @@
+-- What a flashmap is of which nothing is told but where it is.
+use Rattle.std.specs.Prelude.{◌≡◌, ℕ, ◌+◌, ◌<◌, ◌≤◌, ◌⊎◌, List, [], ◌∷◌, length, Contains, IsSomeAnd, Some, None}
+use Rattle.std.specs.List.{find}
+use lib.Chars.{codes}
+use Rattle.flash_format.specs.declared.flashmap.Area.{Area}
+use Rattle.flash_format.specs.Flashmap.{map_len, text_of}
+use Rattle.flash_device.specs.declared.fmap.FoundMap.{FoundMap}
+use Rattle.flash_device.specs.Fmap.{found_from, found_in}
+use Rattle.check_findings.specs.declared.map.finding.NumberedArea.{NumberedArea}
+use Rattle.check_findings.specs.declared.map.finding.MapFinding.TheVariants as findings
+use Rattle.check_findings.specs.Map.MapFindings.{area_end, has_name, map_areas, map_findings}
+
+-- the area has bytes, and all of them lie in an image of n bytes
+pub record IsInside (n : ℕ) (area : Area) : Type 0 where
+  pub some : 0 < area.size
+  pub inside : area_end area ≤ n
+
+-- the first area holds the second one
+pub record Holds (a b : Area) : Type 0 where
+  pub start : a.offset ≤ b.offset
+  pub end : area_end b ≤ area_end a
+
+-- no byte lies in both areas, or one holds the other
+abbrev pub Nest : Area → Area → Type 0
+Nest a b = ((area_end a ≤ b.offset) ⊎ (area_end b ≤ a.offset)) ⊎ (Holds a b ⊎ Holds b a)
+
+-- the area holds all of the map
+pub record HoldsMap (map : FoundMap) (area : Area) : Type 0 where
+  pub start : area.offset ≤ map.at
+  pub end : map.at + map_len map.head ≤ area_end area
+
+-- An image's map with no other one above it. Each of its areas lies inside, is found by its name, and nests with each; the
+-- one with the map's own name holds all of the map.
+pub record IsSound (image : List ℕ) (map : FoundMap) : Type 0 where
+  pub found : found_in image ≡ Some map
+  pub size : map.head.size ≡ length image
+  pub only : found_from (map.at + 1) image ≡ None
+  pub inside : (a : NumberedArea) → Contains (map_areas image map) a → IsInside (length image) a.area
+  pub named : (a : NumberedArea) → Contains (map_areas image map) a → find (has_name (text_of a.area.name)) (map_areas image map) ≡ Some a
+  pub nested : (a b : NumberedArea) → Contains (map_areas image map) a → Contains (map_areas image map) b → Nest a.area b.area
+  pub held : IsSomeAnd (find (has_name (codes "FMAP")) (map_areas image map)) (λ a. HoldsMap map a.area)
+
+-- a map of which nothing is told but itself is sound
+abbrev pub UntoldMapsAreSound : Type 0
+UntoldMapsAreSound = (image : List ℕ) (map : FoundMap) → map_findings image ≡ findings.Map map ∷ [] → IsSound image map

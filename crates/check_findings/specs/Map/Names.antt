@@ -1,0 +1,17 @@
+-- The first area of each name.
+use Rattle.std.specs.Prelude.{◌≡◌, ℕ, List, Option}
+use Rattle.std.specs.List.{find}
+use Rattle.std.specs.Ordering.{nat_cmp}
+use Rattle.std.specs.Cmp.Lexicographic.{slice_cmp}
+use Rattle.std.specs.BTreeMap.{get_by}
+use Rattle.check_findings.specs.declared.map.finding.NumberedArea.{NumberedArea}
+use Rattle.check_findings.specs.declared.map.names.AreaNames.{AreaNames}
+use Rattle.check_findings.specs.Map.MapFindings.{has_name}
+
+-- the area that is kept for a name
+abbrev pub area_for : AreaNames → List ℕ → Option NumberedArea
+area_for names name = get_by (λ k. slice_cmp nat_cmp name k.now) names.first
+
+-- the first of these areas with each name is kept, and no more
+abbrev pub Notes : AreaNames → List NumberedArea → Type 0
+Notes names areas = (name : List ℕ) → area_for names name ≡ find (has_name name) areas

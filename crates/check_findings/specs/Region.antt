@@ -1,0 +1,5 @@
+pub mod Counts
+pub mod Names
+pub mod RegionFindings
+pub mod Reports
+pub mod Laws

@@ -1,0 +1,31 @@
+//! Why an image isn't checked.
+ghost use Rattle.std.specs.Prelude.{◌≡◌};
+ghost use Rattle.check_findings.specs.declared.fault.CheckFault.TheVariants as faults;
+
+use flash_device::FlashFault;
+use std::alloc::AllocError;
+
+/// The cause of a check that returns no findings.
+#[derive(Clone, Copy, Debug, PartialEq, Eq, Drop)]
+pub enum CheckFault {
+    /// The device refused a read.
+    Device,
+    /// An allocation failed.
+    Memory,
+}
+
+impl From<FlashFault> for CheckFault {
+    ghost from_gives = { λ _ fault. fault ≡ faults.Device };
+
+    fn from(_: FlashFault) -> CheckFault {
+        CheckFault::Device
+    }
+}
+
+impl From<AllocError> for CheckFault {
+    ghost from_gives = { λ _ fault. fault ≡ faults.Memory };
+
+    fn from(_: AllocError) -> CheckFault {
+        CheckFault::Memory
+    }
+}

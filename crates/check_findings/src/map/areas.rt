@@ -1,0 +1,56 @@
+//! The areas of a flashmap, read once.
+
+ghost use Rattle.std.specs.Prelude.{◌≡◌, ◌+◌, ◌/◌, ◌≤◌, [], ◌∷◌, ◌++◌, length, IfOk, OnOk};
+ghost use Rattle.flash_format.specs.Flashmap.{area_len, map_len};
+ghost use Rattle.flash_device.specs.Device.{faults_told};
+ghost use Rattle.flash_device.specs.Pages.{HasRead, OnHonest};
+ghost use Rattle.check_findings.specs.Faults.{by_device};
+ghost use Rattle.check_findings.specs.Map.MapFindings.{image_areas, map_areas};
+
+use crate::fault::CheckFault;
+use crate::map::finding::{NumberedArea};
+use flash_device::{Flash, FoundMap, Paged, area, find_fmap};
+use std::alloc::{AllocError, Global};
+
+/// All areas of the image's map, in its order; none where the image has no map. `Device` comes exactly where the device
+/// refused a read.
+pub fn image_areas<F: Flash>(
+    alloc: Global,
+    paged: &mut Paged<F>,
+) -> Result<Vec<NumberedArea>, CheckFault>
+    ensures after { HasRead F.facts (length (F.facts paged.old.device).content / 2
+        + length (F.facts paged.old.device).content / area_len + 8) (faults_told by_device result) paged.old paged.new }
+    ensures areas { OnHonest F.facts paged.old.device (λ image. IfOk result (λ areas. areas.items ≡ image_areas image)) }
+{
+    match find_fmap(paged)? {
+        Some(map) => map_areas(alloc, paged, &map),
+        None => Ok(Vec::new(alloc)),
+    }
+}
+
+/// All areas of the map, in its order.
+pub fn map_areas<F: Flash>(
+    alloc: Global,
+    paged: &mut Paged<F>,
+    map: &FoundMap,
+) -> Result<Vec<NumberedArea>, CheckFault>
+    requires { map.now.at + map_len map.now.head ≤ length (F.facts paged.old.device).content }
+
+    ensures after { HasRead F.facts map.now.head.nareas (faults_told by_device result) paged.old paged.new }
+    ensures count { IfOk result (λ areas. length areas.items ≡ map.now.head.nareas) }
+    ensures areas { OnHonest F.facts paged.old.device (λ image. IfOk result (λ areas. areas.items ≡ map_areas image map.now)) }
+{
+    let mut areas = Vec::new(alloc);
+    for number in 0..map.head.nareas {
+        let area = area(paged, map, number)?;
+        push_area(&mut areas, NumberedArea { number, area })?;
+    }
+    Ok(areas)
+}
+
+fn push_area(areas: &mut Vec<NumberedArea>, area: NumberedArea) -> Result<(), AllocError>
+    ensures { OnOk result (areas.new.items ≡ areas.old.items ++ area ∷ []) }
+{
+    areas.push(area)?;
+    Ok(())
+}

@@ -1,0 +1,69 @@
+//! The whole check of a flashmap.
+
+ghost use Rattle.std.specs.Prelude.{◌≡◌, ◌+◌, ◌*◌, ◌/◌, ◌≤◌, [], ◌∷◌, length, IfOk};
+ghost use Rattle.flash_format.specs.Flashmap.{area_len};
+ghost use Rattle.flash_device.specs.Device.{faults_told};
+ghost use Rattle.flash_device.specs.Pages.{HasRead, OnHonest};
+ghost use Rattle.check_findings.specs.Faults.{by_device};
+ghost use Rattle.check_findings.specs.Map.MapFindings.{image_areas, map_findings};
+
+use crate::map::areas::map_areas;
+use crate::fault::CheckFault;
+use crate::map::finding::{MapFinding, NumberedArea};
+use crate::map::findings::{findings_of, push_if};
+use flash_device::{Flash, Paged, find_fmap, find_fmap_from};
+use std::alloc::{AllocError, Global};
+
+/// What is told of the image's flashmap, in the order of `MapFinding`. It only reads. `Device` comes exactly where the
+/// device refused a read; what was found till then is dropped.
+pub fn check_map<F: Flash>(
+    alloc: Global,
+    paged: &mut Paged<F>,
+) -> Result<Vec<MapFinding>, CheckFault>
+    ensures after { HasRead F.facts (length (F.facts paged.old.device).content
+        + length (F.facts paged.old.device).content / area_len + 16) (faults_told by_device result) paged.old paged.new }
+    ensures answer { OnHonest F.facts paged.old.device (λ image. IfOk result (λ findings. findings.items ≡ map_findings image)) }
+{
+    let map = checked_map(alloc, paged)?;
+    Ok(map.findings)
+}
+
+/// What is told of an image's flashmap, and the areas of which it is told.
+#[derive(Drop)]
+pub struct CheckedMap {
+    pub findings: Vec<MapFinding>,
+    /// All areas of the map, in its order; none where the image has no map.
+    pub areas: Vec<NumberedArea>,
+}
+
+/// What `check_map` tells, and the areas with it, for which the map is read once.
+pub fn checked_map<F: Flash>(
+    alloc: Global,
+    paged: &mut Paged<F>,
+) -> Result<CheckedMap, CheckFault>
+    ensures after { HasRead F.facts (length (F.facts paged.old.device).content
+        + length (F.facts paged.old.device).content / area_len + 16) (faults_told by_device result) paged.old paged.new }
+    ensures fits { IfOk result (λ map. area_len * length map.areas.items ≤ length (F.facts paged.old.device).content) }
+    ensures answer { OnHonest F.facts paged.old.device (λ image. IfOk result (λ map. map.findings.items ≡ map_findings image)) }
+    ensures areas { OnHonest F.facts paged.old.device (λ image. IfOk result (λ map. map.areas.items ≡ image_areas image)) }
+{
+    let len = paged.len();
+    let Some(map) = find_fmap(paged)? else {
+        let findings = no_map(alloc)?;
+        let areas = Vec::new(alloc);
+        return Ok(CheckedMap { findings, areas });
+    };
+    let next = find_fmap_from(paged, map.at + 1)?;
+    let areas = map_areas(alloc, paged, &map)?;
+    let findings = findings_of(alloc, len, &map, next, &areas)?;
+    Ok(CheckedMap { findings, areas })
+}
+
+/// What is told where there is no map.
+fn no_map(alloc: Global) -> Result<Vec<MapFinding>, AllocError>
+    ensures { IfOk result (λ findings. findings.items ≡ MapFinding.NoMap ∷ []) }
+{
+    let mut findings = Vec::new(alloc);
+    push_if(&mut findings, true, MapFinding::NoMap)?;
+    Ok(findings)
+}

@@ -1,0 +1,15 @@
+//! Tells what is to be said of an image's flashmap before the image is flashed.
+
+mod areas;
+mod check;
+mod finding;
+mod findings;
+mod laws;
+mod names;
+mod overlaps;
+
+pub use areas::image_areas;
+pub use check::{CheckedMap, check_map, checked_map};
+pub use finding::{MapFinding, NumberedArea};
+pub use laws::untold_maps_are_sound;
+pub use names::AreaNames;

@@ -1,0 +1,94 @@
+//! Areas that no name reaches.
+
+ghost use Rattle.std.specs.Prelude.{◌≡◌, [], ◌∷◌, ◌++◌, List, IfOk, OnOk};
+ghost use Rattle.std.specs.Option.{option_map};
+ghost use Rattle.flash_format.specs.Flashmap.{text_of};
+ghost use Rattle.check_findings.specs.declared.map.finding.NumberedArea.{NumberedArea};
+ghost use Rattle.check_findings.specs.Map.MapFindings.{area_number, name_finding, name_findings};
+
+use crate::map::finding::{MapFinding, NumberedArea};
+use std::alloc::{AllocError, Global};
+use std::collections::BTreeMap;
+
+/// The first area of each name.
+#[derive(Drop)]
+pub struct AreaNames<'a> {
+    first: BTreeMap<&'a [u8], NumberedArea>,
+}
+
+impl<'a> AreaNames<'a> {
+    ghost use Rattle.check_findings.specs.Map.Names.{area_for, Notes};
+
+    /// Of no areas.
+    pub fn new(alloc: Global) -> AreaNames<'a>
+        ensures { Notes result [] }
+    {
+        AreaNames {
+            first: BTreeMap::new(alloc),
+        }
+    }
+
+    /// Of these areas.
+    pub fn of(alloc: Global, areas: &'a [NumberedArea]) -> Result<AreaNames<'a>, AllocError>
+        ensures { IfOk result (λ names. Notes names areas.now) }
+    {
+        let mut names = AreaNames::new(alloc);
+        for area in areas {
+            names.note(area)?;
+        }
+        Ok(names)
+    }
+
+    /// The first area with the name.
+    pub fn get(&self, name: &'a [u8]) -> Option<NumberedArea>
+        ensures { result ≡ area_for self.now name.now }
+    {
+        self.first.get(&name).copied()
+    }
+
+    /// The first area with the area's name. Where there is none, the area is noted.
+    fn note(&mut self, area: &'a NumberedArea) -> Result<Option<NumberedArea>, AllocError>
+        ensures first { IfOk result (λ first. first ≡ area_for self.old (text_of area.now.area.name)) }
+        ensures more { (before : List NumberedArea) → Notes self.old before → OnOk result (Notes self.new (before ++ area.now ∷ [])) }
+    {
+        let name = area.area.text();
+        if let Some(first) = self.first.get(&name) {
+            return Ok(Some(*first));
+        }
+        self.first.insert(name, *area)?;
+        Ok(None)
+    }
+}
+
+/// Pushes what is told of each area whose name an earlier one has.
+pub fn push_name_findings(
+    alloc: Global,
+    findings: &mut Vec<MapFinding>,
+    areas: &[NumberedArea],
+) -> Result<(), AllocError>
+    ensures { OnOk result (findings.new.items ≡ findings.old.items ++ name_findings [] areas.now) }
+{
+    let mut names = AreaNames::new(alloc);
+    for a in areas {
+        let first = names.note(a)?;
+        push_name_finding(findings, a, first)?;
+    }
+    Ok(())
+}
+
+/// Pushes that an earlier area, which is given, has the area's name.
+fn push_name_finding(
+    findings: &mut Vec<MapFinding>,
+    a: &NumberedArea,
+    first: Option<NumberedArea>,
+) -> Result<(), AllocError>
+    ensures { OnOk result (findings.new.items ≡ findings.old.items ++ name_finding a.now (option_map area_number first)) }
+{
+    if let Some(first) = first {
+        findings.push(MapFinding::SameName {
+            area: *a,
+            first: first.number,
+        })?;
+    }
+    Ok(())
+}

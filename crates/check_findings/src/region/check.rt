@@ -1,0 +1,113 @@
+//! The check of a region.
+ghost use Rattle.std.specs.Prelude.{◌≡◌, ◌↔◌, ◌+◌, ◌/◌, IfOk, IsErrOf};
+ghost use Rattle.flash_device.specs.Device.{faults_told};
+ghost use Rattle.flash_device.specs.Pages.{HasRead, OnHonestIn};
+ghost use Rattle.flash_device.specs.Regions.{LiesIn};
+ghost use Rattle.cbfs_walk.specs.Cells.{IsCellIn, cell_in};
+ghost use Rattle.cbfs_walk.specs.Walks.{StandsIn};
+ghost use Rattle.check_findings.specs.Faults.{by_device};
+ghost use Rattle.check_findings.specs.Region.RegionFindings.{free_findings, region_findings};
+ghost use Rattle.check_findings.specs.Region.Reports.{AddsFindings, TellsMore, told_cell, refused_findings};
+
+use crate::region::count::{Count, RegionCounts};
+use crate::fault::CheckFault;
+use crate::region::finding::RegionFinding;
+use crate::region::report::Report;
+use cbfs_walk::{Cell, Step, Walk, WalkFault, cells_stand_in_their_image, check_hash, name};
+use flash_device::{Flash, Paged, Region};
+use std::alloc::{AllocError, Global};
+use std::hash::RandomState;
+
+/// Tells what there is to tell of a free cell.
+fn tell_free(cell: &Cell, report: &mut Report) -> Result<(), AllocError>
+    ensures { AddsFindings result report.old report.new (free_findings cell.now.at cell.now.head) }
+{
+    if cell.head.kind == 0 {
+        return report.tell(RegionFinding::Deleted { at: cell.at });
+    }
+    Ok(())
+}
+
+/// Tells what there is to tell of a cell.
+fn tell_cell<F: Flash>(
+    paged: &mut Paged<F>,
+    region: Region,
+    cell: &Cell,
+    report: &mut Report,
+    is_verbose: bool,
+) -> Result<(), CheckFault>
+    requires region { LiesIn region (F.facts paged.old.device).content }
+    requires cell { IsCellIn region.size cell.now }
+
+    ensures after { HasRead F.facts (2 + cell.now.span / 3840) (faults_told by_device result) paged.old paged.new }
+    ensures told { OnHonestIn F.facts paged.old.device region (λ x. StandsIn x cell.now →
+        TellsMore result report.old report.new (λ t. told_cell is_verbose t cell.now.at (cell_in x cell.now))) }
+{
+    cells_stand_in_their_image();
+    if cell.head.is_free() {
+        tell_free(cell, report)?;
+        return Ok(());
+    }
+    let mut field = [0; 256];
+    let len = name(paged, region, cell, &mut field)?;
+    let state = check_hash(paged, region, cell)?;
+    report.tell_named(cell.at, &field[..len], cell.head.kind, state, is_verbose)?;
+    Ok(())
+}
+
+/// What is told where a walk gives no cell more.
+fn refused(
+    report: Report,
+    counts: RegionCounts,
+    fault: WalkFault,
+) -> Result<Vec<RegionFinding>, CheckFault>
+    ensures told { IfOk result (λ all. all.items ≡ refused_findings report.findings.items counts fault) }
+    ensures device { IsErrOf result CheckFault.Device ↔ (fault ≡ WalkFault.Device) }
+{
+    match fault {
+        WalkFault::Device => Err(CheckFault::Device),
+        WalkFault::RegionShape => Ok(report.told(RegionFinding::BadSize)?),
+        WalkFault::NotCbfs => Ok(report.told(RegionFinding::NotCbfs)?),
+        WalkFault::Damaged { at, kind } => {
+            Ok(report.ended(RegionFinding::Damaged { at, kind }, counts)?)
+        }
+    }
+}
+
+/// What is told of a region, cell by cell; that a component has no digest in a verbose check alone. It is the same with any
+/// keys for the hasher of names. `Device` comes exactly where the device refused a read, and `Memory` where an allocation was
+/// refused; then nothing is told.
+pub fn check_region<F: Flash>(
+    alloc: Global,
+    keys: RandomState,
+    paged: &mut Paged<F>,
+    region: Region,
+    is_verbose: bool,
+) -> Result<Vec<RegionFinding>, CheckFault>
+    requires { LiesIn region (F.facts paged.old.device).content }
+
+    // On any device.
+    ensures after { HasRead F.facts (region.size / 16 + 2) (faults_told by_device result) paged.old paged.new }
+
+    // On an honest device.
+    ensures findings { OnHonestIn F.facts paged.old.device region (λ x.
+        IfOk result (λ findings. findings.items ≡ region_findings is_verbose x)) }
+{
+    paged.places_fit();
+    let mut report = Report::new(alloc, keys);
+    let mut count = Count::new();
+    let mut walk = Walk::new(region);
+    loop {
+        match walk.next(paged) {
+            Ok(Step::Cell(cell)) => {
+                tell_cell(paged, region, &cell, &mut report, is_verbose)?;
+                count = count.with(&cell);
+            }
+            Ok(Step::Tail(at)) => {
+                return Ok(report.ended(RegionFinding::Tail { at }, count.counts)?);
+            }
+            Ok(Step::End) => return Ok(report.ended(RegionFinding::Complete, count.counts)?),
+            Err(fault) => return refused(report, count.counts, fault),
+        }
+    }
+}

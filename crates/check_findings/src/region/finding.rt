@@ -1,0 +1,82 @@
+//! What is told of a region.
+ghost use Rattle.std.specs.Prelude.{◌≡◌, IfOk};
+
+use crate::region::count::RegionCounts;
+use cbfs_walk::HashState;
+use flash_format::DamageKind;
+use std::alloc::{AllocError, Global};
+use std::marker::Model;
+
+/// The bytes of a component's name, without its NUL.
+#[derive(Drop)]
+pub struct Name {
+    bytes: Vec<u8>,
+}
+
+impl Model for Name {
+    ghost use Rattle.std.specs.Prelude.{ℕ, List};
+
+    ghost Value = { List ℕ };
+
+    ghost view = { λ n. n.bytes.items };
+}
+
+impl Name {
+    /// A copy of these bytes.
+    pub fn copied(alloc: Global, bytes: &[u8]) -> Result<Name, AllocError>
+        ensures { IfOk result (λ name. name ≡ bytes.now) }
+    {
+        let bytes = bytes.to_vec(alloc)?;
+        Ok(Name { bytes })
+    }
+
+    /// The bytes.
+    pub fn as_slice(&self) -> &[u8]
+        ensures { result.now ≡ self.now }
+    {
+        self.bytes.as_slice()
+    }
+}
+
+/// What is told of a component.
+#[derive(Clone, Copy)]
+pub enum ComponentFinding {
+    /// A component in front of it has its name, so that no search finds it.
+    Shadowed,
+    /// Its type, a number that has no name.
+    UnknownType(u32),
+    /// What its first hash attribute says of its content.
+    Hash(HashState),
+}
+
+/// One thing that is told of a region. Places count from the region's start, in bytes.
+#[derive(Drop)]
+pub enum RegionFinding {
+    /// The region's size is 0 or no multiple of 64. Nothing else is told of it.
+    BadSize,
+    /// No entry stands at the region's start. Nothing else is told of it.
+    NotCbfs,
+    /// Something of the component at this place.
+    Component {
+        at: u64,
+        name: Name,
+        what: ComponentFinding,
+    },
+    /// A component was deleted: free space of type 0 stands at this place.
+    Deleted {
+        at: u64,
+    },
+    /// The cells fill the region.
+    Complete,
+    /// The cells end at a place without an entry; the rest of the region is never used.
+    Tail {
+        at: u64,
+    },
+    /// The cells end at an entry that fails this check: the first that it fails.
+    Damaged {
+        at: u64,
+        kind: DamageKind,
+    },
+    /// What all cells sum up to.
+    Counts(RegionCounts),
+}

@@ -1,0 +1,11 @@
+use Rattle.std.proofs.lemmas.List.Elements.{All-weaker}
+use Rattle.check_findings.specs.Image.ImageFindings.{image_findings}
+use Rattle.check_findings.specs.Image.Laws.{IsFit}
+use Rattle.check_findings.specs.Image.RegionAreas.{region_areas}
+use Rattle.check_laws.specs.Laws.{IsExtracted}
+use Rattle.check_laws.proofs.Telling.{extracted_area}
+use Rattle.check_laws.proofs.laws.fit_images_are_extracted.Goals as goal
+
+pub returns : goal.returns
+returns c = λ all image names fit.
+    All-weaker (IsFit image) (IsExtracted image) (extracted_area image) (region_areas (image_findings all image names)) (c.fit_images_are_whole.ensures all image names fit)

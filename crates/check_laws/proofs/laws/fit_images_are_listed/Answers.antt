@@ -1,0 +1,11 @@
+use Rattle.std.proofs.lemmas.List.Elements.{All-weaker}
+use Rattle.check_findings.specs.Image.ImageFindings.{image_findings}
+use Rattle.check_findings.specs.Image.Laws.{IsFit}
+use Rattle.check_findings.specs.Image.RegionAreas.{region_areas}
+use Rattle.check_laws.specs.Laws.{IsListed}
+use Rattle.check_laws.proofs.Telling.{listed_area}
+use Rattle.check_laws.proofs.laws.fit_images_are_listed.Goals as goal
+
+pub returns : goal.returns
+returns c = λ all image names verbose fit.
+    All-weaker (IsFit image) (IsListed image verbose) (listed_area image verbose) (region_areas (image_findings all image names)) (c.fit_images_are_whole.ensures all image names fit)

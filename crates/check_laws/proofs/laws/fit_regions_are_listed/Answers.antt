@@ -1,0 +1,5 @@
+use Rattle.check_laws.proofs.Telling.{whole_region}
+use Rattle.check_laws.proofs.laws.fit_regions_are_listed.Goals as goal
+
+pub returns : goal.returns
+returns c = λ all x verbose fit. whole_region x verbose (c.fit_regions_are_whole.ensures all x fit)

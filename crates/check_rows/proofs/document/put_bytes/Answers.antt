@@ -1,7 +1,0 @@
-use Rattle.std.proofs.Common.{rules, append_assoc}
-use Rattle.std.proofs.lemmas.Result.{IfOk-equal}
-use Rattle.check_rows.proofs.Tokens.{bytes_tokens}
-use Rattle.check_rows.proofs.document.put_bytes.Goals as goal
-
-pub returns : goal.returns
-returns c = rw (bytes_tokens c.args.bytes.now) (search (rules, IfOk-equal, append_assoc))

@@ -1,5 +1,0 @@
-use Rattle.fit_images.proofs.Telling.{whole_region}
-use Rattle.fit_images.proofs.laws.fit_regions_are_listed.Goals as goal
-
-pub returns : goal.returns
-returns c = λ all x verbose fit. whole_region x verbose (c.fit_regions_are_whole.ensures all x fit)

@@ -1,7 +1,0 @@
-use Rattle.std.proofs.Common.{◌≡◌, ◌++◌, drop}
-use Rattle.image_check.specs.ImageFindings.{names_findings}
-use Rattle.image_check.proofs.NameLemmas.{texts}
-use Rattle.image_check.proofs.names.push_missing.Given as goal
-
-abbrev pub invariant-loop-number : goal.invariant-loop-number
-invariant-loop-number l = l.findings.items ++ names_findings l.areas l.number (drop l.number (texts l.names)) ≡ l.initial.findings.items ++ names_findings l.areas 0 (texts l.names)

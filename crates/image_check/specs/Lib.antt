@@ -1,7 +1,0 @@
-pub mod Faults
-pub mod Places
-pub mod ImageFindings
-pub mod RegionAreas
-pub mod LookedAreas
-pub mod Verdicts
-pub mod Laws
