@@ -2,4 +2,4 @@ pub mod FirstLemmas
 pub mod Reading
 pub mod ListingLemmas
 pub mod ChangeLemmas
-mod SameLemmas
+pub mod SameLemmas

@@ -1,3 +1,4 @@
+pub mod Faults
 pub mod Areas
 pub mod Components
 pub mod Regions

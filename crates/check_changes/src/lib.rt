@@ -1,14 +1,12 @@
-//! TODO
+//! Finds what a new flash image changes of an old one: bytes, areas, and the components of its CBFS regions.
 #![tactic(auto)]
 
 mod areas;
 mod components;
+mod fault;
 mod regions;
 
-pub use areas::{ImageChanges, image_changes};
-pub use areas::{AreaChange, ChangeFault};
-pub use components::{ComponentChange, Difference};
-pub use components::component_changes;
-pub use components::ChangeFault;
-pub use regions::{ComponentChanges, RegionChange};
-pub use regions::region_changes;
+pub use areas::{AreaChange, ImageChanges, image_changes};
+pub use components::{ComponentChange, Difference, component_changes};
+pub use fault::ChangeFault;
+pub use regions::{ComponentChanges, RegionChange, region_changes};

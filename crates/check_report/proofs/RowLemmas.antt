@@ -1,1 +1,1 @@
-mod Tokens
+pub mod Tokens

@@ -20,7 +20,7 @@ use crate::kept::tell_missing;
 use crate::tell::tell_region_changes;
 use crate::rows::Report;
 use flash_device::{Flash, Paged};
-use check_changes::{AreaChange, image_changes};
+use check_changes::{AreaChange, ChangeFault, image_changes};
 use check_findings::{NumberedArea, image_areas};
 use check_findings::{CheckedImage, checked_image};
 use check_changes::{RegionChange, region_changes};
@@ -56,7 +56,10 @@ fn changes_to<F: Flash, G: Flash>(
     ensures changes { OnHonest F.facts old.old.device (λ x. OnHonest G.facts new.old.device (λ y.
         IfOk result (AreChanges x y checked.now.areas.items checked.now.findings.items))) }
 {
-    let old_areas = image_areas(alloc, old)?;
+    let old_areas = match image_areas(alloc, old) {
+        Ok(areas) => areas,
+        Err(fault) => return Err(ChangeFault::of_old(fault).into()),
+    };
     let changes = image_changes(alloc, old, &old_areas, new, &checked.areas)?;
     let regions = region_changes(alloc, keys, old, &old_areas, new, &checked.findings)?;
     Ok(Changes {

@@ -7,8 +7,9 @@ use Rattle.flash_device.specs.Regions.{Range}
 use Rattle.flash_device.proofs.DeviceLemmas.{honest_still}
 use Rattle.flash_device.proofs.WindowLemmas.{HasRead-within}
 use Rattle.check_changes.specs.Areas.Blocks.{KnowsBlocks}
-use Rattle.check_changes.specs.Areas.Images.{by_old, by_new, OnBoth, KnowsRegions, HasCompared}
-use Rattle.check_changes.specs.declared.areas.change.ChangeFault.{ChangeFault}
+use Rattle.check_changes.specs.Areas.Images.{OnBoth, KnowsRegions, HasCompared}
+use Rattle.check_changes.specs.Faults.{by_old, by_new}
+use Rattle.check_changes.specs.declared.fault.ChangeFault.{ChangeFault}
 
 module _ {F G : Type 0} (facts : F → Device) (new_facts : G → Device) (n m : ℕ) (old now : Pages F) (new new_now : Pages G) (P : List ℕ → List ℕ → Type 0) (old_read : HasRead facts n 0 old now) (new_read : HasRead new_facts m 0 new new_now) where
   -- what holds after reads held before

@@ -9,7 +9,7 @@ use Rattle.flash_device.proofs.DeviceLemmas.{honest_still}
 use Rattle.flash_device.proofs.WindowLemmas.{HasRead-none, HasRead-then, HasRead-within}
 use Rattle.check_findings.specs.declared.map.finding.NumberedArea.{NumberedArea}
 use Rattle.check_findings.specs.declared.image.finding.ImageFinding.{ImageFinding}
-use Rattle.check_changes.specs.declared.components.fault.ChangeFault.{ChangeFault}
+use Rattle.check_changes.specs.declared.fault.ChangeFault.{ChangeFault}
 use Rattle.check_changes.specs.declared.regions.change.RegionChange.{RegionChange}
 use Rattle.check_changes.specs.declared.regions.pairs.Pair.{Pair}
 use Rattle.check_changes.specs.Regions.RegionChanges.{change_of, changes_in, left_after, pairs, region_changes}

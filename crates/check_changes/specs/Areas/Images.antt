@@ -4,20 +4,8 @@ use Rattle.flash_device.specs.Device.{Device, faults_told}
 use Rattle.flash_device.specs.Pages.{Pages, HasRead}
 use Rattle.flash_device.specs.Regions.{Range, LiesIn}
 use Rattle.check_changes.specs.Areas.Blocks.{KnowsBlocks}
-use Rattle.check_changes.specs.declared.areas.change.ChangeFault.{ChangeFault}
-use Rattle.check_changes.specs.declared.areas.change.ChangeFault.TheVariants as faults
-
--- how many refused calls of the device with the old image a fault tells
-abbrev pub by_old : ChangeFault → ℕ
-by_old faults.OldDevice = 1
-by_old faults.NewDevice = 0
-by_old faults.Memory = 0
-
--- and of the device with the new one
-abbrev pub by_new : ChangeFault → ℕ
-by_new faults.OldDevice = 0
-by_new faults.NewDevice = 1
-by_new faults.Memory = 0
+use Rattle.check_changes.specs.declared.fault.ChangeFault.{ChangeFault}
+use Rattle.check_changes.specs.Faults.{by_old, by_new}
 
 -- P of the bytes of both images, where both devices are honest
 abbrev pub OnBoth : {F G : Type 0} → (F → Device) → F → (G → Device) → G → (List ℕ → List ℕ → Type 0) → Type 0

@@ -3,37 +3,8 @@ use Rattle.std.specs.Prelude.{ℕ, Result}
 use Rattle.flash_device.specs.Device.{Device, faults_told}
 use Rattle.flash_device.specs.Pages.{Pages, HasRead}
 use Rattle.flash_device.specs.Regions.{Range, LiesIn}
-use Rattle.check_changes.specs.declared.components.fault.ChangeFault.{ChangeFault}
-use Rattle.check_changes.specs.declared.components.fault.ChangeFault.TheVariants as faults
-use Rattle.check_changes.specs.declared.components.fault.ListingFault.{ListingFault}
-use Rattle.check_changes.specs.declared.components.fault.ListingFault.TheVariants as listing
-
--- how many refused calls of the device of the old region a fault tells
-abbrev pub by_old : ChangeFault → ℕ
-by_old faults.OldDevice = 1
-by_old faults.NewDevice = 0
-by_old faults.Memory = 0
-
--- of the device of the new one
-abbrev pub by_new : ChangeFault → ℕ
-by_new faults.OldDevice = 0
-by_new faults.NewDevice = 1
-by_new faults.Memory = 0
-
--- of one device
-abbrev pub by_device : ListingFault → ℕ
-by_device listing.Device = 1
-by_device listing.Memory = 0
-
--- a fault of a listing of the old region
-abbrev pub of_old : ListingFault → ChangeFault
-of_old listing.Device = faults.OldDevice
-of_old listing.Memory = faults.Memory
-
--- of the new one
-abbrev pub of_new : ListingFault → ChangeFault
-of_new listing.Device = faults.NewDevice
-of_new listing.Memory = faults.Memory
+use Rattle.check_changes.specs.declared.fault.ChangeFault.{ChangeFault}
+use Rattle.check_changes.specs.Faults.{by_old, by_new}
 
 -- each of two regions lies in its device
 pub record BothLieIn {F G : Type 0} (f : F → Device) (old : F) (old_region : Range) (g : G → Device) (new : G) (new_region : Range) : Type 0 where

@@ -7,7 +7,8 @@ ghost use Rattle.check_changes.specs.Areas.Blocks as spec;
 ghost use Rattle.check_changes.specs.Areas.Images.{HasCompared, KnowsImages, OnBoth};
 
 use crate::areas::blocks::{different_blocks, different_in, whole_blocks};
-use crate::areas::change::{AreaChange, ChangeFault, push_if};
+use crate::areas::change::{AreaChange, push_if};
+use crate::fault::ChangeFault;
 use crate::areas::pairs::{Pair, pairs, push_gone};
 use flash_device::{Flash, Paged, Region};
 use check_findings::{AreaNames, NumberedArea};

@@ -4,7 +4,7 @@ ghost use Rattle.flash_device.specs.Regions.{bytes_in};
 ghost use Rattle.check_changes.specs.Areas.Blocks.{blocks_of, differs, different_among, different_blocks, KnowsBlocks};
 ghost use Rattle.check_changes.specs.Areas.Images.{HasCompared, KnowsRegions, OnBoth};
 
-use crate::areas::change::ChangeFault;
+use crate::fault::ChangeFault;
 use flash_device::{Flash, PIECE, Paged, Region};
 use std::alloc::{AllocError, Global};
 

@@ -33,27 +33,6 @@ pub enum AreaChange {
     NotCompared(NumberedArea),
 }
 
-/// Why nothing is told of two images.
-#[derive(Clone, Copy, Debug, PartialEq, Eq)]
-pub enum ChangeFault {
-    /// The device with the old image refused a read.
-    OldDevice,
-    /// The device with the new image refused a read.
-    NewDevice,
-    /// Memory was refused.
-    Memory,
-}
-
-impl From<AllocError> for ChangeFault {
-    ghost use Rattle.check_changes.specs.declared.areas.change.ChangeFault.TheVariants.{Memory};
-
-    ghost from_gives = { λ _ fault. fault ≡ Memory };
-
-    fn from(_: AllocError) -> ChangeFault {
-        ChangeFault::Memory
-    }
-}
-
 /// Pushes the change where it is to be told.
 pub fn push_if(
     changes: &mut Vec<AreaChange>,

@@ -6,4 +6,4 @@ mod change;
 mod pairs;
 
 pub use areas::{ImageChanges, image_changes};
-pub use change::{AreaChange, ChangeFault};
+pub use change::AreaChange;

@@ -7,11 +7,12 @@ ghost use Rattle.flash_device.specs.Pages.{HasRead, OnHonest, OnHonestIn};
 ghost use Rattle.flash_device.specs.Regions.{LiesIn};
 ghost use Rattle.check_changes.specs.Components.ComponentChanges.{changes_between, component_changes, pair_change, region_bytes, region_size};
 ghost use Rattle.check_changes.specs.Components.Listings.{IsListedIn, Lists, listed_change, listed_removal, spans, states_in};
-ghost use Rattle.check_changes.specs.Components.Sides.{BothLieIn, HasCompared, by_new, by_old};
+ghost use Rattle.check_changes.specs.Components.Sides.{BothLieIn, HasCompared};
+ghost use Rattle.check_changes.specs.Faults.{by_new, by_old};
 
 use crate::components::change::{ComponentChange, Difference};
 use crate::components::compare::{are_same, difference};
-use crate::components::fault::ChangeFault;
+use crate::fault::ChangeFault;
 use crate::components::first::{Listing, with_firsts};
 use crate::components::listing::{Listed, components};
 use check_findings::Name;
@@ -238,7 +239,7 @@ fn old_components<F: Flash>(
 {
     match components(alloc, old, region) {
         Ok(all) => Ok(all),
-        Err(fault) => Err(fault.of_old()),
+        Err(fault) => Err(ChangeFault::of_old(fault)),
     }
 }
 
@@ -256,7 +257,7 @@ fn new_components<F: Flash>(
 {
     match components(alloc, new, region) {
         Ok(all) => Ok(all),
-        Err(fault) => Err(fault.of_new()),
+        Err(fault) => Err(ChangeFault::of_new(fault)),
     }
 }
 

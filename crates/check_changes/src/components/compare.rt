@@ -6,7 +6,7 @@ ghost use Rattle.check_changes.specs.Components.Listings.{IsUsedIn, cell_differe
 ghost use Rattle.check_changes.specs.Components.Sides.{BothLieIn, HasCompared};
 
 use crate::components::change::Difference;
-use crate::components::fault::ChangeFault;
+use crate::fault::ChangeFault;
 use crate::components::stretch::Stretch;
 use cbfs_walk::Cell;
 use flash_device::{Flash, PIECE, Paged, Region};

@@ -6,9 +6,9 @@ ghost use Rattle.flash_device.specs.Regions.{LiesIn};
 ghost use Rattle.cbfs_walk.specs.Cells.{IsCellIn};
 ghost use Rattle.cbfs_walk.specs.Walks.{StandsIn};
 ghost use Rattle.check_changes.specs.Components.Listings.{AddsAtMost, Lists, cell_states, states_in};
-ghost use Rattle.check_changes.specs.Components.Sides.{by_device};
+ghost use Rattle.check_findings.specs.Faults.{by_device};
 
-use crate::components::fault::ListingFault;
+use check_findings::CheckFault;
 use check_findings::Name;
 use cbfs_walk::{Cell, Step, Walk, WalkFault, cells_stand_in_their_image, name};
 use flash_device::{Flash, Paged, Region};
@@ -28,7 +28,7 @@ fn list_cell<F: Flash>(
     region: Region,
     cell: &Cell,
     all: &mut Vec<Listed>,
-) -> Result<(), ListingFault>
+) -> Result<(), CheckFault>
     requires region { LiesIn region (F.facts paged.old.device).content }
     requires cell { IsCellIn region.size cell.now }
 
@@ -48,13 +48,13 @@ fn list_cell<F: Flash>(
 }
 
 /// Adds a component.
-fn add(all: &mut Vec<Listed>, listed: Listed) -> Result<(), ListingFault>
+fn add(all: &mut Vec<Listed>, listed: Listed) -> Result<(), CheckFault>
     ensures added { OnOk result (all.new.items ≡ all.old.items ++ listed ∷ []) }
-    ensures memory { IfErr result (λ fault. fault ≡ ListingFault.Memory) }
+    ensures memory { IfErr result (λ fault. fault ≡ CheckFault.Memory) }
 {
     match all.push(listed) {
         Ok(()) => Ok(()),
-        Err(_) => Err(ListingFault::Memory),
+        Err(_) => Err(CheckFault::Memory),
     }
 }
 
@@ -63,7 +63,7 @@ pub fn components<F: Flash>(
     alloc: Global,
     paged: &mut Paged<F>,
     region: Region,
-) -> Result<Vec<Listed>, ListingFault>
+) -> Result<Vec<Listed>, CheckFault>
     requires { LiesIn region (F.facts paged.old.device).content }
 
     ensures after { HasRead F.facts (region.size / 24 + 2) (faults_told by_device result) paged.old paged.new }
@@ -85,13 +85,13 @@ pub fn components<F: Flash>(
 }
 
 /// Whether a fault is but how the cells end.
-fn ended(fault: WalkFault) -> Result<(), ListingFault>
+fn ended(fault: WalkFault) -> Result<(), CheckFault>
     ensures ended { OnOk result (fault ≢ WalkFault.Device) }
     ensures device { OnErr result (fault ≡ WalkFault.Device) }
-    ensures error { IfErr result (λ fault. fault ≡ ListingFault.Device) }
+    ensures error { IfErr result (λ fault. fault ≡ CheckFault.Device) }
 {
     match fault {
-        WalkFault::Device => Err(ListingFault::Device),
+        WalkFault::Device => Err(CheckFault::Device),
         _ => Ok(()),
     }
 }

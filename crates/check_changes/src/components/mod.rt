@@ -5,11 +5,9 @@
 mod change;
 mod changes;
 mod compare;
-mod fault;
 mod first;
 mod listing;
 mod stretch;
 
 pub use change::{ComponentChange, Difference};
 pub use changes::component_changes;
-pub use fault::ChangeFault;

@@ -5,13 +5,14 @@ ghost use Rattle.flash_device.specs.Pages.{HasRead, OnHonest};
 ghost use Rattle.check_findings.specs.Map.MapFindings.{area_end};
 ghost use Rattle.check_findings.specs.Image.ImageFindings.{range_of};
 ghost use Rattle.check_findings.specs.Image.RegionAreas.{region_areas, LieInOrder};
-ghost use Rattle.check_changes.specs.Components.Sides.{by_old, by_new};
+ghost use Rattle.check_changes.specs.Faults.{by_old, by_new};
 ghost use Rattle.check_changes.specs.Regions.RegionChanges.{is_compared, left_after, change_of, changes_in, region_changes};
 ghost use Rattle.check_changes.specs.Regions.Sizes.{EndsInside, new_sizes};
 
 use crate::regions::change::{ComponentChanges, RegionChange, push};
 use crate::regions::pairs::{Pair, pairs};
-use crate::components::{ChangeFault, component_changes};
+use crate::components::component_changes;
+use crate::fault::ChangeFault;
 use flash_device::{Flash, Paged, Region};
 use check_findings::{AreaNames, NumberedArea};
 use check_findings::ImageFinding;

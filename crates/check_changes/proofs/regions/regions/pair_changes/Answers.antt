@@ -1,4 +1,4 @@
-use Rattle.check_changes.specs.Components.Sides.{by_old, by_new}
+use Rattle.check_changes.specs.Faults.{by_old, by_new}
 use Rattle.check_changes.proofs.RegionLemmas.Changing.{handed, old_reads-all, new_reads-all, changing_more}
 use Rattle.check_changes.proofs.regions.regions.pair_changes.Goals as goal
 

@@ -1,5 +1,5 @@
 use Rattle.std.proofs.Common.{rules}
-use Rattle.check_report.proofs.fault.ReportFaultFromImageCheckFault.from.Goals as goal
+use Rattle.check_changes.proofs.fault.ChangeFault.of_old.Goals as goal
 
 pub returns-in-Device : goal.returns-in-Device
 returns-in-Device c = search rules

@@ -1,0 +1,49 @@
+//! Why two images aren't compared.
+ghost use Rattle.std.specs.Prelude.{◌≡◌};
+ghost use Rattle.check_changes.specs.declared.fault.ChangeFault.TheVariants as faults;
+
+use check_findings::CheckFault;
+use std::alloc::AllocError;
+
+/// The cause of a comparison that returns no changes.
+#[derive(Clone, Copy, Debug, PartialEq, Eq)]
+pub enum ChangeFault {
+    /// The device with the old image refused a read.
+    OldDevice,
+    /// The device with the new image refused a read.
+    NewDevice,
+    /// An allocation failed.
+    Memory,
+}
+
+impl ChangeFault {
+    ghost use Rattle.check_changes.specs.Faults.{of_old, of_new};
+
+    /// Returns the fault of a check of the old image.
+    pub fn of_old(fault: CheckFault) -> ChangeFault
+        ensures { result ≡ of_old fault }
+    {
+        match fault {
+            CheckFault::Device => ChangeFault::OldDevice,
+            CheckFault::Memory => ChangeFault::Memory,
+        }
+    }
+
+    /// Returns the fault of a check of the new image.
+    pub fn of_new(fault: CheckFault) -> ChangeFault
+        ensures { result ≡ of_new fault }
+    {
+        match fault {
+            CheckFault::Device => ChangeFault::NewDevice,
+            CheckFault::Memory => ChangeFault::Memory,
+        }
+    }
+}
+
+impl From<AllocError> for ChangeFault {
+    ghost from_gives = { λ _ fault. fault ≡ faults.Memory };
+
+    fn from(_: AllocError) -> ChangeFault {
+        ChangeFault::Memory
+    }
+}
