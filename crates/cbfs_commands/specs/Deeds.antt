@@ -1,6 +1,8 @@
--- What a command asks for, and what it is to an image: its outcome, what it may change, which sides it uses, and what a
--- stop leaves.
-use Rattle.std.specs.Prelude.{ℕ, Bool, List, map, ◌≡◌, ◌+◌, ◌/◌, ◌<◌, ◌≤◌, ◌⊎◌, true, false, [], length, Option, Some, None, is_some, MatchOption, Result, Ok, Err, IsErrOf, IsTrue, ◌==◌, if◌then◌else◌}
+-- The request of a command, and its meaning for an image: the outcome, the allowed changes, the
+-- devices used, and the effect of an interruption.
+use Rattle.std.specs.Prelude.{ℕ, Bool, List, map, ◌≡◌, ◌+◌, ◌/◌, ◌<◌, ◌≤◌, ◌⊎◌, true, false, []}
+use Rattle.std.specs.Prelude.{length, Option, Some, None, is_some, MatchOption, Result, Ok, Err}
+use Rattle.std.specs.Prelude.{IsErrOf, IsTrue, ◌==◌, if◌then◌else◌}
 use Rattle.cbfs_edit.specs.declared.addition.HashChoice.{HashChoice}
 use Rattle.cbfs_edit.specs.declared.place.Spot.{Spot}
 use Rattle.cbfs_commands.specs.declared.command.Command.{Command}
@@ -18,11 +20,13 @@ use Rattle.cbfs_commands.specs.declared.refusal.Refusal.{Refusal}
 use Rattle.cbfs_commands.specs.declared.refusal.Refusal.TheVariants as refusals
 use Rattle.cbfs_commands.specs.Creations.{created_image, plan_for}
 use Rattle.cbfs_commands.specs.Rows as rows
-use Rattle.cbfs_commands.specs.Refusals.{by_device, by_source, edit_refusal, fault_or, store_refusal}
-use Rattle.cbfs_commands.specs.Outcomes.{Outcome, StopsIn, AddStopsIn, LeavesOr, print_region, extract_region, told_in}
+use Rattle.cbfs_commands.specs.Refusals.{by_device, by_source, edit_refusal, fault_or}
+use Rattle.cbfs_commands.specs.Refusals.{store_refusal}
+use Rattle.cbfs_commands.specs.Outcomes.{Outcome, StopsIn, AddStopsIn, LeavesOr, print_region}
+use Rattle.cbfs_commands.specs.Outcomes.{extract_region, told_in}
 use Rattle.cbfs_commands.specs.Told.{Answer, Told, Tells, shows}
 
--- what is asked of a region
+-- a request on a region
 pub data Task : Type 0 where
   print : Bool → Task
   extract : List ℕ → Task
@@ -31,7 +35,7 @@ pub data Task : Type 0 where
   read : Task
   write : Task
 
--- a command by the bytes of its words: of the region of a name, or of the whole image
+-- a request on a named region or on the whole image
 pub data Request : Type 0 where
   on_region : List ℕ → Task → Request
   layout : Request
@@ -41,36 +45,46 @@ abbrev pub request_of : Command → Request
 request_of (commands.Print region verbose) = on_region region.now (print verbose)
 request_of commands.Layout = layout
 request_of (commands.Extract region name) = on_region region.now (extract name.now)
-request_of (commands.Add region name kind hash spot) = on_region region.now (add name.now kind hash spot)
+request_of (commands.Add region name kind hash spot) =
+    on_region region.now (add name.now kind hash spot)
 request_of (commands.Remove region name) = on_region region.now (remove name.now)
 request_of (commands.Read region) = on_region region.now read
 request_of (commands.Write region) = on_region region.now write
 request_of (commands.Create regions) = create (map (λ name. name.now) regions.items)
 
--- A change of the image: what it makes of the image and the source, the region that it may change, by how many calls of the
--- source, by its length, where it reads one, and what a stop leaves, by the image, the source, the answer and what is left.
+-- A change of the image: its result for the image and the source, the region with allowed changes,
+-- the number of source calls by the source's length, if any, and the effect of an interruption by
+-- the image, the source, the answer and the resulting image.
 pub record Change : Type 1 where
   pub made : List ℕ → List ℕ → Result (List ℕ) Refusal
   pub target : List ℕ → Option Range
   pub source_calls : Option (ℕ → ℕ)
   pub Stopped : List ℕ → List ℕ → Answer → List ℕ → Type 0
 
--- a command tells something of the image, or changes it and writes no output
+-- a command that reports on the image, or changes the image without output
 pub data Deed : Type 1 where
   tells : (List ℕ → Told) → Deed
   changes : Change → Deed
 
--- ---- what a deed is to an image
+-- ---- the meaning of a deed for an image
 
 abbrev pub outcome : Deed → List ℕ → List ℕ → Outcome
 outcome (tells told) image source = record { told = told image; image = image }
 outcome (changes c) image source =
     let made = c.made image source in
-    record { told = record { written = []; answer = fault_or Err made (λ now. Ok tt) }; image = result_unwrap_or made image }
+    record {
+      told = record { written = []; answer = fault_or Err made (λ now. Ok tt) };
+      image = result_unwrap_or made image;
+    }
 
--- its change; one that tells changes nothing, and reads no source
+-- the change of a deed; a report changes nothing and reads no source
 abbrev pub change_of : Deed → Change
-change_of (tells told) = record { made = λ image source. Ok image; target = λ image. None; source_calls = None; Stopped = λ image source answer now. now ≡ image }
+change_of (tells told) = record {
+  made = λ image source. Ok image;
+  target = λ image. None;
+  source_calls = None;
+  Stopped = λ image source answer now. now ≡ image;
+}
 change_of (changes c) = c
 
 abbrev pub writes_output : Deed → Bool
@@ -85,49 +99,64 @@ source_calls d n = option_map_or (λ calls. calls n) (change_of d).source_calls 
 
 -- ---- the commands
 
--- The change of the region of a name: whether it reads the source, once; what is made of the region's bytes, and in place of
--- them, by the region, them and the source; and what a stop leaves, by the region, the image, the source, the answer and what is
--- left.
-abbrev pub edits : List ℕ → Bool → (Range → List ℕ → List ℕ → Result (List ℕ) Refusal) → (Range → List ℕ → List ℕ → Answer → List ℕ → Type 0) → Change
+-- The change of a named region: whether the command reads the source (once), the result and the new
+-- bytes by the region, the region's bytes and the source, and the effect of an interruption by the
+-- region, the image, the source, the answer and the resulting image.
+abbrev pub edits : List ℕ → Bool → (Range → List ℕ → List ℕ → Result (List ℕ) Refusal)
+    → (Range → List ℕ → List ℕ → Answer → List ℕ → Type 0) → Change
 edits name reads make Stops = record {
-  made = λ image source. fault_or (λ fault. Err (store_refusal fault)) (region_of image name) (λ region. fault_or Err (make region (bytes_in region image) source) (λ bytes. Ok (overwritten image region.start bytes)));
+  made = λ image source. fault_or (λ fault. Err (store_refusal fault)) (region_of image name)
+      (λ region. fault_or Err (make region (bytes_in region image) source)
+      (λ bytes. Ok (overwritten image region.start bytes)));
   target = λ image. result_ok (region_of image name);
   source_calls = if reads then Some (λ n. n / 4096 + 1) else None;
-  Stopped = λ image source answer now. ForOk (region_of image name) (λ region. Stops region image source answer now);
+  Stopped = λ image source answer now.
+      ForOk (region_of image name) (λ region. Stops region image source answer now);
 }
 
--- the source, which has its size, is put in place of a region
+-- the source replaces a region of the same size
 abbrev pub replaces : List ℕ → Change
-replaces name = edits name true (λ region x source. if length source == region.size then Ok source else Err refusals.SourceSize) StopsIn
+replaces name =
+    edits name true
+    (λ region x source. if length source == region.size then Ok source else Err refusals.SourceSize)
+    StopsIn
 
--- the source is added to a region as a component: in the first free space that has room for it, at the least place that the
--- spot allows
+-- the source becomes a component of a region, in the first free space with sufficient room, at the
+-- least allowed place
 abbrev pub adds : List ℕ → List ℕ → ℕ → HashChoice → Spot → Change
 adds region name kind hash spot =
     edits region true
-    (λ found x source. let new = new_component name kind hash source in fault_or (λ fault. Err (edit_refusal fault)) (addition_in x new spot) (λ place. Ok (added x new place)))
-    (λ found image source answer now. AddStopsIn found image (new_component name kind hash source) spot answer now)
+    (λ found x source. let new = new_component name kind hash source in
+    fault_or (λ fault. Err (edit_refusal fault)) (addition_in x new spot)
+    (λ place. Ok (added x new place)))
+    (λ found image source answer now.
+    AddStopsIn found image (new_component name kind hash source) spot answer now)
 
--- the first component of a name is removed from a region: one empty entry stands in place of it and the free space that touches it
+-- a single empty entry replaces the first component with the name and its adjacent free space
 abbrev pub removes : List ℕ → List ℕ → Change
 removes region name =
     edits region false
-    (λ found x source. fault_or (λ fault. Err (edit_refusal fault)) (removal_in x name) (λ group. Ok (removed x group)))
-    (λ found image source answer now. IsErrOf answer refusals.Device → LeavesWhole (bytes_in found image) name (bytes_in found now))
+    (λ found x source. fault_or (λ fault. Err (edit_refusal fault)) (removal_in x name)
+    (λ group. Ok (removed x group)))
+    (λ found image source answer now.
+    IsErrOf answer refusals.Device → LeavesWhole (bytes_in found image) name (bytes_in found now))
 
--- the whole image is made by the flashmap that the source begins with: of a stop only the size is promised
+-- the source's flashmap determines the whole image; an interruption only preserves the size
 abbrev pub creates : List (List ℕ) → Change
 creates names = record {
-  made = λ image source. fault_or Err (plan_for (length image) names source) (λ plan. Ok (created_image (length image) plan source));
+  made = λ image source. fault_or Err (plan_for (length image) names source)
+      (λ plan. Ok (created_image (length image) plan source));
   target = λ image. Some (record { start = 0; size = length image });
   source_calls = Some (λ n. n / area_len + n / 4096 + 3);
   Stopped = λ image source answer now. length now ≡ length image;
 }
 
--- each command
+-- the deed of each command
 abbrev pub deed : Request → Deed
-deed (on_region region (print verbose)) = tells (λ image. told_in image region (λ x. print_region x verbose))
-deed (on_region region (extract name)) = tells (λ image. told_in image region (λ x. extract_region x name))
+deed (on_region region (print verbose)) =
+    tells (λ image. told_in image region (λ x. print_region x verbose))
+deed (on_region region (extract name)) =
+    tells (λ image. told_in image region (λ x. extract_region x name))
 deed (on_region region (add name kind hash spot)) = changes (adds region name kind hash spot)
 deed (on_region region (remove name)) = changes (removes region name)
 deed (on_region region read) = tells (λ image. told_in image region shows)
@@ -135,50 +164,72 @@ deed (on_region region write) = changes (replaces region)
 deed layout = tells rows.layout
 deed (create names) = changes (creates names)
 
--- the source is honest, where the command reads it
+-- the source is honest, if the command reads the source
 abbrev pub Serves : Deed → Device → Type 0
 Serves d source = IsTrue (reads_source d) → IsTrue source.honest
 
--- bytes outside the region that a command may change are kept; without one all are
+-- all bytes outside the target region remain, or all bytes if there is none
 abbrev pub SparesOutside : Option Range → List ℕ → List ℕ → Type 0
-SparesOutside target image now = MatchOption target (now ≡ image) (λ region. SameOutside region.start region.size image now)
+SparesOutside target image now =
+    MatchOption target (now ≡ image) (λ region. SameOutside region.start region.size image now)
 
--- the call has answered, written and left what the deed says, or has stopped: one that tells changes nothing
-abbrev pub Meets : Deed → Option (List ℕ) → Option (List ℕ) → List ℕ → List ℕ → List ℕ → Answer → Type 0
-Meets (tells told) old new image source now answer = Tells old new answer (told image) × (now ≡ image)
-Meets (changes c) old new image source now answer = LeavesOr now answer (outcome (changes c) image source)
+-- the call has the answer, output and effect of the deed, or an interruption; a report changes
+-- nothing
+abbrev pub Meets : Deed → Option (List ℕ) → Option (List ℕ) → List ℕ → List ℕ → List ℕ
+    → Answer → Type 0
+Meets (tells told) old new image source now answer =
+    Tells old new answer (told image) × (now ≡ image)
+Meets (changes c) old new image source now answer =
+    LeavesOr now answer (outcome (changes c) image source)
 
--- the command is done, or the device or the source failed: after any other answer nothing has changed
+-- the command succeeded, or the device or the source failed; any other answer implies no change
 abbrev pub MayHaveWritten : Answer → Type 0
-MayHaveWritten answer = (answer ≡ Ok tt) ⊎ (answer ≡ Err refusals.Device) ⊎ (answer ≡ Err refusals.Source)
+MayHaveWritten answer =
+    (answer ≡ Ok tt) ⊎ (answer ≡ Err refusals.Device) ⊎ (answer ≡ Err refusals.Source)
 
--- the source of a change that reads none
+-- the source of a change without a source
 abbrev pub no_source : Device
 no_source = record { content = []; calls = 0; faults = 0; honest = true }
 
--- What a call leaves that makes a change, by at most n calls of the device: each fault is told only where that side failed; of an honest device, however it ends and whatever
--- the source, what lies outside the region that it may change, and everything after any other answer; from an honest source,
--- where it reads one, what the change makes of the image, or what a stop leaves.
-pub record HasChanged {F : Type 0} (facts : F → Device) (n : ℕ) (change : Change) (old new : Pages F) (source source_now : Device) (answer : Answer) : Type 0 where
+-- The effect of a change by at most n device calls. A fault implies a failure of the device or
+-- source. An honest device keeps all bytes outside the allowed region, regardless of the source and
+-- the answer, and keeps all bytes after any other error. For an honest source, if any, the result
+-- is the change or an interruption.
+pub record HasChanged {F : Type 0} (facts : F → Device) (n : ℕ) (change : Change)
+    (old new : Pages F) (source source_now : Device) (answer : Answer) : Type 0 where
   pub calls : Calls n (faults_told by_device answer) (facts old.device) (facts new.device)
-  pub source_calls : Calls (source_calls (changes change) (length source.content)) (faults_told by_source answer) source source_now
+  pub source_calls : Calls (source_calls (changes change) (length source.content))
+      (faults_told by_source answer) source source_now
   pub no_output : IsErrOf answer refusals.Output → ⊥
-  pub spares : OnHonest facts old.device (λ image. SparesOutside (change.target image) image (facts new.device).content)
-  pub refused : OnHonest facts old.device (λ image. MayHaveWritten answer ⊎ ((facts new.device).content ≡ image))
-  pub left : OnHonest facts old.device (λ image. Serves (changes change) source → LeavesOr (facts new.device).content answer (outcome (changes change) image source.content))
-  pub stopped : OnHonest facts old.device (λ image. Serves (changes change) source → change.Stopped image source.content answer (facts new.device).content)
+  pub spares : OnHonest facts old.device (λ image.
+      SparesOutside (change.target image) image (facts new.device).content)
+  pub refused : OnHonest facts old.device (λ image.
+      MayHaveWritten answer ⊎ ((facts new.device).content ≡ image))
+  pub left : OnHonest facts old.device (λ image. Serves (changes change) source
+      → LeavesOr (facts new.device).content answer (outcome (changes change) image source.content))
+  pub stopped : OnHonest facts old.device (λ image. Serves (changes change) source
+      → change.Stopped image source.content answer (facts new.device).content)
 
--- What is left where a command of this deed has run, by at most n calls of the device: the sides that it doesn't use are as they
--- were, each fault is told only where that side failed, and the rest is said of an honest device.
-pub record HasRun {F S W : Type 0} (facts : F → Device) (sources : S → Device) (contents : W → Option (List ℕ)) (faults : W → ℕ) (n : ℕ) (d : Deed) (old new : Pages F) (source_old source_new : S) (out_old out_new : W) (answer : Answer) : Type 0 where
+-- The effect of a command by at most n device calls. Unused devices remain unchanged, and a fault
+-- implies a failure of its device. The other fields require an honest device.
+pub record HasRun {F S W : Type 0} (facts : F → Device) (sources : S → Device)
+    (contents : W → Option (List ℕ)) (faults : W → ℕ) (n : ℕ) (d : Deed) (old new : Pages F)
+    (source_old source_new : S) (out_old out_new : W) (answer : Answer) : Type 0 where
   pub calls : Calls n (faults_told by_device answer) (facts old.device) (facts new.device)
-  pub source_calls : Calls (source_calls d (length (sources source_old).content)) (faults_told by_source answer) (sources source_old) (sources source_new)
+  pub source_calls : Calls (source_calls d (length (sources source_old).content))
+      (faults_told by_source answer) (sources source_old) (sources source_new)
   pub sink : faults out_old ≤ faults out_new
   pub unread : reads_source d ≡ false → source_new ≡ source_old
   pub unwritten : writes_output d ≡ false → out_new ≡ out_old
   pub source : IsErrOf answer refusals.Source → IsTrue (reads_source d)
-  pub output : IsErrOf answer refusals.Output → IsTrue (writes_output d) × (faults out_old < faults out_new)
-  pub spares : OnHonest facts old.device (λ image. SparesOutside ((change_of d).target image) image (facts new.device).content)
-  pub refused : OnHonest facts old.device (λ image. MayHaveWritten answer ⊎ ((facts new.device).content ≡ image))
-  pub outcome : OnHonest facts old.device (λ image. Serves d (sources source_old) → Meets d (contents out_old) (contents out_new) image (sources source_old).content (facts new.device).content answer)
-  pub stopped : OnHonest facts old.device (λ image. Serves d (sources source_old) → (change_of d).Stopped image (sources source_old).content answer (facts new.device).content)
+  pub output : IsErrOf answer refusals.Output
+      → IsTrue (writes_output d) × (faults out_old < faults out_new)
+  pub spares : OnHonest facts old.device (λ image.
+      SparesOutside ((change_of d).target image) image (facts new.device).content)
+  pub refused : OnHonest facts old.device (λ image.
+      MayHaveWritten answer ⊎ ((facts new.device).content ≡ image))
+  pub outcome : OnHonest facts old.device (λ image.
+      Serves d (sources source_old) → Meets d (contents out_old) (contents out_new) image
+      (sources source_old).content (facts new.device).content answer)
+  pub stopped : OnHonest facts old.device (λ image. Serves d (sources source_old)
+      → (change_of d).Stopped image (sources source_old).content answer (facts new.device).content)

@@ -1,4 +1,4 @@
--- What holds of the outcomes of the commands.
+-- Laws about the outcomes of the commands.
 use Rattle.std.specs.Prelude.{◌≡◌, ℕ, ◌+◌, ◌^◌, ◌<◌, ⊤, false, All, List, [], ◌∷◌, ◌++◌, length, Ok}
 use Rattle.std.specs.List.{AllPairs, flat_map}
 use Rattle.flash_format.specs.Head.{head_of, is_free}
@@ -22,51 +22,66 @@ use Rattle.cbfs_commands.specs.Refusals.{HasNoFault}
 use Rattle.cbfs_commands.specs.Rows.{area_row, map_row, row, rows_from}
 use Rattle.cbfs_commands.specs.Told.{shows}
 
--- an outcome's own answer blames no side, since it is a function of the image, the command and the source alone
+-- An outcome never contains a fault: the outcome is a function of the image, the command and the
+-- source alone.
 abbrev pub OutcomesHaveNoFault : Type 0
-OutcomesHaveNoFault = (r : Request) (image source : List ℕ) → HasNoFault (outcome (deed r) image source).told.answer
+OutcomesHaveNoFault = (r : Request) (image source : List ℕ)
+    → HasNoFault (outcome (deed r) image source).told.answer
 
--- the bytes that are shown of a region may be put in place of it, and the image stays as it is
+-- Writing back the reported bytes of a region leaves the image unchanged.
 abbrev pub WritingBackChangesNothing : Type 0
-WritingBackChangesNothing = (image name bytes : List ℕ) → told_in image name shows ≡ shows bytes → (replaces name).made image bytes ≡ Ok image
+WritingBackChangesNothing = (image name bytes : List ℕ) → told_in image name shows ≡ shows bytes
+    → (replaces name).made image bytes ≡ Ok image
 
--- where two images have the same region of a name, with the same bytes, a command on it tells the same of both, and leaves the
--- same bytes in it
+-- For two images with the same named region and the same bytes in it, a command has the same
+-- output, and the same result in the region.
 abbrev pub OutcomesAreOfTheRegion : Type 0
-OutcomesAreOfTheRegion = (name : List ℕ) (task : Task) (region : Range) (image other source : List ℕ)
-    → region_of image name ≡ Ok region → region_of other name ≡ Ok region → bytes_in region other ≡ bytes_in region image
-    → let of_image = outcome (deed (on_region name task)) image source in let of_other = outcome (deed (on_region name task)) other source in
-    (of_other.told ≡ of_image.told) × (bytes_in region of_other.image ≡ bytes_in region of_image.image)
+OutcomesAreOfTheRegion =
+    (name : List ℕ) (task : Task) (region : Range) (image other source : List ℕ)
+    → region_of image name ≡ Ok region → region_of other name ≡ Ok region
+    → bytes_in region other ≡ bytes_in region image
+    → let of_image = outcome (deed (on_region name task)) image source in
+    let of_other = outcome (deed (on_region name task)) other source in
+    (of_other.told ≡ of_image.told)
+    × (bytes_in region of_other.image ≡ bytes_in region of_image.image)
 
--- a plan that isn't refused meets what every plan meets, and its map's area and its regions have no byte in common
+-- A plan has all properties of `FitsImage`, and the map's area and the regions do not overlap.
 abbrev pub PlansAreLaid : Type 0
-PlansAreLaid = (n : ℕ) (names : List (List ℕ)) (source : List ℕ) (plan : Plan) → plan_for n names source ≡ Ok plan → FitsImage n (length source) plan × AllPairs LieApart (plan.map ∷ plan.regions.items)
+PlansAreLaid = (n : ℕ) (names : List (List ℕ)) (source : List ℕ) (plan : Plan)
+    → plan_for n names source ≡ Ok plan
+    → FitsImage n (length source) plan × AllPairs LieApart (plan.map ∷ plan.regions.items)
 
--- each region that `create` formats is one free cell
+-- Each region formatted by `create` is a single free cell.
 abbrev pub CreatedRegionsAreFree : Type 0
-CreatedRegionsAreFree = (n : ℕ) (names : List (List ℕ)) (source : List ℕ) (plan : Plan) → n < 2 ^ 32 → plan_for n names source ≡ Ok plan
-    → All (λ (place : Range). IsOneFreeCell (bytes_in place (created_image n plan source))) plan.regions.items
+CreatedRegionsAreFree = (n : ℕ) (names : List (List ℕ)) (source : List ℕ) (plan : Plan) → n < 2 ^ 32
+    → plan_for n names source ≡ Ok plan
+    → All (λ (place : Range). IsOneFreeCell (bytes_in place (created_image n plan source)))
+    plan.regions.items
 
--- what was added to a region is what `extract` then tells of it
+-- `extract` reports the content of an addition to a region.
 abbrev pub AdditionsAreExtracted : Type 0
-AdditionsAreExtracted = (x : List ℕ) (new : NewComponent) (spot : Spot) (place : Place) → IsAdded x new spot place → extract_region (added x new place) new.name ≡ shows new.content
+AdditionsAreExtracted = (x : List ℕ) (new : NewComponent) (spot : Spot) (place : Place)
+    → IsAdded x new spot place → extract_region (added x new place) new.name ≡ shows new.content
 
--- and so it is of an image, where its map still gives the name the same region
+-- The same for an image, if its map still has the same region under the name.
 abbrev pub AddedFilesAreExtracted : Type 0
-AddedFilesAreExtracted = (image name : List ℕ) (new : NewComponent) (spot : Spot) (region : Range) (place : Place) → region_of image name ≡ Ok region → IsAdded (bytes_in region image) new spot place
+AddedFilesAreExtracted =
+    (image name : List ℕ) (new : NewComponent) (spot : Spot) (region : Range) (place : Place)
+    → region_of image name ≡ Ok region → IsAdded (bytes_in region image) new spot place
     → let now = overwritten image region.start (added (bytes_in region image) new place) in
-    region_of now name ≡ Ok region → told_in now name (λ x. extract_region x new.name) ≡ shows new.content
+    region_of now name ≡ Ok region
+    → told_in now name (λ x. extract_region x new.name) ≡ shows new.content
 
 -- ---- printed rows
 
--- the numbers that a row shows of a cell of these bytes fit into 64 bits; those of bytes into 32
+-- all printed numbers of the cell are below 2^64; numbers decoded from bytes are below 2^32
 pub record HasNumbers (x : List ℕ) : Type 0 where
   pub kind : (head_of x).kind < 2 ^ 64
   pub len : (head_of x).len < 2 ^ 64
   pub compression : packing (cell_attributes x) < 2 ^ 64
 
--- two cells, each at its place, have all in common that a row shows: the place, the type and the
--- content's length, and of components, which free space is not, the name and the compression
+-- Two cells with the same printed properties: offset, type and content length, and for components
+-- also name and compression.
 pub record IsSameCell (at : ℕ) (x : List ℕ) (other : ℕ) (y : List ℕ) : Type 0 where
   pub place : at ≡ other
   pub kind : (head_of x).kind ≡ (head_of y).kind
@@ -75,19 +90,19 @@ pub record IsSameCell (at : ℕ) (x : List ℕ) (other : ℕ) (y : List ℕ) : T
   pub compression : is_free (head_of x) ≡ false
       → packing (cell_attributes x) ≡ packing (cell_attributes y)
 
--- the same of cells, of which the first stands at a place
+-- the same for consecutive cells
 abbrev pub HaveNumbers : ℕ → List (List ℕ) → Type 0
 HaveNumbers at [] = ⊤
 HaveNumbers at (x ∷ cells) = (at < 2 ^ 64) × HasNumbers x × HaveNumbers (at + length x) cells
 
--- as many cells, each with the other's place and with all that a row shows of it
+-- cells with pairwise equal offsets and printed properties
 abbrev pub AreSameCells : ℕ → List (List ℕ) → ℕ → List (List ℕ) → Type 0
 AreSameCells at [] other [] = ⊤
 AreSameCells at (x ∷ cells) other (y ∷ others) =
     IsSameCell at x other y × AreSameCells (at + length x) cells (other + length y) others
 AreSameCells at cells other others = ⊥
 
--- different cells have different rows, whatever text follows, and so have different listings
+-- Different cells have different rows, for any following text, and hence different listings.
 pub record RowsAreReadBack : Type 0 where
   pub rows : (at other : ℕ) (x y more rest : List ℕ) → at < 2 ^ 64 → other < 2 ^ 64
       → HasNumbers x → HasNumbers y → row at x ++ more ≡ row other y ++ rest
@@ -97,45 +112,45 @@ pub record RowsAreReadBack : Type 0 where
       → rows_from false at cells ≡ rows_from false other others
       → AreSameCells at cells other others
 
--- the numbers of an area fit into 64 bits; those of bytes fit into 32
+-- the numbers of an area are below 2^64; numbers decoded from bytes are below 2^32
 pub record HasAreaNumbers (a : Area) : Type 0 where
   pub offset : a.offset < 2 ^ 64
   pub size : a.size < 2 ^ 64
   pub flags : a.flags < 2 ^ 64
 
--- two areas have the same name, up to its NUL, and the same offset, size and flags
+-- two areas with the same name up to the NUL, and the same offset, size and flags
 pub record IsSameArea (a b : Area) : Type 0 where
   pub name : text_of a.name ≡ text_of b.name
   pub offset : a.offset ≡ b.offset
   pub size : a.size ≡ b.size
   pub flags : a.flags ≡ b.flags
 
--- the same of areas
+-- the same for several areas
 abbrev pub HaveAreaNumbers : List Area → Type 0
 HaveAreaNumbers [] = ⊤
 HaveAreaNumbers (a ∷ areas) = HasAreaNumbers a × HaveAreaNumbers areas
 
--- as many areas, each with all that a line shows of the other
+-- areas with pairwise equal printed properties
 abbrev pub AreSameAreas : List Area → List Area → Type 0
 AreSameAreas [] [] = ⊤
 AreSameAreas (a ∷ areas) (b ∷ others) = IsSameArea a b × AreSameAreas areas others
 AreSameAreas areas others = ⊥
 
--- the numbers of a map at a place fit into 64 bits; those of bytes fit into 32
+-- the numbers of a map are below 2^64; numbers decoded from bytes are below 2^32
 pub record HasMapNumbers (q : ℕ) (h : FmapHead) : Type 0 where
   pub place : q < 2 ^ 64
   pub size : h.size < 2 ^ 64
   pub nareas : h.nareas < 2 ^ 64
 
--- two maps, each at its place, have the same place, name, size and number of areas
+-- two maps with the same offset, name, size and number of areas
 pub record IsSameMap (q : ℕ) (h : FmapHead) (p : ℕ) (k : FmapHead) : Type 0 where
   pub place : q ≡ p
   pub name : text_of h.name ≡ text_of k.name
   pub size : h.size ≡ k.size
   pub nareas : h.nareas ≡ k.nareas
 
--- different maps and different areas have different lines, whatever text follows, and so have
--- different layouts
+-- Different maps and different areas have different lines, for any following text, and hence
+-- different layouts.
 pub record LinesAreReadBack : Type 0 where
   pub maps : (q p : ℕ) (h k : FmapHead) (more rest : List ℕ) → HasMapNumbers q h
       → HasMapNumbers p k → map_row q h ++ more ≡ map_row p k ++ rest

@@ -1,4 +1,4 @@
--- The refusals of the layers below, as a command answers them, and answers that blame no side.
+-- The errors of the lower layers as errors of a command, and answers without a fault.
 use Rattle.std.specs.Prelude.{ℕ, ◌⊎◌, Result, Ok, Err, IsErrOf}
 use Rattle.flash_device.specs.declared.fmap.StoreFault.{StoreFault}
 use Rattle.flash_device.specs.declared.fmap.StoreFault.TheVariants as store
@@ -35,16 +35,16 @@ edit_refusal edit.BadName = refusals.BadName
 edit_refusal edit.BadType = refusals.BadType
 edit_refusal edit.BadAlign = refusals.BadAlign
 
--- an edit is refused as the walk that it stands on
+-- the error of an edit's walk
 abbrev pub walk_refusal : WalkFault → Refusal
 walk_refusal fault = edit_refusal (edit_fault_of fault)
 
--- what a fault is answered, or else what comes of the value
+-- the answer for a fault, or else the answer for the value
 abbrev pub fault_or : {T E A : Type 0} → (E → A) → Result T E → (T → A) → A
 fault_or refuse (Err fault) next = refuse fault
 fault_or refuse (Ok value) next = next value
 
--- how many refused calls of the device a refusal tells, and how many of the source
+-- the number of failed calls of the device or the source, by error
 abbrev pub by_device : Refusal → ℕ
 by_device refusals.Device = 1
 by_device _ = 0
@@ -53,6 +53,7 @@ abbrev pub by_source : Refusal → ℕ
 by_source refusals.Source = 1
 by_source _ = 0
 
--- the answer blames no side: not the device, the output or the source
+-- the answer is no fault of the device, the output or the source
 abbrev pub HasNoFault : {T : Type 0} → Result T Refusal → Type 0
-HasNoFault answer = IsErrOf answer refusals.Device ⊎ IsErrOf answer refusals.Output ⊎ IsErrOf answer refusals.Source → ⊥
+HasNoFault answer = IsErrOf answer refusals.Device ⊎ IsErrOf answer refusals.Output
+    ⊎ IsErrOf answer refusals.Source → ⊥

@@ -1,6 +1,8 @@
--- What `print` writes, a row for each cell of a region, and with `-v` a line for each attribute and one for the digest; and
--- `layout`: the place of an image's map, and its areas. The forms of the texts are this project's own.
-use Rattle.std.specs.Prelude.{ℕ, List, ◌++◌, ◌==◌, drop, if◌then◌else◌, Option, Some, None, unwrap_or, ◌+◌, Bool, not, ◌&&◌, [], ◌∷◌, length, map}
+-- The output of `print`: a row for each cell of a region, and with `-v` a line for each attribute
+-- and for the digest. The output of `layout`: the offset of an image's map, and its areas. The
+-- formats are this project's own.
+use Rattle.std.specs.Prelude.{ℕ, List, ◌++◌, ◌==◌, drop, if◌then◌else◌, Option, Some, None}
+use Rattle.std.specs.Prelude.{unwrap_or, ◌+◌, Bool, not, ◌&&◌, [], ◌∷◌, length, map}
 use Rattle.std.specs.List.{flat_map}
 use Rattle.std.specs.Option.{option_map_or}
 use Rattle.std.specs.Fmt.{decimal}
@@ -23,48 +25,56 @@ use Rattle.flash_format.specs.Made.{algorithm_row, algorithm, digest_bytes}
 use Rattle.flash_format.specs.declared.digest.Digest.{Digest}
 use Rattle.cbfs_walk.specs.Hashes.{hash_state}
 use Rattle.cbfs_walk.specs.declared.hashes.HashState.{HashState}
-use Rattle.cbfs_walk.specs.declared.hashes.HashState.TheVariants.{Absent, Valid, Invalid, Unsupported}
+use Rattle.cbfs_walk.specs.declared.hashes.HashState.TheVariants.{Absent, Valid, Invalid}
+use Rattle.cbfs_walk.specs.declared.hashes.HashState.TheVariants.{Unsupported}
 
--- a type by its name, or else by its number
+-- a type by name, or else by number
 unfoldable pub printed_type : ℕ → List ℕ
 printed_type kind = unwrap_or (name_of_type kind) (hexadecimal kind)
 
--- the value of a compression attribute by its name, or else by its number
+-- a compression by name, or else by number
 unfoldable pub printed_packing : ℕ → List ℕ
-printed_packing n = if n == 0 then codes "none" else (if n == 1 then codes "LZMA" else (if n == 2 then codes "LZ4" else hexadecimal n))
+printed_packing n = if n == 0 then codes "none"
+    else (if n == 1 then codes "LZMA" else (if n == 2 then codes "LZ4" else hexadecimal n))
 
--- The row of a cell at a place, by its head, its name where it has one, and the value of its compression: name, position,
--- type, length of the content, and compression.
+-- The row of a cell: name, offset, type, content length and compression.
 unfoldable pub row_text : ℕ → Head → Option (List ℕ) → ℕ → List ℕ
-row_text at h name n =
-    option_map_or printed_name name (codes "(empty)") ++ tab ++ hexadecimal at ++ tab ++ printed_type h.kind ++ tab ++ decimal h.len ++ tab ++ printed_packing n ++ line_feed
+row_text at h name n = option_map_or printed_name name (codes "(empty)") ++ tab ++ hexadecimal at
+    ++ tab ++ printed_type h.kind ++ tab ++ decimal h.len ++ tab ++ printed_packing n ++ line_feed
 
--- the row of a cell of these bytes; free space has neither a name nor a compression
+-- the row of a cell; free space has no name and no compression
 abbrev pub row : ℕ → List ℕ → List ℕ
-row at x = if is_free (head_of x) then row_text at (head_of x) None 0 else row_text at (head_of x) (Some (cell_name x)) (packing (cell_attributes x))
+row at x = if is_free (head_of x) then row_text at (head_of x) None 0
+    else row_text at (head_of x) (Some (cell_name x)) (packing (cell_attributes x))
 
 -- ---- layout
 
--- the row of a map: its place, its name, its size and the number of its areas
+-- the row of a map: offset, name, size and number of areas
 unfoldable pub map_row : ℕ → FmapHead → List ℕ
-map_row q h = codes "fmap" ++ tab ++ hexadecimal q ++ tab ++ printed_name (text_of h.name) ++ tab ++ decimal h.size ++ tab ++ decimal h.nareas ++ line_feed
+map_row q h = codes "fmap" ++ tab ++ hexadecimal q ++ tab ++ printed_name (text_of h.name) ++ tab
+    ++ decimal h.size ++ tab ++ decimal h.nareas ++ line_feed
 
--- the row of an area: its name, its offset, its size and its flags
+-- the row of an area: name, offset, size and flags
 unfoldable pub area_row : Area → List ℕ
-area_row a = printed_name (text_of a.name) ++ tab ++ hexadecimal a.offset ++ tab ++ decimal a.size ++ tab ++ hexadecimal a.flags ++ line_feed
+area_row a = printed_name (text_of a.name) ++ tab ++ hexadecimal a.offset ++ tab ++ decimal a.size
+    ++ tab ++ hexadecimal a.flags ++ line_feed
 
 unfoldable pub layout : List ℕ → Told
-layout image = option_map_or (λ q. shows (map_row q (fmap_head_of (drop q image)) ++ flat_map area_row (areas_at image q))) (map_of image) (refuses refusals.NoFmap)
+layout image = option_map_or
+    (λ q. shows (map_row q (fmap_head_of (drop q image)) ++ flat_map area_row (areas_at image q)))
+    (map_of image) (refuses refusals.NoFmap)
 
--- the line of an attribute's head: its tag with eight digits, and its length, which counts the head
+-- the line of an attribute: its tag in eight digits, and its length including the header
 unfoldable pub attribute_line : AttrHead → List ℕ
-attribute_line head = codes "\tattr\t0x" ++ encode_lower (big_bytes 4 head.tag) ++ tab ++ decimal head.len ++ line_feed
+attribute_line head = codes "\tattr\t0x" ++ encode_lower (big_bytes 4 head.tag) ++ tab
+    ++ decimal head.len ++ line_feed
 
--- the line of a digest: its algorithm, its digits, and whether it is the content's
+-- the line of a digest: algorithm, digits and validity
 abbrev pub digest_line : Digest → List ℕ → List ℕ
-digest_line d verdict = codes "\thash\t" ++ (algorithm_row (algorithm d)).name ++ tab ++ encode_lower (digest_bytes d) ++ tab ++ verdict ++ line_feed
+digest_line d verdict = codes "\thash\t" ++ (algorithm_row (algorithm d)).name ++ tab
+    ++ encode_lower (digest_bytes d) ++ tab ++ verdict ++ line_feed
 
--- the line of what the first hash attribute says, where there is one
+-- the line of the first hash attribute, if any
 unfoldable pub hash_line : HashState → List ℕ
 hash_line Absent = []
 hash_line (Valid d) = digest_line d (codes "valid")
@@ -79,11 +89,13 @@ hash_text x = hash_line (hash_state (cell_attributes x) (cell_content x))
 abbrev pub details : List ℕ → List ℕ
 details x = flat_map attribute_line (map head_of_attribute (cell_attributes x)) ++ hash_text x
 
--- the row of a cell of these bytes at a place, with the lines after it
+-- the row of a cell, followed by its lines
 abbrev pub shown_cell : Bool → ℕ → List ℕ → List ℕ
-shown_cell verbose at x = row at x ++ (if verbose && not (is_free (head_of x)) then details x else [])
+shown_cell verbose at x =
+    row at x ++ (if verbose && not (is_free (head_of x)) then details x else [])
 
--- the same of cells, of which the first stands at this place
+-- the rows of consecutive cells
 unfoldable pub rows_from : Bool → ℕ → List (List ℕ) → List ℕ
 rows_from verbose at [] = []
-rows_from verbose at (x ∷ cells) = shown_cell verbose at x ++ rows_from verbose (at + length x) cells
+rows_from verbose at (x ∷ cells) =
+    shown_cell verbose at x ++ rows_from verbose (at + length x) cells

@@ -1,5 +1,6 @@
--- What a command that changes nothing writes and answers, and what a call did of it.
-use Rattle.std.specs.Prelude.{◌≡◌, ℕ, ◌<◌, ◌≤◌, ◌⊎◌, IsErrOf, List, [], false, Option, Result, Ok, Err, length, take}
+-- The output and answer of a command without changes, and the effect of a call.
+use Rattle.std.specs.Prelude.{◌≡◌, ℕ, ◌<◌, ◌≤◌, ◌⊎◌, IsErrOf, List, [], false, Option, Result, Ok}
+use Rattle.std.specs.Prelude.{Err, length, take}
 use Rattle.std.specs.Io.KnownBytes.{Appends}
 use Rattle.flash_format.specs.Head.{is_free}
 use Rattle.flash_device.specs.Device.{Device, faults_told}
@@ -20,43 +21,51 @@ pub record Told : Type 0 where
   pub written : List ℕ
   pub answer : Answer
 
--- a text, and done
+-- a text and success
 abbrev pub shows : List ℕ → Told
 shows text = record { written = text; answer = Ok tt }
 
--- nothing but a refusal
+-- an error without output
 abbrev pub refuses : Refusal → Told
 refuses refusal = record { written = []; answer = Err refusal }
 
--- the writer failed, with a proper prefix of a text written, or the device failed, with some prefix of it written
+-- the writer failed after a proper prefix of the text, or the device failed after a prefix
 abbrev pub StopsWriting : Option (List ℕ) → Option (List ℕ) → Answer → List ℕ → Type 0
 StopsWriting old new answer text =
-    ((answer ≡ Err refusals.Output) × AppendsPart old new text) ⊎ ((answer ≡ Err refusals.Device) × ((n : ℕ) × (n ≤ length text) × Appends old new (take n text)))
+    ((answer ≡ Err refusals.Output) × AppendsPart old new text) ⊎ ((answer ≡ Err refusals.Device)
+    × ((n : ℕ) × (n ≤ length text) × Appends old new (take n text)))
 
--- the call has answered and written what is told, or has stopped writing it
+-- the call has the given output and answer, or an interruption
 abbrev pub Tells : Option (List ℕ) → Option (List ℕ) → Answer → Told → Type 0
-Tells old new answer t = ((answer ≡ t.answer) × Appends old new t.written) ⊎ StopsWriting old new answer t.written
+Tells old new answer t =
+    ((answer ≡ t.answer) × Appends old new t.written) ⊎ StopsWriting old new answer t.written
 
--- A cell of a region of a device: both lie where they have to, and the cell stands there where the device is honest.
-pub record IsCellOf {F : Type 0} (facts : F → Device) (r : Range) (c : Cell) (device : F) : Type 0 where
+-- A cell of a region of a device. Both lie within bounds, and an honest device has the cell at its
+-- offset.
+pub record IsCellOf {F : Type 0} (facts : F → Device) (r : Range) (c : Cell)
+    (device : F) : Type 0 where
   pub region : LiesIn r (facts device).content
   pub cell : IsCellIn r.size c
   pub stands : OnHonestIn facts device r (λ x. StandsIn x c)
 
--- a cell of a region of a device that isn't free
-pub record IsComponentOf {F : Type 0} (facts : F → Device) (r : Range) (c : Cell) (device : F) : Type 0 where
+-- a cell in use of a region of a device
+pub record IsComponentOf {F : Type 0} (facts : F → Device) (r : Range) (c : Cell)
+    (device : F) : Type 0 where
   pub cell : IsCellOf facts r c device
   pub used : is_free c.head ≡ false
 
--- the bytes of a cell of a region, of all those of an image
+-- the bytes of a cell, by its region and the image's bytes
 abbrev pub cell_of : Range → Cell → List ℕ → List ℕ
 cell_of region cell image = cell_in (bytes_in region image) cell
 
--- What a call leaves that only reads the device, by at most n calls, and writes to a sink: each fault is told only where
--- that side failed, and this is told of the bytes of an honest device.
-pub record HasTold {F W : Type 0} (facts : F → Device) (contents : W → Option (List ℕ)) (faults : W → ℕ) (n : ℕ) (old new : Pages F) (out_old out_new : W) (answer : Answer) (t : List ℕ → Told) : Type 0 where
+-- The effect of a call that reads the device at most n times and writes to a sink. A fault implies
+-- a failure of its device. `told` requires an honest device.
+pub record HasTold {F W : Type 0} (facts : F → Device) (contents : W → Option (List ℕ))
+    (faults : W → ℕ) (n : ℕ) (old new : Pages F) (out_old out_new : W) (answer : Answer)
+    (t : List ℕ → Told) : Type 0 where
   pub read : HasRead facts n (faults_told by_device answer) old new
   pub sink : faults out_old ≤ faults out_new
   pub output : IsErrOf answer refusals.Output → faults out_old < faults out_new
   pub no_source : IsErrOf answer refusals.Source → ⊥
-  pub told : OnHonest facts old.device (λ image. Tells (contents out_old) (contents out_new) answer (t image))
+  pub told : OnHonest facts old.device (λ image.
+      Tells (contents out_old) (contents out_new) answer (t image))

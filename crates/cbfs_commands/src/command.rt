@@ -1,34 +1,35 @@
-//! What a command line asks for.
+//! The commands of the command line.
 
 use crate::flashmap::MOST_REGIONS;
 use arrayvec::ArrayVec;
 use cbfs_edit::{HashChoice, Spot};
 
-/// A command and its words. A region and a component are named by bytes.
+/// A command and its arguments. Names of regions and components are bytes.
 #[derive(Drop)]
 pub enum Command<'a> {
-    /// Writes a row for each cell of the region; where verbose, with a line for each attribute and for the digest.
+    /// Prints a row for each cell of the region, and if verbose a line for each attribute and for
+    /// the digest.
     Print {
         region: &'a [u8],
         verbose: bool,
     },
-    /// Writes the place of the flashmap, and its areas.
+    /// Prints the offset of the flashmap, and its areas.
     Layout,
-    /// Writes the content of the first component of the name.
+    /// Writes the content of the first component with the name.
     Extract {
         region: &'a [u8],
         name: &'a [u8],
     },
-    /// Puts the source into free space of the region, as the content of a component.
+    /// Adds the source to the region as the content of a component.
     Add {
         region: &'a [u8],
         name: &'a [u8],
-        /// The type.
+        /// The CBFS type.
         kind: u32,
         hash: HashChoice,
         spot: Spot,
     },
-    /// Puts free space in place of the first component of the name.
+    /// Replaces the first component of this name by free space.
     Remove {
         region: &'a [u8],
         name: &'a [u8],
@@ -37,11 +38,12 @@ pub enum Command<'a> {
     Read {
         region: &'a [u8],
     },
-    /// Replaces the region by the source, which has its size.
+    /// Replaces the region with the source, which has the same size.
     Write {
         region: &'a [u8],
     },
-    /// Makes the whole image from a flashmap, the source, with each of these regions as one empty entry.
+    /// Creates the whole image from a flashmap, the source, with each region as a single empty
+    /// entry.
     Create {
         regions: ArrayVec<&'a [u8], MOST_REGIONS>,
     },

@@ -1,6 +1,7 @@
 //! The command `create`.
 
-ghost use Rattle.std.specs.Prelude.{◌≡◌, ◌+◌, ◌*◌, ◌/◌, ◌≤◌, All, fold, length, map, OnOk, OnErr, Err};
+ghost use Rattle.std.specs.Prelude.{◌≡◌, ◌+◌, ◌*◌, ◌/◌, ◌≤◌, All, fold, length, map, OnOk, OnErr};
+ghost use Rattle.std.specs.Prelude.{Err};
 ghost use Rattle.flash_device.specs.Device.{Calls, refusals};
 ghost use Rattle.flash_device.specs.Laws.{with_edit};
 ghost use Rattle.flash_device.specs.Pages.{OnHonest};
@@ -14,7 +15,7 @@ use crate::refusal::Refusal;
 use cbfs_edit::{EditFault, format};
 use flash_device::{Flash, Paged, Region, Source};
 
-/// Makes a region one empty entry.
+/// Formats a region as a single empty entry.
 fn format_place<F: Flash>(paged: &mut Paged<F>, place: Region) -> Result<(), Refusal>
     requires { IsPlace (length (F.facts paged.old.device).content) place }
 
@@ -30,15 +31,17 @@ fn format_place<F: Flash>(paged: &mut Paged<F>, place: Region) -> Result<(), Ref
     }
 }
 
-/// Makes each region one empty entry, in order.
+/// Formats each region as a single empty entry, in order.
 fn format_all<F: Flash>(paged: &mut Paged<F>, mut places: &[Region]) -> Result<(), Refusal>
     requires { All (IsPlace (length (F.facts paged.old.device).content)) places.now }
 
-    ensures calls { Calls (length places.entry.now * (length (F.facts paged.old.device).content / 4096 + 2))
+    ensures calls { Calls
+        (length places.entry.now * (length (F.facts paged.old.device).content / 4096 + 2))
         (refusals result) (F.facts paged.old.device) (F.facts paged.new.device) }
     ensures is { OnErr result (result ≡ Err Refusal.Device) }
     ensures formatted { OnHonest F.facts paged.old.device (λ image.
-        OnOk result ((F.facts paged.new.device).content ≡ fold (λ x place. with_edit place formatted x) image places.entry.now)) }
+        OnOk result ((F.facts paged.new.device).content
+        ≡ fold (λ x place. with_edit place formatted x) image places.entry.now)) }
 {
     while let [place, rest @ ..] = places {
         format_place(paged, *place)?;
@@ -47,16 +50,17 @@ fn format_all<F: Flash>(paged: &mut Paged<F>, mut places: &[Region]) -> Result<(
     Ok(())
 }
 
-/// Makes the whole image from the flashmap that the source begins with: 0xff throughout, the flashmap in the area FMAP, and each
-/// named region one empty entry. Nothing is written before everything is checked.
+/// Creates the whole image from the source's flashmap: 0xff throughout, the flashmap in the area
+/// FMAP, and each named region as a single empty entry. Performs all checks before the first write.
 pub fn create<F: Flash, S: Source>(
     paged: &mut Paged<F>,
     names: &[&[u8]],
     source: &mut S,
 ) -> Result<(), Refusal>
     requires { length names.now ≤ MOST_REGIONS }
-    ensures { HasChanged F.facts (2 * length (F.facts paged.old.device).content + 64) (creates (map (λ name. name.now) names.now))
-        paged.old paged.new (S.facts source.old) (S.facts source.new) result }
+    ensures { HasChanged F.facts (2 * length (F.facts paged.old.device).content + 64)
+        (creates (map (λ name. name.now) names.now)) paged.old paged.new (S.facts source.old)
+        (S.facts source.new) result }
 {
     let image_len = paged.len();
     let plan = read_plan(names, source, image_len)?;

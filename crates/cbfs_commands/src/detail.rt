@@ -1,4 +1,4 @@
-//! The lines that a verbose listing has of a component, after its row.
+//! The lines of a component in a verbose listing, after its row.
 
 ghost use Rattle.std.specs.Prelude.{◌≡◌, ◌+◌, ◌/◌, ◌≤◌, ◌++◌, length, map};
 ghost use Rattle.std.specs.List.{flat_map};
@@ -10,7 +10,8 @@ ghost use Rattle.flash_format.specs.Components.{cell_attributes, cell_content};
 ghost use Rattle.flash_format.specs.Printed.{Pushes};
 ghost use Rattle.cbfs_walk.specs.AttrWalks.{head_of_attribute};
 ghost use Rattle.cbfs_walk.specs.Hashes.{hash_state};
-ghost use Rattle.cbfs_commands.specs.Rows.{attribute_line, details, digest_line, hash_line, hash_text};
+ghost use Rattle.cbfs_commands.specs.Rows.{attribute_line, details, digest_line, hash_line};
+ghost use Rattle.cbfs_commands.specs.Rows.{hash_text};
 ghost use Rattle.cbfs_commands.specs.Told.{HasTold, IsComponentOf, cell_of, shows};
 
 use crate::refusal::Refusal;
@@ -20,7 +21,7 @@ use cbfs_walk::{Cell, HashState, attributes, cells_stand_in_their_image, check_h
 use flash_device::{Flash, Paged, Region, Sink};
 use flash_format::{AttrHead, Digest, digest_text, push_text};
 
-/// Eight digits of a tag.
+/// Appends the eight digits of a tag.
 fn push_tag(row: &mut Row, tag: u32)
     requires { array_vec_len row.old + 8 ≤ ROW_LEN }
     ensures { Pushes row.old (encode_lower (big_bytes 4 tag)) 8 row.new }
@@ -32,7 +33,7 @@ fn push_tag(row: &mut Row, tag: u32)
     push_text(row, &digits);
 }
 
-/// The line of an attribute.
+/// Formats the line of an attribute.
 #[tactic(auto, unfolding(crate::specs::Rows::attribute_line))]
 fn set_attribute_row(row: &mut Row, head: &AttrHead)
     ensures { row.new.items ≡ attribute_line head.now }
@@ -45,7 +46,7 @@ fn set_attribute_row(row: &mut Row, head: &AttrHead)
     push_text(row, b"\n");
 }
 
-/// The digits of a digest.
+/// Appends the digits of a digest.
 fn push_digest(row: &mut Row, digest: &Digest)
     requires { array_vec_len row.old + 128 ≤ ROW_LEN }
     ensures { Pushes row.old (encode_lower (digest_bytes digest.now)) 128 row.new }
@@ -55,7 +56,7 @@ fn push_digest(row: &mut Row, digest: &Digest)
     push_text(row, &digits[..n]);
 }
 
-/// The line of a digest.
+/// Formats the line of a digest.
 fn set_digest_row(row: &mut Row, digest: &Digest, verdict: &[u8])
     requires { length verdict.now ≤ 7 }
     ensures { row.new.items ≡ digest_line digest.now verdict.now }
@@ -70,7 +71,7 @@ fn set_digest_row(row: &mut Row, digest: &Digest, verdict: &[u8])
     push_text(row, b"\n");
 }
 
-/// The line of what the first hash attribute says; none where there is no such attribute.
+/// Formats the line of the first hash attribute, or nothing without such an attribute.
 #[tactic(auto, unfolding(crate::specs::Rows::hash_line))]
 fn set_hash_row(row: &mut Row, state: &HashState)
     ensures { row.new.items ≡ hash_line state.now }
@@ -86,7 +87,7 @@ fn set_hash_row(row: &mut Row, state: &HashState)
     }
 }
 
-/// Writes a line for each attribute of a component.
+/// Prints a line for each attribute of a component.
 fn print_attributes<F: Flash, W: Sink>(
     paged: &mut Paged<F>,
     region: Region,
@@ -96,8 +97,9 @@ fn print_attributes<F: Flash, W: Sink>(
 ) -> Result<(), Refusal>
     requires { IsComponentOf F.facts region cell.now paged.old.device }
 
-    ensures { HasTold F.facts W.contents W.faults (cell.now.head.offset / 8) paged.old paged.new out.old out.new result
-        (λ image. shows (flat_map attribute_line (map head_of_attribute (cell_attributes (cell_of region cell.now image))))) }
+    ensures { HasTold F.facts W.contents W.faults (cell.now.head.offset / 8)
+        paged.old paged.new out.old out.new result (λ image. shows (flat_map attribute_line
+        (map head_of_attribute (cell_attributes (cell_of region cell.now image))))) }
 {
     let mut walk = attributes(cell);
     while let Some(head) = walk.next(paged, region)? {
@@ -107,7 +109,7 @@ fn print_attributes<F: Flash, W: Sink>(
     Ok(())
 }
 
-/// Writes the line of a component's digest.
+/// Prints the line of a component's digest.
 fn print_hash<F: Flash, W: Sink>(
     paged: &mut Paged<F>,
     region: Region,
@@ -117,15 +119,16 @@ fn print_hash<F: Flash, W: Sink>(
 ) -> Result<(), Refusal>
     requires { IsComponentOf F.facts region cell.now paged.old.device }
 
-    ensures { HasTold F.facts W.contents W.faults (1 + cell.now.span / 3840) paged.old paged.new out.old out.new result
-        (λ image. shows (hash_text (cell_of region cell.now image))) }
+    ensures { HasTold F.facts W.contents W.faults (1 + cell.now.span / 3840)
+        paged.old paged.new out.old out.new result (λ image.
+        shows (hash_text (cell_of region cell.now image))) }
 {
     let state = check_hash(paged, region, cell)?;
     set_hash_row(row, &state);
     put_row(out, row)
 }
 
-/// Writes the lines of a component.
+/// Prints the lines of a component.
 pub fn print_details<F: Flash, W: Sink>(
     paged: &mut Paged<F>,
     region: Region,
@@ -135,8 +138,10 @@ pub fn print_details<F: Flash, W: Sink>(
 ) -> Result<(), Refusal>
     requires { IsComponentOf F.facts region cell.now paged.old.device }
 
-    ensures { HasTold F.facts W.contents W.faults (cell.now.head.offset / 8 + (1 + cell.now.span / 3840))
-        paged.old paged.new out.old out.new result (λ image. shows (details (cell_of region cell.now image))) }
+    ensures { HasTold F.facts W.contents W.faults
+        (cell.now.head.offset / 8 + (1 + cell.now.span / 3840))
+        paged.old paged.new out.old out.new result (λ image.
+        shows (details (cell_of region cell.now image))) }
 {
     print_attributes(paged, region, cell, row, out)?;
     print_hash(paged, region, cell, row, out)

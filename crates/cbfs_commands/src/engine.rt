@@ -1,8 +1,12 @@
-//! One command at a time; those that only hand their region on to `cbfs_edit` stand here.
+//! Runs one command. Includes the commands that only call `cbfs_edit` on a region.
 
-ghost use Rattle.std.specs.Prelude.{◌≡◌, ◌+◌, ◌*◌, ◌/◌, ◌<◌, ◌≤◌, ◌⊎◌, false, length, IsTrue, IsErrOf};
+ghost use Rattle.std.specs.Prelude.{◌≡◌, ◌+◌, ◌*◌, ◌/◌, ◌<◌, ◌≤◌, ◌⊎◌, false, length, IsTrue};
+ghost use Rattle.std.specs.Prelude.{IsErrOf};
 ghost use Rattle.flash_device.specs.Device.{Calls, faults_told};
-ghost use Rattle.cbfs_commands.specs.Deeds.{Meets, MayHaveWritten, Serves, SparesOutside, change_of, deed, reads_source, source_calls, writes_output, request_of, HasChanged, HasRun, adds, no_source, removes};
+ghost use Rattle.cbfs_commands.specs.Deeds.{Meets, MayHaveWritten, Serves, SparesOutside};
+ghost use Rattle.cbfs_commands.specs.Deeds.{change_of, deed, reads_source, source_calls};
+ghost use Rattle.cbfs_commands.specs.Deeds.{writes_output, request_of, HasChanged, HasRun, adds};
+ghost use Rattle.cbfs_commands.specs.Deeds.{no_source, removes};
 ghost use Rattle.cbfs_commands.specs.Refusals.{by_device, by_source};
 
 use crate::command::Command;
@@ -16,7 +20,7 @@ use crate::write::write;
 use cbfs_edit::{HashChoice, Spot};
 use flash_device::{Flash, Paged, Sink, Source};
 
-/// Puts the source into free space of the region, as the content of a component.
+/// Adds the source to the region as the content of a component.
 fn add<F: Flash, S: Source>(
     paged: &mut Paged<F>,
     region: &[u8],
@@ -26,15 +30,16 @@ fn add<F: Flash, S: Source>(
     spot: Spot,
     source: &mut S,
 ) -> Result<(), Refusal>
-    ensures { HasChanged F.facts (2 * length (F.facts paged.old.device).content + 64) (adds region.now name.now kind hash spot)
-        paged.old paged.new (S.facts source.old) (S.facts source.new) result }
+    ensures { HasChanged F.facts (2 * length (F.facts paged.old.device).content + 64)
+        (adds region.now name.now kind hash spot) paged.old paged.new (S.facts source.old)
+        (S.facts source.new) result }
 {
     let region = flash_device::region(paged, region)?;
     cbfs_edit::add(paged, region, name, kind, hash, spot, source)?;
     Ok(())
 }
 
-/// Puts free space in place of the first component of the name.
+/// Replaces the first component of this name by free space.
 fn remove<F: Flash>(paged: &mut Paged<F>, region: &[u8], name: &[u8]) -> Result<(), Refusal>
     ensures { HasChanged F.facts (2 * length (F.facts paged.old.device).content + 64)
         (removes region.now name.now) paged.old paged.new no_source no_source result }
@@ -44,15 +49,16 @@ fn remove<F: Flash>(paged: &mut Paged<F>, region: &[u8], name: &[u8]) -> Result<
     Ok(())
 }
 
-/// Hands a command on to the function that is it.
+/// Calls the function of a command.
 fn dispatch<F: Flash, S: Source, W: Sink>(
     paged: &mut Paged<F>,
     command: &Command,
     source: &mut S,
     out: &mut W,
 ) -> Result<(), Refusal>
-    ensures { HasRun F.facts S.facts W.contents W.faults (2 * length (F.facts paged.old.device).content + 64)
-        (deed (request_of command.now)) paged.old paged.new source.old source.new out.old out.new result }
+    ensures { HasRun F.facts S.facts W.contents W.faults
+        (2 * length (F.facts paged.old.device).content + 64) (deed (request_of command.now))
+        paged.old paged.new source.old source.new out.old out.new result }
 {
     match command {
         Command::Print { region, verbose } => print(paged, region, *verbose, out),
@@ -72,45 +78,52 @@ fn dispatch<F: Flash, S: Source, W: Sink>(
     }
 }
 
-/// Runs a command on an image. It takes no memory.
+/// Runs a command on an image, without allocating memory.
 pub fn run<F: Flash, S: Source, W: Sink>(
     paged: &mut Paged<F>,
     command: &Command,
     source: &mut S,
     out: &mut W,
 ) -> Result<(), Refusal>
-    // On any device, from any source, into any sink.
-    ensures calls { Calls (2 * length (F.facts paged.old.device).content + 64) (faults_told by_device result)
-        (F.facts paged.old.device) (F.facts paged.new.device) }
-    ensures source_calls { Calls (source_calls (deed (request_of command.now)) (length (S.facts source.old).content))
+    // On any device, for any source and any sink.
+    ensures calls { Calls (2 * length (F.facts paged.old.device).content + 64)
+        (faults_told by_device result) (F.facts paged.old.device) (F.facts paged.new.device) }
+    ensures source_calls { Calls
+        (source_calls (deed (request_of command.now)) (length (S.facts source.old).content))
         (faults_told by_source result) (S.facts source.old) (S.facts source.new) }
     ensures faults { W.faults out.old ≤ W.faults out.new }
 
-    ensures unread { reads_source (deed (request_of command.now)) ≡ false → source.new ≡ source.old }
+    ensures unread { reads_source (deed (request_of command.now)) ≡ false
+        → source.new ≡ source.old }
     ensures unwritten { writes_output (deed (request_of command.now)) ≡ false → out.new ≡ out.old }
 
-    // Each fault is told only where that side failed, and only of a command that uses it.
+    // A fault implies a failure of its device, and a command that uses the device.
     ensures device { IsErrOf result Refusal.Device →
         (F.facts paged.old.device).faults < (F.facts paged.new.device).faults }
-    ensures source { IsErrOf result Refusal.Source → IsTrue (reads_source (deed (request_of command.now)))
+    ensures source { IsErrOf result Refusal.Source
+        → IsTrue (reads_source (deed (request_of command.now)))
         × ((S.facts source.old).faults < (S.facts source.new).faults) }
-    ensures output { IsErrOf result Refusal.Output → IsTrue (writes_output (deed (request_of command.now)))
+    ensures output { IsErrOf result Refusal.Output
+        → IsTrue (writes_output (deed (request_of command.now)))
         × (W.faults out.old < W.faults out.new) }
 
-    // On an honest device, however the command ends, and from any source.
-    ensures spares { IsTrue (F.facts paged.old.device).honest →
-        SparesOutside ((change_of (deed (request_of command.now))).target (F.facts paged.old.device).content)
+    // On an honest device, for any answer and any source.
+    ensures spares { IsTrue (F.facts paged.old.device).honest → SparesOutside
+        ((change_of (deed (request_of command.now))).target (F.facts paged.old.device).content)
         (F.facts paged.old.device).content (F.facts paged.new.device).content }
-    ensures refused { IsTrue (F.facts paged.old.device).honest →
-        MayHaveWritten result ⊎ ((F.facts paged.new.device).content ≡ (F.facts paged.old.device).content) }
+    ensures refused { IsTrue (F.facts paged.old.device).honest → MayHaveWritten result
+        ⊎ ((F.facts paged.new.device).content ≡ (F.facts paged.old.device).content) }
 
-    // On an honest device; where the command reads the source, from an honest one.
-    ensures outcome { IsTrue (F.facts paged.old.device).honest → Serves (deed (request_of command.now)) (S.facts source.old) →
-        Meets (deed (request_of command.now)) (W.contents out.old) (W.contents out.new)
-        (F.facts paged.old.device).content (S.facts source.old).content (F.facts paged.new.device).content result }
-    ensures stopped { IsTrue (F.facts paged.old.device).honest → Serves (deed (request_of command.now)) (S.facts source.old) →
-        (change_of (deed (request_of command.now))).Stopped (F.facts paged.old.device).content (S.facts source.old).content result
-        (F.facts paged.new.device).content }
+    // On an honest device, and for an honest source if the command reads the source.
+    ensures outcome { IsTrue (F.facts paged.old.device).honest
+        → Serves (deed (request_of command.now)) (S.facts source.old)
+        → Meets (deed (request_of command.now)) (W.contents out.old) (W.contents out.new)
+        (F.facts paged.old.device).content (S.facts source.old).content
+        (F.facts paged.new.device).content result }
+    ensures stopped { IsTrue (F.facts paged.old.device).honest
+        → Serves (deed (request_of command.now)) (S.facts source.old)
+        → (change_of (deed (request_of command.now))).Stopped (F.facts paged.old.device).content
+        (S.facts source.old).content result (F.facts paged.new.device).content }
 {
     dispatch(paged, command, source, out)
 }

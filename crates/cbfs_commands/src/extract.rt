@@ -10,7 +10,7 @@ use crate::refusal::Refusal;
 use cbfs_walk::{Cell, cells_stand_in_their_image, find, packing};
 use flash_device::{Flash, Paged, Region, Sink};
 
-/// Writes the content of a component that isn't compressed.
+/// Writes the content of an uncompressed component.
 fn extract_component<F: Flash, W: Sink>(
     paged: &mut Paged<F>,
     region: Region,
@@ -19,8 +19,9 @@ fn extract_component<F: Flash, W: Sink>(
 ) -> Result<(), Refusal>
     requires { IsComponentOf F.facts region cell.now paged.old.device }
 
-    ensures { HasTold F.facts W.contents W.faults (cell.now.span / 3840 + 2) paged.old paged.new out.old out.new result
-        (λ image. told_component (component_at cell.now.at (cell_of region cell.now image))) }
+    ensures { HasTold F.facts W.contents W.faults (cell.now.span / 3840 + 2)
+        paged.old paged.new out.old out.new result (λ image.
+        told_component (component_at cell.now.at (cell_of region cell.now image))) }
 {
     cells_stand_in_their_image();
     paged.places_fit();
@@ -31,15 +32,17 @@ fn extract_component<F: Flash, W: Sink>(
     copy_out(paged, start, u64::from(cell.head.len), out)
 }
 
-/// Writes the content of the first component of the name, and walks no further than that component.
+/// Writes the content of the first component with the name. The walk ends at the component.
 pub fn extract<F: Flash, W: Sink>(
     paged: &mut Paged<F>,
     region: &[u8],
     name: &[u8],
     out: &mut W,
 ) -> Result<(), Refusal>
-    ensures { HasTold F.facts W.contents W.faults (2 * length (F.facts paged.old.device).content + 64)
-        paged.old paged.new out.old out.new result (λ image. told_in image region.now (λ x. extract_region x name.now)) }
+    ensures { HasTold F.facts W.contents W.faults
+        (2 * length (F.facts paged.old.device).content + 64)
+        paged.old paged.new out.old out.new result (λ image.
+        told_in image region.now (λ x. extract_region x name.now)) }
 {
     let region = flash_device::region(paged, region)?;
     match find(paged, region, name)? {

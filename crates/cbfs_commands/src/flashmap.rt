@@ -1,6 +1,7 @@
-//! The flashmap that an image is made from, with which a source begins.
+//! The source's flashmap, as the basis of a new image.
 
-ghost use Rattle.std.specs.Prelude.{◌≡◌, ◌⊎◌, ◌<◌, ◌≤◌, ◌++◌, ◌∷◌, [], List, Option, length, map, take, drop, IsTrue, IsErrOf, IfOk, IfErr};
+ghost use Rattle.std.specs.Prelude.{◌≡◌, ◌⊎◌, ◌<◌, ◌≤◌, ◌++◌, ◌∷◌, [], List, Option, length, map};
+ghost use Rattle.std.specs.Prelude.{take, drop, IsTrue, IsErrOf, IfOk, IfErr};
 ghost use Rattle.std.specs.Option.{ok_or, option_map};
 ghost use lib.Chars.{codes};
 ghost use Rattle.flash_format.specs.declared.flashmap.Area.{Area};
@@ -14,19 +15,22 @@ use crate::refusal::Refusal;
 use flash_device::{Source, SourceFault, area_in_source, map_in_source};
 use flash_format::{Area, FmapHead};
 
-/// How many regions one image can be made with.
+/// The maximum number of regions of a new image.
 pub const MOST_REGIONS: usize = 16;
 
-/// The name of the area that holds the flashmap itself.
+/// The name of the flashmap's own area.
 const MAP_AREA: &[u8] = b"FMAP";
 
-/// The size of the image that a source is the flashmap of, as its head states it. Refused where the source doesn't begin with
-/// a valid flashmap whose areas lie within it (18), or can't be read (3).
+/// Returns the size of the image of a flashmap, according to the header. Errors: a source without a
+/// valid flashmap at its start, or with areas beyond its end (18), and read errors (3).
 pub fn create_size<S: Source>(source: &mut S) -> Result<u32, Refusal>
-    ensures calls { Reads 1 (faults_told by_source result) (S.facts source.old) (S.facts source.new) }
-    ensures refusals { IfErr result (λ refusal. (refusal ≡ Refusal.Source) ⊎ (refusal ≡ Refusal.TableBad)) }
-    ensures size { IsTrue (S.facts source.old).honest →
-        IsErrOf result Refusal.Source ⊎ (result ≡ ok_or (option_map (λ head. head.size) (map_head (S.facts source.old).content)) Refusal.TableBad) }
+    ensures calls { Reads 1 (faults_told by_source result) (S.facts source.old)
+        (S.facts source.new) }
+    ensures refusals { IfErr result (λ refusal.
+        (refusal ≡ Refusal.Source) ⊎ (refusal ≡ Refusal.TableBad)) }
+    ensures size { IsTrue (S.facts source.old).honest
+        → IsErrOf result Refusal.Source ⊎ (result ≡ ok_or
+        (option_map (λ head. head.size) (map_head (S.facts source.old).content)) Refusal.TableBad) }
 {
     match map_in_source(source)? {
         Some(head) => Ok(head.size),
@@ -34,9 +38,10 @@ pub fn create_size<S: Source>(source: &mut S) -> Result<u32, Refusal>
     }
 }
 
-/// The head of a flashmap that is one for an image of `image_len` bytes.
+/// Returns the header of a flashmap for an image of `image_len` bytes.
 pub fn head_for<S: Source>(source: &mut S, image_len: u64) -> Result<FmapHead, Refusal>
-    ensures calls { Reads 1 (faults_told by_source result) (S.facts source.old) (S.facts source.new) }
+    ensures calls { Reads 1 (faults_told by_source result) (S.facts source.old)
+        (S.facts source.new) }
     ensures no_device { IsErrOf result Refusal.Device → ⊥ }
     ensures no_output { IsErrOf result Refusal.Output → ⊥ }
     ensures fits { IfOk result (λ head. map_len head ≤ length (S.facts source.old).content) }
@@ -49,15 +54,15 @@ pub fn head_for<S: Source>(source: &mut S, image_len: u64) -> Result<FmapHead, R
     }
 }
 
-/// The first area with the map's own name, and the first with each region's name.
+/// The first area with the map's own name, and the first area with each region's name.
 #[derive(Drop)]
 pub struct FoundAreas {
     pub map: Option<Area>,
-    /// As many as there are names; what follows is `None`.
+    /// An entry for each name, followed by `None`.
     pub regions: [Option<Area>; MOST_REGIONS],
 }
 
-/// The area that is kept for a name: the one before, or this one where it is the first of the name.
+/// Returns the previous area for a name, or the current area if it is the first with the name.
 fn noted(before: Option<Area>, name: &[u8], area: &Area) -> Option<Area>
     ensures { (seen : List Area) → before ≡ first_area seen name.now
         → result ≡ first_area (seen ++ area.now ∷ []) name.now }
@@ -69,7 +74,7 @@ fn noted(before: Option<Area>, name: &[u8], area: &Area) -> Option<Area>
     }
 }
 
-/// Keeps an area for each name that it is the first of.
+/// Updates the first area of each name.
 fn note_each(found: &mut [Option<Area>; MOST_REGIONS], names: &[&[u8]], area: &Area)
     requires { length names.now ≤ MOST_REGIONS }
     ensures { (seen : List Area) (rest : List (Option Area)) →
@@ -81,7 +86,7 @@ fn note_each(found: &mut [Option<Area>; MOST_REGIONS], names: &[&[u8]], area: &A
     }
 }
 
-/// The first area of the flashmap with each name. The areas are read once.
+/// Finds the first area of the flashmap with each name, in one pass.
 pub fn first_areas<S: Source>(
     source: &mut S,
     head: &FmapHead,
@@ -90,14 +95,16 @@ pub fn first_areas<S: Source>(
     requires inside { map_len head.now ≤ length (S.facts source.old).content }
     requires few { length names.now ≤ MOST_REGIONS }
 
-    ensures calls { Reads head.now.nareas (refusals result) (S.facts source.old) (S.facts source.new) }
+    ensures calls { Reads head.now.nareas (refusals result) (S.facts source.old)
+        (S.facts source.new) }
 
-    // From an honest source.
-    ensures map { IsTrue (S.facts source.old).honest → IfOk result (λ found. found.map ≡ first_area
-        (areas_from head.now.nareas (drop fmap_head_len (S.facts source.old).content)) (codes "FMAP")) }
-    ensures regions { IsTrue (S.facts source.old).honest → IfOk result (λ found. take (length names.now) found.regions
-        ≡ map (first_area (areas_from head.now.nareas (drop fmap_head_len (S.facts source.old).content)))
-        (map (λ n. n.now) names.now)) }
+    // For an honest source.
+    ensures map { IsTrue (S.facts source.old).honest
+        → IfOk result (λ found. found.map ≡ first_area (areas_from head.now.nareas
+        (drop fmap_head_len (S.facts source.old).content)) (codes "FMAP")) }
+    ensures regions { IsTrue (S.facts source.old).honest → IfOk result (λ found.
+        take (length names.now) found.regions ≡ map (first_area (areas_from head.now.nareas
+        (drop fmap_head_len (S.facts source.old).content))) (map (λ n. n.now) names.now)) }
 {
     let mut found = FoundAreas {
         map: None,

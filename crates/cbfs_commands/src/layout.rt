@@ -2,7 +2,8 @@
 
 ghost use Rattle.std.specs.Prelude.{◌≡◌, ◌+◌, ◌*◌, ◌/◌, ◌<◌, ◌≤◌, length, drop, Ok, Err};
 ghost use Rattle.std.specs.List.{flat_map};
-ghost use Rattle.flash_format.specs.Flashmap.{fmap_head_len, area_len, map_len, area_of, areas_from};
+ghost use Rattle.flash_format.specs.Flashmap.{fmap_head_len, area_len, map_len, area_of};
+ghost use Rattle.flash_format.specs.Flashmap.{areas_from};
 ghost use Rattle.cbfs_commands.specs.Rows.{layout, map_row, area_row};
 ghost use Rattle.cbfs_commands.specs.Told.{HasTold, shows};
 
@@ -44,7 +45,7 @@ fn set_area_row(row: &mut Row, area: &Area)
     push_text(row, b"\n");
 }
 
-/// Writes the row of the area of this number.
+/// Prints the row of an area, by its number.
 fn list_area<F: Flash, W: Sink>(
     paged: &mut Paged<F>,
     map: &FoundMap,
@@ -52,18 +53,20 @@ fn list_area<F: Flash, W: Sink>(
     row: &mut Row,
     out: &mut W,
 ) -> Result<(), Refusal>
-    requires inside { map.now.at + map_len map.now.head ≤ length (F.facts paged.old.device).content }
+    requires inside { map.now.at + map_len map.now.head
+        ≤ length (F.facts paged.old.device).content }
     requires number { i < map.now.head.nareas }
 
-    ensures { HasTold F.facts W.contents W.faults 1 paged.old paged.new out.old out.new result
-        (λ image. shows (area_row (area_of (drop (map.now.at + fmap_head_len + area_len * i) image)))) }
+    ensures { HasTold F.facts W.contents W.faults 1
+        paged.old paged.new out.old out.new result (λ image.
+        shows (area_row (area_of (drop (map.now.at + fmap_head_len + area_len * i) image)))) }
 {
     let listed = area(paged, map, i)?;
     set_area_row(row, &listed);
     put_row(out, row)
 }
 
-/// Writes the rows of all areas, in the map's order.
+/// Prints the rows of all areas, in the map's order.
 fn list_areas<F: Flash, W: Sink>(
     paged: &mut Paged<F>,
     map: &FoundMap,
@@ -72,8 +75,9 @@ fn list_areas<F: Flash, W: Sink>(
 ) -> Result<(), Refusal>
     requires { map.now.at + map_len map.now.head ≤ length (F.facts paged.old.device).content }
 
-    ensures { HasTold F.facts W.contents W.faults map.now.head.nareas paged.old paged.new out.old out.new result
-        (λ image. shows (flat_map area_row (areas_from map.now.head.nareas (drop (map.now.at + fmap_head_len) image)))) }
+    ensures { HasTold F.facts W.contents W.faults map.now.head.nareas
+        paged.old paged.new out.old out.new result (λ image. shows (flat_map area_row
+        (areas_from map.now.head.nareas (drop (map.now.at + fmap_head_len) image)))) }
 {
     for i in 0..map.head.nareas {
         list_area(paged, map, i, row, out)?;
@@ -81,11 +85,12 @@ fn list_areas<F: Flash, W: Sink>(
     Ok(())
 }
 
-/// Writes the place of the image's map, and its areas.
+/// Prints the offset of the image's map, and its areas.
 #[tactic(auto, unfolding(crate::specs::Rows::layout))]
 pub fn layout<F: Flash, W: Sink>(paged: &mut Paged<F>, out: &mut W) -> Result<(), Refusal>
     ensures { HasTold F.facts W.contents W.faults (length (F.facts paged.old.device).content / 2
-        + length (F.facts paged.old.device).content / area_len + 8) paged.old paged.new out.old out.new result layout }
+        + length (F.facts paged.old.device).content / area_len + 8)
+        paged.old paged.new out.old out.new result layout }
 {
     let Some(map) = find_fmap(paged)? else {
         return Err(Refusal::NoFmap);

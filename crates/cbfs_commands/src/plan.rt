@@ -1,11 +1,13 @@
-//! The plan of a new image: where its flashmap goes, and which regions are formatted.
+//! The plan of a new image: the places of its flashmap and of the formatted regions.
 
-ghost use Rattle.std.specs.Prelude.{◌≡◌, ◌⊎◌, ◌+◌, ◌/◌, ◌≤◌, length, map, nat_lt, IsTrue, IsErrOf, IfOk};
+ghost use Rattle.std.specs.Prelude.{◌≡◌, ◌⊎◌, ◌+◌, ◌/◌, ◌≤◌, length, map, nat_lt, IsTrue, IsErrOf};
+ghost use Rattle.std.specs.Prelude.{IfOk};
 ghost use Rattle.std.specs.List.{list_any};
 ghost use Rattle.std.specs.Result.{result_map_both};
 ghost use Rattle.flash_format.specs.Flashmap.{area_len, map_len};
 ghost use Rattle.flash_device.specs.Device.{Reads, faults_told};
-ghost use Rattle.cbfs_commands.specs.Creations.{FitsImage, map_place, overlap, plan_for, plan_of, region_place, region_places, some_overlap};
+ghost use Rattle.cbfs_commands.specs.Creations.{FitsImage, map_place, overlap, plan_for, plan_of};
+ghost use Rattle.cbfs_commands.specs.Creations.{region_place, region_places, some_overlap};
 ghost use Rattle.cbfs_commands.specs.Refusals.{by_source};
 
 use crate::flashmap::{MOST_REGIONS, first_areas, head_for};
@@ -14,18 +16,18 @@ use arrayvec::ArrayVec;
 use flash_device::{Region, Source, region_of_area};
 use flash_format::{Area, FmapHead};
 
-/// Where everything goes in a new image.
+/// The layout of a new image.
 #[derive(Drop)]
 pub struct Plan {
-    /// The area that the flashmap is written to.
+    /// The area of the flashmap.
     pub map: Region,
-    /// How many bytes the flashmap has.
+    /// The length of the flashmap, in bytes.
     pub map_len: u64,
-    /// The regions that are formatted, in the order in which they were named.
+    /// The regions to format, in the order of the command line.
     pub regions: ArrayVec<Region, MOST_REGIONS>,
 }
 
-/// Where the flashmap's own area lies, which has room for it.
+/// Returns the place of the flashmap's own area, with room for the flashmap.
 fn map_place(area: Option<Area>, map_len: u64, image_len: u64) -> Result<Region, Refusal>
     ensures { result ≡ map_place image_len map_len area }
 {
@@ -35,7 +37,7 @@ fn map_place(area: Option<Area>, map_len: u64, image_len: u64) -> Result<Region,
     }
 }
 
-/// Where a region's area lies, which has the size of a CBFS.
+/// Returns the place of a region's area with a valid size for a CBFS.
 fn region_place(area: Option<Area>, image_len: u64) -> Result<Region, Refusal>
     ensures { result ≡ region_place image_len area }
 {
@@ -46,13 +48,14 @@ fn region_place(area: Option<Area>, image_len: u64) -> Result<Region, Refusal>
     Ok(place)
 }
 
-/// Where the areas of all regions lie.
+/// Returns the places of all regions.
 fn region_places(
     areas: &[Option<Area>],
     image_len: u64,
 ) -> Result<ArrayVec<Region, MOST_REGIONS>, Refusal>
     requires { length areas.now ≤ MOST_REGIONS }
-    ensures { result_map_both (λ places. places.items) (λ refusal. refusal) result ≡ region_places image_len areas.now }
+    ensures { result_map_both (λ places. places.items) (λ refusal. refusal) result
+        ≡ region_places image_len areas.now }
 {
     let mut places = ArrayVec::new();
     for i in 0..areas.len() {
@@ -61,7 +64,7 @@ fn region_places(
     Ok(places)
 }
 
-/// Whether two ranges have a byte in common.
+/// Returns whether two ranges overlap.
 fn overlap(a: &Region, b: &Region) -> bool
     ensures { result ≡ overlap a.now b.now }
 {
@@ -80,7 +83,7 @@ fn overlaps_any(place: &Region, others: &[Region]) -> bool
     others.iter().any(|other| overlap(place, other))
 }
 
-/// Whether any two of the ranges have a byte in common.
+/// Returns whether any two of the ranges overlap.
 fn some_overlap(mut places: &[Region]) -> bool
     ensures { result ≡ some_overlap places.entry.now }
 {
@@ -93,7 +96,7 @@ fn some_overlap(mut places: &[Region]) -> bool
     false
 }
 
-/// The plan by the areas that were found.
+/// Returns the plan for the given areas.
 #[tactic(auto, unfolding(crate::specs::Creations::plan_of))]
 fn plan_of(
     head: &FmapHead,
@@ -117,7 +120,8 @@ fn plan_of(
     })
 }
 
-/// The plan of an image of `image_len` bytes with the regions of these names, by the flashmap that the source begins with.
+/// Returns the plan of an image of `image_len` bytes with the named regions, by the source's
+/// flashmap.
 #[tactic(auto, unfolding(crate::specs::Creations::plan_for))]
 pub fn read_plan<S: Source>(
     names: &[&[u8]],
@@ -126,11 +130,12 @@ pub fn read_plan<S: Source>(
 ) -> Result<Plan, Refusal>
     requires { length names.now ≤ MOST_REGIONS }
 
-    ensures calls { Reads (length (S.facts source.old).content / area_len + 1) (faults_told by_source result)
-        (S.facts source.old) (S.facts source.new) }
+    ensures calls { Reads (length (S.facts source.old).content / area_len + 1)
+        (faults_told by_source result) (S.facts source.old) (S.facts source.new) }
     ensures no_device { IsErrOf result Refusal.Device → ⊥ }
     ensures no_output { IsErrOf result Refusal.Output → ⊥ }
-    ensures fits { IfOk result (λ plan. FitsImage image_len (length (S.facts source.old).content) plan) }
+    ensures fits { IfOk result (λ plan.
+        FitsImage image_len (length (S.facts source.old).content) plan) }
     ensures plan { IsTrue (S.facts source.old).honest → IsErrOf result Refusal.Source
         ⊎ (result ≡ plan_for image_len (map (λ n. n.now) names.now) (S.facts source.old).content) }
 {

@@ -14,7 +14,7 @@ use arrayvec::ArrayVec;
 use cbfs_walk::{Cell, Step, Walk, cells_stand_in_their_image, name, packing};
 use flash_device::{Flash, FlashFault, Paged, Region, Sink};
 
-/// Makes the buffer the row of a cell. After a fault it may hold anything.
+/// Formats the row of a cell. A fault leaves arbitrary bytes in the buffer.
 fn set_cell_row<F: Flash>(
     paged: &mut Paged<F>,
     region: Region,
@@ -39,7 +39,7 @@ fn set_cell_row<F: Flash>(
     Ok(())
 }
 
-/// Writes the row of a cell.
+/// Prints the row of a cell.
 fn print_row<F: Flash, W: Sink>(
     paged: &mut Paged<F>,
     region: Region,
@@ -49,14 +49,15 @@ fn print_row<F: Flash, W: Sink>(
 ) -> Result<(), Refusal>
     requires { IsCellOf F.facts region cell.now paged.old.device }
 
-    ensures { HasTold F.facts W.contents W.faults (2 + cell.now.span / 3840) paged.old paged.new out.old out.new result
-        (λ image. shows (row cell.now.at (cell_of region cell.now image))) }
+    ensures { HasTold F.facts W.contents W.faults (2 + cell.now.span / 3840)
+        paged.old paged.new out.old out.new result (λ image.
+        shows (row cell.now.at (cell_of region cell.now image))) }
 {
     set_cell_row(paged, region, cell, buffer)?;
     put_row(out, buffer)
 }
 
-/// Writes the row of a cell, and where verbose the lines of a component after it.
+/// Prints the row of a cell, and if verbose the lines of a component.
 fn print_cell<F: Flash, W: Sink>(
     paged: &mut Paged<F>,
     region: Region,
@@ -68,8 +69,10 @@ fn print_cell<F: Flash, W: Sink>(
     requires { IsCellOf F.facts region cell.now paged.old.device }
 
     ensures { HasTold F.facts W.contents W.faults
-        (2 + cell.now.span / 3840 + (if verbose then 1 + cell.now.span / 8 + cell.now.span / 3840 else 0))
-        paged.old paged.new out.old out.new result (λ image. shows (shown_cell verbose cell.now.at (cell_of region cell.now image))) }
+        (2 + cell.now.span / 3840
+        + (if verbose then 1 + cell.now.span / 8 + cell.now.span / 3840 else 0))
+        paged.old paged.new out.old out.new result
+        (λ image. shows (shown_cell verbose cell.now.at (cell_of region cell.now image))) }
 {
     cells_stand_in_their_image();
     print_row(paged, region, cell, buffer, out)?;
@@ -79,7 +82,7 @@ fn print_cell<F: Flash, W: Sink>(
     Ok(())
 }
 
-/// Writes the rows of a region's cells.
+/// Prints the rows of a region's cells.
 fn print_region<F: Flash, W: Sink>(
     paged: &mut Paged<F>,
     region: Region,
@@ -88,8 +91,10 @@ fn print_region<F: Flash, W: Sink>(
 ) -> Result<(), Refusal>
     requires { LiesIn region (F.facts paged.old.device).content }
 
-    ensures { HasTold F.facts W.contents W.faults ((if verbose then region.size / 4 else region.size / 16) + 2)
-        paged.old paged.new out.old out.new result (λ image. print_region (bytes_in region image) verbose) }
+    ensures { HasTold F.facts W.contents W.faults
+        ((if verbose then region.size / 4 else region.size / 16) + 2)
+        paged.old paged.new out.old out.new result (λ image.
+        print_region (bytes_in region image) verbose) }
 {
     let mut buffer = ArrayVec::new();
     let mut walk = Walk::new(region);
@@ -99,15 +104,17 @@ fn print_region<F: Flash, W: Sink>(
     Ok(())
 }
 
-/// Lists the cells of a region.
+/// Prints the cells of a region.
 pub fn print<F: Flash, W: Sink>(
     paged: &mut Paged<F>,
     name: &[u8],
     verbose: bool,
     out: &mut W,
 ) -> Result<(), Refusal>
-    ensures { HasTold F.facts W.contents W.faults (2 * length (F.facts paged.old.device).content + 64)
-        paged.old paged.new out.old out.new result (λ image. told_in image name.now (λ x. print_region x verbose)) }
+    ensures { HasTold F.facts W.contents W.faults
+        (2 * length (F.facts paged.old.device).content + 64)
+        paged.old paged.new out.old out.new result (λ image.
+        told_in image name.now (λ x. print_region x verbose)) }
 {
     let region = flash_device::region(paged, name)?;
     print_region(paged, region, verbose, out)

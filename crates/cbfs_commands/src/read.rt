@@ -16,8 +16,9 @@ pub fn copy_out<F: Flash, W: Sink>(
 ) -> Result<(), Refusal>
     requires { start + size ≤ length (F.facts paged.old.device).content }
 
-    ensures { HasTold F.facts W.contents W.faults ((size + 4095) / 4096) paged.old paged.new out.old out.new result
-        (λ image. shows (slice_range image start (start + size))) }
+    ensures { HasTold F.facts W.contents W.faults ((size + 4095) / 4096)
+        paged.old paged.new out.old out.new result (λ image.
+        shows (slice_range image start (start + size))) }
 {
     paged.copy_out(start, size, out)?;
     Ok(())
@@ -29,7 +30,8 @@ pub fn read<F: Flash, W: Sink>(
     name: &[u8],
     out: &mut W,
 ) -> Result<(), Refusal>
-    ensures { HasTold F.facts W.contents W.faults (2 * length (F.facts paged.old.device).content + 64)
+    ensures { HasTold F.facts W.contents W.faults
+        (2 * length (F.facts paged.old.device).content + 64)
         paged.old paged.new out.old out.new result (λ image. told_in image name.now shows) }
 {
     let region = flash_device::region(paged, name)?;

@@ -1,7 +1,8 @@
-//! Why a command is refused.
+//! The errors of commands.
 
 ghost use Rattle.std.specs.Prelude.{◌≡◌};
-ghost use Rattle.cbfs_commands.specs.Refusals.{copy_refusal, edit_refusal, store_refusal, walk_refusal};
+ghost use Rattle.cbfs_commands.specs.Refusals.{copy_refusal, edit_refusal, store_refusal};
+ghost use Rattle.cbfs_commands.specs.Refusals.{walk_refusal};
 ghost use Rattle.cbfs_commands.specs.declared.refusal.Refusal.TheVariants as refusals;
 
 use cbfs_edit::EditFault;
@@ -10,79 +11,79 @@ use flash_device::{CopyFault, FlashFault, SinkFault, SourceFault, StoreFault};
 use flash_format::DamageKind;
 use thiserror::Error;
 
-/// The refusals of a command, each with its number; the text is what the program prints of it.
+/// The errors of a command, each with its number and its message.
 #[derive(Clone, Copy, Debug, PartialEq, Eq, Error)]
 pub enum Refusal {
-    /// 1: a call of the image's device failed.
+    /// 1: I/O error of the image.
     #[error("device fault")]
     Device,
-    /// 2: the writer failed.
+    /// 2: output error.
     #[error("output fault")]
     Output,
-    /// 3: a call of the source failed.
+    /// 3: read error of the source.
     #[error("source fault")]
     Source,
-    /// 4: no valid FMAP stands in the image.
+    /// 4: no valid FMAP in the image.
     #[error("no FMAP")]
     NoFmap,
-    /// 5: the FMAP has no area of the name.
+    /// 5: no area with the name in the FMAP.
     #[error("no such region")]
     NoRegion,
-    /// 6: the area doesn't lie inside the image.
+    /// 6: area outside the image.
     #[error("region outside the image")]
     RegionOutside,
-    /// 7: the region's size is 0 or no multiple of 64.
+    /// 7: region size 0, or not a multiple of 64.
     #[error("bad region size")]
     RegionShape,
-    /// 8: no entry stands at the region's start.
+    /// 8: no entry at the region's start.
     #[error("not a CBFS region")]
     NotCbfs,
-    /// 9: an entry fails a check; the position counts from the region's start.
+    /// 9: damaged entry; the offset is relative to the region's start.
     #[error("damaged entry at {at:#x}: {}", damage(*.kind))]
     Damaged { at: u64, kind: DamageKind },
-    /// 10: the region has no component of the name.
+    /// 10: no component with the name in the region.
     #[error("no such component")]
     NotFound,
-    /// 11: the region has a component of the name already.
+    /// 11: existing component with the name in the region.
     #[error("component exists")]
     Exists,
-    /// 12: no free space has room for the component at a place that is allowed.
+    /// 12: no free space with room for the component at an allowed place.
     #[error("no space")]
     NoSpace,
-    /// 13: the component is compressed.
+    /// 13: compressed component.
     #[error("component is compressed")]
     Compressed,
-    /// 14: the name of a new component is empty, has more than 127 bytes, or has a NUL.
+    /// 14: empty name of a new component, name of more than 127 bytes, or NUL in the name.
     #[error("bad name")]
     BadName,
-    /// 15: the type of a new component marks free space.
+    /// 15: type of free space for a new component.
     #[error("bad type")]
     BadType,
-    /// 16: the content of a new component shall begin at a multiple of 0.
+    /// 16: alignment 0 for a new component.
     #[error("bad alignment")]
     BadAlign,
-    /// 17: the source's length isn't the region's size.
+    /// 17: source length different from the region's size.
     #[error("source size differs from the region")]
     SourceSize,
-    /// 18: the source isn't the flashmap of an image of this size.
+    /// 18: source without a flashmap for an image of this size.
     #[error("bad flashmap")]
     TableBad,
-    /// 19: the area FMAP is missing, lies outside the image or has no room for the flashmap, or a named region overlaps it or
-    /// another one.
+    /// 19: area FMAP missing, outside the image or too small for the flashmap, or overlap of a
+    /// named region with the area FMAP or another named region.
     #[error("bad FMAP area")]
     FmapArea,
-    /// 20: the words are no command line.
+    /// 20: invalid arguments.
     #[error("bad command line")]
     Usage,
-    /// 21: memory was refused.
+    /// 21: allocation failure.
     #[error("out of memory")]
     Memory,
-    /// 22: a file has 2^32 bytes or more.
+    /// 22: file of 2^32 bytes or more.
     #[error("image too large")]
     TooLarge,
 }
 
-/// The word for a kind of damage.
+/// Returns the name of a kind of damage.
 fn damage(kind: DamageKind) -> &'static str {
     match kind {
         DamageKind::Offset => "offset",
@@ -93,7 +94,7 @@ fn damage(kind: DamageKind) -> &'static str {
     }
 }
 
-/// A call of the device failed.
+/// Converts a device fault.
 impl From<FlashFault> for Refusal {
     ghost from_gives = { λ _ refusal. refusal ≡ refusals.Device };
 
@@ -102,7 +103,7 @@ impl From<FlashFault> for Refusal {
     }
 }
 
-/// A read of the source failed.
+/// Converts a read error of the source.
 impl From<SourceFault> for Refusal {
     ghost from_gives = { λ _ refusal. refusal ≡ refusals.Source };
 
@@ -111,7 +112,7 @@ impl From<SourceFault> for Refusal {
     }
 }
 
-/// The writer failed.
+/// Converts an output error.
 impl From<SinkFault> for Refusal {
     ghost from_gives = { λ _ refusal. refusal ≡ refusals.Output };
 
@@ -120,7 +121,7 @@ impl From<SinkFault> for Refusal {
     }
 }
 
-/// A copy stopped.
+/// Converts the fault of a copy.
 impl From<CopyFault> for Refusal {
     ghost from_gives = { λ fault refusal. refusal ≡ copy_refusal fault };
 
@@ -133,7 +134,7 @@ impl From<CopyFault> for Refusal {
     }
 }
 
-/// The region isn't to be had.
+/// Converts the error of a region's lookup.
 impl From<StoreFault> for Refusal {
     ghost from_gives = { λ fault refusal. refusal ≡ store_refusal fault };
 
@@ -147,7 +148,7 @@ impl From<StoreFault> for Refusal {
     }
 }
 
-/// A walk has ended.
+/// Converts the error of a walk.
 impl From<WalkFault> for Refusal {
     ghost from_gives = { λ fault refusal. refusal ≡ walk_refusal fault };
 
@@ -161,7 +162,7 @@ impl From<WalkFault> for Refusal {
     }
 }
 
-/// An edit is refused.
+/// Converts the error of an edit.
 impl From<EditFault> for Refusal {
     ghost from_gives = { λ fault refusal. refusal ≡ edit_refusal fault };
 

@@ -15,10 +15,11 @@ use flash_device::{Sink, put_all};
 use flash_format::{Head, push_hexadecimal, push_name, push_text, type_name};
 use itoa::Buffer;
 
-/// Room for the longest row: a name of 255 bytes, each escaped, and the other fields.
+/// The maximum length of a row: a name of 255 escaped bytes, and the other fields.
 pub const ROW_LEN: usize = 1152;
 
-/// The buffer of a row. A listing has one for all its rows, since a new one would be filled with zeros each time.
+/// The buffer of a row. A listing reuses a single buffer, because creation would zero the buffer
+/// for each row.
 pub type Row = ArrayVec<u8, ROW_LEN>;
 
 pub fn push_decimal(row: &mut Row, n: u32)
@@ -53,11 +54,12 @@ fn push_packing(row: &mut Row, packing: u32)
     }
 }
 
-/// The name of a component, or what stands in place of one.
+/// Appends the name of a component, or a placeholder.
 fn push_label(row: &mut Row, name: Option<&[u8]>)
     requires room { array_vec_len row.old + 1020 ≤ ROW_LEN }
     requires short { ForSome name (λ n. length n.now ≤ 255) }
-    ensures { Pushes row.old (option_map_or printed_name (option_copied name.entry) (codes "(empty)")) 1020 row.new }
+    ensures { Pushes row.old
+        (option_map_or printed_name (option_copied name.entry) (codes "(empty)")) 1020 row.new }
 {
     match name {
         Some(name) => push_name(row, name),
@@ -65,8 +67,8 @@ fn push_label(row: &mut Row, name: Option<&[u8]>)
     }
 }
 
-/// Makes this the row of the cell with this head at a place: its name, where it has one, and the value of its compression.
-/// What the row held before is dropped.
+/// Formats the row of a cell with the given header, offset, optional name and compression. Replaces
+/// the previous row.
 #[tactic(auto, unfolding(crate::specs::Rows::row_text))]
 pub fn set_row_text(row: &mut Row, at: u64, head: &Head, name: Option<&[u8]>, packing: u32)
     requires { ForSome name (λ n. length n.now ≤ 255) }
@@ -85,7 +87,7 @@ pub fn set_row_text(row: &mut Row, at: u64, head: &Head, name: Option<&[u8]>, pa
     push_text(row, b"\n");
 }
 
-/// Writes a row.
+/// Writes a row to the sink.
 pub fn put_row<W: Sink>(out: &mut W, row: &Row) -> Result<(), Refusal>
     ensures faults { W.faults out.old ≤ W.faults out.new }
     ensures output { OnErr result (W.faults out.old < W.faults out.new) }

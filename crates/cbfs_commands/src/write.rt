@@ -6,14 +6,14 @@ ghost use Rattle.cbfs_commands.specs.Deeds.{HasChanged, replaces};
 use crate::refusal::Refusal;
 use flash_device::{Flash, Paged, Source};
 
-/// Replaces the bytes of a region, front to back, by the source, which has its size.
+/// Replaces the bytes of a region with the source, which has the same size, from front to back.
 pub fn write<F: Flash, S: Source>(
     paged: &mut Paged<F>,
     name: &[u8],
     source: &mut S,
 ) -> Result<(), Refusal>
-    ensures { HasChanged F.facts (2 * length (F.facts paged.old.device).content + 64) (replaces name.now)
-        paged.old paged.new (S.facts source.old) (S.facts source.new) result }
+    ensures { HasChanged F.facts (2 * length (F.facts paged.old.device).content + 64)
+        (replaces name.now) paged.old paged.new (S.facts source.old) (S.facts source.new) result }
 {
     let region = flash_device::region(paged, name)?;
     if source.len() != region.size() {

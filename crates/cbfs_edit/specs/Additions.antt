@@ -1,10 +1,13 @@
--- What the addition of a component leaves, and how it is refused.
+-- The effect and the errors of adding a component.
 use Rattle.std.specs.List.{list_any}
 use Rattle.std.specs.Option.{option_map_or}
 use Rattle.std.specs.Result.{result_map_both, result_ok}
-use Rattle.std.specs.Prelude.{◌≡◌, ℕ, ◌+◌, ◌-◌, ◌==◌, ◌||◌, max, Bool, List, [], ◌∷◌, ◌++◌, length, slice_range, nat_lt, Option, Some, None, Result, Err, if◌then◌else◌, ◌^◌, ◌<◌, ◌≤◌, false, take, drop}
+use Rattle.std.specs.Prelude.{◌≡◌, ℕ, ◌+◌, ◌-◌, ◌==◌, ◌||◌, max, Bool, List, [], ◌∷◌, ◌++◌, length}
+use Rattle.std.specs.Prelude.{slice_range, nat_lt, Option, Some, None, Result, Err, if◌then◌else◌}
+use Rattle.std.specs.Prelude.{◌^◌, ◌<◌, ◌≤◌, false, take, drop}
 use Rattle.flash_format.specs.Head.{round64}
-use Rattle.flash_format.specs.Made.{header_length, empty_entry, empty_header, hash_len, meta_length, made}
+use Rattle.flash_format.specs.Made.{header_length, empty_entry, empty_header, hash_len, meta_length}
+use Rattle.flash_format.specs.Made.{made}
 use Rattle.flash_format.specs.Entry.{is_nul}
 use Rattle.flash_format.specs.Components.{Component}
 use Rattle.flash_format.specs.Placings.{HasOneMore, made_component, space_cells}
@@ -24,73 +27,79 @@ use Rattle.cbfs_edit.specs.declared.place.Spot.{Spot}
 use Rattle.cbfs_edit.specs.declared.place.Wanted.{Wanted}
 use Rattle.cbfs_edit.specs.declared.place.Place.{Place}
 
--- a component that is to be added
+-- a component to add
 pub record NewComponent : Type 0 where
   pub name : List ℕ
   pub kind : ℕ
   pub digest : Option Digest
   pub content : List ℕ
 
--- the digest that is stored of a content
+-- the stored digest of a content
 abbrev pub digest_of : HashChoice → List ℕ → Option Digest
 digest_of Plain content = None
 digest_of Sha256 content = Some (sha256_of content)
 digest_of Sha512 content = Some (sha512_of content)
 
 abbrev pub new_component : List ℕ → ℕ → HashChoice → List ℕ → NewComponent
-new_component name kind hash content = record { name = name; kind = kind; digest = digest_of hash content; content = content }
+new_component name kind hash content =
+    record { name = name; kind = kind; digest = digest_of hash content; content = content }
 
 abbrev pub component_of_label : Label → List ℕ → NewComponent
 component_of_label label content = new_component label.name.now label.kind label.hash content
 
--- how many bytes it has before its content, besides a gap
+-- the length of the metadata before the content, without the gap
 abbrev pub metadata_len_of : NewComponent → ℕ
 metadata_len_of new = meta_length (length new.name) (hash_len new.digest)
 
 abbrev pub wanted_for : NewComponent → Spot → Wanted
-wanted_for new spot = record { metadata_len = metadata_len_of new; len = length new.content; spot = spot }
+wanted_for new spot =
+    record { metadata_len = metadata_len_of new; len = length new.content; spot = spot }
 
--- ---- what it leaves
+-- ---- the effect
 
--- where the cell of the component at a place ends
+-- the end of the component's cell
 abbrev pub cell_end : NewComponent → Place → ℕ
 cell_end new place = round64 (place.content + length new.content)
 
--- the empty entry from one place to another, or nothing where they are one
+-- the empty entry between two offsets, or nothing between equal offsets
 abbrev pub empty_between : List ℕ → ℕ → ℕ → List ℕ
 empty_between x start end = if start == end then [] else empty_entry (end - start) (kept_at x end)
 
--- the cell of the component at a place
+-- the component's cell
 abbrev pub made_at : List ℕ → NewComponent → Place → List ℕ
 made_at x new place =
-    made new.name new.kind new.digest (place.content - place.header - metadata_len_of new) new.content (kept_at x (cell_end new place))
+    made new.name new.kind new.digest (place.content - place.header - metadata_len_of new)
+    new.content (kept_at x (cell_end new place))
 
--- a region with the component in place of a run, between an empty entry before and one after it
+-- a region with the component in a run, between an empty entry before and after
 abbrev pub added : List ℕ → NewComponent → Place → List ℕ
-added x new place =
-    overwritten x place.run.start
-    (empty_between x place.run.start place.header ++ (made_at x new place ++ empty_between x (cell_end new place) place.run.end))
+added x new place = overwritten x place.run.start (empty_between x place.run.start place.header
+    ++ (made_at x new place ++ empty_between x (cell_end new place) place.run.end))
 
--- the component that was added
+-- the added component
 abbrev pub added_component : List ℕ → NewComponent → Place → Component
-added_component x new place = made_component place.header new.name new.kind new.digest new.content (made_at x new place)
+added_component x new place =
+    made_component place.header new.name new.kind new.digest new.content (made_at x new place)
 
--- the region has one component more: the new one, in place of free cells, with its content where the caller is told
+-- The region has a further component, in place of free cells, with its content at the returned
+-- offset.
 pub record AddsOne (x : List ℕ) (new : NewComponent) (place : Place) : Type 0 where
   pub cells : CellsBetween x place.run.start place.run.end
   pub free : AllFree cells.group
   pub more : HasOneMore x place.run.start place.run.end cells
-      (space_cells (empty_between x place.run.start place.header) ++ (made_at x new place ∷ []) ++ space_cells (empty_between x (cell_end new place) place.run.end))
+      (space_cells (empty_between x place.run.start place.header) ++ (made_at x new place ∷ [])
+      ++ space_cells (empty_between x (cell_end new place) place.run.end))
       (added_component x new place) (added x new place)
-  pub content : slice_range (added x new place) place.content (place.content + length new.content) ≡ new.content
+  pub content : slice_range (added x new place) place.content (place.content + length new.content)
+      ≡ new.content
 
--- from here on the region's bytes are kept: of its last four those after the content's end
+-- the region keeps all bytes from here on: of the last four bytes, only the bytes after the content
 abbrev pub kept_from : List ℕ → NewComponent → Place → ℕ
 kept_from x new place = max (place.content + length new.content) (length x - 4)
 
--- ---- how it is refused
+-- ---- the errors
 
--- no byte, more than 127, or a NUL
+-- an empty name, a name of more than 127 bytes, or a NUL
 abbrev pub is_bad_name : List ℕ → Bool
 is_bad_name name = (length name == 0) || nat_lt 127 (length name) || list_any is_nul name
 
@@ -98,26 +107,28 @@ is_bad_name name = (length name == 0) || nat_lt 127 (length name) || list_any is
 abbrev pub is_bad_type : ℕ → Bool
 is_bad_type kind = kind == 0 || kind == 0xffffffff
 
--- the first refusal for which no device is looked at
+-- the first error independent of the device
 abbrev pub own_fault : List ℕ → ℕ → Spot → Option EditFault
 own_fault name kind spot =
     if is_bad_name name then Some BadName
     else (if is_bad_type kind then Some BadType
     else (if is_bad_align spot then Some BadAlign else None))
 
--- the place that the component gets, or its first refusal
+-- the place of the component, or the first error
 unfoldable pub addition_in : List ℕ → NewComponent → Spot → Result Place EditFault
-addition_in x new spot = option_map_or (λ fault. Err fault) (own_fault new.name new.kind spot) (placing_in x new.name (wanted_for new spot))
+addition_in x new spot = option_map_or (λ fault. Err fault) (own_fault new.name new.kind spot)
+    (placing_in x new.name (wanted_for new spot))
 
--- what the caller is told
+-- the result of `add`
 abbrev pub placed_of : Result Place EditFault → Result Placed EditFault
-placed_of place = result_map_both (λ p. record { header = p.header; content = p.content }) (λ fault. fault) place
+placed_of place =
+    result_map_both (λ p. record { header = p.header; content = p.content }) (λ fault. fault) place
 
--- the region after the addition: as it was where that is refused
+-- the region after the addition, unchanged after an error
 abbrev pub added_to : List ℕ → NewComponent → Spot → List ℕ
 added_to x new spot = option_map_or (added x new) (result_ok (addition_in x new spot)) x
 
--- a component with so many bytes before its content fits there, with a cell that ends at `end`
+-- the place has room for metadata of the given length, and for a cell up to `end`
 pub record HasRoom (size : ℕ) (place : Place) (end metadata : ℕ) : Type 0 where
   pub run : IsCellRange place.run size
   pub small : size < 2 ^ 32
@@ -128,27 +139,33 @@ pub record HasRoom (size : ℕ) (place : Place) (end metadata : ℕ) : Type 0 wh
   pub metadata_short : metadata ≤ 4096
   pub content_below : place.content ≤ end
 
--- how many bytes of a component's metadata the last commit writes, which shows the component: those at the run's start
+-- The number of metadata bytes in the last commit. They lie at the run's start.
 abbrev pub held_back : Place → ℕ
 held_back place = if place.header == place.run.start then header_length else 0
 
 -- the rest of the metadata
 abbrev pub with_metadata : List ℕ → Place → List ℕ → List ℕ
-with_metadata y place metadata = overwritten y (place.header + held_back place) (drop (held_back place) metadata)
+with_metadata y place metadata =
+    overwritten y (place.header + held_back place) (drop (held_back place) metadata)
 
--- the header of the empty entry after the component, where there is one
+-- the header of the empty entry after the component, if any
 abbrev pub with_bound : List ℕ → ℕ → ℕ → List ℕ
-with_bound y end run_end = if end == run_end then y else overwritten y end (empty_header (run_end - end) (run_end == length y))
+with_bound y end run_end = if end == run_end then y
+    else overwritten y end (empty_header (run_end - end) (run_end == length y))
 
--- what the last commit writes: the begin of the metadata, or the header of the empty entry before the component
+-- the last commit: the first metadata bytes, or the header of the empty entry before the component
 abbrev pub shown_by : Place → List ℕ → List ℕ
-shown_by place metadata = if place.header == place.run.start then take header_length metadata else empty_header (place.header - place.run.start) false
+shown_by place metadata = if place.header == place.run.start then take header_length metadata
+    else empty_header (place.header - place.run.start) false
 
--- all that is written after the content
+-- all writes after the content
 abbrev pub with_component : List ℕ → Place → ℕ → List ℕ → List ℕ
-with_component y place end metadata = overwritten (with_bound (with_metadata y place metadata) end place.run.end) place.run.start (shown_by place metadata)
+with_component y place end metadata =
+    overwritten (with_bound (with_metadata y place metadata) end place.run.end) place.run.start
+    (shown_by place metadata)
 
--- before the last commit nothing has changed but bytes of the run behind the header of its empty entry, and of the run's last four
--- only those before the content
+-- Before the last commit, only bytes of the run after the header of its empty entry have changed;
+-- of the run's last four bytes, only bytes before the content.
 abbrev pub IsUnfinished : Place → List ℕ → List ℕ → Type 0
-IsUnfinished place y z = SameOutside (place.run.start + header_length) (max place.content (place.run.end - 4) - (place.run.start + header_length)) y z
+IsUnfinished place y z = SameOutside (place.run.start + header_length)
+    (max place.content (place.run.end - 4) - (place.run.start + header_length)) y z

@@ -1,6 +1,8 @@
--- What becomes of the bytes of a region, which side a refusal blames, and what an edit leaves that stops.
-use Rattle.std.specs.Prelude.{◌≡◌, ℕ, ◌+◌, ◌/◌, List, length, Result, IsTrue, IsErrOf, OnOk, ◌⊎◌, ◌-◌, max, drop, Ok, ◌==◌}
-use Rattle.flash_device.specs.Device.{overwritten, SameOutside, Device, Reads, faults_told, refusals}
+-- The effect of edits on a region, the cause of an error, and the effect of an interrupted edit.
+use Rattle.std.specs.Prelude.{◌≡◌, ℕ, ◌+◌, ◌/◌, List, length, Result, IsTrue, IsErrOf, OnOk, ◌⊎◌}
+use Rattle.std.specs.Prelude.{◌-◌, max, drop, Ok, ◌==◌}
+use Rattle.flash_device.specs.Device.{overwritten, SameOutside, Device, Reads, faults_told}
+use Rattle.flash_device.specs.Device.{refusals}
 use Rattle.flash_device.specs.Pages as copies
 use Rattle.flash_device.specs.Pages.{Pages, HasChanged}
 use Rattle.flash_device.specs.Regions.{Range, bytes_in}
@@ -17,82 +19,94 @@ use Rattle.cbfs_edit.specs.declared.group.CellRange.{CellRange}
 use Rattle.cbfs_edit.specs.declared.place.Spot.{Spot}
 use Rattle.cbfs_edit.specs.declared.place.Place.{Place}
 
--- of a fault: what is said of the device's, of the source's, or of any refusal
+-- selects by fault: device, source, or any other fault
 abbrev pub by_fault {ℓ} : {X : Type ℓ} → EditFault → X → X → X → X
 by_fault faults.Device device source refused = device
 by_fault faults.Source device source refused = source
 by_fault _ device source refused = refused
 
--- how many refused calls of the device a fault tells, and how many of the source
+-- the number of failed calls of the device or the source, by fault
 abbrev pub by_device : EditFault → ℕ
 by_device fault = by_fault fault 1 0 0
 
 abbrev pub by_source : EditFault → ℕ
 by_source fault = by_fault fault 0 1 0
 
--- P of the bytes of a region before and after, where the device is honest
-abbrev pub OnHonestChange : {F : Type 0} → (F → Device) → Range → Pages F → Pages F → (List ℕ → List ℕ → Type 0) → Type 0
-OnHonestChange facts region old new P =
-    IsTrue (facts old.device).honest → P (bytes_in region (facts old.device).content) (bytes_in region (facts new.device).content)
+-- P of a region's bytes before and after, on an honest device
+abbrev pub OnHonestChange : {F : Type 0} → (F → Device) → Range → Pages F → Pages F
+    → (List ℕ → List ℕ → Type 0) → Type 0
+OnHonestChange facts region old new P = IsTrue (facts old.device).honest
+    → P (bytes_in region (facts old.device).content) (bytes_in region (facts new.device).content)
 
--- What is left after a write into a region, by at most n calls. On an honest device the region's bytes are those that
--- `done` makes of them, where no call was refused, and `Left` relates them to those of before, whatever was answered.
-pub record HasWrittenIn {F T E : Type 0} (facts : F → Device) (region : Range) (n : ℕ) (done : List ℕ → List ℕ) (Left : List ℕ → List ℕ → Type 0) (old new : Pages F) (result : Result T E) : Type 0 where
+-- The effect of a write into a region by at most n calls. On an honest device, success applies
+-- `done` to the region, and `Left` relates the region before and after in any case.
+pub record HasWrittenIn {F T E : Type 0} (facts : F → Device) (region : Range) (n : ℕ)
+    (done : List ℕ → List ℕ) (Left : List ℕ → List ℕ → Type 0) (old new : Pages F)
+    (result : Result T E) : Type 0 where
   pub after : HasChanged facts region n (refusals result) old new
   pub written : OnHonestChange facts region old new (λ x y. OnOk result (y ≡ done x))
   pub left : OnHonestChange facts region old new Left
 
--- What is left after a whole source was to be copied to a place of a region. What was copied is told of an honest device
--- and an honest source, what is outside of an honest device whatever the source.
-pub record HasCopied {F T : Type 0} (facts : F → Device) (region : Range) (at : ℕ) (old new : Pages F) (input input_now : Device) (result : Result T CopyFault) : Type 0 where
-  pub after : HasChanged facts region ((length input.content + 4095) / 4096) (faults_told copies.by_device result) old new
-  pub source : Reads ((length input.content + 4095) / 4096) (faults_told copies.by_source result) input input_now
+-- The effect of copying a source into a region. `copied` requires an honest device and an honest
+-- source, `torn` only an honest device.
+pub record HasCopied {F T : Type 0} (facts : F → Device) (region : Range) (at : ℕ)
+    (old new : Pages F) (input input_now : Device) (result : Result T CopyFault) : Type 0 where
+  pub after : HasChanged facts region ((length input.content + 4095) / 4096)
+      (faults_told copies.by_device result) old new
+  pub source : Reads ((length input.content + 4095) / 4096) (faults_told copies.by_source result)
+      input input_now
   pub no_output : IsErrOf result causes.Output → ⊥
-  pub copied : OnHonestChange facts region old new (λ x y. IsTrue input.honest → OnOk result (y ≡ overwritten x at input.content))
+  pub copied : OnHonestChange facts region old new (λ x y.
+      IsTrue input.honest → OnOk result (y ≡ overwritten x at input.content))
   pub torn : OnHonestChange facts region old new (SameOutside at (length input.content))
 
--- Between the first commit of an edit and its last: the header of an empty entry over the whole group stands at its start,
--- and what is behind it, up to a place, may be anything.
+-- The state between the first and the last commit of an edit: an empty entry's header covers the
+-- group, followed by arbitrary bytes up to `to`.
 pub record IsEmptied (group : CellRange) (to : ℕ) (x y : List ℕ) : Type 0 where
   pub same_length : length y ≡ length x
-  pub same : SameOutside (group.start + header_length) (to - (group.start + header_length)) (overwritten x group.start (empty_header (group.end - group.start) (group.end == length x))) y
+  pub same : SameOutside (group.start + header_length) (to - (group.start + header_length))
+      (overwritten x group.start (empty_header (group.end - group.start) (group.end == length x))) y
 
--- where the writes of an empty entry stop
+-- the states during the writes of an empty entry
 abbrev pub IsOldOrEmptied : CellRange → ℕ → List ℕ → List ℕ → Type 0
 IsOldOrEmptied group to x y = (y ≡ x) ⊎ IsEmptied group to x y
 
--- the same components, each with its place and its bytes, and the same end
+-- the same components, with offsets and bytes, and the same end
 pub record SameCells (x y : List ℕ) : Type 0 where
   pub components : components x ≡ components y
   pub end : (cut x).end ≡ (cut y).end
 
--- The components are those of before or those of the finished edit, and nothing else has changed; from a place on all
--- bytes are kept.
-pub record IsStopped (x : List ℕ) (group : CellRange) (done : List ℕ) (kept : ℕ) (y : List ℕ) : Type 0 where
+-- The components before or after the whole edit. All bytes outside the group, and all bytes from
+-- `kept` on, remain.
+pub record IsStopped (x : List ℕ) (group : CellRange) (done : List ℕ) (kept : ℕ)
+    (y : List ℕ) : Type 0 where
   pub components : (components y ≡ components x) ⊎ (components y ≡ components done)
   pub end : (cut y).end ≡ (cut x).end
   pub same_length : length y ≡ length x
   pub outside : SameOutside group.start (group.end - group.start) x y
   pub last : drop kept y ≡ drop kept x
 
--- the bytes that a removal leaves after a fault of the device: those before, or those of a stop of an accepted removal,
--- with the region's last four as they were
+-- the region after a device fault during a removal: unchanged, or a partial removal with unchanged
+-- last four bytes
 abbrev pub LeavesWhole : List ℕ → List ℕ → List ℕ → Type 0
-LeavesWhole x name y = (y ≡ x) ⊎ ((group : CellRange) × (removal_in x name ≡ Ok group) × IsStopped x group (removed x group) (length x - 4) y)
+LeavesWhole x name y = (y ≡ x) ⊎ ((group : CellRange) × (removal_in x name ≡ Ok group)
+    × IsStopped x group (removed x group) (length x - 4) y)
 
--- those that an addition leaves after a fault of the device: of the region's last four those after the content's end stay
+-- the region after a device fault during an addition; of the last four bytes, the bytes after the
+-- content remain
 abbrev pub AddLeavesWhole : List ℕ → NewComponent → Spot → List ℕ → Type 0
-AddLeavesWhole x new spot y = (y ≡ x) ⊎ ((place : Place) × (addition_in x new spot ≡ Ok place) × IsStopped x place.run (added x new place) (kept_from x new place) y)
+AddLeavesWhole x new spot y = (y ≡ x) ⊎ ((place : Place) × (addition_in x new spot ≡ Ok place)
+    × IsStopped x place.run (added x new place) (kept_from x new place) y)
 
--- and after a fault of the source, with the components of before
+-- the region after a source fault, with the same components as before
 abbrev pub AddLeavesBefore : List ℕ → NewComponent → Spot → List ℕ → Type 0
 AddLeavesBefore x new spot y = AddLeavesWhole x new spot y × (components y ≡ components x)
 
--- up to where an addition writes that puts so many bytes of content there: the region's last four after it are kept
+-- the upper bound of an addition's writes; the bytes after it remain
 abbrev pub written_to : ℕ → ℕ → Place → ℕ
 written_to size len place = max (place.content + len) (space_end size place.run.end)
 
--- where the writes of an addition stop: at those of an empty entry over the run, or they are done; from a place on all
--- bytes are kept
+-- the states during the writes of an addition: an empty entry over the run, or completion; all
+-- bytes from `to` on remain
 abbrev pub IsInsertStop : CellRange → ℕ → Type 0 → List ℕ → List ℕ → Type 0
 IsInsertStop run to Done x y = IsOldOrEmptied run to x y ⊎ (Done × (drop to y ≡ drop to x))

@@ -1,5 +1,6 @@
--- The laws that the edits rest on.
-use Rattle.std.specs.Prelude.{◌≡◌, ◌↔◌, ℕ, ◌%◌, ◌^◌, ◌<◌, ◌≤◌, false, All, Contains, List, length, Ok, Option, Some, MatchOption}
+-- The laws of the edits.
+use Rattle.std.specs.Prelude.{◌≡◌, ◌↔◌, ℕ, ◌%◌, ◌^◌, ◌<◌, ◌≤◌, false, All, Contains, List, length}
+use Rattle.std.specs.Prelude.{Ok, Option, Some, MatchOption}
 use Rattle.std.specs.List.{AllPairs}
 use Rattle.std.specs.Str.{bytes_eq}
 use Rattle.flash_format.specs.Cut.{cut}
@@ -17,41 +18,52 @@ use Rattle.cbfs_edit.specs.declared.place.Wanted.{Wanted}
 use Rattle.cbfs_edit.specs.declared.place.Place.{Place}
 use Rattle.cbfs_edit.specs.declared.place.Spot.{Spot}
 
--- once the header of an empty entry stands over the group of a removal, whatever the rest of the group holds, the
--- components are those of the finished removal
+-- If the header of an empty entry covers a removal's group, the components are the same as after
+-- the whole removal, for any other bytes in the group.
 abbrev pub EmptiedGroupsLackTheComponent : Type 0
-EmptiedGroupsLackTheComponent = (x name : List ℕ) (group : CellRange) (y : List ℕ) → length x < 2 ^ 32 → removal_in x name ≡ Ok group → IsEmptied group group.end x y → SameCells y (removed x group)
+EmptiedGroupsLackTheComponent = (x name : List ℕ) (group : CellRange) (y : List ℕ)
+    → length x < 2 ^ 32 → removal_in x name ≡ Ok group → IsEmptied group group.end x y
+    → SameCells y (removed x group)
 
--- a removal takes the first component of the name, and all others stay, with their places and bytes
+-- A removal takes the first component with the name. All others remain, with offsets and bytes.
 abbrev pub RemovalsTakeOneComponent : Type 0
-RemovalsTakeOneComponent = (x name : List ℕ) (group : CellRange) → length x < 2 ^ 32 → removal_in x name ≡ Ok group → LosesOne name x (removed x group)
+RemovalsTakeOneComponent = (x name : List ℕ) (group : CellRange) → length x < 2 ^ 32
+    → removal_in x name ≡ Ok group → LosesOne name x (removed x group)
 
--- the group that a removal takes is the first component of the name, with all free cells that touch it, and nothing else is;
--- there is none where no component has the name, and nowhere else
+-- The group of a removal is exactly the first component with the name and all adjacent free cells.
+-- No group exists exactly if no component has the name.
 abbrev pub GroupsAreExact : Type 0
-GroupsAreExact = (x name : List ℕ) (found : Option CellRange) → MatchOption found (All (IsNot name) (cut x).cells) (IsGroupOf name (cut x).cells) ↔ (found ≡ group_of x name)
+GroupsAreExact = (x name : List ℕ) (found : Option CellRange)
+    → MatchOption found (All (IsNot name) (cut x).cells) (IsGroupOf name (cut x).cells)
+    ↔ (found ≡ group_of x name)
 
--- between the commits of an edit that fills a run the components are those of before
+-- The components remain the same between the commits of an edit that fills a run.
 abbrev pub EmptiedRunsKeepTheComponents : Type 0
-EmptiedRunsKeepTheComponents = (x : List ℕ) (run : CellRange) (y : List ℕ) → length x % 64 ≡ 0 → length x < 2 ^ 32 → Contains (runs x) run → IsEmptied run run.end x y → SameCells y x
+EmptiedRunsKeepTheComponents = (x : List ℕ) (run : CellRange) (y : List ℕ) → length x % 64 ≡ 0
+    → length x < 2 ^ 32 → Contains (runs x) run → IsEmptied run run.end x y → SameCells y x
 
--- the runs are the maximal rows of neighbouring free cells, all of them
+-- The runs are exactly the maximal sequences of adjacent free cells.
 abbrev pub RunsAreExact : Type 0
 RunsAreExact = (x : List ℕ) (run : CellRange) → Contains (runs x) run ↔ IsRunOf (cut x).cells run
 
--- in their order, with a cell between each and the next
+-- The runs ascend, with a cell between two runs.
 abbrev pub RunsAscend : Type 0
-RunsAscend = (x : List ℕ) → length x % 64 ≡ 0 → AllPairs (λ (a b : CellRange). a.end < b.start) (runs x)
+RunsAscend = (x : List ℕ) → length x % 64 ≡ 0
+    → AllPairs (λ (a b : CellRange). a.end < b.start) (runs x)
 
--- a region that is formatted is one free cell
+-- A formatted region is a single free cell.
 abbrev pub FormattedIsOneFreeCell : Type 0
-FormattedIsOneFreeCell = (x : List ℕ) → 64 ≤ length x → length x % 64 ≡ 0 → length x < 2 ^ 32 → IsOneFreeCell (formatted x)
+FormattedIsOneFreeCell = (x : List ℕ) → 64 ≤ length x → length x % 64 ≡ 0 → length x < 2 ^ 32
+    → IsOneFreeCell (formatted x)
 
--- the place of a new component is in the first run with an allowed place, at its least one, and nowhere else
+-- The place of a new component is exactly the least allowed place in the first run with an allowed
+-- place.
 abbrev pub PlacesAreExact : Type 0
-PlacesAreExact = (x : List ℕ) (wanted : Wanted) (found : Option Place) → IsWanted wanted → IsPlaceAmong wanted (length x) (runs x) found ↔ (found ≡ first_place wanted (length x) (runs x))
+PlacesAreExact = (x : List ℕ) (wanted : Wanted) (found : Option Place) → IsWanted wanted
+    → IsPlaceAmong wanted (length x) (runs x) found
+    ↔ (found ≡ first_place wanted (length x) (runs x))
 
--- an addition of numbers that 32 bits hold, and with a whole digest, that gets this place
+-- an addition with 32-bit numbers, a complete digest, and the given place
 pub record IsAdded (x : List ℕ) (new : NewComponent) (spot : Spot) (place : Place) : Type 0 where
   pub region : length x < 2 ^ 32
   pub kind : new.kind < 2 ^ 32
@@ -59,25 +71,33 @@ pub record IsAdded (x : List ℕ) (new : NewComponent) (spot : Spot) (place : Pl
   pub digest : IsDigest new.digest
   pub placed : addition_in x new spot ≡ Ok place
 
--- an addition makes one component more, with its name, type, attributes and content, at its place, and the content where
--- the caller is told; all others stay
+-- An addition creates a further component with its name, type, attributes and content, and with the
+-- content at the returned offset. All others remain.
 abbrev pub AdditionsAddOneComponent : Type 0
-AdditionsAddOneComponent = (x : List ℕ) (new : NewComponent) (spot : Spot) (place : Place) → IsAdded x new spot place → AddsOne x new place
+AdditionsAddOneComponent = (x : List ℕ) (new : NewComponent) (spot : Spot) (place : Place)
+    → IsAdded x new spot place → AddsOne x new place
 
--- what was added is found by its name, with its content
+-- A search by name finds the added component with its content.
 abbrev pub AdditionsAreFound : Type 0
-AdditionsAreFound = (x : List ℕ) (new : NewComponent) (spot : Spot) (place : Place) → IsAdded x new spot place → component_in (added x new place) new.name ≡ Ok (Some (added_component x new place))
+AdditionsAreFound = (x : List ℕ) (new : NewComponent) (spot : Spot) (place : Place)
+    → IsAdded x new spot place
+    → component_in (added x new place) new.name ≡ Ok (Some (added_component x new place))
 
--- it can be removed, and then the components are those of before
+-- A removal of the added component restores the previous components.
 abbrev pub AdditionsAreUndone : Type 0
-AdditionsAreUndone = (x : List ℕ) (new : NewComponent) (spot : Spot) (place : Place) → IsAdded x new spot place
-    → (group : CellRange) × (removal_in (added x new place) new.name ≡ Ok group) × SameCells (removed (added x new place) group) x
+AdditionsAreUndone = (x : List ℕ) (new : NewComponent) (spot : Spot) (place : Place)
+    → IsAdded x new spot place
+    → (group : CellRange) × (removal_in (added x new place) new.name ≡ Ok group)
+    × SameCells (removed (added x new place) group) x
 
--- an addition keeps each component of before
+-- An addition keeps all previous components.
 abbrev pub AdditionsKeepAll : Type 0
-AdditionsKeepAll = (x : List ℕ) (new : NewComponent) (spot : Spot) (place : Place) → IsAdded x new spot place → (c : Component) → Contains (components x) c → Contains (components (added x new place)) c
+AdditionsKeepAll = (x : List ℕ) (new : NewComponent) (spot : Spot) (place : Place)
+    → IsAdded x new spot place → (c : Component) → Contains (components x) c
+    → Contains (components (added x new place)) c
 
--- a removal keeps each of another name
+-- A removal keeps all components with another name.
 abbrev pub RemovalsKeepOthers : Type 0
-RemovalsKeepOthers = (x name : List ℕ) (group : CellRange) → length x < 2 ^ 32 → removal_in x name ≡ Ok group
-    → (c : Component) → Contains (components x) c → bytes_eq c.name name ≡ false → Contains (components (removed x group)) c
+RemovalsKeepOthers = (x name : List ℕ) (group : CellRange) → length x < 2 ^ 32
+    → removal_in x name ≡ Ok group → (c : Component) → Contains (components x) c
+    → bytes_eq c.name name ≡ false → Contains (components (removed x group)) c

@@ -1,7 +1,9 @@
 -- The place of a new component.
 use Rattle.std.specs.List.{filter_map, slice_get}
 use Rattle.std.specs.Int.{next_multiple_of}
-use Rattle.std.specs.Prelude.{◌≡◌, ℕ, ◌+◌, ◌-◌, ◌*◌, ◌/◌, ◌%◌, ◌^◌, ◌<◌, ◌≤◌, ⊤, ◌&&◌, ◌==◌, Bool, false, nat_le, if◌then◌else◌, is_some, List, ◌∷◌, ◌++◌, All, length, Option, Some, None, MatchOption, Result, Err, ok_or}
+use Rattle.std.specs.Prelude.{◌≡◌, ℕ, ◌+◌, ◌-◌, ◌*◌, ◌/◌, ◌%◌, ◌^◌, ◌<◌, ◌≤◌, ⊤, ◌&&◌, ◌==◌, Bool}
+use Rattle.std.specs.Prelude.{false, nat_le, if◌then◌else◌, is_some, List, ◌∷◌, ◌++◌, All, length}
+use Rattle.std.specs.Prelude.{Option, Some, None, MatchOption, Result, Err, ok_or}
 use Rattle.flash_format.specs.Components.{components}
 use Rattle.cbfs_walk.specs.Finding.{first_named}
 use Rattle.cbfs_edit.specs.Removals.{IsCellRange, space_end, unless_unsound}
@@ -14,12 +16,12 @@ use Rattle.cbfs_edit.specs.declared.place.Spot.TheVariants.{First, Aligned, Fixe
 use Rattle.cbfs_edit.specs.declared.place.Wanted.{Wanted}
 use Rattle.cbfs_edit.specs.declared.place.Place.{Place}
 
--- content is to begin at a multiple of 0
+-- an alignment of 0
 abbrev pub is_bad_align : Spot → Bool
 is_bad_align (Aligned unit) = unit == 0
 is_bad_align spot = false
 
--- both numbers fit 32 bits, and content is not to begin at a multiple of 0
+-- both lengths fit 32 bits, and the alignment is not 0
 pub record IsWanted (wanted : Wanted) : Type 0 where
   pub metadata_len : wanted.metadata_len < 2 ^ 32
   pub len : wanted.len < 2 ^ 32
@@ -33,12 +35,12 @@ Allows First c = ⊤
 Allows (Aligned unit) c = c % unit ≡ 0
 Allows (Fixed place) c = c ≡ place
 
--- where content ends at the latest, in a run that ends here, of a region of this size
+-- the upper bound of the content's end, in a run with the given end, for a region of the given size
 abbrev pub limit_of : Spot → ℕ → ℕ → ℕ
 limit_of (Fixed place) size end = end
 limit_of spot size end = space_end size end
 
--- content may begin at `c` in the run
+-- the content may begin at `c` in the run
 pub record IsAllowed (wanted : Wanted) (size : ℕ) (run : CellRange) (c : ℕ) : Type 0 where
   pub after_header : run.start + wanted.metadata_len ≤ c
   pub meets : Allows wanted.spot c
@@ -47,21 +49,22 @@ pub record IsAllowed (wanted : Wanted) (size : ℕ) (run : CellRange) (c : ℕ) 
 abbrev pub HasNoRoom : Wanted → ℕ → CellRange → Type 0
 HasNoRoom wanted size run = (c : ℕ) → IsAllowed wanted size run c → ⊥
 
--- the header stands at the largest multiple of 64 that leaves it room
+-- the header lies at the largest multiple of 64 with room for the metadata
 pub record IsHeaderOf (wanted : Wanted) (place : Place) : Type 0 where
   pub aligned : place.header % 64 ≡ 0
   pub room : place.header + wanted.metadata_len ≤ place.content
   pub largest : place.content < place.header + 64 + wanted.metadata_len
 
--- a component fits there, in a region of this size
+-- a component fits at the place, in a region of the given size
 pub record Fits (wanted : Wanted) (size : ℕ) (place : Place) : Type 0 where
   pub run : IsCellRange place.run size
   pub start_below : place.run.start ≤ place.header
   pub header : IsHeaderOf wanted place
   pub inside : place.content + wanted.len ≤ place.run.end
 
--- the first of these runs with an allowed place, and its least one
-pub record IsFirstPlace (wanted : Wanted) (size : ℕ) (runs : List CellRange) (place : Place) : Type 0 where
+-- the first run with an allowed place, and the least allowed place in the run
+pub record IsFirstPlace (wanted : Wanted) (size : ℕ) (runs : List CellRange)
+    (place : Place) : Type 0 where
   pub before : List CellRange
   pub later : List CellRange
   pub whole : runs ≡ before ++ place.run ∷ later
@@ -70,35 +73,40 @@ pub record IsFirstPlace (wanted : Wanted) (size : ℕ) (runs : List CellRange) (
   pub least : (d : ℕ) → IsAllowed wanted size place.run d → place.content ≤ d
   pub header : IsHeaderOf wanted place
 
--- the place among these runs, or none
+-- the place among the runs, or none
 abbrev pub IsPlaceAmong : Wanted → ℕ → List CellRange → Option Place → Type 0
-IsPlaceAmong wanted size runs found = MatchOption found (All (HasNoRoom wanted size) runs) (IsFirstPlace wanted size runs)
+IsPlaceAmong wanted size runs found =
+    MatchOption found (All (HasNoRoom wanted size) runs) (IsFirstPlace wanted size runs)
 
 -- ---- as a function
 
--- the least place from `from` on that the spot allows; where it allows none there, one before
+-- the least allowed place from `from` on; a lower place if the spot allows none
 abbrev pub least_from : Spot → ℕ → ℕ
 least_from First from = from
 least_from (Aligned unit) from = next_multiple_of from unit
 least_from (Fixed place) from = place
 
--- the least allowed place in a run, in which a header before it and the content from there on lie
+-- the least allowed place in a run, with room for header and content
 abbrev pub place_in : Wanted → ℕ → CellRange → Option Place
 place_in wanted size run =
     let c = least_from wanted.spot (run.start + wanted.metadata_len) in
-    if nat_le (run.start + wanted.metadata_len) c && nat_le (c + wanted.len) (limit_of wanted.spot size run.end)
-    then Some (record { run = run; header = (c - wanted.metadata_len) / 64 * 64; content = c }) else None
+    if nat_le (run.start + wanted.metadata_len) c
+    && nat_le (c + wanted.len) (limit_of wanted.spot size run.end)
+    then Some (record { run = run; header = (c - wanted.metadata_len) / 64 * 64; content = c })
+    else None
 
--- the first of the places that these runs have
+-- the place in the first run with an allowed place
 abbrev pub first_place : Wanted → ℕ → List CellRange → Option Place
 first_place wanted size runs = slice_get (filter_map (place_in wanted size) runs) 0
 
--- ---- with its refusals
+-- ---- with errors
 
--- the place, unless a component has the name already
+-- the place, or an error if the name exists
 abbrev pub unless_exists : Bool → Option Place → Result Place EditFault
 unless_exists exists place = if exists then Err Exists else ok_or place NoSpace
 
--- the place of a new component of a name, or its first refusal
+-- the place of a new component with the given name, or the first error
 unfoldable pub placing_in : List ℕ → List ℕ → Wanted → Result Place EditFault
-placing_in x name wanted = unless_unsound x (unless_exists (is_some (first_named name (components x))) (first_place wanted (length x) (runs x)))
+placing_in x name wanted =
+    unless_unsound x (unless_exists (is_some (first_named name (components x)))
+    (first_place wanted (length x) (runs x)))

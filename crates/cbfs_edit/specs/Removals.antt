@@ -1,7 +1,9 @@
--- Groups of neighbouring cells, a component with the free cells that touch it; what a removal of one leaves, and how it is
--- refused.
+-- Groups of adjacent cells: a component with its adjacent free cells. The effect and the errors of
+-- a removal.
 use Rattle.std.specs.List.{concat, last_or, slice_get}
-use Rattle.std.specs.Prelude.{ℕ, ◌+◌, ◌%◌, ◌≡◌, ◌≤◌, IfSome, true, false, All, List, [], ◌∷◌, ◌++◌, length, Option, Some, None, if◌then◌else◌, ◌-◌, drop, Result, Err, ok_or, ◌==◌}
+use Rattle.std.specs.Prelude.{ℕ, ◌+◌, ◌%◌, ◌≡◌, ◌≤◌, IfSome, true, false, All, List, [], ◌∷◌, ◌++◌}
+use Rattle.std.specs.Prelude.{length, Option, Some, None, if◌then◌else◌, ◌-◌, drop, Result, Err}
+use Rattle.std.specs.Prelude.{ok_or, ◌==◌}
 use Rattle.std.specs.Str.{bytes_eq}
 use Rattle.flash_format.specs.Head.{head_of, is_free}
 use Rattle.flash_format.specs.Cut.{cut, End}
@@ -17,31 +19,35 @@ use Rattle.cbfs_walk.specs.Shaped.{place_after}
 use Rattle.cbfs_walk.specs.declared.walk.WalkFault.{WalkFault}
 use Rattle.cbfs_walk.specs.declared.walk.WalkFault.TheVariants as faults
 use Rattle.cbfs_edit.specs.declared.fault.EditFault.{EditFault}
-use Rattle.cbfs_edit.specs.declared.fault.EditFault.TheVariants.{RegionShape, NotCbfs, Damaged, Device, NotFound}
+use Rattle.cbfs_edit.specs.declared.fault.EditFault.TheVariants.{RegionShape, NotCbfs, Damaged}
+use Rattle.cbfs_edit.specs.declared.fault.EditFault.TheVariants.{Device, NotFound}
 
--- What is made of cells of which the first stands at a place, where the free cells right before that place begin at `start`:
--- at a component by `each`, of where the free cells before it begin, its place, its bytes, the cells after it and what is made
--- of those; and by `last` where the cells end.
-unfoldable pub by_rows : {A : Type 0} → (ℕ → ℕ → A) → (ℕ → ℕ → List ℕ → List (List ℕ) → A → A) → ℕ → ℕ → List (List ℕ) → A
+-- A fold over cells. `start` is the start of the free cells directly before the offset `at`. At a
+-- component, `each` receives `start`, the offset, the component's bytes, the remaining cells and
+-- their result; `last` is the result at the end of the cells.
+unfoldable pub by_rows : {A : Type 0} → (ℕ → ℕ → A) → (ℕ → ℕ → List ℕ → List (List ℕ) → A → A) → ℕ
+    → ℕ → List (List ℕ) → A
 by_rows last each start at [] = last start at
 by_rows last each start at (x ∷ cells) =
     let next = at + length x in
-    if is_free (head_of x) then by_rows last each start next cells else each start at x cells (by_rows last each next next cells)
+    if is_free (head_of x) then by_rows last each start next cells
+    else each start at x cells (by_rows last each next next cells)
 
--- where the free cells end that come first, of cells that begin at a place
+-- the end of the leading free cells
 abbrev pub row_end : ℕ → List (List ℕ) → ℕ
 row_end at = by_rows (λ start end. end) (λ start end x cells later. end) 0 at
 
--- the first component of a name with the free cells that touch it in an unbroken row on either side
+-- the first component with the name, and the adjacent free cells
 abbrev pub group_from : List ℕ → ℕ → ℕ → List (List ℕ) → Option CellRange
-group_from name = by_rows (λ start at. None) (λ start at x cells later.
-    if bytes_eq (cell_name x) name then Some (record { start = start; end = row_end (at + length x) cells }) else later)
+group_from name =
+    by_rows (λ start at. None) (λ start at x cells later. if bytes_eq (cell_name x) name
+    then Some (record { start = start; end = row_end (at + length x) cells }) else later)
 
--- the same of a region
+-- the same for a region
 abbrev pub group_of : List ℕ → List ℕ → Option CellRange
 group_of x name = group_from name 0 0 (cut x).cells
 
--- a group of cells may stand there, in a region of this size
+-- a possible range of cells in a region of the given size
 pub record IsCellRange (group : CellRange) (size : ℕ) : Type 0 where
   pub some : group.start + 64 ≤ group.end
   pub start_aligned : group.start % 64 ≡ 0
@@ -53,11 +59,11 @@ pub record IsCellRange (group : CellRange) (size : ℕ) : Type 0 where
 abbrev pub IsComponent : List ℕ → Type 0
 IsComponent c = is_free (head_of c) ≡ false
 
--- a cell is no component of a name
+-- a cell is no component with the name
 abbrev pub IsNot : List ℕ → List ℕ → Type 0
 IsNot name c = IsComponent c → bytes_eq (cell_name c) name ≡ false
 
--- a range of neighbouring cells among others, with a component, or nothing, on either side
+-- a range of adjacent cells, bounded on both ends by a component or by the end of the cells
 pub record IsRangeAmong (cells : List (List ℕ)) (range : CellRange) : Type 0 where
   pub before : List (List ℕ)
   pub row : List (List ℕ)
@@ -68,7 +74,7 @@ pub record IsRangeAmong (cells : List (List ℕ)) (range : CellRange) : Type 0 w
   pub start_is : length (concat before) ≡ range.start
   pub end_is : range.start + length (concat row) ≡ range.end
 
--- a group among cells: the first component of a name, and all free cells that touch it in an unbroken row
+-- a group: the first component with the name, and all adjacent free cells
 pub record IsGroupOf (name : List ℕ) (cells : List (List ℕ)) (group : CellRange) : Type 0 where
   pub range : IsRangeAmong cells group
   pub row_before : List (List ℕ)
@@ -84,41 +90,43 @@ pub record IsGroupOf (name : List ℕ) (cells : List (List ℕ)) (group : CellRa
 abbrev pub last_four : List ℕ → List ℕ
 last_four x = drop (length x - 4) x
 
--- the bytes that a cell keeps which ends here
+-- the preserved bytes of a cell with the given end
 abbrev pub kept_at : List ℕ → ℕ → Option (List ℕ)
 kept_at x end = if end == length x then Some (last_four x) else None
 
--- where the space of free cells that end here ends, in a region of this size: before its last four bytes, which are kept
+-- the end of the erased space of free cells with the given end: the region's last four bytes remain
 abbrev pub space_end : ℕ → ℕ → ℕ
 space_end size end = if end == size then end - 4 else end
 
--- a region with one empty entry in place of a group
+-- a region with a single empty entry in place of a group
 abbrev pub removed : List ℕ → CellRange → List ℕ
-removed x group = overwritten x group.start (empty_entry (group.end - group.start) (kept_at x group.end))
+removed x group =
+    overwritten x group.start (empty_entry (group.end - group.start) (kept_at x group.end))
 
--- one component is gone, the first of a name, and all others are as they were, and so is the end of the cells
+-- the first component with the name is gone; all others and the end of the cells are the same
 pub record LosesOne (name x y : List ℕ) : Type 0 where
   pub component : Component
   pub was : IsFirstOf name (components x) component
   pub is : components y ≡ was.before ++ was.after
   pub same_end : (cut y).end ≡ (cut x).end
 
--- the same refusal, where a walk ends with a fault
+-- the error for a fault of the walk
 abbrev pub edit_fault_of : WalkFault → EditFault
 edit_fault_of faults.Device = Device
 edit_fault_of faults.RegionShape = RegionShape
 edit_fault_of faults.NotCbfs = NotCbfs
 edit_fault_of (faults.Damaged at kind) = Damaged at kind
 
--- a damage that ends the cells comes first
+-- damage at the end of the cells takes precedence
 abbrev pub unless_damaged : {A : Type 0} → ℕ → End → Result A EditFault → Result A EditFault
-unless_damaged at end otherwise = result_and (result_map_both (λ none. none) edit_fault_of (not_found at end)) otherwise
+unless_damaged at end otherwise =
+    result_and (result_map_both (λ none. none) edit_fault_of (not_found at end)) otherwise
 
--- a region's own refusal comes first: its size, no entry at its start, or a damage
+-- the region's errors take precedence: invalid size, no entry at the start, damage
 abbrev pub unless_unsound : {A : Type 0} → List ℕ → Result A EditFault → Result A EditFault
-unless_unsound x otherwise =
-    refused_or (λ fault. Err (edit_fault_of fault)) (shape_fault x) (unless_damaged (place_after 0 (cut x).cells) (cut x).end otherwise)
+unless_unsound x otherwise = refused_or (λ fault. Err (edit_fault_of fault)) (shape_fault x)
+    (unless_damaged (place_after 0 (cut x).cells) (cut x).end otherwise)
 
--- the group that a removal takes, or its first refusal
+-- the group of a removal, or the first error
 unfoldable pub removal_in : List ℕ → List ℕ → Result CellRange EditFault
 removal_in x name = unless_unsound x (ok_or (group_of x name) NotFound)

@@ -5,18 +5,20 @@ use Rattle.flash_format.specs.Splices.{AllFree}
 use Rattle.flash_format.specs.Cut.{cut}
 use Rattle.cbfs_edit.specs.declared.group.CellRange.{CellRange}
 
--- the range, unless it is empty, and others
+-- adds the range, unless empty
 abbrev pub add_run : ℕ → ℕ → List CellRange → List CellRange
-add_run start end others = if nat_lt start end then record { start = start; end = end } ∷ others else others
+add_run start end others =
+    if nat_lt start end then record { start = start; end = end } ∷ others else others
 
--- the maximal rows of neighbouring free cells
+-- the maximal sequences of adjacent free cells
 abbrev pub runs_from : ℕ → ℕ → List (List ℕ) → List CellRange
-runs_from = by_rows (λ start at. add_run start at []) (λ start at x cells later. add_run start at later)
+runs_from =
+    by_rows (λ start at. add_run start at []) (λ start at x cells later. add_run start at later)
 
 abbrev pub runs : List ℕ → List CellRange
 runs x = runs_from 0 0 (cut x).cells
 
--- a run among cells: free ones with a component, or nothing, on either side
+-- a run: free cells, bounded on both ends by a component or by the end of the cells
 pub record IsRunOf (cells : List (List ℕ)) (run : CellRange) : Type 0 where
   pub range : IsRangeAmong cells run
   pub free : AllFree range.row

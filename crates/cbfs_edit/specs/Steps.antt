@@ -1,8 +1,9 @@
--- Edits of a region on a device that may stop at any call: one, and a list of them.
+-- Edits on a device with possible faults at any call: a single edit, and a list of edits.
 use Rattle.std.specs.Prelude.{◌≡◌, ℕ, ◌+◌, ◌/◌, IsTrue, List, [], ◌∷◌, length, Ok, Err}
 use Rattle.flash_device.specs.Device.{Calls, Device, Reads}
 use Rattle.flash_device.specs.Regions.{Range, bytes_in}
-use Rattle.cbfs_edit.specs.Changes.{by_fault, by_device, by_source, LeavesWhole, AddLeavesWhole, AddLeavesBefore}
+use Rattle.cbfs_edit.specs.Changes.{by_fault, by_device, by_source, LeavesWhole, AddLeavesWhole}
+use Rattle.cbfs_edit.specs.Changes.{AddLeavesBefore}
 use Rattle.cbfs_edit.specs.Removals.{removed, removal_in}
 use Rattle.cbfs_edit.specs.Additions.{new_component, addition_in, added_to, placed_of}
 use Rattle.cbfs_edit.specs.declared.edit.Edit.{Edit}
@@ -11,44 +12,55 @@ use Rattle.cbfs_edit.specs.declared.edit.Reply.{Reply}
 use Rattle.cbfs_edit.specs.declared.edit.Reply.TheVariants as replies
 use Rattle.cbfs_edit.specs.declared.fault.EditFault.{EditFault}
 
--- What a reply to an edit says: an addition is answered by its place, a removal by its group, and each by why it is refused; and
--- where the device and the source are honest, what has become of the region's bytes. No removal is refused by a source.
-abbrev pub IsReply : {S : Type 0} → (S → Device) → Edit S → Reply → Type 0 → List ℕ → List ℕ → Type 0
+-- The meaning of a reply, if device and source are honest: the place of an addition, the group of a
+-- removal, or an error, and the resulting bytes of the region. A source fault never refuses a
+-- removal.
+abbrev pub IsReply : {S : Type 0} → (S → Device) → Edit S → Reply → Type 0 → List ℕ
+    → List ℕ → Type 0
 IsReply facts (Add name kind hash spot source) (replies.Placed placed) honest x y =
     let new = new_component name.now kind hash (facts source).content in
-    honest → IsTrue (facts source).honest → (placed_of (addition_in x new spot) ≡ Ok placed) × (y ≡ added_to x new spot)
+    honest → IsTrue (facts source).honest
+    → (placed_of (addition_in x new spot) ≡ Ok placed) × (y ≡ added_to x new spot)
 IsReply facts (Add name kind hash spot source) (replies.Refused fault) honest x y =
     let new = new_component name.now kind hash (facts source).content in
-    honest → IsTrue (facts source).honest → by_fault fault (AddLeavesWhole x new spot y) (AddLeavesBefore x new spot y) ((addition_in x new spot ≡ Err fault) × (y ≡ x))
-IsReply facts (Remove name) (replies.Freed group) honest x y = honest → (removal_in x name.now ≡ Ok group) × (y ≡ removed x group)
-IsReply facts (Remove name) (replies.Refused fault) honest x y = honest → by_fault fault (LeavesWhole x name.now y) ⊥ ((removal_in x name.now ≡ Err fault) × (y ≡ x))
+    honest → IsTrue (facts source).honest → by_fault fault (AddLeavesWhole x new spot y)
+    (AddLeavesBefore x new spot y) ((addition_in x new spot ≡ Err fault) × (y ≡ x))
+IsReply facts (Remove name) (replies.Freed group) honest x y = honest
+    → (removal_in x name.now ≡ Ok group) × (y ≡ removed x group)
+IsReply facts (Remove name) (replies.Refused fault) honest x y = honest
+    → by_fault fault (LeavesWhole x name.now y) ⊥ ((removal_in x name.now ≡ Err fault) × (y ≡ x))
 IsReply facts edit reply honest x y = ⊥
 
--- how many refused calls of a side a reply tells: one call at most, with which the edit ends
+-- the number of failed calls in a reply: at most the last call of the edit
 abbrev pub faults_of : (EditFault → ℕ) → Reply → ℕ
 faults_of told (replies.Refused fault) = told fault
 faults_of told reply = 0
 
--- An edit stays what it was. Its source counts its own calls and faults, so an edit is given as it was and as it is; the
--- content is that of before where the source is honest. A removal has no source to blame.
+-- An edit keeps its arguments. Its source counts calls and faults, and keeps its content if honest.
+-- A removal has no source.
 abbrev pub Stays : {S : Type 0} → (S → Device) → ℕ → Edit S → Edit S → Type 0
 Stays {S} facts refused (Add name kind hash spot source) new =
-    (now : S) × (new ≡ Add name kind hash spot now) × Reads (length (facts source).content / 4096 + 1) refused (facts source) (facts now)
+    (now : S) × (new ≡ Add name kind hash spot now)
+    × Reads (length (facts source).content / 4096 + 1) refused (facts source) (facts now)
 Stays facts refused (Remove name) new = (new ≡ Remove name) × (refused ≡ 0)
 
--- the most calls of the device that an edit of a region of so many bytes makes
+-- the maximum number of device calls of an edit
 abbrev pub edit_calls : {S : Type 0} → ℕ → Edit S → ℕ
 edit_calls size (Add name kind hash spot source) = size / 16 + size / 2048 + 7
 edit_calls size (Remove name) = size / 16 + size / 4096 + 3
 
--- an edit of a region from one state of the device to the next, by its reply
-pub record Step {S : Type 0} (facts : S → Device) (region : Range) (old new : Edit S) (before : Device) (reply : Reply) (after : Device) : Type 0 where
+-- a single edit of a region with its reply
+pub record Step {S : Type 0} (facts : S → Device) (region : Range) (old new : Edit S)
+    (before : Device) (reply : Reply) (after : Device) : Type 0 where
   pub stays : Stays facts (faults_of by_source reply) old new
   pub calls : Calls (edit_calls region.size old) (faults_of by_device reply) before after
-  pub effect : IsReply facts old reply (IsTrue before.honest) (bytes_in region before.content) (bytes_in region after.content)
+  pub effect : IsReply facts old reply (IsTrue before.honest) (bytes_in region before.content)
+      (bytes_in region after.content)
 
--- edits one after the other, each from the state that the one before it has left
-abbrev pub Run : {S : Type 0} → (S → Device) → Range → List (Edit S) → List (Edit S) → List Reply → Device → Device → Type 0
+-- consecutive edits of a region
+abbrev pub Run : {S : Type 0} → (S → Device) → Range → List (Edit S) → List (Edit S) → List Reply
+    → Device → Device → Type 0
 Run facts region [] [] [] before after = after ≡ before
-Run facts region (old ∷ olds) (new ∷ news) (reply ∷ others) before after = (mid : Device) × Step facts region old new before reply mid × Run facts region olds news others mid after
+Run facts region (old ∷ olds) (new ∷ news) (reply ∷ others) before after = (mid : Device)
+    × Step facts region old new before reply mid × Run facts region olds news others mid after
 Run facts region olds news others before after = ⊥

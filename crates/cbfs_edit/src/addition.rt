@@ -1,5 +1,7 @@
 //! The addition of a component.
-ghost use Rattle.std.specs.Prelude.{ℕ, List, ◌≡◌, ◌≢◌, ◌⊎◌, ◌+◌, ◌/◌, ◌%◌, ◌<◌, ◌≤◌, length, Err, IsTrue, IfOk, IfErr, IfSome, IsErrOf, OnOk, OnErr, option_copied};
+ghost use Rattle.std.specs.Prelude.{ℕ, List, ◌≡◌, ◌≢◌, ◌⊎◌, ◌+◌, ◌/◌, ◌%◌, ◌<◌, ◌≤◌, length, Err};
+ghost use Rattle.std.specs.Prelude.{IsTrue, IfOk, IfErr, IfSome, IsErrOf, OnOk, OnErr};
+ghost use Rattle.std.specs.Prelude.{option_copied};
 ghost use Rattle.std.specs.List.{list_any};
 ghost use Rattle.flash_format.specs.Entry.{is_nul};
 ghost use Rattle.flash_format.specs.Made.{hash_len};
@@ -7,8 +9,12 @@ ghost use Rattle.flash_device.specs.Device.{overwritten, Reads, faults_told};
 ghost use Rattle.flash_device.specs.Pages as copies;
 ghost use Rattle.flash_device.specs.Pages.{HasChanged, OnHonestIn};
 ghost use Rattle.flash_device.specs.Regions.{LiesIn};
-ghost use Rattle.cbfs_edit.specs.Changes.{OnHonestChange, HasCopied, AddLeavesBefore, AddLeavesWhole, IsInsertStop, written_to, by_device, by_source};
-ghost use Rattle.cbfs_edit.specs.Additions.{added, added_to, addition_in, digest_of, is_bad_name, is_bad_type, component_of_label, new_component, own_fault, placed_of, wanted_for};
+ghost use Rattle.cbfs_edit.specs.Changes.{OnHonestChange, HasCopied, AddLeavesBefore};
+ghost use Rattle.cbfs_edit.specs.Changes.{AddLeavesWhole, IsInsertStop, written_to, by_device};
+ghost use Rattle.cbfs_edit.specs.Changes.{by_source};
+ghost use Rattle.cbfs_edit.specs.Additions.{added, added_to, addition_in, digest_of, is_bad_name};
+ghost use Rattle.cbfs_edit.specs.Additions.{is_bad_type, component_of_label, new_component};
+ghost use Rattle.cbfs_edit.specs.Additions.{own_fault, placed_of, wanted_for};
 ghost use Rattle.cbfs_edit.specs.Places.{Fits};
 
 use crate::fault::EditFault;
@@ -20,36 +26,37 @@ use flash_device::{CopyFault, Flash, Nobody, Paged, Region, Source};
 use flash_format::{Algorithm, Digest, Meta, meta_len};
 use sha2::{Sha256, Sha512};
 
-/// The digest that is stored beside a content.
+/// The digest to store with a content.
 #[derive(Clone, Copy)]
 pub enum HashChoice {
-    /// None is stored.
+    /// No digest.
     Plain,
-    /// The digest of SHA-256.
+    /// SHA-256.
     Sha256,
-    /// The digest of SHA-512.
+    /// SHA-512.
     Sha512,
 }
 
-/// Where a new component stands, counted from the region's start.
+/// The position of a new component, relative to the region's start.
 #[derive(Clone, Copy, Debug, PartialEq, Eq)]
 pub struct Placed {
-    /// Where its head begins, a multiple of 64.
+    /// The start of the header, a multiple of 64.
     pub header: u64,
-    /// Where its content begins.
+    /// The start of the content.
     pub content: u64,
 }
 
-/// What is stored of a component beside its content.
+/// The stored properties of a component except its content.
 #[derive(Clone, Copy)]
 pub struct Label<'a> {
     pub name: &'a [u8],
-    /// The type.
+    /// The CBFS type.
     pub kind: u32,
     pub hash: HashChoice,
 }
 
-/// Copies the whole source to a place, and answers the digest that is to be stored of it, taken in the same pass.
+/// Copies the whole source to an offset, and returns the digest to store, computed in the same
+/// pass.
 #[tactic(auto, unfolding(cbfs_walk::specs::Hashes::sha256_of, cbfs_walk::specs::Hashes::sha512_of))]
 fn copy_content<F: Flash, S: Source>(
     paged: &mut Paged<F>,
@@ -61,10 +68,12 @@ fn copy_content<F: Flash, S: Source>(
     requires region { LiesIn region (F.facts paged.old.device).content }
     requires inside { at + length (S.facts source.old).content ≤ region.size }
 
-    ensures after { HasCopied F.facts region at paged.old paged.new (S.facts source.old) (S.facts source.new) result }
-    ensures digest_len { IfOk result (λ digest. (content : List ℕ) → hash_len digest ≡ hash_len (digest_of hash content)) }
+    ensures after { HasCopied F.facts region at paged.old paged.new (S.facts source.old)
+        (S.facts source.new) result }
+    ensures digest_len { IfOk result (λ digest.
+        (content : List ℕ) → hash_len digest ≡ hash_len (digest_of hash content)) }
 
-    // From an honest source, whatever the device.
+    // For an honest source, on any device.
     ensures digest { IsTrue (S.facts source.old).honest →
         IfOk result (λ digest. digest ≡ digest_of hash (S.facts source.old).content) }
 {
@@ -86,7 +95,7 @@ fn copy_content<F: Flash, S: Source>(
     }
 }
 
-/// The description of a component.
+/// Returns the description of a component.
 fn meta_of<'a>(
     name: &'a [u8],
     kind: u32,
@@ -118,10 +127,11 @@ fn meta_of<'a>(
     }
 }
 
-/// What a place is looked for, with so many bytes of content.
+/// Returns the requested placement for content of the given length.
 fn wanted_of(label: &Label<'_>, len: u64, spot: Spot) -> Wanted
     requires { length label.now.name.now ≤ 127 }
-    ensures { (content : List ℕ) → len ≡ length content → result ≡ wanted_for (component_of_label label.now content) spot }
+    ensures { (content : List ℕ) → len ≡ length content
+        → result ≡ wanted_for (component_of_label label.now content) spot }
 {
     Wanted {
         metadata_len: meta_len(label.name.len(), attribute_len(label.hash)) as u64,
@@ -142,17 +152,19 @@ fn insert<F: Flash, S: Source>(
     requires region { LiesIn region (F.facts paged.old.device).content }
     requires fits { Fits wanted region.size place }
     requires name { length label.now.name.now ≤ 127 }
-    requires wanted { wanted ≡ wanted_for (component_of_label label.now (S.facts source.old).content) wanted.spot }
+    requires wanted { wanted
+        ≡ wanted_for (component_of_label label.now (S.facts source.old).content) wanted.spot }
 
-    ensures after { HasChanged F.facts region (region.size / 4096 + region.size / 4096 + 6) (faults_told copies.by_device result)
-        paged.old paged.new }
-    ensures source { Reads ((length (S.facts source.old).content + 4095) / 4096) (faults_told copies.by_source result)
-        (S.facts source.old) (S.facts source.new) }
+    ensures after { HasChanged F.facts region (region.size / 4096 + region.size / 4096 + 6)
+        (faults_told copies.by_device result) paged.old paged.new }
+    ensures source { Reads ((length (S.facts source.old).content + 4095) / 4096)
+        (faults_told copies.by_source result) (S.facts source.old) (S.facts source.new) }
     ensures no_output { IsErrOf result CopyFault.Output → ⊥ }
 
     // On an honest device.
-    ensures added { OnHonestChange F.facts region paged.old paged.new (λ x y. IsTrue (S.facts source.old).honest →
-        OnOk result (y ≡ added x (component_of_label label.now (S.facts source.old).content) place)) }
+    ensures added { OnHonestChange F.facts region paged.old paged.new (λ x y.
+        IsTrue (S.facts source.old).honest → OnOk result
+        (y ≡ added x (component_of_label label.now (S.facts source.old).content) place)) }
     ensures stopped { OnHonestChange F.facts region paged.old paged.new (λ x y. OnErr result
         (IsInsertStop place.run (written_to region.size wanted.len place)
         ((IsErrOf result CopyFault.Source → ⊥) × (IsTrue (S.facts source.old).honest →
@@ -168,7 +180,7 @@ fn insert<F: Flash, S: Source>(
     Ok(())
 }
 
-/// The first refusal for which no device is looked at.
+/// Returns the first error that depends on no device.
 fn own_fault(name: &[u8], kind: u32, spot: Spot) -> Option<EditFault>
     ensures { result ≡ own_fault name.now kind spot }
 {
@@ -184,7 +196,7 @@ fn own_fault(name: &[u8], kind: u32, spot: Spot) -> Option<EditFault>
     }
 }
 
-/// Whether the name is empty, has more than 127 bytes, or has a NUL.
+/// Returns whether the name is empty, exceeds 127 bytes, or contains a NUL.
 fn is_bad_name(name: &[u8]) -> bool
     ensures { result ≡ is_bad_name name.now }
 {
@@ -197,14 +209,14 @@ fn has_nul(name: &[u8]) -> bool
     name.iter().any(|byte| *byte == 0)
 }
 
-/// Whether an entry of the type is free space.
+/// Returns whether the type marks free space.
 fn is_bad_type(kind: u32) -> bool
     ensures { result ≡ is_bad_type kind }
 {
     kind == 0 || kind == 0xffff_ffff
 }
 
-/// How many bytes the attribute has that stores the digest, whatever the content.
+/// Returns the length of the digest's attribute, which is independent of the content.
 #[tactic(auto, unfolding(cbfs_walk::specs::Hashes::sha256_of, cbfs_walk::specs::Hashes::sha512_of))]
 fn attribute_len(hash: HashChoice) -> usize
     ensures is { (content : List ℕ) → result ≡ hash_len (digest_of hash content) }
@@ -217,16 +229,17 @@ fn attribute_len(hash: HashChoice) -> usize
     }
 }
 
-/// Adds a component whose content is the whole source, and answers where it stands.
+/// Adds a component with the whole source as content, and returns its position.
 ///
-/// It is put into the first free space that has room for it, at the least place there that the spot allows; an empty
-/// entry each is left of the free space before it and after it. Of the region's last four bytes those after the content's
-/// end are kept; only content with a fixed place reaches them.
+/// The component occupies the first free space with sufficient room, at the least allowed place.
+/// The remaining free space becomes an empty entry before and after the component. The region's
+/// last four bytes remain after the content's end; only content at a fixed place reaches them.
 ///
-/// The refusals come in this order: a bad name, a bad type, a bad alignment, the region's size, no entry at its start, the
-/// first damaged entry, a component that has the name already, no space. A fault of the device or the source comes
-/// whenever one refuses a call, and only that may leave a change: after a fault of the source the components are those of
-/// before; after one of the device those, or those with the whole new one.
+/// The order of errors is: invalid name, invalid type, invalid alignment, invalid region size, no
+/// entry at the region's start, first damaged entry, existing name, no space. A device or source
+/// fault can occur at any call, and only such a fault can leave a change. After a source fault, the
+/// components are the same as before. After a device fault, they are the same, or include the
+/// complete new component.
 pub fn add<F: Flash, S: Source>(
     paged: &mut Paged<F>,
     region: Region,
@@ -238,33 +251,38 @@ pub fn add<F: Flash, S: Source>(
 ) -> Result<Placed, EditFault>
     requires { LiesIn region (F.facts paged.old.device).content }
 
-    // On any device, from any source.
-    ensures after { HasChanged F.facts region (region.size / 16 + region.size / 2048 + 7) (faults_told by_device result) paged.old paged.new }
-    ensures source { Reads (length (S.facts source.old).content / 4096 + 1) (faults_told by_source result)
-        (S.facts source.old) (S.facts source.new) }
+    // On any device, for any source.
+    ensures after { HasChanged F.facts region (region.size / 16 + region.size / 2048 + 7)
+        (faults_told by_device result) paged.old paged.new }
+    ensures source { Reads (length (S.facts source.old).content / 4096 + 1)
+        (faults_told by_source result) (S.facts source.old) (S.facts source.new) }
 
-    // What the words alone refuse is refused without a call.
+    // Invalid arguments cause an error before the first call.
     ensures words { IfSome (own_fault name.now kind spot) (λ fault.
         (result ≡ Err fault) × (paged.new ≡ paged.old) × (source.new ≡ source.old)) }
 
-    // On an honest device, from any source.
+    // On an honest device, for any source.
     ensures answer { OnHonestIn F.facts paged.old.device region (λ x.
-        IsErrOf result EditFault.Device ⊎ (IsErrOf result EditFault.Source
-        ⊎ (result ≡ placed_of (addition_in x (new_component name.now kind hash (S.facts source.old).content) spot)))) }
-    ensures refused { IsTrue (F.facts paged.old.device).honest → IfErr result (λ fault. fault ≢ EditFault.Device →
-        fault ≢ EditFault.Source → (F.facts paged.new.device).content ≡ (F.facts paged.old.device).content) }
-    ensures before { OnHonestChange F.facts region paged.old paged.new (λ x y. IsErrOf result EditFault.Source →
-        AddLeavesBefore x (new_component name.now kind hash (S.facts source.old).content) spot y) }
+        IsErrOf result EditFault.Device ⊎ (IsErrOf result EditFault.Source ⊎ (result ≡ placed_of
+        (addition_in x (new_component name.now kind hash (S.facts source.old).content) spot)))) }
+    ensures refused { IsTrue (F.facts paged.old.device).honest
+        → IfErr result (λ fault. fault ≢ EditFault.Device → fault ≢ EditFault.Source
+        → (F.facts paged.new.device).content ≡ (F.facts paged.old.device).content) }
+    ensures before { OnHonestChange F.facts region paged.old paged.new (λ x y.
+        IsErrOf result EditFault.Source → AddLeavesBefore x
+        (new_component name.now kind hash (S.facts source.old).content) spot y) }
 
-    // On an honest device, from an honest source.
-    ensures added { OnHonestChange F.facts region paged.old paged.new (λ x y. IsTrue (S.facts source.old).honest →
-        OnOk result (y ≡ added_to x (new_component name.now kind hash (S.facts source.old).content) spot)) }
-    ensures image { OnHonestIn F.facts paged.old.device region (λ x. IsTrue (S.facts source.old).honest → OnOk result
-        ((F.facts paged.new.device).content ≡ overwritten (F.facts paged.old.device).content region.start
+    // On an honest device, for an honest source.
+    ensures added { OnHonestChange F.facts region paged.old paged.new (λ x y.
+        IsTrue (S.facts source.old).honest → OnOk result
+        (y ≡ added_to x (new_component name.now kind hash (S.facts source.old).content) spot)) }
+    ensures image { OnHonestIn F.facts paged.old.device region (λ x.
+        IsTrue (S.facts source.old).honest → OnOk result ((F.facts paged.new.device).content
+        ≡ overwritten (F.facts paged.old.device).content region.start
         (added_to x (new_component name.now kind hash (S.facts source.old).content) spot))) }
-    ensures stopped { OnHonestChange F.facts region paged.old paged.new (λ x y. IsTrue (S.facts source.old).honest →
-        IsErrOf result EditFault.Device →
-        AddLeavesWhole x (new_component name.now kind hash (S.facts source.old).content) spot y) }
+    ensures stopped { OnHonestChange F.facts region paged.old paged.new (λ x y.
+        IsTrue (S.facts source.old).honest → IsErrOf result EditFault.Device
+        → AddLeavesWhole x (new_component name.now kind hash (S.facts source.old).content) spot y) }
 {
     paged.places_fit();
     if let Some(fault) = own_fault(name, kind, spot) {

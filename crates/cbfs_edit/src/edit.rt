@@ -12,36 +12,36 @@ use crate::place::Spot;
 use crate::removal::remove;
 use flash_device::{Flash, Paged, Region, Source};
 
-/// A change of a region.
+/// An edit of a region.
 #[derive(Drop)]
 pub enum Edit<'a, S> {
-    /// A component whose content is the whole source is added, as by `add`.
+    /// Adds a component with the whole source as content, by `add`.
     Add {
         name: &'a [u8],
-        /// The type.
+        /// The CBFS type.
         kind: u32,
         hash: HashChoice,
         spot: Spot,
         source: S,
     },
-    /// The first component of the name is removed, as by `remove`.
+    /// Removes the first component with the name, by `remove`.
     Remove {
         name: &'a [u8],
     },
 }
 
-/// What an edit has answered.
+/// The reply to an edit.
 #[derive(Clone, Copy, Debug, PartialEq, Eq)]
 pub enum Reply {
-    /// Where the component has been added.
+    /// The position of the added component.
     Placed(Placed),
-    /// Where the component was, with the free space that touched it.
+    /// The range of the removed component, with the adjacent free space.
     Freed(Freed),
     Refused(EditFault),
 }
 
-/// The edits in order, each with its reply. One that is refused, or stopped by the device or by its source, doesn't stop
-/// the later ones.
+/// Applies the edits in order, and returns the replies. An error or fault of an edit does not stop
+/// the later edits.
 pub fn apply_all<F: Flash, S: Source>(
     paged: &mut Paged<F>,
     region: Region,
@@ -51,24 +51,27 @@ pub fn apply_all<F: Flash, S: Source>(
     requires region { LiesIn region (F.facts paged.old.device).content }
     requires same_length { length edits.old ≡ length replies.old }
 
-    // On any device, from any sources: no more calls than the edits together, and at most one refused call for each.
+    // On any device, for any sources: at most the sum of the edits' calls, and at most one failed
+    // call per edit.
     ensures after { HasChanged F.facts region (sum_by (edit_calls region.size) edits.old)
         (sum_by (faults_of by_device) replies.new) paged.old paged.new }
-    ensures run { Run S.facts region edits.old edits.new replies.new (F.facts paged.old.device) (F.facts paged.new.device) }
+    ensures run { Run S.facts region edits.old edits.new replies.new (F.facts paged.old.device)
+        (F.facts paged.new.device) }
 {
     for i in 0..edits.len() {
         replies[i] = apply(paged, region, &mut edits[i]);
     }
 }
 
-/// One edit, with its reply.
+/// Applies an edit, and returns its reply.
 fn apply<F: Flash, S: Source>(paged: &mut Paged<F>, region: Region, edit: &mut Edit<'_, S>) -> Reply
     requires { LiesIn region (F.facts paged.old.device).content }
 
-    // On any device, from any source.
-    ensures after { HasChanged F.facts region (edit_calls region.size edit.old) (faults_of by_device result)
-        paged.old paged.new }
-    ensures step { Step S.facts region edit.old edit.new (F.facts paged.old.device) result (F.facts paged.new.device) }
+    // On any device, for any source.
+    ensures after { HasChanged F.facts region (edit_calls region.size edit.old)
+        (faults_of by_device result) paged.old paged.new }
+    ensures step { Step S.facts region edit.old edit.new (F.facts paged.old.device) result
+        (F.facts paged.new.device) }
 {
     match edit {
         Edit::Add {

@@ -1,4 +1,4 @@
-//! Why an edit is refused.
+//! The errors of edits.
 ghost use Rattle.std.specs.Prelude.{◌≡◌};
 ghost use Rattle.cbfs_edit.specs.Removals.{edit_fault_of};
 ghost use Rattle.cbfs_edit.specs.declared.fault.EditFault.TheVariants.{Device};
@@ -7,36 +7,36 @@ use cbfs_walk::WalkFault;
 use flash_device::FlashFault;
 use flash_format::DamageKind;
 
-/// Why an edit is refused. The numbers are those of the refusals that the commands print. After `Device` the
-/// components are those of before or those of after, after `Source` those of before; after any other refusal the device is
-/// as it was.
+/// The errors of edits, with the numbers of the printed errors. After `Device`, the components are
+/// the same as before or as after the whole edit; after `Source`, as before. Any other error leaves
+/// the device unchanged.
 #[derive(Clone, Copy, Debug, PartialEq, Eq)]
 pub enum EditFault {
-    /// The device refused a call (1).
+    /// Device I/O error (1).
     Device,
-    /// The source of the content refused a read (3).
+    /// Read error of the content's source (3).
     Source,
-    /// The region's size is 0 or no multiple of 64 (7).
+    /// Region size 0, or not a multiple of 64 (7).
     RegionShape,
-    /// No entry stands at the region's start (8).
+    /// No entry at the region's start (8).
     NotCbfs,
-    /// The entry at this place, counted from the region's start, fails a check (9): the first that it fails.
+    /// Damaged entry at this offset from the region's start, by the first failed check (9).
     Damaged { at: u64, kind: DamageKind },
-    /// No component has the name (10).
+    /// No component with the name (10).
     NotFound,
-    /// A component has the name already (11).
+    /// Existing component with the name (11).
     Exists,
-    /// No free space has room for the component at a place that its spot allows (12).
+    /// No free space with room for the component at an allowed place (12).
     NoSpace,
-    /// The name is empty, has more than 127 bytes, or has a NUL (14).
+    /// Empty name, name of more than 127 bytes, or NUL in the name (14).
     BadName,
-    /// The type is 0 or 0xffffffff, which mark free space (15).
+    /// Type 0 or 0xffffffff, the types of free space (15).
     BadType,
-    /// The content shall begin at a multiple of 0 (16).
+    /// Alignment 0 (16).
     BadAlign,
 }
 
-/// A call of the device failed.
+/// Converts a device fault.
 impl From<FlashFault> for EditFault {
     ghost from_gives = { λ _ fault. fault ≡ Device };
 
@@ -45,7 +45,7 @@ impl From<FlashFault> for EditFault {
     }
 }
 
-/// A walk has ended.
+/// Converts the error of a walk.
 impl From<WalkFault> for EditFault {
     ghost from_gives = { λ walk_fault fault. fault ≡ edit_fault_of walk_fault };
 

@@ -1,5 +1,6 @@
 //! The formatting of a region.
-ghost use Rattle.std.specs.Prelude.{◌≡◌, ◌≢◌, ◌⊎◌, ◌+◌, ◌/◌, ◌<◌, Ok, Err, if◌then◌else◌, IsTrue, IsErrOf, IfErr, OnOk};
+ghost use Rattle.std.specs.Prelude.{◌≡◌, ◌≢◌, ◌⊎◌, ◌+◌, ◌/◌, ◌<◌, Ok, Err, if◌then◌else◌, IsTrue};
+ghost use Rattle.std.specs.Prelude.{IsErrOf, IfErr, OnOk};
 ghost use Rattle.flash_device.specs.Device.{faults_told};
 ghost use Rattle.flash_device.specs.Pages.{HasChanged};
 ghost use Rattle.flash_device.specs.Regions.{LiesIn};
@@ -13,24 +14,29 @@ use crate::group::CellRange;
 use crate::write::write_empty_entry;
 use flash_device::{Flash, Paged, Region};
 
-/// Makes the whole region one empty entry, whatever it holds, damaged or no CBFS at all. Its last four bytes are kept.
+/// Formats the whole region as a single empty entry, regardless of its content. The last four bytes
+/// remain.
 ///
-/// It reads nothing. It is refused by the region's size, or by the device: then the region is as it was, or it is one
-/// free cell, whose last four bytes are kept.
+/// Formatting reads nothing. Its errors are an invalid region size and device faults. After a fault
+/// the region is unchanged, or a single free cell with the same last four bytes.
 pub fn format<F: Flash>(paged: &mut Paged<F>, region: Region) -> Result<(), EditFault>
     requires { LiesIn region (F.facts paged.old.device).content }
 
     // On any device.
-    ensures after { HasChanged F.facts region (region.size / 4096 + 2) (faults_told by_device result) paged.old paged.new }
+    ensures after { HasChanged F.facts region (region.size / 4096 + 2)
+        (faults_told by_device result) paged.old paged.new }
     ensures answer { IsErrOf result EditFault.Device
         ⊎ (result ≡ (if has_bad_size region.size then Err EditFault.RegionShape else Ok tt)) }
 
     // On an honest device.
-    ensures formatted { OnHonestChange F.facts region paged.old paged.new (λ x y. OnOk result (y ≡ formatted x)) }
-    ensures refused { IsTrue (F.facts paged.old.device).honest → IfErr result (λ fault. fault ≢ EditFault.Device →
-        (F.facts paged.new.device).content ≡ (F.facts paged.old.device).content) }
-    ensures stopped { OnHonestChange F.facts region paged.old paged.new (λ x y. IsErrOf result EditFault.Device →
-        ((y ≡ x) ⊎ IsOneFreeCell y) × (last_four y ≡ last_four x)) }
+    ensures formatted { OnHonestChange F.facts region paged.old paged.new
+        (λ x y. OnOk result (y ≡ formatted x)) }
+    ensures refused { IsTrue (F.facts paged.old.device).honest
+        → IfErr result (λ fault. fault ≢ EditFault.Device
+        → (F.facts paged.new.device).content ≡ (F.facts paged.old.device).content) }
+    ensures stopped { OnHonestChange F.facts region paged.old paged.new (λ x y.
+        IsErrOf result EditFault.Device
+        → ((y ≡ x) ⊎ IsOneFreeCell y) × (last_four y ≡ last_four x)) }
 {
     paged.places_fit();
     let end = region.size();

@@ -1,5 +1,6 @@
-//! The search for the group of cells that a removal takes.
-ghost use Rattle.std.specs.Prelude.{◌≡◌, ◌⊎◌, ℕ, ◌+◌, ◌/◌, ◌<◌, ◌≤◌, List, [], ◌∷◌, IfOk, IfErr, IsErrOf};
+//! The search for the group of cells of a removal.
+ghost use Rattle.std.specs.Prelude.{◌≡◌, ◌⊎◌, ℕ, ◌+◌, ◌/◌, ◌<◌, ◌≤◌, List, [], ◌∷◌, IfOk, IfErr};
+ghost use Rattle.std.specs.Prelude.{IsErrOf};
 ghost use Rattle.flash_device.specs.Device.{faults_told};
 ghost use Rattle.flash_device.specs.Pages.{HasRead, HasAnswered, OnHonestIn};
 ghost use Rattle.flash_device.specs.Regions.{LiesIn};
@@ -13,28 +14,30 @@ use crate::fault::EditFault;
 use cbfs_walk::{Cell, Step, Walk, cells_stand_in_their_image, name_is};
 use flash_device::{Flash, FlashFault, Paged, Region};
 
-/// Neighbouring cells of a region, from `start` up to `end`: both are counted from the region's start, and multiples of 64.
+/// Adjacent cells of a region. Both offsets are relative to the region's start, and multiples of
+/// 64.
 #[derive(Clone, Copy, Debug, PartialEq, Eq)]
 pub struct CellRange {
     pub start: u64,
     pub end: u64,
 }
 
-/// What a removal makes free space: a component, and the free cells that touch it.
+/// The range freed by a removal: a component, and the adjacent free cells.
 pub type Freed = CellRange;
 
-/// How far the search has come.
+/// The state of the search.
 #[derive(Clone, Copy)]
 pub enum Search {
-    /// No component of the name yet. The free cells right before the walk's place begin here.
+    /// No component with the name yet. `start` is the start of the free cells directly before the
+    /// walk's offset.
     Looking { start: u64 },
-    /// The component with free cells on both sides, up to the walk's place.
+    /// The component with the free cells on both ends, up to the walk's offset.
     Growing(CellRange),
     Whole(CellRange),
 }
 
-/// The first component of the name with the free cells that touch it. The walk goes to the region's end, so that a
-/// damage anywhere refuses it.
+/// Finds the first component with the name, and the adjacent free cells. The walk covers the whole
+/// region, and any damage is an error.
 pub fn find_group<F: Flash>(
     paged: &mut Paged<F>,
     region: Region,
@@ -43,7 +46,8 @@ pub fn find_group<F: Flash>(
     requires { LiesIn region (F.facts paged.old.device).content }
 
     // On any device.
-    ensures after { HasRead F.facts (region.size / 16 + 1) (faults_told by_device result) paged.old paged.new }
+    ensures after { HasRead F.facts (region.size / 16 + 1) (faults_told by_device result)
+        paged.old paged.new }
     ensures no_source { IsErrOf result EditFault.Source → ⊥ }
     ensures group { IfOk result (λ group. IsCellRange group region.size) }
 
@@ -61,7 +65,7 @@ pub fn find_group<F: Flash>(
     }
 }
 
-/// The search after a cell: it comes to the same.
+/// Advances the search over a cell. The result for the remaining cells is the same.
 #[tactic(auto, unfolding(crate::specs::Removals::by_rows))]
 fn pass<F: Flash>(
     paged: &mut Paged<F>,
@@ -76,8 +80,9 @@ fn pass<F: Flash>(
 
     ensures after { HasAnswered F.facts 1 paged.old paged.new result }
     ensures before { IfOk result (IsBefore (cell.now.at + cell.now.span)) }
-    ensures passed { OnHonestIn F.facts paged.old.device region (λ x. StandsIn x cell.now →
-        IfOk result (λ next. (cells : List (List ℕ)) → group_by name.now search cell.now.at (cell_in x cell.now ∷ cells)
+    ensures passed { OnHonestIn F.facts paged.old.device region (λ x.
+        StandsIn x cell.now → IfOk result (λ next.
+        (cells : List (List ℕ)) → group_by name.now search cell.now.at (cell_in x cell.now ∷ cells)
         ≡ group_by name.now next (cell.now.at + cell.now.span) cells)) }
 {
     paged.places_fit();
@@ -106,11 +111,12 @@ fn pass<F: Flash>(
     }
 }
 
-/// What the search has found where the cells end.
+/// Returns the result of the search at the end of the cells.
 #[tactic(auto, unfolding(crate::specs::Removals::by_rows))]
 fn group_in(search: Search) -> Result<CellRange, EditFault>
     ensures is { (name : List ℕ) (at : ℕ) → result ≡ group_by name search at [] }
-    ensures group { IfOk result (λ group. (at size : ℕ) → IsBefore at search → at ≤ size → IsCellRange group size) }
+    ensures group { IfOk result (λ group.
+        (at size : ℕ) → IsBefore at search → at ≤ size → IsCellRange group size) }
     ensures fault { IfErr result (λ fault. fault ≡ EditFault.NotFound) }
 {
     match search {

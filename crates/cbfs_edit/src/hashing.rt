@@ -1,24 +1,24 @@
-//! Hashers that are shown what is copied.
+//! Hashers as watchers of a copy.
 ghost use Rattle.std.specs.Prelude.{◌≡◌, ℕ, List, []};
 
 use flash_device::Watch;
 use sha2::Digest;
 
-/// A hasher that is shown what is copied.
+/// A hasher that watches a copy.
 #[derive(Drop)]
 pub struct Hashing<H: Digest> {
     hasher: H,
 }
 
 impl<H: Digest> Hashing<H> {
-    /// One that was shown nothing yet.
+    /// Creates a hasher of no data.
     pub fn new() -> Hashing<H>
         ensures { H.holds result.hasher [] }
     {
         Hashing { hasher: H::new() }
     }
 
-    /// The digest of what it was shown.
+    /// Returns the digest of the watched data.
     pub fn finish(self) -> H::Output
         ensures { (seen : List ℕ) → H.holds self.hasher seen → H.digest_of seen result }
     {

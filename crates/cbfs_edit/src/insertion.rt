@@ -1,19 +1,20 @@
-//! The writes that put a component into a run of free cells.
+//! Writes a component into a run of free cells.
 //!
-//! The header of an empty entry over the whole run is committed first, and what shows the component last, so that whatever is
-//! written between the two commits is free space.
+//! The first commit writes the header of an empty entry over the whole run, and the last commit
+//! shows the component. Hence all bytes written between the two commits are free space.
 ghost use Rattle.std.specs.Prelude.{◌≡◌, ◌⊎◌, ◌-◌, ◌%◌, ◌^◌, ◌<◌, ◌≤◌, length};
 ghost use Rattle.flash_format.specs.Made.{header_length, metadata_of, described_len};
 ghost use Rattle.flash_device.specs.Regions.{LiesIn};
 ghost use Rattle.cbfs_edit.specs.Changes.{HasWrittenIn};
-ghost use Rattle.cbfs_edit.specs.Additions.{HasRoom, IsUnfinished, with_bound, with_component, with_metadata, held_back, shown_by};
+ghost use Rattle.cbfs_edit.specs.Additions.{HasRoom, IsUnfinished, with_bound, with_component};
+ghost use Rattle.cbfs_edit.specs.Additions.{with_metadata, held_back, shown_by};
 
 use crate::place::Place;
 use crate::write::{commit_in, write_in};
 use flash_device::{Flash, FlashFault, Paged, Region};
 use flash_format::{HEADER_LENGTH, LONGEST_METADATA, Meta, empty_header, write_meta};
 
-/// How many bytes of the component's metadata the last commit writes.
+/// Returns the number of metadata bytes in the last commit.
 fn held_back(place: Place) -> usize
     ensures { result ≡ held_back place }
 {
@@ -24,7 +25,7 @@ fn held_back(place: Place) -> usize
     }
 }
 
-/// Writes what stands before the content, but for the bytes that the last commit writes.
+/// Writes the metadata except the bytes of the last commit.
 fn write_metadata<F: Flash>(
     paged: &mut Paged<F>,
     region: Region,
@@ -42,7 +43,7 @@ fn write_metadata<F: Flash>(
     write_in(paged, region, place.header + skip as u64, &metadata[skip..])
 }
 
-/// Writes the header of the empty entry after the component, where there is one.
+/// Writes the header of the empty entry after the component, if any.
 fn write_bound<F: Flash>(
     paged: &mut Paged<F>,
     region: Region,
@@ -63,7 +64,8 @@ fn write_bound<F: Flash>(
     write_in(paged, region, end, &header)
 }
 
-/// What the last commit writes: the begin of the component, or the header of the empty entry before it.
+/// Returns the bytes of the last commit: the start of the component, or the header of the empty
+/// entry before the component.
 fn shown_by(place: Place, metadata: &[u8]) -> [u8; HEADER_LENGTH]
     requires metadata { header_length ≤ length metadata.now }
     requires start_aligned { place.run.start % 64 ≡ 0 }
@@ -80,8 +82,8 @@ fn shown_by(place: Place, metadata: &[u8]) -> [u8; HEADER_LENGTH]
     empty_header((place.header - place.run.start) as u32, false)
 }
 
-/// Writes the metadata of the component whose content stands already and the header of the empty entry after it, and commits at
-/// last what shows the component.
+/// Writes the metadata of a component with existing content, and the header of the following empty
+/// entry. The last commit shows the component.
 fn show<F: Flash>(
     paged: &mut Paged<F>,
     region: Region,
@@ -93,7 +95,8 @@ fn show<F: Flash>(
     requires room { HasRoom region.size place end (length metadata.now) }
 
     ensures { HasWrittenIn F.facts region 3 (λ x. with_component x place end metadata.now)
-        (λ x y. (y ≡ with_component x place end metadata.now) ⊎ IsUnfinished place x y) paged.old paged.new result }
+        (λ x y. (y ≡ with_component x place end metadata.now) ⊎ IsUnfinished place x y)
+        paged.old paged.new result }
 {
     write_metadata(paged, region, place, end, metadata)?;
     write_bound(paged, region, place, end)?;
@@ -101,7 +104,7 @@ fn show<F: Flash>(
     commit_in(paged, region, place.run.start, &begin)
 }
 
-/// Writes what stands before a content that stands already, and shows the component.
+/// Writes the metadata before existing content, and shows the component.
 pub fn describe<F: Flash>(
     paged: &mut Paged<F>,
     region: Region,
@@ -115,8 +118,10 @@ pub fn describe<F: Flash>(
     requires gap { meta.now.gap < 64 }
 
     ensures metadata { length (metadata_of meta.now) ≡ described_len meta.now }
-    ensures after { HasWrittenIn F.facts region 3 (λ x. with_component x place end (metadata_of meta.now))
-        (λ x y. (y ≡ with_component x place end (metadata_of meta.now)) ⊎ IsUnfinished place x y) paged.old paged.new result }
+    ensures after { HasWrittenIn F.facts region 3
+        (λ x. with_component x place end (metadata_of meta.now))
+        (λ x y. (y ≡ with_component x place end (metadata_of meta.now)) ⊎ IsUnfinished place x y)
+        paged.old paged.new result }
 {
     let mut metadata = [0; LONGEST_METADATA];
     let n = write_meta(meta, &mut metadata);

@@ -1,8 +1,9 @@
-//! Changes to CBFS regions on a device: components are added and removed, one by one or as a list of edits, and regions
-//! formatted.
+//! Edits of CBFS regions on a device: adds and removes components, individually or as a list of
+//! edits, and formats regions.
 //!
-//! No call takes memory. A change writes the header of one empty entry first, whole or not at all, and fills the rest
-//! after it, so that a device that stops at any call leaves the components of before or those of after.
+//! No call allocates memory. An edit first commits the header of a single empty entry atomically,
+//! and then fills the rest. A device fault at any call leaves the components of before or after the
+//! edit.
 #![tactic(auto)]
 
 mod addition;

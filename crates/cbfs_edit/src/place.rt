@@ -1,6 +1,7 @@
 //! The search for the place of a new component.
 ghost use Rattle.std.specs.Option.{option_or};
-ghost use Rattle.std.specs.Prelude.{◌≡◌, ◌≢◌, ◌⊎◌, ℕ, ◌+◌, ◌/◌, ◌^◌, ◌<◌, ◌≤◌, List, [], ◌∷◌, None, false, nat_lt, if◌then◌else◌, IfOk, IfErr, IfSome, IsErrOf};
+ghost use Rattle.std.specs.Prelude.{◌≡◌, ◌≢◌, ◌⊎◌, ℕ, ◌+◌, ◌/◌, ◌^◌, ◌<◌, ◌≤◌, List, [], ◌∷◌, None};
+ghost use Rattle.std.specs.Prelude.{false, nat_lt, if◌then◌else◌, IfOk, IfErr, IfSome, IsErrOf};
 ghost use Rattle.flash_device.specs.Device.{faults_told};
 ghost use Rattle.flash_device.specs.Pages.{HasRead, HasAnswered, OnHonestIn};
 ghost use Rattle.flash_device.specs.Regions.{LiesIn};
@@ -8,7 +9,8 @@ ghost use Rattle.cbfs_walk.specs.Cells.{IsCellIn, cell_in};
 ghost use Rattle.cbfs_walk.specs.Walks.{StandsIn};
 ghost use Rattle.cbfs_edit.specs.Removals.{IsCellRange};
 ghost use Rattle.cbfs_edit.specs.Changes.{by_device};
-ghost use Rattle.cbfs_edit.specs.Places.{Fits, IsWanted, is_bad_align, limit_of, least_from, place_in, placing_in};
+ghost use Rattle.cbfs_edit.specs.Places.{Fits, IsWanted, is_bad_align, limit_of, least_from};
+ghost use Rattle.cbfs_edit.specs.Places.{place_in, placing_in};
 ghost use Rattle.cbfs_edit.specs.Searches.{IsSurvey, place_by};
 
 use crate::fault::EditFault;
@@ -17,53 +19,54 @@ use crate::write::space_end;
 use cbfs_walk::{Cell, Step, Walk, cells_stand_in_their_image, name_is};
 use flash_device::{Flash, FlashFault, Paged, Region};
 
-/// Where the content of a new component may begin. Places count in bytes from the region's start, wherever the region
-/// stands in its image. The first free space that has room for the component at such a place is taken, and in it the
-/// least such place.
+/// The allowed start of a new component's content. All places are in bytes from the region's start,
+/// independent of the region's offset in the image. The search selects the first free space with
+/// sufficient room at an allowed place, and in it the least such place.
 #[derive(Clone, Copy)]
 pub enum Spot {
-    /// Anywhere. Content keeps clear of the region's last four bytes.
+    /// Anywhere before the region's last four bytes.
     First,
-    /// At a multiple of this number, which is not 0 (`-a`). Content keeps clear of the region's last four bytes.
+    /// At a multiple of a nonzero number (`-a`), before the region's last four bytes.
     Aligned(u32),
-    /// At this place (`-b`). Content may cover the region's last four bytes.
+    /// At a fixed place (`-b`). The content may cover the region's last four bytes.
     Fixed(u32),
 }
 
-/// What a place is looked for.
+/// The requested placement and size.
 #[derive(Clone, Copy)]
 pub struct Wanted {
-    /// How many bytes of metadata stand before the content, besides a gap.
+    /// The length of the metadata before the content, without the gap.
     pub metadata_len: u64,
-    /// How many bytes the content has.
+    /// The length of the content.
     pub len: u64,
-    /// Where the content may begin.
+    /// The allowed start of the content.
     pub spot: Spot,
 }
 
-/// Where a component is put, counted from the region's start.
+/// The place of a component, relative to the region's start.
 #[derive(Clone, Copy)]
 pub struct Place {
-    /// The run of free cells that it is put into.
+    /// The run of free cells for the component.
     pub run: CellRange,
-    /// Where its head begins.
+    /// The start of the header.
     pub header: u64,
-    /// Where its content begins.
+    /// The start of the content.
     pub content: u64,
 }
 
-/// How far the search has come.
+/// The state of the search.
 #[derive(Clone, Copy)]
 pub struct Survey {
-    /// The free cells right before the walk's place.
+    /// The free cells directly before the walk's offset.
     pub row: CellRange,
-    /// Whether a component before it has the name.
+    /// Whether an earlier component has the name.
     pub exists: bool,
-    /// The first place in the runs before those cells.
+    /// The first place in the runs before `row`.
     pub place: Option<Place>,
 }
 
-/// The place of a new component of the name. The walk goes to the region's end, so that a damage anywhere refuses it.
+/// Finds the place of a new component. The walk covers the whole region, and any damage is an
+/// error.
 pub fn find_place<F: Flash>(
     paged: &mut Paged<F>,
     region: Region,
@@ -74,7 +77,8 @@ pub fn find_place<F: Flash>(
     requires wanted { IsWanted wanted }
 
     // On any device.
-    ensures after { HasRead F.facts (region.size / 16 + 1) (faults_told by_device result) paged.old paged.new }
+    ensures after { HasRead F.facts (region.size / 16 + 1) (faults_told by_device result)
+        paged.old paged.new }
     ensures no_source { IsErrOf result EditFault.Source → ⊥ }
     ensures fits { IfOk result (Fits wanted region.size) }
 
@@ -97,7 +101,7 @@ pub fn find_place<F: Flash>(
     }
 }
 
-/// The search after a cell: it comes to the same.
+/// Advances the search over a cell. The result for the remaining cells is the same.
 #[tactic(auto, unfolding(flash_format::specs::Components::components_from, crate::specs::Removals::by_rows))]
 fn pass<F: Flash>(
     paged: &mut Paged<F>,
@@ -113,8 +117,9 @@ fn pass<F: Flash>(
 
     ensures after { HasAnswered F.facts 1 paged.old paged.new result }
     ensures before { IfOk result (IsSurvey wanted region.size (cell.now.at + cell.now.span)) }
-    ensures passed { OnHonestIn F.facts paged.old.device region (λ x. StandsIn x cell.now →
-        IfOk result (λ next. (cells : List (List ℕ)) → place_by name.now wanted region.size survey (cell_in x cell.now ∷ cells)
+    ensures passed { OnHonestIn F.facts paged.old.device region (λ x. StandsIn x cell.now
+        → IfOk result (λ next. (cells : List (List ℕ))
+        → place_by name.now wanted region.size survey (cell_in x cell.now ∷ cells)
         ≡ place_by name.now wanted region.size next cells)) }
 {
     paged.places_fit();
@@ -139,7 +144,7 @@ fn pass<F: Flash>(
     })
 }
 
-/// What the search has found where the cells end.
+/// Returns the result of the search at the end of the cells.
 fn answer_of(wanted: Wanted, region: Region, survey: Survey) -> Result<Place, EditFault>
     requires { IsSurvey wanted region.size survey.row.end survey }
 
@@ -157,12 +162,12 @@ fn answer_of(wanted: Wanted, region: Region, survey: Survey) -> Result<Place, Ed
     }
 }
 
-/// The first place so far, where the row of free cells ends, which may be empty.
+/// Returns the first place at the end of a possibly empty row of free cells.
 fn close(wanted: Wanted, region: Region, survey: Survey) -> Option<Place>
     requires { IsSurvey wanted region.size survey.row.end survey }
 
-    ensures is { result ≡ option_or survey.place
-        (if nat_lt survey.row.start survey.row.end then place_in wanted region.size survey.row else None) }
+    ensures is { result ≡ option_or survey.place (if nat_lt survey.row.start survey.row.end
+        then place_in wanted region.size survey.row else None) }
     ensures fits { IfSome result (Fits wanted region.size) }
 {
     match survey.place {
@@ -176,8 +181,8 @@ fn close(wanted: Wanted, region: Region, survey: Survey) -> Option<Place>
     }
 }
 
-/// The place in a run: the content at the least allowed place there, and the head at the last multiple of 64 that leaves
-/// room for the metadata before it.
+/// Returns the least allowed place in a run. The header lies at the last multiple of 64 with room
+/// for the metadata.
 fn place_in(wanted: Wanted, region: Region, run: CellRange) -> Option<Place>
     requires wanted { IsWanted wanted }
     requires run { IsCellRange run region.size }
@@ -202,7 +207,7 @@ fn place_in(wanted: Wanted, region: Region, run: CellRange) -> Option<Place>
     })
 }
 
-/// The least place from here on that the spot allows; where it allows none, one before.
+/// Returns the least allowed place from `from` on, or a lower place if the spot allows none.
 fn least_from(spot: Spot, from: u64) -> u64
     requires small { from < 2 ^ 33 }
     requires some { is_bad_align spot ≡ false }
@@ -216,7 +221,7 @@ fn least_from(spot: Spot, from: u64) -> u64
     }
 }
 
-/// Where content ends at the latest, in a run that ends here.
+/// Returns the upper bound of the content's end, in a run with the given end.
 fn limit_of(spot: Spot, region: Region, end: u64) -> u64
     requires { 64 ≤ end }
     ensures { result ≡ limit_of spot region.size end }

@@ -11,14 +11,15 @@ use crate::group::{Freed, find_group};
 use crate::write::write_empty_entry;
 use flash_device::{Flash, Paged, Region};
 
-/// Puts one empty entry in place of the first component of the name and of all free space that touches it, and answers
-/// from where to where it reaches. Other components of the name stay. The last four bytes of the region are kept, and so
-/// is all after the last entry.
+/// Replaces the first component with the name, and all adjacent free space, with a single empty
+/// entry, and returns its range. Other components with the name remain, and so do the region's last
+/// four bytes and all bytes after the last entry.
 ///
-/// It goes through all entries before it writes, so a damaged one anywhere refuses it. The refusals come in this order:
-/// the region's size, no entry at its start, the first damaged entry, no component of the name; a fault of the device
-/// comes whenever the device refuses a call. Only that fault may leave a change: the components are then those of before, or
-/// those of a whole removal, and outside the group nothing has changed.
+/// The walk covers all entries before the first write, and any damaged entry is an error. The order
+/// of errors is: invalid region size, no entry at the region's start, first damaged entry, no
+/// component with the name. A device fault can occur at any call, and only such a fault can leave a
+/// change: the components are then the same as before or as after the whole removal, and all bytes
+/// outside the group are unchanged.
 pub fn remove<F: Flash>(
     paged: &mut Paged<F>,
     region: Region,
@@ -27,7 +28,8 @@ pub fn remove<F: Flash>(
     requires { LiesIn region (F.facts paged.old.device).content }
 
     // On any device.
-    ensures after { HasChanged F.facts region (region.size / 16 + region.size / 4096 + 3) (faults_told by_device result) paged.old paged.new }
+    ensures after { HasChanged F.facts region (region.size / 16 + region.size / 4096 + 3)
+        (faults_told by_device result) paged.old paged.new }
     ensures no_source { IsErrOf result EditFault.Source → ⊥ }
 
     // On an honest device.
@@ -38,8 +40,9 @@ pub fn remove<F: Flash>(
     ensures image { OnHonestIn F.facts paged.old.device region (λ x. IfOk result (λ group.
         (F.facts paged.new.device).content
         ≡ overwritten (F.facts paged.old.device).content region.start (removed x group))) }
-    ensures refused { IsTrue (F.facts paged.old.device).honest → IfErr result (λ fault. fault ≢ EditFault.Device →
-        (F.facts paged.new.device).content ≡ (F.facts paged.old.device).content) }
+    ensures refused { IsTrue (F.facts paged.old.device).honest
+        → IfErr result (λ fault. fault ≢ EditFault.Device
+        → (F.facts paged.new.device).content ≡ (F.facts paged.old.device).content) }
     ensures stopped { OnHonestChange F.facts region paged.old paged.new (λ x y.
         IsErrOf result EditFault.Device → LeavesWhole x name.now y) }
 {

@@ -1,5 +1,6 @@
-//! Writes at places of a region, and one empty entry in place of a group.
-ghost use Rattle.std.specs.Prelude.{◌≡◌, ◌⊎◌, ℕ, List, ◌++◌, ◌+◌, ◌/◌, ◌<◌, ◌≤◌, length, IsTrue, OnOk, OnErr, replicate};
+//! Writes into a region, and a single empty entry in place of a group.
+ghost use Rattle.std.specs.Prelude.{◌≡◌, ◌⊎◌, ℕ, List, ◌++◌, ◌+◌, ◌/◌, ◌<◌, ◌≤◌, length, IsTrue};
+ghost use Rattle.std.specs.Prelude.{OnOk, OnErr, replicate};
 ghost use Rattle.flash_format.specs.Made.{header_length};
 ghost use Rattle.flash_device.specs.Device.{overwritten, SameOutside};
 ghost use Rattle.flash_device.specs.Regions.{LiesIn};
@@ -10,7 +11,7 @@ use crate::group::CellRange;
 use flash_device::{CopyFault, Flash, FlashFault, MemSource, Nobody, Paged, Region, Source, Watch};
 use flash_format::{HEADER_LENGTH, empty_header};
 
-/// Replaces the bytes of a header, whole or not at all.
+/// Replaces a header atomically.
 pub fn commit_in<F: Flash>(
     paged: &mut Paged<F>,
     region: Region,
@@ -27,7 +28,7 @@ pub fn commit_in<F: Flash>(
     paged.commit(region.start() + at, bytes)
 }
 
-/// Writes n times the same byte. Where a write fails, its piece may hold anything.
+/// Writes n copies of a byte. A failed write leaves arbitrary bytes in its piece.
 pub fn fill_in<F: Flash>(
     paged: &mut Paged<F>,
     region: Region,
@@ -38,14 +39,15 @@ pub fn fill_in<F: Flash>(
     requires region { LiesIn region (F.facts paged.old.device).content }
     requires inside { at + n ≤ region.size }
 
-    ensures { HasWrittenIn F.facts region ((n + 4095) / 4096) (λ x. overwritten x at (replicate n byte))
-        (SameOutside at n) paged.old paged.new result }
+    ensures { HasWrittenIn F.facts region ((n + 4095) / 4096)
+        (λ x. overwritten x at (replicate n byte)) (SameOutside at n) paged.old paged.new result }
 {
     paged.places_fit();
     paged.fill(region.start() + at, n, byte)
 }
 
-/// Copies a whole source to a place, in sight of a watcher. Where a write fails, its piece may hold anything.
+/// Copies a whole source to an offset, under a watcher. A failed write leaves arbitrary bytes in
+/// its piece.
 pub fn copy_into<F: Flash, S: Source, W: Watch>(
     paged: &mut Paged<F>,
     region: Region,
@@ -56,9 +58,10 @@ pub fn copy_into<F: Flash, S: Source, W: Watch>(
     requires region { LiesIn region (F.facts paged.old.device).content }
     requires inside { at + length (S.facts source.old).content ≤ region.size }
 
-    ensures after { HasCopied F.facts region at paged.old paged.new (S.facts source.old) (S.facts source.new) result }
+    ensures after { HasCopied F.facts region at paged.old paged.new (S.facts source.old)
+        (S.facts source.new) result }
 
-    // From an honest source, whatever the device.
+    // For an honest source, on any device.
     ensures shown { IsTrue (S.facts source.old).honest → (seen : List ℕ) → W.saw watch.old seen →
         OnOk result (W.saw watch.new (seen ++ (S.facts source.old).content)) }
 {
@@ -67,7 +70,7 @@ pub fn copy_into<F: Flash, S: Source, W: Watch>(
     paged.copy_in_watched(region.start() + at, n, source, watch)
 }
 
-/// Writes a few bytes at a place. A refused write may leave anything in its range.
+/// Writes a few bytes at an offset. A failed write leaves arbitrary bytes in its range.
 pub fn write_in<F: Flash>(
     paged: &mut Paged<F>,
     region: Region,
@@ -88,7 +91,7 @@ pub fn write_in<F: Flash>(
     }
 }
 
-/// Puts one empty entry in place of a group. Its header is committed before anything else is written.
+/// Writes a single empty entry in place of a group. The first commit writes its header.
 pub fn write_empty_entry<F: Flash>(
     paged: &mut Paged<F>,
     region: Region,
@@ -109,7 +112,8 @@ pub fn write_empty_entry<F: Flash>(
     fill_in(paged, region, space, len, 0xff)
 }
 
-/// Where the space of free cells that end here ends: before the region's last four bytes, which are kept.
+/// Returns the end of the erased space of free cells with the given end. The region's last four
+/// bytes remain.
 pub fn space_end(region: Region, end: u64) -> u64
     requires { 64 ≤ end }
     ensures { result ≡ space_end region.size end }

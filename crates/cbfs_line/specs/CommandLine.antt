@@ -1,5 +1,7 @@
--- The line that words make by clap's definition of the command line, and the command that it asks for.
-use Rattle.std.specs.Prelude.{ℕ, Bool, true, false, List, [], ◌∷◌, length, ◌==◌, ◌||◌, nat_lt, Option, Some, None, Result, Ok, Err, option_map, option_and_then, unwrap_or, if◌then◌else◌}
+-- The command line by clap's definition, and the resulting command.
+use Rattle.std.specs.Prelude.{ℕ, Bool, true, false, List, [], ◌∷◌, length, ◌==◌, ◌||◌, nat_lt}
+use Rattle.std.specs.Prelude.{Option, Some, None, Result, Ok, Err, option_map, option_and_then}
+use Rattle.std.specs.Prelude.{unwrap_or, if◌then◌else◌}
 use Rattle.std.specs.Borrow.{Bor}
 use Rattle.std.specs.List.{list_any, slice_split}
 use Rattle.std.specs.Option.{option_map_or}
@@ -24,12 +26,12 @@ use Rattle.cbfs_commands.specs.declared.command.Command.{Command}
 use Rattle.cbfs_commands.specs.declared.refusal.Refusal.{Refusal}
 use Rattle.cbfs_commands.specs.declared.refusal.Refusal.TheVariants as refusals
 
--- clap's error for want of memory, or any other
+-- clap's allocation failure, or any other error of clap
 abbrev pub refusal_by : ErrorKind → Refusal
 refusal_by OutOfMemory = refusals.Memory
 refusal_by _ = refusals.Usage
 
--- what the words say: the image's path, the subcommand, and the options with their texts
+-- the parsed arguments: the image's path, the subcommand, and the options with their values
 pub record Texts : Type 0 where
   pub image : List ℕ
   pub subcommand : List ℕ
@@ -38,72 +40,89 @@ pub record Texts : Type 0 where
 abbrev pub with_image : List ℕ → List ℕ × List Row → Texts
 with_image image found = record { image = image; subcommand = found.0; options = found.1 }
 
--- the texts of the words after the program's name, where clap takes them
+-- the parse of the arguments after the program's name, None if clap refuses the arguments
 abbrev pub texts_of : List (List ℕ) → Option Texts
 texts_of [] = None
 texts_of (image ∷ rest) = option_map (with_image image) (clap.subcommand_of command_line rest)
 
--- the text of an option
+-- the value of an option
 abbrev pub option_text : List ℕ → Texts → Option (List ℕ)
 option_text id t = first_of id t.options
 
--- the region of a line without `-r`
+-- the region of `-r`, or the default region
 abbrev pub region_named : Texts → List ℕ
 region_named t = unwrap_or (option_text (codes "region") t) (codes "COREBOOT")
 
--- whether `-v` stands there, whose text clap gives
+-- whether clap reports `-v` as present
 abbrev pub verbose_by : Option (List ℕ) → Bool
 verbose_by text = option_map_or (λ told. bytes_eq told (codes "true")) text false
 
--- where an option that is required is there
+-- the request if a required option is present, or else a bad command line
 abbrev pub unless_missing : Option (List ℕ) → Result Request Refusal → Result Request Refusal
 unless_missing None r = Err refusals.Usage
 unless_missing (Some text) r = r
 
--- where content shall begin: by the text of `-a` or that of `-b`, of which at most one is there
+-- the requested offset of the content, by the value of `-a` or of `-b`, if at most one is present
 abbrev pub spot_by : Option (List ℕ) → Option (List ℕ) → Option Spot
 spot_by None None = Some First
 spot_by (Some alignment) None = option_map Aligned (number_of alignment)
 spot_by None (Some base) = option_map Fixed (number_of base)
 spot_by (Some alignment) (Some base) = None
 
--- the digest that a text names; none is stored without `-A`
+-- the digest named by a value; no digest without `-A`
 abbrev pub hash_by : Option (List ℕ) → Option HashChoice
 hash_by None = Some Plain
 hash_by (Some text) =
     if bytes_eq text (algorithm_row algorithms.Sha256).name then Some Sha256
     else (if bytes_eq text (algorithm_row algorithms.Sha512).name then Some Sha512 else None)
 
--- a new component, where its name and its file are there, and what else is asked of it can be read
-abbrev pub addition : List ℕ → Option (List ℕ) → Option (List ℕ) → Option ℕ → Option HashChoice → Option Spot → Result Request Refusal
-addition region (Some name) (Some file) (Some kind) (Some hash) (Some spot) = Ok (requests.on_region region (requests.add name kind hash spot))
+-- a new component, if name and file are present and the other options are valid
+abbrev pub addition : List ℕ → Option (List ℕ) → Option (List ℕ) → Option ℕ → Option HashChoice
+    → Option Spot → Result Request Refusal
+addition region (Some name) (Some file) (Some kind) (Some hash) (Some spot) =
+    Ok (requests.on_region region (requests.add name kind hash spot))
 addition region _ _ _ _ _ = Err refusals.Usage
 
--- the names of a list, which stand between its commas
+-- the comma-separated names of a list
 abbrev pub names_in : List ℕ → List (List ℕ)
 names_in list = slice_split (λ b. b == 44) list
 
--- those of the rest of a list, where there is one
+-- the names of the rest of a list, if any
 abbrev pub names_of : Option (Bor (List ℕ)) → List (List ℕ)
 names_of rest = option_map_or (λ (list : Bor (List ℕ)). names_in list.now) rest []
 
--- a new image with regions of these names: at most 16, none of them empty
+-- a new image with the named regions: at most 16, without an empty name
 abbrev pub creation_of : List (List ℕ) → Result Request Refusal
-creation_of names = if nat_lt 16 (length names) || list_any (λ name. length name == 0) names then Err refusals.Usage else Ok (requests.create names)
+creation_of names = if nat_lt 16 (length names) || list_any (λ name. length name == 0) names
+    then Err refusals.Usage else Ok (requests.create names)
 
--- the command that the texts ask for
+-- the command for the parsed arguments
 abbrev pub command_of : Texts → Result Request Refusal
 command_of t =
-    if bytes_eq t.subcommand (codes "print") then Ok (requests.on_region (region_named t) (requests.print (verbose_by (option_text (codes "verbose") t))))
+    if bytes_eq t.subcommand (codes "print")
+    then Ok (requests.on_region (region_named t)
+    (requests.print (verbose_by (option_text (codes "verbose") t))))
     else (if bytes_eq t.subcommand (codes "layout") then Ok requests.layout
-    else (if bytes_eq t.subcommand (codes "extract") then
-    unless_missing (option_text (codes "file") t) (unless_missing (option_text (codes "name") t) (Ok (requests.on_region (region_named t) (requests.extract (unwrap_or (option_text (codes "name") t) [])))))
-    else (if bytes_eq t.subcommand (codes "add") then
-    addition (region_named t) (option_text (codes "name") t) (option_text (codes "file") t) (option_and_then type_of_text (option_text (codes "type") t)) (hash_by (option_text (codes "hash") t)) (spot_by (option_text (codes "alignment") t) (option_text (codes "base") t))
-    else (if bytes_eq t.subcommand (codes "remove") then unless_missing (option_text (codes "name") t) (Ok (requests.on_region (region_named t) (requests.remove (unwrap_or (option_text (codes "name") t) []))))
-    else (if bytes_eq t.subcommand (codes "read") then unless_missing (option_text (codes "file") t) (Ok (requests.on_region (region_named t) requests.read))
-    else (if bytes_eq t.subcommand (codes "write") then unless_missing (option_text (codes "file") t) (Ok (requests.on_region (region_named t) requests.write))
-    else (if bytes_eq t.subcommand (codes "create") then unless_missing (option_text (codes "file") t) (creation_of (names_in (region_named t)))
+    else (if bytes_eq t.subcommand (codes "extract")
+    then unless_missing (option_text (codes "file") t)
+    (unless_missing (option_text (codes "name") t) (Ok (requests.on_region (region_named t)
+    (requests.extract (unwrap_or (option_text (codes "name") t) [])))))
+    else (if bytes_eq t.subcommand (codes "add")
+    then addition (region_named t) (option_text (codes "name") t) (option_text (codes "file") t)
+    (option_and_then type_of_text (option_text (codes "type") t))
+    (hash_by (option_text (codes "hash") t))
+    (spot_by (option_text (codes "alignment") t) (option_text (codes "base") t))
+    else (if bytes_eq t.subcommand (codes "remove")
+    then unless_missing (option_text (codes "name") t) (Ok (requests.on_region (region_named t)
+    (requests.remove (unwrap_or (option_text (codes "name") t) []))))
+    else (if bytes_eq t.subcommand (codes "read")
+    then unless_missing (option_text (codes "file") t)
+    (Ok (requests.on_region (region_named t) requests.read))
+    else (if bytes_eq t.subcommand (codes "write")
+    then unless_missing (option_text (codes "file") t)
+    (Ok (requests.on_region (region_named t) requests.write))
+    else (if bytes_eq t.subcommand (codes "create")
+    then unless_missing (option_text (codes "file") t) (creation_of (names_in (region_named t)))
     else Err refusals.Usage)))))))
 
 abbrev pub request_answer : Result Command Refusal → Result Request Refusal

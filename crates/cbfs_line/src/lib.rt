@@ -1,4 +1,5 @@
-//! The command line of cbfstool: IMAGE, a subcommand and its options, as clap reads them, and the command that they ask for.
+//! The command line of cbfstool: parses IMAGE, a subcommand and its options through clap, and
+//! returns the command.
 #![tactic(auto)]
 
 mod line;

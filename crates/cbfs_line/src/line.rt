@@ -1,10 +1,13 @@
 //! The command line: IMAGE, a subcommand, and its options.
 
-ghost use Rattle.std.specs.Prelude.{◌≡◌, ◌≢◌, ◌<◌, ◌⊎◌, [], ◌∷◌, length, Some, IfSome, IfOk, IfErr, codes, drop, map, option_map, option_and_then, true};
+ghost use Rattle.std.specs.Prelude.{◌≡◌, ◌≢◌, ◌<◌, ◌⊎◌, [], ◌∷◌, length, Some, IfSome, IfOk, IfErr};
+ghost use Rattle.std.specs.Prelude.{codes, drop, map, option_map, option_and_then, true};
 ghost use Rattle.flash_format.specs.TypeNames.{type_of_text};
 ghost use Rattle.clap.specs.Words.{fault_of, has_subcommand, kind_of, subcommand_rows_of};
 ghost use Rattle.cbfs_words.specs.Subcommands.{command_line};
-ghost use Rattle.cbfs_line.specs.CommandLine.{addition, command_of, creation_of, hash_by, names_in, names_of, refusal_by, request_answer, spot_by, option_text, texts_of, verbose_by, with_image};
+ghost use Rattle.cbfs_line.specs.CommandLine.{addition, command_of, creation_of, hash_by, names_in};
+ghost use Rattle.cbfs_line.specs.CommandLine.{names_of, refusal_by, request_answer, spot_by};
+ghost use Rattle.cbfs_line.specs.CommandLine.{option_text, texts_of, verbose_by, with_image};
 
 use arrayvec::ArrayVec;
 use cbfs_commands::{Command, MOST_REGIONS, Refusal};
@@ -16,10 +19,10 @@ use flash_format::{read_number, type_number};
 use std::alloc::Global;
 use std::marker::Model;
 
-/// The region that a command names without `-r`, and the one that a new image gets.
+/// The default region of commands, and of new images.
 const DEFAULT_REGION: &str = "COREBOOT";
 
-/// A command line that was read: the image's path, the subcommand and its options.
+/// A parsed command line: the image's path, the subcommand and its options.
 #[derive(Drop)]
 pub struct Line<'a> {
     image: &'a str,
@@ -41,29 +44,29 @@ impl<'a> Model for Line<'a> {
 }
 
 impl<'a> Line<'a> {
-    /// The path of the image: the first word.
+    /// Returns the path of the image, the first argument.
     pub fn image(&self) -> &'a str
         ensures { result.now ≡ self.now.image }
     {
         self.image
     }
 
-    /// The path that `-f` gives, or for `create` `-M`.
+    /// Returns the path of `-f`, or of `-M` for `create`.
     pub fn file(&self) -> Option<&'a str>
         ensures { option_map (λ t. t.now) result ≡ option_text (codes "file") self.now }
     {
         self.option("file")
     }
 
-    /// The text of an option.
+    /// Returns the value of an option.
     fn option(&self, id: &str) -> Option<&'a str>
         ensures { option_map (λ t. t.now) result ≡ option_text id.now self.now }
     {
         self.options.get_str(id)
     }
 
-    /// The command that the words ask for. Refused as a bad command line where the subcommand is none of
-    /// ours, or where an option that it requires is missing.
+    /// Returns the command of the command line. Refuses an unknown subcommand or a missing required
+    /// option as a bad command line.
     pub fn command(&self) -> Result<Command<'a>, Refusal>
         ensures { request_answer result ≡ command_of self.now }
     {
@@ -97,12 +100,14 @@ impl<'a> Line<'a> {
         }
     }
 
-    /// The addition that the words ask for.
+    /// Returns the addition of the command line.
     fn addition(&self, region: &'a [u8]) -> Result<Command<'a>, Refusal>
-        ensures { request_answer result ≡ addition region.entry.now (option_text (codes "name") self.now)
-            (option_text (codes "file") self.now) (option_and_then type_of_text (option_text (codes "type") self.now))
+        ensures { request_answer result ≡ addition region.entry.now
+            (option_text (codes "name") self.now) (option_text (codes "file") self.now)
+            (option_and_then type_of_text (option_text (codes "type") self.now))
             (hash_by (option_text (codes "hash") self.now))
-            (spot_by (option_text (codes "alignment") self.now) (option_text (codes "base") self.now)) }
+            (spot_by (option_text (codes "alignment") self.now)
+            (option_text (codes "base") self.now)) }
     {
         let (Some(name), Some(_)) = (self.option("name"), self.file()) else {
             return Err(Refusal::Usage);
@@ -119,7 +124,7 @@ impl<'a> Line<'a> {
         }
     }
 
-    /// Whether `-v` stands there.
+    /// Returns whether `-v` is present.
     fn verbose(&self) -> bool
         ensures { result ≡ verbose_by (option_text (codes "verbose") self.now) }
     {
@@ -129,7 +134,7 @@ impl<'a> Line<'a> {
         }
     }
 
-    /// The type that `-t` gives.
+    /// Returns the type of `-t`.
     fn kind(&self) -> Option<u32>
         ensures { result ≡ option_and_then type_of_text (option_text (codes "type") self.now) }
     {
@@ -139,7 +144,7 @@ impl<'a> Line<'a> {
         }
     }
 
-    /// The digest that `-A` asks for.
+    /// Returns the digest of `-A`.
     fn hash(&self) -> Option<HashChoice>
         ensures { result ≡ hash_by (option_text (codes "hash") self.now) }
     {
@@ -151,9 +156,10 @@ impl<'a> Line<'a> {
         }
     }
 
-    /// Where the content of a new component shall begin.
+    /// Returns the requested offset of a new component's content.
     fn spot(&self) -> Option<Spot>
-        ensures { result ≡ spot_by (option_text (codes "alignment") self.now) (option_text (codes "base") self.now) }
+        ensures { result ≡ spot_by (option_text (codes "alignment") self.now)
+            (option_text (codes "base") self.now) }
     {
         match (self.option("alignment"), self.option("base")) {
             (None, None) => Some(Spot::First),
@@ -164,8 +170,8 @@ impl<'a> Line<'a> {
     }
 }
 
-/// The creation of an image with the regions of a list. Refused as a bad command line where a name is empty, or where there
-/// are more than 16.
+/// Returns the creation of an image with the listed regions. Refuses an empty name, or more than 16
+/// names, as a bad command line.
 fn creation<'a>(list: &'a str) -> Result<Command<'a>, Refusal>
     ensures { request_answer result ≡ creation_of (names_in list.entry.now) }
 {
@@ -182,7 +188,7 @@ fn creation<'a>(list: &'a str) -> Result<Command<'a>, Refusal>
     Ok(Command::Create { regions })
 }
 
-/// What stands before the first comma, and what stands after it where there is one.
+/// Splits a list at the first comma, if any.
 fn first_name<'a>(list: &'a str) -> (&'a str, Option<&'a str>)
     ensures names { names_in list.entry.now ≡ result.0.now ∷ names_of result.1 }
     ensures shorter { IfSome result.1 (λ rest. length rest.now < length list.entry.now) }
@@ -193,7 +199,7 @@ fn first_name<'a>(list: &'a str) -> (&'a str, Option<&'a str>)
     }
 }
 
-/// The refusal of words that clap doesn't take.
+/// Converts an error of clap.
 fn refusal_of(error: Error) -> Refusal
     ensures { result ≡ refusal_by (kind_of error) }
 {
@@ -203,10 +209,11 @@ fn refusal_of(error: Error) -> Refusal
     }
 }
 
-/// The line of these matches, which have a subcommand.
+/// Converts clap's matches, which contain a subcommand.
 fn line_of<'a>(image: &'a str, mut matches: ArgMatches<'a>) -> Line<'a>
     requires { has_subcommand matches ≡ true }
-    ensures { Some result ≡ option_map (with_image image.entry.now) (subcommand_rows_of matches.entry) }
+    ensures { Some result
+        ≡ option_map (with_image image.entry.now) (subcommand_rows_of matches.entry) }
 {
     let (subcommand, options) = matches.remove_subcommand().unwrap();
     Line {
@@ -216,16 +223,19 @@ fn line_of<'a>(image: &'a str, mut matches: ArgMatches<'a>) -> Line<'a>
     }
 }
 
-/// Reads the words after the program's name: IMAGE, and a command line in which clap finds no fault. Refused as a
-/// bad command line without any word, and where clap finds one, which a wish for its help is too; and for want of
-/// memory.
+/// Parses the arguments after the program's name: IMAGE, and a command line for clap. Refuses
+/// missing arguments and any error of clap, including a request for help, as a bad command line;
+/// reports allocation failures.
 pub fn read_line<'a>(alloc: Global, words: &'a [&'a str]) -> Result<Line<'a>, Refusal>
     ensures line { IfOk result (λ line. Some line ≡ texts_of (map (λ w. w.now) words.entry.now)) }
-    ensures refusals { IfErr result (λ refusal. (refusal ≡ Refusal.Usage) ⊎ (refusal ≡ Refusal.Memory)) }
+    ensures refusals { IfErr result (λ refusal.
+        (refusal ≡ Refusal.Usage) ⊎ (refusal ≡ Refusal.Memory)) }
     ensures wordless { words.entry.now ≡ [] → IfErr result (λ refusal. refusal ≡ Refusal.Usage) }
-    ensures faultless { IfOk result (λ _. fault_of command_line (map (λ w. w.now) (drop 1 words.entry.now)) ≡ []) }
-    ensures usage { words.entry.now ≢ [] → fault_of command_line (map (λ w. w.now) (drop 1 words.entry.now)) ≡ [] →
-        IfErr result (λ refusal. refusal ≡ Refusal.Memory) }
+    ensures faultless { IfOk result (λ _.
+        fault_of command_line (map (λ w. w.now) (drop 1 words.entry.now)) ≡ []) }
+    ensures usage { words.entry.now ≢ []
+        → fault_of command_line (map (λ w. w.now) (drop 1 words.entry.now)) ≡ []
+        → IfErr result (λ refusal. refusal ≡ Refusal.Memory) }
 {
     let Some((image, rest)) = words.split_first() else {
         return Err(Refusal::Usage);

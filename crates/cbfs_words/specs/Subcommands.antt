@@ -1,4 +1,4 @@
--- The subcommands of cbfstool and their options, as clap's definitions have them.
+-- The subcommands of cbfstool and their options, as definitions of clap.
 use Rattle.std.specs.Prelude.{ℕ, Bool, true, false, List, [], ◌∷◌, Some}
 use lib.Chars.{codes}
 use Rattle.clap.specs.Words.{App, Rule, Shape, new_rule}
@@ -6,11 +6,12 @@ use Rattle.clap.specs.Simple.{new_shape}
 use Rattle.clap.specs.declared.builder.action.ArgAction.{ArgAction}
 use Rattle.clap.specs.declared.builder.action.ArgAction.TheVariants.{Set, SetTrue}
 
--- an option of one letter
+-- a single-letter option
 abbrev pub rule_of : List ℕ → ℕ → ArgAction → Bool → Rule
-rule_of id letter action required = record (new_rule id) { short = Some letter; action = Some action; required = required }
+rule_of id letter action required =
+    record (new_rule id) { short = Some letter; action = Some action; required = required }
 
--- one with a value
+-- an option with a value
 abbrev pub option_of : List ℕ → ℕ → Bool → Rule
 option_of id letter required = rule_of id letter Set required
 
@@ -23,18 +24,19 @@ file_option = option_of (codes "file") 102 true
 abbrev pub name_option : Rule
 name_option = option_of (codes "name") 110 true
 
--- a subcommand of a name with these options
+-- a subcommand with the given options
 abbrev pub subcommand_of : List ℕ → List Rule → Shape
 subcommand_of name options = record (new_shape name) { rules = options }
 
--- `-v` has no value, and `-M` of create is a file too
+-- `-v` takes no value, and `-M` of create names a file too
 abbrev pub subcommands : List Shape
 subcommands =
     subcommand_of (codes "print") (region_option ∷ rule_of (codes "verbose") 118 SetTrue false ∷ [])
     ∷ subcommand_of (codes "layout") []
     ∷ subcommand_of (codes "extract") (region_option ∷ file_option ∷ name_option ∷ [])
     ∷ subcommand_of (codes "add")
-    (region_option ∷ name_option ∷ file_option ∷ option_of (codes "type") 116 true ∷ option_of (codes "alignment") 97 false
+    (region_option ∷ name_option ∷ file_option ∷ option_of (codes "type") 116 true
+    ∷ option_of (codes "alignment") 97 false
     ∷ option_of (codes "base") 98 false ∷ option_of (codes "hash") 65 false ∷ [])
     ∷ subcommand_of (codes "remove") (region_option ∷ name_option ∷ [])
     ∷ subcommand_of (codes "read") (region_option ∷ file_option ∷ [])
@@ -42,6 +44,9 @@ subcommands =
     ∷ subcommand_of (codes "create") (option_of (codes "file") 77 true ∷ region_option ∷ [])
     ∷ []
 
--- the words after IMAGE
+-- the arguments after IMAGE
 abbrev pub command_line : App
-command_line = record { top = record (new_shape (codes "cbfstool")) { is_leaf = false; no_binary_name = true; subcommand_required = true }; subs = subcommands }
+command_line =
+    let shape = new_shape (codes "cbfstool") in
+    let top = record shape { is_leaf = false; no_binary_name = true; subcommand_required = true } in
+    record { top = top; subs = subcommands }

@@ -1,4 +1,4 @@
-//! The words that cbfstool takes after IMAGE, as the command of clap that reads them.
+//! The clap command for the arguments of cbfstool after IMAGE.
 #![tactic(auto)]
 
 mod words;

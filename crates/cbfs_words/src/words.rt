@@ -1,4 +1,4 @@
-//! The command line that clap reads: one level of subcommands with their options.
+//! The clap command: one level of subcommands with options.
 
 ghost use Rattle.std.specs.Prelude.{◌≡◌, IfOk, true, false};
 ghost use Rattle.clap.specs.Words.{app_of, with_rule};
@@ -9,7 +9,7 @@ ghost use Rattle.cbfs_words.specs.Table.{IsLocal, rule_by, with_options, with_ro
 use clap::{Arg, ArgAction, Command};
 use std::alloc::{AllocError, Global};
 
-/// An option of one letter, with a text or, by its action, without.
+/// A single-letter option, with or without a value, by its action.
 #[derive(Clone, Copy)]
 struct TableOption {
     id: &'static str,
@@ -82,7 +82,7 @@ const VERBOSE: TableOption = TableOption {
     required: false,
 };
 
-/// A subcommand's name and its options.
+/// The name of a subcommand, and its options.
 type TableRow = (&'static str, &'static [TableOption]);
 
 const SUBCOMMANDS: [TableRow; 8] = [
@@ -96,7 +96,7 @@ const SUBCOMMANDS: [TableRow; 8] = [
     ("create", &[MAP, REGION]),
 ];
 
-/// The command with one more option of its own.
+/// Adds an option to a command.
 fn with_option<'a>(
     alloc: Global,
     command: Command<'a>,
@@ -109,7 +109,7 @@ fn with_option<'a>(
     command.arg(arg.action(option.action).required(option.required))
 }
 
-/// The command with these options of its own.
+/// Adds the options to a command.
 fn with_options<'a>(
     alloc: Global,
     mut command: Command<'a>,
@@ -125,7 +125,7 @@ fn with_options<'a>(
     Ok(command)
 }
 
-/// The command with the subcommand of one more row.
+/// Adds the subcommand of a row to a command.
 fn with_row<'a>(
     alloc: Global,
     command: Command<'a>,
@@ -138,7 +138,7 @@ fn with_row<'a>(
     command.subcommand(subcommand)
 }
 
-/// The command with the subcommands of these rows.
+/// Adds the subcommands of all rows to a command.
 fn with_rows<'a>(
     alloc: Global,
     mut command: Command<'a>,
@@ -154,7 +154,7 @@ fn with_rows<'a>(
     Ok(command)
 }
 
-/// The words after IMAGE: a subcommand, which has to be there, and its options.
+/// Returns the command for the arguments after IMAGE: a required subcommand, and its options.
 pub fn whole_command<'a>(alloc: Global) -> Result<Command<'a>, AllocError>
     ensures needs { IfOk result (λ c. (fields_of c).subcommand_required ≡ true) }
     ensures shape { IfOk result (λ c. IsLocal c command_line) }

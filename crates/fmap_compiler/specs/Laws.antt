@@ -1,4 +1,4 @@
--- What the table of a text is in an image.
+-- The table of a text as a flash map in an image.
 use Rattle.std.specs.Prelude.{ℕ, ◌≤◌, List, length}
 use Rattle.flash_device.specs.Device.{overwritten}
 use Rattle.flash_device.specs.Laws.{FindsMap, NoMapBelow}
@@ -9,7 +9,7 @@ use Rattle.fmd_lang.specs.Table.{IsTable, table_head}
 use Rattle.fmd_lang.specs.declared.table.Table.{Table}
 use Rattle.fmap_compiler.specs.Outcome.{Compiles}
 
--- the map that a search finds at a place is the table of a text
+-- a search identifies the table of a text as the flash map at the given offset
 pub record IsMapOfText (text image : List ℕ) (q : ℕ) : Type 0 where
   pub tree : Tree
   pub table : Table
@@ -17,7 +17,7 @@ pub record IsMapOfText (text image : List ℕ) (q : ℕ) : Type 0 where
   pub is_table : IsTable tree table
   pub found : FindsMap (table_head table) table.areas.items image q
 
--- the bytes for a text are found where they are written into an image, where no valid map stands below them then
+-- the compiled table, written into an image, is found if no valid map lies below
 abbrev pub CompiledMapsAreFound : Type 0
 CompiledMapsAreFound = (text bytes image : List ℕ) (q : ℕ) → Compiles text bytes → q ≤ length image
     → let now = overwritten image q bytes in

@@ -1,4 +1,4 @@
--- What a run of the compiler writes, and why it is refused.
+-- The output and the errors of the compiler.
 use Rattle.std.specs.Prelude.{◌≡◌, ℕ, ◌+◌, ◌≤◌, ◌⊎◌, List, length, take, Option, Some, None, IfSome}
 use Rattle.std.specs.Io.KnownBytes.{Consumes, Keeps}
 use Rattle.flash_device.specs.Output.{AppendsPart}
@@ -14,37 +14,38 @@ use Rattle.fmd_lang.specs.declared.fault.FmdFault.TheVariants as faults
 use Rattle.fmap_compiler.specs.declared.refusal.Refusal.{Refusal}
 use Rattle.fmap_compiler.specs.declared.refusal.Refusal.TheVariants as refusal
 
--- how many bytes are read at most: one more than a descriptor may have
+-- the maximum number of bytes to read: the maximum length of a descriptor, plus 1
 abbrev pub reading_limit : ℕ
 reading_limit = text_limit + 1
 
--- the bytes of the table of a text
+-- the bytes are the encoded table of the text
 abbrev pub Compiles : List ℕ → List ℕ → Type 0
 Compiles text bytes = (first_fault text ≡ None)
     × ((tree : Tree) × IsSection tree (words text) × (layout_fault tree ≡ None)
     × ((table : Table) × IsTable tree table × (bytes ≡ table_bytes table)))
 
--- the first refusal of a text, or where it has none, of the layout of its tree
+-- the first fault of a text, or else the first fault of the layout
 abbrev pub Refuses : List ℕ → FmdFault → Type 0
-Refuses text fault = (first_fault text ≡ Some fault)
-    ⊎ ((first_fault text ≡ None) × ((tree : Tree) × IsSection tree (words text) × (layout_fault tree ≡ Some fault)))
+Refuses text fault = (first_fault text ≡ Some fault) ⊎ ((first_fault text ≡ None)
+    × ((tree : Tree) × IsSection tree (words text) × (layout_fault tree ≡ Some fault)))
 
--- The same of what a reader has left and a writer holds, where they tell their bytes.
+-- ---- the same for a reader with known remaining bytes and a writer with known contents
 
--- P of the bytes of the table of the text
+-- the property P of the encoded table of the text
 abbrev pub HasTable : Option (List ℕ) → (List ℕ → Type 0) → Type 0
 HasTable text P = IfSome text (λ t. (bytes : List ℕ) × Compiles t bytes × P bytes)
 
--- why a run is refused, and what it has written then: nothing, or some of the first bytes of the table, but not all
+-- the error of a run, and the output: nothing, or a proper prefix of the table
 abbrev pub IsRefused : Refusal → Option (List ℕ) → Option (List ℕ) → Option (List ℕ) → Type 0
-IsRefused (refusal.Descriptor fault) text old new = ((fault ≡ faults.Memory) ⊎ IfSome text (λ t. Refuses t fault)) × Keeps old new
+IsRefused (refusal.Descriptor fault) text old new =
+    ((fault ≡ faults.Memory) ⊎ IfSome text (λ t. Refuses t fault)) × Keeps old new
 IsRefused refusal.Read text old new = Keeps old new
 IsRefused refusal.Output text old new = HasTable text (AppendsPart old new)
 
--- what was read are the first bytes, as many as a run reads
+-- the consumed bytes are a prefix of the text, up to the reading limit
 abbrev pub IsPrefixOf : Option (List ℕ) → List ℕ → Type 0
 IsPrefixOf text read = IfSome text (λ t. read ≡ take reading_limit t)
 
--- the first bytes are read, not more than a run reads
+-- the reader advances by a prefix of the text, up to the reading limit
 abbrev pub ReadsPrefix : Option (List ℕ) → Option (List ℕ) → Type 0
 ReadsPrefix old new = (read : List ℕ) × Consumes old new read × (length read ≤ reading_limit)

@@ -1,7 +1,7 @@
--- What contracts see of a reader as a text.
+-- The ghost state of a text reader.
 use Rattle.std.specs.Prelude.{ℕ}
 
--- what contracts see of the text of a reader
+-- the reader, the number of bytes read, and the number of faults
 pub record Reader (R : Type 0) : Type 0 where
   pub reader : R
   pub given : ℕ

@@ -1,8 +1,9 @@
-//! From a descriptor to its table.
+//! Compiles a descriptor into the table.
 
 ghost use Rattle.std.specs.Prelude.{◌≡◌, ◌+◌, ◌<◌, ◌≤◌, ◌⊎◌, OnOk, IfOk, IfErr};
 ghost use Rattle.std.specs.Io.KnownBytes.{Appends};
-ghost use Rattle.fmap_compiler.specs.Outcome.{reading_limit, Compiles, HasTable, IsRefused, IsPrefixOf, ReadsPrefix, Refuses};
+ghost use Rattle.fmap_compiler.specs.Outcome.{reading_limit, Compiles, HasTable, IsRefused};
+ghost use Rattle.fmap_compiler.specs.Outcome.{IsPrefixOf, ReadsPrefix, Refuses};
 
 use crate::reader::TextReader;
 use crate::refusal::Refusal;
@@ -10,14 +11,16 @@ use flash_device::{Sink, put_all};
 use fmd_lang::{FmdFault, TEXT_LIMIT, encode, lay_out, parse};
 use std::alloc::Global;
 
-/// How many bytes are read at most: one more than a descriptor may have.
+/// The maximum number of bytes to read: the maximum length of a descriptor, plus 1.
 const READING_LIMIT: usize = TEXT_LIMIT + 1;
 
-/// The bytes up to the reader's end, or the first of them, as many as a run reads.
+/// Reads the text up to the reader's end or up to the limit.
 fn read_text<R: TextReader>(alloc: Global, reader: &mut R) -> Result<Vec<u8>, Refusal>
     ensures text { IfOk result (λ text. IsPrefixOf (R.remaining reader.old) text.items) }
-    ensures cause { IfErr result (λ refusal. refusal ≡ Refusal.Read → R.faults reader.old < R.faults reader.new) }
-    ensures refused { IfErr result (λ refusal. (refusal ≡ Refusal.Read) ⊎ (refusal ≡ Refusal.Descriptor FmdFault.Memory)) }
+    ensures cause { IfErr result (λ refusal.
+        refusal ≡ Refusal.Read → R.faults reader.old < R.faults reader.new) }
+    ensures refused { IfErr result (λ refusal.
+        (refusal ≡ Refusal.Read) ⊎ (refusal ≡ Refusal.Descriptor FmdFault.Memory)) }
     ensures stops { R.given reader.new ≤ R.given reader.old + reading_limit }
     ensures read { ReadsPrefix (R.remaining reader.old) (R.remaining reader.new) }
     ensures faults { R.faults reader.old ≤ R.faults reader.new }
@@ -35,7 +38,7 @@ fn read_text<R: TextReader>(alloc: Global, reader: &mut R) -> Result<Vec<u8>, Re
     Ok(text)
 }
 
-/// The bytes of the table of a text.
+/// Returns the encoded table of a text.
 fn compile(alloc: Global, text: &[u8]) -> Result<Vec<u8>, FmdFault>
     ensures compiled { IfOk result (λ bytes. Compiles text.now bytes.items) }
     ensures refused { IfErr result (λ fault. (fault ≡ FmdFault.Memory) ⊎ Refuses text.now fault) }
@@ -45,23 +48,28 @@ fn compile(alloc: Global, text: &[u8]) -> Result<Vec<u8>, FmdFault>
     encode(alloc, &table)
 }
 
-/// Reads a descriptor, up to the reader's end or one byte more than a descriptor may have, and writes its table.
-/// Nothing is written before the whole table is made.
+/// Reads a descriptor, up to the reader's end or `READING_LIMIT`, and writes the table. Writes
+/// nothing before the table is complete.
 pub fn run<R: TextReader, W: Sink>(
     alloc: Global,
     reader: &mut R,
     writer: &mut W,
 ) -> Result<(), Refusal>
-    // The table of what was read is written, and nothing else.
-    ensures ok { OnOk result (HasTable (R.remaining reader.old) (Appends (W.contents writer.old) (W.contents writer.new))) }
-    // Each fault comes only where its side failed.
-    ensures read_cause { IfErr result (λ refusal. refusal ≡ Refusal.Read → R.faults reader.old < R.faults reader.new) }
-    ensures output_cause { IfErr result (λ refusal. refusal ≡ Refusal.Output → W.faults writer.old < W.faults writer.new) }
-    // A refusal of the descriptor is its first, with nothing written; an output fault leaves a part of the table.
-    ensures refused { IfErr result (λ refusal. IsRefused refusal (R.remaining reader.old) (W.contents writer.old) (W.contents writer.new)) }
-    // No more is read than it takes to know that a text is too long, from any reader.
+    // Success writes the table of the text, and nothing else.
+    ensures ok { OnOk result (HasTable (R.remaining reader.old)
+        (Appends (W.contents writer.old) (W.contents writer.new))) }
+    // A read or output error implies a failure of the reader or writer.
+    ensures read_cause { IfErr result (λ refusal.
+        refusal ≡ Refusal.Read → R.faults reader.old < R.faults reader.new) }
+    ensures output_cause { IfErr result (λ refusal.
+        refusal ≡ Refusal.Output → W.faults writer.old < W.faults writer.new) }
+    // An error of the descriptor is the first, without output; an output error leaves a part of the
+    // table.
+    ensures refused { IfErr result (λ refusal. IsRefused refusal (R.remaining reader.old)
+        (W.contents writer.old) (W.contents writer.new)) }
+    // The run reads no more bytes than necessary to detect an excessive length.
     ensures stops { R.given reader.new ≤ R.given reader.old + reading_limit }
-    // What is read are the first bytes, where the reader tells them.
+    // The run reads a prefix of a reader with known contents.
     ensures read { ReadsPrefix (R.remaining reader.old) (R.remaining reader.new) }
     ensures reader_faults { R.faults reader.old ≤ R.faults reader.new }
     ensures writer_faults { W.faults writer.old ≤ W.faults writer.new }

@@ -1,4 +1,4 @@
-//! The compiler of flashmap descriptors, from any reader to any writer.
+//! The compiler of flashmap descriptors, for any reader and any writer.
 #![tactic(auto)]
 
 mod compiler;

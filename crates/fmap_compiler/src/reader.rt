@@ -1,4 +1,4 @@
-//! Where a descriptor's text comes from.
+//! The source of a descriptor's text.
 
 ghost use Rattle.std.specs.Prelude.{◌≡◌, ℕ, ◌+◌, ◌<◌, ◌≤◌, List, Option, OnErr, MatchResult};
 ghost use Rattle.std.specs.Io.{ReadsAtMost};
@@ -8,32 +8,33 @@ use flash_device::Counter;
 use std::io::{ErrorKind, Read};
 use std::marker::Model;
 
-/// A reader that gave nothing, though not for the text's end.
+/// A failed read, as opposed to the end of the text.
 #[derive(Clone, Copy, Debug, PartialEq, Eq, Drop)]
 pub struct ReadFault;
 
-/// A reader that may give less than there is room for.
+/// A reader with possible short reads.
 pub trait TextReader {
-    /// The bytes that it has left, where it tells them.
+    /// The remaining bytes, if known.
     ghost remaining: { Self → Option (List ℕ) };
 
-    /// How many bytes the reader has given.
+    /// The number of bytes read.
     ghost given: { Self → ℕ };
 
-    /// How often the reader has failed.
+    /// The number of failed reads.
     ghost faults: { Self → ℕ };
 
-    /// Writes the next bytes into the first of the room, and answers how many; none only at the end, or without room.
-    /// After a fault the room may hold anything, and no byte is lost.
+    /// Reads the next bytes into the front of `room`, and returns their number: 0 only at the end,
+    /// or for empty `room`. A fault loses no byte, but leaves arbitrary bytes in `room`.
     fn read_some(&mut self, room: &mut [u8]) -> Result<usize, ReadFault>
         ensures bound { ReadsAtMost result room.new }
         ensures bytes { ReadConsumes (remaining self.old) (remaining self.new) result room.new }
-        ensures given { MatchResult result (λ n. given self.new ≡ given self.old + n) (λ _. given self.new ≡ given self.old) }
+        ensures given { MatchResult result (λ n. given self.new ≡ given self.old + n)
+            (λ _. given self.new ≡ given self.old) }
         ensures faults { faults self.old ≤ faults self.new }
         ensures cause { OnErr result (faults self.old < faults self.new) };
 }
 
-/// The text of a reader; an error of the reader is the fault.
+/// A text over `Read`. Any I/O error is a fault.
 #[derive(Drop)]
 pub struct ReadText<R: Read> {
     reader: R,
@@ -50,7 +51,7 @@ impl<R: Read> Model for ReadText<R> {
 }
 
 impl<R: Read> ReadText<R> {
-    /// The text of a reader, of which nothing was read and which has not failed.
+    /// Wraps a reader.
     pub fn new(reader: R) -> ReadText<R>
         ensures { result ≡ record { reader = reader; given = 0; faults = 0 } }
     {
@@ -61,7 +62,7 @@ impl<R: Read> ReadText<R> {
         }
     }
 
-    /// The reader, with what it has left.
+    /// Returns the reader with its remaining bytes.
     pub fn into_inner(self) -> R
         ensures { result ≡ self.reader }
     {
@@ -74,10 +75,10 @@ impl<R: Read> ReadText<R> {
     }
 }
 
-/// How often in a row a read may be interrupted.
+/// The maximum number of consecutive interruptions of a read.
 const TRIES: u32 = 1000;
 
-/// Reads the next bytes by one call, which is made again if it was interrupted.
+/// Reads the next bytes by one call, repeated after an interruption.
 fn read_again<R: Read>(reader: &mut R, room: &mut [u8]) -> Result<usize, ReadFault>
     ensures bound { ReadsAtMost result room.new }
     ensures bytes { ReadConsumes (R.remaining reader.old) (R.remaining reader.new) result room.new }

@@ -1,4 +1,4 @@
-//! Why a run is refused.
+//! The errors of a run.
 
 ghost use Rattle.std.specs.Prelude.{◌≡◌};
 ghost use Rattle.fmd_lang.specs.declared.fault.FmdFault.TheVariants as faults;
@@ -10,21 +10,21 @@ use fmd_lang::FmdFault;
 use std::alloc::AllocError;
 use thiserror::Error;
 
-/// Why nothing, or not the whole table, is written, each with its number; the text is what the program prints of it.
+/// The errors of a run, each with its number and its message.
 #[derive(Clone, Copy, Debug, PartialEq, Eq, Error)]
 pub enum Refusal {
-    /// 1 to 16, the number of the fault: the descriptor is refused, or memory was.
+    /// 1 to 16, the number of the fault: invalid descriptor, or allocation failure.
     #[error("{0}")]
     Descriptor(FmdFault),
-    /// 17: the reader failed. Nothing is written.
+    /// 17: read error. The run writes nothing.
     #[error("read fault")]
     Read,
-    /// 18: the writer failed, or took nothing. It has then some of the table's first bytes.
+    /// 18: output error, or a writer without progress. The output is a proper prefix of the table.
     #[error("output fault")]
     Output,
 }
 
-/// The descriptor is refused.
+/// Converts an error of the descriptor.
 impl From<FmdFault> for Refusal {
     ghost from_gives = { λ fault refusal. refusal ≡ refusals.Descriptor fault };
 
@@ -33,7 +33,7 @@ impl From<FmdFault> for Refusal {
     }
 }
 
-/// Memory was refused.
+/// Converts an allocation failure.
 impl From<AllocError> for Refusal {
     ghost from_gives = { λ _ refusal. refusal ≡ refusals.Descriptor faults.Memory };
 
@@ -42,7 +42,7 @@ impl From<AllocError> for Refusal {
     }
 }
 
-/// The reader failed.
+/// Converts a read error.
 impl From<ReadFault> for Refusal {
     ghost from_gives = { λ _ refusal. refusal ≡ refusals.Read };
 
@@ -51,7 +51,7 @@ impl From<ReadFault> for Refusal {
     }
 }
 
-/// The writer failed.
+/// Converts an output error.
 impl From<SinkFault> for Refusal {
     ghost from_gives = { λ _ refusal. refusal ≡ refusals.Output };
 

@@ -16,20 +16,22 @@ use thiserror::Error;
 
 const USAGE: &str = "usage: fmaptool INPUT.fmd OUTPUT\n";
 
-/// Why the program ends with a status other than 0; the text is what it prints.
+/// The cause of a nonzero exit status, with its message.
 #[derive(Clone, Copy, Debug, PartialEq, Eq, Error)]
 enum Failure {
-    /// The words are no command line.
+    /// Invalid arguments.
     #[error("bad command line")]
     Usage,
-    /// The descriptor or a file is refused, or memory was.
+    /// Invalid descriptor, I/O error or allocation failure.
     #[error("{0}")]
     Refused(#[from] Refusal),
 }
 
-/// The failure of a call of the system: the want of memory is told as such, and any other cause as given.
+/// Returns the failure for an error of a system call: an allocation failure as such, and `other`
+/// for any other error.
 fn failure_of(fault: &io::Error, other: Failure) -> Failure
-    ensures memory { error_kind fault.now ≡ ErrorKind.OutOfMemory → result ≡ Failure.Refused (Refusal.Descriptor FmdFault.Memory) }
+    ensures memory { error_kind fault.now ≡ ErrorKind.OutOfMemory
+        → result ≡ Failure.Refused (Refusal.Descriptor FmdFault.Memory) }
     ensures other { error_kind fault.now ≢ ErrorKind.OutOfMemory → result ≡ other }
 {
     match fault.kind() {
@@ -38,7 +40,7 @@ fn failure_of(fault: &io::Error, other: Failure) -> Failure
     }
 }
 
-/// Writes the table of one file's descriptor into another.
+/// Compiles the descriptor in a file, and writes the table to another file.
 fn compile_file(rt: &HostRuntime, input: &str, output: &str) -> Result<(), Failure> {
     let input = open_beside_standard(rt, OpenOptions::new().read(true), input).map_err(
         |fault| failure_of(&fault, Failure::Refused(Refusal::Read)),
@@ -54,7 +56,7 @@ fn compile_file(rt: &HostRuntime, input: &str, output: &str) -> Result<(), Failu
     written.map_err(|_| Failure::Refused(Refusal::Output))
 }
 
-/// Does what the words say; without words prints the usage.
+/// Runs the command line; prints the usage if the command line is empty.
 fn obey(rt: &HostRuntime) -> Result<(), Failure> {
     let mut words = env::args(rt)
         .map_err(|fault| failure_of(&fault, Failure::Usage))?

@@ -1,38 +1,43 @@
--- The refusal of a descriptor's text: that it is too long, or else the one at the lowest place, where that of the
--- word by itself comes before that of a word in a wrong place. The order, the texts and the limits are this project's own.
-use Rattle.std.specs.Prelude.{◌≡◌, ◌⊎◌, Result, Ok, Err, ℕ, suc, zero, nat_lt, Bool, true, false, if◌then◌else◌, List, [], ◌∷◌, length, Option, Some, None}
+-- The fault of a descriptor's text: excessive length, or else the fault at the lowest offset. At
+-- the same offset, a malformed token precedes an unexpected token. This project defines the order,
+-- the messages and the limits.
+use Rattle.std.specs.Prelude.{◌≡◌, ◌⊎◌, Result, Ok, Err, ℕ, suc, zero, nat_lt, Bool, true, false}
+use Rattle.std.specs.Prelude.{if◌then◌else◌, List, [], ◌∷◌, length, Option, Some, None}
 use Rattle.std.specs.Option.{option_map_or, option_or}
 use Rattle.std.specs.Result.{result_err}
 use Rattle.fmd_lang.specs.Words.{Word, word, words, kind_of}
 use Rattle.fmd_lang.specs.Numbers.{number_at, number_value}
 use Rattle.fmd_lang.specs.Grammar.{annotation_flag}
 use Rattle.fmd_lang.specs.declared.word.Kind.{Kind}
-use Rattle.fmd_lang.specs.declared.word.Kind.TheVariants.{Name, Number, OpenParen, CloseParen, At, OpenBrace, CloseBrace, Bad, End}
+use Rattle.fmd_lang.specs.declared.word.Kind.TheVariants.{Name, Number, OpenParen, CloseParen, At}
+use Rattle.fmd_lang.specs.declared.word.Kind.TheVariants.{OpenBrace, CloseBrace, Bad, End}
 use Rattle.fmd_lang.specs.declared.fault.FmdFault.{FmdFault}
 use Rattle.fmd_lang.specs.declared.fault.FmdFault.TheVariants as faults
 use Rattle.fmd_lang.specs.declared.fault.Expected.{Expected}
 use Rattle.fmd_lang.specs.declared.fault.Expected.TheVariants as wanted
 
--- where a text stands, by the words before
+-- the parser's state after a prefix of the tokens
 pub data Stage : Type 0 where
-  start : Stage  -- before the first word
-  in_annotations : Bool → Stage  -- after `(`; the flag says whether an annotation stands since
+  start : Stage  -- before the first token
+  in_annotations : Bool → Stage  -- after `(`; the flag is set after an annotation
   at_sign : Stage  -- after `@`
-  past : ℕ → Stage  -- in a section or after it, past so many of what may follow its name
+  past : ℕ → Stage  -- in or after a section; counts the optional parts already passed
 
--- where a text stands, and how many `{` are open
+-- the parser's state, and the number of open braces
 abbrev pub Standing : Type 0
 Standing = Stage × ℕ
 
--- Where a text stands after a word of this kind, with this flag as an annotation, while so many `{` are open; None where
--- no such word may stand. After a section's name may follow, in this order, annotations, an offset, a size, braces; then,
--- inside braces, another section or the closing brace, and after the root nothing but the end.
+-- The state after a token of a given kind, with its flag if the token is an annotation, at a given
+-- depth of open braces; None if the grammar allows no such token. After a section's name follow, in
+-- order: annotations, offset, size, braces. Inside braces follows another section or the closing
+-- brace, after the root only the end.
 abbrev pub next_standing : Stage → ℕ → Kind → Option ℕ → Option Standing
 next_standing start depth Name flag = Some (past 0, depth)
 next_standing (in_annotations true) depth CloseParen flag = Some (past 1, depth)
 next_standing (in_annotations any) depth k (Some flag) = Some (in_annotations true, depth)
 next_standing at_sign depth Number flag = Some (past 2, depth)
-next_standing (past n) depth OpenParen flag = if nat_lt n 1 then Some (in_annotations false, depth) else None
+next_standing (past n) depth OpenParen flag =
+    if nat_lt n 1 then Some (in_annotations false, depth) else None
 next_standing (past n) depth At flag = if nat_lt n 2 then Some (at_sign, depth) else None
 next_standing (past n) depth Number flag = if nat_lt n 3 then Some (past 3, depth) else None
 next_standing (past n) depth OpenBrace flag = if nat_lt n 4 then Some (past 4, suc depth) else None
@@ -41,7 +46,7 @@ next_standing (past n) (suc depth) CloseBrace flag = Some (past 4, depth)
 next_standing (past n) zero End flag = Some (past 4, zero)
 next_standing s depth k flag = None
 
--- what had to stand in place of a word of this kind, where none may stand
+-- the expected token, in place of an unexpected token of a given kind
 abbrev pub wanted_at : Stage → ℕ → Kind → Expected
 wanted_at start depth k = wanted.Section
 wanted_at (in_annotations false) depth k = wanted.Annotation
@@ -51,39 +56,40 @@ wanted_at at_sign depth k = wanted.Number
 wanted_at (past n) zero k = wanted.End
 wanted_at (past n) (suc depth) k = wanted.SectionOrClose
 
--- how many `{` may be open
+-- the maximum number of open braces
 abbrev pub depth_limit : ℕ
 depth_limit = 32
 
--- the refusal by itself of a word of this kind, while so many `{` are open
+-- the fault of a token of a given kind, regardless of the grammar, at a given depth of open braces
 abbrev pub own_fault : Kind → ℕ → Word → Option FmdFault
 own_fault Bad depth w = Some (faults.BadByte w.place)
 own_fault Number depth w = result_err (number_at w.place (number_value w.bytes))
-own_fault Name depth w = if nat_lt (length w.bytes) 32 then None else Some (faults.NameTooLong w.place)
+own_fault Name depth w =
+    if nat_lt (length w.bytes) 32 then None else Some (faults.NameTooLong w.place)
 own_fault OpenBrace depth w = if nat_lt depth depth_limit then None else Some faults.TooDeep
 own_fault k depth w = None
 
--- the refusal of a word, or of the end, by itself or by where it stands; or what is refused of what follows
+-- the fault of a token or of the end, or else the fault of the following tokens
 abbrev pub fault_after : Standing → Word → (Standing → Option FmdFault) → Option FmdFault
 fault_after (s, depth) w further = option_or (own_fault (kind_of w.bytes) depth w)
     (option_map_or further (next_standing s depth (kind_of w.bytes) (annotation_flag w.bytes))
     (Some (faults.Expected w.place (wanted_at s depth (kind_of w.bytes)))))
 
--- the first refusal of the words left, the text's length being `end`
+-- the first fault of the remaining tokens, for a text of length `end`
 abbrev pub fault_from : Standing → ℕ → List Word → Option FmdFault
 fault_from there end [] = fault_after there (word end []) (λ t. None)
 fault_from there end (w ∷ ws) = fault_after there w (λ t. fault_from t end ws)
 
--- how many bytes a text may have
+-- the maximum length of a text, in bytes
 abbrev pub text_limit : ℕ
 text_limit = 1048576
 
--- the refusal of a text: that it is too long, or else the first of its words
+-- the first fault of a text
 unfoldable pub first_fault : List ℕ → Option FmdFault
-first_fault text =
-    if nat_lt text_limit (length text) then Some faults.TextTooLong else fault_from (start, 0) (length text) (words text)
+first_fault text = if nat_lt text_limit (length text) then Some faults.TextTooLong
+    else fault_from (start, 0) (length text) (words text)
 
--- it is done where there is no refusal; or this refusal comes, unless memory ran out
+-- success implies no fault; an error is the given fault, or an allocation failure
 abbrev pub Refuses : {X : Type 0} → Option FmdFault → Result X FmdFault → Type 0
 Refuses refusal (Ok x) = refusal ≡ None
 Refuses refusal (Err fault) = (fault ≡ faults.Memory) ⊎ (refusal ≡ Some fault)

@@ -1,8 +1,10 @@
--- The grammar of a descriptor, as a relation between a tree and a list of words, by cases on the tree:
+-- The grammar of a descriptor: a relation between a tree and a list of tokens, by recursion on the
+-- tree:
 --   section = name [ "(" annotation+ ")" ] [ "@" number ] [ number ] [ "{" section* "}" ]
--- (coreboot's Documentation/lib/flashmap.md; that the braces may be empty, and that the root is read as any other
--- section, is this project's own).
-use Rattle.std.specs.Prelude.{◌≡◌, ℕ, ◌<◌, ◌⊎◌, List, [], ◌∷◌, ◌++◌, length, Option, Some, MatchOption, codes}
+-- Source: coreboot's Documentation/lib/flashmap.md. Empty braces, and the same grammar for the root
+-- as for any other section, are this project's own.
+use Rattle.std.specs.Prelude.{◌≡◌, ℕ, ◌<◌, ◌⊎◌, List, [], ◌∷◌, ◌++◌, length, Option, Some}
+use Rattle.std.specs.Prelude.{MatchOption, codes}
 use Rattle.std.specs.Int.Bits.{bit_or}
 use Rattle.std.specs.Map.{lookup}
 use Rattle.std.specs.Option.{option_and_then}
@@ -11,40 +13,42 @@ use Rattle.fmd_lang.specs.Words.{Word, kind_of}
 use Rattle.fmd_lang.specs.Numbers.{number_value}
 use Rattle.fmd_lang.specs.Tree.{Tree, section, Forest, none, some}
 use Rattle.fmd_lang.specs.declared.word.Kind.{Kind}
-use Rattle.fmd_lang.specs.declared.word.Kind.TheVariants.{Name, Number, OpenParen, CloseParen, At, OpenBrace, CloseBrace}
+use Rattle.fmd_lang.specs.declared.word.Kind.TheVariants.{Name, Number, OpenParen, CloseParen, At}
+use Rattle.fmd_lang.specs.declared.word.Kind.TheVariants.{OpenBrace, CloseBrace}
 
--- one word, of this form
+-- a single token of the given form
 abbrev pub One : (Word → Type 0) → List Word → Type 0
 One P ws = (w : Word) × (ws ≡ w ∷ []) × P w
 
--- words of one form, and then words of another
+-- a sequence of the first form, followed by a sequence of the second
 abbrev pub Then : (List Word → Type 0) → (List Word → Type 0) → List Word → Type 0
 Then P Q ws = (front back : List Word) × (ws ≡ front ++ back) × P front × Q back
 
--- a word of this kind
+-- a token of the given kind
 abbrev pub IsA : Kind → Word → Type 0
 IsA k w = kind_of w.bytes ≡ k
 
--- words of one form, and then a word of this kind
+-- a sequence of the given form, followed by a token of the given kind
 abbrev pub Until : Kind → (List Word → Type 0) → List Word → Type 0
 Until last P = Then P (One (IsA last))
 
--- words of one form between words of two kinds; or none, where the fact holds
+-- a sequence between delimiters of two kinds; or no token, if the fact holds
 abbrev pub Enclosed : Kind → Kind → (List Word → Type 0) → Type 0 → List Word → Type 0
 Enclosed first last P Q ws = ((ws ≡ []) × Q) ⊎ Then (One (IsA first)) (Until last P) ws
 
--- the annotations, each with what it adds to the flags of an area
+-- the annotations, each with the area flags that it sets
 abbrev pub annotations : List (List ℕ × ℕ)
 annotations = (codes "CBFS", 0) ∷ (codes "PRESERVE", 8) ∷ []
 
--- what these bytes add to the flags, where they are an annotation
+-- the flags of an annotation, None for any other token
 abbrev pub annotation_flag : List ℕ → Option ℕ
 annotation_flag bytes = lookup (bytes_eq bytes) annotations
 
--- the flags with those of these annotations; None where a word is none
+-- the flags combined with the flags of all annotations; None after any other token
 abbrev pub flags_with : ℕ → List Word → Option ℕ
 flags_with flags [] = Some flags
-flags_with flags (w ∷ ws) = option_and_then (λ flag. flags_with (bit_or flags flag) ws) (annotation_flag w.bytes)
+flags_with flags (w ∷ ws) =
+    option_and_then (λ flag. flags_with (bit_or flags flag) ws) (annotation_flag w.bytes)
 
 -- one or more annotations
 abbrev pub HaveFlags : ℕ → List Word → Type 0
@@ -54,15 +58,15 @@ HaveFlags flags ws = (0 < length ws) × (flags_with 0 ws ≡ Some flags)
 abbrev pub AreAnnotations : ℕ → List Word → Type 0
 AreAnnotations flags = Enclosed OpenParen CloseParen (HaveFlags flags) (flags ≡ 0)
 
--- a number of this value
+-- a number with the given value
 abbrev pub HasValue : ℕ → Word → Type 0
 HasValue n w = IsA Number w × (number_value w.bytes ≡ Some n)
 
--- `@` and a number; or nothing
+-- `@` and a number; or no token
 abbrev pub IsOffset : Option ℕ → List Word → Type 0
 IsOffset offset ws = MatchOption offset (ws ≡ []) (λ n. Then (One (IsA At)) (One (HasValue n)) ws)
 
--- a number; or nothing
+-- a number; or no token
 abbrev pub IsSize : Option ℕ → List Word → Type 0
 IsSize size ws = MatchOption size (ws ≡ []) (λ n. One (HasValue n) ws)
 
@@ -71,13 +75,13 @@ abbrev pub IsName : List ℕ → Word → Type 0
 IsName name w = IsA Name w × (w.bytes ≡ name) × (length name < 32)
 
 abbrev mutual
-  -- these words are the section
+  -- the tokens are the section
   pub IsSection : Tree → List Word → Type 0
   IsSection (section name flags offset size parts) ws =
-      Then (One (IsName name)) (Then (AreAnnotations flags) (Then (IsOffset offset) (Then (IsSize size)
-      (Enclosed OpenBrace CloseBrace (AreSections parts) (parts ≡ none))))) ws
+      Then (One (IsName name)) (Then (AreAnnotations flags) (Then (IsOffset offset)
+      (Then (IsSize size) (Enclosed OpenBrace CloseBrace (AreSections parts) (parts ≡ none))))) ws
 
-  -- these words are the sections, one after another
+  -- the tokens are the sections in order
   pub AreSections : Forest → List Word → Type 0
   AreSections none ws = ws ≡ []
   AreSections (some t ts) ws = Then (IsSection t) (AreSections ts) ws

@@ -1,7 +1,9 @@
--- Where the sections of a descriptor lie: each sibling by equations over its place. That an offset counts
--- from the parent's start, and that a size may be omitted, is coreboot's (Documentation/lib/flashmap.md); which
--- sizes may be, and what they then are, is this project's own.
-use Rattle.std.specs.Prelude.{◌≡◌, ℕ, ◌+◌, ◌-◌, nat_eq, nat_lt, Bool, false, ◌&&◌, ◌||◌, not, if◌then◌else◌, List, [], ◌∷◌, Option, Some, None, option_map, unwrap_or, is_some, MatchOption}
+-- The layout of a descriptor's sections: each sibling by equations over its place. Relative offsets
+-- and omitted sizes are coreboot's rules (Documentation/lib/flashmap.md). Conditions on omitted
+-- sizes, and the resulting sizes, are this project's own.
+use Rattle.std.specs.Prelude.{◌≡◌, ℕ, ◌+◌, ◌-◌, nat_eq, nat_lt, Bool, false, ◌&&◌, ◌||◌, not}
+use Rattle.std.specs.Prelude.{if◌then◌else◌, List, [], ◌∷◌, Option, Some, None, option_map}
+use Rattle.std.specs.Prelude.{unwrap_or, is_some, MatchOption}
 use Rattle.std.specs.Option.{option_or}
 use Rattle.fmd_lang.specs.Tree.{Tree, section, Forest, none, some, section_count}
 use Rattle.fmd_lang.specs.declared.row.Sibling.{Sibling}
@@ -12,41 +14,42 @@ use Rattle.fmd_lang.specs.declared.fault.FmdFault.TheVariants as faults
 abbrev pub end_of : Place → ℕ
 end_of q = q.start + q.size
 
--- A run is the first sibling, or one with an offset, and the siblings after it without one. This is the bound of
--- the run that goes on with these: the start of the next run, or the parent's size.
+-- A run consists of the first sibling, or a sibling with an offset, and all following siblings
+-- without an offset. Its bound is the start of the next run, or the parent's size.
 abbrev pub bound : ℕ → List Sibling → ℕ
 bound parent [] = parent
 bound parent (p ∷ ps) = unwrap_or p.offset (bound parent ps)
 
--- the sizes that those give with which a run goes on
+-- the sum of the explicit sizes in the rest of a run
 abbrev pub sizes_ahead : List Sibling → ℕ
 sizes_ahead [] = 0
 sizes_ahead (p ∷ ps) = if is_some p.offset then 0 else unwrap_or p.size 0 + sizes_ahead ps
 
--- the refusal of a place, where the sibling before ends at `from`
+-- the fault of a place, if the previous sibling ends at `from`
 abbrev pub misfit_of : ℕ → ℕ → Sibling → Place → Option FmdFault
 misfit_of parent from p q =
     if nat_eq q.size 0 then Some (faults.EmptySection p.number)
     else (if nat_lt q.start from then Some (faults.Overlap p.number)
     else (if nat_lt parent (end_of q) then Some (faults.Outside p.number) else None))
 
--- What holds of one place, where the sibling before it ends at `from`, and these come after it. One that omits its
--- size makes its run end at the bound.
+-- The conditions on a place, if the previous sibling ends at `from` and `ps` are the following
+-- siblings. An omitted size extends the run to its bound.
 pub record IsPlaced (parent from : ℕ) (p : Sibling) (ps : List Sibling) (q : Place) : Type 0 where
   pub offset : q.start ≡ unwrap_or p.offset from
   pub size : MatchOption p.size (end_of q + sizes_ahead ps ≡ bound parent ps) (λ n. q.size ≡ n)
   pub fits : misfit_of parent from p q ≡ None
 
--- the number of the first sibling that is the second in its run to omit its size; the flag says that its run has
--- omitted one before
+-- the number of the first sibling with the second omitted size of a run; the flag is set after the
+-- first omitted size
 abbrev pub ambiguous_sibling : Bool → List Sibling → Option ℕ
 ambiguous_sibling omitted [] = None
 ambiguous_sibling omitted (p ∷ ps) =
     let before = omitted && not (is_some p.offset) in
-    if before && not (is_some p.size) then Some p.number else ambiguous_sibling (before || not (is_some p.size)) ps
+    if before && not (is_some p.size) then Some p.number
+    else ambiguous_sibling (before || not (is_some p.size)) ps
 
--- The refusals also speak of rows that can't be laid: the place of a sibling, where the one before it ends at `from`.
--- An omitted size is what the bound leaves, and 0 where that is negative.
+-- The place of a sibling, also in a row without a valid layout. An omitted size is the rest up to
+-- the bound, or 0 if the bound is exceeded.
 abbrev pub place_of : ℕ → ℕ → Sibling → List Sibling → Place
 place_of parent from p ps =
     let start = unwrap_or p.offset from in
@@ -54,21 +57,25 @@ place_of parent from p ps =
 
 abbrev pub places_of : ℕ → ℕ → List Sibling → List Place
 places_of parent from [] = []
-places_of parent from (p ∷ ps) = place_of parent from p ps ∷ places_of parent (end_of (place_of parent from p ps)) ps
+places_of parent from (p ∷ ps) =
+    place_of parent from p ps ∷ places_of parent (end_of (place_of parent from p ps)) ps
 
--- the first refusal of these places
+-- the first fault of the places
 abbrev pub first_misfit : ℕ → ℕ → List Sibling → List Place → Option FmdFault
-first_misfit parent from (p ∷ ps) (q ∷ qs) = option_or (misfit_of parent from p q) (first_misfit parent (end_of q) ps qs)
+first_misfit parent from (p ∷ ps) (q ∷ qs) =
+    option_or (misfit_of parent from p q) (first_misfit parent (end_of q) ps qs)
 first_misfit parent from ps qs = None
 
--- the first refusal of a row
+-- the first fault of a row
 abbrev pub row_fault : ℕ → List Sibling → Option FmdFault
 row_fault parent ps = option_or (option_map faults.Ambiguous (ambiguous_sibling false ps))
     (first_misfit parent 0 ps (places_of parent 0 ps))
 
--- a section with this number as one of a row, and the sections of which the first has this number
+-- a section as a sibling with the given number, and a list of sections as a row with consecutive
+-- preorder numbers
 abbrev pub sibling : ℕ → Tree → Sibling
-sibling n (section name flags offset size parts) = record { number = n; offset = offset; size = size }
+sibling n (section name flags offset size parts) =
+    record { number = n; offset = offset; size = size }
 
 abbrev pub siblings : ℕ → Forest → List Sibling
 siblings n none = []

@@ -1,5 +1,6 @@
--- What is refused of the layout of a descriptor, and in which order (this project's own).
-use Rattle.std.specs.Prelude.{ℕ, suc, ◌+◌, ◌*◌, nat_lt, nat_eq, not, if◌then◌else◌, List, [], ◌∷◌, ◌++◌, length, Option, Some, None, unwrap_or, option_map, codes, drop}
+-- The faults of a descriptor's layout and their order (this project's own).
+use Rattle.std.specs.Prelude.{ℕ, suc, ◌+◌, ◌*◌, nat_lt, nat_eq, not, if◌then◌else◌, List, [], ◌∷◌}
+use Rattle.std.specs.Prelude.{◌++◌, length, Option, Some, None, unwrap_or, option_map, codes, drop}
 use Rattle.std.specs.Bool.{then_some}
 use Rattle.std.specs.Option.{option_or}
 use Rattle.std.specs.List.{list_any}
@@ -13,7 +14,7 @@ use Rattle.flash_format.specs.declared.flashmap.Area.{Area}
 use Rattle.fmd_lang.specs.declared.fault.FmdFault.{FmdFault}
 use Rattle.fmd_lang.specs.declared.fault.FmdFault.TheVariants as faults
 
--- what is refused of the parts of a parent with this number, and below them, each parent in preorder
+-- the first fault below a parent with the given number, each parent in preorder
 abbrev mutual
   pub parent_fault : ℕ → ℕ → Tree → Option FmdFault
   parent_fault n size (section name flags offset given parts) =
@@ -21,36 +22,41 @@ abbrev mutual
       option_or (row_fault size row) (parts_fault (suc n) parts (places_of size 0 row))
 
   pub parts_fault : ℕ → Forest → List Place → Option FmdFault
-  parts_fault n (some t ts) (q ∷ qs) = option_or (parent_fault n q.size t) (parts_fault (n + section_count t) ts qs)
+  parts_fault n (some t ts) (q ∷ qs) =
+      option_or (parent_fault n q.size t) (parts_fault (n + section_count t) ts qs)
   parts_fault n ts qs = None
 
--- so many areas are too many
+-- the fault of an excessive number of areas
 abbrev pub count_fault : ℕ → Option FmdFault
 count_fault areas = then_some (nat_lt area_limit areas) faults.TooManyAreas
 
--- of the names of the sections but the root: none is FMAP; they are too many
+-- the fault of the names without the root's: no FMAP, or an excessive number
 abbrev pub areas_fault : List (List ℕ) → Option FmdFault
-areas_fault ns = option_or (then_some (not (list_any (bytes_eq (codes "FMAP")) ns)) faults.NoFmap) (count_fault (length ns))
+areas_fault ns = option_or (then_some (not (list_any (bytes_eq (codes "FMAP")) ns)) faults.NoFmap)
+    (count_fault (length ns))
 
--- the first of these names, numbered from `n`, that an earlier one equals
+-- the number of the first name that occurred earlier, counted from `n`
 abbrev pub duplicate : ℕ → List (List ℕ) → List (List ℕ) → Option ℕ
 duplicate n earlier [] = None
-duplicate n earlier (x ∷ xs) = if list_any (bytes_eq x) earlier then Some n else duplicate (suc n) (earlier ++ x ∷ []) xs
+duplicate n earlier (x ∷ xs) =
+    if list_any (bytes_eq x) earlier then Some n else duplicate (suc n) (earlier ++ x ∷ []) xs
 
--- of all names in preorder: the lowest that an earlier one equals comes first
+-- the fault of all names in preorder: a duplicate precedes the others
 abbrev pub names_fault : List (List ℕ) → Option FmdFault
-names_fault ns = option_or (option_map faults.Duplicate (duplicate 0 [] ns)) (areas_fault (drop 1 ns))
+names_fault ns =
+    option_or (option_map faults.Duplicate (duplicate 0 [] ns)) (areas_fault (drop 1 ns))
 
--- the root's size
+-- the fault of the root's size
 abbrev pub size_fault : Option ℕ → Option FmdFault
 size_fault None = Some (faults.Ambiguous 0)
 size_fault (Some n) = then_some (nat_eq n 0) (faults.EmptySection 0)
 
--- the area FMAP holds fewer bytes than the table of these areas
+-- the fault of an area FMAP smaller than the table of the areas
 abbrev pub table_fault : List Area → Option FmdFault
-table_fault areas = then_some (nat_lt (fmap_size areas) (fmap_head_len + area_len * length areas)) faults.FmapTooSmall
+table_fault areas = then_some
+    (nat_lt (fmap_size areas) (fmap_head_len + area_len * length areas)) faults.FmapTooSmall
 
--- the refusal of a layout: by the names, then by the root's size, the parents and the table
+-- the fault of a layout: names, root size, parents and table, in order
 unfoldable pub layout_fault : Tree → Option FmdFault
 layout_fault t =
     let size = unwrap_or (size_of t) 0 in

@@ -1,31 +1,37 @@
--- What a number of the text stands for (the suffixes of coreboot's Documentation/lib/flashmap.md; the rest is own).
-use Rattle.std.specs.Prelude.{ℕ, ◌-◌, ◌*◌, ◌^◌, nat_eq, nat_lt, if◌then◌else◌, List, ◌∷◌, length, take, slice_index, Option, Some, None, Result, Ok, Err, option_map}
+-- The value of a number. The suffixes are coreboot's (Documentation/lib/flashmap.md), the rest is
+-- this project's own.
+use Rattle.std.specs.Prelude.{ℕ, ◌-◌, ◌*◌, ◌^◌, nat_eq, nat_lt, if◌then◌else◌, List, ◌∷◌, length}
+use Rattle.std.specs.Prelude.{take, slice_index, Option, Some, None, Result, Ok, Err, option_map}
 use Rattle.flash_format.specs.Numbers.{digits_value}
 use Rattle.fmd_lang.specs.declared.fault.FmdFault.{FmdFault}
 use Rattle.fmd_lang.specs.declared.fault.FmdFault.TheVariants as faults
 
--- a `0` or digits that begin with none; or `0x` and hexadecimal digits
+-- decimal digits without a leading zero, a single `0`, or `0x` and hexadecimal digits
 abbrev pub plain_value : List ℕ → Option ℕ
-plain_value (b ∷ x ∷ digits) = if nat_eq b 48 then (if nat_eq x 120 then digits_value 16 digits else None)
+plain_value (b ∷ x ∷ digits) =
+    if nat_eq b 48 then (if nat_eq x 120 then digits_value 16 digits else None)
     else digits_value 10 (b ∷ x ∷ digits)
 plain_value bytes = digits_value 10 bytes
 
--- K, M and G, and 1 for any other byte
+-- the unit of K, M and G; 1 for any other byte
 abbrev pub unit_value : ℕ → ℕ
-unit_value b = if nat_eq b 75 then 1024 else (if nat_eq b 77 then 1048576 else (if nat_eq b 71 then 1073741824 else 1))
+unit_value b = if nat_eq b 75 then 1024
+    else (if nat_eq b 77 then 1048576 else (if nat_eq b 71 then 1073741824 else 1))
 
 abbrev pub last_byte : List ℕ → ℕ
 last_byte bytes = slice_index bytes (length bytes - 1)
 
--- the bytes before a unit
+-- the bytes before the unit
 abbrev pub front_of : List ℕ → List ℕ
-front_of bytes = if nat_eq (unit_value (last_byte bytes)) 1 then bytes else take (length bytes - 1) bytes
+front_of bytes =
+    if nat_eq (unit_value (last_byte bytes)) 1 then bytes else take (length bytes - 1) bytes
 
--- The value of a number, or None where the bytes are none: a plain one, then at most one unit.
+-- The value of a number with at most one unit, None for any other bytes.
 unfoldable pub number_value : List ℕ → Option ℕ
-number_value bytes = option_map (λ n. n * unit_value (last_byte bytes)) (plain_value (front_of bytes))
+number_value bytes =
+    option_map (λ n. n * unit_value (last_byte bytes)) (plain_value (front_of bytes))
 
--- the value of a number at a place, where 32 bits hold it; or its refusal
+-- the value of a number below 2^32, or the fault at its offset
 abbrev pub number_at : ℕ → Option ℕ → Result ℕ FmdFault
 number_at at None = Err (faults.BadNumber at)
 number_at at (Some n) = if nat_lt n (2 ^ 32) then Ok n else Err (faults.NumberTooLarge at)

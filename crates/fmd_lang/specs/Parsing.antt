@@ -1,5 +1,6 @@
--- What a part of the parser answers.
-use Rattle.std.specs.Prelude.{◌≡◌, ◌≢◌, ℕ, ◌≤◌, ◌⊎◌, List, ◌++◌, Some, None, Result, Ok, Err, MatchOption, length}
+-- The results of the parser's functions.
+use Rattle.std.specs.Prelude.{◌≡◌, ◌≢◌, ℕ, ◌≤◌, ◌⊎◌, List, ◌++◌, Some, None, Result, Ok, Err}
+use Rattle.std.specs.Prelude.{MatchOption, length}
 use Rattle.fmd_lang.specs.Words.{Word, words_after, kind_of}
 use Rattle.fmd_lang.specs.Faults.{Standing, fault_from, own_fault}
 use Rattle.fmd_lang.specs.Grammar.{Enclosed, AreSections, HasValue}
@@ -10,29 +11,31 @@ use Rattle.fmd_lang.specs.declared.word.Kind.TheVariants.{Number, OpenBrace, Clo
 use Rattle.fmd_lang.specs.declared.fault.FmdFault.{FmdFault}
 use Rattle.fmd_lang.specs.declared.fault.FmdFault.TheVariants as faults
 
--- The words in front are of this form, and those behind them have the first refusal of all. The text stands so before
--- the words in front, and so after them.
-pub record Reads (P : List Word → Type 0) (before after : Standing) (end : ℕ) (ws behind : List Word) : Type 0 where
+-- The tokens before `behind` have the given form and no fault. They take the parser from the state
+-- `before` to the state `after`.
+pub record Reads (P : List Word → Type 0) (before after : Standing) (end : ℕ)
+    (ws behind : List Word) : Type 0 where
   pub front : List Word
   pub split : ws ≡ front ++ behind
   pub form : P front
   pub same : fault_from before end ws ≡ fault_from after end behind
 
--- It took the words up to a place, which are of the form P of its value, and left the text's first refusal as it was;
--- or it met that refusal, or memory ran out.
-abbrev pub Parses : {X : Type 0} → (X → List Word → Type 0) → Standing → Standing → List ℕ → ℕ → Result (X × ℕ) FmdFault
-    → Type 0
-Parses P before after text from (Ok (x, to)) =
-    (from ≤ to) × Reads (P x) before after (length text) (words_after text from) (words_after text to)
-Parses P before after text from (Err fault) = (fault ≡ faults.Memory) ⊎ (fault_from before (length text) (words_after text from) ≡ Some fault)
+-- Success consumes the tokens up to an offset, which have the form P of the value, without a fault.
+-- An error is the first fault of the text, or an allocation failure.
+abbrev pub Parses : {X : Type 0} → (X → List Word → Type 0) → Standing → Standing → List ℕ → ℕ
+    → Result (X × ℕ) FmdFault → Type 0
+Parses P before after text from (Ok (x, to)) = (from ≤ to)
+    × Reads (P x) before after (length text) (words_after text from) (words_after text to)
+Parses P before after text from (Err fault) =
+    (fault ≡ faults.Memory) ⊎ (fault_from before (length text) (words_after text from) ≡ Some fault)
 
--- what is known of the token at a place, while so many `{` are open
+-- the properties of the token at an offset, at a given depth of open braces
 pub record IsNext (text : List ℕ) (from depth : ℕ) (token : Token) : Type 0 where
   pub first : IsFirst text from token.word
   pub kind : kind_of token.word.bytes.now ≡ token.kind
   pub clear : own_fault (kind_of token.word.bytes.now) depth (word_of token.word) ≡ None
   pub value : MatchOption token.value (token.kind ≢ Number) (λ n. HasValue n (word_of token.word))
 
--- sections in braces, or none
+-- sections in braces, or no token
 abbrev pub IsBody : Forest → List Word → Type 0
 IsBody parts = Enclosed OpenBrace CloseBrace (AreSections parts) (parts ≡ none)

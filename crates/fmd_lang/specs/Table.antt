@@ -1,5 +1,7 @@
--- The table of a descriptor: all sections but the root in preorder, with offsets from the root's start.
-use Rattle.std.specs.Prelude.{◌≡◌, ℕ, suc, ◌+◌, ◌-◌, List, [], ◌∷◌, ◌++◌, codes, length, take, replicate, Some, None, false, unwrap_or}
+-- The table of a descriptor: all sections except the root in preorder, with offsets relative to the
+-- root's start.
+use Rattle.std.specs.Prelude.{◌≡◌, ℕ, suc, ◌+◌, ◌-◌, List, [], ◌∷◌, ◌++◌, codes, length, take}
+use Rattle.std.specs.Prelude.{replicate, Some, None, false, unwrap_or}
 use Rattle.std.specs.List.{find, flat_map}
 use Rattle.std.specs.Option.{option_map_or}
 use Rattle.flash_format.specs.Flashmap.{fmap_head_bytes, area_bytes, is_area}
@@ -10,45 +12,48 @@ use Rattle.flash_format.specs.declared.flashmap.Area.{Area}
 use Rattle.flash_format.specs.declared.flashmap.FmapHead.{FmapHead}
 use Rattle.fmd_lang.specs.declared.table.Table.{Table}
 
--- how many areas a head can count
+-- the maximum number of areas in a flash map's header
 abbrev pub area_limit : ℕ
 area_limit = 65535
 
--- a name of the table: 32 bytes, NULs after the name
+-- a name of the table, padded with NULs to 32 bytes
 abbrev pub field_of : List ℕ → List ℕ
 field_of name = take 32 name ++ replicate (32 - length name) 0
 
--- the area of a section at this place of a parent that begins at `at`
+-- the area of a section with a given place in a parent at the offset `at`
 abbrev pub section_area : ℕ → Place → Tree → Area
 section_area at q (section name flags offset size parts) =
     record { offset = at + q.start; size = q.size; name = field_of name; flags = flags }
 
 abbrev mutual
-  -- these are the areas below the section with this number, of this size, which begins at `at`: in preorder
+  -- the areas below a section, in preorder, for the section's number, offset `at` and size
   pub AreasBelow : ℕ → ℕ → ℕ → Tree → List Area → Type 0
   AreasBelow n at size (section name flags offset given parts) areas =
-      (ambiguous_sibling false (siblings (suc n) parts) ≡ None) × AreasOf (suc n) at size 0 parts areas
+      (ambiguous_sibling false (siblings (suc n) parts) ≡ None)
+      × AreasOf (suc n) at size 0 parts areas
 
-  -- these are the areas of its parts from one on, and below them, where the part before ends at `from`
+  -- the areas of the remaining parts and below them, if the previous part ends at `from`
   pub AreasOf : ℕ → ℕ → ℕ → ℕ → Forest → List Area → Type 0
   AreasOf n at size from none areas = areas ≡ []
   AreasOf n at size from (some t ts) areas =
       (q : Place) × (below after : List Area) × (areas ≡ section_area at q t ∷ below ++ after)
       × IsPlaced size from (sibling n t) (siblings (n + section_count t) ts) q
-      × AreasBelow n (at + q.start) q.size t below × AreasOf (n + section_count t) at size (end_of q) ts after
+      × AreasBelow n (at + q.start) q.size t below
+      × AreasOf (n + section_count t) at size (end_of q) ts after
 
--- The refusals also speak of descriptors that can't be laid: the same, where every row is filled.
+-- The faults also cover descriptors without a valid layout: the same areas, over the places of
+-- `places_of`.
 abbrev mutual
   pub areas_below : ℕ → ℕ → ℕ → Tree → List Area
   areas_below n at size (section name flags offset given parts) =
       areas_of (suc n) at parts (places_of size 0 (siblings (suc n) parts))
 
   pub areas_of : ℕ → ℕ → Forest → List Place → List Area
-  areas_of n at (some t ts) (q ∷ qs) =
-      section_area at q t ∷ areas_below n (at + q.start) q.size t ++ areas_of (n + section_count t) at ts qs
+  areas_of n at (some t ts) (q ∷ qs) = section_area at q t ∷ areas_below n (at + q.start) q.size t
+      ++ areas_of (n + section_count t) at ts qs
   areas_of n at ts qs = []
 
--- the size of the area FMAP, and 0 without one
+-- the size of the area FMAP, or 0 if there is none
 abbrev pub fmap_size : List Area → ℕ
 fmap_size areas = option_map_or (λ a. a.size) (find (is_area (codes "FMAP")) areas) 0
 
@@ -58,10 +63,12 @@ IsTable (section name flags offset size parts) table =
     (table.base ≡ unwrap_or offset 0) × (size ≡ Some table.size) × (table.name ≡ field_of name)
     × AreasBelow 0 0 table.size (section name flags offset size parts) table.areas.items
 
--- ---- the bytes: the head of FMAP 1.1 and the areas after it
+-- ---- the bytes: the header of FMAP 1.1, followed by the areas
 
 abbrev pub table_head : Table → FmapHead
-table_head t = record { major = 1; minor = 1; base = t.base; size = t.size; name = t.name; nareas = length t.areas.items }
+table_head t =
+    let n = length t.areas.items in
+    record { major = 1; minor = 1; base = t.base; size = t.size; name = t.name; nareas = n }
 
 abbrev pub table_bytes : Table → List ℕ
 table_bytes t = fmap_head_bytes (table_head t) ++ flat_map area_bytes t.areas.items

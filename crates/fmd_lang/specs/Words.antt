@@ -1,26 +1,31 @@
--- The words of a descriptor's text, with their places. The language is that of coreboot's flashmap descriptors
--- (Documentation/lib/flashmap.md); which bytes make a word, a blank and a comment is this project's own.
-use Rattle.std.specs.Prelude.{ℕ, suc, nat_le, nat_eq, Bool, true, false, ◌&&◌, not, if◌then◌else◌, drop, List, [], ◌∷◌, codes}
+-- The tokens of a descriptor's text, with their offsets. The language is coreboot's
+-- (Documentation/lib/flashmap.md). The exact bytes of tokens, blanks and comments are this
+-- project's own.
+use Rattle.std.specs.Prelude.{ℕ, suc, nat_le, nat_eq, Bool, true, false, ◌&&◌, not, if◌then◌else◌}
+use Rattle.std.specs.Prelude.{drop, List, [], ◌∷◌, codes}
 use Rattle.std.specs.List.{list_any, take_while}
 use Rattle.fmd_lang.specs.declared.word.Kind.{Kind}
-use Rattle.fmd_lang.specs.declared.word.Kind.TheVariants.{Name, Number, OpenParen, CloseParen, At, OpenBrace, CloseBrace, Bad, End}
+use Rattle.fmd_lang.specs.declared.word.Kind.TheVariants.{Name, Number, OpenParen, CloseParen, At}
+use Rattle.fmd_lang.specs.declared.word.Kind.TheVariants.{OpenBrace, CloseBrace, Bad, End}
 
 -- space, tab, line feed, carriage return
 abbrev pub is_blank : ℕ → Bool
 is_blank b = list_any (nat_eq b) (32 ∷ 9 ∷ 10 ∷ 13 ∷ [])
 
--- what names and numbers are made of: the printable bytes but for the marks and `#`
+-- the bytes of names and numbers: printable ASCII except punctuation and `#`
 abbrev pub is_plain : ℕ → Bool
 is_plain b = (nat_le 0x21 b && nat_le b 0x7e) && not (list_any (nat_eq b) (codes "#@{}()"))
 
--- The text with each byte of a comment turned into a space. A comment is a `#` and what follows it on
--- its line. The flag says that a comment goes on.
+-- The text with each comment replaced by spaces. A comment extends from `#` to the end of the line.
+-- The flag is set inside a comment.
 abbrev pub without_comments : Bool → List ℕ → List ℕ
 without_comments inside [] = []
-without_comments false (b ∷ bs) = if nat_eq b 35 then 32 ∷ without_comments true bs else b ∷ without_comments false bs
-without_comments true (b ∷ bs) = if nat_eq b 10 then 10 ∷ without_comments false bs else 32 ∷ without_comments true bs
+without_comments false (b ∷ bs) =
+    if nat_eq b 35 then 32 ∷ without_comments true bs else b ∷ without_comments false bs
+without_comments true (b ∷ bs) =
+    if nat_eq b 10 then 10 ∷ without_comments false bs else 32 ∷ without_comments true bs
 
--- a word, and the place of its first byte in the text
+-- a token, and the offset of its first byte
 pub record Word : Type 0 where
   pub place : ℕ
   pub bytes : List ℕ
@@ -28,8 +33,8 @@ pub record Word : Type 0 where
 abbrev pub word : ℕ → List ℕ → Word
 word place bytes = record { place = place; bytes = bytes }
 
--- The words that begin in these bytes, which stand at a place. A word is a mark; a longest row of plain bytes; or one
--- byte that no word may have. The flag says that a row goes on.
+-- The tokens that begin in the given bytes. A token is a punctuation mark, a maximal sequence of
+-- plain bytes, or a single invalid byte. The flag is set inside a sequence of plain bytes.
 abbrev pub words_from : ℕ → Bool → List ℕ → List Word
 words_from place inside [] = []
 words_from place inside (b ∷ bs) =
@@ -38,11 +43,11 @@ words_from place inside (b ∷ bs) =
     else (if not (is_plain b) then word place (b ∷ []) ∷ others
     else (if inside then others else word place (take_while is_plain (b ∷ bs)) ∷ others))
 
--- the words of a text
+-- the tokens of a text
 unfoldable pub words : List ℕ → List Word
 words text = words_from 0 false (without_comments false text)
 
--- What a word of these bytes is, by the first. The end of a text counts as a word of no bytes.
+-- The kind of a token, by its first byte. The end of a text counts as an empty token.
 abbrev pub kind_of : List ℕ → Kind
 kind_of [] = End
 kind_of (b ∷ bs) =
@@ -54,6 +59,6 @@ kind_of (b ∷ bs) =
     else (if nat_le 48 b && nat_le b 57 then Number
     else (if is_plain b then Name else Bad))))))
 
--- the words from a place of the text on, where neither a word nor a comment goes on
+-- the tokens from an offset on, outside any token or comment
 unfoldable pub words_after : List ℕ → ℕ → List Word
 words_after text at = words_from at false (without_comments false (drop at text))

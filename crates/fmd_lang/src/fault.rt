@@ -1,4 +1,4 @@
-//! Why a descriptor is refused.
+//! The errors of descriptors.
 
 ghost use Rattle.std.specs.Prelude.{◌≡◌};
 ghost use Rattle.fmd_lang.specs.declared.fault.FmdFault.TheVariants as faults;
@@ -6,10 +6,10 @@ ghost use Rattle.fmd_lang.specs.declared.fault.FmdFault.TheVariants as faults;
 use std::alloc::{AllocError, AllocFailed};
 use thiserror::Error;
 
-/// What had to stand at a place of the text.
+/// The expected token.
 #[derive(Clone, Copy, Debug, PartialEq, Eq, Error)]
 pub enum Expected {
-    /// A name, at the text's start.
+    /// A name, at the start of the text.
     #[error("section")]
     Section,
     /// CBFS or PRESERVE, after `(` or another annotation.
@@ -29,66 +29,68 @@ pub enum Expected {
     End,
 }
 
-/// Why a descriptor is refused, each with its number; the text is what the program prints of it. `at` is the place of
-/// a byte in the text, counted from 0; `section` is a section's number in preorder, the root's being 0. Nothing is
-/// kept after a refusal. `parse` answers 1 to 8, `lay_out` 1 and 9 to 16, `encode` 1 and 16.
+/// The errors of descriptors, each with its number and its message. `at` is the offset of a byte in
+/// the text; `section` is a section's preorder number, 0 for the root. `parse` returns 1 to 8,
+/// `lay_out` 1 and 9 to 16, `encode` 1 and 16.
 #[derive(Clone, Copy, Debug, PartialEq, Eq, Error)]
 pub enum FmdFault {
-    /// 1: memory was refused. It comes at any growth of what is made, before or in place of every other refusal.
+    /// 1: allocation failure. Any allocation can fail, before or instead of another error.
     #[error("out of memory")]
     Memory,
-    /// 2: the text has more than 1,048,576 bytes. Nothing else is then looked at.
+    /// 2: text longer than 1,048,576 bytes. The parser then reads no token.
     #[error("text too long")]
     TextTooLong,
-    /// 3: a byte that no word may have, outside a comment. Of 3 to 8 the lowest place comes first, and at one place
-    /// 6 comes last.
+    /// 3: invalid byte outside a comment. Among 3 to 8, the error at the lowest offset takes
+    /// precedence; at the same offset, 6 comes last.
     #[error("bad byte at {at}")]
     BadByte { at: usize },
-    /// 4: a word that begins with a digit and is no number; the place is that of its first byte.
+    /// 4: malformed number. `at` is the offset of its first digit.
     #[error("bad number at {at}")]
     BadNumber { at: usize },
-    /// 5: a number of 2^32 or more; the place is that of its first byte.
+    /// 5: number of 2^32 or more. `at` is the offset of its first digit.
     #[error("number too large at {at}")]
     NumberTooLarge { at: usize },
-    /// 6: a word, or the text's end, where something else has to stand; the place is that of the word's first byte, or
-    /// the text's length.
+    /// 6: unexpected token or unexpected end. `at` is the offset of the token's first byte, or the
+    /// length of the text.
     #[error("expected {what} at {at}")]
     Expected { at: usize, what: Expected },
-    /// 7: a `{` while 32 are open.
+    /// 7: opening brace inside 32 open braces.
     #[error("nested too deep")]
     TooDeep,
-    /// 8: a name of 32 bytes or more; the place is that of its first byte.
+    /// 8: name of 32 bytes or more. `at` is the offset of its first byte.
     #[error("name too long at {at}")]
     NameTooLong { at: usize },
-    /// 9: the second omitted size in a run of siblings, or the root's. It comes before 10 to 12 of the same row; the
-    /// root comes before all rows, and these come parent by parent in preorder.
+    /// 9: second omitted size in a run of siblings, or omitted size of the root. Within a row, 9
+    /// precedes 10 to 12. The root comes first, followed by the rows of each parent in preorder.
     #[error("ambiguous size of section {section}")]
     Ambiguous { section: usize },
-    /// 10: a size of 0, given or left over. Of 10 to 12 the first sibling comes first, and at one sibling the lowest
-    /// number.
+    /// 10: explicit or computed size of 0. Among 10 to 12, the first sibling takes precedence, and
+    /// for a sibling the lowest number.
     #[error("empty section {section}")]
     EmptySection { section: usize },
-    /// 11: it begins before its previous sibling ends.
+    /// 11: section begins before its previous sibling ends.
     #[error("overlap at section {section}")]
     Overlap { section: usize },
-    /// 12: it ends after its parent's end.
+    /// 12: section ends after its parent.
     #[error("section {section} outside its parent")]
     Outside { section: usize },
-    /// 13: an earlier section has its name; the lowest such number. It comes before every other refusal of a layout.
+    /// 13: name of an earlier section; the lowest such number. Precedes every other error of
+    /// `lay_out`.
     #[error("duplicate name of section {section}")]
     Duplicate { section: usize },
-    /// 14: no section but the root is named FMAP. It comes after 13.
+    /// 14: no section except the root is named FMAP. Comes after 13.
     #[error("no FMAP section")]
     NoFmap,
-    /// 15: the section FMAP has fewer bytes than the table. It comes last.
+    /// 15: section FMAP smaller than the table. Comes last.
     #[error("FMAP section too small")]
     FmapTooSmall,
-    /// 16: more than 65,535 sections below the root, which comes after 14 and before 9; or areas in a table.
+    /// 16: more than 65,535 sections below the root, after 14 and before 9; or more areas in a
+    /// table.
     #[error("too many areas")]
     TooManyAreas,
 }
 
-/// Memory was refused.
+/// Converts an allocation failure.
 impl From<AllocError> for FmdFault {
     ghost from_gives = { λ _ fault. fault ≡ faults.Memory };
 
@@ -97,7 +99,7 @@ impl From<AllocError> for FmdFault {
     }
 }
 
-/// Memory was refused for a value, which is dropped.
+/// Converts an allocation failure, and drops the value.
 impl<T: Drop> From<AllocFailed<T>> for FmdFault {
     ghost from_gives = { λ _ fault. fault ≡ faults.Memory };
 

@@ -1,4 +1,4 @@
-//! What ties the definitions together. The functions do nothing: their contracts are the laws.
+//! Laws about the definitions. The functions do nothing: their contracts are the laws.
 
 ghost use Rattle.std.specs.Prelude.{◌≡◌, ◌≢◌, ℕ, List, ◌++◌, Some, None};
 ghost use Rattle.flash_format.specs.Laws.{IsReadAsMap};
@@ -18,7 +18,7 @@ pub fn one_tree(text: &[u8])
     ensures { (t u : Tree) → IsSection t (words text.now) → IsSection u (words text.now) → t ≡ u }
 {}
 
-/// A text that has a tree has no misplaced word: its first fault, where it has one, is another.
+/// A text with a tree has no unexpected token: its first fault, if any, is of another kind.
 pub fn trees_have_no_misplaced_word(text: &[u8])
     ensures { (t : Tree) (at : ℕ) (what : Expected) → IsSection t (words text.now)
         → first_fault text.now ≢ Some (FmdFault.Expected at what) }
@@ -30,8 +30,8 @@ pub fn faultless_texts_have_a_tree(text: &[u8])
     ensures { (t : Tree) × IsSection t (words text.now) }
 {}
 
-/// Sections that are laid have no fault among those of one parent: no second omitted size, none empty, none over another or
-/// outside.
+/// Sections with a valid layout have no fault below any parent: no second omitted size, no empty
+/// section, no overlap and no section outside its parent.
 pub fn laid_sections_have_no_fault(table: &Table)
     ensures { (t : Tree) → IsTable t table.now → parent_fault 0 table.now.size t ≡ None }
 {}
@@ -39,13 +39,15 @@ pub fn laid_sections_have_no_fault(table: &Table)
 /// A tree has at most one table.
 pub fn one_table(one: &Table, other: &Table)
     ensures { (t : Tree) → IsTable t one.now → IsTable t other.now
-        → (table_head one.now ≡ table_head other.now) × (one.now.areas.items ≡ other.now.areas.items) }
+        → (table_head one.now ≡ table_head other.now)
+        × (one.now.areas.items ≡ other.now.areas.items) }
 {}
 
-/// The bytes of the table of a text, which has no fault and whose tree has none of its layout, are read as a valid map with
-/// the table's head and areas, whatever bytes follow them in an image.
+/// For a text and a layout without faults, the bytes of the table parse as a valid map with the
+/// table's header and areas, regardless of the following bytes of an image.
 pub fn tables_are_maps(text: &[u8], table: &Table)
     requires { first_fault text.now ≡ None }
-    ensures { (t : Tree) (more : List ℕ) → IsSection t (words text.now) → layout_fault t ≡ None → IsTable t table.now
+    ensures { (t : Tree) (more : List ℕ) → IsSection t (words text.now) → layout_fault t ≡ None
+        → IsTable t table.now
         → IsReadAsMap (table_head table.now) table.now.areas.items (table_bytes table.now ++ more) }
 {}

@@ -1,6 +1,8 @@
 //! The layout of a whole descriptor.
 
-ghost use Rattle.std.specs.Prelude.{◌≡◌, ◌≤◌, ◌<◌, ◌+◌, ◌*◌, ◌^◌, ◌⊎◌, ◌++◌, [], ℕ, length, map, vec_len, Some, None, suc, codes, OnOk, IfOk, IfErr, IsTrue, nat_le};
+ghost use Rattle.std.specs.Prelude.{◌≡◌, ◌≤◌, ◌<◌, ◌+◌, ◌*◌, ◌^◌, ◌⊎◌, ◌++◌, [], ℕ, length, map};
+ghost use Rattle.std.specs.Prelude.{vec_len, Some, None, suc, codes, OnOk, IfOk, IfErr, IsTrue};
+ghost use Rattle.std.specs.Prelude.{nat_le};
 ghost use Rattle.std.specs.List.{list_all, list_any};
 ghost use Rattle.std.specs.Result.{result_err};
 ghost use Rattle.fmd_lang.specs.Faults.{Refuses};
@@ -21,14 +23,14 @@ use crate::table::Table;
 use flash_format::{Area, FmapHead};
 use std::alloc::Global;
 
-/// The table of a tree: where its sections lie. The first refusal is that of the names (a duplicate, no FMAP, too
-/// many), then of the places, parent by parent in preorder, then of the size of FMAP. It goes as deep as the tree,
-/// and a tree that `parse` answers has at most 33 levels.
+/// Computes the table of a tree. The order of errors is: names (duplicate, no FMAP, too many),
+/// places of each parent in preorder, size of FMAP. The recursion is as deep as the tree; a tree
+/// from `parse` has at most 33 levels.
 #[tactic(auto, unfolding(crate::specs::LayoutFaults::layout_fault))]
 pub fn lay_out(alloc: Global, root: &Section) -> Result<Table, FmdFault>
     ensures table { IfOk result (λ table. IsTable (view root.now) table) }
     ensures few { IfOk result (λ table. length table.areas.items ≤ area_limit) }
-    // A layout that is answered has no fault; a refusal is the first, unless memory ran out.
+    // A successful layout has no fault. An error is the first fault, or an allocation failure.
     ensures refused { Refuses (layout_fault (view root.now)) result }
 {
     check_names_of(alloc, root)?;
@@ -44,7 +46,7 @@ pub fn lay_out(alloc: Global, root: &Section) -> Result<Table, FmdFault>
     })
 }
 
-/// The root's size.
+/// Returns the root's size.
 fn root_size(root: &Section) -> Result<u32, FmdFault>
     ensures size { IfOk result (λ size. size_of (view root.now) ≡ Some size) }
     ensures fault { faults.size_fault (size_of (view root.now)) ≡ result_err result }
@@ -56,7 +58,7 @@ fn root_size(root: &Section) -> Result<u32, FmdFault>
     }
 }
 
-/// Pushes the areas below the section that `areas` numbers, which begins at `at`.
+/// Pushes the areas below the section, which begins at `at` and has the number `areas.len()`.
 fn push_areas(
     alloc: Global,
     section: &Section,
@@ -68,8 +70,10 @@ fn push_areas(
     requires inside { at + size < 2 ^ 32 }
     ensures ok { OnOk result (areas.new.items ≡ areas.old.items
         ++ areas_below (length areas.old.items) at size (view section.now)) }
-    ensures count { OnOk result (length areas.new.items + 1 ≡ length areas.old.items + section_count (view section.now)) }
-    ensures refused { Refuses (faults.parent_fault (length areas.old.items) size (view section.now)) result }
+    ensures count { OnOk result
+        (length areas.new.items + 1 ≡ length areas.old.items + section_count (view section.now)) }
+    ensures refused { Refuses
+        (faults.parent_fault (length areas.old.items) size (view section.now)) result }
 {
     let places = places(alloc, section, areas.len(), size)?;
     for (index, part) in section.parts.iter().enumerate() {
@@ -87,7 +91,7 @@ fn push_areas(
     Ok(())
 }
 
-/// The places of the parts of the section with this number.
+/// Returns the places of the section's parts.
 fn places(
     alloc: Global,
     section: &Section,
@@ -95,16 +99,20 @@ fn places(
     size: u32,
 ) -> Result<Vec<Place>, FmdFault>
     requires { number + section_count (view section.now) ≤ area_limit + 1 }
-    ensures ok { IfOk result (λ row. row.items ≡ spec.places_of size 0 (spec.siblings (suc number) (views (out-Section section.now).parts.items))) }
-    ensures len { IfOk result (λ row. length row.items ≡ length (out-Section section.now).parts.items) }
-    ensures inside { IfOk result (λ row. IsTrue (list_all (λ q. nat_le (end_of q) size) row.items)) }
-    ensures refused { Refuses (row_fault size (spec.siblings (suc number) (views (out-Section section.now).parts.items))) result }
+    ensures ok { IfOk result (λ row. row.items ≡ spec.places_of size 0
+        (spec.siblings (suc number) (views (out-Section section.now).parts.items))) }
+    ensures len { IfOk result (λ row.
+        length row.items ≡ length (out-Section section.now).parts.items) }
+    ensures inside { IfOk result (λ row.
+        IsTrue (list_all (λ q. nat_le (end_of q) size) row.items)) }
+    ensures refused { Refuses (row_fault size
+        (spec.siblings (suc number) (views (out-Section section.now).parts.items))) result }
 {
     let row = siblings(alloc, number + 1, &section.parts)?;
     lay_row(alloc, size, &row)
 }
 
-/// The parts as a row of siblings, the first having this number.
+/// Returns the parts as a row of siblings, numbered from `first` in preorder.
 fn siblings(alloc: Global, first: usize, parts: &[Section]) -> Result<Vec<Sibling>, FmdFault>
     requires { first + length (names_of (views parts.now)) < 2 ^ 64 }
     ensures ok { IfOk result (λ row. row.items ≡ spec.siblings first (views parts.now)) }
@@ -124,7 +132,7 @@ fn siblings(alloc: Global, first: usize, parts: &[Section]) -> Result<Vec<Siblin
     Ok(row)
 }
 
-/// How many sections there are, this one included.
+/// Counts the sections, including the root.
 fn count(section: &Section) -> usize
     requires { section_count (view section.now) < 2 ^ 64 }
     ensures { result ≡ section_count (view section.now) }
@@ -136,7 +144,7 @@ fn count(section: &Section) -> usize
     all
 }
 
-/// Refuses areas of which FMAP is smaller than their table.
+/// Refuses an area FMAP smaller than the table.
 fn check_fmap(areas: &[Area]) -> Result<(), FmdFault>
     requires { length areas.now ≤ area_limit }
     ensures { faults.table_fault areas.now ≡ result_err result }
@@ -147,7 +155,7 @@ fn check_fmap(areas: &[Area]) -> Result<(), FmdFault>
     Ok(())
 }
 
-/// The size of the area FMAP, and 0 without one.
+/// Returns the size of the area FMAP, or 0 if there is none.
 fn fmap_size(areas: &[Area]) -> u32
     ensures { result ≡ spec_table.fmap_size areas.now }
 {

@@ -1,4 +1,4 @@
-//! The language of flashmap descriptors (`.fmd`): words, grammar, layout, and the table that a descriptor compiles to.
+//! The language of flashmap descriptors (`.fmd`): lexer, parser, layout, and the compiled table.
 #![tactic(auto)]
 
 mod fault;

@@ -1,6 +1,7 @@
 //! The names of a descriptor's sections.
 
-ghost use Rattle.std.specs.Prelude.{◌≡◌, ◌≤◌, ◌+◌, ◌⊎◌, ◌++◌, [], None, Some, codes, map, length, OnOk, IfOk, IfErr};
+ghost use Rattle.std.specs.Prelude.{◌≡◌, ◌≤◌, ◌+◌, ◌⊎◌, ◌++◌, [], None, Some, codes, map, length};
+ghost use Rattle.std.specs.Prelude.{OnOk, IfOk, IfErr};
 ghost use Rattle.std.specs.List.{list_any};
 ghost use Rattle.std.specs.Str.{bytes_eq};
 ghost use Rattle.std.specs.Result.{result_err};
@@ -15,7 +16,7 @@ use crate::table::AREA_LIMIT;
 use std::alloc::Global;
 use std::collections::BTreeSet;
 
-/// Refuses a tree by its names: one that stands twice, no FMAP, too many.
+/// Refuses a duplicate name, a tree without FMAP, or an excessive number of names.
 pub fn check_names_of(alloc: Global, root: &Section) -> Result<(), FmdFault>
     ensures { Refuses (names_fault (names (view root.now))) result }
 {
@@ -24,9 +25,10 @@ pub fn check_names_of(alloc: Global, root: &Section) -> Result<(), FmdFault>
     check_names(alloc, &all)
 }
 
-/// Pushes the names of a section and of all below it, in preorder.
+/// Pushes the names of a section and of its descendants, in preorder.
 fn push_names<'s>(section: &'s Section, all: &mut Vec<&'s [u8]>) -> Result<(), FmdFault>
-    ensures ok { OnOk result (map (λ r. r.now) all.new.items ≡ map (λ r. r.now) all.old.items ++ names (view section.now)) }
+    ensures ok { OnOk result (map (λ r. r.now) all.new.items
+        ≡ map (λ r. r.now) all.old.items ++ names (view section.now)) }
     ensures err { IfErr result (λ fault. fault ≡ FmdFault.Memory) }
 {
     all.push(section.name.as_slice())?;
@@ -36,7 +38,7 @@ fn push_names<'s>(section: &'s Section, all: &mut Vec<&'s [u8]>) -> Result<(), F
     Ok(())
 }
 
-/// Refuses a name that stands twice, and what `check_parts` refuses.
+/// Refuses a duplicate name, and returns the errors of `check_parts`.
 fn check_names(alloc: Global, names: &[&[u8]]) -> Result<(), FmdFault>
     ensures { Refuses (names_fault (map (λ r. r.now) names.now)) result }
 {
@@ -49,7 +51,7 @@ fn check_names(alloc: Global, names: &[&[u8]]) -> Result<(), FmdFault>
     }
 }
 
-/// The number of the first name that an earlier one equals.
+/// Returns the number of the first name that occurred earlier.
 fn first_duplicate(alloc: Global, names: &[&[u8]]) -> Result<Option<usize>, FmdFault>
     ensures ok { IfOk result (λ found. found ≡ duplicate 0 [] (map (λ r. r.now) names.now)) }
     ensures err { IfErr result (λ fault. fault ≡ FmdFault.Memory) }
@@ -63,7 +65,7 @@ fn first_duplicate(alloc: Global, names: &[&[u8]]) -> Result<Option<usize>, FmdF
     Ok(None)
 }
 
-/// Refuses parts none of which is named FMAP, and too many of them.
+/// Refuses parts without FMAP, and an excessive number of parts.
 fn check_parts(parts: &[&[u8]]) -> Result<(), FmdFault>
     ensures { areas_fault (map (λ r. r.now) parts.now) ≡ result_err result }
 {
@@ -76,7 +78,7 @@ fn check_parts(parts: &[&[u8]]) -> Result<(), FmdFault>
     Ok(())
 }
 
-/// Whether one of these names is FMAP.
+/// Returns whether a name is FMAP.
 fn has_fmap(names: &[&[u8]]) -> bool
     ensures { result ≡ list_any (bytes_eq (codes "FMAP")) (map (λ r. r.now) names.now) }
 {
@@ -88,7 +90,7 @@ fn has_fmap(names: &[&[u8]]) -> bool
     false
 }
 
-/// A name as the table has it.
+/// Returns a name padded with NULs, as in the table.
 pub fn field_of(name: &[u8]) -> [u8; 32]
     ensures { result ≡ field_of name.now }
 {

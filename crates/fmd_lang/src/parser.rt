@@ -1,15 +1,19 @@
-//! The parser: each function reads from a place of the text, and answers a value and the place after it.
+//! The parser. Each function reads from an offset and returns a value and the offset after it.
 
-ghost use Rattle.std.specs.Prelude.{◌≡◌, ◌≢◌, ◌≤◌, ◌<◌, ◌+◌, ◌⊎◌, ◌∷◌, ℕ, suc, length, true, false, Some, None, Err, IfOk, IfErr, MatchOption, MatchResult};
+ghost use Rattle.std.specs.Prelude.{◌≡◌, ◌≢◌, ◌≤◌, ◌<◌, ◌+◌, ◌⊎◌, ◌∷◌, ℕ, suc, length, true, false};
+ghost use Rattle.std.specs.Prelude.{Some, None, Err, IfOk, IfErr, MatchOption, MatchResult};
 ghost use Rattle.std.specs.Result.{result_err};
 ghost use Rattle.fmd_lang.specs.Words.{words, words_after, kind_of};
 ghost use Rattle.fmd_lang.specs.Lexing.{word_of, end_of};
-ghost use Rattle.fmd_lang.specs.Faults.{Stage, depth_limit, fault_from, own_fault, Refuses, start, past, at_sign, in_annotations, wanted_at, first_fault};
-ghost use Rattle.fmd_lang.specs.Grammar.{One, HasValue, HaveFlags, IsA, IsOffset, IsSize, AreAnnotations, AreSections, IsSection, Until, flags_with};
+ghost use Rattle.fmd_lang.specs.Faults.{Stage, depth_limit, fault_from, own_fault, Refuses, start};
+ghost use Rattle.fmd_lang.specs.Faults.{past, at_sign, in_annotations, wanted_at, first_fault};
+ghost use Rattle.fmd_lang.specs.Grammar.{One, HasValue, HaveFlags, IsA, IsOffset, IsSize};
+ghost use Rattle.fmd_lang.specs.Grammar.{AreAnnotations, AreSections, IsSection, Until, flags_with};
 ghost use Rattle.fmd_lang.specs.Parsing.{Parses, IsNext, IsBody};
 ghost use Rattle.fmd_lang.specs.Tree.{view, views};
 ghost use Rattle.fmd_lang.specs.Grammar as grammar;
-ghost use Rattle.fmd_lang.specs.declared.word.Kind.TheVariants.{CloseBrace, CloseParen, Name, Number};
+ghost use Rattle.fmd_lang.specs.declared.word.Kind.TheVariants.{CloseBrace, CloseParen, Name};
+ghost use Rattle.fmd_lang.specs.declared.word.Kind.TheVariants.{Number};
 
 use crate::fault::{Expected, FmdFault};
 use crate::number::read_number;
@@ -17,16 +21,16 @@ use crate::section::Section;
 use crate::word::{Kind, Word, next_word};
 use std::alloc::Global;
 
-/// How many bytes a text may have.
+/// The maximum length of a text, in bytes.
 pub const TEXT_LIMIT: usize = 1_048_576;
 
-/// The most braces that may be open.
+/// The maximum number of open braces.
 const DEPTH_LIMIT: u32 = 32;
 
-/// The longest name.
+/// The maximum length of a name, in bytes.
 const NAME_LIMIT: usize = 31;
 
-/// The next word, which isn't refused by itself, and its value where it is a number.
+/// The next token without a lexical fault, and its value if it is a number.
 #[derive(Clone, Copy)]
 struct Token<'t> {
     word: Word<'t>,
@@ -34,12 +38,12 @@ struct Token<'t> {
     value: Option<u32>,
 }
 
-/// The tree of a descriptor.
+/// Parses a descriptor.
 #[tactic(auto, unfolding(crate::specs::Faults::first_fault, crate::specs::Words::words, crate::specs::Words::words_after))]
 pub fn parse(alloc: Global, text: &[u8]) -> Result<Section, FmdFault>
-    // A tree is the text's.
+    // The tree matches the text by the grammar.
     ensures tree { IfOk result (λ t. IsSection (view t) (words text.now)) }
-    // The text of a tree that is answered has no fault; a refusal is the text's first, unless memory ran out.
+    // A text with a tree has no fault. An error is the first fault, or an allocation failure.
     ensures refused { Refuses (first_fault text.now) result }
 {
     if text.len() > TEXT_LIMIT {
@@ -48,10 +52,11 @@ pub fn parse(alloc: Global, text: &[u8]) -> Result<Section, FmdFault>
     tree(alloc, text)
 }
 
-/// The tree of a text, whatever its length.
+/// Parses a text regardless of its length.
 fn tree(alloc: Global, text: &[u8]) -> Result<Section, FmdFault>
     ensures tree { IfOk result (λ t. IsSection (view t) (words_after text.now 0)) }
-    ensures refused { Refuses (fault_from (start, 0) (length text.now) (words_after text.now 0)) result }
+    ensures refused { Refuses
+        (fault_from (start, 0) (length text.now) (words_after text.now 0)) result }
 {
     let (tree, to) = root(alloc, text)?;
     let token = peek(text, to, 0)?;
@@ -61,7 +66,7 @@ fn tree(alloc: Global, text: &[u8]) -> Result<Section, FmdFault>
     }
 }
 
-/// The root, at the text's start, and the place after it.
+/// Parses the root, at the start of the text.
 fn root(alloc: Global, text: &[u8]) -> Result<(Section, usize), FmdFault>
     ensures { Parses (λ t ws. IsSection (view t) ws) (start, 0) (past 4, 0) text.now 0 result }
 {
@@ -72,7 +77,7 @@ fn root(alloc: Global, text: &[u8]) -> Result<(Section, usize), FmdFault>
     }
 }
 
-/// The rest of a section, after its name.
+/// Parses the rest of a section, after its name.
 #[cycle(section)]
 fn section(
     alloc: Global,
@@ -83,8 +88,8 @@ fn section(
     requires inside { end_of name.now ≤ length text.now }
     requires name { IsA Name (word_of name.now) × (own_fault Name depth (word_of name.now) ≡ None) }
     requires depth { depth ≤ depth_limit }
-    ensures { Parses (λ t ws. IsSection (view t) (word_of name.now ∷ ws)) (past 0, depth) (past 4, depth)
-        text.now (end_of name.now) result }
+    ensures { Parses (λ t ws. IsSection (view t) (word_of name.now ∷ ws)) (past 0, depth)
+        (past 4, depth) text.now (end_of name.now) result }
 {
     let (flags, at) = annotations(text, name.end(), depth)?;
     let (offset, at) = offset(text, at, depth)?;
@@ -100,7 +105,7 @@ fn section(
     Ok((section, to))
 }
 
-/// The sections of a brace list, or none.
+/// Parses the optional sections in braces.
 #[cycle(section)]
 fn body(
     alloc: Global,
@@ -109,7 +114,8 @@ fn body(
     depth: u32,
 ) -> Result<(Vec<Section>, usize), FmdFault>
     requires depth { depth ≤ depth_limit }
-    ensures { Parses (λ v. IsBody (views v.items)) (past 3, depth) (past 4, depth) text.now from result }
+    ensures { Parses (λ v. IsBody (views v.items)) (past 3, depth)
+        (past 4, depth) text.now from result }
 {
     let token = peek(text, from, depth)?;
     match token.kind {
@@ -118,7 +124,7 @@ fn body(
     }
 }
 
-/// The sections up to the `}`, inside one more pair of braces than `depth`.
+/// Parses the sections up to `}`, at a depth of `depth + 1` open braces.
 #[cycle(section)]
 fn sections(
     alloc: Global,
@@ -127,7 +133,8 @@ fn sections(
     depth: u32,
 ) -> Result<(Vec<Section>, usize), FmdFault>
     requires depth { depth < depth_limit }
-    ensures { Parses (λ v. Until CloseBrace (AreSections (views v.items))) (past 4, suc depth) (past 4, depth) text.now from result }
+    ensures { Parses (λ v. Until CloseBrace (AreSections (views v.items))) (past 4, suc depth)
+        (past 4, depth) text.now from result }
 {
     let mut parts = Vec::new(alloc);
     let mut at = from;
@@ -145,7 +152,7 @@ fn sections(
     }
 }
 
-/// A section's annotations.
+/// Parses the optional annotations.
 fn annotations(text: &[u8], from: usize, depth: u32) -> Result<(u16, usize), FmdFault>
     ensures { Parses AreAnnotations (past 0, depth) (past 1, depth) text.now from result }
 {
@@ -156,10 +163,10 @@ fn annotations(text: &[u8], from: usize, depth: u32) -> Result<(u16, usize), Fmd
     }
 }
 
-/// One annotation, which has to stand here, and more.
+/// Parses at least one annotation.
 fn first_annotation(text: &[u8], from: usize, depth: u32) -> Result<(u16, usize), FmdFault>
-    ensures { Parses (λ flags. Until CloseParen (HaveFlags flags)) (in_annotations false, depth) (past 1, depth)
-        text.now from result }
+    ensures { Parses (λ flags. Until CloseParen (HaveFlags flags)) (in_annotations false, depth)
+        (past 1, depth) text.now from result }
 {
     let token = peek(text, from, depth)?;
     match annotation_flag(token.word.bytes) {
@@ -168,14 +175,15 @@ fn first_annotation(text: &[u8], from: usize, depth: u32) -> Result<(u16, usize)
     }
 }
 
-/// The annotations after the first, and the `)`.
+/// Parses the annotations after the first, up to `)`.
 fn more_annotations(
     text: &[u8],
     from: usize,
     depth: u32,
     first: u16,
 ) -> Result<(u16, usize), FmdFault>
-    ensures { Parses (λ flags. Until CloseParen (λ ws. flags_with first ws ≡ Some flags)) (in_annotations true, depth) (past 1, depth) text.now from result }
+    ensures { Parses (λ flags. Until CloseParen (λ ws. flags_with first ws ≡ Some flags))
+        (in_annotations true, depth) (past 1, depth) text.now from result }
 {
     let mut flags = first;
     let mut at = from;
@@ -192,7 +200,7 @@ fn more_annotations(
     }
 }
 
-/// What has to stand after an annotation, in place of a word of this kind.
+/// Returns the expected token after an annotation, in place of a token of the given kind.
 fn after_annotation(kind: Kind) -> Expected
     ensures { (depth : ℕ) → result ≡ wanted_at (in_annotations true) depth kind }
 {
@@ -202,7 +210,7 @@ fn after_annotation(kind: Kind) -> Expected
     }
 }
 
-/// What an annotation adds to the flags.
+/// Returns the flags of an annotation.
 fn annotation_flag(bytes: &[u8]) -> Option<u16>
     ensures { result ≡ grammar.annotation_flag bytes.now }
 {
@@ -215,7 +223,7 @@ fn annotation_flag(bytes: &[u8]) -> Option<u16>
     }
 }
 
-/// A section's offset.
+/// Parses the optional offset.
 fn offset(text: &[u8], from: usize, depth: u32) -> Result<(Option<u32>, usize), FmdFault>
     ensures { Parses IsOffset (past 1, depth) (past 2, depth) text.now from result }
 {
@@ -229,7 +237,7 @@ fn offset(text: &[u8], from: usize, depth: u32) -> Result<(Option<u32>, usize), 
     }
 }
 
-/// A number that has to stand here.
+/// Parses a required number.
 fn number(text: &[u8], from: usize, depth: u32) -> Result<(u32, usize), FmdFault>
     ensures { Parses (λ n. One (HasValue n)) (at_sign, depth) (past 2, depth) text.now from result }
 {
@@ -240,7 +248,7 @@ fn number(text: &[u8], from: usize, depth: u32) -> Result<(u32, usize), FmdFault
     }
 }
 
-/// A section's size.
+/// Parses the optional size.
 fn size(text: &[u8], from: usize, depth: u32) -> Result<(Option<u32>, usize), FmdFault>
     ensures { Parses IsSize (past 2, depth) (past 3, depth) text.now from result }
 {
@@ -251,10 +259,11 @@ fn size(text: &[u8], from: usize, depth: u32) -> Result<(Option<u32>, usize), Fm
     }
 }
 
-/// The next word.
+/// Reads the next token.
 fn peek<'t>(text: &'t [u8], from: usize, depth: u32) -> Result<Token<'t>, FmdFault>
     ensures next { IfOk result (λ token. IsNext text.now from depth token) }
-    ensures refused { IfErr result (λ fault. (s : Stage) → fault_from (s, depth) (length text.now) (words_after text.now from) ≡ Some fault) }
+    ensures refused { IfErr result (λ fault. (s : Stage)
+        → fault_from (s, depth) (length text.now) (words_after text.now from) ≡ Some fault) }
 {
     let word = next_word(text, from);
     let kind = word.kind();
@@ -262,10 +271,11 @@ fn peek<'t>(text: &'t [u8], from: usize, depth: u32) -> Result<Token<'t>, FmdFau
     Ok(Token { word, kind, value })
 }
 
-/// The value of a word of this kind, which numbers alone have; or its refusal by itself, while `depth` braces are open.
+/// Returns the value of a number, None for another token, or the lexical fault of the token.
 fn value_of(word: &Word<'_>, kind: Kind, depth: u32) -> Result<Option<u32>, FmdFault>
     requires { IsA kind (word_of word.now) }
-    ensures value { IfOk result (λ value. MatchOption value (kind ≢ Number) (λ n. HasValue n (word_of word.now))) }
+    ensures value { IfOk result (λ value.
+        MatchOption value (kind ≢ Number) (λ n. HasValue n (word_of word.now))) }
     ensures fault { own_fault kind depth (word_of word.now) ≡ result_err result }
 {
     let at = word.place;
@@ -278,14 +288,14 @@ fn value_of(word: &Word<'_>, kind: Kind, depth: u32) -> Result<Option<u32>, FmdF
     }
 }
 
-/// The refusal of what stands at a place, where something else has to.
+/// Returns an error about an unexpected token.
 fn expected<T>(at: usize, what: Expected) -> Result<T, FmdFault>
     ensures { result ≡ Err (FmdFault.Expected at what) }
 {
     Err(FmdFault::Expected { at, what })
 }
 
-/// A copy of bytes.
+/// Copies bytes.
 fn copied(alloc: Global, bytes: &[u8]) -> Result<Vec<u8>, FmdFault>
     ensures { MatchResult result (λ v. v.items ≡ bytes.now) (λ fault. fault ≡ FmdFault.Memory) }
 {

@@ -3,13 +3,14 @@
 /// A section of a descriptor, with its parts.
 #[derive(Drop)]
 pub struct Section {
-    /// At most 31 bytes from a text; FMAP is the one that the table goes to.
+    /// At most 31 bytes from `parse`. The section FMAP receives the table.
     pub name: Vec<u8>,
-    /// The flags of its area; a text sets 8 (preserve) alone.
+    /// The flags of the area. `parse` sets only 8 (preserve).
     pub flags: u16,
-    /// Counted in bytes from the parent's start, where the text gives it; the root's is the flash's base address.
+    /// In bytes from the parent's start, if explicit. The root's offset is the flash's base
+    /// address.
     pub offset: Option<u32>,
-    /// In bytes, where the text gives it.
+    /// In bytes, if explicit.
     pub size: Option<u32>,
     /// The sections in its braces, in order.
     pub parts: Vec<Section>,

@@ -1,4 +1,4 @@
-//! The table of a descriptor, and its bytes.
+//! The table of a descriptor, and its encoding.
 
 ghost use Rattle.std.specs.Prelude.{◌≡◌, ◌≤◌, ◌<◌, ◌⊎◌, length, OnOk, IfOk, IfErr};
 ghost use Rattle.fmd_lang.specs.Faults.{Refuses};
@@ -9,25 +9,26 @@ use crate::fault::FmdFault;
 use flash_format::{Area, FmapHead};
 use std::alloc::Global;
 
-/// The most areas that a table has, as its head counts them by 16 bits.
+/// The maximum number of areas: the header's count has 16 bits.
 pub const AREA_LIMIT: usize = 65_535;
 
 const _: () = prove!(AREA_LIMIT == u16::MAX as usize);
 
-/// The table that a descriptor compiles to: the head's fields, and the areas.
+/// The compiled table of a descriptor: the header's fields and the areas.
 #[derive(Drop)]
 pub struct Table {
     /// The flash's base address: the root's offset, or 0.
     pub base: u64,
     /// The root's size, in bytes.
     pub size: u32,
-    /// The root's name, with NULs after it; one of more than 32 bytes is cut.
+    /// The root's name, padded with NULs and truncated to 32 bytes.
     pub name: [u8; 32],
-    /// All sections but the root, in preorder; an offset is that from the root's start.
+    /// All sections except the root, in preorder, with offsets relative to the root's start.
     pub areas: Vec<Area>,
 }
 
-/// The bytes of a table: the head of FMAP 1.1, and the areas. More areas than the head can count are refused.
+/// Encodes a table: the header of FMAP 1.1, followed by the areas. Refuses more areas than the
+/// header can count.
 pub fn encode(alloc: Global, table: &Table) -> Result<Vec<u8>, FmdFault>
     ensures bytes { IfOk result (λ bytes. bytes.items ≡ table_bytes table.now) }
     ensures refused { Refuses (count_fault (length table.now.areas.items)) result }

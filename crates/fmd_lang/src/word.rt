@@ -1,37 +1,39 @@
-//! The words of a descriptor's text.
+//! The lexer of descriptors.
 
-ghost use Rattle.std.specs.Prelude.{◌≡◌, ◌≤◌, ◌<◌, ◌+◌, ◌^◌, ◌∷◌, length, nat_eq, true, false, slice_index, slice_range, IsTrue};
+ghost use Rattle.std.specs.Prelude.{◌≡◌, ◌≤◌, ◌<◌, ◌+◌, ◌^◌, ◌∷◌, length, nat_eq, true, false};
+ghost use Rattle.std.specs.Prelude.{slice_index, slice_range, IsTrue};
 ghost use Rattle.std.specs.List.{position_or_len, prefix_len};
 ghost use Rattle.fmd_lang.specs.Words.{words_after, word};
 ghost use Rattle.fmd_lang.specs.Words as spec;
 ghost use Rattle.fmd_lang.specs.Lexing.{begins_word, IsFirst, end_of};
 
-/// What a word is, by its first byte.
+/// The kind of a token, by its first byte.
 #[derive(Clone, Copy)]
 pub enum Kind {
-    /// Plain bytes, of which the first is no digit.
+    /// Plain bytes that begin with no digit.
     Name,
-    /// Plain bytes, of which the first is a digit.
+    /// Plain bytes that begin with a digit.
     Number,
     OpenParen,
     CloseParen,
     At,
     OpenBrace,
     CloseBrace,
-    /// A byte that no word may have.
+    /// An invalid byte.
     Bad,
-    /// The text's end, as a word of no bytes.
+    /// The end of the text, as an empty token.
     End,
 }
 
-/// A word, with the place of its first byte in the text.
+/// A token, and the offset of its first byte.
 #[derive(Clone, Copy)]
 pub struct Word<'t> {
     pub place: usize,
     pub bytes: &'t [u8],
 }
 
-/// The first word from `from` on, where neither a word nor a comment goes on; at the text's end one of no bytes.
+/// Returns the first token from `from` on, which lies outside any token or comment; at the end of
+/// the text, an empty token.
 pub fn next_word<'t>(text: &'t [u8], from: usize) -> Word<'t>
     ensures { IsFirst text.now from result }
 {
@@ -49,11 +51,12 @@ pub fn next_word<'t>(text: &'t [u8], from: usize) -> Word<'t>
     }
 }
 
-/// Where the next word begins, or the text's end.
+/// Returns the start of the next token, or the end of the text.
 fn skip_blanks(text: &[u8], from: usize) -> usize
     ensures inside { result ≤ length text.now }
     ensures same { words_after text.now from ≡ words_after text.now result }
-    ensures word { result < length text.now → (from ≤ result) × IsTrue (begins_word (slice_index text.now result)) }
+    ensures word { result < length text.now
+        → (from ≤ result) × IsTrue (begins_word (slice_index text.now result)) }
 {
     let mut at = from;
     while at < text.len() {
@@ -69,7 +72,7 @@ fn skip_blanks(text: &[u8], from: usize) -> usize
     text.len()
 }
 
-/// How many bytes stand before the first line feed, or all.
+/// Returns the number of bytes before the first line feed, or of all bytes.
 fn comment_len(bytes: &[u8]) -> usize
     ensures short { result ≤ length bytes.now }
     ensures len { result ≡ position_or_len (λ b. nat_eq b 10) bytes.now }
@@ -77,11 +80,12 @@ fn comment_len(bytes: &[u8]) -> usize
     bytes.iter().take_while(|byte| **byte != b'\n').count()
 }
 
-/// Where the word ends that begins at `place`.
+/// Returns the end of the token that begins at `place`.
 fn word_end(text: &[u8], place: usize) -> usize
     requires { (place < length text.now) × IsTrue (begins_word (slice_index text.now place)) }
     ensures inside { (place < result) × (result ≤ length text.now) }
-    ensures word { words_after text.now place ≡ word place (slice_range text.now place result) ∷ words_after text.now result }
+    ensures word { words_after text.now place
+        ≡ word place (slice_range text.now place result) ∷ words_after text.now result }
 {
     if is_plain(text[place]) {
         place + 1 + plain_len(&text[place + 1..])
@@ -90,7 +94,7 @@ fn word_end(text: &[u8], place: usize) -> usize
     }
 }
 
-/// How many plain bytes these begin with.
+/// Returns the number of leading plain bytes.
 fn plain_len(bytes: &[u8]) -> usize
     ensures short { result ≤ length bytes.now }
     ensures len { result ≡ prefix_len spec.is_plain bytes.now }
@@ -111,7 +115,7 @@ fn is_plain(byte: u8) -> bool
 }
 
 impl Word<'_> {
-    /// What the word is, by its first byte.
+    /// Returns the kind of the token, by its first byte.
     pub fn kind(&self) -> Kind
         ensures { result ≡ spec.kind_of self.now.bytes.now }
     {
@@ -130,7 +134,7 @@ impl Word<'_> {
         }
     }
 
-    /// The place after the word.
+    /// Returns the offset after the token.
     pub fn end(&self) -> usize
         requires { end_of self.now < 2 ^ 64 }
         ensures { result ≡ end_of self.now }
