@@ -19,7 +19,7 @@ commands: print layout extract add remove read write create
 /// The refusal of a file that can't be opened; `failed` where neither its size nor memory is the cause.
 fn open_refusal(fault: OpenFault, failed: Refusal) -> Refusal {
     match fault {
-        OpenFault::Failed => failed,
+        OpenFault::Failed(_) => failed,
         OpenFault::TooLarge => Refusal::TooLarge,
         OpenFault::Memory => Refusal::Memory,
     }

@@ -7,4 +7,4 @@ use Rattle.flash_store.specs.declared.open_fault.OpenFault.TheVariants.{Failed, 
 -- why a file was not opened, by the kind of the error
 abbrev pub open_fault_of : ErrorKind → OpenFault
 open_fault_of OutOfMemory = Memory
-open_fault_of _ = Failed
+open_fault_of kind = Failed kind

@@ -2,13 +2,13 @@
 ghost use Rattle.std.specs.Prelude.{◌≡◌, ◌^◌, ◌<◌, ◌≤◌};
 
 use crate::storage::StorageFault;
-use std::io;
+use std::io::{self, ErrorKind};
 
 /// Why a file was not opened as a device or a source. Nothing was read or written then.
 #[derive(Clone, Copy, Debug, PartialEq, Eq, Drop)]
 pub enum OpenFault {
-    /// It isn't there, or may not be used in this way.
-    Failed,
+    /// It isn't there, or may not be used in this way: the kind of the system's error.
+    Failed(ErrorKind),
     /// It has 2^32 bytes or more.
     TooLarge,
     /// Memory was refused.
@@ -23,19 +23,20 @@ impl From<io::Error> for OpenFault {
 
     fn from(error: io::Error) -> OpenFault {
         match error.kind() {
-            io::ErrorKind::OutOfMemory => OpenFault::Memory,
-            _ => OpenFault::Failed,
+            ErrorKind::OutOfMemory => OpenFault::Memory,
+            kind => OpenFault::Failed(kind),
         }
     }
 }
 
 impl From<StorageFault> for OpenFault {
+    ghost use Rattle.std.specs.declared.io.ErrorKind.TheVariants.{Other};
     ghost use Rattle.flash_store.specs.declared.open_fault.OpenFault.TheVariants.{Failed};
 
-    ghost from_gives = { λ _ fault. fault ≡ Failed };
+    ghost from_gives = { λ _ fault. fault ≡ Failed Other };
 
     fn from(_: StorageFault) -> OpenFault {
-        OpenFault::Failed
+        OpenFault::Failed(ErrorKind::Other)
     }
 }
 

@@ -82,7 +82,7 @@ impl OsFile {
         if opened.metadata.is_file() {
             opened.file.set_len(0)?;
         } else if opened.len()? < size {
-            return Err(OpenFault::Failed);
+            return Err(OpenFault::Failed(ErrorKind::StorageFull));
         }
         Ok(Self::with_length(opened.file, size))
     }
@@ -97,12 +97,12 @@ impl OsFile {
     /// a writer.
     pub fn open_to_read<R: Files<File = File>>(rt: &R, path: &str) -> Result<OsFile, OpenFault> {
         if !rt.metadata(path)?.is_file() {
-            return Err(OpenFault::Failed);
+            return Err(OpenFault::Failed(ErrorKind::Unsupported));
         }
         let file = open_beside_standard(rt, OpenOptions::new().read(true), path)?;
         let metadata = file.metadata()?;
         if !metadata.is_file() {
-            return Err(OpenFault::Failed);
+            return Err(OpenFault::Failed(ErrorKind::Unsupported));
         }
         let len = checked_length(metadata.len())?;
         Ok(Self::with_length(file, len))
@@ -162,8 +162,11 @@ impl Access {
 /// whose length depends on its file system.
 fn refuse_pipes<R: Files<File = File>>(rt: &R, path: &str) -> Result<(), OpenFault> {
     let kind = rt.metadata(path)?.file_type();
-    if kind.is_fifo() || kind.is_dir() {
-        return Err(OpenFault::Failed);
+    if kind.is_dir() {
+        return Err(OpenFault::Failed(ErrorKind::IsADirectory));
+    }
+    if kind.is_fifo() {
+        return Err(OpenFault::Failed(ErrorKind::Unsupported));
     }
     Ok(())
 }
@@ -195,7 +198,7 @@ fn open_locked<R: Files<File = File>>(
             return Ok(opened);
         }
     }
-    Err(OpenFault::Failed)
+    Err(OpenFault::Failed(ErrorKind::ResourceBusy))
 }
 
 /// A file that is open and locked.
