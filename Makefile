@@ -17,7 +17,7 @@ DOC = $(PREFIX)/share/doc/cbfstool$(SUFFIX)
 # (the folder of the documents as the pages name it)
 DOC_SHOWN = $(DOC)
 FOLDERS = $(BIN) $(MAN1) $(MAN5) $(BASH_FILES) $(ZSH_FILES) $(FISH_FILES) $(DOC)/docs $(DOC)/bench $(DOC)/examples $(DOC)
-DOCUMENTS = bench.svg growth.svg layers.svg overview.svg DECISIONS.md DEVELOPING.md FORMAT.md MISTAKES.md MOVING.md PROMISES.md
+DOCUMENTS = bench.svg growth.svg layers.svg overview.svg cbfscheck.schema.json DECISIONS.md DEVELOPING.md FORMAT.md MISTAKES.md MOVING.md PROMISES.md
 EXAMPLES = add-at-end check-build extract-all flash-checked fmap-config replace-component
 PROGRAMS = cbfstool fmaptool cbfscheck
 FILES = $(foreach program,$(PROGRAMS),$(BIN)/$(program)$(SUFFIX) $(MAN1)/$(program)$(SUFFIX).1 \

@@ -705,17 +705,21 @@ walks() {
 }
 
 # versions: the pages and the newest heading of CHANGELOG.md name the version, and that release has a date, from which
-# the archive and the package take the times of their files
+# the archive and the package take the times of their files. The page of cbfscheck has the version of the newest heading
+# `VERSION of cbfscheck`.
 versions() {
-    local page version date
+    local page version date checker
     version=$(cat "$top/VERSION")
     [[ $version =~ ^[0-9]+(\.[0-9]+)+$ ]] || fail "claims: $version is no version"
-    for page in cbfstool.1 fmaptool.1 cbfscheck.1 fmd.5; do
+    for page in cbfstool.1 fmaptool.1 fmd.5; do
         section "$page" HISTORY | grep -xF "This page is of version $version." > /dev/null || fail "claims: $page isn't of version $version"
     done
-    [ "$(grep -m 1 '^## ' "$top/CHANGELOG.md")" = "## $version" ] || fail "claims: CHANGELOG.md begins with $(grep -m 1 '^## ' "$top/CHANGELOG.md"), and not with $version"
+    checker=$(sed -n 's/^## \(.*\) of cbfscheck$/\1/p' "$top/CHANGELOG.md" | head -n 1)
+    section cbfscheck.1 HISTORY | grep -xF "This page is of version $checker." > /dev/null || fail "claims: cbfscheck.1 isn't of version $checker"
+    grep -F "cbfscheck $checker" "$top/crates/cbfscheck/src/texts.rt" > /dev/null || fail "claims: cbfscheck isn't of version $checker"
+    [ "$(grep '^## ' "$top/CHANGELOG.md" | grep -v ' of cbfscheck$' | head -n 1)" = "## $version" ] || fail "claims: CHANGELOG.md doesn't begin with $version"
     date=$(sed -n '/^## /,/^- /s/^Released on \(.*\)\.$/\1/p' "$top/CHANGELOG.md" | head -n 1)
-    [ "$(sed -n '/^## /{n;n;p;q}' "$top/CHANGELOG.md")" = "Released on $date." ] && LC_ALL=C date -u -d "$date" > /dev/null ||
+    [ "$(sed -n "/^## ${version//./\\.}\$/{n;n;p;q}" "$top/CHANGELOG.md")" = "Released on $date." ] && LC_ALL=C date -u -d "$date" > /dev/null ||
         fail "claims: CHANGELOG.md has no date of $version"
 }
 

@@ -8,7 +8,7 @@ prepare() {
     samples=$PWD/samples checks=$PWD/checks
     local program=${2:-}
     if [ -z "$program" ]; then
-        (cd "crates/$name" && rt run > /dev/null)
+        (cd "crates/$name" && rt run -- $(cat args 2> /dev/null) > /dev/null)
         program=crates/$name/out/$name
     fi
     work=$(mktemp -d)

@@ -69,20 +69,30 @@ says_in_json() {
     [ "$other" = "$wanted" ] || fail "$name --json $*: status $other"
     [ "$(wc -l < json_text)" = 1 ] ||
         fail "$name --json $*: the document has $(wc -l < json_text) lines"
+    cat json_text >> documents
     python3 - rows json_text <<'COMPARED' || fail "$name --json $*: the document says otherwise"
 import json, re, sys
 rows = [line.rstrip("\n").split("\t") for line in open(sys.argv[1])]
 document = json.load(open(sys.argv[2]))
-shown = lambda name: re.sub(r"[^!-\[\]-~]", lambda byte: "\\x%02x" % ord(byte[0]), name)
+assert list(document) == ["format", "rows", "bad", "remarks", "changes"], document
+assert document["format"] == 1, document
+encoded = lambda name: bytes(name) if isinstance(name, list) else name.encode()
+shown = lambda name: "".join(chr(b) if 0x21 <= b <= 0x7e and b != 0x5c else "\\x%02x" % b for b in encoded(name))
 wanted = []
-for row in document.pop("rows"):
+for row in document["rows"]:
+    keys = ["verdict", "code", "area", "component", "position", "what", "value", "other"]
+    assert list(row) == [key for key in keys if key in row] and "code" in row, row
     fields = [row["verdict"], shown(row.get("area", "-")), shown(row.get("component", "-"))]
     fields += [hex(row["position"]) if "position" in row else "-", row["what"]]
-    wanted.append((fields, row.get("value")))
-found = [(row[:5], int(row[5], 0) if len(row) > 5 else None) for row in rows[:-1]]
+    detail = shown(row["other"]) if "other" in row else row.get("value")
+    wanted.append((fields, detail))
+found = [(row[:5], row[5] if row[5:] else None) for row in rows[:-1]]
+assert len(wanted) == len(found), (wanted, found)
+found = [(fields, int(detail, 0) if isinstance(row[1], int) else detail) for (fields, detail), row in zip(found, wanted)]
 assert wanted == found, (wanted, found)
 counts = "%(bad)d bad, %(remarks)d remarks, %(changes)d changes" % document
 assert [counts] == rows[-1], document
-assert list(document) == ["bad", "remarks", "changes"], document
+with open("seen_codes", "a") as seen:
+    seen.writelines("%(code)s\t%(what)s\n" % row for row in document["rows"])
 COMPARED
 }

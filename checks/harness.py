@@ -51,7 +51,7 @@ def programs(words):
     elif words in ([], ["--built"]):
         if not words:
             for name in NAMES:
-                if os.system(f"cd crates/{name} && rt run > /dev/null"):
+                if os.system(f"cd crates/{name} && rt run -- $(cat args 2> /dev/null) > /dev/null"):
                     raise Fault(f"{name} is not built")
         paths = [f"crates/{name}/out/{name}" for name in NAMES]
     else:

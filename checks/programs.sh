@@ -9,7 +9,7 @@ programs() {
     case ${1:-} in
         "" | --built)
             for program in cbfstool fmaptool cbfscheck; do
-                [ "${1:-}" = --built ] || (cd "crates/$program" && rt run > /dev/null)
+                [ "${1:-}" = --built ] || (cd "crates/$program" && rt run -- $(cat args 2> /dev/null) > /dev/null)
             done
             set -- crates/cbfstool/out/cbfstool crates/fmaptool/out/fmaptool crates/cbfscheck/out/cbfscheck
             ;;

@@ -1,14 +1,115 @@
-"""What cbfscheck has to tell of an image and of two, by what `layout` and `print -v` show of them, for checks/fuzz."""
+"""What cbfscheck has to report of an image, and of two, by what `layout` and `print -v` show of them; for checks/fuzz."""
 import collections, re
 
-Told = collections.namedtuple("Told", "verdict area component position what value")
+BLOCK = 4096
+TIMES = 8
+MOST_OF_A_KIND = 16
+MOST_COMPARED = 4096
+PRESERVE = 8
+SHAPES = {"bad region size": "region-size", "not a CBFS region": "no-cbfs"}
+TYPES = {
+    0: "deleted", 1: "bootblock", 2: "cbfs header", 0x10: "legacy stage", 0x11: "stage", 0x20: "simple elf",
+    0x21: "fit_payload", 0x30: "optionrom", 0x40: "bootsplash", 0x50: "raw", 0x51: "vsa", 0x52: "mbi",
+    0x53: "microcode", 0x60: "fsp", 0x61: "mrc", 0xaa: "cmos_default", 0xab: "spd", 0xac: "mrc_cache",
+    0x1aa: "cmos_layout", 0xffffffff: "null",
+}
+# the verdict and the text of each code; a digest's and a damage's text has its kind before or after this
+KINDS = {
+    "no-map": ("bad", "no flashmap"),
+    "map": ("remark", "flashmap"),
+    "other-map": ("remark", "another flashmap"),
+    "map-size": ("bad", "the flashmap states another size than the image has"),
+    "area-outside": ("bad", "ends outside the image"),
+    "area-empty": ("remark", "has no bytes"),
+    "area-same-name": ("bad", "has the name of an earlier area"),
+    "area-overlaps": ("bad", "overlaps"),
+    "too-many-areas": ("remark", "too many areas to look for overlaps"),
+    "area-name": ("remark", "name isn't UTF-8"),
+    "no-map-area": ("bad", "no area FMAP"),
+    "map-area": ("bad", "doesn't hold the flashmap"),
+    "area-not-checked": ("remark", "isn't checked: the areas before it are eight times the image"),
+    "no-area": ("bad", "no such area"),
+    "region-size": ("bad", "size is 0 or no multiple of 64"),
+    "no-cbfs": ("bad", "no CBFS"),
+    "component-shadowed": ("bad", "has the name of an earlier component"),
+    "component-type": ("remark", "type without a name"),
+    "component-name": ("remark", "name isn't UTF-8"),
+    "hash-valid": ("remark", "valid"),
+    "hash-invalid": ("bad", "invalid"),
+    "hash-missing": ("remark", "no hash"),
+    "hash-unsupported": ("remark", "hash unsupported"),
+    "component-deleted": ("remark", "deleted component"),
+    "complete": ("remark", "complete"),
+    "tail": ("remark", "unused tail"),
+    "tail-bytes": ("bad", "unused tail has other bytes than 0xff and 0x00"),
+    "tail-entry": ("bad", "entry in the unused tail"),
+    "entry-damaged": ("bad", "damaged entry"),
+    "no-components": ("remark", "no components"),
+    "components": ("remark", "components"),
+    "free-bytes": ("remark", "free bytes"),
+    "largest-free": ("remark", "largest free run"),
+    "need-missing": ("bad", "needed component isn't there"),
+    "need-elsewhere": ("bad", "needed component is elsewhere"),
+    "image-size": ("change", "image size changed from"),
+    "blocks": ("change", "erase blocks differ"),
+    "no-old-map": ("change", "the old image has no flashmap"),
+    "map-moved": ("change", "flashmap moved from"),
+    "map-base": ("change", "base address changed from"),
+    "map-name": ("change", "name of the flashmap changed"),
+    "area-added": ("change", "area added"),
+    "area-gone": ("change", "area gone"),
+    "area-moved": ("change", "area moved from"),
+    "area-resized": ("change", "area resized from"),
+    "area-flags": ("change", "flags changed from"),
+    "area-changed": ("change", "erase blocks differ"),
+    "area-not-compared": ("change", "not compared"),
+    "component-added": ("change", "component added"),
+    "component-removed": ("change", "component removed"),
+    "component-type-changed": ("change", "type changed"),
+    "component-length-changed": ("change", "length changed"),
+    "component-content-changed": ("change", "content changed"),
+    "component-attributes-changed": ("change", "attributes changed"),
+    "component-moved": ("change", "component moved from"),
+    "components-not-compared": ("change", "components not compared"),
+}
+# whose detail is hexadecimal in text
+HEXADECIMAL = {"component-type", "image-size", "map-moved", "map-base", "area-moved", "area-resized", "area-flags",
+               "component-moved"}
+MORE = "more of these"
+
+# `other` is the name of another area
+Finding = collections.namedtuple("Finding", "verdict code area component position what value other")
+Need = collections.namedtuple("Need", "area component place")
+# what is asked for: names of areas, needs, and options
+Wishes = collections.namedtuple("Wishes", "areas kept needs is_verbose needs_hashes keeps_preserved",
+                                defaults=((), (), (), False, False, False))
 Component = collections.namedtuple("Component", "at name type content attributes")
 
-BLOCK = 4096
-MOST_COMPARED = 4096
-MOST_TRIED = 8
-SHAPES = {"bad region size": "size is 0 or no multiple of 64", "not a CBFS region": "no CBFS"}
 
+class Shown:
+    """What is shown of an image: its bytes, the places of its map and of the next one, or None, its areas, and by `view`
+    the listing of an area."""
+
+    def __init__(self, data, place, next_place, areas, view):
+        self.data, self.place, self.next_place, self.areas, self.view = data, place, next_place, areas, view
+
+    def number(self, at, size):
+        """A number of the map's head."""
+        return int.from_bytes(self.data[self.place + at:self.place + at + size], "little")
+
+    def map_name(self):
+        """The map's own name."""
+        return self.data[self.place + 22:self.place + 54].split(b"\0")[0]
+
+
+def finding(code, area=None, component=None, position=None, value=None, **others):
+    """A finding with the verdict and the text of its code, if no others are given."""
+    verdict, what = KINDS[code]
+    row = Finding(verdict, code, area, component, position, what, value, None)
+    return row._replace(**others)
+
+
+# ---- rows as they are printed
 
 def name_of(value):
     """A name's bytes, as JSON has them."""
@@ -22,24 +123,49 @@ def shown(name):
     return "".join(chr(byte) if 0x21 <= byte <= 0x7e and byte != 0x5c else f"\\x{byte:02x}" for byte in name)
 
 
-def told(row):
-    """A row of a JSON document."""
-    return Told(row["verdict"], name_of(row.get("area")), name_of(row.get("component")), row.get("position"), row["what"],
-                row.get("value"))
+def found(row):
+    """The finding of a row of a JSON document."""
+    area, component, other = (name_of(row.get(key)) for key in ("area", "component", "other"))
+    return Finding(row["verdict"], row["code"], area, component, row.get("position"), row["what"], row.get("value"), other)
 
 
-def is_line_of(line, row):
-    """Whether a line of text says what the row does."""
+def line(row):
+    """A row as a line of text."""
     place = "-" if row.position is None else f"0x{row.position:x}"
-    fields = line.split("\t")
-    detail = fields[5:]
-    is_detail = len(detail) == 1 and re.fullmatch(r"0x(0|[1-9a-f][0-9a-f]*)|0|[1-9]\d*", detail[0])
-    return (fields[:5] == [row.verdict, shown(row.area), shown(row.component), place, row.what]
-            and (is_detail and int(detail[0], 0) == row.value if row.value is not None else not detail))
+    fields = [row.verdict, shown(row.area), shown(row.component), place, row.what]
+    if row.value is not None:
+        is_hexadecimal = row.code in HEXADECIMAL and row.what != MORE
+        fields.append(f"0x{row.value:x}" if is_hexadecimal else str(row.value))
+    return "\t".join(fields + ([shown(row.other)] if row.other is not None else []))
 
+
+def counts(rows):
+    """How many rows of each verdict there are."""
+    count = collections.Counter(row.verdict for row in rows)
+    return [count["bad"], count["remark"], count["change"]]
+
+
+def shortened(rows):
+    """At most 16 rows of a kind, and then how many more of each kind there are."""
+    count, left = collections.Counter(), []
+    for row in rows:
+        count[row.verdict, row.code] += 1
+        left += [row] * (count[row.verdict, row.code] <= MOST_OF_A_KIND)
+    return left + [finding(code, value=n - MOST_OF_A_KIND, verdict=verdict, what=MORE)
+                   for (verdict, code), n in count.items() if n > MOST_OF_A_KIND]
+
+
+# ---- of the flashmap
 
 def ends(area):
     return area.offset + area.size
+
+
+def is_text(name):
+    try:
+        return name.decode() is not None
+    except UnicodeDecodeError:
+        return False
 
 
 def overlap(one, other):
@@ -47,143 +173,155 @@ def overlap(one, other):
     return (one.offset < other.offset < ends(one) < ends(other)) or (other.offset < one.offset < ends(other) < ends(one))
 
 
-# ---- of the flashmap
-
-def of_map(areas, place, image):
-    """The rows of a map at this place, but for those of another map."""
-    size = len(image)
-    rows = [Told("remark", None, None, place, "flashmap", None)]
-    if int.from_bytes(image[place + 18:place + 22], "little") != size:
-        rows.append(Told("bad", None, None, None, "the flashmap states another size than the image has", None))
-    for area in areas:
-        rows += [Told("bad", area.name, None, area.offset, "ends outside the image", None)] * (ends(area) > size)
-        rows += [Told("remark", area.name, None, area.offset, "has no bytes", None)] * (area.size == 0)
+def firsts(areas):
+    """The first area of each name."""
     first = {}
-    for number, area in enumerate(areas):
-        if first.setdefault(area.name, number) != number:
-            what = "has the name of the area of this number"
-            rows.append(Told("bad", area.name, None, area.offset, what, first[area.name]))
-    rows += of_overlaps(areas)
-    own = next((area for area in areas if area.name == b"FMAP"), None)
-    if own is None:
-        rows.append(Told("bad", None, None, None, "no area FMAP", None))
-    elif not (own.offset <= place and place + 56 + 42 * len(areas) <= ends(own)):
-        rows.append(Told("bad", own.name, None, own.offset, "doesn't hold the flashmap", None))
-    return rows
-
-
-def of_overlaps(areas):
-    if len(areas) > MOST_COMPARED:
-        return [Told("remark", None, None, None, "too many areas to look for overlaps", None)]
-    rows = []
     for area in areas:
-        other = next((number for number, other in enumerate(areas) if overlap(area, other)), None)
+        first.setdefault(area.name, area)
+    return first
+
+
+def of_map(image):
+    if image.place is None:
+        return [finding("no-map")]
+    size, areas = len(image.data), image.areas
+    rows = [finding("map", position=image.place)]
+    rows += [finding("other-map", position=image.next_place)] * (image.next_place is not None)
+    rows += [finding("map-size")] * (image.number(18, 4) != size)
+    for area in areas:
+        rows += [finding("area-outside", area.name, position=area.offset)] * (ends(area) > size)
+        rows += [finding("area-empty", area.name, position=area.offset)] * (area.size == 0)
+        rows += [finding("area-name", area.name, position=area.offset)] * (not is_text(area.name))
+    names = set()
+    for area in areas:
+        rows += [finding("area-same-name", area.name, position=area.offset, other=area.name)] * (area.name in names)
+        names.add(area.name)
+    rows += [finding("too-many-areas")] * (len(areas) > MOST_COMPARED)
+    for area in areas if len(areas) <= MOST_COMPARED else []:
+        other = next((other for other in areas if overlap(area, other)), None)
         if other is not None:
-            rows.append(Told("bad", area.name, None, area.offset, "overlaps the area of this number", other))
+            rows.append(finding("area-overlaps", area.name, position=area.offset, other=other.name))
+    own = firsts(areas).get(b"FMAP")
+    if own is None:
+        rows.append(finding("no-map-area"))
+    elif not (own.offset <= image.place and image.place + 56 + 42 * len(areas) <= ends(own)):
+        rows.append(finding("map-area", own.name, position=own.offset))
     return rows
 
 
 # ---- of the areas
 
-def by_place(areas):
-    """The numbers of the areas by their starts, of those with one start the larger first."""
-    return sorted(range(len(areas)), key=lambda number: (areas[number].offset, -areas[number].size))
+def selected(image, expected=()):
+    """The areas inside the image that are checked: those of these names, and of each place the smallest one that begins with
+    an entry."""
+    smallest = {}
+    for area in image.areas:
+        if area.size >= 24:
+            smallest[area.offset] = min(area.size, smallest.get(area.offset, area.size))
+    for number, area in enumerate(image.areas):
+        begins = area.size >= 24 and image.data[area.offset:area.offset + 8] == b"LARCHIVE"
+        if ends(area) <= len(image.data) and (area.name in expected or begins and smallest[area.offset] == area.size):
+            yield number
 
 
-def looked(areas, names, image, rows_of):
-    """The numbers of the areas that are looked at, and of those that are passed over, by the rows of some."""
-    lowest, at, over, tried = len(image), set(), set(), 0
-    for number in reversed(by_place(areas)):
-        area = areas[number]
-        begins = area.size >= 24 and image[area.offset:area.offset + 8] == b"LARCHIVE"
-        if ends(area) > len(image) or not (area.name in names or begins):
+def expected_names(old, wishes):
+    """The names of areas that are checked whatever they begin with."""
+    names = {b"COREBOOT", *wishes.areas, *(need.area for need in wishes.needs)}
+    return names | ({old.areas[number].name for number in selected(old)} if old else set())
+
+
+def of_image(image, expected, wishes):
+    """The rows of the areas, and the numbers of those that are checked."""
+    rows, checked, left = [], [], TIMES * len(image.data)
+    for number in selected(image, expected):
+        area = image.areas[number]
+        if area.size > left:
+            verdict = "bad" if area.name in expected else "remark"
+            rows.append(finding("area-not-checked", area.name, position=area.offset, verdict=verdict))
             continue
-        met = {other for other in at if areas[other].offset < ends(area)}
-        if ends(area) > lowest:
-            is_tried = tried < MOST_TRIED
-            tried += is_tried
-            if not is_tried or not takes_place(areas, names, number, met, rows_of):
-                over.add(number)
-                continue
-        at, over, lowest = at - met | {number}, over | met, area.offset
-    return at, over
+        left -= area.size
+        checked.append(number)
+        rows += of_region(area, image.view(area), wishes)
+    return rows, checked
 
 
-def takes_place(areas, names, number, met, rows_of):
-    """Whether an area takes the place of those that it meets."""
-    if any(areas[other].name in names for other in met):
-        return False
-    if areas[number].name in names:
-        return True
-    return any(map(has_bad, map(rows_of, met))) and is_filled(rows_of(number)) and not has_bad(rows_of(number))
+def of_hash(row, wishes):
+    """The code, the text and the verdict of a component's digest, by its lines."""
+    code, what = "hash-missing", None
+    for text in row.details:
+        if text == b"\thash\tunsupported":
+            code = "hash-unsupported"
+        elif text.startswith(b"\thash\t"):
+            _, _, algorithm, _, state = text.decode().split("\t")
+            code, what = f"hash-{state}", f"{algorithm} {state}"
+    verdict, usual = KINDS[code]
+    is_needed = wishes.needs_hashes and code in ("hash-missing", "hash-unsupported")
+    return code, what or usual, "bad" if is_needed else verdict
 
 
-def of_passed(area, names):
-    """The row of an area that is passed over."""
-    if area.name in names:
-        what = "isn't checked, although it is named: another area has bytes of it"
-        return Told("bad", area.name, None, area.offset, what, None)
-    return Told("remark", area.name, None, area.offset, "isn't checked, another area has bytes of it", None)
+def of_component(area, row, names, wishes):
+    """The rows of a component after others of these names."""
+    place = (area.name, row.name, row.at)
+    rows = [finding("component-shadowed", *place)] * (row.name in names)
+    rows += [finding("component-name", *place)] * (not is_text(row.name))
+    rows += [finding("component-type", *place, row.type)] * (row.type not in TYPES)
+    code, what, verdict = of_hash(row, wishes)
+    is_asked = code != "hash-missing" or wishes.is_verbose or wishes.needs_hashes
+    return rows + [finding(code, *place, what=what, verdict=verdict)] * is_asked
 
 
-def has_bad(rows):
-    return any(row.verdict == "bad" for row in rows)
+def of_tail(area, end, tail):
+    """The rows of the bytes after the cells."""
+    rows = [finding("tail", area.name, position=end)]
+    other = next((at for at, byte in enumerate(tail[:-4]) if byte not in (0, 0xff)), None)
+    rows += [finding("tail-bytes", area.name, position=end + (other or 0))] * (other is not None)
+    return rows + [finding("tail-entry", area.name, position=end + at) for at in range(0, len(tail), 64)
+                   if tail[at:at + 8] == b"LARCHIVE"]
 
 
-def is_filled(rows):
-    return any(row.what == "complete" for row in rows)
+def of_end(area, view, end):
+    """The rows of how the cells end."""
+    damage = re.fullmatch(r"damaged entry at 0x[0-9a-f]+: (.+)", view.text or "")
+    if damage:
+        return [finding("entry-damaged", area.name, position=end, what=f"damaged entry: {damage[1]}")]
+    return of_tail(area, end, view.rest) if end < area.size else [finding("complete", area.name)]
 
 
-def hash_text(row):
-    """What is told of a component's digest, by its lines."""
-    for line in row.details:
-        if line == b"\thash\tunsupported":
-            return "remark", "hash unsupported"
-        if line.startswith(b"\thash\t"):
-            _, _, algorithm, _, verdict = line.decode().split("\t")
-            return "bad" if verdict == "invalid" else "remark", f"{algorithm} {verdict}"
-    return "remark", "no hash"
-
-
-def of_component(area, row, names, types):
-    rows = []
-    if row.name in names:
-        rows.append(Told("bad", area.name, row.name, row.at, "has the name of an earlier component", None))
-    if row.type not in types:
-        rows.append(Told("remark", area.name, row.name, row.at, "type without a name", row.type))
-    verdict, what = hash_text(row)
-    return [*rows, Told(verdict, area.name, row.name, row.at, what, None)]
-
-
-def of_region(area, view, types):
+def of_region(area, view, wishes):
     """The rows of a region, by its listing."""
     if view.text in SHAPES:
-        return [Told("bad", area.name, None, None, SHAPES[view.text], None)]
+        return [finding(SHAPES[view.text], area.name)]
     rows, names, free, longest, run = [], set(), 0, 0, 0
     for row in view.rows:
         if row.free:
             free, run = free + len(row.cell), run + len(row.cell)
             longest = max(longest, run)
-            rows += [Told("remark", area.name, None, row.at, "deleted component", None)] * (row.type == 0)
+            rows += [finding("component-deleted", area.name, position=row.at)] * (row.type == 0)
         else:
             run = 0
-            rows += of_component(area, row, names, types)
+            rows += of_component(area, row, names, wishes)
             names.add(row.name)
-    end = sum(len(row.cell) for row in view.rows)
-    damage = re.fullmatch(r"damaged entry at 0x[0-9a-f]+: (.+)", view.text or "")
-    if damage:
-        rows.append(Told("bad", area.name, None, end, f"damaged entry: {damage[1]}", None))
-    elif end < area.size:
-        rows.append(Told("remark", area.name, None, end, "unused tail", None))
-    else:
-        rows.append(Told("remark", area.name, None, None, "complete", None))
-    counts = [("components", sum(not row.free for row in view.rows)), ("free bytes", free), ("largest free run", longest)]
-    return rows + [Told("remark", area.name, None, None, what, count) for what, count in counts]
+    rows += of_end(area, view, sum(len(row.cell) for row in view.rows))
+    count = sum(not row.free for row in view.rows)
+    rows.append(finding("components", area.name, value=count) if count else finding("no-components", area.name))
+    return rows + [finding("free-bytes", area.name, value=free), finding("largest-free", area.name, value=longest)]
 
 
 def of_missing(areas, names):
     there = {area.name for area in areas}
-    return [Told("bad", name, None, None, "no such area", None) for name in names if name not in there]
+    return [finding("no-area", name) for name in names if name not in there]
+
+
+def of_need(need, image, checked):
+    """The row of a need that isn't met, by the listing of the first area of its name."""
+    number = next((number for number, area in enumerate(image.areas) if area.name == need.area), None)
+    rows = image.view(image.areas[number]).rows if number in checked else []
+    row = next((row for row in rows if not row.free and row.name == need.component), None)
+    if row is None:
+        return [finding("need-missing", need.area, need.component)]
+    start = row.at + int.from_bytes(row.cell[20:24], "big")
+    wanted = image.areas[number].size - row.size if need.place == "end" else need.place
+    return [finding("need-elsewhere", need.area, need.component, start)] * (wanted not in (None, start))
 
 
 # ---- of two images
@@ -193,70 +331,117 @@ def blocks(old, new):
     return sum(old[at:at + BLOCK] != new[at:at + BLOCK] for at in range(0, max(len(old), len(new)), BLOCK))
 
 
-def verdict_of(area, kept):
-    return "bad" if area.name in kept else "change"
+def kept_names(old, new, wishes):
+    """The names of the areas that have to stay."""
+    areas = [*old.areas, *new.areas] if wishes.keeps_preserved else []
+    return {*wishes.kept, *(area.name for area in areas if area.flags & PRESERVE)}
 
 
-def of_areas(areas, old, new, kept):
-    """The rows of the areas of two images with one layout."""
-    rows, left, names = [], 8 * len(new), set()
-    for area in areas:
-        if area.name in names:
+def of_maps(old, new):
+    if new.place is None or old.place is None:
+        return [finding("no-old-map")] * (new.place is not None)
+    rows = [finding("map-moved", value=old.place)] * (old.place != new.place)
+    rows += [finding("map-base", value=old.number(10, 8))] * (old.number(10, 8) != new.number(10, 8))
+    return rows + [finding("map-name")] * (old.map_name() != new.map_name())
+
+
+def of_area(before, area, left, old, new):
+    """The rows of an area that both images have, and how many bytes are left to compare."""
+    place = {"area": area.name, "position": area.offset}
+    rows = [finding("area-moved", **place, value=before.offset)] * (before.offset != area.offset)
+    rows += [finding("area-resized", **place, value=before.size)] * (before.size != area.size)
+    rows += [finding("area-flags", **place, value=before.flags)] * (before.flags != area.flags)
+    if before.size != area.size:
+        return rows, left
+    if ends(before) > len(old.data) or ends(area) > len(new.data) or area.size > left:
+        return [*rows, finding("area-not-compared", **place)], left
+    count = blocks(old.data[before.offset:ends(before)], new.data[area.offset:ends(area)])
+    return rows + [finding("area-changed", **place, value=count)] * (count > 0), left - area.size
+
+
+def of_areas(old, new):
+    """The rows of the areas of two images."""
+    rows, left, before, after = [], TIMES * len(new.data), firsts(old.areas), firsts(new.areas)
+    for name, area in after.items():
+        if name not in before:
+            rows.append(finding("area-added", name, position=area.offset))
             continue
-        names.add(area.name)
-        verdict = verdict_of(area, kept)
-        if ends(area) > min(len(old), len(new)) or area.size > left:
-            rows.append(Told(verdict, area.name, None, area.offset, "not compared", None))
-            continue
-        left -= area.size
-        count = blocks(old[area.offset:ends(area)], new[area.offset:ends(area)])
-        rows += [Told(verdict, area.name, None, area.offset, "erase blocks differ", count)] * (count > 0)
-    return rows
+        more, left = of_area(before[name], area, left, old, new)
+        rows += more
+    return rows + [finding("area-gone", name, position=area.offset) for name, area in before.items() if name not in after]
 
 
 def components_of(view):
     """The first component of each name, by their places; none of a region whose shape is refused."""
-    found = {}
+    components = {}
     for row in view.rows:
-        if not row.free and row.name not in found:
+        if not row.free and row.name not in components:
             attributes, offset = (int.from_bytes(row.cell[at:at + 4], "big") for at in (16, 20))
-            found[row.name] = Component(row.at, row.name, row.type, row.cell[offset:offset + row.size],
-                                        row.cell[attributes or offset:offset])
-    return found
+            components[row.name] = Component(row.at, row.name, row.type, row.cell[offset:offset + row.size],
+                                             row.cell[attributes or offset:offset])
+    return components
 
 
 def difference(old, new):
+    """The code of what differs first between two components."""
     if old.type != new.type:
-        return "type changed"
+        return "component-type-changed"
     if len(old.content) != len(new.content):
-        return "length changed"
+        return "component-length-changed"
     if old.content != new.content:
-        return "content changed"
-    return "attributes changed" if old.attributes != new.attributes else None
+        return "component-content-changed"
+    return "component-attributes-changed" if old.attributes != new.attributes else None
 
 
-def of_components(area, old, new, kept):
+def of_components(area, old, new):
     """The rows of a region's components, by its listings in both images."""
-    verdict, before, after, rows = verdict_of(area, kept), components_of(old), components_of(new), []
+    before, after, rows = components_of(old), components_of(new), []
     for name, component in after.items():
-        what, value = "component added", None
-        if name in before:
-            what = difference(before[name], component)
-            if what is None and before[name].at != component.at:
-                what, value = "component moved from", before[name].at
-        rows += [Told(verdict, area.name, name, component.at, what, value)] * (what is not None)
-    return rows + [Told(verdict, area.name, name, component.at, "component removed", None)
+        place = (area.name, name, component.at)
+        if name not in before:
+            rows.append(finding("component-added", *place))
+            continue
+        code = difference(before[name], component)
+        rows += [finding(code, *place)] if code else []
+        rows += [finding("component-moved", *place, before[name].at)] * (before[name].at != component.at)
+    return rows + [finding("component-removed", area.name, name, component.at)
                    for name, component in before.items() if name not in after]
 
 
-def of_regions(areas, numbers, views_of_old, views_of_new, old, kept):
-    """The rows of the components of these areas."""
-    rows, left = [], len(old)
-    for number in [number for number in by_place(areas) if number in numbers]:
-        area = areas[number]
-        if area.size > left:
-            rows.append(Told(verdict_of(area, kept), area.name, None, area.offset, "components not compared", None))
+def of_regions(old, new, checked):
+    """The rows of the components of the areas that are checked in the new image."""
+    rows, left, before = [], len(old.data), firsts(old.areas)
+    for area in [new.areas[number] for number in checked]:
+        was = before.get(area.name)
+        if was is None:
             continue
-        left -= area.size
-        rows += of_components(area, views_of_old[number], views_of_new[number], kept)
+        if ends(was) > len(old.data) or was.size > left:
+            rows.append(finding("components-not-compared", area.name, position=area.offset))
+            continue
+        left -= was.size
+        rows += of_components(area, old.view(was), new.view(area))
     return rows
+
+
+def of_changes(old, new, checked, wishes):
+    """The rows of what changes from the old image to the new one."""
+    # (an old image without a map has the areas of the new one)
+    if old.place is None:
+        old = Shown(old.data, None, None, new.areas, old.view)
+    kept = kept_names(old, new, wishes)
+    count = blocks(old.data, new.data)
+    rows = [finding("image-size", value=len(old.data))] * (len(old.data) != len(new.data))
+    rows += [finding("blocks", value=count)] * (count > 0) + of_maps(old, new)
+    told = of_areas(old, new) + of_regions(old, new, checked)
+    rows += [row._replace(verdict="bad") if row.area in kept else row for row in told]
+    return rows + of_missing([*old.areas, *new.areas], wishes.kept)
+
+
+def report(old, new, wishes):
+    """All rows of a report on an image, or on what it changes of an old one."""
+    expected = expected_names(old, wishes)
+    rows, checked = of_image(new, expected, wishes)
+    rows = of_map(new) + rows + of_missing(new.areas, wishes.areas)
+    for need in wishes.needs:
+        rows += of_need(need, new, checked)
+    return rows + (of_changes(old, new, checked, wishes) if old else [])

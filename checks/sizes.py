@@ -4,7 +4,7 @@ formats and the texts that the programs have to print of them, by the formats al
 import hashlib, pathlib, struct
 
 SIZE = 0x400000
-MOST_AREAS, MOST_COMPONENTS, MOST_REGIONS = 65535, 50000, 16
+MOST_AREAS, MOST_COMPONENTS, MOST_REGIONS, MOST_OF_A_KIND = 65535, 50000, 16, 16
 
 
 def put(name, data):
@@ -26,10 +26,21 @@ def layout(name, place, size, areas):
     return "\n".join(rows) + "\n"
 
 
+def shortened(rows):
+    """At most 16 rows of each kind, a verdict and a text, and then how many more of each there are."""
+    count, left = {}, []
+    for row in rows:
+        verdict, _, _, _, what = row.split()[:5]
+        count[verdict, what] = count.get((verdict, what), 0) + 1
+        left += [row] * (count[verdict, what] <= MOST_OF_A_KIND)
+    return left + [f"{verdict} - - - more_of_these {number - MOST_OF_A_KIND}" for (verdict, _), number in count.items()
+                   if number > MOST_OF_A_KIND]
+
+
 def report(*rows):
     """The rows, whose fields are parted by blanks, and the line of counts."""
     verdicts = [row.split()[0] for row in rows]
-    lines = ["\t".join(row.replace("_", "\0").split()).replace("\0", " ") for row in rows]
+    lines = ["\t".join(row.replace("_", "\0").split()).replace("\0", " ") for row in shortened(rows)]
     counts = ", ".join(f"{verdicts.count(word)} {shown}" for word, shown in
                        (("bad", "bad"), ("remark", "remarks"), ("change", "changes")))
     return "\n".join([*lines, counts]) + "\n"
@@ -75,7 +86,7 @@ def many_areas():
 def fit(components, free, *more):
     """The rows of the region of a good image, with more of them before its counts."""
     return ["remark - - 0x0 flashmap", *more, "remark COREBOOT - - complete",
-            f"remark COREBOOT - - components {components}",
+            f"remark COREBOOT - - {f'components {components}' if components else 'no_components'}",
             f"remark COREBOOT - - free_bytes {free}",
             f"remark COREBOOT - - largest_free_run {free}"]
 

@@ -1,11 +1,11 @@
 # Completion of cbfscheck for fish: options, files for its two images, and the areas of an image on the line, as cbfstool lists
 # them (none of an image that may not be written, or that another command has locked for a second).
 
-# Whether no word before begins with this option, but the last one where its text is still to come.
+# Whether no word before matches this option, except the last one if its value is still to come.
 function __cbfscheck_lacks
     set -l words (commandline -opc)
-    contains -- $words[-1] -r --keep; and set -e words[-1]
-    not string match -q -- "$argv[1]*" $words[2..]
+    contains -- $words[-1] -r --keep --need; and set -e words[-1]
+    not string match -q -r -- "^$argv[1]\$" $words[2..]
 end
 
 # Of the words that are given the images, without the texts of options.
@@ -17,7 +17,7 @@ function __cbfscheck_images
             continue
         end
         switch $word
-            case -r --keep
+            case -r --keep --need
                 set text yes
             case '-*'
             case '*'
@@ -51,15 +51,28 @@ function __cbfscheck_areas
     set -l rows (timeout 1 $tool $image layout 2> /dev/null)
     string match -q -r '^fmap\t' -- $rows[1]; or return
     # (what stands before the names, without the option in the same word)
-    set -l before (string replace -r '^(-r|--keep=)' '' -- (commandline -ct) | string match -r '^.*,')
+    set -l before (string replace -r '^(-r|--keep=|--need=)' '' -- (commandline -ct) | string match -r '^.*,')
     for shown in (printf '%s\n' $rows[2..] | cut -f 1)
         printf '%s%b\n' "$before" $shown
     end
 end
 
+# The same with the colon of a component, and nothing after a colon.
+function __cbfscheck_needs
+    string match -q -r ':[^,]*$' -- (commandline -ct); and return
+    for area in (__cbfscheck_areas)
+        printf '%s:\n' $area
+    end
+end
+
 complete -c cbfscheck -f
 complete -c cbfscheck -n __cbfscheck_wants_image -F
-complete -c cbfscheck -n '__cbfscheck_lacks -r' -s r -x -a '(__cbfscheck_areas)' -d 'areas that are checked as a CBFS'
-complete -c cbfscheck -n '__cbfscheck_lacks -v' -s v -d 'report components without a digest too'
+complete -c cbfscheck -n "__cbfscheck_lacks '-r.*'" -s r -x -a '(__cbfscheck_areas)' -d 'areas that are checked as a CBFS'
+complete -c cbfscheck -n '__cbfscheck_lacks -v' -s v -d 'all rows, and components without a digest'
+complete -c cbfscheck -n "__cbfscheck_lacks '--need(=.*)?'" -l need -x -a '(__cbfscheck_needs)' -d 'required components'
+complete -c cbfscheck -n '__cbfscheck_lacks --all-hashed' -l all-hashed -d 'require a digest for each component'
 complete -c cbfscheck -n '__cbfscheck_lacks --json' -l json -d 'report as one JSON document'
-complete -c cbfscheck -n '__cbfscheck_lacks --keep' -l keep -x -a '(__cbfscheck_areas)' -d 'areas that the new image must not change'
+complete -c cbfscheck -n "__cbfscheck_lacks '--keep(=.*)?'" -l keep -x -a '(__cbfscheck_areas)' -d 'areas that the new image must not change'
+complete -c cbfscheck -n '__cbfscheck_lacks --keep-preserved' -l keep-preserved -d 'areas with the flag PRESERVE must not change'
+complete -c cbfscheck -n '__cbfscheck_lacks --help' -l help -d 'print the help'
+complete -c cbfscheck -n '__cbfscheck_lacks --version' -l version -d 'print the version'

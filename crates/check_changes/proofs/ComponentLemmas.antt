@@ -2,4 +2,3 @@ pub mod FirstLemmas
 pub mod Reading
 pub mod ListingLemmas
 pub mod ChangeLemmas
-pub mod SameLemmas

@@ -1,3 +1,3 @@
 pub mod AreaChanges
 pub mod Blocks
-pub mod Images
+pub mod MapChanges

@@ -1,4 +1,3 @@
-pub mod Sides
 pub mod ComponentChanges
 pub mod Listings
 pub mod Firsts

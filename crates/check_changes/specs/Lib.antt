@@ -1,4 +1,5 @@
 pub mod Faults
+pub mod Images
 pub mod Areas
 pub mod Components
 pub mod Regions

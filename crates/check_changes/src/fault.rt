@@ -1,4 +1,4 @@
-//! Why two images aren't compared.
+//! The causes of a comparison that fails.
 ghost use Rattle.std.specs.Prelude.{◌≡◌};
 ghost use Rattle.check_changes.specs.declared.fault.ChangeFault.TheVariants as faults;
 

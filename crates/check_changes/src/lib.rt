@@ -1,4 +1,5 @@
-//! Finds what a new flash image changes of an old one: bytes, areas, and the components of its CBFS regions.
+//! Finds what a new flash image changes of an old one: its map, areas, blocks, and the components
+//! of its CBFS regions.
 #![tactic(auto)]
 
 mod areas;
@@ -6,7 +7,7 @@ mod components;
 mod fault;
 mod regions;
 
-pub use areas::{AreaChange, ImageChanges, image_changes};
+pub use areas::{AreaChange, ImageChanges, MapChange, image_changes, map_changes};
 pub use components::{ComponentChange, Difference, component_changes};
 pub use fault::ChangeFault;
 pub use regions::{ComponentChanges, RegionChange, region_changes};

@@ -1,5 +1,6 @@
 pub mod NameLemmas
-pub mod Sorting
+pub mod StartLemmas
+pub mod Regions
 pub mod Fit
 pub mod FitImages
-pub mod Looking
+pub mod Needed

@@ -1,6 +1,6 @@
-pub mod Places
 pub mod ImageFindings
 pub mod RegionAreas
-pub mod LookedAreas
+pub mod Lookups
 pub mod Verdicts
+pub mod Needs
 pub mod Laws

@@ -8,14 +8,15 @@ mod region;
 
 pub use fault::CheckFault;
 pub use image::{
-    CheckedImage, ImageFinding, RegionFindings, check_image, checked_image, fit_images_are_whole,
-    fit_regions_are_whole, fit_regions_lose_nothing, has_bad, is_bad, is_bad_map, is_bad_region,
+    CheckedImage, ImageFinding, Need, NeedFinding, NeededPlace, RegionFindings, cbfs_areas,
+    check_image, checked_image, fit_images_are_whole, fit_regions_are_whole,
+    fit_regions_lose_nothing, has_bad, is_bad, is_bad_map, is_bad_region, needs_are_there, unmet,
 };
 pub use map::{
-    AreaNames, CheckedMap, MapFinding, NumberedArea, check_map, checked_map, image_areas,
+    AreaNames, CheckedMap, ImageMap, MapFinding, NumberedArea, check_map, checked_map, image_map,
     untold_maps_are_sound,
 };
 pub use region::{
-    ComponentFinding, Name, RegionCounts, RegionFinding, check_region, starts_with_entry,
-    unshadowed_components_are_found,
+    ComponentFinding, Content, Name, RegionFinding, blank_tails_are_known, check_region,
+    starts_with_entry, unshadowed_components_are_found,
 };

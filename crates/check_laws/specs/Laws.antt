@@ -17,9 +17,11 @@ use Rattle.cbfs_commands.specs.Told.{shows}
 abbrev pub whole_listing : List ℕ → Bool → List ℕ
 whole_listing x verbose = rows_from verbose 0 (cut x).cells
 
--- a listing of a region of which a check, verbose or not, tells nothing bad has the rows of all its cells, and is done
+-- a listing of a region without a bad finding has the rows of all its cells, and is done
 abbrev pub FitRegionsAreListed : Type 0
-FitRegionsAreListed = (all : Bool) (x : List ℕ) (verbose : Bool) → list_any is_bad_region (region_findings all x) ≡ false → print_region x verbose ≡ shows (whole_listing x verbose)
+FitRegionsAreListed =
+    (needs : Bool) (x : List ℕ) (verbose : Bool) → list_any (is_bad_region needs) (region_findings x) ≡ false
+    → print_region x verbose ≡ shows (whole_listing x verbose)
 
 -- `print` of the area by its name has the rows of all its cells, and is done
 abbrev pub IsListed : List ℕ → Bool → NumberedArea → Type 0
@@ -29,10 +31,16 @@ IsListed image verbose a = told_in image (text_of a.area.name) (λ x. print_regi
 abbrev pub IsExtracted : List ℕ → NumberedArea → Type 0
 IsExtracted image a = (c : Component) → Contains (components (bytes_of image a)) c → told_in image (text_of a.area.name) (λ x. extract_region x c.name) ≡ told_component c
 
--- in an image of which a check, verbose or not, tells nothing bad each area is listed that is checked as a region
+-- in an image without a bad finding each area is listed that is checked as a region
 abbrev pub FitImagesAreListed : Type 0
-FitImagesAreListed = (all : Bool) (image : List ℕ) (names : List (List ℕ)) (verbose : Bool) → list_any is_bad (image_findings all image names) ≡ false → All (IsListed image verbose) (region_areas (image_findings all image names))
+FitImagesAreListed =
+    (needs : Bool) (image : List ℕ) (names expected : List (List ℕ)) (verbose : Bool)
+    → list_any (is_bad needs) (image_findings image names expected) ≡ false
+    → All (IsListed image verbose) (region_areas (image_findings image names expected))
 
 -- and each component of such an area is extracted
 abbrev pub FitImagesAreExtracted : Type 0
-FitImagesAreExtracted = (all : Bool) (image : List ℕ) (names : List (List ℕ)) → list_any is_bad (image_findings all image names) ≡ false → All (IsExtracted image) (region_areas (image_findings all image names))
+FitImagesAreExtracted =
+    (needs : Bool) (image : List ℕ) (names expected : List (List ℕ))
+    → list_any (is_bad needs) (image_findings image names expected) ≡ false
+    → All (IsExtracted image) (region_areas (image_findings image names expected))

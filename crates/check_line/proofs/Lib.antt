@@ -1,1 +1,3 @@
 mod Matching
+mod NeedLemmas
+mod RequestLemmas

@@ -1,1 +1,3 @@
 pub mod CheckWords
+pub mod Needs
+pub mod Wishes

@@ -3,7 +3,11 @@
 
 mod fault;
 mod line;
+mod need;
+mod reading;
 mod words;
 
-pub use fault::LineFault;
-pub use line::{CheckLine, read_check};
+pub use fault::{LineFault, WordFault};
+pub use line::{Asked, CheckLine};
+pub use need::{Need, NeededPlace};
+pub use reading::read_check;

@@ -1,19 +1,30 @@
 //! The command line: the images, and the options of their check.
 
-ghost use Rattle.std.specs.Prelude.{◌≡◌, ◌↔◌, IfOk, map, option_map};
+ghost use Rattle.std.specs.Prelude.{◌≡◌, IfOk, filter_map, find, map, option_map};
 ghost use Rattle.std.specs.List.{list_any};
 ghost use Rattle.std.specs.Result.{result_map_both};
-ghost use Rattle.clap.specs.Words.{first_of, found_of, kind_of, rows_of};
-ghost use Rattle.check_line.specs.CheckWords.{Answers, asked_by, asked_in, is_empty, is_set_by, names_by, names_in};
+ghost use Rattle.clap.specs.Words.{first_of, found_of, rows_of};
+ghost use Rattle.check_line.specs.CheckWords.{Gives, asked_in, is_empty, is_set_by, names_by, names_in, needs_by};
+ghost use Rattle.check_line.specs.Needs.{need_in, is_no_need};
 
-use crate::fault::LineFault;
-use crate::words::whole_command;
-use clap::error::ErrorKind;
-use clap::{ArgMatches, Error};
+use crate::fault::{LineFault, WordFault};
+use crate::need::{Need, need_of};
+use clap::ArgMatches;
 use std::alloc::{AllocError, Global};
 use std::marker::Model;
 
-/// A command line that was read.
+/// What a command line asks for.
+#[derive(Drop)]
+pub enum Asked<'a> {
+    /// The text of the help.
+    Help,
+    /// The version.
+    Version,
+    /// A check.
+    Check(CheckLine<'a>),
+}
+
+/// A check that a command line asks for.
 #[derive(Drop)]
 pub struct CheckLine<'a> {
     image: &'a str,
@@ -22,11 +33,14 @@ pub struct CheckLine<'a> {
     is_verbose: bool,
     is_json: bool,
     kept: Vec<&'a [u8]>,
+    keeps_preserved: bool,
+    needs_hashes: bool,
+    needs: Vec<Need<'a>>,
 }
 
 impl<'a> Model for CheckLine<'a> {
     ghost use Rattle.std.specs.Prelude.{map, option_map};
-    ghost use Rattle.check_line.specs.CheckWords.{Wish};
+    ghost use Rattle.check_line.specs.Wishes.{Wish};
 
     ghost Value = { Wish };
 
@@ -37,6 +51,9 @@ impl<'a> Model for CheckLine<'a> {
       is_verbose = l.is_verbose;
       is_json = l.is_json;
       kept = map (λ name. name.now) l.kept.items;
+      keeps_preserved = l.keeps_preserved;
+      needs_hashes = l.needs_hashes;
+      needs = l.needs.items;
     } };
 }
 
@@ -82,9 +99,31 @@ impl<'a> CheckLine<'a> {
     {
         self.kept.as_slice()
     }
+
+    /// Whether a new image must not change the areas that its map marks as preserved
+    /// (`--keep-preserved`).
+    pub fn keeps_preserved(&self) -> bool
+        ensures { result ≡ self.now.keeps_preserved }
+    {
+        self.keeps_preserved
+    }
+
+    /// Whether a component without a digest is a finding (`--all-hashed`).
+    pub fn needs_hashes(&self) -> bool
+        ensures { result ≡ self.now.needs_hashes }
+    {
+        self.needs_hashes
+    }
+
+    /// The components that areas must hold (`--need`).
+    pub fn needs(&self) -> &[Need<'a>]
+        ensures { result.now ≡ self.now.needs }
+    {
+        self.needs.as_slice()
+    }
 }
 
-/// What stands between the commas of a list.
+/// The names between the commas of a list.
 fn names_of<'a>(alloc: Global, list: &'a str) -> Result<Vec<&'a [u8]>, AllocError>
     ensures { IfOk result (λ names. map (λ name. name.now) names.items ≡ names_in list.entry.now) }
 {
@@ -98,9 +137,9 @@ fn has_empty(names: &[&[u8]]) -> bool
     names.iter().any(|name| name.is_empty())
 }
 
-/// The names that an option gives. Refused as a bad command line where one of them is empty.
-fn names_given<'a>(alloc: Global, list: Option<&'a str>) -> Result<Vec<&'a [u8]>, LineFault>
-    ensures { Answers (names_by (option_map (λ t. t.now) list.entry))
+/// The names that an option gives. Refused where one of them is empty.
+fn names_given<'a>(alloc: Global, list: Option<&'a str>) -> Result<Vec<&'a [u8]>, LineFault<'a>>
+    ensures { Gives (names_by (option_map (λ t. t.now) list.entry))
         (result_map_both (λ names. map (λ name. name.now) names.items) (λ fault. fault) result) }
 {
     let Some(list) = list else {
@@ -108,9 +147,45 @@ fn names_given<'a>(alloc: Global, list: Option<&'a str>) -> Result<Vec<&'a [u8]>
     };
     let names = names_of(alloc, list)?;
     if has_empty(names.as_slice()) {
-        return Err(LineFault::Usage);
+        return Err(LineFault::Word {
+            fault: WordFault::BadAreas,
+            word: list,
+        });
     }
     Ok(names)
+}
+
+/// The first part of a list that is no need.
+fn bad_need<'a>(list: &'a str) -> Option<&'a str>
+    ensures { option_map (λ t. t.now) result ≡ find is_no_need (names_in list.entry.now) }
+{
+    list.split(',').find(|part| need_of(part).is_none())
+}
+
+/// The needs between the commas of a list, without the parts that are none.
+fn needs_of<'a>(alloc: Global, list: &'a str) -> Result<Vec<Need<'a>>, AllocError>
+    ensures { IfOk result (λ needs. needs.items ≡ filter_map need_in (names_in list.entry.now)) }
+{
+    list.split(',')
+        .filter_map(|part| need_of(part))
+        .collect(alloc)
+}
+
+/// The needs that an option gives. Refused where a part of its list is none.
+fn needs_given<'a>(alloc: Global, list: Option<&'a str>) -> Result<Vec<Need<'a>>, LineFault<'a>>
+    ensures { Gives (needs_by (option_map (λ t. t.now) list.entry))
+        (result_map_both (λ needs. needs.items) (λ fault. fault) result) }
+{
+    let Some(list) = list else {
+        return Ok(Vec::new(alloc));
+    };
+    match bad_need(list) {
+        Some(word) => Err(LineFault::Word {
+            fault: WordFault::BadNeed,
+            word,
+        }),
+        None => Ok(needs_of(alloc, list)?),
+    }
 }
 
 /// The text that the words give for an id.
@@ -130,46 +205,28 @@ fn is_set(matches: &ArgMatches<'_>, id: &str) -> bool
     }
 }
 
-/// The line of these matches. Refused as a bad command line where a name is empty, or `--keep` stands there without a new
-/// image.
-fn line_of<'a>(alloc: Global, matches: &ArgMatches<'a>) -> Result<CheckLine<'a>, LineFault>
-    ensures { Answers (asked_in (rows_of (found_of matches.now))) result }
+/// The line of these matches. Refused without an image, where an option compares two images and
+/// there is one, and where a list is bad.
+pub fn line_of<'a>(alloc: Global, matches: &ArgMatches<'a>) -> Result<Asked<'a>, LineFault<'a>>
+    ensures { Gives (asked_in (rows_of (found_of matches.now))) result }
 {
-    let (image, new_image) = (text(matches, "image"), text(matches, "new"));
-    let keep = text(matches, "keep");
-    let Some(image) = image else {
-        return Err(LineFault::Usage);
+    let (new_image, keep) = (text(matches, "new"), text(matches, "keep"));
+    let keeps_preserved = is_set(matches, "keep-preserved");
+    let Some(image) = text(matches, "image") else {
+        return Err(LineFault::NoImage);
     };
-    if keep.is_some() && new_image.is_none() {
-        return Err(LineFault::Usage);
+    if (keep.is_some() || keeps_preserved) && new_image.is_none() {
+        return Err(LineFault::NoNewImage);
     }
-    Ok(CheckLine {
+    Ok(Asked::Check(CheckLine {
         image,
         new_image,
         areas: names_given(alloc, text(matches, "areas"))?,
         is_verbose: is_set(matches, "verbose"),
         is_json: is_set(matches, "json"),
         kept: names_given(alloc, keep)?,
-    })
-}
-
-/// The fault of words that clap doesn't take.
-fn fault_of(error: Error) -> LineFault
-    ensures { (result ≡ LineFault.Memory) ↔ (kind_of error ≡ ErrorKind.OutOfMemory) }
-{
-    match error.kind() {
-        ErrorKind::OutOfMemory => LineFault::Memory,
-        _ => LineFault::Usage,
-    }
-}
-
-/// Reads the words after the program's name: IMAGE and maybe NEW, and the options, in any order. Refused as a bad command
-/// line are also no word at all, an option that is given twice, a third path, and the wish for help.
-pub fn read_check<'a>(alloc: Global, words: &'a [&'a str]) -> Result<CheckLine<'a>, LineFault>
-    ensures { Answers (asked_by (map (λ w. w.now) words.entry.now)) result }
-{
-    match whole_command(alloc)?.try_get_matches_from(words) {
-        Ok(matches) => line_of(alloc, &matches),
-        Err(error) => Err(fault_of(error)),
-    }
+        keeps_preserved,
+        needs_hashes: is_set(matches, "all-hashed"),
+        needs: needs_given(alloc, text(matches, "need"))?,
+    }))
 }

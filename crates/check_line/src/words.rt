@@ -1,13 +1,37 @@
 //! The words that clap reads: IMAGE and NEW, and the options, which may stand anywhere among them.
 
-ghost use Rattle.std.specs.Prelude.{◌≡◌, IfOk};
-ghost use Rattle.clap.specs.Words.{app_of};
-ghost use Rattle.check_line.specs.CheckWords.{check_words};
+ghost use Rattle.std.specs.Prelude.{◌≡◌, IfOk, false};
+ghost use Rattle.clap.specs.Words.{app_of, rule_of};
+ghost use Rattle.check_line.specs.CheckWords.{check_words, flag, long_option, short_option};
 
 use clap::{Arg, ArgAction, Command};
 use std::alloc::{AllocError, Global};
 
-/// The words after the program's name.
+/// Returns the option `-C VALUE`.
+fn short<'a>(alloc: Global, letter: char, id: &'a str) -> Arg<'a>
+    ensures rule { rule_of result ≡ short_option letter id.entry.now }
+    ensures local { result.global ≡ false }
+{
+    Arg::new(alloc, id).short(letter)
+}
+
+/// Returns the option `--NAME VALUE`.
+fn long<'a>(alloc: Global, name: &'a str) -> Arg<'a>
+    ensures rule { rule_of result ≡ long_option name.entry.now }
+    ensures local { result.global ≡ false }
+{
+    Arg::new(alloc, name).long(name)
+}
+
+/// Returns the option without a value.
+fn flag<'a>(option: Arg<'a>) -> Arg<'a>
+    ensures rule { rule_of result ≡ flag (rule_of option.entry) }
+    ensures local { result.global ≡ option.entry.global }
+{
+    option.action(ArgAction::SetTrue)
+}
+
+/// Returns the words after the program's name.
 pub fn whole_command<'a>(alloc: Global) -> Result<Command<'a>, AllocError>
     ensures { IfOk result (λ c. app_of c ≡ check_words) }
 {
@@ -15,16 +39,11 @@ pub fn whole_command<'a>(alloc: Global) -> Result<Command<'a>, AllocError>
         .no_binary_name(true)
         .arg(Arg::new(alloc, "image"))?
         .arg(Arg::new(alloc, "new"))?
-        .arg(Arg::new(alloc, "areas").short('r'))?
-        .arg(
-            Arg::new(alloc, "verbose")
-                .short('v')
-                .action(ArgAction::SetTrue),
-        )?
-        .arg(
-            Arg::new(alloc, "json")
-                .long("json")
-                .action(ArgAction::SetTrue),
-        )?
-        .arg(Arg::new(alloc, "keep").long("keep"))
+        .arg(short(alloc, 'r', "areas"))?
+        .arg(flag(short(alloc, 'v', "verbose")))?
+        .arg(flag(long(alloc, "json")))?
+        .arg(long(alloc, "keep"))?
+        .arg(flag(long(alloc, "keep-preserved")))?
+        .arg(flag(long(alloc, "all-hashed")))?
+        .arg(long(alloc, "need"))
 }

@@ -1,21 +1,27 @@
 -- A row is bad where its finding is.
 use Rattle.std.proofs.Common.{◌≡◌, ℕ, List, [], ◌∷◌, refl}
-use Rattle.std.specs.Prelude.{Bool}
+use Rattle.std.specs.Prelude.{Bool, true, false, not, ◌||◌}
 use Rattle.std.specs.List.{flat_map, list_any}
+use lib.Chars.{codes}
 use Rattle.std.proofs.lemmas.List.Concat.{flat_map-cons}
 use Rattle.std.proofs.lemmas.List.Folds.{list_any-append}
 use Rattle.cbfs_walk.specs.declared.hashes.HashState.TheVariants.{Absent, Valid, Invalid, Unsupported}
-use Rattle.check_findings.specs.declared.region.finding.ComponentFinding.TheVariants.{Shadowed, UnknownType, Hash}
+use Rattle.check_findings.specs.declared.region.finding.ComponentFinding.TheVariants as finding
+use Rattle.check_findings.specs.declared.region.finding.Content.{Content}
+use Rattle.check_findings.specs.declared.map.finding.NumberedArea.{NumberedArea}
+use Rattle.cbfs_walk.specs.declared.hashes.HashState.{HashState}
+use Rattle.check_report.specs.declared.region.Asked.{Asked}
+use Rattle.check_report.specs.declared.rows.row.Detail.TheVariants as details
 use Rattle.check_findings.specs.declared.region.finding.RegionFinding.{RegionFinding}
 use Rattle.check_findings.specs.declared.region.finding.RegionFinding.TheVariants as of_region
 use Rattle.check_findings.specs.declared.map.finding.MapFinding.{MapFinding}
 use Rattle.check_findings.specs.declared.map.finding.MapFinding.TheVariants as of_map
 use Rattle.check_findings.specs.declared.image.finding.ImageFinding.{ImageFinding}
-use Rattle.check_findings.specs.declared.image.finding.ImageFinding.TheVariants.{Map, Skipped, Unchecked, Region, NoRegion}
-use Rattle.check_findings.specs.Image.Verdicts.{is_bad, is_bad_map, is_bad_region}
-use Rattle.check_report.specs.Rows.Rows.{SeenRow}
-use Rattle.check_report.specs.FindingRows.{area_name, map_row, region_rows, rows_of, finding_rows}
-use Rattle.check_report.specs.Rows.Rows.{is_bad_row}
+use Rattle.check_findings.specs.declared.image.finding.ImageFinding.TheVariants.{Map, Region, NotChecked, NoArea}
+use Rattle.check_findings.specs.Image.Verdicts.{is_bad, is_bad_hash, is_bad_map, is_bad_region}
+use Rattle.check_report.specs.Rows.Rows.{SeenRow, row_if, map_area_row}
+use Rattle.check_report.specs.FindingRows.{map_row, region_rows, rows_of, finding_rows, is_absent, of_component, verdict_of}
+use Rattle.check_report.specs.Rows.Rows.{area_name, is_bad_row}
 
 -- where that holds of each finding, it holds of all
 bad_rows : {X : Type 0} (rows : X → List SeenRow) (bad : X → Bool) → ((x : X) → list_any is_bad_row (rows x) ≡ bad x) → (xs : List X) → list_any is_bad_row (flat_map rows xs) ≡ list_any bad xs
@@ -29,33 +35,58 @@ bad_map (of_map.OtherMap m) = refl
 bad_map of_map.OtherSize = refl
 bad_map (of_map.AreaOutside a) = refl
 bad_map (of_map.AreaEmpty a) = refl
+bad_map (of_map.AreaNameNotText a) = refl
 bad_map (of_map.SameName a first) = refl
 bad_map (of_map.Overlap a other) = refl
 bad_map of_map.TooManyAreas = refl
 bad_map of_map.NoMapArea = refl
 bad_map (of_map.MapAreaMisses a) = refl
 
-bad_region : (region : List ℕ) (f : RegionFinding) → list_any is_bad_row (region_rows region f) ≡ is_bad_region f
-bad_region region of_region.BadSize = refl
-bad_region region of_region.NotCbfs = refl
-bad_region region (of_region.Component at name Shadowed) = refl
-bad_region region (of_region.Component at name (UnknownType kind)) = refl
-bad_region region (of_region.Component at name (Hash Absent)) = refl
-bad_region region (of_region.Component at name (Hash (Valid digest))) = refl
-bad_region region (of_region.Component at name (Hash (Invalid digest))) = refl
-bad_region region (of_region.Component at name (Hash Unsupported)) = refl
-bad_region region (of_region.Deleted at) = refl
-bad_region region of_region.Complete = refl
-bad_region region (of_region.Tail at) = refl
-bad_region region (of_region.Damaged at kind) = refl
-bad_region region (of_region.Counts counts) = refl
+bad_content : (asked : Asked) (region : List ℕ) (at : ℕ) (name : List ℕ) (c : Content) (s : HashState) (verbose needs : Bool)
+    → list_any is_bad_row (row_if (verbose || (needs || not (is_absent s))) (of_component (verdict_of (is_bad_hash needs s)) region at name (finding.Content c))) ≡ is_bad_hash needs s
+bad_content asked region at name c Absent true true = refl
+bad_content asked region at name c Absent true false = refl
+bad_content asked region at name c Absent false true = refl
+bad_content asked region at name c Absent false false = refl
+bad_content asked region at name c (Valid digest) true needs = refl
+bad_content asked region at name c (Valid digest) false true = refl
+bad_content asked region at name c (Valid digest) false false = refl
+bad_content asked region at name c (Invalid digest) true needs = refl
+bad_content asked region at name c (Invalid digest) false true = refl
+bad_content asked region at name c (Invalid digest) false false = refl
+bad_content asked region at name c Unsupported true true = refl
+bad_content asked region at name c Unsupported true false = refl
+bad_content asked region at name c Unsupported false true = refl
+bad_content asked region at name c Unsupported false false = refl
 
-bad_finding : (names : List (List ℕ)) (f : ImageFinding) → list_any is_bad_row (rows_of names f) ≡ is_bad f
-bad_finding names (Map f) = bad_map f
-bad_finding names (Skipped a) = refl
-bad_finding names (Unchecked a) = refl
-bad_finding names (Region a findings) = bad_rows (region_rows (area_name a)) is_bad_region (bad_region (area_name a)) findings
-bad_finding names (NoRegion number) = refl
+bad_region : (asked : Asked) (region : List ℕ) (f : RegionFinding) → list_any is_bad_row (region_rows asked region f) ≡ is_bad_region asked.needs_hashes f
+bad_region asked region of_region.BadSize = refl
+bad_region asked region of_region.NotCbfs = refl
+bad_region asked region (of_region.Component at name finding.Shadowed) = refl
+bad_region asked region (of_region.Component at name finding.NameNotText) = refl
+bad_region asked region (of_region.Component at name (finding.UnknownType kind)) = refl
+bad_region asked region (of_region.Component at name (finding.Content c)) = bad_content asked region at name c c.hash asked.is_verbose asked.needs_hashes
+bad_region asked region (of_region.Deleted at) = refl
+bad_region asked region of_region.Complete = refl
+bad_region asked region (of_region.Tail at) = refl
+bad_region asked region (of_region.TailFilled at) = refl
+bad_region asked region (of_region.TailEntry at) = refl
+bad_region asked region (of_region.Damaged at kind) = refl
+bad_region asked region of_region.NoComponents = refl
+bad_region asked region (of_region.Components n) = refl
+bad_region asked region (of_region.FreeBytes n) = refl
+bad_region asked region (of_region.LargestFree n) = refl
 
-pub bad_findings : (names : List (List ℕ)) (findings : List ImageFinding) → list_any is_bad_row (finding_rows names findings) ≡ list_any is_bad findings
-bad_findings names findings = bad_rows (rows_of names) is_bad (bad_finding names) findings
+bad_named : (b : Bool) (a : NumberedArea) (code what : List ℕ) → list_any is_bad_row (map_area_row (verdict_of b) a code what details.None ∷ []) ≡ b
+bad_named true a code what = refl
+bad_named false a code what = refl
+
+bad_finding : (asked : Asked) (names : List (List ℕ)) (f : ImageFinding) → list_any is_bad_row (rows_of asked names f) ≡ is_bad asked.needs_hashes f
+bad_finding asked names (Map f) = bad_map f
+bad_finding asked names (Region a findings) = bad_rows (region_rows asked (area_name a)) (is_bad_region asked.needs_hashes) (bad_region asked (area_name a)) findings
+bad_finding asked names (NotChecked a named) =
+    bad_named named a (codes "area-not-checked") (codes "isn't checked: the areas before it are eight times the image")
+bad_finding asked names (NoArea number) = refl
+
+pub bad_findings : (asked : Asked) (names : List (List ℕ)) (findings : List ImageFinding) → list_any is_bad_row (finding_rows asked names findings) ≡ list_any (is_bad asked.needs_hashes) findings
+bad_findings asked names findings = bad_rows (rows_of asked names) (is_bad asked.needs_hashes) (bad_finding asked names) findings

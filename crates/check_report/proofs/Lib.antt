@@ -1,5 +1,5 @@
 pub mod RowLemmas
 mod Gathered
-pub mod TellingFindings
 mod TellingChanges
 pub mod BadRows
+mod ShownRows

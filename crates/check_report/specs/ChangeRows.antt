@@ -1,10 +1,13 @@
--- Changes as rows. The words are this project's own.
-use Rattle.std.specs.Prelude.{ℕ, Bool, not, ◌||◌, List, [], ◌∷◌, ◌++◌, map, filter, nat_lt, Some, None, ◌==◌, if◌then◌else◌}
-use Rattle.std.specs.List.{list_any}
+-- Changes as rows. The codes and texts are this project's own.
+use Rattle.std.specs.Prelude.{ℕ, Bool, not, ◌||◌, ◌%◌, nat_le, List, [], ◌∷◌, ◌++◌, map, nat_lt, None, ◌==◌, if◌then◌else◌}
+use Rattle.std.specs.List.{flat_map, list_any}
 use lib.Chars.{codes}
-use Rattle.flash_format.specs.Flashmap.{text_of}
+use Rattle.check_changes.specs.declared.regions.change.RegionChange.{RegionChange}
+use Rattle.check_changes.specs.declared.regions.change.RegionChange.TheVariants.{Compared, NotCompared}
 use Rattle.check_findings.specs.declared.map.finding.NumberedArea.{NumberedArea}
 use Rattle.check_findings.specs.Map.MapFindings.{has_name}
+use Rattle.check_changes.specs.declared.areas.change.MapChange.{MapChange}
+use Rattle.check_changes.specs.declared.areas.change.MapChange.TheVariants as maps
 use Rattle.check_changes.specs.declared.areas.change.AreaChange.{AreaChange}
 use Rattle.check_changes.specs.declared.areas.change.AreaChange.TheVariants as areas
 use Rattle.check_changes.specs.declared.components.change.Difference.{Difference}
@@ -16,7 +19,7 @@ use Rattle.check_report.specs.declared.rows.row.Verdict.{Verdict}
 use Rattle.check_report.specs.declared.rows.row.Verdict.TheVariants as verdicts
 use Rattle.check_report.specs.declared.rows.row.Detail.{Detail}
 use Rattle.check_report.specs.declared.rows.row.Detail.TheVariants as details
-use Rattle.check_report.specs.Rows.Rows.{SeenRow}
+use Rattle.check_report.specs.Rows.Rows.{SeenRow, row_if, image_row, area_name, area_row, map_area_row, component_row}
 
 -- what differs in an area is bad where its name is kept, and else a mere change
 abbrev pub verdict_of : List (List ℕ) → NumberedArea → Verdict
@@ -25,23 +28,22 @@ verdict_of kept a = if has_one_of kept a then verdicts.Bad else verdicts.Change
 -- ---- areas
 
 -- a row of an area, at its place in the image
-abbrev pub area_row : List (List ℕ) → NumberedArea → List ℕ → Detail → SeenRow
-area_row kept a what detail = record {
-  verdict = verdict_of kept a;
-  area = Some (text_of a.area.name);
-  component = None;
-  position = Some a.area.offset;
-  what = what;
-  detail = detail;
-}
+abbrev pub changed_row : List (List ℕ) → NumberedArea → List ℕ → List ℕ → Detail → SeenRow
+changed_row kept a code what detail = map_area_row (verdict_of kept a) a code what detail
 
 abbrev pub area_change_row : List (List ℕ) → AreaChange → SeenRow
-area_change_row kept (areas.Added a) = area_row kept a (codes "area added") details.None
-area_change_row kept (areas.Gone a) = area_row kept a (codes "area gone") details.None
-area_change_row kept (areas.Moved old new) = area_row kept new (codes "area moved from") (details.Number old.area.offset)
-area_change_row kept (areas.Resized old new) = area_row kept new (codes "area resized from") (details.Number old.area.size)
-area_change_row kept (areas.Differs a blocks) = area_row kept a (codes "erase blocks differ") (details.Count blocks)
-area_change_row kept (areas.NotCompared a) = area_row kept a (codes "not compared") details.None
+area_change_row kept (areas.Added a) = changed_row kept a (codes "area-added") (codes "area added") details.None
+area_change_row kept (areas.Gone a) = changed_row kept a (codes "area-gone") (codes "area gone") details.None
+area_change_row kept (areas.Moved old new) =
+    changed_row kept new (codes "area-moved") (codes "area moved from") (details.Number old.area.offset)
+area_change_row kept (areas.Resized old new) =
+    changed_row kept new (codes "area-resized") (codes "area resized from") (details.Number old.area.size)
+area_change_row kept (areas.FlagsChanged old new) =
+    changed_row kept new (codes "area-flags") (codes "flags changed from") (details.Number old.area.flags)
+area_change_row kept (areas.Differs a blocks) =
+    changed_row kept a (codes "area-changed") (codes "erase blocks differ") (details.Count blocks)
+area_change_row kept (areas.NotCompared a) =
+    changed_row kept a (codes "area-not-compared") (codes "not compared") details.None
 
 -- a row of each change
 abbrev pub area_rows : List (List ℕ) → List AreaChange → List SeenRow
@@ -49,16 +51,11 @@ area_rows kept changes = map (area_change_row kept) changes
 
 -- ---- components of an area of the new image
 
--- a row of a component, at its place in the area
-abbrev pub component_row : Verdict → NumberedArea → List ℕ → ℕ → List ℕ → Detail → SeenRow
-component_row verdict a name at what detail = record {
-  verdict = verdict;
-  area = Some (text_of a.area.name);
-  component = Some name;
-  position = Some at;
-  what = what;
-  detail = detail;
-}
+abbrev pub difference_code : Difference → List ℕ
+difference_code «Type» = codes "component-type-changed"
+difference_code Length = codes "component-length-changed"
+difference_code Content = codes "component-content-changed"
+difference_code Attributes = codes "component-attributes-changed"
 
 abbrev pub difference_words : Difference → List ℕ
 difference_words «Type» = codes "type changed"
@@ -66,63 +63,88 @@ difference_words Length = codes "length changed"
 difference_words Content = codes "content changed"
 difference_words Attributes = codes "attributes changed"
 
-abbrev pub component_change_row : Verdict → NumberedArea → ComponentChange → SeenRow
-component_change_row verdict a (components.Added at name) = component_row verdict a name at (codes "component added") details.None
-component_change_row verdict a (components.Removed at name) = component_row verdict a name at (codes "component removed") details.None
-component_change_row verdict a (components.Changed old new name what) = component_row verdict a name new (difference_words what) details.None
-component_change_row verdict a (components.Moved old new name) = component_row verdict a name new (codes "component moved from") (details.Number old)
+abbrev pub component_change_row : Verdict → List ℕ → ComponentChange → SeenRow
+component_change_row v area (components.Added at name) =
+    component_row v area at name (codes "component-added") (codes "component added") details.None
+component_change_row v area (components.Removed at name) =
+    component_row v area at name (codes "component-removed") (codes "component removed") details.None
+component_change_row v area (components.Changed old new name what) =
+    component_row v area new name (difference_code what) (difference_words what) details.None
+component_change_row v area (components.Moved old new name) =
+    component_row v area new name (codes "component-moved") (codes "component moved from") (details.Number old)
 
 -- a row of each change, all with the area's verdict
 abbrev pub component_rows : List (List ℕ) → NumberedArea → List ComponentChange → List SeenRow
-component_rows kept a changes = map (component_change_row (verdict_of kept a) a) changes
+component_rows kept a changes = map (component_change_row (verdict_of kept a) (area_name a)) changes
 
--- that the components of an area aren't compared
-abbrev pub not_compared_rows : List (List ℕ) → NumberedArea → List SeenRow
-not_compared_rows kept a = area_row kept a (codes "components not compared") details.None ∷ []
+-- that the components of an area are not compared
+abbrev pub not_compared_row : List (List ℕ) → NumberedArea → SeenRow
+not_compared_row kept a =
+    changed_row kept a (codes "components-not-compared") (codes "components not compared") details.None
+
+-- of what becomes of the components of a region
+abbrev pub region_rows : List (List ℕ) → RegionChange → List SeenRow
+region_rows kept (Compared a changes) = component_rows kept a changes
+region_rows kept (NotCompared a) = not_compared_row kept a ∷ []
+
+abbrev pub regions_rows : List (List ℕ) → List RegionChange → List SeenRow
+regions_rows kept changes = flat_map (region_rows kept) changes
 
 -- ---- whole images
 
--- a row of no area
-abbrev pub image_row : List ℕ → Detail → SeenRow
-image_row what detail = record {
-  verdict = verdicts.Change;
-  area = None;
-  component = None;
-  position = None;
-  what = what;
-  detail = detail;
-}
+abbrev pub size_row : ℕ → SeenRow
+size_row old = image_row verdicts.Change None (codes "image-size") (codes "image size changed from") (details.Number old)
 
--- this row, or none
-abbrev pub told_if : Bool → SeenRow → List SeenRow
-told_if told row = if told then row ∷ [] else []
+abbrev pub blocks_row : ℕ → SeenRow
+blocks_row n = image_row verdicts.Change None (codes "blocks") (codes "erase blocks differ") (details.Count n)
 
 -- of images of these lengths, which differ in so many blocks
 abbrev pub image_rows : ℕ → ℕ → ℕ → List SeenRow
-image_rows old new blocks =
-    told_if (not (old == new)) (image_row (codes "image size changed from") (details.Number old))
-    ++ told_if (nat_lt 0 blocks) (image_row (codes "erase blocks differ") (details.Count blocks))
+image_rows old new blocks = row_if (not (old == new)) (size_row old) ++ row_if (nat_lt 0 blocks) (blocks_row blocks)
+
+-- ---- the flash map
+
+abbrev pub map_change_row : MapChange → SeenRow
+map_change_row maps.NoOldMap =
+    image_row verdicts.Change None (codes "no-old-map") (codes "the old image has no flashmap") details.None
+map_change_row (maps.MovedFrom at) =
+    image_row verdicts.Change None (codes "map-moved") (codes "flashmap moved from") (details.Number at)
+map_change_row (maps.BaseChanged old new) =
+    image_row verdicts.Change None (codes "map-base") (codes "base address changed from") (details.Number old)
+map_change_row maps.NameChanged =
+    image_row verdicts.Change None (codes "map-name") (codes "name of the flashmap changed") details.None
+
+abbrev pub map_rows : List MapChange → List SeenRow
+map_rows changes = map map_change_row changes
 
 -- ---- kept names
+
+-- the area has the flag PRESERVE, which is bit 3
+abbrev pub is_preserved : NumberedArea → Bool
+is_preserved a = nat_le 8 (a.area.flags % 16)
+
+abbrev pub name_if : Bool → List ℕ → List (List ℕ)
+name_if is_there name = if is_there then name ∷ [] else []
+
+abbrev pub preserved_names : List NumberedArea → List (List ℕ)
+preserved_names areas = flat_map (λ a. name_if (is_preserved a) (area_name a)) areas
+
+-- the given names, and those of the areas that have the flag in one of two maps, if these are kept too
+abbrev pub kept_by : List (List ℕ) → Bool → List NumberedArea → List NumberedArea → List (List ℕ)
+kept_by kept keeps olds news =
+    if keeps then (kept ++ preserved_names olds) ++ preserved_names news else kept
 
 -- one of these areas has the name
 abbrev pub is_there : List NumberedArea → List ℕ → Bool
 is_there all name = list_any (has_name name) all
 
-abbrev pub is_missing : List NumberedArea → List NumberedArea → List ℕ → Bool
-is_missing olds news name = not (is_there olds name || is_there news name)
-
 -- that no area has the name
 abbrev pub missing_row : List ℕ → SeenRow
-missing_row name = record {
-  verdict = verdicts.Bad;
-  area = Some name;
-  component = None;
-  position = None;
-  what = codes "no such area";
-  detail = details.None;
-}
+missing_row name = area_row verdicts.Bad name None (codes "no-area") (codes "no such area") details.None
+
+abbrev pub missing_if : List NumberedArea → List NumberedArea → List ℕ → List SeenRow
+missing_if olds news name = row_if (not (is_there olds name || is_there news name)) (missing_row name)
 
 -- of each kept name that no area of either image has
 abbrev pub missing_rows : List (List ℕ) → List NumberedArea → List NumberedArea → List SeenRow
-missing_rows kept olds news = map missing_row (filter (is_missing olds news) kept)
+missing_rows kept olds news = flat_map (missing_if olds news) kept

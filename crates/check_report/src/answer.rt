@@ -1,12 +1,13 @@
 //! What is asked of a report, and what it answers.
-ghost use Rattle.std.specs.Prelude.{◌≡◌, ◌++◌, List, IfOk};
-ghost use Rattle.check_report.specs.declared.rows.report.Form.{Form};
-ghost use Rattle.check_report.specs.Rows.Rows.{SeenRow};
-ghost use Rattle.check_report.specs.Rows.Reports.{HasTold};
+ghost use Rattle.std.specs.Prelude.{◌≡◌, IfOk, map};
+ghost use Rattle.std.specs.List.{list_any};
+ghost use Rattle.check_report.specs.Rows.Rows.{is_verdict, seen_row};
 ghost use Rattle.check_report.specs.Reports.{answer_of};
 
-use crate::rows::{Form, Report};
-use std::alloc::AllocError;
+use crate::region::Asked;
+use crate::rows::{Form, Row, Verdict, report_text};
+use check_findings::Need;
+use std::alloc::{AllocError, Global};
 use std::marker::Model;
 
 /// What is asked of a report.
@@ -14,10 +15,13 @@ use std::marker::Model;
 pub struct Request<'a> {
     /// The names of the areas that are checked as a CBFS whatever they begin with.
     pub areas: &'a [&'a [u8]],
+    /// The components that the image must have.
+    pub needs: &'a [Need<'a>],
     /// The names of the areas that a new image must not change.
     pub kept: &'a [&'a [u8]],
-    /// Whether components without a digest are told, too.
-    pub is_verbose: bool,
+    /// Whether a new image must not change the areas that have the flag PRESERVE in one of the maps.
+    pub keeps_preserved: bool,
+    pub asked: Asked,
     pub form: Form,
 }
 
@@ -36,15 +40,27 @@ impl Model for Answer {
     ghost view = { λ a. record { text = a.text.items; is_bad = a.is_bad } };
 }
 
+fn has_bad(rows: &[Row]) -> bool
+    ensures { result ≡ list_any (λ row. is_verdict Verdict.Bad row.verdict) rows.now }
+{
+    rows.iter().any(|row| row.verdict.is(Verdict::Bad))
+}
+
 impl Answer {
-    /// The answer with these rows.
-    pub fn of(report: Report) -> Result<Answer, AllocError>
-        ensures { (form : Form) (rows : List SeenRow) → HasTold form rows report
-            → IfOk result (λ answer. answer ≡ answer_of form rows) }
+    /// Returns the answer with these rows.
+    pub fn of(
+        alloc: Global,
+        form: Form,
+        is_verbose: bool,
+        rows: &[Row],
+    ) -> Result<Answer, AllocError>
+        ensures { IfOk result (λ answer. answer ≡ answer_of form is_verbose (map seen_row rows.now)) }
     {
-        let is_bad = report.has_bad();
-        let text = report.finish()?;
-        Ok(Answer { text, is_bad })
+        let text = report_text(alloc, form, is_verbose, rows)?;
+        Ok(Answer {
+            text,
+            is_bad: has_bad(rows),
+        })
     }
 
     /// The whole text.

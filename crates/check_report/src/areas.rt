@@ -1,94 +1,93 @@
-//! Rows of areas.
-ghost use Rattle.std.specs.Prelude.{◌∷◌, [], ◌++◌, List, map, OnOk};
-ghost use Rattle.check_report.specs.declared.rows.report.Form.{Form};
-ghost use Rattle.check_report.specs.Rows.Reports.{HasTold};
-ghost use Rattle.check_report.specs.Rows.Rows.{SeenRow};
-ghost use Rattle.check_report.specs.ChangeRows.{area_change_row, area_row, area_rows, not_compared_rows};
+//! Rows of changes of areas.
+ghost use Rattle.std.specs.Prelude.{◌≡◌, map};
+ghost use Rattle.check_report.specs.Rows.Rows.{seen_row};
+ghost use Rattle.check_report.specs.ChangeRows as of;
 
 use crate::kept::verdict_of;
-use crate::rows::{Detail, Report, Row};
-use check_changes::AreaChange;
+use crate::rows::{Detail, Row, Verdict, image_row, map_area_row};
+use check_changes::{AreaChange, MapChange};
 use check_findings::NumberedArea;
-use std::alloc::AllocError;
 
-fn tell_area<'a>(
-    report: &mut Report,
+fn changed_row<'a>(
     kept: &[&[u8]],
     area: &'a NumberedArea,
-    what: &'a str,
+    code: &'static str,
+    what: &'static str,
     detail: Detail,
-) -> Result<(), AllocError>
-    ensures { (form : Form) (rows : List SeenRow) → HasTold form rows report.old
-        → OnOk result (HasTold form (rows ++ area_row (map (λ n. n.now) kept.now) area.now what.now detail ∷ []) report.new) }
+) -> Row<'a>
+    ensures { seen_row result ≡ of.changed_row (map (λ n. n.now) kept.now) area.now code.now what.now detail }
 {
-    report.tell(&Row {
-        verdict: verdict_of(kept, *area),
-        area: Some(area.area.text()),
-        component: None,
-        position: Some(u64::from(area.area.offset)),
-        what,
+    Row {
         detail,
-    })
+        ..map_area_row(verdict_of(kept, *area), area, code, what)
+    }
 }
 
-fn tell_area_change(
-    report: &mut Report,
-    kept: &[&[u8]],
-    change: &AreaChange,
-) -> Result<(), AllocError>
-    ensures { (form : Form) (rows : List SeenRow) → HasTold form rows report.old
-        → OnOk result (HasTold form (rows ++ area_change_row (map (λ n. n.now) kept.now) change.now ∷ []) report.new) }
+/// Returns the row of a change of the flash map itself.
+pub fn map_change_row<'a>(change: &MapChange) -> Row<'a>
+    ensures { seen_row result ≡ of.map_change_row change.now }
 {
-    match change {
-        AreaChange::Added(area) => tell_area(report, kept, area, "area added", Detail::None),
-        AreaChange::Gone(area) => tell_area(report, kept, area, "area gone", Detail::None),
-        AreaChange::Moved { old, new } => {
-            let offset = u64::from(old.area.offset);
-            tell_area(report, kept, new, "area moved from", Detail::Number(offset))
-        }
-        AreaChange::Resized { old, new } => {
-            let size = u64::from(old.area.size);
-            tell_area(report, kept, new, "area resized from", Detail::Number(size))
-        }
-        AreaChange::Differs { area, blocks } => {
-            let blocks = u64::from(*blocks);
-            tell_area(
-                report,
-                kept,
-                area,
-                "erase blocks differ",
-                Detail::Count(blocks),
+    let (code, what, detail) = match change {
+        MapChange::NoOldMap => ("no-old-map", "the old image has no flashmap", Detail::None),
+        MapChange::MovedFrom(at) => ("map-moved", "flashmap moved from", Detail::Number(*at)),
+        MapChange::BaseChanged { old, new: _ } => {
+            (
+                "map-base",
+                "base address changed from",
+                Detail::Number(*old),
             )
         }
+        MapChange::NameChanged => ("map-name", "name of the flashmap changed", Detail::None),
+    };
+    Row {
+        detail,
+        ..image_row(Verdict::Change, None, code, what)
+    }
+}
+
+/// Returns the row of a change, which is bad where its area has one of the kept names.
+pub fn area_change_row<'a>(kept: &[&[u8]], change: &'a AreaChange) -> Row<'a>
+    ensures { seen_row result ≡ of.area_change_row (map (λ n. n.now) kept.now) change.now }
+{
+    match change {
+        AreaChange::Added(area) => {
+            changed_row(kept, area, "area-added", "area added", Detail::None)
+        }
+        AreaChange::Gone(area) => {
+            changed_row(kept, area, "area-gone", "area gone", Detail::None)
+        }
+        AreaChange::Moved { old, new } => {
+            let offset = Detail::Number(u64::from(old.area.offset));
+            changed_row(kept, new, "area-moved", "area moved from", offset)
+        }
+        AreaChange::Resized { old, new } => {
+            let size = Detail::Number(u64::from(old.area.size));
+            changed_row(kept, new, "area-resized", "area resized from", size)
+        }
+        AreaChange::FlagsChanged { old, new } => {
+            let flags = Detail::Number(u64::from(old.area.flags));
+            changed_row(kept, new, "area-flags", "flags changed from", flags)
+        }
+        AreaChange::Differs { area, blocks } => {
+            let blocks = Detail::Count(u64::from(*blocks));
+            changed_row(kept, area, "area-changed", "erase blocks differ", blocks)
+        }
         AreaChange::NotCompared(area) => {
-            tell_area(report, kept, area, "not compared", Detail::None)
+            changed_row(
+                kept,
+                area,
+                "area-not-compared",
+                "not compared",
+                Detail::None,
+            )
         }
     }
 }
 
-/// Tells what changes between the areas of two images. A change is bad where its area has one of the kept names.
-pub fn tell_area_changes(
-    report: &mut Report,
-    kept: &[&[u8]],
-    changes: &[AreaChange],
-) -> Result<(), AllocError>
-    ensures { (form : Form) (rows : List SeenRow) → HasTold form rows report.old
-        → OnOk result (HasTold form (rows ++ area_rows (map (λ n. n.now) kept.now) changes.now) report.new) }
+/// Returns the row that says that the components of an area are not compared.
+pub fn not_compared_row<'a>(kept: &[&[u8]], area: &'a NumberedArea) -> Row<'a>
+    ensures { seen_row result ≡ of.not_compared_row (map (λ n. n.now) kept.now) area.now }
 {
-    for change in changes {
-        tell_area_change(report, kept, change)?;
-    }
-    Ok(())
-}
-
-/// Tells that the components of an area of the new image are not compared.
-pub fn tell_not_compared(
-    report: &mut Report,
-    kept: &[&[u8]],
-    area: NumberedArea,
-) -> Result<(), AllocError>
-    ensures { (form : Form) (rows : List SeenRow) → HasTold form rows report.old
-        → OnOk result (HasTold form (rows ++ not_compared_rows (map (λ n. n.now) kept.now) area) report.new) }
-{
-    tell_area(report, kept, &area, "components not compared", Detail::None)
+    let what = "components not compared";
+    changed_row(kept, area, "components-not-compared", what, Detail::None)
 }

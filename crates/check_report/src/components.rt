@@ -1,26 +1,24 @@
-//! Rows of components.
-ghost use Rattle.std.specs.Prelude.{◌≡◌, ◌∷◌, [], ◌++◌, List, map, OnOk};
-ghost use Rattle.check_report.specs.declared.rows.report.Form.{Form};
-ghost use Rattle.check_report.specs.Rows.Reports.{HasTold};
-ghost use Rattle.check_report.specs.Rows.Rows.{SeenRow};
-ghost use Rattle.check_report.specs.ChangeRows.{component_change_row, component_row, component_rows, difference_words};
+//! Rows of changes of components.
+ghost use Rattle.std.specs.Prelude.{◌≡◌};
+ghost use Rattle.check_report.specs.Rows.Rows.{seen_row};
+ghost use Rattle.check_report.specs.ChangeRows as of;
 
-use crate::kept::verdict_of;
+use crate::rows::{Detail, Row, Verdict, component_row};
 use check_changes::{ComponentChange, Difference};
-use check_findings::Name;
-use crate::rows::{Detail, Report, Row, Verdict};
-use check_findings::NumberedArea;
-use std::alloc::AllocError;
 
-/// An area with the verdict of what changes in it.
-#[derive(Clone, Copy)]
-struct Place {
-    verdict: Verdict,
-    area: NumberedArea,
+fn difference_code(what: Difference) -> &'static str
+    ensures { result.now ≡ of.difference_code what }
+{
+    match what {
+        Difference::Type => "component-type-changed",
+        Difference::Length => "component-length-changed",
+        Difference::Content => "component-content-changed",
+        Difference::Attributes => "component-attributes-changed",
+    }
 }
 
 fn difference_words(what: Difference) -> &'static str
-    ensures { result.now ≡ difference_words what }
+    ensures { result.now ≡ of.difference_words what }
 {
     match what {
         Difference::Type => "type changed",
@@ -30,81 +28,40 @@ fn difference_words(what: Difference) -> &'static str
     }
 }
 
-fn tell_component<'a>(
-    report: &mut Report,
-    place: &'a Place,
-    name: &'a Name,
-    at: u64,
-    what: &'a str,
-    detail: Detail,
-) -> Result<(), AllocError>
-    ensures { (form : Form) (rows : List SeenRow) → HasTold form rows report.old
-        → OnOk result (HasTold form (rows ++ component_row place.now.verdict place.now.area name.now at what.now detail ∷ []) report.new) }
-{
-    report.tell(&Row {
-        verdict: place.verdict,
-        area: Some(place.area.area.text()),
-        component: Some(name.as_slice()),
-        position: Some(at),
-        what,
-        detail,
-    })
-}
-
-fn tell_component_change(
-    report: &mut Report,
-    place: &Place,
-    change: &ComponentChange,
-) -> Result<(), AllocError>
-    ensures { (form : Form) (rows : List SeenRow) → HasTold form rows report.old
-        → OnOk result (HasTold form (rows ++ component_change_row place.now.verdict place.now.area change.now ∷ []) report.new) }
+/// Returns the row of a change in the area of this name.
+pub fn component_change_row<'a>(v: Verdict, area: &'a [u8], change: &'a ComponentChange) -> Row<'a>
+    ensures { seen_row result ≡ of.component_change_row v area.now change.now }
 {
     match change {
         ComponentChange::Added { at, name } => {
-            tell_component(report, place, name, *at, "component added", Detail::None)
+            component_row(
+                v,
+                area,
+                *at,
+                name.as_slice(),
+                "component-added",
+                "component added",
+            )
         }
         ComponentChange::Removed { at, name } => {
-            tell_component(report, place, name, *at, "component removed", Detail::None)
+            let what = "component removed";
+            component_row(v, area, *at, name.as_slice(), "component-removed", what)
         }
         ComponentChange::Changed {
             old: _,
             new,
             name,
             what,
-        } => tell_component(
-            report,
-            place,
-            name,
-            *new,
-            difference_words(*what),
-            Detail::None,
-        ),
-        ComponentChange::Moved { old, new, name } => tell_component(
-            report,
-            place,
-            name,
-            *new,
-            "component moved from",
-            Detail::Number(*old),
-        ),
+        } => {
+            let (code, words) = (difference_code(*what), difference_words(*what));
+            component_row(v, area, *new, name.as_slice(), code, words)
+        }
+        ComponentChange::Moved { old, new, name } => {
+            let what = "component moved from";
+            Row {
+                detail: Detail::Number(*old),
+                ..component_row(v, area, *new, name.as_slice(), "component-moved", what)
+            }
+        }
     }
-}
-
-/// Tells what changes between the components of an area of the new image and those of the old one. All is bad where the
-/// area has one of the kept names.
-pub fn tell_component_changes(
-    report: &mut Report,
-    kept: &[&[u8]],
-    area: NumberedArea,
-    changes: &[ComponentChange],
-) -> Result<(), AllocError>
-    ensures { (form : Form) (rows : List SeenRow) → HasTold form rows report.old
-        → OnOk result (HasTold form (rows ++ component_rows (map (λ n. n.now) kept.now) area changes.now) report.new) }
-{
-    let verdict = verdict_of(kept, area);
-    let place = Place { verdict, area };
-    for change in changes {
-        tell_component_change(report, &place, change)?;
-    }
-    Ok(())
 }

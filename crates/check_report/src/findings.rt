@@ -1,69 +1,62 @@
 //! The rows of an image's findings.
-ghost use Rattle.std.specs.Prelude.{◌≡◌, ◌++◌, ◌∷◌, [], List, OnOk, map, slice_get};
+ghost use Rattle.std.specs.Prelude.{◌≡◌, map};
 ghost use Rattle.std.specs.Option.{option_copied};
-ghost use Rattle.check_report.specs.Rows.Rows.{SeenRow, seen_row};
-ghost use Rattle.check_report.specs.Rows.Reports.{HasTold};
-ghost use Rattle.check_report.specs.declared.rows.report.Form.{Form};
-ghost use Rattle.check_report.specs.FindingRows as rows;
-ghost use Rattle.check_report.specs.FindingRows.{finding_rows};
+ghost use Rattle.check_report.specs.Rows.Rows.{Adds, seen_row};
+ghost use Rattle.check_report.specs.FindingRows as of;
 
-use crate::map::{area_row, map_row};
-use crate::region::tell_region;
-use crate::rows::{Detail, Report, Row, Verdict};
-use check_findings::ImageFinding;
+use crate::map::{map_row, verdict_of};
+use crate::region::{Asked, add_region};
+use crate::rows::{Row, Verdict, add, image_row, map_area_row};
+use check_findings::{ImageFinding, NumberedArea};
 use std::alloc::AllocError;
 
 fn missing_row<'a>(names: &[&'a [u8]], number: usize) -> Row<'a>
-    ensures { seen_row result ≡ rows.missing_row (map (λ n. n.now) names.now) number }
+    ensures { seen_row result ≡ of.missing_row (map (λ n. n.now) names.now) number }
 {
     Row {
-        verdict: Verdict::Bad,
         area: names.get(number).copied(),
-        component: None,
-        position: None,
-        what: "no such area",
-        detail: Detail::None,
+        ..image_row(Verdict::Bad, None, "no-area", "no such area")
     }
 }
 
-/// Tells the rows of a finding.
-fn tell_finding(
-    report: &mut Report,
-    finding: &ImageFinding,
-    names: &[&[u8]],
+fn not_checked_row<'a>(area: &'a NumberedArea, is_named: bool) -> Row<'a>
+    ensures { seen_row result ≡ of.not_checked_row area.now is_named }
+{
+    let what = "isn't checked: the areas before it are eight times the image";
+    map_area_row(verdict_of(is_named), area, "area-not-checked", what)
+}
+
+/// Adds the rows of a finding.
+fn add_finding<'a>(
+    rows: &mut Vec<Row<'a>>,
+    asked: Asked,
+    finding: &'a ImageFinding,
+    names: &[&'a [u8]],
 ) -> Result<(), AllocError>
-    ensures { (form : Form) (told : List SeenRow) → HasTold form told report.old
-        → OnOk result (HasTold form (told ++ rows.rows_of (map (λ n. n.now) names.now) finding.now) report.new) }
+    ensures { Adds result rows.old.items rows.new.items (of.rows_of asked (map (λ n. n.now) names.now) finding.now) }
 {
     match finding {
-        ImageFinding::Map(of_map) => report.tell(&map_row(of_map)),
-        ImageFinding::Skipped(area) => {
-            let what = "isn't checked, another area has bytes of it";
-            report.tell(&area_row(Verdict::Remark, area, what, Detail::None))
-        }
-        ImageFinding::Unchecked(area) => {
-            let what = "isn't checked, although it is named: another area has bytes of it";
-            report.tell(&area_row(Verdict::Bad, area, what, Detail::None))
-        }
+        ImageFinding::Map(of_map) => add(rows, map_row(of_map)),
         ImageFinding::Region { area, findings } => {
-            tell_region(report, area.area.text(), findings.as_slice())
+            add_region(rows, asked, area.area.text(), findings.as_slice())
         }
-        ImageFinding::NoRegion(number) => report.tell(&missing_row(names, *number)),
+        ImageFinding::NotChecked { area, is_named } => add(rows, not_checked_row(area, *is_named)),
+        ImageFinding::NoArea(number) => add(rows, missing_row(names, *number)),
     }
 }
 
-/// Tells a row for each of these findings, in their order, which were looked for with these names of areas; the counts of a
-/// region have three. Where memory is refused, nothing is promised of the report from then on.
-pub fn tell_findings(
-    report: &mut Report,
-    findings: &[ImageFinding],
-    names: &[&[u8]],
+/// Adds the rows of these findings, in their order, which were made with these names of areas.
+pub fn add_findings<'a>(
+    rows: &mut Vec<Row<'a>>,
+    asked: Asked,
+    findings: &'a [ImageFinding],
+    names: &[&'a [u8]],
 ) -> Result<(), AllocError>
-    ensures { (form : Form) (told : List SeenRow) → HasTold form told report.old
-        → OnOk result (HasTold form (told ++ finding_rows (map (λ n. n.now) names.now) findings.now) report.new) }
+    ensures { Adds result rows.old.items rows.new.items
+        (of.finding_rows asked (map (λ n. n.now) names.now) findings.now) }
 {
     for finding in findings {
-        tell_finding(report, finding, names)?;
+        add_finding(rows, asked, finding, names)?;
     }
     Ok(())
 }

@@ -1,31 +1,30 @@
-//! Reports whether an image is fit to be flashed, and what a new image changes.
+//! Reports what is wrong in a flash image, and what a new image changes.
 //!
-//! A report takes memory for what it tells, and leaves the bytes of honest devices as they are.
+//! A report allocates memory for its rows, and leaves the bytes of honest devices as they are.
 #![tactic(auto)]
 
 mod answer;
 mod areas;
 mod change;
+mod changes;
 mod components;
 mod fault;
 mod findings;
 mod image;
-mod images;
 mod kept;
 mod laws;
 mod map;
+mod names;
+mod needs;
 mod region;
 mod rows;
-mod tell;
 
 pub use answer::{Answer, Request};
-pub use areas::{tell_area_changes, tell_not_compared};
 pub use change::report_change;
-pub use components::tell_component_changes;
+pub use check_findings::{Need, NeededPlace};
 pub use fault::ReportFault;
-pub use findings::tell_findings;
+pub use findings::add_findings;
 pub use image::report_image;
-pub use images::tell_image_changes;
-pub use kept::tell_missing;
-pub use laws::rows_tell_what_is_bad;
-pub use rows::{Detail, Form, Report, Row, Verdict};
+pub use laws::{limits_lose_no_bad_row, rows_tell_what_is_bad};
+pub use region::Asked;
+pub use rows::{Detail, Form, Row, Verdict, report_text};

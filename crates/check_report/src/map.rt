@@ -3,10 +3,10 @@ ghost use Rattle.std.specs.Prelude.{◌≡◌};
 ghost use Rattle.check_report.specs.Rows.Rows.{seen_row};
 ghost use Rattle.check_report.specs.FindingRows as rows;
 
-use crate::rows::{Detail, Row, Verdict};
-use check_findings::{MapFinding, NumberedArea};
-use check_findings::is_bad_map;
+use crate::rows::{Row, Verdict, image_row, map_area_row};
+use check_findings::{MapFinding, is_bad_map};
 
+/// Returns `Bad` or `Remark`.
 pub fn verdict_of(is_bad: bool) -> Verdict
     ensures { result ≡ rows.verdict_of is_bad }
 {
@@ -17,75 +17,44 @@ pub fn verdict_of(is_bad: bool) -> Verdict
     }
 }
 
-fn image_row(verdict: Verdict, position: Option<u64>, what: &str) -> Row<'_>
-    ensures { seen_row result ≡ rows.image_row verdict position what.now }
-{
-    Row {
-        verdict,
-        area: None,
-        component: None,
-        position,
-        what,
-        detail: Detail::None,
-    }
-}
-
-/// A row of an area, at its start.
-pub fn area_row<'a>(
-    verdict: Verdict,
-    area: &'a NumberedArea,
-    what: &'a str,
-    detail: Detail,
-) -> Row<'a>
-    ensures { seen_row result ≡ rows.area_row verdict area.now what.now detail }
-{
-    Row {
-        verdict,
-        area: Some(area.area.text()),
-        component: None,
-        position: Some(u64::from(area.area.offset)),
-        what,
-        detail,
-    }
-}
-
 fn map_row_with(v: Verdict, finding: &MapFinding) -> Row<'_>
     ensures { seen_row result ≡ rows.map_row_with v finding.now }
 {
     match finding {
-        MapFinding::NoMap => image_row(v, None, "no flashmap"),
-        MapFinding::Map(map) => image_row(v, Some(map.at), "flashmap"),
-        MapFinding::OtherMap(map) => image_row(v, Some(map.at), "another flashmap"),
-        MapFinding::OtherSize => image_row(
-            v,
-            None,
-            "the flashmap states another size than the image has",
-        ),
-        MapFinding::AreaOutside(area) => {
-            area_row(v, area, "ends outside the image", Detail::None)
+        MapFinding::NoMap => image_row(v, None, "no-map", "no flashmap"),
+        MapFinding::Map(map) => image_row(v, Some(map.at), "map", "flashmap"),
+        MapFinding::OtherMap(map) => { image_row(v, Some(map.at), "other-map", "another flashmap") }
+        MapFinding::OtherSize => {
+            let what = "the flashmap states another size than the image has";
+            image_row(v, None, "map-size", what)
         }
-        MapFinding::AreaEmpty(area) => area_row(v, area, "has no bytes", Detail::None),
-        MapFinding::SameName { area, first } => area_row(
-            v,
-            area,
-            "has the name of the area of this number",
-            Detail::Count(u64::from(*first)),
-        ),
-        MapFinding::Overlap { area, other } => area_row(
-            v,
-            area,
-            "overlaps the area of this number",
-            Detail::Count(u64::from(*other)),
-        ),
-        MapFinding::TooManyAreas => image_row(v, None, "too many areas to look for overlaps"),
-        MapFinding::NoMapArea => image_row(v, None, "no area FMAP"),
+        MapFinding::AreaOutside(area) => {
+            map_area_row(v, area, "area-outside", "ends outside the image")
+        }
+        MapFinding::AreaEmpty(area) => map_area_row(v, area, "area-empty", "has no bytes"),
+        MapFinding::AreaNameNotText(area) => {
+            map_area_row(v, area, "area-name", "name isn't UTF-8")
+        }
+        MapFinding::SameName { area, first } => Row {
+            other: Some(first.area.text()),
+            ..map_area_row(v, area, "area-same-name", "has the name of an earlier area")
+        },
+        MapFinding::Overlap { area, other } => Row {
+            other: Some(other.area.text()),
+            ..map_area_row(v, area, "area-overlaps", "overlaps")
+        },
+        MapFinding::TooManyAreas => {
+            let what = "too many areas to look for overlaps";
+            image_row(v, None, "too-many-areas", what)
+        }
+        MapFinding::NoMapArea => image_row(v, None, "no-map-area", "no area FMAP"),
         MapFinding::MapAreaMisses(area) => {
-            area_row(v, area, "doesn't hold the flashmap", Detail::None)
+            map_area_row(v, area, "map-area", "doesn't hold the flashmap")
         }
     }
 }
 
-/// The row of a finding of the flashmap.
+/// Returns the row of a finding of the flashmap.
 pub fn map_row(finding: &MapFinding) -> Row<'_>
     ensures { seen_row result ≡ rows.map_row finding.now }
 {

@@ -1,21 +1,29 @@
 //! The rows of a region's findings.
-ghost use Rattle.std.specs.Prelude.{◌≡◌, ◌++◌, ◌∷◌, [], List, OnOk};
+ghost use Rattle.std.specs.Prelude.{◌≡◌};
 ghost use Rattle.std.specs.List.{flat_map};
-ghost use Rattle.check_report.specs.Rows.Rows.{SeenRow, seen_row};
-ghost use Rattle.check_report.specs.Rows.Reports.{HasTold};
-ghost use Rattle.check_report.specs.declared.rows.report.Form.{Form};
-ghost use Rattle.check_report.specs.FindingRows as rows;
+ghost use Rattle.check_report.specs.Rows.Rows.{Adds, seen_row};
+ghost use Rattle.check_report.specs.FindingRows as of;
 
 use crate::map::verdict_of;
-use check_findings::{ComponentFinding, RegionCounts, RegionFinding};
+use crate::rows::{Detail, Row, Verdict, add_if, area_row, component_row};
 use cbfs_walk::HashState;
-use crate::rows::{Detail, Report, Row, Verdict};
+use check_findings::{ComponentFinding, RegionFinding, is_bad_region};
 use flash_format::{DamageKind, Digest};
-use check_findings::is_bad_region;
 use std::alloc::AllocError;
 
+fn hash_code(state: HashState) -> &'static str
+    ensures { result.now ≡ of.hash_code state }
+{
+    match state {
+        HashState::Absent => "hash-missing",
+        HashState::Valid(_) => "hash-valid",
+        HashState::Invalid(_) => "hash-invalid",
+        HashState::Unsupported => "hash-unsupported",
+    }
+}
+
 fn hash_text(state: HashState) -> &'static str
-    ensures { result.now ≡ rows.hash_text state }
+    ensures { result.now ≡ of.hash_text state }
 {
     match state {
         HashState::Absent => "no hash",
@@ -27,47 +35,36 @@ fn hash_text(state: HashState) -> &'static str
     }
 }
 
-fn component_text(finding: ComponentFinding) -> &'static str
-    ensures { result.now ≡ rows.component_text finding }
-{
-    match finding {
-        ComponentFinding::Shadowed => "has the name of an earlier component",
-        ComponentFinding::UnknownType(_) => "type without a name",
-        ComponentFinding::Hash(state) => hash_text(state),
-    }
-}
-
-fn component_detail(finding: ComponentFinding) -> Detail
-    ensures { result ≡ rows.component_detail finding }
-{
-    match finding {
-        ComponentFinding::UnknownType(kind) => Detail::Number(u64::from(kind)),
-        ComponentFinding::Shadowed => Detail::None,
-        ComponentFinding::Hash(_) => Detail::None,
-    }
-}
-
-fn component_row<'a>(
-    verdict: Verdict,
+fn of_component<'a>(
+    v: Verdict,
     region: &'a [u8],
     at: u64,
     name: &'a [u8],
     finding: ComponentFinding,
 ) -> Row<'a>
-    ensures { seen_row result ≡ rows.component_row verdict region.now at name.now finding }
+    ensures { seen_row result ≡ of.of_component v region.now at name.now finding }
 {
-    Row {
-        verdict,
-        area: Some(region),
-        component: Some(name),
-        position: Some(at),
-        what: component_text(finding),
-        detail: component_detail(finding),
+    match finding {
+        ComponentFinding::Shadowed => {
+            let what = "has the name of an earlier component";
+            component_row(v, region, at, name, "component-shadowed", what)
+        }
+        ComponentFinding::UnknownType(kind) => Row {
+            detail: Detail::Number(u64::from(kind)),
+            ..component_row(v, region, at, name, "component-type", "type without a name")
+        },
+        ComponentFinding::NameNotText => {
+            component_row(v, region, at, name, "component-name", "name isn't UTF-8")
+        }
+        ComponentFinding::Content(content) => {
+            let (code, what) = (hash_code(content.hash), hash_text(content.hash));
+            component_row(v, region, at, name, code, what)
+        }
     }
 }
 
 fn damage_text(kind: DamageKind) -> &'static str
-    ensures { result.now ≡ rows.damage_text kind }
+    ensures { result.now ≡ of.damage_text kind }
 {
     match kind {
         DamageKind::Offset => "damaged entry: offset",
@@ -78,128 +75,124 @@ fn damage_text(kind: DamageKind) -> &'static str
     }
 }
 
-/// Tells a row of the region.
-fn tell_row<'a>(
-    report: &mut Report,
-    verdict: Verdict,
+fn count_row<'a>(
+    v: Verdict,
     region: &'a [u8],
-    position: Option<u64>,
-    what: &'a str,
-) -> Result<(), AllocError>
-    ensures { (form : Form) (told : List SeenRow) → HasTold form told report.old
-        → OnOk result (HasTold form (told ++ rows.region_row verdict region.now position what.now ∷ []) report.new) }
-{
-    let row = Row {
-        verdict,
-        area: Some(region),
-        component: None,
-        position,
-        what,
-        detail: Detail::None,
-    };
-    report.tell(&row)
-}
-
-/// Tells that the region has so many of something.
-fn tell_count<'a>(
-    report: &mut Report,
-    verdict: Verdict,
-    region: &'a [u8],
-    what: &'a str,
+    code: &'static str,
+    what: &'static str,
     count: u64,
-) -> Result<(), AllocError>
-    ensures { (form : Form) (told : List SeenRow) → HasTold form told report.old
-        → OnOk result (HasTold form (told ++ rows.count_row verdict region.now what.now count ∷ []) report.new) }
+) -> Row<'a>
+    ensures { seen_row result ≡ of.count_row v region.now code.now what.now count }
 {
-    let row = Row {
-        verdict,
-        area: Some(region),
-        component: None,
-        position: None,
-        what,
+    Row {
         detail: Detail::Count(count),
-    };
-    report.tell(&row)
-}
-
-/// Tells the three counts.
-fn tell_counts(
-    report: &mut Report,
-    verdict: Verdict,
-    region: &[u8],
-    counts: RegionCounts,
-) -> Result<(), AllocError>
-    ensures { (form : Form) (told : List SeenRow) → HasTold form told report.old
-        → OnOk result (HasTold form (told ++ rows.count_rows verdict region.now counts) report.new) }
-{
-    tell_count(report, verdict, region, "components", counts.components)?;
-    tell_count(report, verdict, region, "free bytes", counts.free)?;
-    tell_count(
-        report,
-        verdict,
-        region,
-        "largest free run",
-        counts.longest_free,
-    )
-}
-
-fn tell_with(
-    report: &mut Report,
-    verdict: Verdict,
-    region: &[u8],
-    finding: &RegionFinding,
-) -> Result<(), AllocError>
-    ensures { (form : Form) (told : List SeenRow) → HasTold form told report.old
-        → OnOk result (HasTold form (told ++ rows.region_rows_with verdict region.now finding.now) report.new) }
-{
-    match finding {
-        RegionFinding::BadSize => {
-            let what = "size is 0 or no multiple of 64";
-            tell_row(report, verdict, region, None, what)
-        }
-        RegionFinding::NotCbfs => tell_row(report, verdict, region, None, "no CBFS"),
-        RegionFinding::Component { at, name, what } => {
-            let name = name.as_slice();
-            report.tell(&component_row(verdict, region, *at, name, *what))
-        }
-        RegionFinding::Deleted { at } => {
-            tell_row(report, verdict, region, Some(*at), "deleted component")
-        }
-        RegionFinding::Complete => tell_row(report, verdict, region, None, "complete"),
-        RegionFinding::Tail { at } => {
-            tell_row(report, verdict, region, Some(*at), "unused tail")
-        }
-        RegionFinding::Damaged { at, kind } => {
-            tell_row(report, verdict, region, Some(*at), damage_text(*kind))
-        }
-        RegionFinding::Counts(counts) => tell_counts(report, verdict, region, *counts),
+        ..area_row(v, region, None, code, what)
     }
 }
 
-/// Tells the rows of a finding.
-fn tell_finding(
-    report: &mut Report,
-    region: &[u8],
-    finding: &RegionFinding,
-) -> Result<(), AllocError>
-    ensures { (form : Form) (told : List SeenRow) → HasTold form told report.old
-        → OnOk result (HasTold form (told ++ rows.region_rows region.now finding.now) report.new) }
+fn region_row_with<'a>(v: Verdict, region: &'a [u8], finding: &'a RegionFinding) -> Row<'a>
+    ensures { seen_row result ≡ of.region_row_with v region.now finding.now }
 {
-    let verdict = verdict_of(is_bad_region(finding));
-    tell_with(report, verdict, region, finding)
+    match finding {
+        RegionFinding::BadSize => {
+            area_row(
+                v,
+                region,
+                None,
+                "region-size",
+                "size is 0 or no multiple of 64",
+            )
+        }
+        RegionFinding::NotCbfs => area_row(v, region, None, "no-cbfs", "no CBFS"),
+        RegionFinding::Component { at, name, what } => {
+            of_component(v, region, *at, name.as_slice(), *what)
+        }
+        RegionFinding::Deleted { at } => {
+            area_row(
+                v,
+                region,
+                Some(*at),
+                "component-deleted",
+                "deleted component",
+            )
+        }
+        RegionFinding::Complete => area_row(v, region, None, "complete", "complete"),
+        RegionFinding::Tail { at } => area_row(v, region, Some(*at), "tail", "unused tail"),
+        RegionFinding::TailFilled { at } => {
+            let what = "unused tail has other bytes than 0xff and 0x00";
+            area_row(v, region, Some(*at), "tail-bytes", what)
+        }
+        RegionFinding::TailEntry { at } => {
+            area_row(
+                v,
+                region,
+                Some(*at),
+                "tail-entry",
+                "entry in the unused tail",
+            )
+        }
+        RegionFinding::Damaged { at, kind } => {
+            area_row(v, region, Some(*at), "entry-damaged", damage_text(*kind))
+        }
+        RegionFinding::NoComponents => {
+            area_row(v, region, None, "no-components", "no components")
+        }
+        RegionFinding::Components(n) => count_row(v, region, "components", "components", *n),
+        RegionFinding::FreeBytes(n) => count_row(v, region, "free-bytes", "free bytes", *n),
+        RegionFinding::LargestFree(n) => {
+            count_row(v, region, "largest-free", "largest free run", *n)
+        }
+    }
 }
 
-/// Tells the rows of what was found in the region of this name.
-pub fn tell_region(
-    report: &mut Report,
-    region: &[u8],
-    findings: &[RegionFinding],
+/// The rows that are asked for beside the others.
+#[derive(Clone, Copy)]
+pub struct Asked {
+    /// All of them.
+    pub is_verbose: bool,
+    /// Each component needs a digest.
+    pub needs_hashes: bool,
+}
+
+impl Asked {
+    /// Returns whether a finding has a row. That a component has no digest only has one if it is asked for.
+    fn has_row(self, finding: &RegionFinding) -> bool
+        ensures { result ≡ of.has_row self finding.now }
+    {
+        match finding {
+            RegionFinding::Component {
+                what: ComponentFinding::Content(content),
+                ..
+            } => { self.is_verbose || self.needs_hashes || content.hash != HashState::Absent }
+            _ => true,
+        }
+    }
+}
+
+/// Returns the row of a finding of the region of this name.
+fn region_row<'a>(asked: Asked, region: &'a [u8], finding: &'a RegionFinding) -> Row<'a>
+    ensures { seen_row result ≡ of.region_row asked region.now finding.now }
+{
+    let verdict = verdict_of(is_bad_region(finding, asked.needs_hashes));
+    region_row_with(verdict, region, finding)
+}
+
+/// Adds the rows of the findings of the region of this name.
+pub fn add_region<'a>(
+    rows: &mut Vec<Row<'a>>,
+    asked: Asked,
+    region: &'a [u8],
+    findings: &'a [RegionFinding],
 ) -> Result<(), AllocError>
-    ensures { (form : Form) (told : List SeenRow) → HasTold form told report.old
-        → OnOk result (HasTold form (told ++ flat_map (rows.region_rows region.now) findings.now) report.new) }
+    ensures { Adds result rows.old.items rows.new.items
+        (flat_map (of.region_rows asked region.now) findings.now) }
 {
     for finding in findings {
-        tell_finding(report, region, finding)?;
+        add_if(
+            rows,
+            asked.has_row(finding),
+            region_row(asked, region, finding),
+        )?;
     }
     Ok(())
 }

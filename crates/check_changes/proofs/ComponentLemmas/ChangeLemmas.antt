@@ -13,7 +13,7 @@ use Rattle.flash_device.specs.Pages.{Pages}
 use Rattle.cbfs_walk.specs.declared.cell.Cell.{Cell}
 use Rattle.cbfs_walk.proofs.Checks.{checks_give}
 use Rattle.check_changes.specs.Components.ComponentChanges.{ComponentState, first_of, stands_at, is_first_of, pair_change, change_by, change_of, removal_of, changes_between}
-use Rattle.check_changes.specs.Components.Sides.{HasReadBoth}
+use Rattle.check_changes.specs.Images.{HasReadBoth}
 use Rattle.check_changes.proofs.ComponentLemmas.Reading.{both-then, both-within}
 use Rattle.check_changes.specs.Components.Firsts.{is_named, first_cell, is_at, is_first}
 use Rattle.check_changes.specs.Components.Listings.{IsUsedIn, IsListedIn, cell_difference, listed_change, listed_removal, spans, state_in, states_in}

@@ -1,7 +1,6 @@
 -- Reads of two devices, one after the other, and stretches of their bytes.
-use Rattle.std.proofs.Common.{◌≡◌, ℕ, ◌+◌, ◌-◌, ◌≤◌, Bool, true, false, List, ◌++◌, length, take, Result, Ok, Err, sym, ap, ◌∙◌, arith}
-use Rattle.std.specs.Prelude.{slice_range, IfOk}
-use Rattle.std.proofs.Math.Seq.{take-length}
+use Rattle.std.proofs.Common.{◌≡◌, ℕ, ◌+◌, ◌≤◌, Bool, true, false, List, ◌++◌, sym, ap, ◌∙◌, arith}
+use Rattle.std.specs.Prelude.{slice_range}
 use Rattle.std.specs.Str.{bytes_eq}
 use Rattle.std.proofs.lemmas.Bool.{false_from_ne_true}
 use Rattle.std.proofs.lemmas.Slice.Eq.{bytes_eq-Decides}
@@ -9,11 +8,9 @@ use Rattle.flash_device.specs.Device.{Device}
 use Rattle.flash_device.specs.Pages.{Pages}
 use Rattle.flash_device.proofs.CopyLemmas.{slice_range-join}
 use Rattle.flash_device.proofs.WindowLemmas.{HasRead-none, HasRead-then, HasRead-within}
-use Rattle.flash_device.proofs.DeviceLemmas.{length-bytes_in}
-use Rattle.flash_device.specs.Regions.{Range, LiesIn, bytes_in}
+use Rattle.flash_device.specs.Regions.{Range, bytes_in}
 use Rattle.cbfs_walk.proofs.Parts.{part-in, range-inner}
-use Rattle.check_changes.specs.Components.Sides.{HasReadBoth}
-use Rattle.check_changes.specs.declared.components.stretch.Stretch.{Stretch}
+use Rattle.check_changes.specs.Images.{HasReadBoth}
 
 module _ {F G : Type 0} (f : F → Device) (g : G → Device) where
   pub both-none : (p : Pages F) (q : Pages G) → HasReadBoth f g 0 0 0 p p q q
@@ -67,19 +64,3 @@ module _ (x y : List ℕ) (at by : ℕ) where
           ∙ ap (λ (l : List ℕ). slice_range l n (n + k)) e
           ∙ range-inner y by (by + m) n (n + k) (omega (arith, short))
           ∙ ap (λ j. slice_range y (by + n) j) (let e : by + (n + k) ≡ by + n + k = omega arith in e)
-
--- ---- whole regions
-
-region_whole : (image : List ℕ) (r : Range) (a : Stretch) → a ≡ record { from = 0; end = r.size } → LiesIn r image → slice_range (bytes_in r image) a.from a.end ≡ bytes_in r image
-region_whole image r a is lies =
-    let x = bytes_in r image in
-    let all : r.size - 0 ≡ length x = omega (arith, length-bytes_in r image lies) in
-    ap (λ (s : Stretch). slice_range x s.from s.end) is ∙ ap (λ n. take n x) all ∙ take-length x
-
--- what is told of stretches over two whole regions is told of the regions' bytes
-pub whole_told : {E : Type 0} (P : Bool → Type 0) (result : Result Bool E) (old new : List ℕ) (r s : Range) (a b : Stretch) → a ≡ record { from = 0; end = r.size } → b ≡ record { from = 0; end = s.size } → LiesIn r old → LiesIn s new
-    → IfOk result (λ same. same ≡ bytes_eq (slice_range (bytes_in r old) a.from a.end) (slice_range (bytes_in s new) b.from b.end))
-    → ((same : Bool) → same ≡ bytes_eq (bytes_in r old) (bytes_in s new) → P same) → IfOk result P
-whole_told P (Err fault) old new r s a b is_a is_b in_old in_new told so = tt
-whole_told P (Ok same) old new r s a b is_a is_b in_old in_new told so =
-    so same (told ∙ ap (λ bytes. bytes_eq bytes (slice_range (bytes_in s new) b.from b.end)) (region_whole old r a is_a in_old) ∙ ap (bytes_eq (bytes_in r old)) (region_whole new s b is_b in_new))

@@ -23,8 +23,8 @@ handed told (Err other) fault is = ap told is
 -- the first pairs are told, and so many bytes of the old image are left to read
 pub record Changing {F G : Type 0} (f : F → Device) (g : G → Device) (pairs : List Pair) (i left : ℕ) (changes : List RegionChange) (old now : Pages F) (new later : Pages G) : Type 0 where
   pub within : left ≤ length (f old.device).content
-  pub old_read : HasRead f ((length (f old.device).content - left + new_sizes (take i pairs)) / 16 + 2 * i) 0 old now
-  pub new_read : HasRead g (new_sizes (take i pairs) / 8 + 2 * i) 0 new later
+  pub old_read : HasRead f ((length (f old.device).content - left + new_sizes (take i pairs)) / 24 + 2 * i) 0 old now
+  pub new_read : HasRead g (new_sizes (take i pairs) / 12 + 2 * i) 0 new later
   pub told : OnHonest f old.device (λ x. OnHonest g new.device (λ y. changes ++ changes_in left x y (drop i pairs) ≡ changes_in (length x) x y pairs))
 
 module _ {F G : Type 0} (f : F → Device) (g : G → Device) (pairs : List Pair) where
@@ -38,28 +38,28 @@ module _ {F G : Type 0} (f : F → Device) (g : G → Device) (pairs : List Pair
 
   module _ (i left rest : ℕ) (p : Pair) (changes : List RegionChange) (old now end : Pages F) (new later last : Pages G) (had : Changing f g pairs i left changes old now new later) (lt : i < length pairs) (fewer : rest ≤ left) where
     -- what was read of each device, with the reads of one pair more
-    pub old_reads-more : (refused : ℕ) → HasRead f ((left - rest + (get_or pairs i p).new.area.size) / 16 + 2) refused now end
-        → HasRead f ((length (f old.device).content - rest + new_sizes (take (i + 1) pairs)) / 16 + 2 * (i + 1)) refused old end
+    pub old_reads-more : (refused : ℕ) → HasRead f ((left - rest + (get_or pairs i p).new.area.size) / 24 + 2) refused now end
+        → HasRead f ((length (f old.device).content - rest + new_sizes (take (i + 1) pairs)) / 24 + 2 * (i + 1)) refused old end
     old_reads-more refused read =
         HasRead-within f _ _ refused old end (omega (arith, had.within, sum_by_more (λ (q : Pair). q.new.area.size) pairs i p lt)) (HasRead-then f _ _ refused old now end had.old_read read)
 
-    pub new_reads-more : (refused : ℕ) → HasRead g ((get_or pairs i p).new.area.size / 8 + 2) refused later last → HasRead g (new_sizes (take (i + 1) pairs) / 8 + 2 * (i + 1)) refused new last
+    pub new_reads-more : (refused : ℕ) → HasRead g ((get_or pairs i p).new.area.size / 12 + 2) refused later last → HasRead g (new_sizes (take (i + 1) pairs) / 12 + 2 * (i + 1)) refused new last
     new_reads-more refused read =
         HasRead-within g _ _ refused new last (omega (arith, sum_by_more (λ (q : Pair). q.new.area.size) pairs i p lt)) (HasRead-then g _ _ refused new later last had.new_read read)
 
     -- and within those of all of them
-    pub old_reads-all : (refused : ℕ) → HasRead f ((left - rest + (get_or pairs i p).new.area.size) / 16 + 2) refused now end
-        → HasRead f ((length (f old.device).content + new_sizes pairs) / 16 + 2 * length pairs) refused old end
+    pub old_reads-all : (refused : ℕ) → HasRead f ((left - rest + (get_or pairs i p).new.area.size) / 24 + 2) refused now end
+        → HasRead f ((length (f old.device).content + new_sizes pairs) / 24 + 2 * length pairs) refused old end
     old_reads-all refused read =
         HasRead-within f _ _ refused old end (omega (arith, sum_by-take-le (λ (q : Pair). q.new.area.size) pairs (i + 1))) (old_reads-more refused read)
 
-    pub new_reads-all : (refused : ℕ) → HasRead g ((get_or pairs i p).new.area.size / 8 + 2) refused later last → HasRead g (new_sizes pairs / 8 + 2 * length pairs) refused new last
+    pub new_reads-all : (refused : ℕ) → HasRead g ((get_or pairs i p).new.area.size / 12 + 2) refused later last → HasRead g (new_sizes pairs / 12 + 2 * length pairs) refused new last
     new_reads-all refused read =
         HasRead-within g _ _ refused new last (omega (arith, sum_by-take-le (λ (q : Pair). q.new.area.size) pairs (i + 1))) (new_reads-more refused read)
 
     -- one pair more is told
     pub changing_more : (change : RegionChange) (next : List RegionChange)
-        → HasRead f ((left - rest + (get_or pairs i p).new.area.size) / 16 + 2) 0 now end → HasRead g ((get_or pairs i p).new.area.size / 8 + 2) 0 later last
+        → HasRead f ((left - rest + (get_or pairs i p).new.area.size) / 24 + 2) 0 now end → HasRead g ((get_or pairs i p).new.area.size / 12 + 2) 0 later last
         → rest ≡ left_after left (length (f now.device).content) (get_or pairs i p).old
         → OnHonest f now.device (λ x. OnHonest g later.device (λ y. change ≡ change_of left x y (get_or pairs i p)))
         → next ≡ changes ++ change ∷ [] → Changing f g pairs (i + 1) rest next old end new last

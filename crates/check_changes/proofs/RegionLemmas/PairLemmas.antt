@@ -4,12 +4,13 @@ use Rattle.std.specs.Prelude.{All}
 use Rattle.std.specs.List.{flat_map}
 use Rattle.std.proofs.Math.Seq.{drop-cons}
 use Rattle.std.proofs.lemmas.Grind.{flat_map-append}
-use Rattle.std.proofs.lemmas.List.Elements.{All-nil, All-cons}
+use Rattle.std.proofs.lemmas.List.Elements.{All-nil, All-cons, All-head, All-tail}
 use Rattle.std.proofs.lemmas.List.Sums.{sum_by-cons}
 use Rattle.check_findings.specs.declared.map.finding.NumberedArea.{NumberedArea}
+use Rattle.check_findings.specs.Map.MapFindings.{area_end}
 use Rattle.check_changes.specs.Areas.AreaChanges.{namesake}
 use Rattle.check_findings.specs.declared.image.finding.ImageFinding.{ImageFinding}
-use Rattle.check_findings.specs.Image.RegionAreas.{region_area, region_areas, LieInOrder}
+use Rattle.check_findings.specs.Image.RegionAreas.{region_area, region_areas, sum_sizes}
 use Rattle.check_changes.specs.declared.regions.pairs.Pair.{Pair}
 use Rattle.check_changes.specs.Regions.RegionChanges.{pair_with, pair_of, pairs}
 use Rattle.check_changes.specs.Regions.Sizes.{EndsInside, new_sizes}
@@ -24,29 +25,23 @@ pairs-more olds findings i f before after all lt is pushed so_far =
     let left : pairs olds (drop i findings) ≡ here ++ rest = ap (λ (l : List ImageFinding). pairs olds l) split ∙ flat_map-append (pair_of olds) (region_area f) (region_areas (drop (i + 1) findings)) in
     ap (λ (l : List Pair). l ++ rest) pushed ∙ append_assoc before here rest ∙ ap (λ (l : List Pair). before ++ l) (sym left) ∙ so_far
 
--- ---- areas that lie in order
-
-LieInOrder-ends : (at end : ℕ) (areas : List NumberedArea) → LieInOrder at end areas → at ≤ end
-LieInOrder-ends at end [] lie = lie
-LieInOrder-ends at end (a ∷ areas) lie = let later = LieInOrder-ends (a.area.offset + a.area.size) end areas lie.1 in omega (arith, lie.0, later)
-
--- the areas of the pairs end where the areas do that they are of
-pub pairs-inside : (olds areas : List NumberedArea) (at n : ℕ) → LieInOrder at n areas → All (EndsInside n) (flat_map (pair_of olds) areas)
-pairs-inside olds [] at n lie = All-nil (EndsInside n)
-pairs-inside olds (a ∷ areas) at n lie = go (namesake a olds) (pairs-inside olds areas (a.area.offset + a.area.size) n lie.1)
+-- the areas of the pairs end inside where all areas do
+pub pairs-inside : (olds areas : List NumberedArea) (n : ℕ) → All (λ a. area_end a.area ≤ n) areas → All (EndsInside n) (flat_map (pair_of olds) areas)
+pairs-inside olds [] n inside = All-nil (EndsInside n)
+pairs-inside olds (a ∷ areas) n inside = go (namesake a olds) (pairs-inside olds areas n (All-tail (λ (a : NumberedArea). area_end a.area ≤ n) a areas inside))
   where
     go : (o : Option NumberedArea) → All (EndsInside n) (flat_map (pair_of olds) areas) → All (EndsInside n) (pair_with a o ++ flat_map (pair_of olds) areas)
     go None later = later
-    go (Some old) later = All-cons (EndsInside n) (record { old = old; new = a }) (flat_map (pair_of olds) areas) (LieInOrder-ends (a.area.offset + a.area.size) n areas lie.1) later
+    go (Some old) later = All-cons (EndsInside n) (record { old = old; new = a }) (flat_map (pair_of olds) areas) (All-head (λ (a : NumberedArea). area_end a.area ≤ n) a areas inside) later
 
--- and have no more bytes than lie behind the first place
-pub new_sizes-pairs : (olds areas : List NumberedArea) (at n : ℕ) → LieInOrder at n areas → at + new_sizes (flat_map (pair_of olds) areas) ≤ n
-new_sizes-pairs olds [] at n lie = let fits : at ≤ n = lie in omega arith
-new_sizes-pairs olds (a ∷ areas) at n lie = go (namesake a olds) (new_sizes-pairs olds areas (a.area.offset + a.area.size) n lie.1)
+-- and have no more bytes than they
+pub new_sizes-pairs : (olds areas : List NumberedArea) → new_sizes (flat_map (pair_of olds) areas) ≤ sum_sizes areas
+new_sizes-pairs olds [] = omega arith
+new_sizes-pairs olds (a ∷ areas) = go (namesake a olds) (new_sizes-pairs olds areas)
   where
-    go : (o : Option NumberedArea) → a.area.offset + a.area.size + new_sizes (flat_map (pair_of olds) areas) ≤ n → at + new_sizes (pair_with a o ++ flat_map (pair_of olds) areas) ≤ n
-    go None later = omega (arith, lie.0, later)
-    go (Some old) later = omega (arith, lie.0, later, sum_by-cons (λ (p : Pair). p.new.area.size) (record { old = old; new = a }) (flat_map (pair_of olds) areas))
+    go : (o : Option NumberedArea) → new_sizes (flat_map (pair_of olds) areas) ≤ sum_sizes areas → new_sizes (pair_with a o ++ flat_map (pair_of olds) areas) ≤ sum_sizes (a ∷ areas)
+    go None later = omega (arith, later, sum_by-cons (λ (a : NumberedArea). a.area.size) a areas)
+    go (Some old) later = omega (arith, later, sum_by-cons (λ (a : NumberedArea). a.area.size) a areas, sum_by-cons (λ (p : Pair). p.new.area.size) (record { old = old; new = a }) (flat_map (pair_of olds) areas))
 
 pub length-pairs : (olds areas : List NumberedArea) → length (flat_map (pair_of olds) areas) ≤ length areas
 length-pairs olds [] = omega arith

@@ -1,5 +1,6 @@
--- The blocks of bytes, and how many of two rows of them differ. That 4096 bytes are a block is this project's own.
-use Rattle.std.specs.Prelude.{◌≡◌, ℕ, zero, suc, ◌+◌, ◌*◌, ◌/◌, ◌<◌, Bool, not, List, length, take, drop, max, slice_get, Some, if◌then◌else◌}
+-- The blocks of bytes, and how many of two rows of them differ. That 4096 bytes are a block is this
+-- project's own.
+use Rattle.std.specs.Prelude.{ℕ, zero, suc, ◌+◌, ◌*◌, ◌/◌, Bool, not, List, length, take, drop, max, if◌then◌else◌}
 use Rattle.std.specs.Str.{bytes_eq}
 
 -- how many blocks n bytes have
@@ -13,10 +14,6 @@ block number x = take 4096 (drop (4096 * number) x)
 -- the blocks of this number differ
 abbrev pub differs : List ℕ → List ℕ → ℕ → Bool
 differs x y number = not (bytes_eq (block number x) (block number y))
-
--- these tell of the first blocks whether they differ
-abbrev pub KnowsBlocks : List ℕ → List ℕ → List Bool → Type 0
-KnowsBlocks x y known = (number : ℕ) → number < length known → slice_get known number ≡ Some (differs x y number)
 
 -- how many of the first n blocks differ
 abbrev pub different_among : List ℕ → List ℕ → ℕ → ℕ

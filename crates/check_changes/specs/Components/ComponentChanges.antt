@@ -12,8 +12,8 @@ use Rattle.check_changes.specs.declared.components.change.Difference.TheVariants
 use Rattle.check_changes.specs.declared.components.change.ComponentChange.{ComponentChange}
 use Rattle.check_changes.specs.declared.components.change.ComponentChange.TheVariants.{Added, Removed, Changed, Moved}
 
--- what is compared of a component: where it stands, its name, its type, its content as it is stored, and the bytes
--- between its name and its content, which hold its attributes
+-- what is compared of a component: where it stands, its name, its type, its content as it is
+-- stored, and the bytes between its name and its content, which hold its attributes
 pub record ComponentState : Type 0 where
   pub at : ℕ
   pub name : List ℕ
@@ -52,10 +52,15 @@ difference old new =
     else (if not (bytes_eq old.attributes new.attributes) then Some Attributes
     else None)))
 
--- what is told of a name that both regions have, in the old one and in the new one at these places
+-- of a name that both regions have, in the old one and in the new one at these places: what
+-- differs, then the move
+abbrev pub content_change : Option Difference → ℕ → ℕ → List ℕ → List ComponentChange
+content_change None old new name = []
+content_change (Some what) old new name = Changed old new name what ∷ []
+
 abbrev pub pair_change : Option Difference → ℕ → ℕ → List ℕ → List ComponentChange
-pair_change (Some what) old new name = Changed old new name what ∷ []
-pair_change None old new name = if old == new then [] else Moved old new name ∷ []
+pair_change what old new name =
+    content_change what old new name ++ (if old == new then [] else Moved old new name ∷ [])
 
 -- of a new component, by the old one of its name
 abbrev pub change_by : Option ComponentState → ComponentState → List ComponentChange
@@ -70,7 +75,8 @@ change_of old new c = if is_first_of new c then change_by (first_of c.name old) 
 abbrev pub removal_of : List ComponentState → List ComponentState → ComponentState → List ComponentChange
 removal_of old new c = if is_first_of old c && not (is_some (first_of c.name new)) then Removed c.at c.name ∷ [] else []
 
--- in the order of the new region what is added, changed or moved; then, in the order of the old one, what is removed
+-- in the order of the new region what is added, changed or moved; then, in the order of the old
+-- one, what is removed
 unfoldable pub changes_between : List ComponentState → List ComponentState → List ComponentChange
 changes_between old new = flat_map (change_of old new) new ++ flat_map (removal_of old new) old
 

@@ -68,7 +68,8 @@ pub record AddsCell (c : Cell) (old new : List Listed) : Type 0 where
 abbrev pub AddsAtMost : Cell → List Listed → List Listed → Type 0
 AddsAtMost c old new = (new ≡ old) ⊎ AddsCell c old new
 
--- these are the components of a region: each lies in it, together they are no longer than it, and on an honest device they are as defined
+-- these are the components of a region: each lies in it, together they are no longer than it, and
+-- on an honest device they are as defined
 pub record Lists {F : Type 0} (facts : F → Device) (region : Range) (pages : Pages F) (all : Vec Listed Global) : Type 0 where
   pub cells : All (IsListedIn region.size) all.items
   pub room : spans all.items ≤ region.size

@@ -1,4 +1,5 @@
--- What becomes of the components in the regions of two images. What is told, and in which order, is this project's own.
+-- What becomes of the components in the regions of two images. What is told, and in which order, is
+-- this project's own.
 use Rattle.std.specs.Prelude.{ℕ, ◌-◌, Bool, ◌&&◌, List, [], ◌∷◌, length, nat_le, Option, Some, None, if◌then◌else◌}
 use Rattle.std.specs.List.{flat_map}
 use Rattle.check_findings.specs.declared.map.finding.NumberedArea.{NumberedArea}
@@ -21,11 +22,13 @@ pair_with new (Some old) = record { old = old; new = new } ∷ []
 abbrev pub pair_of : List NumberedArea → NumberedArea → List Pair
 pair_of olds a = pair_with a (namesake a olds)
 
--- each area of which it is told what it holds, with the first old one of its name; without those that have none
+-- each area of which it is told what it holds, with the first old one of its name; without those
+-- that have none
 abbrev pub pairs : List NumberedArea → List ImageFinding → List Pair
 pairs olds findings = flat_map (pair_of olds) (region_areas findings)
 
--- an area of an old image of m bytes is compared: it ends inside, and has no more bytes than are left to read
+-- an area of an old image of m bytes is compared: it ends inside, and has no more bytes than are
+-- left to read
 abbrev pub is_compared : ℕ → ℕ → NumberedArea → Bool
 is_compared left m old = nat_le (area_end old.area) m && nat_le old.area.size left
 
@@ -45,7 +48,7 @@ abbrev pub changes_in : ℕ → List ℕ → List ℕ → List Pair → List Reg
 changes_in left x y [] = []
 changes_in left x y (p ∷ pairs) = change_of left x y p ∷ changes_in (left_after left (length x) p.old) x y pairs
 
--- What becomes of the components where an image y, of which these findings tell, is flashed over an image x with these areas.
--- At most as many bytes of x are looked at as it has.
+-- What becomes of the components where an image y, of which these findings tell, is flashed over an
+-- image x with these areas. At most as many bytes of x are looked at as it has.
 unfoldable pub region_changes : List ℕ → List NumberedArea → List ℕ → List ImageFinding → List RegionChange
 region_changes x olds y findings = changes_in (length x) x y (pairs olds findings)

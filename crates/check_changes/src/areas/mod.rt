@@ -1,9 +1,11 @@
-//! Tells what changes between the areas of two images, where one is flashed over the other.
+//! Finds the changes between the maps, the areas and the blocks of two images.
 
 mod areas;
 mod blocks;
 mod change;
+mod map;
 mod pairs;
 
 pub use areas::{ImageChanges, image_changes};
-pub use change::AreaChange;
+pub use change::{AreaChange, MapChange};
+pub use map::map_changes;

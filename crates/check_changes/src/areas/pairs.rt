@@ -1,4 +1,4 @@
-//! Which areas of two flashmaps are compared with each other.
+//! The pairs of areas of two flash maps that are compared.
 ghost use Rattle.std.specs.Prelude.{◌≡◌, ◌+◌, ◌≤◌, ◌++◌, List, length, IfOk, OnOk};
 ghost use Rattle.std.specs.List.{flat_map};
 ghost use Rattle.check_findings.specs.declared.map.finding.NumberedArea.{NumberedArea};
@@ -16,7 +16,7 @@ pub struct Pair {
     pub new: NumberedArea,
 }
 
-/// Whether the area's name reaches it.
+/// Returns whether the area's name reaches it.
 fn is_reached<'a>(names: &AreaNames<'a>, area: &'a NumberedArea) -> bool
     ensures { (areas : List NumberedArea) → Notes names.now areas → result ≡ is_reached areas area.now }
 {
@@ -26,7 +26,7 @@ fn is_reached<'a>(names: &AreaNames<'a>, area: &'a NumberedArea) -> bool
     }
 }
 
-/// Pushes the area with the old one of its name, where its name reaches it.
+/// Pushes the area with the old one of its name, if its name reaches it.
 fn push_pair<'a>(
     pairs: &mut Vec<Pair>,
     old_names: &AreaNames<'a>,
@@ -46,7 +46,8 @@ fn push_pair<'a>(
     Ok(())
 }
 
-/// The areas of the new map that names reach, in its order, each with the old one of its name.
+/// Returns the areas of the new map that names reach, in its order, each with the old one of its
+/// name.
 pub fn pairs<'a>(
     alloc: Global,
     old_names: &AreaNames<'a>,
@@ -64,7 +65,7 @@ pub fn pairs<'a>(
     Ok(pairs)
 }
 
-/// Pushes that an area of the old map is gone, where its name reaches it and none of the new map.
+/// Pushes that an area of the old map is gone, if its name reaches it and none of the new map.
 fn push_if_gone<'a>(
     changes: &mut Vec<AreaChange>,
     old_names: &AreaNames<'a>,
@@ -78,7 +79,7 @@ fn push_if_gone<'a>(
     push_if(changes, is_gone, AreaChange::Gone(*area))
 }
 
-/// Pushes which areas of the old map are gone.
+/// Pushes the areas of the old map that are gone.
 pub fn push_gone<'a>(
     changes: &mut Vec<AreaChange>,
     old_names: &AreaNames<'a>,

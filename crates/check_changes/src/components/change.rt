@@ -1,7 +1,7 @@
-//! What changes.
+//! The changes of components.
 use check_findings::Name;
 
-/// What differs first between two components of one name.
+/// The first difference between two components of one name.
 #[derive(Clone, Copy)]
 pub enum Difference {
     /// Their types.
@@ -14,7 +14,7 @@ pub enum Difference {
     Attributes,
 }
 
-/// What becomes of one component. Places count from the start of its region, in bytes.
+/// A change of one component. Places count from the start of its region, in bytes.
 #[derive(Drop)]
 pub enum ComponentChange {
     /// Only the new region has it.
@@ -27,14 +27,14 @@ pub enum ComponentChange {
         at: u64,
         name: Name,
     },
-    /// It differs, at the same place or at another one.
+    /// It differs.
     Changed {
         old: u64,
         new: u64,
         name: Name,
         what: Difference,
     },
-    /// It is the same, at another place.
+    /// It is at another place. Where it differs too, this comes after `Changed`.
     Moved {
         old: u64,
         new: u64,

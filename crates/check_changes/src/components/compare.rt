@@ -1,17 +1,17 @@
-//! Comparing components of two devices.
+//! The comparison of components of two devices.
 ghost use Rattle.std.specs.Prelude.{◌≡◌, ◌+◌, ◌-◌, ◌/◌, ◌≤◌, true, length, slice_range, IfOk};
 ghost use Rattle.std.specs.Str.{bytes_eq};
 ghost use Rattle.flash_device.specs.Pages.{OnHonest, OnHonestIn};
 ghost use Rattle.check_changes.specs.Components.Listings.{IsUsedIn, cell_difference};
-ghost use Rattle.check_changes.specs.Components.Sides.{BothLieIn, HasCompared};
+ghost use Rattle.check_changes.specs.Images.{BothLieIn, HasCompared};
 
 use crate::components::change::Difference;
-use crate::fault::ChangeFault;
 use crate::components::stretch::Stretch;
+use crate::fault::ChangeFault;
 use cbfs_walk::Cell;
 use flash_device::{Flash, PIECE, Paged, Region};
 
-/// What differs first between a component of the old region and one of the new.
+/// Returns the first difference between a component of the old region and one of the new.
 pub fn difference<F: Flash, G: Flash>(
     old: &mut Paged<F>,
     old_region: Region,
@@ -24,7 +24,7 @@ pub fn difference<F: Flash, G: Flash>(
     requires before { IsUsedIn old_region.size before.now }
     requires after { IsUsedIn new_region.size after.now }
 
-    ensures after { HasCompared F.facts G.facts (2 + after.now.span / 4096) result old.old old.new new.old new.new }
+    ensures after { HasCompared F.facts G.facts (2 + after.now.span / 4096) old.old old.new new.old new.new result }
     ensures difference { OnHonestIn F.facts old.old.device old_region (λ x. OnHonestIn G.facts new.old.device new_region (λ y.
         IfOk result (λ what. what ≡ cell_difference x before.now y after.now))) }
 {
@@ -47,29 +47,7 @@ pub fn difference<F: Flash, G: Flash>(
     Ok(None)
 }
 
-/// Whether two regions have the same bytes. One without room for a cell isn't looked at.
-pub fn are_same<F: Flash, G: Flash>(
-    old: &mut Paged<F>,
-    old_region: Region,
-    new: &mut Paged<G>,
-    new_region: Region,
-) -> Result<bool, ChangeFault>
-    requires { BothLieIn F.facts old.old.device old_region G.facts new.old.device new_region }
-
-    ensures after { HasCompared F.facts G.facts (new_region.size / 48) result old.old old.new new.old new.new }
-    ensures same { OnHonestIn F.facts old.old.device old_region (λ x. OnHonestIn G.facts new.old.device new_region (λ y.
-        IfOk result (λ same. same ≡ true → x ≡ y))) }
-    ensures found { OnHonestIn F.facts old.old.device old_region (λ x. OnHonestIn G.facts new.old.device new_region (λ y.
-        IfOk result (λ same. 64 ≤ new_region.size → x ≡ y → same ≡ true))) }
-{
-    if new_region.size() < 64 {
-        return Ok(false);
-    }
-    let (a, b) = (Stretch::whole(old_region), Stretch::whole(new_region));
-    same_stretch(old, old_region, a, new, new_region, b)
-}
-
-/// Whether two stretches have the same bytes.
+/// Returns whether two stretches have the same bytes.
 fn same_stretch<F: Flash, G: Flash>(
     old: &mut Paged<F>,
     old_region: Region,
@@ -84,7 +62,7 @@ fn same_stretch<F: Flash, G: Flash>(
     requires old_order { before.from ≤ before.end }
     requires new_order { after.from ≤ after.end }
 
-    ensures after { HasCompared F.facts G.facts (1 + (after.end - after.from) / 4096) result old.old old.new new.old new.new }
+    ensures after { HasCompared F.facts G.facts (1 + (after.end - after.from) / 4096) old.old old.new new.old new.new result }
     ensures same { OnHonestIn F.facts old.old.device old_region (λ x. OnHonestIn G.facts new.old.device new_region (λ y.
         IfOk result (λ same. same ≡ bytes_eq (slice_range x before.from before.end) (slice_range y after.from after.end)))) }
 {
@@ -103,7 +81,7 @@ fn same_stretch<F: Flash, G: Flash>(
     )
 }
 
-/// Whether n bytes of the old device and of the new are the same.
+/// Returns whether n bytes of the old device and of the new are the same.
 fn same_bytes<F: Flash, G: Flash>(
     old: &mut Paged<F>,
     before: u64,
@@ -114,7 +92,7 @@ fn same_bytes<F: Flash, G: Flash>(
     requires before { before + n ≤ length (F.facts old.old.device).content }
     requires after { after + n ≤ length (G.facts new.old.device).content }
 
-    ensures after { HasCompared F.facts G.facts (1 + n / 4096) result old.old old.new new.old new.new }
+    ensures after { HasCompared F.facts G.facts (1 + n / 4096) old.old old.new new.old new.new result }
     ensures same { OnHonest F.facts old.old.device (λ x. OnHonest G.facts new.old.device (λ y.
         IfOk result (λ same. same ≡ bytes_eq (slice_range x before (before + n)) (slice_range y after (after + n))))) }
 {
@@ -131,7 +109,7 @@ fn same_bytes<F: Flash, G: Flash>(
     Ok(true)
 }
 
-/// The same of at most 4096 bytes.
+/// Returns whether at most 4096 bytes of both devices are the same.
 fn same_piece<F: Flash, G: Flash>(
     old: &mut Paged<F>,
     before: u64,
@@ -143,7 +121,7 @@ fn same_piece<F: Flash, G: Flash>(
     requires after { after + n ≤ length (G.facts new.old.device).content }
     requires short { n ≤ 4096 }
 
-    ensures after { HasCompared F.facts G.facts 1 result old.old old.new new.old new.new }
+    ensures after { HasCompared F.facts G.facts 1 old.old old.new new.old new.new result }
     ensures same { OnHonest F.facts old.old.device (λ x. OnHonest G.facts new.old.device (λ y.
         IfOk result (λ same. same ≡ bytes_eq (slice_range x before (before + n)) (slice_range y after (after + n))))) }
 {

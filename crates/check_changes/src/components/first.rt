@@ -12,7 +12,8 @@ use std::alloc::{AllocError, Global};
 use std::collections::HashMap;
 use std::hash::RandomState;
 
-/// The cells of names. Whoever makes an image picks its names, so they are hashed with keys that nobody knows before.
+/// The cells of names. Whoever makes an image picks its names, so they are hashed with keys that
+/// nobody knows in advance.
 pub type Firsts<'a> = HashMap<&'a [u8], Cell, RandomState>;
 
 /// The components of a region, and of each name the cell of the first.
@@ -26,14 +27,14 @@ pub struct Listing<'a> {
 }
 
 impl<'a> Listing<'a> {
-    /// The cell of the first component of a name.
+    /// Returns the cell of the first component of a name.
     pub fn first(&self, name: &'a [u8]) -> Option<Cell>
         ensures { result ≡ first_cell name.now self.now.all.now }
     {
         self.first.get(name).copied()
     }
 
-    /// Whether no component in front of this one has its name.
+    /// Returns whether no earlier component has this one's name.
     pub fn is_first(&self, listed: &'a Listed) -> bool
         ensures { result ≡ is_first self.now.all.now listed.now }
     {
@@ -44,7 +45,7 @@ impl<'a> Listing<'a> {
     }
 }
 
-/// The same of these components.
+/// Returns the listing of these components.
 pub fn with_firsts<'a>(
     alloc: Global,
     keys: RandomState,
@@ -66,7 +67,7 @@ pub fn with_firsts<'a>(
     Ok(Listing { region, all, first })
 }
 
-/// Notes a component's cell, in place of that of any of its name behind it.
+/// Notes a component's cell, in place of that of a later one of its name.
 fn note<'a>(first: &mut Firsts<'a>, listed: &'a Listed) -> Result<(), AllocError>
     ensures { (behind : List Listed) → Notes first.old behind → OnOk result (Notes first.new (listed.now ∷ behind)) }
 {

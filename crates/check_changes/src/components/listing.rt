@@ -8,20 +8,19 @@ ghost use Rattle.cbfs_walk.specs.Walks.{StandsIn};
 ghost use Rattle.check_changes.specs.Components.Listings.{AddsAtMost, Lists, cell_states, states_in};
 ghost use Rattle.check_findings.specs.Faults.{by_device};
 
-use check_findings::CheckFault;
-use check_findings::Name;
 use cbfs_walk::{Cell, Step, Walk, WalkFault, cells_stand_in_their_image, name};
+use check_findings::{CheckFault, Name};
 use flash_device::{Flash, Paged, Region};
 use std::alloc::Global;
 
-/// A component as a walk gave it.
+/// A component that a walk found.
 #[derive(Drop)]
 pub struct Listed {
     pub name: Name,
     pub cell: Cell,
 }
 
-/// Adds a cell's component; free space is none.
+/// Adds the component of a cell. Free space has none.
 fn list_cell<F: Flash>(
     alloc: Global,
     paged: &mut Paged<F>,
@@ -58,7 +57,7 @@ fn add(all: &mut Vec<Listed>, listed: Listed) -> Result<(), CheckFault>
     }
 }
 
-/// The components of a region in order, up to a damage; none where its shape is refused.
+/// Returns the components of a region in order, up to a damage; none if its shape is refused.
 pub fn components<F: Flash>(
     alloc: Global,
     paged: &mut Paged<F>,
@@ -84,7 +83,7 @@ pub fn components<F: Flash>(
     }
 }
 
-/// Whether a fault is but how the cells end.
+/// Returns the fault of a walk, unless it only ends the cells.
 fn ended(fault: WalkFault) -> Result<(), CheckFault>
     ensures ended { OnOk result (fault ≢ WalkFault.Device) }
     ensures device { OnErr result (fault ≡ WalkFault.Device) }

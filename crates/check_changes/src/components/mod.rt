@@ -1,6 +1,4 @@
-//! Tells what changes between the components of two CBFS regions, each on a device of its own.
-//!
-//! It takes memory for the components' names, and leaves the bytes of honest devices as they are.
+//! Finds the changes between the components of two CBFS regions, each on a device of its own.
 
 mod change;
 mod changes;

@@ -3,7 +3,6 @@ ghost use Rattle.std.specs.Prelude.{◌≡◌, ◌+◌, ◌<◌, ◌≤◌, ◌^
 ghost use Rattle.flash_format.specs.Entry.{name_end};
 
 use cbfs_walk::Cell;
-use flash_device::Region;
 
 /// The bytes between two places, counted from the region's start.
 #[derive(Clone, Copy)]
@@ -13,17 +12,7 @@ pub struct Stretch {
 }
 
 impl Stretch {
-    /// All of a region.
-    pub fn whole(region: Region) -> Stretch
-        ensures { result ≡ record { from = 0; end = region.size } }
-    {
-        Stretch {
-            from: 0,
-            end: region.size(),
-        }
-    }
-
-    /// A component's content, as it is stored.
+    /// Returns the range of a component's content, as it is stored.
     pub fn content(cell: &Cell) -> Stretch
         requires { cell.now.at + (cell.now.head.offset + cell.now.head.len) < 2 ^ 32 }
         ensures { result ≡ record {
@@ -38,7 +27,7 @@ impl Stretch {
         }
     }
 
-    /// The bytes between a component's name and its content.
+    /// Returns the range between a component's name and its content.
     pub fn attributes(cell: &Cell) -> Stretch
         requires inside { cell.now.at + cell.now.head.offset < 2 ^ 32 }
         requires order { name_end cell.now.head ≤ cell.now.head.offset }

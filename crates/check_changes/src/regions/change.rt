@@ -1,4 +1,4 @@
-//! What is told of a region.
+//! The changes of a region.
 ghost use Rattle.std.specs.Prelude.{◌≡◌, [], ◌∷◌, ◌++◌, OnOk};
 
 use crate::components::ComponentChange;
@@ -6,7 +6,7 @@ use check_findings::NumberedArea;
 use std::alloc::AllocError;
 use std::marker::Model;
 
-/// What changes between the components of two regions.
+/// The changes between the components of two regions.
 #[derive(Drop)]
 pub struct ComponentChanges {
     changes: Vec<ComponentChange>,
@@ -22,14 +22,14 @@ impl Model for ComponentChanges {
 }
 
 impl ComponentChanges {
-    /// These changes, in their order.
+    /// Returns these changes, in their order.
     pub fn new(changes: Vec<ComponentChange>) -> ComponentChanges
         ensures { result ≡ changes.items }
     {
         ComponentChanges { changes }
     }
 
-    /// The changes, in their order.
+    /// Returns the changes, in their order.
     pub fn as_slice(&self) -> &[ComponentChange]
         ensures { result.now ≡ self.now }
     {
@@ -37,15 +37,16 @@ impl ComponentChanges {
     }
 }
 
-/// What becomes of the components of one area of the new image.
+/// The changes of the components of one area of the new image.
 #[derive(Drop)]
 pub enum RegionChange {
-    /// What changes from the first area of the old image with its name.
+    /// The changes from the first area of the old image with its name.
     Compared {
         area: NumberedArea,
         changes: ComponentChanges,
     },
-    /// Not looked at: the old area ends outside the old image, or too much of that was read before.
+    /// Not compared: the old area ends outside the old image, or too much of that was compared
+    /// before.
     NotCompared(NumberedArea),
 }
 

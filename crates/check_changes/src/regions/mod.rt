@@ -1,4 +1,4 @@
-//! Tells what becomes of the components in the regions of an image, where a new image is flashed over it.
+//! Finds the changes of the components in the regions of an image.
 
 mod change;
 mod pairs;

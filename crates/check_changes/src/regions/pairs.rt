@@ -1,4 +1,4 @@
-//! Which areas of two images are compared with each other.
+//! The pairs of areas of two images whose components are compared.
 ghost use Rattle.std.specs.Prelude.{◌≡◌, ◌++◌, List, IfOk, OnOk};
 ghost use Rattle.std.specs.List.{flat_map};
 ghost use Rattle.check_findings.specs.declared.map.finding.NumberedArea.{NumberedArea};
@@ -6,8 +6,7 @@ ghost use Rattle.check_findings.specs.Map.Names.{Notes};
 ghost use Rattle.check_findings.specs.Image.RegionAreas.{region_area};
 ghost use Rattle.check_changes.specs.Regions.RegionChanges.{pair_of, pairs};
 
-use check_findings::{AreaNames, NumberedArea};
-use check_findings::ImageFinding;
+use check_findings::{AreaNames, ImageFinding, NumberedArea};
 use std::alloc::{AllocError, Global};
 
 /// An area of the new image, and the first one of the old image with its name.
@@ -17,7 +16,7 @@ pub struct Pair {
     pub new: NumberedArea,
 }
 
-/// Pushes the area of a region's finding with the old one of its name, where there is one.
+/// Pushes the area of a region's finding with the old one of its name, if there is one.
 fn push_pair<'a>(
     pairs: &mut Vec<Pair>,
     old_names: &AreaNames<'a>,
@@ -35,8 +34,8 @@ fn push_pair<'a>(
     Ok(())
 }
 
-/// The areas of the regions of which these findings tell, in their order, each with the first old one of its name; without
-/// those that have none.
+/// Returns the areas of the regions of these findings, in their order, each with the first old one
+/// of its name; without those that have none.
 pub fn pairs<'a>(
     alloc: Global,
     old_names: &AreaNames<'a>,

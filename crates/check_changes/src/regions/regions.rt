@@ -1,26 +1,25 @@
-//! What becomes of the components of each region.
+//! The changes of the components of each region.
 ghost use Rattle.std.specs.Prelude.{◌≡◌, ◌+◌, ◌-◌, ◌*◌, ◌/◌, ◌≤◌, false, true, All, length, MatchOption, IfOk};
 ghost use Rattle.flash_device.specs.Device.{faults_told};
 ghost use Rattle.flash_device.specs.Pages.{HasRead, OnHonest};
 ghost use Rattle.check_findings.specs.Map.MapFindings.{area_end};
 ghost use Rattle.check_findings.specs.Image.ImageFindings.{range_of};
-ghost use Rattle.check_findings.specs.Image.RegionAreas.{region_areas, LieInOrder};
+ghost use Rattle.check_findings.specs.Image.RegionAreas.{region_areas, sum_sizes};
 ghost use Rattle.check_changes.specs.Faults.{by_old, by_new};
 ghost use Rattle.check_changes.specs.Regions.RegionChanges.{is_compared, left_after, change_of, changes_in, region_changes};
 ghost use Rattle.check_changes.specs.Regions.Sizes.{EndsInside, new_sizes};
 
-use crate::regions::change::{ComponentChanges, RegionChange, push};
-use crate::regions::pairs::{Pair, pairs};
 use crate::components::component_changes;
 use crate::fault::ChangeFault;
+use crate::regions::change::{ComponentChanges, RegionChange, push};
+use crate::regions::pairs::{Pair, pairs};
+use check_findings::{AreaNames, ImageFinding, NumberedArea};
 use flash_device::{Flash, Paged, Region};
-use check_findings::{AreaNames, NumberedArea};
-use check_findings::ImageFinding;
 use std::alloc::Global;
 use std::hash::RandomState;
 
-/// An old area as a region, where it is compared: it ends inside an image of `len` bytes, and is no longer than what is left
-/// to read.
+/// Returns an old area as a region, if it is compared: it ends inside an image of `len` bytes, and
+/// is no longer than what is left to read.
 fn compared_region(left: u64, len: u64, area: NumberedArea) -> Option<Region>
     ensures { MatchOption result (is_compared left len area ≡ false) (λ region.
         (is_compared left len area ≡ true) × (region ≡ range_of area) × (area_end area.area ≤ len) × (area.area.size ≤ left)) }
@@ -32,7 +31,7 @@ fn compared_region(left: u64, len: u64, area: NumberedArea) -> Option<Region>
     Region::within(u64::from(area.area.offset), size, len)
 }
 
-/// An area as a region, which ends inside an image of `len` bytes.
+/// Returns an area as a region, which ends inside an image of `len` bytes.
 fn region_of(area: NumberedArea, len: u64) -> Region
     requires { area_end area.area ≤ len }
     ensures { result ≡ range_of area }
@@ -44,8 +43,8 @@ fn region_of(area: NumberedArea, len: u64) -> Region
     region
 }
 
-/// What becomes of the components of two areas of one name. Of what is left to read of the old image its area's size is
-/// taken, where it is compared.
+/// Returns the changes of the components of two areas of one name. If they are compared, the size
+/// of the old area is taken from what is left to read of the old image.
 fn region_change<F: Flash, G: Flash>(
     alloc: Global,
     keys: RandomState,
@@ -56,8 +55,8 @@ fn region_change<F: Flash, G: Flash>(
 ) -> Result<RegionChange, ChangeFault>
     requires { EndsInside (length (G.facts new.old.device).content) pair }
 
-    ensures old { HasRead F.facts ((left.old - left.new + pair.new.area.size) / 16 + 2) (faults_told by_old result) old.old old.new }
-    ensures new { HasRead G.facts (pair.new.area.size / 8 + 2) (faults_told by_new result) new.old new.new }
+    ensures old { HasRead F.facts ((left.old - left.new + pair.new.area.size) / 24 + 2) (faults_told by_old result) old.old old.new }
+    ensures new { HasRead G.facts (pair.new.area.size / 12 + 2) (faults_told by_new result) new.old new.new }
     ensures left { left.new ≡ left_after left.old (length (F.facts old.old.device).content) pair.old }
     ensures fewer { left.new ≤ left.old }
     ensures change { OnHonest F.facts old.old.device (λ x. OnHonest G.facts new.old.device (λ y.
@@ -76,7 +75,7 @@ fn region_change<F: Flash, G: Flash>(
     })
 }
 
-/// What becomes of the components of these areas, one pair after the other.
+/// Returns the changes of the components of these areas, one pair after the other.
 fn pair_changes<F: Flash, G: Flash>(
     alloc: Global,
     keys: RandomState,
@@ -86,9 +85,9 @@ fn pair_changes<F: Flash, G: Flash>(
 ) -> Result<Vec<RegionChange>, ChangeFault>
     requires { All (EndsInside (length (G.facts new.old.device).content)) pairs.now }
 
-    ensures old { HasRead F.facts ((length (F.facts old.old.device).content + new_sizes pairs.now) / 16 + 2 * length pairs.now)
+    ensures old { HasRead F.facts ((length (F.facts old.old.device).content + new_sizes pairs.now) / 24 + 2 * length pairs.now)
         (faults_told by_old result) old.old old.new }
-    ensures new { HasRead G.facts (new_sizes pairs.now / 8 + 2 * length pairs.now) (faults_told by_new result) new.old new.new }
+    ensures new { HasRead G.facts (new_sizes pairs.now / 12 + 2 * length pairs.now) (faults_told by_new result) new.old new.new }
     ensures changes { OnHonest F.facts old.old.device (λ x. OnHonest G.facts new.old.device (λ y.
         IfOk result (λ changes. changes.items ≡ changes_in (length x) x y pairs.now))) }
 {
@@ -101,11 +100,12 @@ fn pair_changes<F: Flash, G: Flash>(
     Ok(changes)
 }
 
-/// What becomes of the components of each region of which these findings of the new image tell, in their order, by the first
-/// old area of its name; nothing is told of one whose name no old area has. At most as many bytes of the old image are looked
-/// at as it has.
-/// `OldDevice` comes exactly where the device with the old image refused a read, and `NewDevice` where the other one did;
-/// then nothing is told.
+/// Returns the changes of the components of each region of these findings of the new image, in
+/// their order, from the first old area of its name. A region whose name no old area has is left
+/// out. At most as many bytes of the old image are compared as it has. The regions may lie in one
+/// another.
+/// `OldDevice` comes exactly where the device with the old image refused a read, and `NewDevice`
+/// where the other one did; then there are no changes.
 pub fn region_changes<'a, F: Flash, G: Flash>(
     alloc: Global,
     keys: RandomState,
@@ -114,12 +114,13 @@ pub fn region_changes<'a, F: Flash, G: Flash>(
     new: &mut Paged<G>,
     findings: &'a [ImageFinding],
 ) -> Result<Vec<RegionChange>, ChangeFault>
-    requires { LieInOrder 0 (length (G.facts new.old.device).content) (region_areas findings.now) }
+    requires total { sum_sizes (region_areas findings.now) ≤ 8 * length (G.facts new.old.device).content }
+    requires inside { All (λ a. area_end a.area ≤ length (G.facts new.old.device).content) (region_areas findings.now) }
 
     // On any devices.
-    ensures old { HasRead F.facts ((length (F.facts old.old.device).content + length (G.facts new.old.device).content) / 16
+    ensures old { HasRead F.facts ((length (F.facts old.old.device).content + 8 * length (G.facts new.old.device).content) / 24
         + 2 * length (region_areas findings.now)) (faults_told by_old result) old.old old.new }
-    ensures new { HasRead G.facts (length (G.facts new.old.device).content / 8
+    ensures new { HasRead G.facts (8 * length (G.facts new.old.device).content / 12
         + 2 * length (region_areas findings.now)) (faults_told by_new result) new.old new.new }
 
     // On honest devices.

@@ -12,57 +12,64 @@ use Rattle.flash_format.specs.Components.{Component, component_at, components_fr
 use Rattle.cbfs_walk.specs.Shaped.{place_after}
 use Rattle.cbfs_walk.specs.Shapes.{has_bad_size, is_absent, refused_or}
 use Rattle.cbfs_walk.specs.declared.walk.WalkFault.TheVariants as faults
-use Rattle.check_findings.specs.Region.Counts.{counts}
-use Rattle.check_findings.specs.Region.RegionFindings.{region_findings, shape_findings, free_findings, name_findings, type_findings, component_findings, cells_findings, end_finding}
-use Rattle.check_findings.specs.declared.region.finding.RegionFinding.TheVariants as findings
+use Rattle.std.specs.Prelude.{is_some, not}
+use Rattle.std.specs.Str.{is_utf8}
+use Rattle.flash_format.specs.TypeNames.{name_of_type}
+use Rattle.check_findings.specs.Region.Names.{is_among}
+use Rattle.check_findings.specs.declared.region.finding.ComponentFinding.TheVariants as of_component
+use Rattle.check_findings.specs.Region.RegionFindings.{counts_of, region_findings, shape_findings, free_findings, told_if, component_findings, cells_findings, end_findings}
 use Rattle.check_findings.specs.declared.region.finding.RegionFinding.{RegionFinding}
+use Rattle.check_findings.proofs.RegionLemmas.Tails.{quiet_tail}
 use Rattle.check_findings.specs.Image.Laws.{IsIntact, IsWhole}
 use Rattle.check_findings.specs.Image.Verdicts.{is_bad_region}
 
 -- a bad finding among these makes them bad
-pub bad_among : (told : List RegionFinding) (finding : RegionFinding) → Contains told finding → is_bad_region finding ≡ true → list_any is_bad_region told ≡ true
-bad_among told finding has bad = list_any_at is_bad_region told has.0 finding has.1 (ap is_bad_region has.2 ∙ bad)
+pub bad_among : (needs : Bool) (told : List RegionFinding) (finding : RegionFinding) → Contains told finding → is_bad_region needs finding ≡ true → list_any (is_bad_region needs) told ≡ true
+bad_among needs told finding has bad = list_any_at (is_bad_region needs) told has.0 finding has.1 (ap (is_bad_region needs) has.2 ∙ bad)
 
 -- where none of two lists passes a test, none of either does
 pub none_of : {X : Type 0} (test : X → Bool) (xs ys : List X) → list_any test (xs ++ ys) ≡ false → (list_any test xs ≡ false) × (list_any test ys ≡ false)
 none_of test xs ys none = or_parts (list_any test xs) (list_any test ys) (sym (list_any-append test xs ys) ∙ none)
 
-good_shape : (size absent : Bool) (rest : List RegionFinding)
-    → list_any is_bad_region (refused_or shape_findings (cond size (Some faults.RegionShape) (cond absent (Some faults.NotCbfs) None)) rest) ≡ false
-    → (cond size (Some faults.RegionShape) (cond absent (Some faults.NotCbfs) None) ≡ None) × (list_any is_bad_region rest ≡ false)
-good_shape true absent rest fit = absurd (false≢true (sym fit))
-good_shape false true rest fit = absurd (false≢true (sym fit))
-good_shape false false rest fit = (refl, fit)
+good_shape : (needs : Bool) (size absent : Bool) (rest : List RegionFinding)
+    → list_any (is_bad_region needs) (refused_or shape_findings (cond size (Some faults.RegionShape) (cond absent (Some faults.NotCbfs) None)) rest) ≡ false
+    → (cond size (Some faults.RegionShape) (cond absent (Some faults.NotCbfs) None) ≡ None) × (list_any (is_bad_region needs) rest ≡ false)
+good_shape needs true absent rest fit = absurd (false≢true (sym fit))
+good_shape needs false true rest fit = absurd (false≢true (sym fit))
+good_shape needs false false rest fit = (refl, fit)
 
-undamaged : (at : ℕ) (end : End) (rest : List RegionFinding) → list_any is_bad_region (end_finding at end ∷ rest) ≡ false → (kind : DamageKind) → end ≢ damage kind
-undamaged at end rest fit kind is = false≢true (sym (rw is at fit))
+undamaged : (needs : Bool) (bytes : List ℕ) (at : ℕ) (end : End) (rest : List RegionFinding) → list_any (is_bad_region needs) (end_findings bytes at end ++ rest) ≡ false → (kind : DamageKind) → end ≢ damage kind
+undamaged needs bytes at end rest fit kind is = false≢true (sym (rw is at fit))
 
-intact_component : (verbose : Bool) (names : List (List ℕ)) (at : ℕ) (x : List ℕ) → list_any is_bad_region (component_findings verbose names at x) ≡ false → IsIntact (component_at at x)
-intact_component verbose names at x fit stored is =
-    let after_name = none_of is_bad_region (name_findings names at (cell_name x)) _ fit in
-    let state = none_of is_bad_region (type_findings at (cell_name x) (head_of x).kind) _ after_name.1 in
+intact_component : (needs : Bool) (names : List (List ℕ)) (at : ℕ) (x : List ℕ) → list_any (is_bad_region needs) (component_findings names at x) ≡ false → IsIntact (component_at at x)
+intact_component needs names at x fit stored is =
+    let name = cell_name x in
+    let after_name = none_of (is_bad_region needs) (told_if (is_among name names) at name of_component.Shadowed) _ fit in
+    let after_text = none_of (is_bad_region needs) (told_if (not (is_utf8 name)) at name of_component.NameNotText) _ after_name.1 in
+    let state = none_of (is_bad_region needs) (told_if (not (is_some (name_of_type (head_of x).kind))) at name (of_component.UnknownType (head_of x).kind)) _ after_text.1 in
     false≢true (sym (rw is at state.1))
 
-intact_cell : (verbose : Bool) (names : List (List ℕ)) (at : ℕ) (x : List ℕ) (others : List Component) (free : Bool) → list_any is_bad_region (cond free (free_findings at (head_of x)) (component_findings verbose names at x)) ≡ false → All IsIntact others
+intact_cell : (needs : Bool) (names : List (List ℕ)) (at : ℕ) (x : List ℕ) (others : List Component) (free : Bool) → list_any (is_bad_region needs) (cond free (free_findings at (head_of x)) (component_findings names at x)) ≡ false → All IsIntact others
     → All IsIntact (cond free others (component_at at x ∷ others))
-intact_cell verbose names at x others true fit rest = rest
-intact_cell verbose names at x others false fit rest = All-cons IsIntact (component_at at x) others (intact_component verbose names at x fit) rest
+intact_cell needs names at x others true fit rest = rest
+intact_cell needs names at x others false fit rest = All-cons IsIntact (component_at at x) others (intact_component needs names at x fit) rest
 
-intact : (verbose : Bool) (names : List (List ℕ)) (at : ℕ) (cells : List (List ℕ)) → list_any is_bad_region (cells_findings verbose names at cells) ≡ false → All IsIntact (components_from at cells)
+intact : (needs : Bool) (names : List (List ℕ)) (at : ℕ) (cells : List (List ℕ)) → list_any (is_bad_region needs) (cells_findings names at cells) ≡ false → All IsIntact (components_from at cells)
 unfolding cells_findings components_from
-intact verbose names at [] fit = All-nil IsIntact
-intact verbose names at (x ∷ cells) fit =
-    let parts = none_of is_bad_region (cond (is_free (head_of x)) (free_findings at (head_of x)) (component_findings verbose names at x)) _ fit in
-    intact_cell verbose names at x (components_from (at + length x) cells) (is_free (head_of x)) parts.0 (intact verbose (cond (is_free (head_of x)) names (cell_name x ∷ names)) (at + length x) cells parts.1)
+intact needs names at [] fit = All-nil IsIntact
+intact needs names at (x ∷ cells) fit =
+    let parts = none_of (is_bad_region needs) (cond (is_free (head_of x)) (free_findings at (head_of x)) (component_findings names at x)) _ fit in
+    intact_cell needs names at x (components_from (at + length x) cells) (is_free (head_of x)) parts.0 (intact needs (cond (is_free (head_of x)) names (cell_name x ∷ names)) (at + length x) cells parts.1)
 
 -- a region without a bad finding is whole
-pub fit_region : (verbose : Bool) (x : List ℕ) → list_any is_bad_region (region_findings verbose x) ≡ false → IsWhole x
+pub fit_region : (needs : Bool) (x : List ℕ) → list_any (is_bad_region needs) (region_findings x) ≡ false → IsWhole x
 unfolding region_findings
-fit_region verbose x fit =
-    let told = good_shape (has_bad_size (length x)) (is_absent (entry x)) _ fit in
-    let parts = none_of is_bad_region (cells_findings verbose [] 0 (cut x).cells) _ told.1 in
+fit_region needs x fit =
+    let told = good_shape needs (has_bad_size (length x)) (is_absent (entry x)) _ fit in
+    let parts = none_of (is_bad_region needs) (cells_findings [] 0 (cut x).cells) _ told.1 in
     record {
       shaped = told.0;
-      undamaged = undamaged (place_after 0 (cut x).cells) (cut x).end (findings.Counts (counts x) ∷ []) parts.1;
-      intact = intact verbose [] 0 (cut x).cells parts.0;
+      undamaged = undamaged needs x (place_after 0 (cut x).cells) (cut x).end (counts_of (cut x).cells) parts.1;
+      intact = intact needs [] 0 (cut x).cells parts.0;
+      blank = λ is. quiet_tail (is_bad_region needs) (place_after 0 (cut x).cells) x (counts_of (cut x).cells) (λ place. refl) (rw is at parts.1);
     }

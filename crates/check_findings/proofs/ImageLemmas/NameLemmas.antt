@@ -1,8 +1,16 @@
 -- Names that are gone through one by one.
-use Rattle.std.proofs.Common.{◌≡◌, ◌∙◌, ℕ, suc, ◌+◌, ◌<◌, Bool, true, false, List, [], ◌∷◌, ◌++◌, length, map, get_or, drop, sym, ap, arith, append_assoc, append-nil}
+use Rattle.std.proofs.Common.{◌≡◌, ◌∙◌, refl, cond, Option, Some, ℕ, suc, ◌+◌, ◌<◌, Bool, true, false, List, [], ◌∷◌, ◌++◌, length, map, get_or, drop, sym, ap, arith, append_assoc, append-nil}
 use Rattle.std.proofs.Math.Seq.{drop-cons, drop-length}
-use Rattle.std.proofs.lemmas.List.{length-map, get_or-map}
-use Rattle.std.specs.Prelude.{◌||◌}
+use Rattle.std.proofs.lemmas.List.{length-map, get_or-map, map-append}
+use Rattle.std.specs.Prelude.{◌||◌, is_some}
+use Rattle.std.specs.Ordering.{nat_cmp}
+use Rattle.std.specs.Str.{bytes_eq}
+use Rattle.std.specs.Cmp.Lexicographic.{slice_cmp}
+use Rattle.std.specs.BTreeMap.{UpdatesBy}
+use Rattle.std.proofs.lemmas.List.Folds.{list_any-append}
+use Rattle.std.proofs.lemmas.Map.Text.{btree_map_updates_str}
+use Rattle.check_findings.specs.declared.image.names.NameSet.{NameSet}
+use Rattle.check_findings.specs.Image.Lookups.{HasNames, has_name}
 use Rattle.std.specs.Borrow.{Bor}
 use Rattle.std.specs.List.{list_any}
 use Rattle.check_findings.specs.declared.map.finding.NumberedArea.{NumberedArea}
@@ -11,6 +19,9 @@ use Rattle.check_findings.specs.Image.ImageFindings.{name_findings, names_findin
 
 abbrev pub texts : List (Bor (List ℕ)) → List (List ℕ)
 texts names = map (λ n. n.now) names
+
+pub has_more : (set : NameSet) (before : List (List ℕ)) (names : List (Bor (List ℕ))) (name : Bor (List ℕ)) → HasNames set ((before ++ texts names) ++ name.now ∷ []) → HasNames set (before ++ texts (names ++ name ∷ []))
+has_more set before names name has = rw (map-append (λ (n : Bor (List ℕ)). n.now) names (name ∷ []), sym (append_assoc before (texts names) (name.now ∷ []))) has
 
 texts-drop : (names : List (Bor (List ℕ))) (i : ℕ) (d : Bor (List ℕ)) → i < length names → drop i (texts names) ≡ (get_or names i d).now ∷ drop (i + 1) (texts names)
 texts-drop names i d lt =
@@ -26,16 +37,18 @@ texts-none names i is =
     let bytes : Bor (List ℕ) → List ℕ = λ n. n.now in
     ap (λ k. drop k (texts names)) (is ∙ sym (length-map names bytes)) ∙ drop-length (texts names)
 
-pub any_more : (p : List ℕ → Bool) (names : List (Bor (List ℕ))) (i : ℕ) (d : Bor (List ℕ)) (b all : Bool) → i < length names → b ≡ p (get_or names i d).now → b ≡ false → list_any p (drop i (texts names)) ≡ all → list_any p (drop (i + 1) (texts names)) ≡ all
-any_more p names i d b all lt is other so_far =
-    sym (ap (list_any p) (texts-drop names i d lt) ∙ ap (λ (c : Bool). c || list_any p (drop (i + 1) (texts names))) (sym is ∙ other)) ∙ so_far
+-- a name more
+either : {X : Type 0} (b any : Bool) (x : X) (o : Option X) → is_some o ≡ any → is_some (cond b (Some x) o) ≡ (any || (b || false))
+either true true x o is = refl
+either true false x o is = refl
+either false true x o is = is
+either false false x o is = is
 
-pub any_here : (p : List ℕ → Bool) (names : List (Bor (List ℕ))) (i : ℕ) (d : Bor (List ℕ)) (b all : Bool) → i < length names → b ≡ p (get_or names i d).now → b ≡ true → list_any p (drop i (texts names)) ≡ all → true ≡ all
-any_here p names i d b all lt is met so_far =
-    sym (ap (list_any p) (texts-drop names i d lt) ∙ ap (λ (c : Bool). c || list_any p (drop (i + 1) (texts names))) (sym is ∙ met)) ∙ so_far
-
-pub any_none : (p : List ℕ → Bool) (names : List (Bor (List ℕ))) (i : ℕ) (all : Bool) → i ≡ length names → list_any p (drop i (texts names)) ≡ all → false ≡ all
-any_none p names i all is so_far = sym (ap (list_any p) (texts-none names i is)) ∙ so_far
+pub one_more : (old new : NameSet) (before : List (List ℕ)) (bs name : List ℕ) (x : Unit {0}) → UpdatesBy (λ x y. slice_cmp nat_cmp x.now y.now) (λ k. slice_cmp nat_cmp bs k.now) old.names new.names (Some x) → has_name old name ≡ list_any (λ n. bytes_eq n name) before → has_name new name ≡ list_any (λ n. bytes_eq n name) (before ++ bs ∷ [])
+one_more old new before bs name x puts has =
+    ap is_some (btree_map_updates_str bs old.names new.names (Some x) puts name)
+    ∙ either (bytes_eq bs name) _ x _ has
+    ∙ sym (list_any-append (λ n. bytes_eq n name) before (bs ∷ []))
 
 pub missing_more : (areas : List NumberedArea) (names : List (Bor (List ℕ))) (i : ℕ) (d : Bor (List ℕ)) (before after all : List ImageFinding) → i < length names → after ≡ before ++ name_findings areas i (get_or names i d).now
     → before ++ names_findings areas i (drop i (texts names)) ≡ all → after ++ names_findings areas (i + 1) (drop (i + 1) (texts names)) ≡ all

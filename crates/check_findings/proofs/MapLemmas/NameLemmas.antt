@@ -1,7 +1,7 @@
 -- The first area of each name, area by area.
 use Rattle.std.proofs.Common.{◌≡◌, ℕ, ◌+◌, ◌<◌, Bool, true, false, cond, List, [], ◌∷◌, ◌++◌, length, take, drop, get_or, Option, Some, None, refl, sym, ap, subst, ◌∙◌, add-one, append_assoc, ⊎_elim}
 use Rattle.std.specs.List.{find}
-use Rattle.std.specs.Option.{option_map, option_or}
+use Rattle.std.specs.Option.{option_or}
 use Rattle.std.specs.Str.{bytes_eq}
 use Rattle.std.specs.Ordering.{nat_cmp}
 use Rattle.std.specs.Cmp.Lexicographic.{slice_cmp}
@@ -15,7 +15,7 @@ use Rattle.flash_format.specs.Flashmap.{text_of}
 use Rattle.check_findings.specs.declared.map.finding.NumberedArea.{NumberedArea}
 use Rattle.check_findings.specs.declared.map.finding.MapFinding.{MapFinding}
 use Rattle.check_findings.specs.declared.map.names.AreaNames.{AreaNames}
-use Rattle.check_findings.specs.Map.MapFindings.{has_name, area_number, first_with, name_finding, name_findings}
+use Rattle.check_findings.specs.Map.MapFindings.{has_name, name_finding, name_findings}
 use Rattle.check_findings.specs.Map.Names.{area_for, Notes}
 
 -- where an earlier one has its name, an area more changes nothing
@@ -65,13 +65,13 @@ abbrev pub names_left : List NumberedArea → ℕ → List MapFinding
 names_left areas i = name_findings (take i areas) (drop i areas)
 
 pub names-more : (areas : List NumberedArea) (i : ℕ) (d : NumberedArea) (names : AreaNames) (found : Option NumberedArea) (before after all : List MapFinding) → i < length areas → Notes names (take i areas)
-    → found ≡ area_for names (text_of (get_or areas i d).area.name) → after ≡ before ++ name_finding (get_or areas i d) (option_map area_number found) → before ++ names_left areas i ≡ all → after ++ names_left areas (i + 1) ≡ all
+    → found ≡ area_for names (text_of (get_or areas i d).area.name) → after ≡ before ++ name_finding (get_or areas i d) found → before ++ names_left areas i ≡ all → after ++ names_left areas (i + 1) ≡ all
 names-more areas i d names found before after all lt notes is pushed so_far =
     let a = get_or areas i d in
     let rest = names_left areas (i + 1) in
-    let known : option_map area_number found ≡ first_with (text_of a.area.name) (take i areas) = ap (option_map area_number) (is ∙ notes (text_of a.area.name)) in
-    let left : names_left areas i ≡ name_finding a (option_map area_number found) ++ rest = rw (drop-cons areas i d lt, known, add-one, take-suc areas i d lt) refl in
-    ap (λ (l : List MapFinding). l ++ rest) pushed ∙ append_assoc before (name_finding a (option_map area_number found)) rest ∙ ap (λ (l : List MapFinding). before ++ l) (sym left) ∙ so_far
+    let left : names_left areas i ≡ name_finding a found ++ rest = rw (drop-cons areas i d lt, is ∙ notes (text_of a.area.name), add-one, take-suc areas i d lt) refl in
+    ap (λ (l : List MapFinding). l ++ rest) pushed ∙ append_assoc before (name_finding a found) rest ∙ ap (λ (l : List MapFinding). before ++ l) (sym left) ∙ so_far
 
-pub notes-more : (areas : List NumberedArea) (i : ℕ) (d : NumberedArea) (names new : AreaNames) → i < length areas → ((before : List NumberedArea) → Notes names before → Notes new (before ++ get_or areas i d ∷ [])) → Notes names (take i areas) → Notes new (take (i + 1) areas)
-notes-more areas i d names new lt more notes = rw (add-one, take-suc areas i d lt) (more (take i areas) notes)
+-- what holds of the first elements, with one more
+pub one_taken : {X : Type 0} (P Q : List X → Type 0) (xs : List X) (i : ℕ) (d : X) → i < length xs → (P (take i xs) → Q (take i xs ++ get_or xs i d ∷ [])) → P (take i xs) → Q (take (i + 1) xs)
+one_taken P Q xs i d lt more so_far = subst Q (sym (ap (λ k. take k xs) (add-one i) ∙ take-suc xs i d lt)) (more so_far)

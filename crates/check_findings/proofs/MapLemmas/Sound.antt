@@ -3,6 +3,7 @@ use Rattle.std.proofs.Common.{◌≡◌, ◌⊎◌, inl, inr, ⊎_elim, ℕ, zer
 use Rattle.std.specs.Prelude.{Contains, IsSomeAnd}
 use Rattle.std.specs.List.{find, flat_map}
 use Rattle.std.specs.Option.{option_or}
+use Rattle.std.specs.Str.{is_utf8}
 use Rattle.std.proofs.lemmas.Bool.{and_parts, or_parts, cases_lt, ltb-false, leb-true, eqb-true}
 use Rattle.std.proofs.lemmas.List.Elements.{All-nil, All-cons, All-contains}
 use Rattle.std.proofs.lemmas.List.Folds.{find-append}
@@ -15,7 +16,7 @@ use Rattle.flash_device.specs.Fmap.{found_from, found_in}
 use Rattle.check_findings.specs.declared.map.finding.NumberedArea.{NumberedArea}
 use Rattle.check_findings.specs.declared.map.finding.MapFinding.{MapFinding}
 use Rattle.check_findings.specs.declared.map.finding.MapFinding.TheVariants as findings
-use Rattle.check_findings.specs.Map.MapFindings.{area_end, area_findings, ends_inside, findings_of, findings_under, first_with, has_name, holds_map, map_area_findings, map_areas, map_findings, name_finding, name_findings, next_findings, overlap, overlap_finding, overlap_findings, overlaps_among, told_if}
+use Rattle.check_findings.specs.Map.MapFindings.{area_end, area_findings, ends_inside, findings_of, findings_under, has_name, holds_map, map_area_findings, map_areas, map_findings, name_finding, name_findings, next_findings, overlap, overlap_finding, overlap_findings, overlaps_among, told_if}
 use Rattle.check_findings.specs.Map.Laws.{HoldsMap, IsInside, IsSound, Nest, UntoldMapsAreSound}
 
 -- ---- nothing is told
@@ -53,31 +54,35 @@ positive (suc n) e = omega arith
 
 inside : (n : ℕ) (a : NumberedArea) → area_findings n a ≡ [] → IsInside n a.area
 inside n a e =
-    let parts = both-none (told_if (nat_lt n (area_end a.area)) (findings.AreaOutside a)) (told_if (nat_eq a.area.size 0) (findings.AreaEmpty a)) e in
-    record { some = positive a.area.size (untold (nat_eq a.area.size 0) (findings.AreaEmpty a) parts.1); inside = ltb-false n (area_end a.area) (untold (nat_lt n (area_end a.area)) (findings.AreaOutside a) parts.0) }
+    let parts = both-none (told_if (nat_lt n (area_end a.area)) (findings.AreaOutside a)) _ e in
+    let more = both-none (told_if (nat_eq a.area.size 0) (findings.AreaEmpty a)) _ parts.1 in
+    record { some = positive a.area.size (untold (nat_eq a.area.size 0) (findings.AreaEmpty a) more.0); inside = ltb-false n (area_end a.area) (untold (nat_lt n (area_end a.area)) (findings.AreaOutside a) parts.0) }
+
+text : (n : ℕ) (a : NumberedArea) → area_findings n a ≡ [] → is_utf8 (text_of a.area.name) ≡ true
+text n a e =
+    let more = both-none (told_if (nat_lt n (area_end a.area)) (findings.AreaOutside a)) _ e in
+    let last = both-none (told_if (nat_eq a.area.size 0) (findings.AreaEmpty a)) _ more.1 in
+    not-false _ (untold (not (is_utf8 (text_of a.area.name))) (findings.AreaNameNotText a) last.1)
 
 -- ---- names
 
-unnamed : (a : NumberedArea) (before : List NumberedArea) → name_finding a (first_with (text_of a.area.name) before) ≡ [] → find (has_name (text_of a.area.name)) before ≡ None
-unnamed a before e = go (find (has_name (text_of a.area.name)) before) e
-  where
-    go : (o : Option NumberedArea) → name_finding a (elim o [ None ↦ None | Some b ↦ Some b.number ]) ≡ [] → o ≡ None
-    go None e = refl
-    go (Some b) e = absurd cc
+unnamed : (a : NumberedArea) (o : Option NumberedArea) → name_finding a o ≡ [] → o ≡ None
+unnamed a None e = refl
+unnamed a (Some b) e = absurd cc
 
 -- each name that none is told to have again finds its area
 pub named : (before areas : List NumberedArea) → name_findings before areas ≡ [] → (a : NumberedArea) → Contains areas a → find (has_name (text_of a.area.name)) (before ++ areas) ≡ Some a
 named before [] e a (k, lt, is) = absurd (omega (arith, lt))
 named before (x ∷ areas) e a (zero, lt, is) =
-    let parts = both-none (name_finding x (first_with (text_of x.area.name) before)) (name_findings (before ++ x ∷ []) areas) e in
+    let parts = both-none (name_finding x (find (has_name (text_of x.area.name)) before)) (name_findings (before ++ x ∷ []) areas) e in
     let text = text_of x.area.name in
     let first : find (has_name text) (before ++ x ∷ areas) ≡ Some x =
     find-append (has_name text) before (x ∷ areas)
-    ∙ ap (λ (o : Option NumberedArea). option_or o (find (has_name text) (x ∷ areas))) (unnamed x before parts.0)
+    ∙ ap (λ (o : Option NumberedArea). option_or o (find (has_name text) (x ∷ areas))) (unnamed x (find (has_name text) before) parts.0)
     ∙ ap (λ b. cond b (Some x) (find (has_name text) areas)) ((bytes_eq-Decides text text).1 refl) in
     subst (λ (b : NumberedArea). find (has_name (text_of b.area.name)) (before ++ x ∷ areas) ≡ Some b) is first
 named before (x ∷ areas) e a (suc k, lt, is) =
-    let parts = both-none (name_finding x (first_with (text_of x.area.name) before)) (name_findings (before ++ x ∷ []) areas) e in
+    let parts = both-none (name_finding x (find (has_name (text_of x.area.name)) before)) (name_findings (before ++ x ∷ []) areas) e in
     ap (λ (l : List NumberedArea). find (has_name (text_of a.area.name)) l) (sym (append_assoc before (x ∷ []) areas)) ∙ named (before ++ x ∷ []) areas parts.1 a (k, omega (arith, lt), is)
 
 -- ---- overlaps
@@ -147,11 +152,13 @@ sound_of image map found e =
     let c = both-none each (name_findings [] areas ++ (overlap_findings areas ++ own)) b.1 in
     let d = both-none (name_findings [] areas) (overlap_findings areas ++ own) c.1 in
     let f = both-none (overlap_findings areas) own d.1 in
+    let untold_areas = flat-none (area_findings n) areas c.0 in
     record {
       found = found;
       size = eqb-true map.head.size n (not-false (nat_eq map.head.size n) (untold (not (nat_eq map.head.size n)) findings.OtherSize b.0));
       only = alone next a.0;
-      inside = λ x there. inside n x (All-contains (λ (y : NumberedArea). area_findings n y ≡ []) areas x (flat-none (area_findings n) areas c.0) there);
+      inside = λ x there. inside n x (All-contains (λ (y : NumberedArea). area_findings n y ≡ []) areas x untold_areas there);
+      text = λ x there. text n x (All-contains (λ (y : NumberedArea). area_findings n y ≡ []) areas x untold_areas there);
       named = named [] areas d.0;
       nested = nested areas f.0;
       held = held map (find (has_name (codes "FMAP")) areas) f.1;

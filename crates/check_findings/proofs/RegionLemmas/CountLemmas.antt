@@ -3,37 +3,32 @@ use Rattle.std.proofs.Common.{◌≡◌, ℕ, ◌+◌, Bool, true, false, cond, 
 use Rattle.std.specs.Prelude.{max}
 use Rattle.flash_format.specs.Head.{head_of, is_free}
 use Rattle.flash_format.specs.Components.{components_from, component_at}
-use Rattle.check_findings.specs.declared.region.count.RegionCounts.{RegionCounts}
 use Rattle.check_findings.specs.declared.region.count.Count.{Count}
+use Rattle.check_findings.specs.declared.region.finding.RegionFinding.{RegionFinding}
+use Rattle.check_findings.specs.Region.RegionFindings.{count_findings, counts_of}
+use Rattle.check_findings.specs.Region.Reports.{counted}
 use Rattle.check_findings.specs.Region.Counts.{free_bytes, longest_free, nothing, count_after}
 
--- what is counted after cells of which the first stands at a place
-abbrev pub count_all : Count → ℕ → List (List ℕ) → RegionCounts
-count_all n at cells = record {
-  components = n.counts.components + length (components_from at cells);
-  free = n.counts.free + free_bytes cells;
-  longest_free = max n.counts.longest_free (longest_free n.row cells);
-}
+-- what is told of the counts after cells of which the first stands at a place
+abbrev pub count_all : Count → ℕ → List (List ℕ) → List RegionFinding
+count_all n at cells = count_findings (n.components + length (components_from at cells)) (n.free + free_bytes cells) (max n.longest_free (longest_free n.row cells))
 
-counts_are : (c d f g l m : ℕ) → c ≡ d → f ≡ g → l ≡ m
-    → (let a : RegionCounts = record { components = c; free = f; longest_free = l } in a) ≡ record { components = d; free = g; longest_free = m }
-counts_are c d f g l m p q r = cc
+counts_are : (c d f g l m : ℕ) → c ≡ d → f ≡ g → l ≡ m → count_findings c f l ≡ count_findings d g m
+counts_are c d f g l m p q r = rw (p, q, r) refl
 
 pub count_more : (n : Count) (at : ℕ) (x : List ℕ) (cells : List (List ℕ)) → count_all n at (x ∷ cells) ≡ count_all (count_after n (is_free (head_of x)) (length x)) (at + length x) cells
 unfolding components_from free_bytes longest_free
 count_more n at x cells = go (is_free (head_of x))
   where
-    go : (free : Bool) → (let a : RegionCounts = record {
-      components = n.counts.components + length (cond free (components_from (at + length x) cells) (component_at at x ∷ components_from (at + length x) cells));
-      free = n.counts.free + cond free (length x + free_bytes cells) (free_bytes cells);
-      longest_free = max n.counts.longest_free (cond free (max (n.row + length x) (longest_free (n.row + length x) cells)) (longest_free 0 cells));
-    } in a) ≡ count_all (count_after n free (length x)) (at + length x) cells
+    go : (free : Bool) → count_findings (n.components + length (cond free (components_from (at + length x) cells) (component_at at x ∷ components_from (at + length x) cells)))
+        (n.free + cond free (length x + free_bytes cells) (free_bytes cells))
+        (max n.longest_free (cond free (max (n.row + length x) (longest_free (n.row + length x) cells)) (longest_free 0 cells))) ≡ count_all (count_after n free (length x)) (at + length x) cells
     go true = counts_are _ _ _ _ _ _ refl (omega arith) (omega arith)
     go false = counts_are _ _ _ _ _ _ (omega arith) refl refl
 
-pub count_none : (n : Count) (at : ℕ) → count_all n at [] ≡ n.counts
+pub count_none : (n : Count) (at : ℕ) → count_all n at [] ≡ counted n
 unfolding components_from free_bytes longest_free
 count_none n at = counts_are _ _ _ _ _ _ (omega arith) (omega arith) (omega arith)
 
-pub count_whole : (at : ℕ) (cells : List (List ℕ)) → count_all nothing at cells ≡ record { components = length (components_from at cells); free = free_bytes cells; longest_free = longest_free 0 cells }
-count_whole at cells = counts_are _ _ _ _ _ _ (omega arith) (omega arith) (omega arith)
+pub count_whole : (cells : List (List ℕ)) → count_all nothing 0 cells ≡ counts_of cells
+count_whole cells = counts_are _ _ _ _ _ _ (omega arith) (omega arith) (omega arith)

@@ -11,9 +11,8 @@ use Rattle.cbfs_walk.specs.Finding.{IsFirstOf}
 use Rattle.cbfs_walk.specs.Shapes.{shape_fault, refused_or}
 use Rattle.cbfs_walk.specs.Shaped.{place_after}
 use Rattle.cbfs_walk.specs.declared.walk.WalkFault.{WalkFault}
-use Rattle.check_findings.specs.Region.Counts.{counts}
 use Rattle.check_findings.specs.Region.Names.{is_among}
-use Rattle.check_findings.specs.Region.RegionFindings.{free_findings, name_findings, component_findings, cells_findings, end_finding, shape_findings, region_findings}
+use Rattle.check_findings.specs.Region.RegionFindings.{free_findings, told_if, component_findings, cells_findings, counts_of, end_findings, shape_findings, region_findings}
 use Rattle.check_findings.specs.declared.region.finding.ComponentFinding.TheVariants.{Shadowed}
 use Rattle.check_findings.specs.declared.region.finding.RegionFinding.{RegionFinding}
 use Rattle.check_findings.specs.declared.region.finding.RegionFinding.TheVariants as findings
@@ -60,7 +59,7 @@ one_or_later d others c has = go (Contains-append_cases (d ∷ []) others c has)
 -- ---- among cells
 
 -- a name that isn't told to be shadowed is new
-new_name : (names : List (List ℕ)) (at : ℕ) (name : List ℕ) (more : List RegionFinding) → (Contains (name_findings names at name ++ more) (findings.Component at name Shadowed) → ⊥) → is_among name names ≡ false
+new_name : (names : List (List ℕ)) (at : ℕ) (name : List ℕ) (more : List RegionFinding) → (Contains (told_if (is_among name names) at name Shadowed ++ more) (findings.Component at name Shadowed) → ⊥) → is_among name names ≡ false
 new_name names at name more none = go (is_among name names) none
   where
     go : (b : Bool) → (Contains (cond b (findings.Component at name Shadowed ∷ []) [] ++ more) (findings.Component at name Shadowed) → ⊥) → b ≡ false
@@ -70,11 +69,11 @@ new_name names at name more none = go (is_among name names) none
 IsNewIn : List (List ℕ) → List Component → Component → Type 0
 IsNewIn names all c = (is_among c.name names ≡ false) × IsFirstOf c.name all c
 
-first_component : (verbose : Bool) (names : List (List ℕ)) (at : ℕ) (x : List ℕ) (others : List Component) (more : List RegionFinding)
-    → (Contains (component_findings verbose names at x ++ more) (shadowed (component_at at x)) → ⊥) → IsNewIn names (component_at at x ∷ others) (component_at at x)
+first_component : (names : List (List ℕ)) (at : ℕ) (x : List ℕ) (others : List Component) (more : List RegionFinding)
+    → (Contains (component_findings names at x ++ more) (shadowed (component_at at x)) → ⊥) → IsNewIn names (component_at at x ∷ others) (component_at at x)
 unfolding IsNewIn
-first_component verbose names at x others more none = (
-  new_name names at (cell_name x) _ (λ told. none (Contains-append_left (component_findings verbose names at x) more _ told)),
+first_component names at x others more none = (
+  new_name names at (cell_name x) _ (λ told. none (Contains-append_left (component_findings names at x) more _ told)),
   record {
     before = [];
     after = others;
@@ -97,45 +96,45 @@ later_component names d others c new = (
   },
 )
 
-module _ (verbose : Bool) (names : List (List ℕ)) (at : ℕ) (x : List ℕ) (next : ℕ) (cells : List (List ℕ)) (c : Component) where
+module _ (names : List (List ℕ)) (at : ℕ) (x : List ℕ) (next : ℕ) (cells : List (List ℕ)) (c : Component) where
   -- what is known of the cells after the first
   Known : Type 0
-  Known = (ns : List (List ℕ)) → Contains (components_from next cells) c → (Contains (cells_findings verbose ns next cells) (shadowed c) → ⊥) → IsNewIn ns (components_from next cells) c
+  Known = (ns : List (List ℕ)) → Contains (components_from next cells) c → (Contains (cells_findings ns next cells) (shadowed c) → ⊥) → IsNewIn ns (components_from next cells) c
 
   -- the first cell is a component
-  after_used : Known → (component_at at x ≡ c) ⊎ Contains (components_from next cells) c → (Contains (component_findings verbose names at x ++ cells_findings verbose (cell_name x ∷ names) next cells) (shadowed c) → ⊥)
+  after_used : Known → (component_at at x ≡ c) ⊎ Contains (components_from next cells) c → (Contains (component_findings names at x ++ cells_findings (cell_name x ∷ names) next cells) (shadowed c) → ⊥)
       → IsNewIn names (component_at at x ∷ components_from next cells) c
   unfolding Known
   after_used known (inl same) quiet =
       subst (λ (d : Component). IsNewIn names (component_at at x ∷ components_from next cells) d) same
-      (first_component verbose names at x (components_from next cells) (cells_findings verbose (cell_name x ∷ names) next cells)
-      (subst (λ (d : Component). Contains (component_findings verbose names at x ++ cells_findings verbose (cell_name x ∷ names) next cells) (shadowed d) → ⊥) (sym same) quiet))
+      (first_component names at x (components_from next cells) (cells_findings (cell_name x ∷ names) next cells)
+      (subst (λ (d : Component). Contains (component_findings names at x ++ cells_findings (cell_name x ∷ names) next cells) (shadowed d) → ⊥) (sym same) quiet))
   after_used known (inr later) quiet =
       later_component names (component_at at x) (components_from next cells) c
-      (known (cell_name x ∷ names) later (λ told. quiet (Contains-append_right (component_findings verbose names at x) (cells_findings verbose (cell_name x ∷ names) next cells) _ told)))
+      (known (cell_name x ∷ names) later (λ told. quiet (Contains-append_right (component_findings names at x) (cells_findings (cell_name x ∷ names) next cells) _ told)))
 
   after_cell : Known → (free : Bool) → Contains (cond free (components_from next cells) (component_at at x ∷ components_from next cells)) c
-      → (Contains (cond free (free_findings at (head_of x)) (component_findings verbose names at x) ++ cells_findings verbose (cond free names (cell_name x ∷ names)) next cells) (shadowed c) → ⊥)
+      → (Contains (cond free (free_findings at (head_of x)) (component_findings names at x) ++ cells_findings (cond free names (cell_name x ∷ names)) next cells) (shadowed c) → ⊥)
       → IsNewIn names (cond free (components_from next cells) (component_at at x ∷ components_from next cells)) c
   unfolding Known
-  after_cell known true listed quiet = known names listed (λ told. quiet (Contains-append_right (free_findings at (head_of x)) (cells_findings verbose names next cells) _ told))
+  after_cell known true listed quiet = known names listed (λ told. quiet (Contains-append_right (free_findings at (head_of x)) (cells_findings names next cells) _ told))
   after_cell known false listed quiet = after_used known (one_or_later (component_at at x) (components_from next cells) c listed) quiet
 
-unshadowed : (verbose : Bool) (names : List (List ℕ)) (at : ℕ) (cells : List (List ℕ)) (c : Component) → Contains (components_from at cells) c
-    → (Contains (cells_findings verbose names at cells) (shadowed c) → ⊥) → IsNewIn names (components_from at cells) c
+unshadowed : (names : List (List ℕ)) (at : ℕ) (cells : List (List ℕ)) (c : Component) → Contains (components_from at cells) c
+    → (Contains (cells_findings names at cells) (shadowed c) → ⊥) → IsNewIn names (components_from at cells) c
 unfolding components_from cells_findings Known
-unshadowed verbose names at [] c has none = absurd (omega (arith, has.1))
-unshadowed verbose names at (x ∷ cells) c has none =
-    after_cell verbose names at x (at + length x) cells c (λ ns listed quiet. unshadowed verbose ns (at + length x) cells c listed quiet) (is_free (head_of x)) has none
+unshadowed names at [] c has none = absurd (omega (arith, has.1))
+unshadowed names at (x ∷ cells) c has none =
+    after_cell names at x (at + length x) cells c (λ ns listed quiet. unshadowed ns (at + length x) cells c listed quiet) (is_free (head_of x)) has none
 
 -- ---- in a region
 
-pub unshadowed_first : (verbose : Bool) (x : List ℕ) (c : Component) → shape_fault x ≡ None → Contains (components x) c → (Contains (region_findings verbose x) (shadowed c) → ⊥) → IsFirstOf c.name (components x) c
+pub unshadowed_first : (x : List ℕ) (c : Component) → shape_fault x ≡ None → Contains (components x) c → (Contains (region_findings x) (shadowed c) → ⊥) → IsFirstOf c.name (components x) c
 unfolding region_findings IsNewIn
-unshadowed_first verbose x c good listed none =
-    (unshadowed verbose [] 0 (cut x).cells c listed
-    (λ told. none (subst (λ (o : Option WalkFault). Contains (refused_or shape_findings o (cells_findings verbose [] 0 (cut x).cells ++ last)) (shadowed c)) (sym good)
-    (Contains-append_left (cells_findings verbose [] 0 (cut x).cells) last _ told)))).1
+unshadowed_first x c good listed none =
+    (unshadowed [] 0 (cut x).cells c listed
+    (λ told. none (subst (λ (o : Option WalkFault). Contains (refused_or shape_findings o (cells_findings [] 0 (cut x).cells ++ last)) (shadowed c)) (sym good)
+    (Contains-append_left (cells_findings [] 0 (cut x).cells) last _ told)))).1
   where
     last : List RegionFinding
-    last = end_finding (place_after 0 (cut x).cells) (cut x).end ∷ findings.Counts (counts x) ∷ []
+    last = end_findings x (place_after 0 (cut x).cells) (cut x).end ++ counts_of (cut x).cells

@@ -1,16 +1,17 @@
--- Which findings are bad: those by which a command or the boot goes wrong, and that a named area isn't checked. All others are
--- remarks.
+-- Which findings are bad: those by which a command or the boot goes wrong, and that an area of an expected
+-- name isn't checked. All others are remarks. If each component needs a digest, one without is bad too.
 use Rattle.std.specs.Prelude.{Bool, true, false}
 use Rattle.std.specs.List.{list_any}
-use Rattle.cbfs_walk.specs.declared.hashes.HashState.TheVariants.{Invalid}
+use Rattle.cbfs_walk.specs.declared.hashes.HashState.{HashState}
+use Rattle.cbfs_walk.specs.declared.hashes.HashState.TheVariants as hashes
 use Rattle.check_findings.specs.declared.map.finding.MapFinding.{MapFinding}
 use Rattle.check_findings.specs.declared.map.finding.MapFinding.TheVariants as of_map
 use Rattle.check_findings.specs.declared.region.finding.ComponentFinding.{ComponentFinding}
-use Rattle.check_findings.specs.declared.region.finding.ComponentFinding.TheVariants.{Shadowed, Hash}
+use Rattle.check_findings.specs.declared.region.finding.ComponentFinding.TheVariants as of_component
 use Rattle.check_findings.specs.declared.region.finding.RegionFinding.{RegionFinding}
 use Rattle.check_findings.specs.declared.region.finding.RegionFinding.TheVariants as of_region
 use Rattle.check_findings.specs.declared.image.finding.ImageFinding.{ImageFinding}
-use Rattle.check_findings.specs.declared.image.finding.ImageFinding.TheVariants.{Map, Unchecked, Region, NoRegion}
+use Rattle.check_findings.specs.declared.image.finding.ImageFinding.TheVariants.{Map, Region, NotChecked, NoArea}
 
 abbrev pub is_bad_map : MapFinding → Bool
 is_bad_map of_map.NoMap = true
@@ -20,24 +21,43 @@ is_bad_map (of_map.SameName a first) = true
 is_bad_map (of_map.Overlap a other) = true
 is_bad_map of_map.NoMapArea = true
 is_bad_map (of_map.MapAreaMisses a) = true
-is_bad_map _ = false
+is_bad_map (of_map.Map map) = false
+is_bad_map (of_map.OtherMap map) = false
+is_bad_map (of_map.AreaEmpty a) = false
+is_bad_map (of_map.AreaNameNotText a) = false
+is_bad_map of_map.TooManyAreas = false
 
-abbrev pub is_bad_component : ComponentFinding → Bool
-is_bad_component Shadowed = true
-is_bad_component (Hash (Invalid digest)) = true
-is_bad_component _ = false
+-- whether each component needs a digest
+abbrev pub is_bad_hash : Bool → HashState → Bool
+is_bad_hash needs hashes.Absent = needs
+is_bad_hash needs (hashes.Valid digest) = false
+is_bad_hash needs (hashes.Invalid digest) = true
+is_bad_hash needs hashes.Unsupported = needs
 
-abbrev pub is_bad_region : RegionFinding → Bool
-is_bad_region of_region.BadSize = true
-is_bad_region of_region.NotCbfs = true
-is_bad_region (of_region.Component at name what) = is_bad_component what
-is_bad_region (of_region.Damaged at kind) = true
-is_bad_region _ = false
+abbrev pub is_bad_component : Bool → ComponentFinding → Bool
+is_bad_component needs of_component.Shadowed = true
+is_bad_component needs of_component.NameNotText = false
+is_bad_component needs (of_component.UnknownType kind) = false
+is_bad_component needs (of_component.Content content) = is_bad_hash needs content.hash
+
+abbrev pub is_bad_region : Bool → RegionFinding → Bool
+is_bad_region needs of_region.BadSize = true
+is_bad_region needs of_region.NotCbfs = true
+is_bad_region needs (of_region.Component at name what) = is_bad_component needs what
+is_bad_region needs (of_region.Deleted at) = false
+is_bad_region needs of_region.Complete = false
+is_bad_region needs (of_region.Tail at) = false
+is_bad_region needs (of_region.TailFilled at) = true
+is_bad_region needs (of_region.TailEntry at) = true
+is_bad_region needs (of_region.Damaged at kind) = true
+is_bad_region needs (of_region.Components n) = false
+is_bad_region needs of_region.NoComponents = false
+is_bad_region needs (of_region.FreeBytes n) = false
+is_bad_region needs (of_region.LargestFree n) = false
 
 -- a region's findings are bad where one of them is
-abbrev pub is_bad : ImageFinding → Bool
-is_bad (Map finding) = is_bad_map finding
-is_bad (Unchecked a) = true
-is_bad (Region a findings) = list_any is_bad_region findings
-is_bad (NoRegion number) = true
-is_bad _ = false
+abbrev pub is_bad : Bool → ImageFinding → Bool
+is_bad needs (Map finding) = is_bad_map finding
+is_bad needs (Region a findings) = list_any (is_bad_region needs) findings
+is_bad needs (NotChecked a named) = named
+is_bad needs (NoArea number) = true

@@ -1,6 +1,7 @@
 -- What a flashmap is of which nothing is told but where it is.
-use Rattle.std.specs.Prelude.{◌≡◌, ℕ, ◌+◌, ◌<◌, ◌≤◌, ◌⊎◌, List, [], ◌∷◌, length, Contains, IsSomeAnd, Some, None}
+use Rattle.std.specs.Prelude.{◌≡◌, true, ℕ, ◌+◌, ◌<◌, ◌≤◌, ◌⊎◌, List, [], ◌∷◌, length, Contains, IsSomeAnd, Some, None}
 use Rattle.std.specs.List.{find}
+use Rattle.std.specs.Str.{is_utf8}
 use lib.Chars.{codes}
 use Rattle.flash_format.specs.declared.flashmap.Area.{Area}
 use Rattle.flash_format.specs.Flashmap.{map_len, text_of}
@@ -29,13 +30,14 @@ pub record HoldsMap (map : FoundMap) (area : Area) : Type 0 where
   pub start : area.offset ≤ map.at
   pub end : map.at + map_len map.head ≤ area_end area
 
--- An image's map with no other one above it. Each of its areas lies inside, is found by its name, and nests with each; the
--- one with the map's own name holds all of the map.
+-- An image's map with no other one above it. Each of its areas lies inside, has a name of text by
+-- which it is found, and nests with each; the one with the map's own name holds all of the map.
 pub record IsSound (image : List ℕ) (map : FoundMap) : Type 0 where
   pub found : found_in image ≡ Some map
   pub size : map.head.size ≡ length image
   pub only : found_from (map.at + 1) image ≡ None
   pub inside : (a : NumberedArea) → Contains (map_areas image map) a → IsInside (length image) a.area
+  pub text : (a : NumberedArea) → Contains (map_areas image map) a → is_utf8 (text_of a.area.name) ≡ true
   pub named : (a : NumberedArea) → Contains (map_areas image map) a → find (has_name (text_of a.area.name)) (map_areas image map) ≡ Some a
   pub nested : (a b : NumberedArea) → Contains (map_areas image map) a → Contains (map_areas image map) b → Nest a.area b.area
   pub held : IsSomeAnd (find (has_name (codes "FMAP")) (map_areas image map)) (λ a. HoldsMap map a.area)

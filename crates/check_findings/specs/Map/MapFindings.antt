@@ -1,7 +1,7 @@
 -- What is told of an image's flashmap. What is told, and in which order, is this project's own.
 use Rattle.std.specs.Prelude.{ℕ, ◌+◌, Bool, not, ◌&&◌, ◌||◌, List, [], ◌∷◌, ◌++◌, length, drop, nat_lt, nat_le, Option, Some, None, ◌==◌, if◌then◌else◌}
 use Rattle.std.specs.List.{find, flat_map}
-use Rattle.std.specs.Option.{option_map}
+use Rattle.std.specs.Str.{is_utf8}
 use lib.Chars.{codes}
 use Rattle.flash_format.specs.declared.flashmap.Area.{Area}
 use Rattle.flash_format.specs.Flashmap.{fmap_head_len, map_len, areas_from, is_area, text_of}
@@ -14,11 +14,13 @@ use Rattle.check_findings.specs.declared.map.finding.MapFinding.TheVariants as f
 -- these areas with their numbers, from this one on
 abbrev pub numbered_from : ℕ → List Area → List NumberedArea
 numbered_from number [] = []
-numbered_from number (area ∷ areas) = record { number = number; area = area } ∷ numbered_from (number + 1) areas
+numbered_from number (area ∷ areas) =
+    record { number = number; area = area } ∷ numbered_from (number + 1) areas
 
 -- the areas of a map of an image, with their numbers
 abbrev pub map_areas : List ℕ → FoundMap → List NumberedArea
-map_areas image map = numbered_from 0 (areas_from map.head.nareas (drop (map.at + fmap_head_len) image))
+map_areas image map =
+    numbered_from 0 (areas_from map.head.nareas (drop (map.at + fmap_head_len) image))
 
 -- where the area ends
 abbrev pub area_end : Area → ℕ
@@ -35,33 +37,31 @@ next_findings (Some next) = findings.OtherMap next ∷ []
 
 -- of one area, in an image of n bytes
 abbrev pub area_findings : ℕ → NumberedArea → List MapFinding
-area_findings n a = told_if (nat_lt n (area_end a.area)) (findings.AreaOutside a) ++ told_if (a.area.size == 0) (findings.AreaEmpty a)
+area_findings n a =
+    told_if (nat_lt n (area_end a.area)) (findings.AreaOutside a)
+    ++ (told_if (a.area.size == 0) (findings.AreaEmpty a)
+    ++ told_if (not (is_utf8 (text_of a.area.name))) (findings.AreaNameNotText a))
 
 -- the area has this name
 abbrev pub has_name : List ℕ → NumberedArea → Bool
 has_name name a = is_area name a.area
 
--- the area's number
-abbrev pub area_number : NumberedArea → ℕ
-area_number a = a.number
-
--- the number of the first of these areas with the name
-abbrev pub first_with : List ℕ → List NumberedArea → Option ℕ
-first_with name areas = option_map area_number (find (has_name name) areas)
-
--- of an area, where the first one before it that has its name has this number
-abbrev pub name_finding : NumberedArea → Option ℕ → List MapFinding
+-- of an area, where this is the first one before it that has its name
+abbrev pub name_finding : NumberedArea → Option NumberedArea → List MapFinding
 name_finding a None = []
 name_finding a (Some first) = findings.SameName a first ∷ []
 
 -- of each area whose name an earlier one has, with the areas before these
 abbrev pub name_findings : List NumberedArea → List NumberedArea → List MapFinding
 name_findings before [] = []
-name_findings before (a ∷ areas) = name_finding a (first_with (text_of a.area.name) before) ++ name_findings (before ++ a ∷ []) areas
+name_findings before (a ∷ areas) =
+    name_finding a (find (has_name (text_of a.area.name)) before)
+    ++ name_findings (before ++ a ∷ []) areas
 
 -- the first area begins before the second one and ends inside it
 abbrev pub ends_inside : Area → Area → Bool
-ends_inside a b = nat_lt a.offset b.offset && (nat_lt b.offset (area_end a) && nat_lt (area_end a) (area_end b))
+ends_inside a b =
+    nat_lt a.offset b.offset && (nat_lt b.offset (area_end a) && nat_lt (area_end a) (area_end b))
 
 -- two areas have bytes in common, and neither holds the other
 abbrev pub overlap : NumberedArea → NumberedArea → Bool
@@ -70,11 +70,12 @@ overlap a b = ends_inside a.area b.area || ends_inside b.area a.area
 -- of an area, where this is the first one that it overlaps
 abbrev pub overlap_finding : NumberedArea → Option NumberedArea → List MapFinding
 overlap_finding a None = []
-overlap_finding a (Some other) = findings.Overlap a other.number ∷ []
+overlap_finding a (Some other) = findings.Overlap a other ∷ []
 
 -- of each of these areas that overlaps one of them all
 abbrev pub overlaps_among : List NumberedArea → List NumberedArea → List MapFinding
-overlaps_among all areas = flat_map (λ (a : NumberedArea). overlap_finding a (find (overlap a) all)) areas
+overlaps_among all areas =
+    flat_map (λ (a : NumberedArea). overlap_finding a (find (overlap a) all)) areas
 
 -- how many areas are compared with each other
 abbrev pub most_compared : ℕ
@@ -82,7 +83,9 @@ most_compared = 4096
 
 -- of each area that overlaps another one
 abbrev pub overlap_findings : List NumberedArea → List MapFinding
-overlap_findings areas = if nat_lt most_compared (length areas) then findings.TooManyAreas ∷ [] else overlaps_among areas areas
+overlap_findings areas =
+    if nat_lt most_compared (length areas) then findings.TooManyAreas ∷ []
+    else overlaps_among areas areas
 
 -- the area holds all of the map
 abbrev pub holds_map : FoundMap → Area → Bool
@@ -106,7 +109,8 @@ findings_of n map next areas =
 
 abbrev pub findings_under : List ℕ → Option FoundMap → List MapFinding
 findings_under image None = findings.NoMap ∷ []
-findings_under image (Some map) = findings_of (length image) map (found_from (map.at + 1) image) (map_areas image map)
+findings_under image (Some map) =
+    findings_of (length image) map (found_from (map.at + 1) image) (map_areas image map)
 
 -- the areas of the image's flashmap; none where it has none
 abbrev pub areas_under : List ℕ → Option FoundMap → List NumberedArea

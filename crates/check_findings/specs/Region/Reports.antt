@@ -1,11 +1,11 @@
 -- What is told so far.
-use Rattle.std.specs.Prelude.{◌≡◌, ℕ, Bool, List, [], ◌∷◌, ◌++◌, Result, OnOk}
+use Rattle.std.specs.Prelude.{◌≡◌, ℕ, List, [], ◌∷◌, ◌++◌, Result, OnOk}
 use Rattle.std.specs.declared.alloc.AllocError.{AllocError}
 use Rattle.check_findings.specs.Region.Names.{HasNames}
-use Rattle.check_findings.specs.Region.RegionFindings.{cell_findings, names_after, shape_findings}
+use Rattle.check_findings.specs.Region.RegionFindings.{cell_findings, count_findings, names_after, shape_findings}
 use Rattle.check_findings.specs.declared.region.finding.RegionFinding.{RegionFinding}
 use Rattle.check_findings.specs.declared.region.report.Report.{Report}
-use Rattle.check_findings.specs.declared.region.count.RegionCounts.{RegionCounts}
+use Rattle.check_findings.specs.declared.region.count.Count.{Count}
 use Rattle.cbfs_walk.specs.declared.walk.WalkFault.{WalkFault}
 use Rattle.cbfs_walk.specs.declared.walk.WalkFault.TheVariants as walk
 use Rattle.check_findings.specs.declared.region.finding.RegionFinding.TheVariants as findings
@@ -19,8 +19,8 @@ abbrev pub told_nothing : Told
 told_nothing = record { findings = []; names = [] }
 
 -- one cell more, at a place
-abbrev pub told_cell : Bool → Told → ℕ → List ℕ → Told
-told_cell verbose t at x = record { findings = t.findings ++ cell_findings verbose t.names at x; names = names_after t.names x }
+abbrev pub told_cell : Told → ℕ → List ℕ → Told
+told_cell t at x = record { findings = t.findings ++ cell_findings t.names at x; names = names_after t.names x }
 
 -- a component more of a name, with these findings of it
 abbrev pub told_component : Told → List ℕ → List RegionFinding → Told
@@ -39,7 +39,11 @@ pub record AddsFindings (result : Result (Unit {0}) AllocError) (old new : Repor
   pub findings : OnOk result (new.findings.items ≡ old.findings.items ++ more)
   pub names : new.names ≡ old.names
 
+-- what the cells so far sum up to
+abbrev pub counted : Count → List RegionFinding
+counted n = count_findings n.components n.free n.longest_free
+
 -- all that is told where a walk ends by a fault
-abbrev pub refused_findings : List RegionFinding → RegionCounts → WalkFault → List RegionFinding
-refused_findings told counts (walk.Damaged at kind) = told ++ findings.Damaged at kind ∷ findings.Counts counts ∷ []
-refused_findings told counts fault = told ++ shape_findings fault
+abbrev pub refused_findings : List RegionFinding → Count → WalkFault → List RegionFinding
+refused_findings told n (walk.Damaged at kind) = told ++ findings.Damaged at kind ∷ counted n
+refused_findings told n fault = told ++ shape_findings fault

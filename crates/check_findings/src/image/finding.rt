@@ -1,8 +1,8 @@
 //! What is told of an image.
 ghost use Rattle.std.specs.Prelude.{◌≡◌};
 
-use crate::region::RegionFinding;
 use crate::map::{MapFinding, NumberedArea};
+use crate::region::RegionFinding;
 use std::marker::Model;
 
 /// What is told of one region.
@@ -41,15 +41,17 @@ impl RegionFindings {
 pub enum ImageFinding {
     /// Something of the image's flashmap.
     Map(MapFinding),
-    /// The area begins with an entry, but another one that has bytes of it is looked at.
-    Skipped(NumberedArea),
-    /// The area has one of the given names, but others that have bytes of it are looked at.
-    Unchecked(NumberedArea),
     /// What is told of the CBFS region that the area is.
     Region {
         area: NumberedArea,
         findings: RegionFindings,
     },
+    /// The area isn't checked, since too many bytes were checked before it. `is_named`: its name is
+    /// expected.
+    NotChecked {
+        area: NumberedArea,
+        is_named: bool,
+    },
     /// No area has the given name of this number, counted from 0.
-    NoRegion(usize),
+    NoArea(usize),
 }

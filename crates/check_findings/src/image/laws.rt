@@ -1,5 +1,5 @@
 //! What it means that nothing bad is told. Nothing runs here: a call gives its caller the law.
-ghost use Rattle.check_findings.specs.Image.Laws.{FitImagesAreWhole, FitRegionsAreWhole, FitRegionsLoseNothing};
+ghost use Rattle.check_findings.specs.Image.Laws.{FitImagesAreWhole, FitRegionsAreWhole, FitRegionsLoseNothing, NeedsAreThere};
 
 use crate::region::unshadowed_components_are_found;
 
@@ -23,3 +23,9 @@ pub fn fit_images_are_whole()
 {
     fit_regions_lose_nothing();
 }
+
+/// A need that the findings of an image meet is met by the image: an area that is checked has its name, a search in that area
+/// finds a component of its name, and the content of that component has the needed place.
+pub fn needs_are_there()
+    ensures { NeedsAreThere }
+{}

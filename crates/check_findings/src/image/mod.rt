@@ -5,12 +5,17 @@
 mod finding;
 mod image;
 mod laws;
-mod looked;
 mod names;
-mod place;
+mod needs;
+mod starts;
 mod verdict;
+mod wanted;
 
 pub use finding::{ImageFinding, RegionFindings};
 pub use image::{CheckedImage, check_image, checked_image};
-pub use laws::{fit_images_are_whole, fit_regions_are_whole, fit_regions_lose_nothing};
+pub use laws::{
+    fit_images_are_whole, fit_regions_are_whole, fit_regions_lose_nothing, needs_are_there,
+};
+pub use needs::{Need, NeedFinding, NeededPlace, unmet};
 pub use verdict::{has_bad, is_bad, is_bad_map, is_bad_region};
+pub use wanted::cbfs_areas;

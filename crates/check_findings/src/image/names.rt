@@ -1,64 +1,105 @@
-//! The names of areas that are wanted, whatever the areas begin with.
-ghost use Rattle.std.specs.Prelude.{◌≡◌, ◌++◌, map, OnOk};
-ghost use Rattle.std.specs.List.{list_any};
-ghost use Rattle.flash_format.specs.Flashmap.{is_area};
-ghost use Rattle.check_findings.specs.Image.ImageFindings.{has_one_of, name_findings, names_findings};
+//! The names by which areas are checked, whatever the areas begin with.
+ghost use Rattle.std.specs.Prelude.{◌≡◌, ◌∷◌, [], ◌++◌, List, ℕ, map, codes, IfOk, OnOk};
+ghost use Rattle.check_findings.specs.Map.Names.{Notes};
+ghost use Rattle.check_findings.specs.Image.ImageFindings.{expected_names, has_one_of, name_findings, names_findings};
+ghost use Rattle.check_findings.specs.Image.Lookups.{HasNames};
 
 use crate::image::finding::ImageFinding;
 use crate::image::image::push;
-use crate::map::NumberedArea;
-use std::alloc::AllocError;
+use crate::map::{AreaNames, NumberedArea};
+use std::alloc::{AllocError, Global};
+use std::collections::BTreeMap;
 
-/// Whether the area has one of the names.
-pub fn has_one_of(names: &[&[u8]], area: NumberedArea) -> bool
-    ensures { result ≡ has_one_of (map (λ n. n.now) names.now) area }
-{
-    for i in 0..names.len() {
-        if area.area.name_is(names[i]) {
-            return true;
-        }
-    }
-    false
+/// A set of names.
+#[derive(Drop)]
+pub struct NameSet<'a> {
+    names: BTreeMap<&'a [u8], ()>,
 }
 
-/// Whether one of the areas has the name.
-fn is_there(areas: &[NumberedArea], name: &[u8]) -> bool
-    ensures { result ≡ list_any (λ a. is_area name.now a.area) areas.now }
-{
-    for a in areas {
-        if a.area.name_is(name) {
-            return true;
+impl<'a> NameSet<'a> {
+    /// Returns the empty set.
+    pub fn new(alloc: Global) -> NameSet<'a>
+        ensures { HasNames result [] }
+    {
+        NameSet {
+            names: BTreeMap::new(alloc),
         }
     }
-    false
+
+    /// Returns the names of areas that are expected to be regions: the given ones, and `COREBOOT`.
+    pub fn of(
+        alloc: Global,
+        names: &[&'a [u8]],
+        expected: &[&'a [u8]],
+    ) -> Result<NameSet<'a>, AllocError>
+        ensures { IfOk result (λ set. HasNames set
+            (expected_names (map (λ n. n.now) names.now) (map (λ n. n.now) expected.now))) }
+    {
+        let mut set = NameSet::new(alloc);
+        set.add_all(names)?;
+        set.add(b"COREBOOT")?;
+        set.add_all(expected)?;
+        Ok(set)
+    }
+
+    /// Adds a name.
+    fn add(&mut self, name: &'a [u8]) -> Result<(), AllocError>
+        ensures { (before : List (List ℕ)) → HasNames self.old before →
+            OnOk result (HasNames self.new (before ++ name.now ∷ [])) }
+    {
+        self.names.insert(name, ())?;
+        Ok(())
+    }
+
+    /// Adds these names.
+    fn add_all(&mut self, names: &[&'a [u8]]) -> Result<(), AllocError>
+        ensures { (before : List (List ℕ)) → HasNames self.old before →
+            OnOk result (HasNames self.new (before ++ map (λ n. n.now) names.now)) }
+    {
+        for name in names {
+            self.add(*name)?;
+        }
+        Ok(())
+    }
+
+    /// Returns whether the area has one of the names.
+    pub fn contains(&self, area: &NumberedArea) -> bool
+        ensures { (names : List (List ℕ)) → HasNames self.now names →
+            result ≡ has_one_of names area.now }
+    {
+        self.names.contains_key(area.area.text())
+    }
 }
 
-/// Tells where no area has the name of this number.
-fn push_if_missing(
+/// Adds a finding if no area has the name of this number.
+fn push_if_missing<'a>(
     findings: &mut Vec<ImageFinding>,
-    areas: &[NumberedArea],
+    areas: &AreaNames<'a>,
     number: usize,
-    name: &[u8],
+    name: &'a [u8],
 ) -> Result<(), AllocError>
-    ensures { OnOk result (findings.new.items ≡ findings.old.items ++ name_findings areas.now number name.now) }
+    ensures { (all : List NumberedArea) → Notes areas.now all →
+        OnOk result (findings.new.items ≡ findings.old.items ++ name_findings all number name.now) }
 {
-    if !is_there(areas, name) {
-        push(findings, ImageFinding::NoRegion(number))?;
+    if areas.get(name).is_none() {
+        push(findings, ImageFinding::NoArea(number))?;
     }
     Ok(())
 }
 
-/// Tells each name that no area has.
-pub fn push_missing(
+/// Adds a finding for each name that no area has.
+pub fn push_missing<'a>(
+    alloc: Global,
     findings: &mut Vec<ImageFinding>,
-    names: &[&[u8]],
-    areas: &[NumberedArea],
+    names: &[&'a [u8]],
+    areas: &'a [NumberedArea],
 ) -> Result<(), AllocError>
     ensures { OnOk result (findings.new.items ≡ findings.old.items
         ++ names_findings areas.now 0 (map (λ n. n.now) names.now)) }
 {
+    let areas = AreaNames::of(alloc, areas)?;
     for number in 0..names.len() {
-        push_if_missing(findings, areas, number, names[number])?;
+        push_if_missing(findings, &areas, number, names[number])?;
     }
     Ok(())
 }

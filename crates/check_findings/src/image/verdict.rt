@@ -4,70 +4,94 @@ ghost use Rattle.std.specs.List.{list_any};
 ghost use Rattle.check_findings.specs.Image.Verdicts as verdicts;
 
 use crate::image::finding::ImageFinding;
+use crate::map::MapFinding;
 use crate::region::{ComponentFinding, RegionFinding};
 use cbfs_walk::HashState;
-use crate::map::MapFinding;
 
 /// Whether a command or the boot goes wrong by a finding of the flashmap.
 pub fn is_bad_map(finding: &MapFinding) -> bool
     ensures { result ≡ verdicts.is_bad_map finding.now }
 {
-    matches!(
-        finding,
-        MapFinding::NoMap
-            | MapFinding::OtherSize
-            | MapFinding::AreaOutside(_)
-            | MapFinding::SameName { .. }
-            | MapFinding::Overlap { .. }
-            | MapFinding::NoMapArea
-            | MapFinding::MapAreaMisses(_)
-    )
-}
-
-fn is_bad_component(what: ComponentFinding) -> bool
-    ensures { result ≡ verdicts.is_bad_component what }
-{
-    matches!(
-        what,
-        ComponentFinding::Shadowed | ComponentFinding::Hash(HashState::Invalid(_))
-    )
-}
-
-/// Whether a command or the boot goes wrong by a finding of a region.
-pub fn is_bad_region(finding: &RegionFinding) -> bool
-    ensures { result ≡ verdicts.is_bad_region finding.now }
-{
     match finding {
-        RegionFinding::Component { what, .. } => is_bad_component(*what),
-        RegionFinding::BadSize => true,
-        RegionFinding::NotCbfs => true,
-        RegionFinding::Damaged { .. } => true,
-        _ => false,
+        MapFinding::NoMap
+        | MapFinding::OtherSize
+        | MapFinding::AreaOutside(_)
+        | MapFinding::SameName { .. }
+        | MapFinding::Overlap { .. }
+        | MapFinding::NoMapArea
+        | MapFinding::MapAreaMisses(_) => true,
+        MapFinding::Map(_)
+        | MapFinding::OtherMap(_)
+        | MapFinding::AreaEmpty(_)
+        | MapFinding::AreaNameNotText(_)
+        | MapFinding::TooManyAreas => false,
     }
 }
 
-pub fn has_bad_region(findings: &[RegionFinding]) -> bool
-    ensures { result ≡ list_any verdicts.is_bad_region findings.now }
+/// Whether a component with this digest is bad, where each may need one.
+fn is_bad_hash(state: HashState, needs_hashes: bool) -> bool
+    ensures { result ≡ verdicts.is_bad_hash needs_hashes state }
 {
-    findings.iter().any(is_bad_region)
+    match state {
+        HashState::Valid(_) => false,
+        HashState::Invalid(_) => true,
+        HashState::Absent | HashState::Unsupported => needs_hashes,
+    }
+}
+
+fn is_bad_component(what: ComponentFinding, needs_hashes: bool) -> bool
+    ensures { result ≡ verdicts.is_bad_component needs_hashes what }
+{
+    match what {
+        ComponentFinding::Shadowed => true,
+        ComponentFinding::NameNotText | ComponentFinding::UnknownType(_) => false,
+        ComponentFinding::Content(content) => is_bad_hash(content.hash, needs_hashes),
+    }
+}
+
+/// Whether a command or the boot goes wrong by a finding of a region, or a digest is missing that
+/// each component needs.
+pub fn is_bad_region(finding: &RegionFinding, needs_hashes: bool) -> bool
+    ensures { result ≡ verdicts.is_bad_region needs_hashes finding.now }
+{
+    match finding {
+        RegionFinding::BadSize | RegionFinding::NotCbfs => true,
+        RegionFinding::Component { what, .. } => is_bad_component(*what, needs_hashes),
+        RegionFinding::TailFilled { .. } | RegionFinding::TailEntry { .. } => true,
+        RegionFinding::Damaged { .. } => true,
+        RegionFinding::Deleted { .. }
+        | RegionFinding::Complete
+        | RegionFinding::Tail { .. }
+        | RegionFinding::Components(_)
+        | RegionFinding::NoComponents
+        | RegionFinding::FreeBytes(_)
+        | RegionFinding::LargestFree(_) => false,
+    }
+}
+
+pub fn has_bad_region(findings: &[RegionFinding], needs_hashes: bool) -> bool
+    ensures { result ≡ list_any (verdicts.is_bad_region needs_hashes) findings.now }
+{
+    findings
+        .iter()
+        .any(|finding| is_bad_region(finding, needs_hashes))
 }
 
 /// Whether a finding is bad, of a region where one of its findings is.
-pub fn is_bad(finding: &ImageFinding) -> bool
-    ensures { result ≡ verdicts.is_bad finding.now }
+pub fn is_bad(finding: &ImageFinding, needs_hashes: bool) -> bool
+    ensures { result ≡ verdicts.is_bad needs_hashes finding.now }
 {
     match finding {
         ImageFinding::Map(of_map) => is_bad_map(of_map),
-        ImageFinding::Region { findings, .. } => has_bad_region(findings.as_slice()),
-        ImageFinding::NoRegion(_) => true,
-        ImageFinding::Unchecked(_) => true,
-        ImageFinding::Skipped(_) => false,
+        ImageFinding::Region { findings, .. } => has_bad_region(findings.as_slice(), needs_hashes),
+        ImageFinding::NotChecked { is_named, .. } => *is_named,
+        ImageFinding::NoArea(_) => true,
     }
 }
 
 /// Whether any finding is bad, so that the image isn't fit to be flashed.
-pub fn has_bad(findings: &[ImageFinding]) -> bool
-    ensures { result ≡ list_any verdicts.is_bad findings.now }
+pub fn has_bad(findings: &[ImageFinding], needs_hashes: bool) -> bool
+    ensures { result ≡ list_any (verdicts.is_bad needs_hashes) findings.now }
 {
-    findings.iter().any(is_bad)
+    findings.iter().any(|finding| is_bad(finding, needs_hashes))
 }

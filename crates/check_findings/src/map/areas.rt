@@ -1,31 +1,42 @@
 //! The areas of a flashmap, read once.
 
-ghost use Rattle.std.specs.Prelude.{◌≡◌, ◌+◌, ◌/◌, ◌≤◌, [], ◌∷◌, ◌++◌, length, IfOk, OnOk};
+ghost use Rattle.std.specs.Prelude.{◌≡◌, ◌+◌, ◌*◌, ◌/◌, ◌≤◌, [], ◌∷◌, ◌++◌, length, IfOk, OnOk};
 ghost use Rattle.flash_format.specs.Flashmap.{area_len, map_len};
 ghost use Rattle.flash_device.specs.Device.{faults_told};
+ghost use Rattle.flash_device.specs.Fmap.{found_in};
 ghost use Rattle.flash_device.specs.Pages.{HasRead, OnHonest};
 ghost use Rattle.check_findings.specs.Faults.{by_device};
 ghost use Rattle.check_findings.specs.Map.MapFindings.{image_areas, map_areas};
 
 use crate::fault::CheckFault;
-use crate::map::finding::{NumberedArea};
+use crate::map::finding::NumberedArea;
 use flash_device::{Flash, FoundMap, Paged, area, find_fmap};
 use std::alloc::{AllocError, Global};
 
-/// All areas of the image's map, in its order; none where the image has no map. `Device` comes exactly where the device
-/// refused a read.
-pub fn image_areas<F: Flash>(
-    alloc: Global,
-    paged: &mut Paged<F>,
-) -> Result<Vec<NumberedArea>, CheckFault>
+/// The flash map of an image.
+#[derive(Drop)]
+pub struct ImageMap {
+    /// The map, or `None` if the image has none.
+    pub found: Option<FoundMap>,
+    /// All areas of the map, in its order.
+    pub areas: Vec<NumberedArea>,
+}
+
+/// Returns the image's flash map with its areas. `Device` is returned exactly if the device refused a read.
+pub fn image_map<F: Flash>(alloc: Global, paged: &mut Paged<F>) -> Result<ImageMap, CheckFault>
     ensures after { HasRead F.facts (length (F.facts paged.old.device).content / 2
         + length (F.facts paged.old.device).content / area_len + 8) (faults_told by_device result) paged.old paged.new }
-    ensures areas { OnHonest F.facts paged.old.device (λ image. IfOk result (λ areas. areas.items ≡ image_areas image)) }
+    ensures fits { IfOk result (λ map. area_len * length map.areas.items ≤ length (F.facts paged.old.device).content) }
+    ensures found { OnHonest F.facts paged.old.device (λ image. IfOk result (λ map. map.found ≡ found_in image)) }
+    ensures areas { OnHonest F.facts paged.old.device (λ image. IfOk result (λ map. map.areas.items ≡ image_areas image)) }
 {
-    match find_fmap(paged)? {
-        Some(map) => map_areas(alloc, paged, &map),
-        None => Ok(Vec::new(alloc)),
-    }
+    let Some(found) = find_fmap(paged)? else {
+        let areas = Vec::new(alloc);
+        return Ok(ImageMap { found: None, areas });
+    };
+    let areas = map_areas(alloc, paged, &found)?;
+    let found = Some(found);
+    Ok(ImageMap { found, areas })
 }
 
 /// All areas of the map, in its order.
@@ -48,7 +59,8 @@ pub fn map_areas<F: Flash>(
     Ok(areas)
 }
 
-fn push_area(areas: &mut Vec<NumberedArea>, area: NumberedArea) -> Result<(), AllocError>
+/// Adds an area.
+pub fn push_area(areas: &mut Vec<NumberedArea>, area: NumberedArea) -> Result<(), AllocError>
     ensures { OnOk result (areas.new.items ≡ areas.old.items ++ area ∷ []) }
 {
     areas.push(area)?;

@@ -3,15 +3,16 @@
 ghost use Rattle.std.specs.Prelude.{◌≡◌, ◌+◌, ◌*◌, ◌/◌, ◌≤◌, [], ◌∷◌, length, IfOk};
 ghost use Rattle.flash_format.specs.Flashmap.{area_len};
 ghost use Rattle.flash_device.specs.Device.{faults_told};
+ghost use Rattle.flash_device.specs.Fmap.{found_in};
 ghost use Rattle.flash_device.specs.Pages.{HasRead, OnHonest};
 ghost use Rattle.check_findings.specs.Faults.{by_device};
 ghost use Rattle.check_findings.specs.Map.MapFindings.{image_areas, map_findings};
 
-use crate::map::areas::map_areas;
 use crate::fault::CheckFault;
+use crate::map::areas::map_areas;
 use crate::map::finding::{MapFinding, NumberedArea};
 use crate::map::findings::{findings_of, push_if};
-use flash_device::{Flash, Paged, find_fmap, find_fmap_from};
+use flash_device::{Flash, FoundMap, Paged, find_fmap, find_fmap_from};
 use std::alloc::{AllocError, Global};
 
 /// What is told of the image's flashmap, in the order of `MapFinding`. It only reads. `Device` comes exactly where the
@@ -32,18 +33,18 @@ pub fn check_map<F: Flash>(
 #[derive(Drop)]
 pub struct CheckedMap {
     pub findings: Vec<MapFinding>,
+    /// The map, or `None` if the image has none.
+    pub found: Option<FoundMap>,
     /// All areas of the map, in its order; none where the image has no map.
     pub areas: Vec<NumberedArea>,
 }
 
 /// What `check_map` tells, and the areas with it, for which the map is read once.
-pub fn checked_map<F: Flash>(
-    alloc: Global,
-    paged: &mut Paged<F>,
-) -> Result<CheckedMap, CheckFault>
+pub fn checked_map<F: Flash>(alloc: Global, paged: &mut Paged<F>) -> Result<CheckedMap, CheckFault>
     ensures after { HasRead F.facts (length (F.facts paged.old.device).content
         + length (F.facts paged.old.device).content / area_len + 16) (faults_told by_device result) paged.old paged.new }
     ensures fits { IfOk result (λ map. area_len * length map.areas.items ≤ length (F.facts paged.old.device).content) }
+    ensures found { OnHonest F.facts paged.old.device (λ image. IfOk result (λ map. map.found ≡ found_in image)) }
     ensures answer { OnHonest F.facts paged.old.device (λ image. IfOk result (λ map. map.findings.items ≡ map_findings image)) }
     ensures areas { OnHonest F.facts paged.old.device (λ image. IfOk result (λ map. map.areas.items ≡ image_areas image)) }
 {
@@ -51,12 +52,22 @@ pub fn checked_map<F: Flash>(
     let Some(map) = find_fmap(paged)? else {
         let findings = no_map(alloc)?;
         let areas = Vec::new(alloc);
-        return Ok(CheckedMap { findings, areas });
+        let found = None;
+        return Ok(CheckedMap {
+            findings,
+            found,
+            areas,
+        });
     };
     let next = find_fmap_from(paged, map.at + 1)?;
     let areas = map_areas(alloc, paged, &map)?;
     let findings = findings_of(alloc, len, &map, next, &areas)?;
-    Ok(CheckedMap { findings, areas })
+    let found = Some(map);
+    Ok(CheckedMap {
+        findings,
+        found,
+        areas,
+    })
 }
 
 /// What is told where there is no map.

@@ -28,10 +28,19 @@ pub enum MapFinding {
     AreaOutside(NumberedArea),
     /// The area has no bytes.
     AreaEmpty(NumberedArea),
-    /// An earlier area has the area's name, so that no name reaches it. `first` is the number of the first such.
-    SameName { area: NumberedArea, first: u16 },
-    /// The area has bytes in common with another one, and neither holds the other. `other` is the number of the first such.
-    Overlap { area: NumberedArea, other: u16 },
+    /// The area's name isn't UTF-8.
+    AreaNameNotText(NumberedArea),
+    /// An earlier area has the area's name, so that no name reaches it. `first` is the first such.
+    SameName {
+        area: NumberedArea,
+        first: NumberedArea,
+    },
+    /// The area has bytes in common with another one, and neither holds the other. `other` is the
+    /// first such.
+    Overlap {
+        area: NumberedArea,
+        other: NumberedArea,
+    },
     /// The map has more than 4096 areas. Whether they overlap isn't looked for.
     TooManyAreas,
     /// No area has the map's own name.

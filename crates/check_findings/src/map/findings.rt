@@ -2,6 +2,7 @@
 
 ghost use Rattle.std.specs.Prelude.{◌≡◌, ◌+◌, ◌^◌, ◌<◌, ◌≤◌, ◌++◌, length, IfOk, OnOk, drop};
 ghost use Rattle.std.specs.List.{find, flat_map};
+ghost use Rattle.std.specs.Str.{is_utf8};
 ghost use lib.Chars.{codes};
 ghost use Rattle.flash_format.specs.Flashmap.{map_len};
 ghost use Rattle.check_findings.specs.Map.MapFindings.{told_if, area_findings, has_name, holds_map, map_area_findings, next_findings, findings_of};
@@ -78,8 +79,20 @@ fn push_area_findings(
         let end = u64::from(a.area.offset) + u64::from(a.area.size);
         push_if(findings, end > len, MapFinding::AreaOutside(*a))?;
         push_if(findings, a.area.size == 0, MapFinding::AreaEmpty(*a))?;
+        push_if(
+            findings,
+            !is_text(a.area.text()),
+            MapFinding::AreaNameNotText(*a),
+        )?;
     }
     Ok(())
+}
+
+/// Returns whether the bytes are UTF-8.
+fn is_text(bytes: &[u8]) -> bool
+    ensures { result ≡ is_utf8 bytes.now }
+{
+    str::from_utf8(bytes).is_ok()
 }
 
 /// Pushes what is told of the first area with the map's own name.

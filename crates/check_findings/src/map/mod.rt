@@ -8,7 +8,7 @@ mod laws;
 mod names;
 mod overlaps;
 
-pub use areas::image_areas;
+pub use areas::{ImageMap, image_map, push_area};
 pub use check::{CheckedMap, check_map, checked_map};
 pub use finding::{MapFinding, NumberedArea};
 pub use laws::untold_maps_are_sound;

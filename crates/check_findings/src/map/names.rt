@@ -1,10 +1,9 @@
 //! Areas that no name reaches.
 
 ghost use Rattle.std.specs.Prelude.{◌≡◌, [], ◌∷◌, ◌++◌, List, IfOk, OnOk};
-ghost use Rattle.std.specs.Option.{option_map};
 ghost use Rattle.flash_format.specs.Flashmap.{text_of};
 ghost use Rattle.check_findings.specs.declared.map.finding.NumberedArea.{NumberedArea};
-ghost use Rattle.check_findings.specs.Map.MapFindings.{area_number, name_finding, name_findings};
+ghost use Rattle.check_findings.specs.Map.MapFindings.{name_finding, name_findings};
 
 use crate::map::finding::{MapFinding, NumberedArea};
 use std::alloc::{AllocError, Global};
@@ -82,13 +81,10 @@ fn push_name_finding(
     a: &NumberedArea,
     first: Option<NumberedArea>,
 ) -> Result<(), AllocError>
-    ensures { OnOk result (findings.new.items ≡ findings.old.items ++ name_finding a.now (option_map area_number first)) }
+    ensures { OnOk result (findings.new.items ≡ findings.old.items ++ name_finding a.now first) }
 {
     if let Some(first) = first {
-        findings.push(MapFinding::SameName {
-            area: *a,
-            first: first.number,
-        })?;
+        findings.push(MapFinding::SameName { area: *a, first })?;
     }
     Ok(())
 }

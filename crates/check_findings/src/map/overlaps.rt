@@ -44,10 +44,7 @@ fn push_overlap(
     ensures { OnOk result (findings.new.items ≡ findings.old.items ++ overlap_finding a.now other) }
 {
     if let Some(other) = other {
-        findings.push(MapFinding::Overlap {
-            area: *a,
-            other: other.number,
-        })?;
+        findings.push(MapFinding::Overlap { area: *a, other })?;
     }
     Ok(())
 }

@@ -9,10 +9,11 @@ ghost use Rattle.check_findings.specs.Faults.{by_device};
 ghost use Rattle.check_findings.specs.Region.RegionFindings.{free_findings, region_findings};
 ghost use Rattle.check_findings.specs.Region.Reports.{AddsFindings, TellsMore, told_cell, refused_findings};
 
-use crate::region::count::{Count, RegionCounts};
 use crate::fault::CheckFault;
-use crate::region::finding::RegionFinding;
+use crate::region::count::Count;
+use crate::region::finding::{Content, RegionFinding};
 use crate::region::report::Report;
+use crate::region::tail::tell_tail;
 use cbfs_walk::{Cell, Step, Walk, WalkFault, cells_stand_in_their_image, check_hash, name};
 use flash_device::{Flash, Paged, Region};
 use std::alloc::{AllocError, Global};
@@ -34,14 +35,13 @@ fn tell_cell<F: Flash>(
     region: Region,
     cell: &Cell,
     report: &mut Report,
-    is_verbose: bool,
 ) -> Result<(), CheckFault>
     requires region { LiesIn region (F.facts paged.old.device).content }
     requires cell { IsCellIn region.size cell.now }
 
     ensures after { HasRead F.facts (2 + cell.now.span / 3840) (faults_told by_device result) paged.old paged.new }
     ensures told { OnHonestIn F.facts paged.old.device region (λ x. StandsIn x cell.now →
-        TellsMore result report.old report.new (λ t. told_cell is_verbose t cell.now.at (cell_in x cell.now))) }
+        TellsMore result report.old report.new (λ t. told_cell t cell.now.at (cell_in x cell.now))) }
 {
     cells_stand_in_their_image();
     if cell.head.is_free() {
@@ -50,39 +50,43 @@ fn tell_cell<F: Flash>(
     }
     let mut field = [0; 256];
     let len = name(paged, region, cell, &mut field)?;
-    let state = check_hash(paged, region, cell)?;
-    report.tell_named(cell.at, &field[..len], cell.head.kind, state, is_verbose)?;
+    let hash = check_hash(paged, region, cell)?;
+    let content = Content {
+        kind: cell.head.kind,
+        start: cell.at + u64::from(cell.head.offset),
+        len: u64::from(cell.head.len),
+        hash,
+    };
+    report.tell_named(cell.at, &field[..len], content)?;
     Ok(())
 }
 
 /// What is told where a walk gives no cell more.
-fn refused(
-    report: Report,
-    counts: RegionCounts,
-    fault: WalkFault,
-) -> Result<Vec<RegionFinding>, CheckFault>
-    ensures told { IfOk result (λ all. all.items ≡ refused_findings report.findings.items counts fault) }
+fn refused(report: Report, count: Count, fault: WalkFault) -> Result<Vec<RegionFinding>, CheckFault>
+    ensures told { IfOk result (λ all. all.items ≡ refused_findings report.findings.items count fault) }
     ensures device { IsErrOf result CheckFault.Device ↔ (fault ≡ WalkFault.Device) }
 {
+    let mut report = report;
     match fault {
-        WalkFault::Device => Err(CheckFault::Device),
-        WalkFault::RegionShape => Ok(report.told(RegionFinding::BadSize)?),
-        WalkFault::NotCbfs => Ok(report.told(RegionFinding::NotCbfs)?),
+        WalkFault::Device => return Err(CheckFault::Device),
+        WalkFault::RegionShape => report.tell(RegionFinding::BadSize)?,
+        WalkFault::NotCbfs => report.tell(RegionFinding::NotCbfs)?,
         WalkFault::Damaged { at, kind } => {
-            Ok(report.ended(RegionFinding::Damaged { at, kind }, counts)?)
+            report.tell(RegionFinding::Damaged { at, kind })?;
+            return Ok(report.counted(count)?);
         }
     }
+    Ok(report.findings)
 }
 
-/// What is told of a region, cell by cell; that a component has no digest in a verbose check alone. It is the same with any
-/// keys for the hasher of names. `Device` comes exactly where the device refused a read, and `Memory` where an allocation was
+/// What is told of a region, cell by cell. It is the same with any keys for the hasher of names.
+/// `Device` comes exactly where the device refused a read, and `Memory` where an allocation was
 /// refused; then nothing is told.
 pub fn check_region<F: Flash>(
     alloc: Global,
     keys: RandomState,
     paged: &mut Paged<F>,
     region: Region,
-    is_verbose: bool,
 ) -> Result<Vec<RegionFinding>, CheckFault>
     requires { LiesIn region (F.facts paged.old.device).content }
 
@@ -91,23 +95,29 @@ pub fn check_region<F: Flash>(
 
     // On an honest device.
     ensures findings { OnHonestIn F.facts paged.old.device region (λ x.
-        IfOk result (λ findings. findings.items ≡ region_findings is_verbose x)) }
+        IfOk result (λ findings. findings.items ≡ region_findings x)) }
 {
     paged.places_fit();
     let mut report = Report::new(alloc, keys);
     let mut count = Count::new();
     let mut walk = Walk::new(region);
+    let mut at = 0;
     loop {
         match walk.next(paged) {
             Ok(Step::Cell(cell)) => {
-                tell_cell(paged, region, &cell, &mut report, is_verbose)?;
+                tell_cell(paged, region, &cell, &mut report)?;
                 count = count.with(&cell);
+                at = cell.at + cell.span;
             }
-            Ok(Step::Tail(at)) => {
-                return Ok(report.ended(RegionFinding::Tail { at }, count.counts)?);
+            Ok(Step::Tail(_)) => {
+                tell_tail(paged, region, at, &mut report)?;
+                return Ok(report.counted(count)?);
             }
-            Ok(Step::End) => return Ok(report.ended(RegionFinding::Complete, count.counts)?),
-            Err(fault) => return refused(report, count.counts, fault),
+            Ok(Step::End) => {
+                report.tell(RegionFinding::Complete)?;
+                return Ok(report.counted(count)?);
+            }
+            Err(fault) => return refused(report, count, fault),
         }
     }
 }

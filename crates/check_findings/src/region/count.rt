@@ -4,20 +4,15 @@ ghost use Rattle.flash_format.specs.Head.{is_free};
 
 use cbfs_walk::Cell;
 
-/// How many components a region has, and how much free space, in bytes.
+/// How many components and free bytes the cells so far have.
 #[derive(Clone, Copy)]
-pub struct RegionCounts {
+pub struct Count {
     pub components: u64,
     /// All free cells together.
     pub free: u64,
-    /// The longest row of free cells that stand next to each other.
+    /// The longest run of free cells that follow each other.
     pub longest_free: u64,
-}
-
-/// The counts of the cells so far, and how many free bytes stand right before the walk's place.
-#[derive(Clone, Copy)]
-pub struct Count {
-    pub counts: RegionCounts,
+    /// The free cells right before the walk's place.
     pub row: u64,
 }
 
@@ -29,11 +24,9 @@ impl Count {
         ensures { result ≡ nothing }
     {
         Count {
-            counts: RegionCounts {
-                components: 0,
-                free: 0,
-                longest_free: 0,
-            },
+            components: 0,
+            free: 0,
+            longest_free: 0,
             row: 0,
         }
     }
@@ -47,29 +40,15 @@ impl Count {
         ensures is { result ≡ count_after self (is_free cell.now.head) cell.now.span }
         ensures before { IsCountBefore (cell.now.at + cell.now.span) result }
     {
-        let RegionCounts {
-            components,
-            free,
-            longest_free,
-        } = self.counts;
+        let mut next = self;
         if cell.head.is_free() {
-            let row = self.row + cell.span;
-            return Count {
-                counts: RegionCounts {
-                    components,
-                    free: free + cell.span,
-                    longest_free: longest_free.max(row),
-                },
-                row,
-            };
+            next.row += cell.span;
+            next.free += cell.span;
+            next.longest_free = next.longest_free.max(next.row);
+        } else {
+            next.row = 0;
+            next.components += 1;
         }
-        Count {
-            counts: RegionCounts {
-                components: components + 1,
-                free,
-                longest_free,
-            },
-            row: 0,
-        }
+        next
     }
 }

@@ -1,7 +1,6 @@
 //! What is told of a region.
 ghost use Rattle.std.specs.Prelude.{◌≡◌, IfOk};
 
-use crate::region::count::RegionCounts;
 use cbfs_walk::HashState;
 use flash_format::DamageKind;
 use std::alloc::{AllocError, Global};
@@ -38,15 +37,27 @@ impl Name {
     }
 }
 
+/// A component's type, the range of its content, and what its first hash attribute says of it.
+#[derive(Clone, Copy)]
+pub struct Content {
+    pub kind: u32,
+    /// The content's begin, counted from the region's start.
+    pub start: u64,
+    pub len: u64,
+    pub hash: HashState,
+}
+
 /// What is told of a component.
 #[derive(Clone, Copy)]
 pub enum ComponentFinding {
     /// A component in front of it has its name, so that no search finds it.
     Shadowed,
+    /// Its name isn't UTF-8, so that no argument of a command can give it.
+    NameNotText,
     /// Its type, a number that has no name.
     UnknownType(u32),
-    /// What its first hash attribute says of its content.
-    Hash(HashState),
+    /// Its type and its content. Each component has this finding, as its last one.
+    Content(Content),
 }
 
 /// One thing that is told of a region. Places count from the region's start, in bytes.
@@ -72,11 +83,26 @@ pub enum RegionFinding {
     Tail {
         at: u64,
     },
+    /// The first byte of the tail stands here that is neither erased (0xff) nor cleared (0x00). The
+    /// region's last four bytes aren't looked at.
+    TailFilled {
+        at: u64,
+    },
+    /// An entry begins in the tail, at a multiple of 64, but no walk comes to it.
+    TailEntry {
+        at: u64,
+    },
     /// The cells end at an entry that fails this check: the first that it fails.
     Damaged {
         at: u64,
         kind: DamageKind,
     },
-    /// What all cells sum up to.
-    Counts(RegionCounts),
+    /// How many components the region has, and at least one.
+    Components(u64),
+    /// The region has no component.
+    NoComponents,
+    /// The bytes of all free cells together.
+    FreeBytes(u64),
+    /// The bytes of the longest run of free cells that follow each other.
+    LargestFree(u64),
 }

@@ -9,9 +9,9 @@ mod laws;
 mod names;
 mod report;
 mod start;
+mod tail;
 
 pub use check::check_region;
-pub use count::RegionCounts;
-pub use finding::{ComponentFinding, Name, RegionFinding};
-pub use laws::unshadowed_components_are_found;
+pub use finding::{ComponentFinding, Content, Name, RegionFinding};
+pub use laws::{blank_tails_are_known, unshadowed_components_are_found};
 pub use start::starts_with_entry;

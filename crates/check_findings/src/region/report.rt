@@ -1,10 +1,9 @@
 //! What is told so far.
 ghost use Rattle.std.specs.Prelude.{◌≡◌, [], ◌∷◌, ◌++◌, IfOk};
 
-use crate::region::count::RegionCounts;
-use crate::region::finding::{ComponentFinding, Name, RegionFinding};
-use crate::region::names::{Names, add_name};
-use cbfs_walk::HashState;
+use crate::region::count::Count;
+use crate::region::finding::{ComponentFinding, Content, Name, RegionFinding};
+use crate::region::names::{Names, add_name, is_text};
 use flash_format::type_name;
 use std::alloc::{AllocError, Global};
 use std::collections::HashSet;
@@ -19,8 +18,8 @@ pub struct Report {
 }
 
 impl Report {
-    ghost use Rattle.check_findings.specs.Region.RegionFindings.{hash_findings, name_findings, named_findings, type_findings};
-    ghost use Rattle.check_findings.specs.Region.Reports.{AddsFindings, TellsMore, told_component};
+    ghost use Rattle.check_findings.specs.Region.RegionFindings.{named_findings, told_if};
+    ghost use Rattle.check_findings.specs.Region.Reports.{AddsFindings, TellsMore, counted, told_component};
 
     /// Nothing is told yet.
     pub fn new(alloc: Global, keys: RandomState) -> Report
@@ -42,94 +41,50 @@ impl Report {
         Ok(())
     }
 
-    /// Tells one thing more of a component.
-    fn tell_component(
+    /// Tells something of a component, where it is so.
+    fn tell_if(
         &mut self,
+        is_so: bool,
         at: u64,
         name: &[u8],
         what: ComponentFinding,
     ) -> Result<(), AllocError>
-        ensures { AddsFindings result self.old self.new (RegionFinding.Component at name.now what ∷ []) }
+        ensures { AddsFindings result self.old self.new (told_if is_so at name.now what) }
     {
+        if !is_so {
+            return Ok(());
+        }
         let name = Name::copied(self.alloc, name)?;
         self.tell(RegionFinding::Component { at, name, what })
     }
 
-    /// Tells where a component has a name that one in front of it has, and adds its name.
-    fn tell_name(&mut self, at: u64, name: &[u8]) -> Result<(), AllocError>
+    /// Tells what there is to tell of a component of a name, with this content, and adds its name.
+    pub fn tell_named(&mut self, at: u64, name: &[u8], content: Content) -> Result<(), AllocError>
         ensures { TellsMore result self.old self.new
-            (λ t. told_component t name.now (name_findings t.names at name.now)) }
+            (λ t. told_component t name.now (named_findings t.names at name.now content)) }
     {
-        if add_name(self.alloc, &mut self.names, name)? {
-            return Ok(());
-        }
-        self.tell_component(at, name, ComponentFinding::Shadowed)?;
+        let is_new = add_name(self.alloc, &mut self.names, name)?;
+        let is_known = type_name(content.kind).is_some();
+        self.tell_if(!is_new, at, name, ComponentFinding::Shadowed)?;
+        self.tell_if(!is_text(name), at, name, ComponentFinding::NameNotText)?;
+        let unknown = ComponentFinding::UnknownType(content.kind);
+        self.tell_if(!is_known, at, name, unknown)?;
+        self.tell_if(true, at, name, ComponentFinding::Content(content))?;
         Ok(())
     }
 
-    /// Tells where the type of a component has no name.
-    fn tell_type(&mut self, at: u64, name: &[u8], kind: u32) -> Result<(), AllocError>
-        ensures { AddsFindings result self.old self.new (type_findings at name.now kind) }
-    {
-        if type_name(kind).is_some() {
-            return Ok(());
-        }
-        self.tell_component(at, name, ComponentFinding::UnknownType(kind))
-    }
-
-    /// Tells what the digest of a component says; that there is none in a verbose check alone.
-    fn tell_hash(
-        &mut self,
-        at: u64,
-        name: &[u8],
-        state: HashState,
-        is_verbose: bool,
-    ) -> Result<(), AllocError>
-        ensures { AddsFindings result self.old self.new (hash_findings is_verbose at name.now state) }
-    {
-        if state == HashState::Absent && !is_verbose {
-            return Ok(());
-        }
-        self.tell_component(at, name, ComponentFinding::Hash(state))
-    }
-
-    /// Tells what there is to tell of a component of a name and a type, with this digest, and adds its name.
-    pub fn tell_named(
-        &mut self,
-        at: u64,
-        name: &[u8],
-        kind: u32,
-        state: HashState,
-        is_verbose: bool,
-    ) -> Result<(), AllocError>
-        ensures { TellsMore result self.old self.new
-            (λ t. told_component t name.now (named_findings is_verbose t.names at name.now kind state)) }
-    {
-        self.tell_name(at, name)?;
-        self.tell_type(at, name, kind)?;
-        self.tell_hash(at, name, state, is_verbose)?;
-        Ok(())
-    }
-
-    /// Tells one thing and no more.
-    pub fn told(self, finding: RegionFinding) -> Result<Vec<RegionFinding>, AllocError>
-        ensures { IfOk result (λ all. all.items ≡ self.findings.items ++ finding ∷ []) }
+    /// Tells what the cells sum up to, and no more.
+    pub fn counted(self, count: Count) -> Result<Vec<RegionFinding>, AllocError>
+        ensures { IfOk result (λ all. all.items ≡ self.findings.items ++ counted count) }
     {
         let mut report = self;
-        report.tell(finding)?;
+        report.tell(if count.components == 0 {
+            RegionFinding::NoComponents
+        } else {
+            RegionFinding::Components(count.components)
+        })?;
+        report.tell(RegionFinding::FreeBytes(count.free))?;
+        report.tell(RegionFinding::LargestFree(count.longest_free))?;
         Ok(report.findings)
-    }
-
-    /// Tells how the cells end, and what they sum up to.
-    pub fn ended(
-        self,
-        end: RegionFinding,
-        counts: RegionCounts,
-    ) -> Result<Vec<RegionFinding>, AllocError>
-        ensures { IfOk result (λ all. all.items ≡ self.findings.items ++ end ∷ RegionFinding.Counts counts ∷ []) }
-    {
-        let mut report = self;
-        report.tell(end)?;
-        report.told(RegionFinding::Counts(counts))
     }
 }

@@ -6,16 +6,11 @@ use lib.Chars.{codes}
 use Rattle.json.specs.Json.{Json, string}
 use Rattle.json.specs.Token.{Token, begin_object, begin_array, end_array, end_object, key}
 use Rattle.json.specs.Tree.{json_tokens, items_tokens, members_tokens}
-use Rattle.json.specs.Print.{print, print_from, escape_byte}
-use Rattle.json.specs.Written.{Written}
-use Rattle.flash_format.specs.Printed.{line_feed}
-use Rattle.check_report.specs.declared.rows.report.Form.TheVariants as forms
-use Rattle.check_report.specs.Rows.Reports.{IsWritten, report_with}
 use Rattle.check_report.specs.declared.rows.row.Counts.{Counts}
 use Rattle.std.proofs.lemmas.Str.{is_utf8-from_IsUtf8, IsUtf8-from_is_utf8}
 use Rattle.std.specs.Str.{IsUtf8, is_utf8}
 use Rattle.check_report.specs.Rows.Rows.{SeenRow, verdict_word, detail_number}
-use Rattle.check_report.specs.Rows.Documents.{items, members, member_tokens, name_json, number_json, number_token, bytes_json, row_json, row_tokens, document, closing_tokens}
+use Rattle.check_report.specs.Rows.Documents.{items, members, member_tokens, name_json, number_json, number_token, bytes_json, row_json, row_tokens, what_tokens, document, opening_tokens, closing_tokens}
 
 -- the members that are there, and the end of the object
 abbrev all_tokens : List (List ℕ × Option Json) → List Token
@@ -30,21 +25,23 @@ members_tokens-members ((name, Some j) ∷ ms) = ap (λ ts. key name ∷ (json_t
 
 pub row_tokens-parts : (row : SeenRow) → row_tokens row ≡
     begin_object ∷ (member_tokens (codes "verdict") (Some (string (verdict_word row.verdict)))
+    ++ (member_tokens (codes "code") (Some (string row.code))
     ++ (member_tokens (codes "area") (option_map name_json row.area)
     ++ (member_tokens (codes "component") (option_map name_json row.component)
     ++ (member_tokens (codes "position") (option_map number_json row.position)
-    ++ (member_tokens (codes "what") (Some (string row.what))
-    ++ (member_tokens (codes "value") (option_map number_json (detail_number row.detail))
-    ++ end_object ∷ []))))))
+    ++ (what_tokens row ++ end_object ∷ []))))))
 unfolding row_json
 row_tokens-parts row = ap (λ ts. begin_object ∷ ts) (members_tokens-members (
     (codes "verdict", Some (string (verdict_word row.verdict)))
+    ∷ (codes "code", Some (string row.code))
     ∷ (codes "area", option_map name_json row.area)
     ∷ (codes "component", option_map name_json row.component)
     ∷ (codes "position", option_map number_json row.position)
     ∷ (codes "what", Some (string row.what))
     ∷ (codes "value", option_map number_json (detail_number row.detail))
+    ∷ (codes "other", option_map name_json row.other)
     ∷ []))
+    ∙ simp append_assoc
 
 items_tokens-items : (js : List Json) → items_tokens (items js) ≡ flat_map json_tokens js ++ end_array ∷ []
 items_tokens-items [] = refl
@@ -56,10 +53,10 @@ rows_tokens rows rest =
     ∙ append_assoc (flat_map row_tokens rows) (end_array ∷ []) rest
 
 pub document-tokens : (rows : List SeenRow) (counts : Counts) → json_tokens (document rows counts) ≡
-    begin_object ∷ key (codes "rows") ∷ begin_array ∷ (flat_map row_tokens rows ++ closing_tokens counts)
-unfolding document closing_tokens member_tokens
+    (opening_tokens ++ flat_map row_tokens rows) ++ closing_tokens counts
+unfolding document opening_tokens closing_tokens member_tokens
 document-tokens rows counts =
-    ap (λ ts. begin_object ∷ key (codes "rows") ∷ begin_array ∷ ts) (rows_tokens rows _)
+    ap (λ ts. begin_object ∷ key (codes "format") ∷ number_token 1 ∷ key (codes "rows") ∷ begin_array ∷ ts) (rows_tokens rows _)
 
 number_items : (bytes : List ℕ) → items_tokens (items (map number_json bytes)) ≡ map number_token bytes ++ end_array ∷ []
 number_items [] = refl
@@ -68,11 +65,6 @@ number_items (b ∷ bs) = ap (λ ts. number_token b ∷ ts) (number_items bs)
 -- an array of bytes
 pub bytes_tokens : (bytes : List ℕ) → json_tokens (bytes_json bytes) ≡ begin_array ∷ (map number_token bytes ++ end_array ∷ [])
 bytes_tokens bytes = ap (λ ts. begin_array ∷ ts) (number_items bytes)
-
--- the beginning of a document is printed by itself
-pub print-opening : (ts : List Token) → print (begin_object ∷ key (codes "rows") ∷ begin_array ∷ ts) ≡ codes "{\"rows\":[" ++ print ts
-unfolding print_from escape_byte
-print-opening ts = refl
 
 -- a name that is UTF-8 is a string
 pub name_tokens-utf8 : (name : List ℕ) → IsUtf8 name → json_tokens (name_json name) ≡ Token.string name ∷ []
@@ -85,11 +77,3 @@ name_tokens-bytes name other = go (is_utf8 name) refl
     go : (b : Bool) → is_utf8 name ≡ b → json_tokens (name_json name) ≡ json_tokens (bytes_json name)
     go true is = absurd (other (IsUtf8-from_is_utf8 name is))
     go false is = rw is refl
-
--- what a writer of the rows is finished to
-pub document-finished : (rows : List SeenRow) (counts : Counts) (writer : Written) → IsWritten rows writer
-    → codes "{\"rows\":[" ++ writer.before ++ print (writer.tokens ++ closing_tokens counts) ++ line_feed ≡ report_with forms.Json rows counts
-unfolding report_with
-document-finished rows counts writer told =
-    let e : print (json_tokens (document rows counts)) ≡ codes "{\"rows\":[" ++ print (flat_map row_tokens rows ++ closing_tokens counts) = ap print (document-tokens rows counts) ∙ print-opening _ in
-    rw (told.before, told.tokens) (sym (ap (λ x. x ++ line_feed) e))

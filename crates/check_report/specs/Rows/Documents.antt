@@ -6,7 +6,7 @@ use Rattle.std.specs.Str.{is_utf8}
 use lib.Chars.{codes}
 use Rattle.json.specs.Json.{Json, number, string, array, object, Items, no_items, item, Members, no_members, member}
 use Rattle.check_report.specs.declared.rows.row.Counts.{Counts}
-use Rattle.json.specs.Token.{Token, end_array, end_object, key}
+use Rattle.json.specs.Token.{Token, begin_array, begin_object, end_array, end_object, key}
 use Rattle.json.specs.Tree.{json_tokens}
 use Rattle.json.specs.Written.{Written}
 use Rattle.check_report.specs.Rows.Rows.{SeenRow, verdict_word, detail_number}
@@ -35,25 +35,24 @@ name_json name = if is_utf8 name then string name else bytes_json name
 unfoldable pub row_json : SeenRow → Json
 row_json row = object (members (
     (codes "verdict", Some (string (verdict_word row.verdict)))
+    ∷ (codes "code", Some (string row.code))
     ∷ (codes "area", option_map name_json row.area)
     ∷ (codes "component", option_map name_json row.component)
     ∷ (codes "position", option_map number_json row.position)
     ∷ (codes "what", Some (string row.what))
     ∷ (codes "value", option_map number_json (detail_number row.detail))
+    ∷ (codes "other", option_map name_json row.other)
     ∷ []))
 
 -- all rows, and their counts
 unfoldable pub document : List SeenRow → Counts → Json
 document rows counts = object (members (
-    (codes "rows", Some (array (items (map row_json rows))))
+    (codes "format", Some (number_json 1))
+    ∷ (codes "rows", Some (array (items (map row_json rows))))
     ∷ (codes "bad", Some (number_json counts.bad))
     ∷ (codes "remarks", Some (number_json counts.remarks))
     ∷ (codes "changes", Some (number_json counts.changes))
     ∷ []))
-
--- what stands before the rows
-abbrev pub opening : List ℕ
-opening = codes "{\"rows\":["
 
 -- ---- the tokens that a writer has of these
 
@@ -72,6 +71,17 @@ member_tokens name (Some j) = key name ∷ json_tokens j
 
 abbrev pub row_tokens : SeenRow → List Token
 row_tokens row = json_tokens (row_json row)
+
+-- the last members of a row
+abbrev pub what_tokens : SeenRow → List Token
+what_tokens row = member_tokens (codes "what") (Some (string row.what))
+    ++ member_tokens (codes "value") (option_map number_json (detail_number row.detail))
+    ++ member_tokens (codes "other") (option_map name_json row.other)
+
+-- what comes before the rows
+unfoldable pub opening_tokens : List Token
+opening_tokens = begin_object ∷ [] ++ member_tokens (codes "format") (Some (number_json 1))
+    ++ key (codes "rows") ∷ begin_array ∷ []
 
 -- what follows the rows
 unfoldable pub closing_tokens : Counts → List Token

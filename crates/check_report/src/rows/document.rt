@@ -8,7 +8,7 @@ ghost use Rattle.json.specs.Print.{IsPrintable};
 ghost use Rattle.json.specs.Reads.{token_of};
 ghost use Rattle.json.specs.Token.{number};
 ghost use Rattle.json.specs.Tree.{json_tokens};
-ghost use Rattle.check_report.specs.Rows.Documents.{Appends, bytes_json, closing_tokens, member_tokens, name_json, number_json, number_token, row_tokens};
+ghost use Rattle.check_report.specs.Rows.Documents.{Appends, bytes_json, closing_tokens, member_tokens, name_json, number_json, number_token, opening_tokens, row_tokens, what_tokens};
 ghost use Rattle.check_report.specs.Rows.Rows.{seen_row};
 
 use crate::rows::row::{Counts, Row};
@@ -89,18 +89,38 @@ fn put_name(writer: &mut Writer, key: &str, name: Option<&[u8]>) -> Result<(), A
     }
 }
 
+/// Writes the last members of a row.
+fn put_what(writer: &mut Writer, row: &Row) -> Result<(), AllocError>
+    ensures { Appends result writer.old writer.new (what_tokens (seen_row row.now)) }
+{
+    put_text(writer, "what", row.what)?;
+    put_count(writer, "value", row.detail.number())?;
+    put_name(writer, "other", row.other)
+}
+
 /// Writes a row, as an item of an array.
 pub fn write_row(writer: &mut Writer, row: &Row) -> Result<(), AllocError>
     ensures { Appends result writer.old writer.new (row_tokens (seen_row row.now)) }
 {
     put(writer, Token::BeginObject)?;
     put_text(writer, "verdict", row.verdict.word())?;
+    put_text(writer, "code", row.code)?;
     put_name(writer, "area", row.area)?;
     put_name(writer, "component", row.component)?;
     put_count(writer, "position", row.position)?;
-    put_text(writer, "what", row.what)?;
-    put_count(writer, "value", row.detail.number())?;
+    put_what(writer, row)?;
     put(writer, Token::EndObject)
+}
+
+/// Writes what comes before the rows.
+#[tactic(auto, unfolding(crate::specs::Rows::Documents::opening_tokens))]
+pub fn write_start(writer: &mut Writer) -> Result<(), AllocError>
+    ensures { Appends result writer.old writer.new opening_tokens }
+{
+    put(writer, Token::BeginObject)?;
+    put_count(writer, "format", Some(1))?;
+    put(writer, Token::Key("rows"))?;
+    put(writer, Token::BeginArray)
 }
 
 /// Writes what follows the rows.

@@ -1,8 +1,12 @@
 //! What a row says.
 
-ghost use Rattle.std.specs.Prelude.{◌≡◌, count_by};
-ghost use Rattle.std.specs.List.{list_any};
-ghost use Rattle.check_report.specs.Rows.Rows.{counts_of, detail_number, is_verdict, verdict_word};
+ghost use Rattle.std.specs.Prelude.{◌≡◌, ◌∷◌, [], count_by, map};
+ghost use Rattle.check_report.specs.declared.rows.row.Detail.TheVariants as details;
+ghost use Rattle.check_report.specs.Rows.Rows as rows;
+ghost use Rattle.check_report.specs.Rows.Rows.{Adds, counts_of, detail_number, is_verdict, row_if, seen_row, verdict_word};
+
+use check_findings::NumberedArea;
+use std::alloc::AllocError;
 
 /// Whether a row is bad, a remark or a change.
 #[derive(Clone, Copy)]
@@ -13,7 +17,7 @@ pub enum Verdict {
 }
 
 impl Verdict {
-    /// `bad`, `remark` or `change`.
+    /// Returns `bad`, `remark` or `change`.
     pub fn word(self) -> &'static str
         ensures { result.now ≡ verdict_word self }
     {
@@ -24,14 +28,7 @@ impl Verdict {
         }
     }
 
-    /// Whether one of these is bad.
-    pub fn has_bad(verdicts: &[Verdict]) -> bool
-        ensures { result ≡ list_any (is_verdict Verdict.Bad) verdicts.now }
-    {
-        verdicts.iter().any(|verdict| verdict.is(Verdict::Bad))
-    }
-
-    fn is(self, wanted: Verdict) -> bool
+    pub fn is(self, wanted: Verdict) -> bool
         ensures { result ≡ is_verdict wanted self }
     {
         self == wanted
@@ -46,21 +43,21 @@ pub struct Counts {
     pub changes: u64,
 }
 
-fn count(verdicts: &[Verdict], wanted: Verdict) -> u64
-    ensures { result ≡ count_by (is_verdict wanted) verdicts.now }
+fn count(rows: &[Row], wanted: Verdict) -> u64
+    ensures { result ≡ count_by (λ row. is_verdict wanted row.verdict) rows.now }
 {
-    verdicts.iter().filter(|verdict| verdict.is(wanted)).count() as u64
+    rows.iter().filter(|row| row.verdict.is(wanted)).count() as u64
 }
 
 impl Counts {
-    /// The counts of these.
-    pub fn of(verdicts: &[Verdict]) -> Counts
-        ensures { result ≡ counts_of verdicts.now }
+    /// Returns the counts of these rows.
+    pub fn of(rows: &[Row]) -> Counts
+        ensures { result ≡ counts_of (map seen_row rows.now) }
     {
         Counts {
-            bad: count(verdicts, Verdict::Bad),
-            remarks: count(verdicts, Verdict::Remark),
-            changes: count(verdicts, Verdict::Change),
+            bad: count(rows, Verdict::Bad),
+            remarks: count(rows, Verdict::Remark),
+            changes: count(rows, Verdict::Change),
         }
     }
 }
@@ -96,7 +93,98 @@ pub struct Row<'a> {
     pub component: Option<&'a [u8]>,
     /// A place in bytes.
     pub position: Option<u64>,
+    /// A word that stays the same in later versions.
+    pub code: &'static str,
     /// What is said: a text without tabs and line feeds.
-    pub what: &'a str,
+    pub what: &'static str,
     pub detail: Detail,
+    /// A second area, by its name.
+    pub other: Option<&'a [u8]>,
+}
+
+/// Returns a row of a whole image.
+pub fn image_row<'a>(
+    verdict: Verdict,
+    position: Option<u64>,
+    code: &'static str,
+    what: &'static str,
+) -> Row<'a>
+    ensures { seen_row result ≡ rows.image_row verdict position code.now what.now details.None }
+{
+    Row {
+        verdict,
+        area: None,
+        component: None,
+        position,
+        code,
+        what,
+        detail: Detail::None,
+        other: None,
+    }
+}
+
+/// Returns a row of the area of this name.
+pub fn area_row<'a>(
+    verdict: Verdict,
+    name: &'a [u8],
+    position: Option<u64>,
+    code: &'static str,
+    what: &'static str,
+) -> Row<'a>
+    ensures { seen_row result ≡ rows.area_row verdict name.now position code.now what.now details.None }
+{
+    Row {
+        area: Some(name),
+        ..image_row(verdict, position, code, what)
+    }
+}
+
+/// Returns a row of an area of a flashmap, at its start.
+pub fn map_area_row<'a>(
+    verdict: Verdict,
+    area: &'a NumberedArea,
+    code: &'static str,
+    what: &'static str,
+) -> Row<'a>
+    ensures { seen_row result ≡ rows.map_area_row verdict area.now code.now what.now details.None }
+{
+    area_row(
+        verdict,
+        area.area.text(),
+        Some(u64::from(area.area.offset)),
+        code,
+        what,
+    )
+}
+
+/// Returns a row of a component, at its place in the area of this name.
+pub fn component_row<'a>(
+    verdict: Verdict,
+    area: &'a [u8],
+    at: u64,
+    name: &'a [u8],
+    code: &'static str,
+    what: &'static str,
+) -> Row<'a>
+    ensures { seen_row result ≡ rows.component_row verdict area.now at name.now code.now what.now details.None }
+{
+    Row {
+        component: Some(name),
+        ..area_row(verdict, area, Some(at), code, what)
+    }
+}
+
+/// Adds a row.
+pub fn add<'a>(rows: &mut Vec<Row<'a>>, row: Row<'a>) -> Result<(), AllocError>
+    ensures { Adds result rows.old.items rows.new.items (seen_row row.entry ∷ []) }
+{
+    rows.push(row)?;
+    Ok(())
+}
+
+/// Adds a row where it is to be there.
+pub fn add_if<'a>(rows: &mut Vec<Row<'a>>, is_there: bool, row: Row<'a>) -> Result<(), AllocError>
+    ensures { Adds result rows.old.items rows.new.items (row_if is_there (seen_row row.entry)) }
+{
+    if is_there { add(rows, row) } else { Ok(()) }
 }

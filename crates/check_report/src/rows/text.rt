@@ -3,7 +3,7 @@
 ghost use Rattle.std.specs.Prelude.{◌≡◌, ◌++◌, OnOk};
 ghost use Rattle.std.specs.Fmt.{decimal};
 ghost use Rattle.std.specs.Option.{option_copied};
-ghost use Rattle.check_report.specs.Rows.Rows.{detail_field, name_or_dash, position_or_dash, row_text, seen_row, summary};
+ghost use Rattle.check_report.specs.Rows.Rows.{detail_field, end_text, name_or_dash, other_field, position_or_dash, row_text, seen_row, summary};
 
 use crate::rows::row::{Counts, Detail, Row};
 use flash_format::{hexadecimal, printed_byte};
@@ -60,7 +60,28 @@ fn push_detail(text: &mut Vec<u8>, detail: Detail) -> Result<(), AllocError>
     }
 }
 
-/// The row's text, after what was there.
+fn push_other(text: &mut Vec<u8>, other: Option<&[u8]>) -> Result<(), AllocError>
+    ensures { OnOk result (text.new.items ≡ text.old.items ++ other_field (option_copied other.entry)) }
+{
+    match other {
+        None => Ok(()),
+        Some(_) => {
+            push(text, b"\t")?;
+            push_name(text, other)
+        }
+    }
+}
+
+fn push_end(text: &mut Vec<u8>, row: &Row) -> Result<(), AllocError>
+    ensures { OnOk result (text.new.items ≡ text.old.items ++ end_text (seen_row row.now)) }
+{
+    push(text, row.what.as_bytes())?;
+    push_detail(text, row.detail)?;
+    push_other(text, row.other)?;
+    push(text, b"\n")
+}
+
+/// Adds the row's text.
 #[tactic(auto, unfolding(crate::specs::Rows::Rows::row_text))]
 pub fn push_row(text: &mut Vec<u8>, row: &Row) -> Result<(), AllocError>
     ensures { OnOk result (text.new.items ≡ text.old.items ++ row_text (seen_row row.now)) }
@@ -73,9 +94,7 @@ pub fn push_row(text: &mut Vec<u8>, row: &Row) -> Result<(), AllocError>
     push(text, b"\t")?;
     push_position(text, row.position)?;
     push(text, b"\t")?;
-    push(text, row.what.as_bytes())?;
-    push_detail(text, row.detail)?;
-    push(text, b"\n")
+    push_end(text, row)
 }
 
 /// The line after all rows.

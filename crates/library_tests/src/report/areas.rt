@@ -1,8 +1,8 @@
 //! Areas of two small images, on devices that fail.
-use crate::support::{Failing, equal, failing};
-use flash_format::Area;
+use crate::support::{ALL, Failing, equal, failing};
 use check_changes::{ChangeFault, image_changes};
 use check_findings::NumberedArea;
+use flash_format::Area;
 use std::process::Abort;
 
 /// One of both blocks, and one of each.
@@ -76,8 +76,10 @@ fn areas_on_devices_that_refuse_a_read(rt: HostRuntime) {
     told_after(&rt, 2, 1, Err(ChangeFault::NewDevice));
 }
 
-// Each block is read once, though two areas hold it.
+// Each block is read for the image, and again for the areas that hold it.
 #[test]
-fn areas_that_stay_take_one_pass(rt: HostRuntime) {
-    told_after(&rt, 2, 2, Ok((1, 2)));
+fn areas_that_stay(rt: HostRuntime) {
+    told_after(&rt, ALL, ALL, Ok((1, 2)));
+    told_after(&rt, 3, ALL, Err(ChangeFault::OldDevice));
+    told_after(&rt, ALL, 3, Err(ChangeFault::NewDevice));
 }

@@ -15,15 +15,15 @@ fn told_after(
     let mut paged = failing(rt, 64, &[(0, &ONE)], calls);
     let len = paged.len();
     let region = Region::within(0, len, len).expect(rt, "a region");
-    let told = count(check_region(rt.alloc(), keys(rt), &mut paged, region, true));
+    let told = count(check_region(rt.alloc(), keys(rt), &mut paged, region));
     equal(rt, &told, &expected);
     drop(paged);
 }
 
-// That the component has no digest, that the cells fill the region, and the counts.
+// The component's content, that the cells fill the region, and three counts.
 #[test]
 fn the_findings_of_a_region(rt: HostRuntime) {
-    told_after(&rt, ALL, Ok(3));
+    told_after(&rt, ALL, Ok(5));
 }
 
 #[test]

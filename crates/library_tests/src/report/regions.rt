@@ -1,11 +1,9 @@
 //! Two images with two regions each, on devices that fail.
 use crate::report::support::{MAP, ONE, count, keys};
 use crate::support::{ALL, Failing, equal, failing};
-use check_changes::ChangeFault;
+use check_changes::{ChangeFault, region_changes};
+use check_findings::{NumberedArea, checked_image};
 use flash_format::Area;
-use check_findings::NumberedArea;
-use check_findings::checked_image;
-use check_changes::region_changes;
 use std::process::Abort;
 use std::random::RandomSource;
 
@@ -42,12 +40,12 @@ fn told_between(
     old: &mut Failing,
     new: &mut Failing,
 ) -> Result<usize, ChangeFault> {
-    let checked = checked_image(rt.alloc(), keys(rt), new, &[], false).expect(rt, "findings");
+    let checked = checked_image(rt.alloc(), keys(rt), new, &[], &[]).expect(rt, "findings");
     count(region_changes(rt.alloc(), keys(rt), old, &AREAS, new, &checked.findings))
 }
 
 /// What is told where the device with the old image refuses its call of this number, counted from 0, and that with the new
-/// one its call of that number, of which the first seven check the image and leave the first piece at hand.
+/// one its call of that number, of which the first nine check the image and leave the first piece at hand.
 fn told_after(
     rt: &(impl Abort + AllocGlobal + RandomSource),
     old: u64,
@@ -68,9 +66,9 @@ fn regions_that_stay(rt: HostRuntime) {
 
 #[test]
 fn images_on_devices_that_refuse_a_read(rt: HostRuntime) {
-    told_after(&rt, 0, 7, Err(ChangeFault::OldDevice));
-    told_after(&rt, 1, 7, Err(ChangeFault::OldDevice));
-    told_after(&rt, 2, 7, Err(ChangeFault::NewDevice));
-    told_after(&rt, 1, 8, Err(ChangeFault::OldDevice));
-    told_after(&rt, 2, 8, Ok(2));
+    told_after(&rt, 0, 9, Err(ChangeFault::OldDevice));
+    told_after(&rt, 1, 9, Err(ChangeFault::OldDevice));
+    told_after(&rt, 2, 9, Err(ChangeFault::NewDevice));
+    told_after(&rt, 1, 10, Err(ChangeFault::OldDevice));
+    told_after(&rt, 2, 10, Ok(2));
 }

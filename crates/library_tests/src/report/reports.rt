@@ -1,16 +1,20 @@
 //! Reports on devices that fail.
 use crate::report::support::{image, keys};
 use crate::support::{ALL, Failing, equal};
-use check_report::{Answer, ReportFault, Request, report_change, report_image};
-use check_report::Form;
+use check_report::{Answer, Asked, Form, ReportFault, Request, report_change, report_image};
 use std::process::Abort;
 use std::random::RandomSource;
 
 fn request<'a>(kept: &'a [&'a [u8]], form: Form) -> Request<'a> {
     Request {
         areas: &[],
+        needs: &[],
         kept,
-        is_verbose: false,
+        keeps_preserved: false,
+        asked: Asked {
+            is_verbose: false,
+            needs_hashes: false,
+        },
         form,
     }
 }

@@ -1,6 +1,6 @@
 //! An image, and what several of the tests of reports make and compare.
 use crate::support::{Failing, equal, failing};
-use check_report::Report;
+use check_report::{Form, Row, report_text};
 use std::hash::RandomState;
 use std::process::Abort;
 use std::random::RandomSource;
@@ -35,8 +35,8 @@ pub fn keys(rt: &(impl Abort + RandomSource)) -> RandomState {
     RandomState::new(rt).expect(rt, "random numbers")
 }
 
-/// This is all that a report says.
-pub fn ends(rt: &impl Abort, report: Report, expected: &[u8]) {
-    let text = report.finish().expect(rt, "memory");
+/// A report of these rows has this text.
+pub fn prints(rt: &(impl Abort + AllocGlobal), form: Form, rows: &[Row], expected: &[u8]) {
+    let text = report_text(rt.alloc(), form, false, rows).expect(rt, "memory");
     equal(rt, &text.as_slice(), &expected);
 }

@@ -11,6 +11,7 @@ use cbfs_commands::{Command, MOST_REGIONS, run};
 use cbfs_edit::{HashChoice, Spot};
 use flash_store::{FileFlash, FileSource, Flash, MemFlash, OpenFault, Paged, Source, find_fmap};
 use std::fs::{self, File};
+use std::io::ErrorKind;
 use std::process::{self, Abort};
 use std::rt::Files;
 
@@ -260,12 +261,12 @@ fn is_absent<R: Files<File = File> + Abort>(rt: &R, path: &str) {
     equal(
         rt,
         &FileFlash::open(rt, path).err(),
-        &Some(OpenFault::Failed),
+        &Some(OpenFault::Failed(ErrorKind::NotFound)),
     );
     equal(
         rt,
         &FileSource::open(rt, path).err(),
-        &Some(OpenFault::Failed),
+        &Some(OpenFault::Failed(ErrorKind::NotFound)),
     );
 }
 
@@ -277,7 +278,7 @@ fn a_file_that_is_not_there(rt: HostRuntime) {
     equal(
         &rt,
         &FileFlash::create(&rt, &inside, 4096).err(),
-        &Some(OpenFault::Failed),
+        &Some(OpenFault::Failed(ErrorKind::NotFound)),
     );
     drop(path);
     drop(inside);

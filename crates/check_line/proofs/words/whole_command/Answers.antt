@@ -1,11 +1,11 @@
-use Rattle.std.proofs.Common.{rules, ◌≡◌, ◌∙◌, ap, ap₂, codes, true}
+use Rattle.std.proofs.Common.{◌≡◌, ◌∙◌, ap, ap₂, codes, true}
 use Rattle.std.proofs.lemmas.Result.{IfOk-weaker}
-use Rattle.clap.specs.Words.{App, app_of, new_app, rule_of, with_rule}
+use Rattle.clap.specs.Words.{App, app_of, new_app, with_rule}
 use Rattle.clap.specs.Simple.{app_of_fields}
-use Rattle.check_line.specs.CheckWords.{areas_option, verbose_option, json_option, keep_option}
+use Rattle.check_line.specs.CheckWords.{flag}
 use Rattle.check_line.proofs.words.whole_command.Goals as goal
 
--- a command whose words begin behind the program's name
+-- a command whose words begin after the program's name
 abbrev nameless : App → App
 nameless a = record a { top = record a.top { no_binary_name = true } }
 
@@ -15,13 +15,12 @@ empty = nameless (new_app (codes "cbfscheck"))
 pub returns : goal.returns
 returns c =
     let begun : app_of c.no_binary_name.result ≡ empty = ap app_of_fields c.no_binary_name.ensures ∙ ap nameless c.new.ensures.app in
-    let areas : rule_of c.short.result ≡ areas_option = search rules in
-    let verbose : rule_of c.action.result ≡ verbose_option = search rules in
-    let json : rule_of c.action-2.result ≡ json_option = search rules in
-    let keep : rule_of c.long-2.result ≡ keep_option = search rules in
-    let image_is = c.in_ok-arg.ensures.shape (search rules) ∙ ap₂ with_rule begun c.new-2.ensures.rule in
-    let new_is = c.in_ok-arg-2.ensures.shape (search rules) ∙ ap₂ with_rule image_is c.new-3.ensures.rule in
-    let areas_is = c.in_ok-arg-3.ensures.shape (search rules) ∙ ap₂ with_rule new_is areas in
-    let verbose_is = c.in_ok-arg-4.ensures.shape (search rules) ∙ ap₂ with_rule areas_is verbose in
-    let json_is = c.in_ok-arg-5.ensures.shape (search rules) ∙ ap₂ with_rule verbose_is json in
-    IfOk-weaker c.arg-6.result _ _ (λ m h. h.shape (search rules) ∙ ap₂ with_rule json_is keep) c.arg-6.ensures
+    let image = c.in_ok-arg.ensures.shape c.new-2.ensures.optional.1 ∙ ap₂ with_rule begun c.new-2.ensures.rule in
+    let new = c.in_ok-arg-2.ensures.shape c.new-3.ensures.optional.1 ∙ ap₂ with_rule image c.new-3.ensures.rule in
+    let areas = c.in_ok-arg-3.ensures.shape c.short.ensures.local ∙ ap₂ with_rule new c.short.ensures.rule in
+    let verbose = c.in_ok-arg-4.ensures.shape (c.flag.ensures.local ∙ c.short-2.ensures.local) ∙ ap₂ with_rule areas (c.flag.ensures.rule ∙ ap flag c.short-2.ensures.rule) in
+    let json = c.in_ok-arg-5.ensures.shape (c.flag-2.ensures.local ∙ c.long.ensures.local) ∙ ap₂ with_rule verbose (c.flag-2.ensures.rule ∙ ap flag c.long.ensures.rule) in
+    let keep = c.in_ok-arg-6.ensures.shape c.long-2.ensures.local ∙ ap₂ with_rule json c.long-2.ensures.rule in
+    let preserved = c.in_ok-arg-7.ensures.shape (c.flag-3.ensures.local ∙ c.long-3.ensures.local) ∙ ap₂ with_rule keep (c.flag-3.ensures.rule ∙ ap flag c.long-3.ensures.rule) in
+    let hashed = c.in_ok-arg-8.ensures.shape (c.flag-4.ensures.local ∙ c.long-4.ensures.local) ∙ ap₂ with_rule preserved (c.flag-4.ensures.rule ∙ ap flag c.long-4.ensures.rule) in
+    IfOk-weaker c.arg-9.result _ _ (λ m h. h.shape c.long-5.ensures.local ∙ ap₂ with_rule hashed c.long-5.ensures.rule) c.arg-9.ensures

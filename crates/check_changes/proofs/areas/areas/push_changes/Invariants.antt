@@ -1,6 +1,6 @@
 use Rattle.std.proofs.Common.{◌≡◌, ◌+◌, ◌-◌, ◌*◌, ◌/◌, ◌≤◌, ◌++◌, length, drop, IsTrue}
-use Rattle.flash_device.specs.Pages.{HasRead}
 use Rattle.check_changes.specs.Areas.AreaChanges.{changes_in}
+use Rattle.check_changes.specs.Images.{HasReadBoth}
 use Rattle.check_changes.proofs.areas.areas.push_changes.Given as goal
 
 abbrev pub invariant-loop-pair : goal.invariant-loop-pair
@@ -10,7 +10,6 @@ invariant-loop-pair g l =
     let most = 8 * length new.content in
     record {
       within : l.left ≤ most;
-      old_read : HasRead g.F.Flash.facts ((most - l.left) / 4096 + l.pair-index) 0 l.initial.old_image l.old_image;
-      new_read : HasRead g.G.Flash.facts ((most - l.left) / 4096 + l.pair-index) 0 l.initial.new_image l.new_image;
+      read : HasReadBoth g.F.Flash.facts g.G.Flash.facts ((most - l.left) / 4096 + l.pair-index) 0 0 l.initial.old_image l.old_image l.initial.new_image l.new_image;
       changes : IsTrue old.honest → IsTrue new.honest → l.changes.items ++ changes_in l.left old.content new.content (drop l.pair-index l.pairs) ≡ l.initial.changes.items ++ changes_in most old.content new.content l.pairs;
     }

@@ -1,7 +1,7 @@
 use Rattle.std.proofs.Common.{◌+◌, ◌/◌, rules}
 use Rattle.flash_device.specs.Device.{faults_told}
 use Rattle.flash_device.proofs.DeviceLemmas.{honest_still}
-use Rattle.check_changes.specs.Components.Sides.{HasReadBoth}
+use Rattle.check_changes.specs.Images.{HasReadBoth}
 use Rattle.check_changes.specs.Faults.{by_new, by_old}
 use Rattle.check_changes.proofs.ComponentLemmas.ChangeLemmas.{changes_more, listed_some, reads_all, reads_more}
 use Rattle.check_changes.proofs.components.changes.tell_changes.Goals as goal

@@ -3,7 +3,7 @@ use Rattle.std.specs.Prelude.{IsTrue}
 use Rattle.std.specs.List.{flat_map}
 use Rattle.flash_device.specs.Regions.{bytes_in}
 use Rattle.check_changes.specs.Components.Listings.{listed_change, spans}
-use Rattle.check_changes.specs.Components.Sides.{HasReadBoth}
+use Rattle.check_changes.specs.Images.{HasReadBoth}
 use Rattle.check_changes.proofs.components.changes.tell_changes.Given as goal
 
 abbrev pub invariant-loop-listed : goal.invariant-loop-listed

@@ -1,6 +1,6 @@
 use Rattle.std.proofs.Common.{◌≡◌, ◌+◌, ◌-◌, ◌<◌, ◌≤◌, ◌/◌, ◌%◌}
 use Rattle.std.specs.Prelude.{IsTrue}
-use Rattle.check_changes.specs.Components.Sides.{HasReadBoth}
+use Rattle.check_changes.specs.Images.{HasReadBoth}
 use Rattle.check_changes.proofs.ComponentLemmas.Reading.{AreSame}
 use Rattle.check_changes.proofs.components.compare.same_bytes.Given as goal
 

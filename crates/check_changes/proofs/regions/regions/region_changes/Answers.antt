@@ -1,4 +1,4 @@
-use Rattle.std.proofs.Common.{◌≡◌, ◌∙◌, ◌≤◌, List, length, ap, sym, subst, arith}
+use Rattle.std.proofs.Common.{◌≡◌, ◌∙◌, ◌*◌, ◌≤◌, List, length, ap, sym, subst, arith}
 use Rattle.std.specs.Prelude.{All, IfOk}
 use Rattle.flash_device.proofs.WindowLemmas.{HasRead-within}
 use Rattle.check_findings.specs.Image.RegionAreas.{region_areas}
@@ -13,7 +13,7 @@ pub pair_changes-requires : goal.pair_changes-requires
 pair_changes-requires g c =
     let n = length (g.G.Flash.facts c.args.new.now.device).content in
     let are = c.deref.ensures.value ∙ c.in_ok-pairs.ensures c.args.old_areas.now c.in_ok-names.ensures in
-    subst (λ (l : List Pair). All (EndsInside n) l) (sym are) (pairs-inside c.args.old_areas.now (region_areas c.args.findings.now) 0 n c.requires)
+    subst (λ (l : List Pair). All (EndsInside n) l) (sym are) (pairs-inside c.args.old_areas.now (region_areas c.args.findings.now) n c.requires.inside)
 
 pub returns-clause-old : goal.returns-clause-old
 returns-clause-old g c =
@@ -21,7 +21,7 @@ returns-clause-old g c =
     let areas = region_areas c.args.findings.now in
     let n = length (g.G.Flash.facts c.args.new.now.device).content in
     let are = c.deref.ensures.value ∙ c.in_ok-pairs.ensures olds c.in_ok-names.ensures in
-    let sizes : new_sizes c.deref.result.now ≤ n = omega (arith, ap new_sizes are, new_sizes-pairs olds areas 0 n c.requires) in
+    let sizes : new_sizes c.deref.result.now ≤ 8 * n = omega (arith, ap new_sizes are, new_sizes-pairs olds areas, c.requires.total) in
     let few : length c.deref.result.now ≤ length areas = omega (arith, ap length are, length-pairs olds areas) in
     HasRead-within g.F.Flash.facts _ _ _ _ _ (omega arith) c.pair_changes.ensures.old
 
@@ -31,7 +31,7 @@ returns-clause-new g c =
     let areas = region_areas c.args.findings.now in
     let n = length (g.G.Flash.facts c.args.new.now.device).content in
     let are = c.deref.ensures.value ∙ c.in_ok-pairs.ensures olds c.in_ok-names.ensures in
-    let sizes : new_sizes c.deref.result.now ≤ n = omega (arith, ap new_sizes are, new_sizes-pairs olds areas 0 n c.requires) in
+    let sizes : new_sizes c.deref.result.now ≤ 8 * n = omega (arith, ap new_sizes are, new_sizes-pairs olds areas, c.requires.total) in
     let few : length c.deref.result.now ≤ length areas = omega (arith, ap length are, length-pairs olds areas) in
     HasRead-within g.G.Flash.facts _ _ _ _ _ (omega arith) c.pair_changes.ensures.new
 

@@ -4,4 +4,4 @@ use Rattle.check_findings.proofs.ImageLemmas.NameLemmas.{texts}
 use Rattle.check_findings.proofs.image.names.push_missing.Given as goal
 
 abbrev pub invariant-loop-number : goal.invariant-loop-number
-invariant-loop-number l = l.findings.items ++ names_findings l.areas l.number (drop l.number (texts l.names)) ≡ l.initial.findings.items ++ names_findings l.areas 0 (texts l.names)
+invariant-loop-number l = l.findings.items ++ names_findings l.areas-2 l.number (drop l.number (texts l.names)) ≡ l.initial.findings.items ++ names_findings l.areas-2 0 (texts l.names)

@@ -1,4 +1,5 @@
-use Rattle.check_findings.proofs.MapLemmas.NameLemmas.{names-more, notes-more}
+use Rattle.check_findings.specs.Map.Names.{Notes}
+use Rattle.check_findings.proofs.MapLemmas.NameLemmas.{names-more, one_taken}
 use Rattle.check_findings.proofs.map.names.push_name_findings.Goals as goal
 
 pub loop-a-preserved : goal.loop-a-preserved
@@ -6,6 +7,6 @@ loop-a-preserved c =
     let areas = c.args.areas.now in
     let i = c.loop-a.a-index in
     record {
-      notes = notes-more areas i _ c.loop-a.names c.note.new.self c.loop-a-test.true c.in_ok-first.ensures.more c.loop-a.invariant.notes;
+      notes = one_taken (Notes c.loop-a.names) (Notes c.note.new.self) areas i _ c.loop-a-test.true (c.in_ok-first.ensures.more _) c.loop-a.invariant.notes;
       told = names-more areas i _ c.loop-a.names c.in_ok-first.first _ _ _ c.loop-a-test.true c.loop-a.invariant.notes c.in_ok-first.ensures.first c.in_ok-push_name_finding.ensures c.loop-a.invariant.told;
     }

@@ -1,4 +1,7 @@
-use Rattle.std.proofs.Common.{refl, rules, ◌∙◌}
+use Rattle.std.proofs.Common.{List, ◌+◌, ◌++◌, ap, append_assoc, refl, rules, sym, ◌∙◌}
+use Rattle.cbfs_walk.specs.Walks.{Walking}
+use Rattle.check_findings.specs.Region.Reports.{counted}
+use Rattle.check_findings.specs.declared.region.finding.RegionFinding.{RegionFinding}
 use Rattle.check_findings.proofs.RegionLemmas.Checking.{checking_start, checking_more, checking_end, checking_tail, checking_refused}
 use Rattle.check_findings.proofs.region.check.check_region.Goals as goal
 
@@ -6,7 +9,7 @@ pub returns-in-Ok-End-clause-after : goal.returns-in-Ok-End-clause-after
 returns-in-Ok-End-clause-after g c = search rules
 
 pub loop-cell-init : goal.loop-cell-init
-loop-cell-init g c = rw (c.new-walk.ensures, c.new-count.ensures) (checking_start g.F.Flash.facts c.args.is_verbose c.args.region c.new-report.result c.args.paged.now c.new-report.ensures.findings c.new-report.ensures.names)
+loop-cell-init g c = rw (c.new-walk.ensures, c.new-count.ensures) (checking_start g.F.Flash.facts c.args.region c.new-report.result c.args.paged.now c.new-report.ensures.findings c.new-report.ensures.names, refl)
 
 pub loop-cell-preserved : goal.loop-cell-preserved
 loop-cell-preserved g c =
@@ -14,20 +17,24 @@ loop-cell-preserved g c =
     let given = rw is at c.in-Ok-Cell.ensures.cell in
     let reads = rw is at c.in-Ok-Cell.ensures.after in
     let answer = rw is at c.in-Ok-Cell.ensures.answer in
-    let moved = rw is at c.in-Ok-Cell.ensures.moved in
-    checking_more g.F.Flash.facts c.args.is_verbose c.args.region c.loop-cell.walk c.loop-cell.report c.loop-cell.count _ _ c.requires c.loop-cell.invariant c.in-Ok-Cell.cell _ _ _ _ _ _ _
-    given reads refl c.in_ok-tell_cell-in-Ok-Cell.ensures.after refl answer moved c.with-count.ensures.before c.with-count.ensures.is c.in_ok-tell_cell-in-Ok-Cell.ensures.told
+    let moved = rw is at c.in-Ok-Cell.ensures.moved in (
+      checking_more g.F.Flash.facts c.args.region c.loop-cell.walk c.loop-cell.report c.loop-cell.count _ _ c.requires c.loop-cell.invariant.0 c.in-Ok-Cell.cell _ _ _ _ _ _ _
+          given reads refl c.in_ok-tell_cell-in-Ok-Cell.ensures.after refl answer moved c.with-count.ensures.before c.with-count.ensures.is c.in_ok-tell_cell-in-Ok-Cell.ensures.told,
+      ap (λ at. at + c.in-Ok-Cell.cell.span) given.1 ∙ sym (ap (λ (w : Walking). w.at) moved),
+    )
 
 pub returns-in-Ok-Tail-clause-findings : goal.returns-in-Ok-Tail-clause-findings
 returns-in-Ok-Tail-clause-findings g c = λ h.
-    let told = checking_tail g.F.Flash.facts c.args.is_verbose c.args.region c.loop-cell.walk c.loop-cell.report c.loop-cell.count _ _ c.requires c.loop-cell.invariant _ (rw c.in-Ok-Tail.field-0-is at c.in-Ok-Tail.ensures.answer) h in
-    c.in_ok-ended-in-Ok-Tail.ensures ∙ told
+    let is = c.in-Ok-Tail.field-0-is in
+    c.in_ok-counted-in-Ok-Tail.ensures
+    ∙ checking_tail g.F.Flash.facts c.args.region c.loop-cell.walk c.loop-cell.report c.loop-cell.count _ _ c.requires c.loop-cell.invariant.0 _ c.loop-cell.at _ _ _ (rw is at c.in-Ok-Tail.ensures.answer) c.loop-cell.invariant.1
+    (rw is at c.in-Ok-Tail.ensures.after) c.in_ok-tell_tail-in-Ok-Tail.ensures.told h
 
 pub returns-in-Ok-End-clause-findings : goal.returns-in-Ok-End-clause-findings
 returns-in-Ok-End-clause-findings g c = λ h.
-    let told = checking_end g.F.Flash.facts c.args.is_verbose c.args.region c.loop-cell.walk c.loop-cell.report c.loop-cell.count _ _ c.requires c.loop-cell.invariant (rw c.in-Ok-End.field-0-is at c.in-Ok-End.ensures.answer) h in
-    c.in_ok-ended-in-Ok-End.ensures ∙ told
+    let told = checking_end g.F.Flash.facts c.args.region c.loop-cell.walk c.loop-cell.report c.loop-cell.count _ _ c.requires c.loop-cell.invariant.0 (rw c.in-Ok-End.field-0-is at c.in-Ok-End.ensures.answer) h in
+    c.in_ok-counted-in-Ok-End.ensures ∙ ap (λ (l : List RegionFinding). l ++ counted c.loop-cell.count) c.in_ok-tell-in-Ok-End.ensures.findings ∙ append_assoc c.loop-cell.report.findings.items _ _ ∙ told
 
 pub returns-in-Err-clause-findings : goal.returns-in-Err-clause-findings
 returns-in-Err-clause-findings g c = λ h.
-    checking_refused g.F.Flash.facts c.args.is_verbose c.args.region c.loop-cell.walk c.loop-cell.report c.loop-cell.count _ _ c.requires c.loop-cell.invariant c.in-Err.fault c.in-Err.ensures.answer h c.refused.result (λ e. c.refused.ensures.device.1 e) c.refused.ensures.told
+    checking_refused g.F.Flash.facts c.args.region c.loop-cell.walk c.loop-cell.report c.loop-cell.count _ _ c.requires c.loop-cell.invariant.0 c.in-Err.fault c.in-Err.ensures.answer h c.refused.result (λ e. c.refused.ensures.device.1 e) c.refused.ensures.told

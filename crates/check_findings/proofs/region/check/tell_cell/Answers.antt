@@ -8,8 +8,8 @@ use Rattle.cbfs_walk.specs.Walks.{StandsIn}
 use Rattle.check_findings.proofs.RegionLemmas.Telling.{cell_told}
 use Rattle.check_findings.proofs.region.check.tell_cell.Goals as goal
 
-pub returns-in_err-state-clause-after : goal.returns-in_err-state-clause-after
-returns-in_err-state-clause-after g c = search rules
+pub returns-in_err-hash-clause-after : goal.returns-in_err-hash-clause-after
+returns-in_err-hash-clause-after g c = search rules
 
 pub returns-in_err-tell_named-clause-after : goal.returns-in_err-tell_named-clause-after
 returns-in_err-tell_named-clause-after g c = search rules
@@ -27,6 +27,6 @@ returns-clause-told g c = λ h stands. λ t told.
     let named = c.in_ok-len.ensures in
     let same = named.after.read.device.unchanged h in
     let there = subst (λ (l : List ℕ). StandsIn (bytes_in r l) cell) (sym same) stands in
-    let state = subst (λ (l : List ℕ). c.in_ok-state.state ≡ hash_state (cell_attributes (cell_in (bytes_in r l) cell)) (cell_content (cell_in (bytes_in r l) cell))) same
-    (c.in_ok-state.ensures.state (honest_still named.after.read.device.calls.same_honesty h) there) in
-    cell_told c.tell_named.new.self c.args.is_verbose cell.at x _ cell.head c.in_ok-state.state t (sym c.if-is_free.ensures) (named.name h stands) known.head state (c.in_ok-tell_named.ensures t told)
+    let state = subst (λ (l : List ℕ). c.in_ok-hash.hash ≡ hash_state (cell_attributes (cell_in (bytes_in r l) cell)) (cell_content (cell_in (bytes_in r l) cell))) same
+    (c.in_ok-hash.ensures.state (honest_still named.after.read.device.calls.same_honesty h) there) in
+    cell_told c.tell_named.new.self cell.at x _ cell.head c.in_ok-hash.hash t (sym c.if-is_free.ensures) (named.name h stands) known.head state (rw (c.from.ensures, c.from-2.ensures) at (c.in_ok-tell_named.ensures t told))

@@ -1,0 +1,17 @@
+use Rattle.std.proofs.Common.{◌≡◌, ◌+◌, ◌-◌, ◌*◌, ◌/◌, ◌++◌, ℕ, List, drop, length}
+use Rattle.flash_device.specs.Pages.{HasRead, OnHonest}
+use Rattle.check_findings.specs.Image.ImageFindings.{areas_findings}
+use Rattle.check_findings.specs.Image.Lookups.{HasNames}
+use Rattle.check_findings.specs.Image.RegionAreas.{AreChecked, region_areas}
+use Rattle.check_findings.proofs.image.image.areas_findings.Given as goal
+
+abbrev pub invariant-loop-area : goal.invariant-loop-area
+invariant-loop-area g l =
+    let facts = g.F.Flash.facts in
+    let n = length (facts l.initial.paged.device).content in
+    record {
+      read : HasRead facts ((8 * n - l.left) / 16 + 2 * l.area-index) 0 l.initial.paged l.paged;
+      checked : AreChecked n l.area-index l.left (region_areas l.findings.items);
+      told : OnHonest facts l.initial.paged.device (λ image. (names : List (List ℕ)) → HasNames l.expected names →
+          l.findings.items ++ areas_findings image names l.left (drop l.area-index l.areas) ≡ areas_findings image names (8 * length image) l.areas);
+    }

@@ -1,0 +1,7 @@
+use Rattle.std.proofs.Common.{◌≡◌, drop}
+use Rattle.check_findings.specs.Image.Needs.{first_content}
+use Rattle.check_findings.proofs.image.needs.first_content.Given as goal
+
+abbrev pub invariant-loop-finding : goal.invariant-loop-finding
+invariant-loop-finding l =
+    first_content l.name (drop l.finding-index l.findings) ≡ first_content l.name l.findings

@@ -1,0 +1,99 @@
+//! The components that an image must have.
+ghost use Rattle.std.specs.Prelude.{◌≡◌};
+ghost use Rattle.check_findings.specs.Image.Needs as needs;
+
+use crate::image::finding::ImageFinding;
+use crate::map::NumberedArea;
+use crate::region::{ComponentFinding, Content, RegionFinding};
+
+/// The place that the content of a needed component must have in its area.
+#[derive(Clone, Copy, Debug, PartialEq, Eq)]
+pub enum NeededPlace {
+    Any,
+    /// It begins at this offset from the area's start, in bytes.
+    At(u64),
+    /// It ends at the area's end.
+    End,
+}
+
+impl NeededPlace {
+    /// Returns whether this content of a component of an area of `size` bytes has the place.
+    fn is_met(self, content: Content, size: u32) -> bool
+        ensures { result ≡ needs.is_met self content size }
+    {
+        match self {
+            NeededPlace::Any => true,
+            NeededPlace::At(start) => content.start == start,
+            NeededPlace::End => content.start.checked_add(content.len) == Some(u64::from(size)),
+        }
+    }
+}
+
+/// A component that an area of the image must have.
+#[derive(Clone, Copy)]
+pub struct Need<'a> {
+    pub area: &'a [u8],
+    pub name: &'a [u8],
+    pub place: NeededPlace,
+}
+
+/// Why a need isn't met.
+#[derive(Clone, Copy)]
+pub enum NeedFinding {
+    /// No checked area has the name, or it has no component of the name.
+    Missing,
+    /// The content of the first component of the name begins at this offset from the area's start.
+    Elsewhere(u64),
+}
+
+/// Returns the content of the component of the finding, if it has this name.
+fn content_named(finding: &RegionFinding, name: &[u8]) -> Option<Content>
+    ensures { result ≡ needs.content_named name.now finding.now }
+{
+    match finding {
+        RegionFinding::Component {
+            name: other,
+            what: ComponentFinding::Content(content),
+            ..
+        } if other.as_slice() == name => { Some(*content) }
+        _ => None,
+    }
+}
+
+/// Returns the content of the first component of this name.
+fn first_content(findings: &[RegionFinding], name: &[u8]) -> Option<Content>
+    ensures { result ≡ needs.first_content name.now findings.now }
+{
+    for finding in findings {
+        if let Some(content) = content_named(finding, name) {
+            return Some(content);
+        }
+    }
+    None
+}
+
+/// Returns why the need isn't met by the area with these findings, if the area has its name.
+fn unmet_in(area: NumberedArea, findings: &[RegionFinding], need: Need<'_>) -> Option<NeedFinding>
+    ensures { result ≡ needs.unmet_in area findings.now (needs.wish_of need.entry) }
+{
+    match first_content(findings, need.name) {
+        None => Some(NeedFinding::Missing),
+        Some(content) if need.place.is_met(content, area.area.size) => None,
+        Some(content) => Some(NeedFinding::Elsewhere(content.start)),
+    }
+}
+
+/// Returns why these findings of an image don't meet the need, or `None` if they do: the first checked area of its name has a
+/// component of its name, and the content of the first such component has the needed place.
+pub fn unmet(findings: &[ImageFinding], need: Need<'_>) -> Option<NeedFinding>
+    ensures { result ≡ needs.unmet findings.now (needs.wish_of need.entry) }
+{
+    for finding in findings {
+        if let ImageFinding::Region { area, findings } = finding {
+            if area.area.name_is(need.area) {
+                return unmet_in(*area, findings.as_slice(), need);
+            }
+        }
+    }
+    Some(NeedFinding::Missing)
+}

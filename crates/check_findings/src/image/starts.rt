@@ -1,0 +1,56 @@
+//! The places at which areas begin.
+ghost use Rattle.std.specs.Prelude.{◌≡◌, ◌∷◌, [], ◌++◌, List, IfOk, OnOk};
+ghost use Rattle.check_findings.specs.declared.map.finding.NumberedArea.{NumberedArea};
+ghost use Rattle.check_findings.specs.Image.ImageFindings.{has_smaller};
+ghost use Rattle.check_findings.specs.Image.Lookups.{HasStarts};
+
+use crate::map::NumberedArea;
+use std::alloc::{AllocError, Global};
+use std::collections::BTreeMap;
+
+/// The smallest size of an area with room for an entry, by the place at which the area begins.
+#[derive(Drop)]
+pub struct Starts {
+    smallest: BTreeMap<u32, u32>,
+}
+
+impl Starts {
+    /// Returns the places at which these areas begin.
+    pub fn of(alloc: Global, areas: &[NumberedArea]) -> Result<Starts, AllocError>
+        ensures { IfOk result (λ starts. HasStarts starts areas.now) }
+    {
+        let mut starts = Starts {
+            smallest: BTreeMap::new(alloc),
+        };
+        for area in areas {
+            starts.add(area)?;
+        }
+        Ok(starts)
+    }
+
+    /// Adds an area.
+    fn add(&mut self, area: &NumberedArea) -> Result<(), AllocError>
+        ensures { (before : List NumberedArea) → HasStarts self.old before →
+            OnOk result (HasStarts self.new (before ++ area.now ∷ [])) }
+    {
+        if area.area.size < 24 {
+            return Ok(());
+        }
+        if self.has_smaller(area) {
+            return Ok(());
+        }
+        self.smallest.insert(area.area.offset, area.area.size)?;
+        Ok(())
+    }
+
+    /// Returns whether an area with room for an entry begins where this one does and is smaller.
+    pub fn has_smaller(&self, area: &NumberedArea) -> bool
+        ensures { (areas : List NumberedArea) → HasStarts self.now areas →
+            result ≡ has_smaller areas area.now }
+    {
+        match self.smallest.get(&area.area.offset) {
+            Some(smallest) => *smallest < area.area.size,
+            None => false,
+        }
+    }
+}

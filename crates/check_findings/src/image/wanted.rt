@@ -1,0 +1,111 @@
+//! The areas that are checked as regions.
+ghost use Rattle.std.specs.Prelude.{ℕ, ◌≡◌, ◌≤◌, ◌+◌, ◌∷◌, [], ◌++◌, List, All, IsTrue, filter, length, IfOk, OnOk};
+ghost use Rattle.flash_device.specs.Device.{faults_told};
+ghost use Rattle.flash_device.specs.Pages.{HasRead, HasAnswered, OnHonest};
+ghost use Rattle.check_findings.specs.declared.map.finding.NumberedArea.{NumberedArea};
+ghost use Rattle.check_findings.specs.Faults.{by_device};
+ghost use Rattle.check_findings.specs.Map.MapFindings.{area_end};
+ghost use Rattle.check_findings.specs.Image.ImageFindings.{cbfs_areas, is_wanted, wanted_areas};
+ghost use Rattle.check_findings.specs.Image.Lookups.{HasNames, HasStarts};
+
+use crate::fault::CheckFault;
+use crate::image::names::NameSet;
+use crate::image::starts::Starts;
+use crate::map::{NumberedArea, push_area};
+use crate::region::starts_with_entry;
+use flash_device::{Flash, FlashFault, Paged, Region};
+use std::alloc::Global;
+
+/// Returns the areas that lie inside the image and hold a CBFS: each begins with an entry, and no
+/// smaller area that begins with an entry starts at the same place.
+pub fn cbfs_areas<F: Flash>(
+    alloc: Global,
+    paged: &mut Paged<F>,
+    areas: &[NumberedArea],
+) -> Result<Vec<NumberedArea>, CheckFault>
+    ensures after { HasRead F.facts (length areas.now) (faults_told by_device result)
+        paged.old paged.new }
+    ensures areas { OnHonest F.facts paged.old.device (λ image.
+        IfOk result (λ found. found.items ≡ cbfs_areas image areas.now)) }
+{
+    let none = NameSet::new(alloc);
+    wanted_areas(alloc, paged, &none, areas)
+}
+
+/// Returns the areas that are to be checked, in their order.
+pub fn wanted_areas<F: Flash>(
+    alloc: Global,
+    paged: &mut Paged<F>,
+    expected: &NameSet,
+    areas: &[NumberedArea],
+) -> Result<Vec<NumberedArea>, CheckFault>
+    ensures after { HasRead F.facts (length areas.now) (faults_told by_device result)
+        paged.old paged.new }
+    ensures inside { IfOk result (λ wanted.
+        All (λ a. area_end a.area ≤ length (F.facts paged.old.device).content) wanted.items) }
+    ensures count { IfOk result (λ wanted. length wanted.items ≤ length areas.now) }
+    ensures areas { OnHonest F.facts paged.old.device (λ image.
+        (names : List (List ℕ)) → HasNames expected.now names →
+        IfOk result (λ wanted. wanted.items ≡ wanted_areas image names areas.now)) }
+{
+    let starts = Starts::of(alloc, areas)?;
+    let mut wanted = Vec::new(alloc);
+    for area in areas {
+        push_if_wanted(paged, expected, &starts, area, &mut wanted)?;
+    }
+    Ok(wanted)
+}
+
+/// Adds the area if it is to be checked.
+fn push_if_wanted<F: Flash>(
+    paged: &mut Paged<F>,
+    expected: &NameSet,
+    starts: &Starts,
+    area: &NumberedArea,
+    wanted: &mut Vec<NumberedArea>,
+) -> Result<(), CheckFault>
+    ensures after { HasRead F.facts 1 (faults_told by_device result) paged.old paged.new }
+    ensures inside { All (λ a. area_end a.area ≤ length (F.facts paged.old.device).content) wanted.old.items →
+        OnOk result
+        (All (λ a. area_end a.area ≤ length (F.facts paged.old.device).content) wanted.new.items) }
+    ensures count { OnOk result (length wanted.new.items ≤ length wanted.old.items + 1) }
+    ensures area { OnHonest F.facts paged.old.device (λ image.
+        (names : List (List ℕ)) (areas : List NumberedArea) →
+        HasNames expected.now names → HasStarts starts.now areas →
+        OnOk result (wanted.new.items
+        ≡ wanted.old.items ++ filter (is_wanted image names areas) (area.now ∷ []))) }
+{
+    if is_wanted(paged, expected, starts, area)? {
+        push_area(wanted, *area)?;
+    }
+    Ok(())
+}
+
+/// Returns whether the area is to be checked.
+fn is_wanted<F: Flash>(
+    paged: &mut Paged<F>,
+    expected: &NameSet,
+    starts: &Starts,
+    area: &NumberedArea,
+) -> Result<bool, FlashFault>
+    ensures after { HasAnswered F.facts 1 paged.old paged.new result }
+    ensures inside { IfOk result (λ wanted. IsTrue wanted →
+        area_end area.now.area ≤ length (F.facts paged.old.device).content) }
+    ensures wanted { OnHonest F.facts paged.old.device (λ image.
+        (names : List (List ℕ)) (areas : List NumberedArea) →
+        HasNames expected.now names → HasStarts starts.now areas →
+        IfOk result (λ wanted. wanted ≡ is_wanted image names areas area.now)) }
+{
+    let start = u64::from(area.area.offset);
+    let size = u64::from(area.area.size);
+    let Some(region) = Region::within(start, size, paged.len()) else {
+        return Ok(false);
+    };
+    if expected.contains(area) {
+        return Ok(true);
+    }
+    if starts.has_smaller(area) {
+        return Ok(false);
+    }
+    starts_with_entry(paged, region)
+}

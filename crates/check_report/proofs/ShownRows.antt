@@ -1,0 +1,46 @@
+-- A row that is not shown is like one that is.
+use Rattle.std.proofs.Common.{◌≡◌, ◌∙◌, ℕ, ◌<◌, nat_lt, List, [], ◌∷◌, ◌++◌, Bool, true, false, refl, arith}
+use Rattle.std.specs.Prelude.{◌||◌, count_by}
+use Rattle.std.specs.List.{list_any}
+use Rattle.std.proofs.lemmas.List.Folds.{list_any-append}
+use Rattle.check_report.specs.declared.rows.row.Verdict.{Verdict}
+use Rattle.check_report.specs.declared.rows.row.Verdict.TheVariants.{Bad, Remark, Change}
+use Rattle.check_report.specs.Rows.Rows.{SeenRow, is_bad_row, is_verdict, row_if}
+use Rattle.check_report.specs.Rows.Limits.{first_rows, is_like, row_within, shown_rows}
+
+same : (v w : Verdict) → is_verdict v w ≡ true → is_verdict Bad v ≡ is_verdict Bad w
+same Bad Bad is = refl
+same Remark Remark is = refl
+same Change Change is = refl
+same Bad Remark is = grind arith
+same Bad Change is = grind arith
+same Remark Bad is = grind arith
+same Remark Change is = refl
+same Change Bad is = grind arith
+same Change Remark is = refl
+
+-- where rows like a bad one are there, one is bad
+like_bad : (row : SeenRow) (rows : List SeenRow) → 0 < count_by (is_like row) rows → is_bad_row row ≡ true → list_any is_bad_row rows ≡ true
+like_bad row [] some bad = grind arith
+like_bad row (r ∷ rs) some bad = go (is_like row r) refl (like_bad row rs)
+  where
+    go : (b : Bool) → is_like row r ≡ b → (0 < count_by (is_like row) rs → is_bad_row row ≡ true → list_any is_bad_row rs ≡ true) → list_any is_bad_row (r ∷ rs) ≡ true
+    go true is later = grind (arith, same row.verdict r.verdict, bad, is)
+    go false is later = grind (arith, later, bad, is, some)
+
+step : (most : ℕ) (shown : List SeenRow) (row : SeenRow) → 0 < most
+    → list_any is_bad_row (shown ++ row_within most shown row) ≡ (list_any is_bad_row shown || is_bad_row row)
+step most shown row some = go (nat_lt (count_by (is_like row) shown) most) refl
+  where
+    go : (b : Bool) → nat_lt (count_by (is_like row) shown) most ≡ b → list_any is_bad_row (shown ++ row_if b row) ≡ (list_any is_bad_row shown || is_bad_row row)
+    go true is = rw (list_any-append is_bad_row shown (row ∷ [])) (grind arith)
+    go false is = grind (arith, like_bad row shown, list_any-append is_bad_row shown [], is, some)
+
+bad_first : (most : ℕ) (shown rows : List SeenRow) → 0 < most → list_any is_bad_row (first_rows most shown rows) ≡ (list_any is_bad_row shown || list_any is_bad_row rows)
+unfolding first_rows
+bad_first most shown [] some = grind arith
+bad_first most shown (row ∷ rows) some =
+    bad_first most (shown ++ row_within most shown row) rows some ∙ rw (step most shown row some) (grind arith)
+
+pub bad_shown : (rows : List SeenRow) → list_any is_bad_row (shown_rows rows) ≡ list_any is_bad_row rows
+bad_shown rows = bad_first 16 [] rows (grind arith)

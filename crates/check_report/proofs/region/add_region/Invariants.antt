@@ -1,0 +1,9 @@
+use Rattle.std.proofs.Common.{Ok, take}
+use Rattle.std.specs.List.{flat_map}
+use Rattle.check_report.specs.Rows.Rows.{Adds}
+use Rattle.check_report.specs.FindingRows.{region_rows}
+use Rattle.check_report.proofs.region.add_region.Given as goal
+
+abbrev pub invariant-loop-finding : goal.invariant-loop-finding
+invariant-loop-finding l = Adds (Ok tt) l.initial.rows.items l.rows.items
+    (flat_map (region_rows l.asked l.region) (take l.finding-index l.findings))

@@ -1,0 +1,55 @@
+//! The rows of the components that an image must have.
+ghost use Rattle.std.specs.Prelude.{◌≡◌, map, IfOk, OnOk};
+ghost use Rattle.std.specs.List.{flat_map};
+ghost use Rattle.check_findings.specs.Image.Needs.{wish_of};
+ghost use Rattle.check_report.specs.Rows.Rows.{Adds, seen_row};
+ghost use Rattle.check_report.specs.FindingRows as of;
+
+use crate::rows::{Detail, Row, Verdict, add, area_row};
+use check_findings::{ImageFinding, Need, NeedFinding, unmet};
+use std::alloc::{AllocError, Global};
+
+fn need_row<'a>(need: &Need<'a>, finding: NeedFinding) -> Row<'a>
+    ensures { seen_row result ≡ of.need_row (wish_of need.now) finding }
+{
+    let (position, code, what) = match finding {
+        NeedFinding::Missing => (None, "need-missing", "needed component isn't there"),
+        NeedFinding::Elsewhere(at) => {
+            (Some(at), "need-elsewhere", "needed component is elsewhere")
+        }
+    };
+    Row {
+        component: Some(need.name),
+        detail: Detail::None,
+        ..area_row(Verdict::Bad, need.area, position, code, what)
+    }
+}
+
+/// Adds a row if the findings don't meet the need.
+fn add_need<'a>(
+    rows: &mut Vec<Row<'a>>,
+    findings: &[ImageFinding],
+    need: &Need<'a>,
+) -> Result<(), AllocError>
+    ensures { Adds result rows.old.items rows.new.items (of.need_rows findings.now (wish_of need.now)) }
+{
+    match unmet(findings, *need) {
+        Some(finding) => add(rows, need_row(need, finding)),
+        None => Ok(()),
+    }
+}
+
+/// Adds a row for each need that the findings don't meet.
+pub fn add_needs<'a>(
+    rows: &mut Vec<Row<'a>>,
+    findings: &[ImageFinding],
+    needs: &[Need<'a>],
+) -> Result<(), AllocError>
+    ensures { Adds result rows.old.items rows.new.items
+        (flat_map (of.need_rows findings.now) (map wish_of needs.now)) }
+{
+    for need in needs {
+        add_need(rows, findings, need)?;
+    }
+    Ok(())
+}
