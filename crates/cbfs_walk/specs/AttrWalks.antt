@@ -1,5 +1,4 @@
--- A walk from attribute to attribute of a component; what a list of attributes has at its start, as the program has it, and
--- the first attribute with a tag.
+-- Attribute lists of components.
 use Rattle.std.specs.Prelude.{ℕ, ◌+◌, ◌-◌, ◌/◌, ◌≤◌, ◌≡◌, false, min, List, length, drop, slice_get, slice_range, Option, Some, None, Result, Ok, Err, option_map, zero, suc, pred, [], ◌∷◌, ⊤, ◌==◌, if◌then◌else◌}
 use Rattle.flash_format.specs.declared.attribute.AttrHead.{AttrHead}
 use Rattle.flash_format.specs.Entry.{Attribute, attributes, is_unused, least_len, attr_head_of, ends_list, is_malformed, name_end}
@@ -11,41 +10,40 @@ use Rattle.flash_format.specs.Head.{be32}
 use Rattle.cbfs_walk.specs.declared.attribute_walk.Listed.{Listed}
 use Rattle.cbfs_walk.specs.declared.attribute_walk.Listed.TheVariants as listed
 
--- what contracts see of such a walk: the component's cell, and where it stands, counted from the cell's begin
+-- the contract state of a walk: the component's cell, and the position in the cell
 pub record AttrWalking : Type 0 where
   pub cell : Cell
   pub at : ℕ
 
--- the same, counted from the region's start
 abbrev pub place_in_region : AttrWalking → ℕ
 place_in_region w = w.cell.at + w.at
 
--- the attributes begin after the name, and never after the content's begin
+-- the attributes begin after the name, and never after the start of the content
 abbrev pub attr_walk_of : Cell → AttrWalking
 attr_walk_of c = record { cell = c; at = min (name_end c.head) c.head.offset }
 
--- an attribute goes on, a device's fault changes nothing, and None ends the walk at the content
+-- an attribute moves the walk, a device fault doesn't, and None ends the walk at the content
 abbrev pub attr_moved : AttrWalking → Result (Option AttrHead) FlashFault → AttrWalking
 attr_moved w (Ok (Some h)) = record w { at = w.at + h.len }
 attr_moved w (Ok None) = record w { at = w.cell.head.offset }
 attr_moved w (Err fault) = w
 
--- an attribute at a place that has its least length and ends at or before an end
+-- an attribute at a position has its least length, and ends at or before `end`
 pub record IsAttrIn (at end : ℕ) (h : AttrHead) : Type 0 where
   pub used : is_unused h.tag ≡ false
   pub head : 8 ≤ h.len
   pub least : least_len h.tag ≤ h.len
   pub inside : at + h.len ≤ end
 
--- one call at most, and none where fewer than eight bytes are left
+-- at most one call, and no call if fewer than eight bytes remain
 abbrev pub attr_reads : AttrWalking → ℕ
 attr_reads w = min 1 ((w.cell.head.offset - w.at) / 8)
 
--- the attributes that are left, in a region of these bytes, or None where one of them is malformed
+-- the remaining attributes, or None if an attribute is malformed
 abbrev pub attributes_left : List ℕ → AttrWalking → Option (List Attribute)
 attributes_left x w = attributes (slice_range x (place_in_region w) (content_start w.cell))
 
--- the head of an attribute, whose length counts its own eight bytes
+-- the length includes the eight bytes of the head
 abbrev pub head_of_attribute : Attribute → AttrHead
 head_of_attribute a = record { tag = a.tag; len = 8 + length a.contents }
 
@@ -56,49 +54,53 @@ abbrev pub after_first : List Attribute → List Attribute
 after_first all = drop 1 all
 
 abbrev pub listed_in : List ℕ → Listed
-listed_in x = if ends_list x then listed.End else (if is_malformed x then listed.Malformed else listed.Attribute (attr_head_of x))
+listed_in x =
+    if ends_list x then listed.End
+    else (if is_malformed x then listed.Malformed else listed.Attribute (attr_head_of x))
 
--- an attribute at a place lies before the list's end
+-- an attribute ends at or before `end`
 abbrev pub IsListedIn : ℕ → ℕ → Listed → Type 0
 IsListedIn at end (listed.Attribute h) = IsAttrIn at end h
 IsListedIn at end _ = ⊤
 
 -- ---- the first attribute with a tag
 
--- an attribute: its place, counted from the region's start, and its head
+-- an attribute: its position in the region, and its head
 abbrev pub Placed : Type 0
 Placed = ℕ × AttrHead
 
--- the attribute at a place where it has the tag, and else what the list gives that follows after so many bytes
+-- the attribute if its tag matches; otherwise the result after its length
 abbrev pub by_tag : ℕ → ℕ → Listed → (ℕ → Option Placed) → Option Placed
 by_tag tag at (listed.Attribute h) later = if h.tag == tag then Some (at, h) else later h.len
 by_tag tag at _ later = None
 
--- the first with a tag, in bytes of which the first `skip` still belong to the attribute before
+-- the first attribute with a tag, in bytes after the first `skip`, which belong to the previous
+-- attribute
 unfoldable pub first_after : ℕ → ℕ → ℕ → List ℕ → Option Placed
 first_after skip tag at [] = None
 first_after (suc skip) tag at (b ∷ rest) = first_after skip tag (at + 1) rest
-first_after zero tag at (b ∷ rest) = by_tag tag at (listed_in (b ∷ rest)) (λ len. first_after (pred len) tag (at + 1) rest)
+first_after zero tag at (b ∷ rest) =
+    by_tag tag at (listed_in (b ∷ rest)) (λ len. first_after (pred len) tag (at + 1) rest)
 
--- the same of a list, up to its end or to a malformed attribute
+-- the first attribute with a tag before the end of the list or a malformed attribute
 abbrev pub first_in : ℕ → ℕ → List ℕ → Option Placed
 first_in tag at x = first_after 0 tag at x
 
--- the same of a component in a region of these bytes
 abbrev pub first_of : List ℕ → Cell → ℕ → Option Placed
-first_of x c tag = first_in tag (attributes_start c) (slice_range x (attributes_start c) (content_start c))
+first_of x c tag =
+    first_in tag (attributes_start c) (slice_range x (attributes_start c) (content_start c))
 
--- an attribute with this tag that lies between a component's name and its content
+-- an attribute with a tag, between a component's name and its content
 pub record IsAttrOf (c : Cell) (tag : ℕ) (found : Placed) : Type 0 where
   pub low : attributes_start c ≤ found.0
   pub attribute : IsAttrIn found.0 (content_start c) found.1
   pub has : found.1.tag ≡ tag
 
--- the place up to which a search for an attribute reads: that of the attribute, or the content
+-- the end of the reads in a search for an attribute: the attribute, or the content
 abbrev pub searched_to : Cell → Result (Option Placed) FlashFault → ℕ
 searched_to c (Ok (Some found)) = found.0
 searched_to c _ = content_start c
 
--- the value that stands first in the data of an attribute, 0 without one
+-- the first value in an attribute's data, or 0 without an attribute
 abbrev pub value_in : List ℕ → Option Placed → ℕ
 value_in x found = option_map_or (λ (it : Placed). be32 (it.0 + 8) x) found 0

@@ -1,24 +1,23 @@
--- A cell of a region as a walk gives it: its place, its head and its length.
+-- A cell from a walk: its position in the region, its head and its length.
 use Rattle.std.specs.Prelude.{◌≡◌, ℕ, ◌+◌, ◌-◌, ◌%◌, ◌≤◌, false, List, slice_range, Ok}
 use Rattle.flash_format.specs.declared.head.Head.{Head}
 use Rattle.flash_format.specs.Head.{extent_of, is_free}
 use Rattle.flash_format.specs.Entry.{name_end}
 use Rattle.cbfs_walk.specs.declared.cell.Cell.{Cell}
 
--- a head passes its checks with so many bytes left, and its cell has this span
+-- the head passes its checks with `left` bytes, and its cell has the given length
 abbrev pub IsChecked : ℕ → Head → ℕ → Type 0
 IsChecked left head span = extent_of head left ≡ Ok (record { content = head.offset; span = span })
 
--- the head of a cell passes its checks where the cell stands in a region of this size, and it has that span
+-- the head passes its checks in a region of the given size, and the length is correct
 abbrev pub PassesChecks : ℕ → Cell → Type 0
 PassesChecks size c = IsChecked (size - c.at) c.head c.span
 
--- the same of a component
 pub record IsComponentIn (size : ℕ) (c : Cell) : Type 0 where
   pub checks : PassesChecks size c
   pub used : is_free c.head ≡ false
 
--- a cell that lies in a region of this size, and its content in the cell
+-- a cell and its content lie in a region of the given size
 pub record IsCellIn (size : ℕ) (c : Cell) : Type 0 where
   pub aligned : c.at % 64 ≡ 0
   pub positive : 64 ≤ c.span
@@ -27,7 +26,7 @@ pub record IsCellIn (size : ℕ) (c : Cell) : Type 0 where
   pub content : c.head.offset + c.head.len ≤ c.span
   pub checks : PassesChecks size c
 
--- where its attributes begin, where its content begins, and where it ends, counted from the region's start
+-- the start of the attributes, and the start and end of the content, in the region
 abbrev pub attributes_start : Cell → ℕ
 attributes_start c = c.at + name_end c.head
 
@@ -37,6 +36,5 @@ content_start c = c.at + c.head.offset
 abbrev pub content_end : Cell → ℕ
 content_end c = c.at + (c.head.offset + c.head.len)
 
--- the bytes of a cell, of all those of its region
 abbrev pub cell_in : List ℕ → Cell → List ℕ
 cell_in x c = slice_range x c.at (c.at + c.span)

@@ -1,7 +1,6 @@
--- The digest that a component's hash attribute has of its content.
--- The attribute is coreboot's `struct cbfs_file_attr_hash`: a number of an algorithm, big-endian, and the digest. The
--- numbers are those of vboot's `enum vb2_hash_algorithm`, and the digests those of FIPS 180-4. Which algorithms are
--- supported, and which lengths of the attribute are accepted, is this project's own.
+-- Digests in hash attributes (`struct cbfs_file_attr_hash`): an algorithm, big-endian, of vboot's
+-- `enum vb2_hash_algorithm`, and a digest of FIPS 180-4. This project's rules: the supported
+-- algorithms, and the accepted attribute lengths.
 use Rattle.std.specs.Prelude.{ℕ, ◌+◌, List, length, slice_range, Option, Some, None, nat_lt, if◌then◌else◌, ⊤}
 use Rattle.std.specs.Option.{option_and_then, option_map, option_map_or}
 use Rattle.std.specs.Str.{bytes_eq}
@@ -21,57 +20,58 @@ use Rattle.cbfs_walk.specs.AttrWalks.{Placed, first_of}
 
 -- ---- digests
 
--- the digests of bytes, each under a name of its own, so that no goal opens the standard's definitions
+-- the digests of bytes; the separate names prevent unfolding of the standard's definitions in
+-- proofs
 unfoldable pub sha256_of : List ℕ → Digest
 sha256_of bytes = Sha256 (sha256 bytes)
 
 unfoldable pub sha512_of : List ℕ → Digest
 sha512_of bytes = Sha512 (sha512 bytes)
 
--- the digest of bytes by the algorithm of another digest
+-- the digest of bytes with the algorithm of another digest
 abbrev pub digest_like : Digest → List ℕ → Digest
 digest_like (Sha256 other) bytes = sha256_of bytes
 digest_like (Sha512 other) bytes = sha512_of bytes
 
--- ---- what a hash attribute says
+-- ---- the state of a hash attribute
 
--- the digest by an algorithm, after its number, where all of it is there
+-- the digest after the algorithm's number, if complete
 abbrev pub digest_by : List ℕ → Algorithm → Option Digest
 digest_by contents algorithm =
     let end = 4 + (algorithm_row algorithm).len in
-    if nat_lt (length contents) end then None else Some (digest_with algorithm (slice_range contents 4 end))
+    if nat_lt (length contents) end then None
+    else Some (digest_with algorithm (slice_range contents 4 end))
 
--- the digest in the data of a hash attribute
 unfoldable pub stored_digest : List ℕ → Option Digest
 stored_digest contents = option_and_then (digest_by contents) (algorithm_numbered (be32 0 contents))
 
--- a stored digest, and the digest of the content
 abbrev pub comparison : Digest → Digest → HashState
-comparison stored computed = if bytes_eq (digest_bytes stored) (digest_bytes computed) then Valid stored else Invalid stored
+comparison stored computed =
+    if bytes_eq (digest_bytes stored) (digest_bytes computed) then Valid stored else Invalid stored
 
--- content beside the digest that is stored of it in the data of a hash attribute, where there is one
+-- the content's state, given the data of a hash attribute, if present
 abbrev pub state_of : Option (List ℕ) → List ℕ → HashState
 state_of None content = Absent
-state_of (Some contents) content = option_map_or (λ stored. comparison stored (digest_like stored content)) (stored_digest contents) Unsupported
+state_of (Some contents) content =
+    option_map_or (λ stored. comparison stored (digest_like stored content))
+    (stored_digest contents) Unsupported
 
--- what the first hash attribute among a component's attributes says of its content, as it is stored
+-- the state of the stored content with the component's first hash attribute
 abbrev pub hash_state : List Attribute → List ℕ → HashState
 hash_state all content = state_of (data_of HASH all) content
 
--- ---- the same of a component in a region
+-- ---- in a region
 
--- the data of an attribute
 abbrev pub data_at : List ℕ → Placed → List ℕ
 data_at x found = slice_range x (found.0 + 8) (found.0 + found.1.len)
 
 abbrev pub content_at : List ℕ → Cell → List ℕ
 content_at x c = slice_range x (content_start c) (content_end c)
 
--- what the first hash attribute of a component says of its content, in a region of these bytes
 abbrev pub hash_state_in : List ℕ → Cell → HashState
 hash_state_in x c = state_of (option_map (data_at x) (first_of x c HASH)) (content_at x c)
 
--- a state that is told without a look at the content
+-- a state without a comparison of the content
 abbrev pub IsUncompared : HashState → Type 0
 IsUncompared (Valid digest) = ⊥
 IsUncompared (Invalid digest) = ⊥

@@ -1,4 +1,4 @@
--- The laws by which callers go on from what a walk gives.
+-- The laws for callers of a walk.
 use Rattle.std.specs.Prelude.{◌≡◌, ℕ, ◌+◌, ◌%◌, ◌≤◌, Contains, List, [], ◌∷◌, length, drop, slice_range, Some, None, Ok, Err, IsTrue}
 use Rattle.flash_format.specs.Head.{head_of}
 use Rattle.flash_format.specs.Entry.{entry, absent}
@@ -15,45 +15,59 @@ use Rattle.cbfs_walk.specs.declared.walk.Step.TheVariants as steps
 use Rattle.cbfs_walk.specs.declared.walk.WalkFault.{WalkFault}
 use Rattle.cbfs_walk.specs.declared.walk.WalkFault.TheVariants as faults
 
--- how a region's cut goes on from a place, where a walk gives this answer
+-- the next part of a region's cut at a position, given a walk's result
 abbrev pub GoesOn : List ℕ → ℕ → Answer → Type 0
-GoesOn x at (Ok (steps.Cell c)) = (c.at ≡ at) × (cut (drop at x) ≡ after (cell_in x c ∷ []) (cut (drop (at + c.span) x)))
+GoesOn x at (Ok (steps.Cell c)) =
+    (c.at ≡ at) × (cut (drop at x) ≡ after (cell_in x c ∷ []) (cut (drop (at + c.span) x)))
 GoesOn x at (Ok steps.End) = (at ≡ length x) × (cut (drop at x) ≡ ends complete)
 GoesOn x at (Ok (steps.Tail place)) = (place ≡ at) × (cut (drop at x) ≡ ends tail)
-GoesOn x at (Err (faults.Damaged place kind)) = (place ≡ at) × (cut (drop at x) ≡ ends (damage kind))
+GoesOn x at (Err (faults.Damaged place kind)) =
+    (place ≡ at) × (cut (drop at x) ≡ ends (damage kind))
 GoesOn x at (Err faults.RegionShape) = IsTrue (has_bad_size (length x))
 GoesOn x at (Err faults.NotCbfs) = (at ≡ 0) × (entry x ≡ absent)
 GoesOn x at (Err faults.Device) = ⊥
 
--- what a walk answers at a place is how the cut goes on there
+-- a walk's result is the next part of the cut
 abbrev pub WalksFollowTheCut : Type 0
-WalksFollowTheCut = (x : List ℕ) (at : ℕ) → at ≤ length x → at % 64 ≡ 0 → GoesOn x at (answer_at x at)
+WalksFollowTheCut =
+    (x : List ℕ) (at : ℕ) → at ≤ length x → at % 64 ≡ 0 → GoesOn x at (answer_at x at)
 
--- a reading that goes from cell to cell goes on by what a walk answers
+-- a function of a cut, defined cell by cell, follows a walk's results
 abbrev pub ReadingsTakeSteps : Type 0 → Type 0
-ReadingsTakeSteps A = (refuse : WalkFault → A) (read : ℕ → Cut → A) (each : List ℕ → Cell → A → A) → ReadsCells read each
-    → (x : List ℕ) (at : ℕ) → at ≤ length x → at % 64 ≡ 0 → reading_of refuse read x at ≡ by_answer refuse read each x (answer_at x at)
+ReadingsTakeSteps A =
+    (refuse : WalkFault → A) (read : ℕ → Cut → A) (each : List ℕ → Cell → A → A)
+    → ReadsCells read each
+    → (x : List ℕ) (at : ℕ) → at ≤ length x → at % 64 ≡ 0
+    → reading_of refuse read x at ≡ by_answer refuse read each x (answer_at x at)
 
--- what is known of the bytes of a cell that stands in a region
 pub record CellBytes (region : Range) (image : List ℕ) (c : Cell) : Type 0 where
   pub head : head_of (cell_in (bytes_in region image) c) ≡ c.head
   pub span : length (cell_in (bytes_in region image) c) ≡ c.span
   pub content : cell_content (cell_in (bytes_in region image) c)
-      ≡ slice_range image (region.start + c.at + c.head.offset) (region.start + c.at + c.head.offset + c.head.len)
+      ≡ slice_range image (region.start + c.at + c.head.offset)
+      (region.start + c.at + c.head.offset + c.head.len)
 
 -- a cell of a region, its head and its content are parts of the image
 abbrev pub CellsStandInTheirImage : Type 0
-CellsStandInTheirImage = (region : Range) (image : List ℕ) (c : Cell) → LiesIn region image → IsCellIn region.size c → StandsIn (bytes_in region image) c
+CellsStandInTheirImage =
+    (region : Range) (image : List ℕ) (c : Cell) → LiesIn region image → IsCellIn region.size c
+    → StandsIn (bytes_in region image) c
     → CellBytes region image c
 
--- what is found is in the list, the first of its name
+-- a search returns the first component with the name
 abbrev pub FoundIsFirst : Type 0
-FoundIsFirst = (x name : List ℕ) (c : Component) → component_in x name ≡ Ok (Some c) → IsFirstOf name (components x) c
+FoundIsFirst =
+    (x name : List ℕ) (c : Component) → component_in x name ≡ Ok (Some c)
+    → IsFirstOf name (components x) c
 
--- in a region of a good shape the first of a name is what is found
+-- in a region of valid shape, a search finds the first component with the name
 abbrev pub FirstIsFound : Type 0
-FirstIsFound = (x name : List ℕ) (c : Component) → shape_fault x ≡ None → IsFirstOf name (components x) c → component_in x name ≡ Ok (Some c)
+FirstIsFound =
+    (x name : List ℕ) (c : Component) → shape_fault x ≡ None → IsFirstOf name (components x) c
+    → component_in x name ≡ Ok (Some c)
 
--- and for each component of the list some component of its name is found
+-- for each component in the list, a search finds a component of equal name
 abbrev pub ListedIsFound : Type 0
-ListedIsFound = (x : List ℕ) (c : Component) → shape_fault x ≡ None → Contains (components x) c → (d : Component) × (component_in x c.name ≡ Ok (Some d))
+ListedIsFound =
+    (x : List ℕ) (c : Component) → shape_fault x ≡ None → Contains (components x) c
+    → (d : Component) × (component_in x c.name ≡ Ok (Some d))

@@ -1,4 +1,4 @@
--- What is read of a region by going from cell to cell.
+-- Functions of a region, computed cell by cell.
 use Rattle.std.specs.Prelude.{◌≡◌, ℕ, ◌+◌, List, [], ◌∷◌, length, drop, Ok, Err}
 use Rattle.flash_format.specs.Head.{head_of}
 use Rattle.flash_format.specs.Cut.{Cut, complete, tail, damage, ends, after, cut}
@@ -10,22 +10,27 @@ use Rattle.cbfs_walk.specs.declared.walk.Step.TheVariants as steps
 use Rattle.cbfs_walk.specs.declared.walk.WalkFault.{WalkFault}
 use Rattle.cbfs_walk.specs.declared.walk.WalkFault.TheVariants as faults
 
--- the place after cells of which the first stands at a place
+-- the position after cells, given the position of the first
 abbrev pub place_after : ℕ → List (List ℕ) → ℕ
 place_after at [] = at
 place_after at (x ∷ cells) = place_after (at + length x) cells
 
--- a reading of the cut from a place on, where the region has a good size and an entry at its start
+-- a function of the cut from a position on, if the region has a valid size and an entry at its
+-- start
 unfoldable pub reading_of : {A : Type 0} → (WalkFault → A) → (ℕ → Cut → A) → List ℕ → ℕ → A
 reading_of refuse read x at = refused_or refuse (shape_fault_at x at) (read at (cut (drop at x)))
 
--- a reading goes from cell to cell
+-- the function is defined cell by cell
 abbrev pub ReadsCells : {A : Type 0} → (ℕ → Cut → A) → (List ℕ → Cell → A → A) → Type 0
-ReadsCells read each = (at : ℕ) (c : List ℕ) (k : Cut) → read at (after (c ∷ []) k) ≡ each c (record { at = at; head = head_of c; span = length c }) (read (at + length c) k)
+ReadsCells read each =
+    (at : ℕ) (c : List ℕ) (k : Cut)
+    → read at (after (c ∷ []) k)
+    ≡ each c (record { at = at; head = head_of c; span = length c }) (read (at + length c) k)
 
--- what is read, by the answer of a walk
-abbrev pub by_answer : {A : Type 0} → (WalkFault → A) → (ℕ → Cut → A) → (List ℕ → Cell → A → A) → List ℕ → Answer → A
-by_answer refuse read each x (Ok (steps.Cell c)) = each (cell_in x c) c (reading_of refuse read x (c.at + c.span))
+abbrev pub by_answer : {A : Type 0} → (WalkFault → A) → (ℕ → Cut → A) → (List ℕ → Cell → A → A)
+    → List ℕ → Answer → A
+by_answer refuse read each x (Ok (steps.Cell c)) =
+    each (cell_in x c) c (reading_of refuse read x (c.at + c.span))
 by_answer refuse read each x (Ok steps.End) = read (length x) (ends complete)
 by_answer refuse read each x (Ok (steps.Tail at)) = read at (ends tail)
 by_answer refuse read each x (Err (faults.Damaged at kind)) = read at (ends (damage kind))

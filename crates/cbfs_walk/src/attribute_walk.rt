@@ -1,4 +1,5 @@
-//! The attributes of a component.
+//! Attributes of components. In a cell from another source than a walk, a malformed attribute ends
+//! the list.
 ghost use Rattle.std.specs.Prelude.{◌≡◌, ℕ, ◌+◌, ◌-◌, ◌/◌, ◌≤◌, min, false, List, slice_range, IfOk, IfSome, Some, None, is_some};
 ghost use Rattle.flash_format.specs.Head.{is_free, be32};
 ghost use Rattle.flash_format.specs.Entry.{Attribute, attributes, COMPRESSION, name_end};
@@ -17,7 +18,7 @@ use flash_device::{Flash, FlashFault, Paged, Region};
 use flash_format::AttrHead;
 use std::marker::Model;
 
-/// A walk from attribute to attribute of a component.
+/// A walk over a component's attributes.
 #[derive(Drop)]
 pub struct AttrWalk {
     cell: Cell,
@@ -35,11 +36,11 @@ impl Model for AttrWalk {
     ghost invariant = { λ w. w.at ≤ w.cell.head.offset };
 }
 
-/// The attributes of a component's cell.
+/// Returns a walk over the attributes of a component's cell.
 pub fn attributes(cell: &Cell) -> AttrWalk
     ensures start { result ≡ attr_walk_of cell.now }
-    ensures all { (x : List ℕ) → StandsIn x cell.now → is_free cell.now.head ≡ false →
-        attributes_left x result ≡ Some (cell_attributes (cell_in x cell.now)) }
+    ensures all { (x : List ℕ) → StandsIn x cell.now → is_free cell.now.head ≡ false
+        → attributes_left x result ≡ Some (cell_attributes (cell_in x cell.now)) }
 {
     AttrWalk {
         cell: *cell,
@@ -48,8 +49,8 @@ pub fn attributes(cell: &Cell) -> AttrWalk
 }
 
 impl AttrWalk {
-    /// The head of the next attribute, or `None` at the end of the list; where a cell's bytes aren't those that a
-    /// walk gave, a malformed attribute ends the list too. After a fault it stands where it stood.
+    /// Returns the head of the next attribute, or `None` at the end of the list. A fault doesn't
+    /// move the walk.
     pub fn next<F: Flash>(
         &mut self,
         paged: &mut Paged<F>,
@@ -58,21 +59,22 @@ impl AttrWalk {
         requires region { LiesIn region (F.facts paged.old.device).content }
         requires inside { self.old.cell.at + self.old.cell.head.offset ≤ region.size }
 
-        // On any device.
         ensures after { HasAnswered F.facts (attr_reads self.old) paged.old paged.new result }
-        ensures passes { HasPassed F.facts region (place_in_region self.old) (place_in_region self.old) paged.old paged.new result }
+        ensures passes { HasPassed F.facts region (place_in_region self.old)
+            (place_in_region self.old) paged.old paged.new result }
         ensures attribute { IfOk result (λ found. IfSome found (λ head.
             IsAttrIn self.old.at self.old.cell.head.offset head)) }
         ensures moved { self.new ≡ attr_moved self.old result }
         ensures ended { self.old.at ≡ self.old.cell.head.offset → result ≡ Ok None }
         ensures no_call { self.old.at ≡ self.old.cell.head.offset → paged.new ≡ paged.old }
 
-        // On an honest device, among attributes that are well formed.
-        ensures head { OnHonestIn F.facts paged.old.device region (λ x. (all : List Attribute) →
-            attributes_left x self.old ≡ Some all → IfOk result (λ found. found ≡ first_head all)) }
-        ensures rest { OnHonestIn F.facts paged.old.device region (λ x. (all : List Attribute) →
-            attributes_left x self.old ≡ Some all →
-            IfOk result (λ _. attributes_left x self.new ≡ Some (after_first all))) }
+        // On an honest device, among well-formed attributes.
+        ensures head { OnHonestIn F.facts paged.old.device region (λ x. (all : List Attribute)
+            → attributes_left x self.old ≡ Some all
+            → IfOk result (λ found. found ≡ first_head all)) }
+        ensures rest { OnHonestIn F.facts paged.old.device region (λ x. (all : List Attribute)
+            → attributes_left x self.old ≡ Some all
+            → IfOk result (λ _. attributes_left x self.new ≡ Some (after_first all))) }
     {
         paged.places_fit();
         let at = self.cell.at + u64::from(self.at);
@@ -90,8 +92,8 @@ impl AttrWalk {
     }
 }
 
-/// The value of a component's first compression attribute, 0 without one. In a cell that a walk gave every attribute
-/// is well formed; in another a malformed one ends the list.
+/// Returns the value of a component's first compression attribute, or 0 without a compression
+/// attribute.
 pub fn packing<F: Flash>(
     paged: &mut Paged<F>,
     region: Region,
@@ -100,12 +102,14 @@ pub fn packing<F: Flash>(
     requires region { LiesIn region (F.facts paged.old.device).content }
     requires component { IsComponentIn region.size cell.now }
 
-    // On any device.
-    ensures after { HasAnswered F.facts (reads_over cell.now.head.offset) paged.old paged.new result }
+    ensures after { HasAnswered F.facts (reads_over cell.now.head.offset) paged.old
+        paged.new result }
 
-    // On an honest device: in any cell, and in one that stands in the region.
-    ensures value { ReadsAs F.facts paged.old region result (λ x. value_in x (first_of x cell.now COMPRESSION)) }
-    ensures packing { ReadsCellAs F.facts paged.old region cell.now result (λ x. packing (cell_attributes x)) }
+    // On an honest device: in any cell, and in a cell of the region.
+    ensures value { ReadsAs F.facts paged.old region result
+        (λ x. value_in x (first_of x cell.now COMPRESSION)) }
+    ensures packing { ReadsCellAs F.facts paged.old region cell.now result
+        (λ x. packing (cell_attributes x)) }
 {
     paged.places_fit();
     content_fits(cell, region);
@@ -115,8 +119,8 @@ pub fn packing<F: Flash>(
     }
 }
 
-/// The place, counted from the region's start, and the head of a component's first attribute with this tag; `None`
-/// where the list ends or is malformed before one.
+/// Returns the position in the region and the head of a component's first attribute with the given
+/// tag, or `None` if the list ends or is malformed first.
 pub fn first_attribute<F: Flash>(
     paged: &mut Paged<F>,
     region: Region,
@@ -126,8 +130,8 @@ pub fn first_attribute<F: Flash>(
     requires region { LiesIn region (F.facts paged.old.device).content }
     requires component { IsComponentIn region.size cell.now }
 
-    ensures passes { HasPassed F.facts region (attributes_start cell.now) (searched_to cell.now result)
-        paged.old paged.new result }
+    ensures passes { HasPassed F.facts region (attributes_start cell.now)
+        (searched_to cell.now result) paged.old paged.new result }
     ensures attribute { IfOk result (λ found. IfSome found (IsAttrOf cell.now tag)) }
     ensures first { ReadsAs F.facts paged.old region result (λ x. first_of x cell.now tag) }
 {
@@ -148,7 +152,7 @@ pub fn first_attribute<F: Flash>(
     }
 }
 
-/// Whether every attribute between two places is well formed.
+/// Returns true if every attribute between two positions is well formed.
 pub fn are_well_formed<F: Flash>(
     paged: &mut Paged<F>,
     region: Region,
@@ -160,7 +164,8 @@ pub fn are_well_formed<F: Flash>(
     requires inside { end ≤ region.size }
 
     ensures passes { HasPassed F.facts region from end paged.old paged.new result }
-    ensures formed { ReadsAs F.facts paged.old region result (λ x. is_some (attributes (slice_range x from end))) }
+    ensures formed { ReadsAs F.facts paged.old region result
+        (λ x. is_some (attributes (slice_range x from end))) }
 {
     paged.places_fit();
     let mut at = from;
@@ -173,7 +178,6 @@ pub fn are_well_formed<F: Flash>(
     }
 }
 
-/// What a list of attributes has at a place.
 #[derive(Clone, Copy)]
 enum Listed {
     Attribute(AttrHead),
@@ -181,7 +185,6 @@ enum Listed {
     Malformed,
 }
 
-/// What stands at a place of a list of attributes that ends by `end`.
 fn listed_at<F: Flash>(
     paged: &mut Paged<F>,
     region: Region,
@@ -197,7 +200,8 @@ fn listed_at<F: Flash>(
     ensures no_call { at ≡ end → paged.new ≡ paged.old }
     ensures none { at ≡ end → result ≡ Ok Listed.End }
     ensures attribute { IfOk result (λ listed. IsListedIn at end listed) }
-    ensures listed { ReadsAs F.facts paged.old region result (λ x. listed_in (slice_range x at end)) }
+    ensures listed { ReadsAs F.facts paged.old region result
+        (λ x. listed_in (slice_range x at end)) }
 {
     if end - at < 8 {
         return Ok(Listed::End);
@@ -215,7 +219,6 @@ fn listed_at<F: Flash>(
     Ok(Listed::Attribute(head))
 }
 
-/// The big-endian number at a place.
 pub fn value_at<F: Flash>(paged: &mut Paged<F>, region: Region, at: u64) -> Result<u32, FlashFault>
     requires region { LiesIn region (F.facts paged.old.device).content }
     requires inside { at + 4 ≤ region.size }

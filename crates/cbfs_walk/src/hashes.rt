@@ -1,4 +1,4 @@
-//! The digest that a component has of its content.
+//! Digests of component contents.
 ghost use Rattle.std.specs.Prelude.{◌≡◌, ◌+◌, ◌≤◌, slice_range, IfOk};
 ghost use Rattle.flash_format.specs.declared.digest.Digest.TheVariants as digests;
 ghost use Rattle.flash_format.specs.Components.{cell_attributes, cell_content};
@@ -15,25 +15,25 @@ use flash_device::{Flash, FlashFault, Paged, Region};
 use flash_format::{Algorithm, AttrHead, Digest};
 use sha2::{Sha256, Sha512};
 
-/// What the first hash attribute of a component says of its content, as it is stored.
+/// The comparison of the stored content with the digest in a component's first hash attribute.
 #[derive(Clone, Copy, Debug, PartialEq, Eq)]
 pub enum HashState {
     /// The component has no hash attribute.
     Absent,
-    /// The digest of the attribute is the content's.
+    /// The digest equals the content's digest.
     Valid(Digest),
-    /// The digest of the attribute is not the content's.
+    /// The digest differs from the content's digest.
     Invalid(Digest),
-    /// The attribute has an algorithm that is neither SHA-256 nor SHA-512, or is too short for the algorithm's digest.
+    /// The algorithm is neither SHA-256 nor SHA-512, or the attribute is too short for the
+    /// algorithm's digest.
     Unsupported,
 }
 
-/// How many bytes of the content are read at once: no more than a read in order may have, so that the device is called
-/// for each window and not for each piece.
+/// The number of content bytes in a read. Ordered reads of up to 256 bytes need one device call for
+/// each window, not for each read.
 const HASHED_AT_ONCE: u64 = 256;
 
-/// Compares the digest in a component's first hash attribute with that of its content, as it is stored. In a cell that
-/// a walk gave every attribute is well formed; in another a malformed one ends the list.
+/// Compares a component's stored content with the digest in its first hash attribute.
 pub fn check_hash<F: Flash>(
     paged: &mut Paged<F>,
     region: Region,
@@ -42,12 +42,11 @@ pub fn check_hash<F: Flash>(
     requires region { LiesIn region (F.facts paged.old.device).content }
     requires component { IsComponentIn region.size cell.now }
 
-    // On any device.
     ensures after { HasAnswered F.facts (reads_over cell.now.span) paged.old paged.new result }
-    ensures unread { IfOk result (λ state. IsUncompared state →
-        HasRead F.facts (reads_over cell.now.head.offset) 0 paged.old paged.new) }
+    ensures unread { IfOk result (λ state. IsUncompared state
+        → HasRead F.facts (reads_over cell.now.head.offset) 0 paged.old paged.new) }
 
-    // On an honest device: in any cell, and in one that stands in the region.
+    // On an honest device: in any cell, and in a cell of the region.
     ensures value { ReadsAs F.facts paged.old region result (λ x. hash_state_in x cell.now) }
     ensures state { ReadsCellAs F.facts paged.old region cell.now result
         (λ x. hash_state (cell_attributes x) (cell_content x)) }
@@ -66,7 +65,8 @@ pub fn check_hash<F: Flash>(
     }
 }
 
-/// The digest in the n bytes of a hash attribute's data, where it has a known algorithm and is as long.
+/// Reads the digest in n data bytes of a hash attribute. Returns `None` for an unknown algorithm or
+/// a truncated digest.
 fn stored_digest<F: Flash>(
     paged: &mut Paged<F>,
     region: Region,
@@ -78,7 +78,8 @@ fn stored_digest<F: Flash>(
     requires least { 4 ≤ n }
 
     ensures passes { HasPassed F.facts region at (at + n) paged.old paged.new result }
-    ensures stored { ReadsAs F.facts paged.old region result (λ x. stored_digest (slice_range x at (at + n))) }
+    ensures stored { ReadsAs F.facts paged.old region result
+        (λ x. stored_digest (slice_range x at (at + n))) }
 {
     paged.places_fit();
     let number = value_at(paged, region, at)?;
@@ -93,7 +94,6 @@ fn stored_digest<F: Flash>(
     Ok(Some(Digest::read(algorithm, bytes)))
 }
 
-/// The digest of a component's content by the algorithm of a stored one.
 fn content_digest<F: Flash>(
     paged: &mut Paged<F>,
     region: Region,
@@ -103,8 +103,10 @@ fn content_digest<F: Flash>(
     requires region { LiesIn region (F.facts paged.old.device).content }
     requires cell { PassesChecks region.size cell.now }
 
-    ensures passes { HasPassed F.facts region (content_start cell.now) (content_end cell.now) paged.old paged.new result }
-    ensures digest { ReadsAs F.facts paged.old region result (λ x. digest_like stored.now (content_at x cell.now)) }
+    ensures passes { HasPassed F.facts region (content_start cell.now) (content_end cell.now)
+        paged.old paged.new result }
+    ensures digest { ReadsAs F.facts paged.old region result
+        (λ x. digest_like stored.now (content_at x cell.now)) }
 {
     match stored {
         Digest::Sha256(_) => Ok(Digest::Sha256(hash_content::<F, Sha256>(paged, region, cell)?)),
@@ -112,7 +114,6 @@ fn content_digest<F: Flash>(
     }
 }
 
-/// Whether a stored digest is the content's.
 fn comparison(stored: Digest, computed: &Digest) -> HashState
     ensures { result ≡ comparison stored computed.now }
 {
@@ -123,7 +124,6 @@ fn comparison(stored: Digest, computed: &Digest) -> HashState
     }
 }
 
-/// The digest of a component's content, which is read in order, a piece at a time.
 fn hash_content<F: Flash, D: sha2::Digest>(
     paged: &mut Paged<F>,
     region: Region,
@@ -132,7 +132,8 @@ fn hash_content<F: Flash, D: sha2::Digest>(
     requires region { LiesIn region (F.facts paged.old.device).content }
     requires cell { PassesChecks region.size cell.now }
 
-    ensures passes { HasPassed F.facts region (content_start cell.now) (content_end cell.now) paged.old paged.new result }
+    ensures passes { HasPassed F.facts region (content_start cell.now) (content_end cell.now)
+        paged.old paged.new result }
     ensures digest { OnHonestIn F.facts paged.old.device region (λ x.
         IfOk result (D.digest_of (content_at x cell.now))) }
 {

@@ -1,25 +1,26 @@
-//! The laws by which callers go on from what a walk gives. Nothing runs here: a call gives its caller the law.
+//! Laws for callers of a walk. The functions have no code: their contracts are the laws.
 ghost use Rattle.cbfs_walk.specs.Laws.{CellsStandInTheirImage, FirstIsFound, FoundIsFirst, ListedIsFound, ReadingsTakeSteps, WalksFollowTheCut};
 
-/// What a walk answers at a place is how the region's cut goes on there: its next cell, with the cut of what is behind it,
-/// or its end.
+/// Proves that a walk's result at a position is the next part of the region's cut: a cell, with the
+/// cut after the cell, or the end.
 pub fn walks_follow_the_cut()
     ensures { WalksFollowTheCut }
 {}
 
-/// What is read of a cut from its first cell on, as a list of rows or the first component of a name, is read by a loop
-/// over the answers of a walk.
+/// Proves that a loop over a walk's results computes any function of a cut defined from its first
+/// cell on, such as a list of rows or the first component with a name.
 pub fn readings_take_steps<A>()
     ensures { ReadingsTakeSteps A }
 {}
 
-/// Of a cell that stands in a region, its head, its length and its content are those that the image's bytes show.
+/// Proves that the head, length and content of a cell in a region equal the image's bytes.
 pub fn cells_stand_in_their_image()
     ensures { CellsStandInTheirImage }
 {}
 
-/// What a search finds is the first component of the name in the region's list; and where the region's size is good and an
-/// entry stands at its start, that first one is found, and each name in the list is.
+/// Proves that a search returns the first component with the name in the region's list. In a region
+/// with a valid size and an entry at its start, a search also finds the first component of each
+/// name in the list.
 pub fn listed_components_are_found()
     ensures first { FoundIsFirst }
     ensures found { FirstIsFound }

@@ -1,6 +1,6 @@
-//! Walks from cell to cell of a CBFS region on a device, and finds its components.
+//! Walks over the cells of a CBFS region on a device, and the search for components.
 //!
-//! No call takes memory. What a device that isn't honest answers never leads a walk out of its region.
+//! No function allocates memory. No device, even with false results, makes a walk leave its region.
 #![tactic(auto)]
 
 mod attribute_walk;

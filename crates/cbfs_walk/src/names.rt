@@ -1,4 +1,4 @@
-//! The names of components.
+//! Names of components.
 ghost use Rattle.std.specs.Prelude.{◌≡◌, ◌+◌, ◌≤◌, false, length, take, drop, IfOk};
 ghost use Rattle.std.specs.List.{before_first, list_any};
 ghost use Rattle.std.specs.Str.{bytes_eq};
@@ -14,11 +14,10 @@ use crate::read::piece_in;
 use flash_device::{Flash, FlashFault, Paged, Region};
 use flash_format::Head;
 
-/// The most bytes of a name.
 const LONGEST: usize = 255;
 
-/// Writes the name of a component, without its NUL, to the first bytes of `out`, and answers its length. The rest of
-/// `out`, and all of it after a fault, may hold anything.
+/// Writes a component's name without its NUL to the front of `out`, and returns its length in
+/// bytes. The rest of `out`, and all of `out` after a fault, is unspecified.
 pub fn name<F: Flash>(
     paged: &mut Paged<F>,
     region: Region,
@@ -28,13 +27,12 @@ pub fn name<F: Flash>(
     requires region { LiesIn region (F.facts paged.old.device).content }
     requires component { IsComponentIn region.size cell.now }
 
-    // On any device.
     ensures after { HasAnswered F.facts 1 paged.old paged.new result }
     ensures short { IfOk result (λ n. n ≤ 255) }
 
     // On an honest device.
-    ensures name { OnHonestIn F.facts paged.old.device region (λ x. StandsIn x cell.now →
-        IfOk result (λ n. take n out.new ≡ cell_name (cell_in x cell.now))) }
+    ensures name { OnHonestIn F.facts paged.old.device region (λ x. StandsIn x cell.now
+        → IfOk result (λ n. take n out.new ≡ cell_name (cell_in x cell.now))) }
     ensures len { ReadsCellAs F.facts paged.old region cell.now result (λ x. length (cell_name x)) }
 {
     paged.places_fit();
@@ -45,7 +43,7 @@ pub fn name<F: Flash>(
     Ok(text_len(bytes))
 }
 
-/// Whether a component has this name.
+/// Returns true if a component has the given name.
 pub fn name_is<F: Flash>(
     paged: &mut Paged<F>,
     region: Region,
@@ -55,23 +53,23 @@ pub fn name_is<F: Flash>(
     requires region { LiesIn region (F.facts paged.old.device).content }
     requires component { IsComponentIn region.size cell.now }
 
-    // On any device.
     ensures after { HasAnswered F.facts 1 paged.old paged.new result }
 
     // On an honest device.
-    ensures named { ReadsCellAs F.facts paged.old region cell.now result (λ x. bytes_eq (cell_name x) name.now) }
+    ensures named { ReadsCellAs F.facts paged.old region cell.now result
+        (λ x. bytes_eq (cell_name x) name.now) }
 {
     paged.places_fit();
     content_fits(cell, region);
     if name.len() > LONGEST || name.len() >= name_room(&cell.head) {
         return Ok(false);
     }
-    // As many bytes show it, and one more its NUL.
+    // The bytes of the name, and its NUL.
     let bytes = piece_in(paged, region, cell.at + 24, name.len() + 1)?;
     Ok(shows_text(bytes, name))
 }
 
-/// Whether the name of a component ends within its field's first 256 bytes.
+/// Returns true if the first 256 bytes of the name field include a NUL.
 pub fn has_name_end<F: Flash>(
     paged: &mut Paged<F>,
     region: Region,
@@ -83,7 +81,8 @@ pub fn has_name_end<F: Flash>(
     requires order { 24 ≤ name_end head.now }
 
     ensures passes { HasPassed F.facts region (at + 24) (at + 24) paged.old paged.new result }
-    ensures ends { ReadsAs F.facts paged.old region result (λ x. has_name (name_field head.now (drop at x))) }
+    ensures ends { ReadsAs F.facts paged.old region result
+        (λ x. has_name (name_field head.now (drop at x))) }
 {
     paged.places_fit();
     let n = name_room(head).min(256);
@@ -91,7 +90,7 @@ pub fn has_name_end<F: Flash>(
     Ok(has_nul(bytes))
 }
 
-/// Where the name field of a component ends, and its attributes begin.
+/// Returns the end of a component's name field, relative to the entry.
 pub fn name_end(head: &Head) -> u32
     ensures { result ≡ name_end head.now }
 {
@@ -102,7 +101,6 @@ pub fn name_end(head: &Head) -> u32
     }
 }
 
-/// How many bytes the name field has.
 fn name_room(head: &Head) -> usize
     requires { 24 ≤ name_end head.now }
     ensures { result + 24 ≡ name_end head.now }
@@ -110,21 +108,19 @@ fn name_room(head: &Head) -> usize
     name_end(head) as usize - 24
 }
 
-/// Whether there is a NUL.
 fn has_nul(bytes: &[u8]) -> bool
     ensures { result ≡ list_any is_nul bytes.now }
 {
     bytes.iter().any(|b| *b == 0)
 }
 
-/// Whether the bytes before the first NUL are this text.
 fn shows_text(bytes: &[u8], text: &[u8]) -> bool
     ensures { result ≡ bytes_eq (before_first is_nul bytes.now) text.now }
 {
     &bytes[..text_len(bytes)] == text
 }
 
-/// How many bytes stand before the first NUL, or all.
+/// Returns the number of bytes before the first NUL, or of all bytes.
 fn text_len(bytes: &[u8]) -> usize
     ensures { result ≡ length (before_first is_nul bytes.now) }
 {

@@ -1,4 +1,4 @@
-//! Reads at places of a region, one after the other.
+//! Ordered reads in a region.
 ghost use Rattle.std.specs.Prelude.{◌≡◌, ◌+◌, ◌≤◌, length, slice_range, OnOk, IfOk};
 ghost use Rattle.std.specs.Borrow.{sem};
 ghost use Rattle.std.specs.Io.BufRead.{Rests};
@@ -9,7 +9,7 @@ ghost use Rattle.cbfs_walk.specs.Walks.{HasPassed};
 
 use flash_device::{Flash, FlashFault, Paged, Region};
 
-/// Reads the bytes of the region from `at` on.
+/// Reads bytes at a position in the region.
 #[inline]
 pub fn read_in<F: Flash>(
     paged: &mut Paged<F>,
@@ -29,7 +29,7 @@ pub fn read_in<F: Flash>(
     paged.read_small(region.start() + at, out)
 }
 
-/// The n bytes of the region from `at` on.
+/// Returns n bytes at a position in the region.
 #[inline]
 pub fn piece_in<F: Flash>(
     paged: &mut Paged<F>,

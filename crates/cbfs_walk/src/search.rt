@@ -1,4 +1,4 @@
-//! The search for the component of a name.
+//! The search for a component by name.
 ghost use Rattle.std.specs.Prelude.{◌≡◌, ◌⊎◌, ◌<◌, ◌&&◌, not, false, IsTrue, IfOk, IfSome, IsErrOf, Ok, Some};
 ghost use Rattle.std.specs.Str.{bytes_eq};
 ghost use Rattle.flash_format.specs.Head.{is_free};
@@ -15,8 +15,8 @@ use crate::names::name_is;
 use crate::walk::{Step, Walk, WalkFault};
 use flash_device::{Flash, FlashFault, Paged, Region};
 
-/// The first component of the name; without one, the damage that ends the walk, or `None`. It walks no further
-/// than the component.
+/// Returns the first component with the given name. Without a component, returns the damage at the
+/// end of the cells, or `None`. The search doesn't read cells after the component.
 pub fn find<F: Flash>(
     paged: &mut Paged<F>,
     region: Region,
@@ -24,8 +24,8 @@ pub fn find<F: Flash>(
 ) -> Result<Option<Cell>, WalkFault>
     requires { LiesIn region (F.facts paged.old.device).content }
 
-    // On any device.
-    ensures after { HasRead F.facts (find_reads region.size result) (faults_told by_device result) paged.old paged.new }
+    ensures after { HasRead F.facts (find_reads region.size result) (faults_told by_device result)
+        paged.old paged.new }
     ensures cell { IfOk result (λ found. IfSome found (IsCellIn region.size)) }
     ensures component { IfOk result (λ found. IfSome found (λ cell. is_free cell.head ≡ false)) }
 
@@ -34,7 +34,8 @@ pub fn find<F: Flash>(
         IsErrOf result WalkFault.Device ⊎ (result ≡ found_cell (component_in x name.now))) }
     ensures stands { OnHonestIn F.facts paged.old.device region (λ x.
         IfOk result (λ found. IfSome found (StandsIn x))) }
-    ensures first { OnHonestIn F.facts paged.old.device region (λ x. IfOk result (λ found. IfSome found (λ cell.
+    ensures first { OnHonestIn F.facts paged.old.device region
+        (λ x. IfOk result (λ found. IfSome found (λ cell.
         component_in x name.now ≡ Ok (Some (component_at cell.at (cell_in x cell)))))) }
 {
     let mut walk = Walk::new(region);
@@ -50,8 +51,8 @@ pub fn find<F: Flash>(
     }
 }
 
-/// Whether a cell is a component of this name, for a caller that walks by itself. Free space has no name, and its
-/// bytes aren't read.
+/// Returns true if a cell is a component with the given name, for callers with their own walk. Free
+/// space has no name, and is not read.
 pub fn is_component<F: Flash>(
     paged: &mut Paged<F>,
     region: Region,
@@ -61,7 +62,6 @@ pub fn is_component<F: Flash>(
     requires region { LiesIn region (F.facts paged.old.device).content }
     requires cell { PassesChecks region.size cell.now }
 
-    // On any device.
     ensures after { HasAnswered F.facts 1 paged.old paged.new result }
     ensures component { IfOk result (λ is. IsTrue is → is_free cell.now.head ≡ false) }
     ensures no_call { IsTrue (is_free cell.now.head) → paged.new ≡ paged.old }

@@ -1,4 +1,4 @@
-//! A walk from cell to cell, and the entry at its place.
+//! A walk over cells, and the checks of entries.
 ghost use Rattle.std.specs.Prelude.{◌≡◌, ◌⊎◌, ℕ, ◌+◌, ◌-◌, ◌*◌, ◌/◌, ◌%◌, ◌<◌, ◌≤◌, None, IsSome, IfOk, IfSome, IsErrOf, drop};
 ghost use Rattle.flash_format.specs.Entry.{front, component, name_end};
 ghost use Rattle.flash_format.specs.Head.{head_of};
@@ -17,28 +17,29 @@ use flash_device::{Flash, FlashFault, Paged, Region};
 use flash_format::{DamageKind, Head};
 use std::marker::Model;
 
-/// What a walk gives next. Places count from the region's start, in bytes.
+/// The next part of a region. Positions are in bytes from the region's start.
 #[derive(Clone, Copy, Debug, PartialEq, Eq)]
 pub enum Step {
-    /// A cell, component or free space; the walk stands after it now.
+    /// A cell: a component or free space. The walk continues after the cell.
     Cell(Cell),
-    /// The walk has ended: no entry stands at this place, which is not the region's start. The rest of the region is
-    /// kept and never used.
+    /// The end of the walk: the position, after the region's start, has no entry. The rest of the
+    /// region is preserved and never used.
     Tail(u64),
-    /// The walk has ended: the cells fill the region.
+    /// The end of the walk: the cells fill the region.
     End,
 }
 
-/// Why a walk gives no cell, each with the number of the refusal that a command makes of it.
+/// The reason for a missing cell, with cbfstool's number of the refusal.
 #[derive(Clone, Copy, Debug, PartialEq, Eq)]
 pub enum WalkFault {
-    /// The device refused a read (1). It alone doesn't end a walk: the next call tries the same place again.
+    /// A read of the device failed (1). The walk doesn't end: the next call tries the same position
+    /// again.
     Device,
-    /// The region's size is 0 or no multiple of 64 (7). Nothing is read.
+    /// The region's size is 0 or not a multiple of 64 (7). Found without a read.
     RegionShape,
-    /// No entry stands at the region's start (8).
+    /// The region's start has no entry (8).
     NotCbfs,
-    /// The entry at this place, counted from the region's start, fails a check (9): the first that it fails.
+    /// The entry at a position in the region fails a check (9). `kind` is the first failed check.
     Damaged { at: u64, kind: DamageKind },
 }
 
@@ -52,7 +53,7 @@ impl From<FlashFault> for WalkFault {
     }
 }
 
-/// A walk, and the answer with which it ended.
+/// A walk, and its last result after its end.
 #[derive(Drop)]
 pub struct Walk {
     region: Region,
@@ -70,12 +71,13 @@ impl Model for Walk {
 
     ghost view = { λ w. record { region = w.region; at = w.at; steps = w.steps; ended = w.ended } };
 
-    ghost invariant = { λ w. (w.at ≤ w.region.size) × (w.at % 64 ≡ 0) × (64 * w.steps ≤ w.at) × ForSome w.ended EndsWalk };
+    ghost invariant = { λ w. (w.at ≤ w.region.size) × (w.at % 64 ≡ 0) × (64 * w.steps ≤ w.at)
+        × ForSome w.ended EndsWalk };
 }
 
 impl Walk {
-    /// A walk that stands at the region's start. It reads nothing yet; the device is given with each call of `next`,
-    /// so a caller may read from it in between.
+    /// Starts a walk at the region's start, without a read. Each call of `next` borrows the device,
+    /// so a caller can read between calls.
     pub fn new(region: Region) -> Walk
         ensures { result ≡ walk_of region }
     {
@@ -87,7 +89,7 @@ impl Walk {
         }
     }
 
-    /// How many cells it gave.
+    /// Returns the number of cells so far.
     pub fn steps(&self) -> u64
         ensures steps { result ≡ self.now.steps }
         ensures bound { result ≤ self.now.region.size / 64 }
@@ -95,24 +97,24 @@ impl Walk {
         self.steps
     }
 
-    /// The next cell, or how the cells end. After a device's fault it stands where it stood, and the next call
-    /// tries the same entry again; after any other end it answers the same again. It reads an entry in order, so that
-    /// the device is called once, and once more for each 3840 bytes of its cell, or of what is left of the region where it
-    /// gives none.
+    /// Returns the next cell, or the end of the cells. After a device fault, the next call tries
+    /// the same entry again; after any other end, each call returns the same result. A call makes
+    /// at most one device call, and another for each 3840 bytes of the cell, or of the remaining
+    /// region without a cell.
     pub fn next<F: Flash>(&mut self, paged: &mut Paged<F>) -> Result<Step, WalkFault>
         requires { LiesIn self.old.region (F.facts paged.old.device).content }
 
-        // On any device.
-        ensures after { HasRead F.facts (reads_at self.old.region.size self.old.at result) (faults_told by_device result)
-            paged.old paged.new }
+        ensures after { HasRead F.facts (reads_at self.old.region.size self.old.at result)
+            (faults_told by_device result) paged.old paged.new }
         ensures cell { GivesCell self.old.region.size self.old.at result }
         ensures moved { self.new ≡ walk_after self.old result }
         ensures ended { IfSome self.old.ended (λ answer. result ≡ answer) }
         ensures no_call { IsSome self.old.ended → paged.new ≡ paged.old }
 
         // On an honest device.
-        ensures answer { OnHonestIn F.facts paged.old.device self.old.region (λ x. self.old.ended ≡ None →
-            IsErrOf result WalkFault.Device ⊎ (result ≡ answer_at x self.old.at)) }
+        ensures answer { OnHonestIn F.facts paged.old.device self.old.region
+            (λ x. self.old.ended ≡ None
+            → IsErrOf result WalkFault.Device ⊎ (result ≡ answer_at x self.old.at)) }
     {
         if let Some(answer) = self.ended {
             return answer;
@@ -136,13 +138,13 @@ fn has_bad_size(size: u64) -> bool
     size == 0 || size % 64 != 0
 }
 
-/// The answer at a place.
 fn answer_at<F: Flash>(paged: &mut Paged<F>, region: Region, at: u64) -> Result<Step, WalkFault>
     requires region { LiesIn region (F.facts paged.old.device).content }
     requires inside { at ≤ region.size }
     requires aligned { at % 64 ≡ 0 }
 
-    ensures after { HasRead F.facts (reads_at region.size at result) (faults_told by_device result) paged.old paged.new }
+    ensures after { HasRead F.facts (reads_at region.size at result)
+        (faults_told by_device result) paged.old paged.new }
     ensures cell { GivesCell region.size at result }
     ensures answer { OnHonestIn F.facts paged.old.device region (λ x.
         IsErrOf result WalkFault.Device ⊎ (result ≡ answer_at x at)) }
@@ -172,16 +174,16 @@ fn answer_at<F: Flash>(paged: &mut Paged<F>, region: Region, at: u64) -> Result<
     }
 }
 
-/// The answer where a cell's head stands that has passed its checks.
 fn cell_at<F: Flash>(paged: &mut Paged<F>, region: Region, cell: &Cell) -> Result<Step, WalkFault>
     requires region { LiesIn region (F.facts paged.old.device).content }
     requires cell { PassesChecks region.size cell.now }
 
-    ensures passes { Passes F.facts region cell.now.at (content_start cell.now) (faults_told by_device result)
-        paged.old paged.new }
+    ensures passes { Passes F.facts region cell.now.at (content_start cell.now)
+        (faults_told by_device result) paged.old paged.new }
     ensures cell { IfOk result (λ step. step ≡ Step.Cell cell.now) }
-    ensures answer { OnHonestIn F.facts paged.old.device region (λ x. cell.now.head ≡ head_of (drop cell.now.at x) →
-        IsErrOf result WalkFault.Device ⊎ (result ≡ answer_of (drop cell.now.at x) cell.now)) }
+    ensures answer { OnHonestIn F.facts paged.old.device region
+        (λ x. cell.now.head ≡ head_of (drop cell.now.at x)
+        → IsErrOf result WalkFault.Device ⊎ (result ≡ answer_of (drop cell.now.at x) cell.now)) }
 {
     if cell.head.is_free() {
         return Ok(Step::Cell(*cell));
@@ -192,7 +194,6 @@ fn cell_at<F: Flash>(paged: &mut Paged<F>, region: Region, cell: &Cell) -> Resul
     }
 }
 
-/// The head that the entry at a place begins with, where one stands there.
 fn front_at<F: Flash>(
     paged: &mut Paged<F>,
     region: Region,
@@ -212,7 +213,7 @@ fn front_at<F: Flash>(
     Ok(Head::read(&bytes))
 }
 
-/// What is wrong with a component after its head.
+/// Returns the first failed check of a component after the checks of its head.
 fn damage_in<F: Flash>(
     paged: &mut Paged<F>,
     region: Region,

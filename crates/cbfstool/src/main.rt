@@ -1,4 +1,4 @@
-//! Lists and changes the regions of a flash image and makes new ones, as coreboot's cbfstool does.
+//! Lists and changes the regions of a flash image, and makes new images, like coreboot's cbfstool.
 #![tactic(auto)]
 
 pub use cbfs_commands::{Command, Refusal, create_size, run};
@@ -16,7 +16,8 @@ usage: cbfstool IMAGE COMMAND [OPTIONS]
 commands: print layout extract add remove read write create
 ";
 
-/// The refusal of a file that can't be opened; `failed` where neither its size nor memory is the cause.
+/// Returns the refusal for a file that can't be opened: `failed` unless the size or memory is the
+/// cause.
 fn open_refusal(fault: OpenFault, failed: Refusal) -> Refusal {
     match fault {
         OpenFault::Failed(_) => failed,
@@ -29,7 +30,7 @@ fn open_source(rt: &HostRuntime, path: &str) -> Result<FileSource, Refusal> {
     FileSource::open(rt, path).map_err(|fault| open_refusal(fault, Refusal::Source))
 }
 
-/// Makes the file that a command writes, or empties it.
+/// Creates or truncates the output file of a command.
 fn make_output(rt: &HostRuntime, path: &str) -> Result<File, Refusal> {
     match File::create(rt, path) {
         Ok(file) => Ok(file),
@@ -38,8 +39,8 @@ fn make_output(rt: &HostRuntime, path: &str) -> Result<File, Refusal> {
     }
 }
 
-/// Runs a command that lists an image. The text is written after the image's lock is given back, also
-/// if the command is refused at last.
+/// Runs a command that lists an image. The output is written after the release of the image's lock,
+/// even if the command is refused.
 fn list(rt: &HostRuntime, paged: &mut Paged<FileFlash>, command: &Command) -> Result<(), Refusal> {
     let mut out = WriteSink::new(Output::keeping(rt.alloc(), io::writer(rt)));
     let answer = run(paged, command, &mut MemSource::new(&[]), &mut out);
@@ -47,7 +48,6 @@ fn list(rt: &HostRuntime, paged: &mut Paged<FileFlash>, command: &Command) -> Re
     finish(answer, out)
 }
 
-/// Runs a command whose output goes into a file.
 fn run_into_file(
     rt: &HostRuntime,
     paged: &mut Paged<FileFlash>,
@@ -59,7 +59,7 @@ fn run_into_file(
     finish(answer, out)
 }
 
-/// Writes what a command has written before it was done or refused.
+/// Writes the buffered output after a completed or refused command.
 fn finish<W: Write + Drop>(
     answer: Result<(), Refusal>,
     out: WriteSink<Output<W>>,
@@ -69,7 +69,6 @@ fn finish<W: Write + Drop>(
     written.map_err(|_| Refusal::Output)
 }
 
-/// Runs a command that writes no output, on a source.
 fn run_from<S: Source>(
     rt: &HostRuntime,
     paged: &mut Paged<FileFlash>,
@@ -79,7 +78,6 @@ fn run_from<S: Source>(
     run(paged, command, source, &mut WriteSink::new(io::writer(rt)))
 }
 
-/// Makes the image of a flashmap.
 fn create_from(
     rt: &HostRuntime,
     command: &Command,
@@ -94,7 +92,7 @@ fn create_from(
     run_from(rt, &mut Paged::new(image), command, source)
 }
 
-/// Runs a command on an image that is there; the file is the one that it reads or writes.
+/// Runs a command on an existing image. The line's file is the command's input or output.
 fn run_on(
     rt: &HostRuntime,
     paged: &mut Paged<FileFlash>,
@@ -111,7 +109,6 @@ fn run_on(
     }
 }
 
-/// Makes the image of a line by its command.
 fn make_image(rt: &HostRuntime, line: &Line, command: &Command) -> Result<(), Refusal> {
     let Some(file) = line.file() else {
         return Err(Refusal::Usage);
@@ -119,7 +116,7 @@ fn make_image(rt: &HostRuntime, line: &Line, command: &Command) -> Result<(), Re
     create_from(rt, command, line.image(), &mut open_source(rt, file)?)
 }
 
-/// The lock of the image that a command takes: a shared one if it only reads.
+/// Returns the lock of the image: shared if the command only reads.
 fn lock_of(command: &Command) -> Lock {
     match command {
         Command::Print { .. } | Command::Layout => Lock::Shared,
@@ -129,7 +126,6 @@ fn lock_of(command: &Command) -> Lock {
     }
 }
 
-/// Opens the image of a line, and runs its command.
 fn run_line(rt: &HostRuntime, line: &Line, command: &Command) -> Result<(), Refusal> {
     let image = FileFlash::open_with(rt, line.image(), lock_of(command)).map_err(
         |fault| open_refusal(fault, Refusal::Device),
@@ -142,7 +138,6 @@ fn run_line(rt: &HostRuntime, line: &Line, command: &Command) -> Result<(), Refu
     )
 }
 
-/// Opens or makes the image of a line, and runs its command.
 fn execute(rt: &HostRuntime, line: &Line) -> Result<(), Refusal> {
     let command = line.command()?;
     match command {
@@ -151,7 +146,6 @@ fn execute(rt: &HostRuntime, line: &Line) -> Result<(), Refusal> {
     }
 }
 
-/// The words after the program's name.
 fn read_words(rt: &HostRuntime) -> Result<Vec<String>, Refusal> {
     let words = match env::args(rt) {
         Ok(words) => words,
@@ -167,7 +161,7 @@ fn read_words(rt: &HostRuntime) -> Result<Vec<String>, Refusal> {
     Ok(all)
 }
 
-/// Does what the words say; without words prints the usage.
+/// Executes the arguments, or prints the usage without arguments.
 fn obey(rt: &HostRuntime) -> Result<(), Refusal> {
     let words = read_words(rt)?;
     if words.is_empty() {

@@ -1,26 +1,28 @@
--- The search for an image's map.
+-- The search for an image's flash map.
 use Rattle.std.specs.Prelude.{◌≡◌, ℕ, true, ◌&&◌, List, Option, Some, None, drop, if◌then◌else◌}
 use Rattle.std.specs.Option.{option_map}
 use Rattle.flash_format.specs.declared.flashmap.FmapHead.{FmapHead}
 use Rattle.flash_format.specs.Flashmap.{is_map, map_from, fmap_head_of, has_signature, is_valid_head}
 use Rattle.flash_device.specs.declared.fmap.FoundMap.{FoundMap}
 
--- the signature of a map stands at q
 abbrev pub HasSignatureAt : List ℕ → ℕ → Type 0
 HasSignatureAt image q = has_signature (drop q image) ≡ true
 
--- the head of the valid map that these bytes begin with
+-- the head of a valid map at the front of the bytes
 abbrev pub map_head : List ℕ → Option FmapHead
 map_head x = if is_map x then Some (fmap_head_of x) else None
 
--- the same from the first 56 bytes, with so many bytes up to the image's end
+-- the head from the first 56 bytes, with `left` bytes up to the image's end
 abbrev pub map_head_in : List ℕ → ℕ → Option FmapHead
-map_head_in bytes left = if has_signature bytes && is_valid_head (fmap_head_of bytes) left then Some (fmap_head_of bytes) else None
+map_head_in bytes left =
+    if has_signature bytes && is_valid_head (fmap_head_of bytes) left
+    then Some (fmap_head_of bytes) else None
 
--- the lowest valid map of an image from a place on, with its head
+-- the lowest valid map from an offset on
 abbrev pub found_from : ℕ → List ℕ → Option FoundMap
-found_from place image = option_map (λ q. record { at = q; head = fmap_head_of (drop q image) }) (map_from place (drop place image))
+found_from place image =
+    option_map (λ q. record { at = q; head = fmap_head_of (drop q image) })
+    (map_from place (drop place image))
 
--- the image's map with its head
 abbrev pub found_in : List ℕ → Option FoundMap
 found_in image = found_from 0 image

@@ -1,4 +1,4 @@
--- The laws of writes, and of maps that are written, that the crates above rest on.
+-- The laws of writes and of written maps.
 use Rattle.std.specs.Prelude.{◌≡◌, ◌⊎◌, ℕ, ◌+◌, ◌≤◌, List, ◌++◌, length, Some}
 use Rattle.flash_format.specs.Flashmap.{areas_at}
 use Rattle.flash_format.specs.Laws.{IsReadAsMap}
@@ -9,32 +9,37 @@ use Rattle.flash_device.specs.Device.{overwritten, SameOutside}
 use Rattle.flash_device.specs.Fmap.{found_in}
 use Rattle.flash_device.specs.Regions.{Range, LiesIn, bytes_in}
 
--- what a write to an image is to the bytes of a region
 pub record WritesInRegions : Type 0 where
-  -- bytes that are written inside the region are written over the region's bytes
-  pub inside : (r : Range) (x : List ℕ) (at : ℕ) (u : List ℕ) → LiesIn r x → at + length u ≤ r.size → bytes_in r (overwritten x (r.start + at) u) ≡ overwritten (bytes_in r x) at u
-  -- those that are written before or after it leave it as it was
-  pub beside : (r : Range) (x : List ℕ) (at : ℕ) (u : List ℕ) → at ≤ length x → (at + length u ≤ r.start) ⊎ (r.start + r.size ≤ at) → bytes_in r (overwritten x at u) ≡ bytes_in r x
-  -- what changes the image in a range inside the region changes the region's bytes in that range
-  pub changed : (r : Range) (x y : List ℕ) (at n : ℕ) → at + n ≤ r.size → SameOutside (r.start + at) n x y → SameOutside at n (bytes_in r x) (bytes_in r y)
-  -- an image in which nothing outside the region has changed is the one before, with the region's bytes written over it
-  pub whole : (r : Range) (x y : List ℕ) → LiesIn r x → length y ≡ length x → SameOutside r.start r.size x y → y ≡ overwritten x r.start (bytes_in r y)
+  -- a write inside the region overwrites the region's bytes
+  pub inside : (r : Range) (x : List ℕ) (at : ℕ) (u : List ℕ) → LiesIn r x → at + length u ≤ r.size
+      → bytes_in r (overwritten x (r.start + at) u) ≡ overwritten (bytes_in r x) at u
+  -- a write before or after the region doesn't change the region
+  pub beside : (r : Range) (x : List ℕ) (at : ℕ) (u : List ℕ) → at ≤ length x
+      → (at + length u ≤ r.start) ⊎ (r.start + r.size ≤ at)
+      → bytes_in r (overwritten x at u) ≡ bytes_in r x
+  -- a change inside the region's range is a change of the region's bytes in the same range
+  pub changed : (r : Range) (x y : List ℕ) (at n : ℕ) → at + n ≤ r.size
+      → SameOutside (r.start + at) n x y → SameOutside at n (bytes_in r x) (bytes_in r y)
+  -- an image without changes outside the region is the old image, overwritten with the region's
+  -- bytes
+  pub whole : (r : Range) (x y : List ℕ) → LiesIn r x → length y ≡ length x
+      → SameOutside r.start r.size x y → y ≡ overwritten x r.start (bytes_in r y)
 
--- the image with its region's bytes replaced by what is made of them
 abbrev pub with_edit : Range → (List ℕ → List ℕ) → List ℕ → List ℕ
 with_edit r make image = overwritten image r.start (make (bytes_in r image))
 
--- no byte lies in both
 abbrev pub LieApart : Range → Range → Type 0
 LieApart r s = (r.start + r.size ≤ s.start) ⊎ (s.start + s.size ≤ r.start)
 
--- a search finds a map at a place, with this head and these areas
 pub record FindsMap (h : FmapHead) (areas : List Area) (image : List ℕ) (q : ℕ) : Type 0 where
   pub found : found_in image ≡ Some (record { at = q; head = h })
   pub all : areas_at image q ≡ areas
 
--- a map that is written into an image at a place is found there with its areas, where no valid map stands below it then
+-- a search finds a written map with its areas, if no valid map begins at a lower offset after the
+-- write
 abbrev pub WrittenMapsAreFound : Type 0
-WrittenMapsAreFound = (h : FmapHead) (areas : List Area) (bytes image : List ℕ) (q : ℕ) → ((more : List ℕ) → IsReadAsMap h areas (bytes ++ more)) → q ≤ length image
+WrittenMapsAreFound =
+    (h : FmapHead) (areas : List Area) (bytes image : List ℕ) (q : ℕ)
+    → ((more : List ℕ) → IsReadAsMap h areas (bytes ++ more)) → q ≤ length image
     → let now = overwritten image q bytes in
     NoMapBelow now q → FindsMap h areas now q

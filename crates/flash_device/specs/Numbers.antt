@@ -1,8 +1,7 @@
--- The number of a counter that takes no bytes.
+-- The number of a counter of size 0.
 use Rattle.std.specs.Prelude.{ℕ, ◌+◌}
 use Rattle.flash_device.specs.declared.counter.Number.{Number, Zero, More'}
 
--- the number that it counts
 abbrev pub count_of : Number → ℕ
 count_of Zero = 0
 count_of (More' n shape before) = count_of before + n

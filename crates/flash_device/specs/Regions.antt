@@ -1,38 +1,36 @@
--- Ranges of an image, and the region of a name.
+-- Ranges of an image, and named regions.
 use Rattle.std.specs.Prelude.{ℕ, ◌+◌, ◌≤◌, List, length, slice_range, Option, Some, None, Result, Ok, Err, nat_lt, if◌then◌else◌}
 use Rattle.flash_format.specs.declared.flashmap.Area.{Area}
 use Rattle.flash_format.specs.Flashmap.{map_of, area_in}
 use Rattle.flash_device.specs.declared.fmap.StoreFault.{StoreFault}
 use Rattle.flash_device.specs.declared.fmap.StoreFault.TheVariants as faults
 
--- what contracts see of a region
 pub record Range : Type 0 where
   pub start : ℕ
   pub size : ℕ
 
--- the bytes of a region, of all those of an image
 abbrev pub bytes_in : Range → List ℕ → List ℕ
 bytes_in region image = slice_range image region.start (region.start + region.size)
 
--- the region ends at or before the image's end
 abbrev pub LiesIn : Range → List ℕ → Type 0
 LiesIn region image = region.start + region.size ≤ length image
 
--- how many refused calls of the device a refusal tells
+-- the number of device faults in an error
 abbrev pub by_device : StoreFault → ℕ
 by_device faults.Device = 1
 by_device _ = 0
 
--- the area as a region, where it lies inside an image of so many bytes
 abbrev pub region_by_area : ℕ → Option Area → Result Range StoreFault
 region_by_area image_len None = Err faults.NoRegion
-region_by_area image_len (Some a) = if nat_lt image_len (a.offset + a.size) then Err faults.RegionOutside else Ok (record { start = a.offset; size = a.size })
+region_by_area image_len (Some a) =
+    if nat_lt image_len (a.offset + a.size) then Err faults.RegionOutside
+    else Ok (record { start = a.offset; size = a.size })
 
--- the first area of the name in the map at a place, as a region
+-- the first area with the given name in the map at an offset, as a region
 abbrev pub region_under : List ℕ → List ℕ → Option ℕ → Result Range StoreFault
 region_under image name None = Err faults.NoFmap
 region_under image name (Some q) = region_by_area (length image) (area_in image q name)
 
--- where the first area of the name in the image's flashmap lies
+-- the region of the first area with the given name in the image's flash map
 unfoldable pub region_of : List ℕ → List ℕ → Result Range StoreFault
 region_of image name = region_under image name (map_of image)

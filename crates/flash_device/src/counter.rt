@@ -1,19 +1,17 @@
-//! A number that only contracts see.
-
+//! A number for contracts only.
 ghost use Rattle.std.specs.Prelude.{◌≡◌, ℕ, ◌+◌};
 
 use std::marker::Model;
 use std::mem;
 use std::snapshot::Snapshot;
 
-/// Zero, or so many more than an earlier number.
 #[derive(Drop)]
 enum Number {
     Zero,
     More(usize, Snapshot<Number>),
 }
 
-/// A counter without a greatest value. It takes no bytes.
+/// An unbounded counter of size 0, for contracts only.
 #[derive(Drop)]
 pub struct Counter {
     number: Snapshot<Number>,
@@ -29,7 +27,6 @@ impl Model for Counter {
 }
 
 impl Counter {
-    /// A counter at zero.
     pub fn new() -> Counter
         ensures { result ≡ 0 }
     {
@@ -38,14 +35,12 @@ impl Counter {
         }
     }
 
-    /// Counts one more.
     pub fn tick(&mut self)
         ensures { self.new ≡ self.old + 1 }
     {
         self.add(1);
     }
 
-    /// Counts `n` more.
     pub fn add(&mut self, n: usize)
         ensures { self.new ≡ self.old + n }
     {

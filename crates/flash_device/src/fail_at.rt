@@ -1,4 +1,4 @@
-//! A device for tests, which refuses every call after the first few.
+//! A device with injected faults.
 ghost use Rattle.std.specs.Prelude.{◌≡◌, ◌+◌, ◌-◌, ◌<◌, ◌≤◌, length, take, true, false, IsTrue};
 ghost use Rattle.flash_device.specs.Device.{OneRead, OneWrite, OneCommit};
 ghost use Rattle.flash_device.specs.Failing.{facts_over, PassedOrRefused, RefusedWrite, refused_once};
@@ -8,10 +8,11 @@ use crate::flash::{Flash, FlashFault};
 use flash_format::HEADER_LENGTH;
 use std::marker::Model;
 
-/// A device over another one, for tests: its first calls pass to the other, and all later ones are refused.
+/// A test device over another device: the first calls pass, and all later calls fail.
 ///
-/// A refused read or commit does nothing. Of the first refused write a part still reaches the other device, as when the
-/// power fails in the midst of it; the later ones do nothing. Each refused call is one fault, its own or the other's.
+/// A failed read or commit has no effect. A part of the first failed write still reaches the other
+/// device, like a power failure during the write; later writes have no effect. Each failed call is
+/// one fault, of this device or the other.
 #[derive(Drop)]
 pub struct FailAt<F: Flash> {
     device: F,
@@ -27,13 +28,28 @@ impl<F: Flash> Model for FailAt<F> {
 
     ghost Value = { Failing F };
 
-    ghost view = { λ f. record { device = f.device; left = f.left; part = f.part; tears = f.tears; calls = f.calls; faults = f.faults } };
+    ghost view = { λ f. record {
+      device = f.device;
+      left = f.left;
+      part = f.part;
+      tears = f.tears;
+      calls = f.calls;
+      faults = f.faults;
+    } };
 }
 
 impl<F: Flash> FailAt<F> {
-    /// The first `k` calls pass. Of the first refused write the first `part` bytes are written, or all if it has fewer.
+    /// Makes a device with `k` successful calls. The first failed write still writes up to `part`
+    /// bytes.
     pub fn new(device: F, k: u64, part: usize) -> FailAt<F>
-        ensures { result ≡ record { device = device; left = k; part = part; tears = true; calls = 0; faults = 0 } }
+        ensures { result ≡ record {
+          device = device;
+          left = k;
+          part = part;
+          tears = true;
+          calls = 0;
+          faults = 0;
+        } }
     {
         FailAt {
             device,
@@ -45,7 +61,6 @@ impl<F: Flash> FailAt<F> {
         }
     }
 
-    /// The other device, with what was written.
     pub fn into_inner(self) -> F
         ensures { result ≡ self.device }
     {
@@ -53,10 +68,11 @@ impl<F: Flash> FailAt<F> {
         device
     }
 
-    /// Counts a call, and says whether it passes.
+    /// Counts a call, and returns true if the call passes.
     fn admits(&mut self) -> bool
         ensures passed { IsTrue result → (0 < self.old.left)
-            × (self.new ≡ record self.old { left = self.old.left - 1; calls = self.old.calls + 1 }) }
+            × (self.new
+            ≡ record self.old { left = self.old.left - 1; calls = self.old.calls + 1 }) }
         ensures refused { result ≡ false → (self.old.left ≡ 0)
             × (self.new ≡ record self.old { calls = self.old.calls + 1 }) }
     {
@@ -68,7 +84,6 @@ impl<F: Flash> FailAt<F> {
         true
     }
 
-    /// Counts a fault of its own.
     fn refuse(&mut self) -> FlashFault
         ensures { self.new ≡ record self.old { faults = self.old.faults + 1 } }
     {
@@ -90,7 +105,8 @@ impl<F: Flash> Flash for FailAt<F> {
 
         ensures after { OneRead at (length out.old) (facts_over F.facts self.old)
             (facts_over F.facts self.new) result out.new }
-        ensures call { PassedOrRefused F.facts self.old self.new result (self.new ≡ refused_once self.old) }
+        ensures call { PassedOrRefused F.facts self.old self.new result
+            (self.new ≡ refused_once self.old) }
     {
         if self.admits() {
             self.device.read_at(at, out)
@@ -103,7 +119,8 @@ impl<F: Flash> Flash for FailAt<F> {
         requires inside { at + length bytes.now ≤ length (F.facts self.old.device).content }
         requires short { length bytes.now ≤ 4096 }
 
-        ensures after { OneWrite at bytes.now (facts_over F.facts self.old) (facts_over F.facts self.new) result }
+        ensures after { OneWrite at bytes.now (facts_over F.facts self.old)
+            (facts_over F.facts self.new) result }
         ensures call { PassedOrRefused F.facts self.old self.new result
             (RefusedWrite F.facts at bytes.now self.old self.new) }
     {
@@ -121,8 +138,10 @@ impl<F: Flash> Flash for FailAt<F> {
     fn commit_at(&mut self, at: u64, bytes: &[u8; HEADER_LENGTH]) -> Result<(), FlashFault>
         requires { at + length bytes.now ≤ length (F.facts self.old.device).content }
 
-        ensures after { OneCommit at bytes.now (facts_over F.facts self.old) (facts_over F.facts self.new) result }
-        ensures call { PassedOrRefused F.facts self.old self.new result (self.new ≡ refused_once self.old) }
+        ensures after { OneCommit at bytes.now (facts_over F.facts self.old)
+            (facts_over F.facts self.new) result }
+        ensures call { PassedOrRefused F.facts self.old self.new result
+            (self.new ≡ refused_once self.old) }
     {
         if self.admits() {
             self.device.commit_at(at, bytes)
@@ -132,7 +151,6 @@ impl<F: Flash> Flash for FailAt<F> {
     }
 }
 
-/// Writes the first `part` bytes.
 fn write_part<F: Flash>(
     device: &mut F,
     at: u64,

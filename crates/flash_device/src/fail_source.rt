@@ -1,4 +1,4 @@
-//! A source for tests, which refuses every read after the first few.
+//! A source with injected faults.
 ghost use Rattle.std.specs.Prelude.{◌≡◌, ◌+◌, ◌≤◌, length, false};
 ghost use Rattle.flash_device.specs.Device.{OneRead};
 ghost use Rattle.flash_device.specs.Failing.{facts_over, PassedOrRefused, refused_once};
@@ -7,8 +7,8 @@ use crate::counter::Counter;
 use crate::source::{Source, SourceFault};
 use std::marker::Model;
 
-/// A source over another one, for tests: its first reads pass to the other, and all later ones are refused and do nothing.
-/// Both its own refusals and the other's faults count as its faults.
+/// A test source over another source: the first reads pass, and all later reads fail without
+/// effect. The faults of both sources count.
 #[derive(Drop)]
 pub struct FailSource<S: Source> {
     source: S,
@@ -23,13 +23,21 @@ impl<S: Source> Model for FailSource<S> {
 
     ghost Value = { Failing S };
 
-    ghost view = { λ f. record { device = f.source; left = f.left; part = 0; tears = false; calls = f.calls; faults = f.faults } };
+    ghost view = { λ f. record {
+      device = f.source;
+      left = f.left;
+      part = 0;
+      tears = false;
+      calls = f.calls;
+      faults = f.faults;
+    } };
 }
 
 impl<S: Source> FailSource<S> {
-    /// The first `k` reads pass.
+    /// Makes a source with `k` successful reads.
     pub fn new(source: S, k: u64) -> FailSource<S>
-        ensures { result ≡ record { device = source; left = k; part = 0; tears = false; calls = 0; faults = 0 } }
+        ensures { result
+            ≡ record { device = source; left = k; part = 0; tears = false; calls = 0; faults = 0 } }
     {
         FailSource {
             source,
@@ -53,7 +61,8 @@ impl<S: Source> Source for FailSource<S> {
 
         ensures after { OneRead at (length out.old) (facts_over S.facts self.old)
             (facts_over S.facts self.new) result out.new }
-        ensures call { PassedOrRefused S.facts self.old self.new result (self.new ≡ refused_once self.old) }
+        ensures call { PassedOrRefused S.facts self.old self.new result
+            (self.new ≡ refused_once self.old) }
     {
         self.calls.tick();
         if self.left == 0 {

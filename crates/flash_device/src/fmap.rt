@@ -1,4 +1,4 @@
-//! The search for a flashmap and for a region.
+//! The search for a flash map and for a region.
 ghost use Rattle.std.specs.Prelude.{◌≡◌, ◌+◌, ◌-◌, ◌*◌, ◌/◌, ◌<◌, ◌≤◌, ◌↔◌, ◌⊎◌, length, drop, OnErr, IfOk, IfSome, IsErrOf};
 ghost use Rattle.std.specs.List.{find};
 ghost use Rattle.flash_format.specs.Flashmap.{fmap_head_len, area_len, map_len, area_of, areas_from, is_area};
@@ -21,26 +21,25 @@ const AREA_LENGTH: u64 = Area::LENGTH as u64;
 
 const SIGNATURE_LENGTH: u64 = FmapHead::SIGNATURE.len() as u64;
 
-/// The least distance of two signatures, which begin and end with the same two bytes.
+/// The minimum distance of two signatures, which begin and end with the same two bytes.
 const SIGNATURE_STEP: u64 = 6;
 
-/// A valid flashmap of an image.
+/// A valid flash map in an image.
 #[derive(Clone, Copy, Drop)]
 pub struct FoundMap {
-    /// Where it stands, counted from the image's first byte.
+    /// The map's offset in the image.
     pub at: u64,
-    /// The head that stands there.
     pub head: FmapHead,
 }
 
-/// Why there is no region of a name, with the number of the refusal.
+/// The reason for a missing region, with cbfstool's number of the refusal.
 #[derive(Clone, Copy, Debug, PartialEq, Eq, Drop)]
 pub enum StoreFault {
-    /// A read of the device was refused.
+    /// A read of the device failed.
     Device = 1,
-    /// The image has no valid flashmap.
+    /// The image has no valid flash map.
     NoFmap = 4,
-    /// The map has no area of the name.
+    /// The map has no area with the name.
     NoRegion = 5,
     /// The area ends after the image's end.
     RegionOutside = 6,
@@ -56,27 +55,31 @@ impl From<FlashFault> for StoreFault {
     }
 }
 
-/// The image's flashmap: the lowest valid one, or `None`.
+/// Returns the image's flash map: the lowest valid map.
 pub fn find_fmap<F: Flash>(paged: &mut Paged<F>) -> Result<Option<FoundMap>, FlashFault>
-    ensures after { HasAnswered F.facts (length (F.facts paged.old.device).content / 2 + 8) paged.old paged.new result }
+    ensures after { HasAnswered F.facts (length (F.facts paged.old.device).content / 2 + 8)
+        paged.old paged.new result }
     ensures fits { IfOk result (λ found. IfSome found (λ map.
         map.at + map_len map.head ≤ length (F.facts paged.old.device).content)) }
-    ensures found { OnHonest F.facts paged.old.device (λ image. IfOk result (λ found. found ≡ found_in image)) }
+    ensures found { OnHonest F.facts paged.old.device
+        (λ image. IfOk result (λ found. found ≡ found_in image)) }
 {
     find_fmap_from(paged, 0)
 }
 
-/// The lowest valid flashmap at this place or above it, or `None`.
+/// Returns the lowest valid flash map from an offset on.
 pub fn find_fmap_from<F: Flash>(
     paged: &mut Paged<F>,
     from: u64,
 ) -> Result<Option<FoundMap>, FlashFault>
     requires { from ≤ length (F.facts paged.old.device).content }
 
-    ensures after { HasAnswered F.facts (length (F.facts paged.old.device).content / 2 + 8) paged.old paged.new result }
+    ensures after { HasAnswered F.facts (length (F.facts paged.old.device).content / 2 + 8)
+        paged.old paged.new result }
     ensures fits { IfOk result (λ found. IfSome found (λ map.
         map.at + map_len map.head ≤ length (F.facts paged.old.device).content)) }
-    ensures found { OnHonest F.facts paged.old.device (λ image. IfOk result (λ found. found ≡ found_from from image)) }
+    ensures found { OnHonest F.facts paged.old.device
+        (λ image. IfOk result (λ found. found ≡ found_from from image)) }
 {
     let len = paged.len();
     let mut place = from;
@@ -89,14 +92,13 @@ pub fn find_fmap_from<F: Flash>(
                 }
                 place = at + SIGNATURE_STEP;
             }
-            // A signature that goes on into the next piece begins in the last seven bytes.
+            // A signature across the next piece begins in the last seven bytes.
             None => place += size - (SIGNATURE_LENGTH - 1),
         }
     }
     Ok(None)
 }
 
-/// The first place at which the signature stands within the n bytes from `at` on.
 fn signature_in<F: Flash>(
     paged: &mut Paged<F>,
     at: u64,
@@ -107,7 +109,8 @@ fn signature_in<F: Flash>(
 
     ensures after { HasAnswered F.facts 1 paged.old paged.new result }
     ensures within { IfOk result (λ place. IfSome place (λ q. (at ≤ q) × (q + 8 ≤ at + n))) }
-    ensures first { OnHonest F.facts paged.old.device (λ image. IfOk result (IsFirst (HasSignatureAt image) at (at + n - 7))) }
+    ensures first { OnHonest F.facts paged.old.device
+        (λ image. IfOk result (IsFirst (HasSignatureAt image) at (at + n - 7))) }
 {
     paged.places_fit();
     let bytes = paged.piece(at, n)?;
@@ -117,7 +120,6 @@ fn signature_in<F: Flash>(
     }
 }
 
-/// The head of the valid map at a place of a device of `len` bytes.
 fn map_head_at<F: Flash>(
     paged: &mut Paged<F>,
     place: u64,
@@ -126,7 +128,8 @@ fn map_head_at<F: Flash>(
     requires { len ≡ length (F.facts paged.old.device).content }
 
     ensures after { HasAnswered F.facts 1 paged.old paged.new result }
-    ensures head { OnHonest F.facts paged.old.device (λ image. IfOk result (λ found. found ≡ map_head (drop place image))) }
+    ensures head { OnHonest F.facts paged.old.device
+        (λ image. IfOk result (λ found. found ≡ map_head (drop place image))) }
     ensures fits { IfOk result (λ found. IfSome found (λ head. place + map_len head ≤ len)) }
 {
     if len < HEAD_LENGTH || place > len - HEAD_LENGTH {
@@ -137,7 +140,6 @@ fn map_head_at<F: Flash>(
     Ok(head_in(&bytes, len - place))
 }
 
-/// The head in these bytes, with `left` bytes from them up to the image's end.
 fn head_in(bytes: &[u8; FmapHead::LENGTH], left: u64) -> Option<FmapHead>
     requires { fmap_head_len ≤ left }
     ensures head { result ≡ map_head_in bytes.now left }
@@ -150,14 +152,16 @@ fn head_in(bytes: &[u8; FmapHead::LENGTH], left: u64) -> Option<FmapHead>
     Some(head)
 }
 
-/// The area of this number, counted from 0, of a map.
+/// Reads the area with an index, from 0, in a map.
 pub fn area<F: Flash>(paged: &mut Paged<F>, map: &FoundMap, i: u16) -> Result<Area, FlashFault>
-    requires inside { map.now.at + map_len map.now.head ≤ length (F.facts paged.old.device).content }
+    requires inside { map.now.at + map_len map.now.head
+        ≤ length (F.facts paged.old.device).content }
     requires number { i < map.now.head.nareas }
 
     ensures after { HasAnswered F.facts 1 paged.old paged.new result }
     ensures area { OnHonest F.facts paged.old.device (λ image.
-        IfOk result (λ area. area ≡ area_of (drop (map.now.at + fmap_head_len + area_len * i) image))) }
+        IfOk result
+        (λ area. area ≡ area_of (drop (map.now.at + fmap_head_len + area_len * i) image))) }
 {
     paged.places_fit();
     let mut bytes = [0; Area::LENGTH];
@@ -166,16 +170,17 @@ pub fn area<F: Flash>(paged: &mut Paged<F>, map: &FoundMap, i: u16) -> Result<Ar
     Ok(Area::read(&bytes))
 }
 
-/// The first area of the name.
 fn area_named<F: Flash>(
     paged: &mut Paged<F>,
     map: &FoundMap,
     name: &[u8],
 ) -> Result<Option<Area>, FlashFault>
-    requires inside { map.now.at + map_len map.now.head ≤ length (F.facts paged.old.device).content }
+    requires inside { map.now.at + map_len map.now.head
+        ≤ length (F.facts paged.old.device).content }
 
     ensures after { HasAnswered F.facts map.now.head.nareas paged.old paged.new result }
-    ensures first { OnHonest F.facts paged.old.device (λ image. IfOk result (λ area. area ≡ find (is_area name.now)
+    ensures first { OnHonest F.facts paged.old.device
+        (λ image. IfOk result (λ area. area ≡ find (is_area name.now)
         (areas_from map.now.head.nareas (drop (map.now.at + fmap_head_len) image)))) }
 {
     for i in 0..map.head.nareas {
@@ -187,8 +192,8 @@ fn area_named<F: Flash>(
     Ok(None)
 }
 
-/// The area as a region of an image of `image_len` bytes. What is refused: no area (5), an area that doesn't lie inside the
-/// image (6).
+/// Returns an area as a region of an image of `image_len` bytes. Errors: no area (5), or an area
+/// outside the image (6).
 pub fn region_of_area(area: Option<Area>, image_len: u64) -> Result<Region, StoreFault>
     ensures answer { result ≡ region_by_area image_len area }
     ensures lies_in { IfOk result (λ region. region.start + region.size ≤ image_len) }
@@ -203,12 +208,14 @@ pub fn region_of_area(area: Option<Area>, image_len: u64) -> Result<Region, Stor
     }
 }
 
-/// Where the first area of the name lies, by the image's flashmap. What is refused first: no map (4), no area of the name
-/// in it (5), an area that doesn't lie inside the image (6); a fault of the device (1) where it happens.
+/// Returns the region of the first area with the given name in the image's flash map. Errors, in
+/// order: no map (4), no area with the name (5), an area outside the image (6); a device fault (1)
+/// at any read.
 #[tactic(auto, unfolding(crate::specs::Regions::region_of))]
 pub fn region<F: Flash>(paged: &mut Paged<F>, name: &[u8]) -> Result<Region, StoreFault>
     ensures after { HasRead F.facts (length (F.facts paged.old.device).content / 2
-        + length (F.facts paged.old.device).content / area_len + 8) (faults_told by_device result) paged.old paged.new }
+        + length (F.facts paged.old.device).content / area_len + 8) (faults_told by_device result)
+        paged.old paged.new }
     ensures inside { IfOk result (λ region. LiesIn region (F.facts paged.old.device).content) }
     ensures answer { OnHonest F.facts paged.old.device (λ image.
         IsErrOf result StoreFault.Device ⊎ (result ≡ region_of image name.now)) }
@@ -220,11 +227,13 @@ pub fn region<F: Flash>(paged: &mut Paged<F>, name: &[u8]) -> Result<Region, Sto
     region_of_area(area, paged.len())
 }
 
-/// The head of the valid map that a source begins with.
+/// Returns the head of the valid map at the front of a source.
 pub fn map_in_source<S: Source>(source: &mut S) -> Result<Option<FmapHead>, SourceFault>
     ensures calls { Reads 1 (refusals result) (S.facts source.old) (S.facts source.new) }
-    ensures fits { IfOk result (λ found. IfSome found (λ head. map_len head ≤ length (S.facts source.old).content)) }
-    ensures head { OnHonest S.facts source.old (λ content. IfOk result (λ found. found ≡ map_head content)) }
+    ensures fits { IfOk result
+        (λ found. IfSome found (λ head. map_len head ≤ length (S.facts source.old).content)) }
+    ensures head { OnHonest S.facts source.old
+        (λ content. IfOk result (λ found. found ≡ map_head content)) }
 {
     let len = source.len();
     if len < HEAD_LENGTH {
@@ -235,7 +244,7 @@ pub fn map_in_source<S: Source>(source: &mut S) -> Result<Option<FmapHead>, Sour
     Ok(head_in(&bytes, len))
 }
 
-/// The area of this number, counted from 0, of a map that a source begins with.
+/// Reads the area with an index, from 0, in a map at the front of a source.
 pub fn area_in_source<S: Source>(
     source: &mut S,
     head: &FmapHead,

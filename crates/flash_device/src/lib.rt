@@ -1,5 +1,5 @@
-//! A flash chip or its image as a device, sources and sinks, the one buffer through which bytes pass, and the search for
-//! a region by an image's flashmap.
+//! Devices, sources and sinks, a buffered device, and the search for a region in an image's flash
+//! map.
 #![tactic(auto)]
 
 mod counter;

@@ -1,4 +1,4 @@
-//! A device in memory, which is honest and never fails.
+//! A device in memory.
 ghost use Rattle.std.specs.Prelude.{◌≡◌, ◌+◌, ◌^◌, ◌<◌, ◌≤◌, true, length, MatchResult, vec_len};
 ghost use Rattle.flash_device.specs.Device.{overwritten};
 
@@ -7,7 +7,7 @@ use crate::flash::{Flash, FlashFault};
 use flash_format::HEADER_LENGTH;
 use std::marker::Model;
 
-/// A device over bytes that it owns, fewer than 2^32.
+/// An honest device over owned bytes, fewer than 2^32. No call fails.
 #[derive(Drop)]
 pub struct MemFlash {
     bytes: Vec<u8>,
@@ -26,7 +26,7 @@ impl Model for MemFlash {
 }
 
 impl MemFlash {
-    /// Hands the bytes back where there are 2^32 or more.
+    /// Makes a device, or returns the bytes if their length is 2^32 or more.
     pub fn new(bytes: Vec<u8>) -> Result<MemFlash, Vec<u8>>
         ensures { MatchResult result
             (λ device. device ≡ record { content = bytes.items; calls = 0 })
@@ -41,17 +41,19 @@ impl MemFlash {
         })
     }
 
-    /// All its bytes as they are now.
+    /// Returns the present content.
     pub fn bytes(&self) -> &[u8]
         ensures { result.now ≡ self.now.content }
     {
         self.bytes.as_slice()
     }
 
-    /// Writes the bytes from `at` on, as one call.
     fn replace(&mut self, at: u64, bytes: &[u8])
         requires { at + length bytes.now ≤ length self.old.content }
-        ensures { self.new ≡ record { content = overwritten self.old.content at bytes.now; calls = self.old.calls + 1 } }
+        ensures { self.new ≡ record {
+          content = overwritten self.old.content at bytes.now;
+          calls = self.old.calls + 1;
+        } }
     {
         self.calls.tick();
         let start = at as usize;
@@ -61,7 +63,8 @@ impl MemFlash {
 }
 
 impl Flash for MemFlash {
-    ghost facts = { λ m. record { content = m.content; calls = m.calls; faults = 0; honest = true } };
+    ghost facts = { λ m.
+        record { content = m.content; calls = m.calls; faults = 0; honest = true } };
 
     fn len(&self) -> u64 {
         self.bytes.len() as u64

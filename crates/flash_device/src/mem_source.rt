@@ -1,11 +1,11 @@
-//! A source in memory, which is honest and never fails.
+//! A source in memory.
 ghost use Rattle.std.specs.Prelude.{◌≡◌, ◌+◌, ◌^◌, ◌<◌, ◌≤◌, length, true};
 
 use crate::counter::Counter;
 use crate::source::{Source, SourceFault};
 use std::marker::Model;
 
-/// A source over borrowed bytes, fewer than 2^32.
+/// An honest source over borrowed bytes, fewer than 2^32. No call fails.
 #[derive(Drop)]
 pub struct MemSource<'a> {
     bytes: &'a [u8],
@@ -24,7 +24,6 @@ impl<'a> Model for MemSource<'a> {
 }
 
 impl<'a> MemSource<'a> {
-    /// The source of these bytes, before any read.
     pub fn new(bytes: &'a [u8]) -> MemSource<'a>
         requires { length bytes.now < 2 ^ 32 }
         ensures { result ≡ record { content = bytes.now; calls = 0 } }
@@ -37,7 +36,8 @@ impl<'a> MemSource<'a> {
 }
 
 impl<'a> Source for MemSource<'a> {
-    ghost facts = { λ m. record { content = m.content; calls = m.calls; faults = 0; honest = true } };
+    ghost facts = { λ m.
+        record { content = m.content; calls = m.calls; faults = 0; honest = true } };
 
     fn len(&self) -> u64 {
         self.bytes.len() as u64

@@ -1,4 +1,4 @@
-//! A device and one buffer, through which everything passes in pieces.
+//! A device with a buffer for reads and copies.
 ghost use Rattle.std.specs.Prelude.{◌≡◌, ℕ, List, ◌++◌, ◌+◌, ◌/◌, ◌^◌, ◌<◌, ◌≤◌, ◌↔◌, length, take, IsTrue, OnOk, IfOk, IsErrOf, slice_range, replicate};
 ghost use Rattle.flash_device.specs.Device.{OneCall, OneRead, OneWrite, OneCommit, refusals};
 ghost use Rattle.flash_device.specs.Pages.{HasFilled, HasCopiedIn, HasCopiedOut};
@@ -12,14 +12,14 @@ use crate::watch::{Nobody, Watch};
 use flash_format::HEADER_LENGTH;
 use std::marker::Model;
 
-/// Why a copy stopped, with the number of the refusal.
+/// The reason for a stopped copy, with cbfstool's number of the refusal.
 #[derive(Clone, Copy, Debug, PartialEq, Eq, Drop)]
 pub enum CopyFault {
-    /// A call of the device was refused.
+    /// A call of the device failed.
     Device = 1,
-    /// The sink took nothing more.
+    /// The sink failed.
     Output = 2,
-    /// A read of the source was refused.
+    /// A read of the source failed.
     Source = 3,
 }
 
@@ -53,29 +53,27 @@ impl From<SourceFault> for CopyFault {
     }
 }
 
-/// What the buffer holds.
 #[derive(Clone, Copy, Drop)]
 enum Buffered {
     Nothing,
-    /// Bytes of the device from a place on, as a read gave them.
+    /// Device bytes from an offset on, after a read.
     Window { at: u64, size: usize },
-    /// The piece of a source that was last pulled.
+    /// The source's last pulled piece.
     Piece { size: usize },
 }
 
-/// A device and one buffer of 4096 bytes, through which all its bytes pass but those of a commit.
+/// A device with a buffer of 4096 bytes. All bytes pass through the buffer, except commits.
 ///
-/// The buffer holds nothing, a window or a piece.
-/// - A window is bytes of the device from a place on, up to 4096, as a read gave them. `read_small`, `piece` and
-///   `copy_out` answer a range that lies inside it without a call; for any other they load the window anew, from the
-///   range's begin on. A window is dropped by all that writes (`commit`, `fill`, `copy_in`) or that needs the buffer
-///   (`pull`), and by a refused read.
-/// - A piece is bytes of a source: `pull` loads it, and each `push` after it writes it to a place of the device, as often
-///   as is wanted. Every other call that reads or writes drops it, and so does a refused `pull`; `push` may be called only
-///   while a piece is held.
+/// The buffer is empty, or holds a window or a piece.
+/// - A window is up to 4096 bytes of the device, after a read. `read_small`, `piece` and `copy_out`
+///   need no call for a range inside the window; otherwise they load a window from the range's
+///   start on. Writes (`commit`, `fill`, `copy_in`), `pull` and failed reads drop the window.
+/// - A piece is bytes of a source: `pull` loads a piece, and `push` writes the piece to the device,
+///   any number of times. All other reads and writes and a failed `pull` drop the piece. `push`
+///   requires a piece.
 ///
-/// `piece` and `pull` lend a part of the buffer, so what they leave is known once the part is given back: their clauses
-/// under `sem` say it.
+/// `piece` and `pull` return a borrowed part of the buffer. Their `sem` clauses describe the state
+/// after the borrow.
 #[derive(Drop)]
 pub struct Paged<F: Flash> {
     device: F,
@@ -90,16 +88,25 @@ impl<F: Flash> Model for Paged<F> {
 
     ghost view = { λ p. record { device = p.device; held = held_in p.buffer p.held } };
 
-    ghost invariant = { λ p. FitsBuffer p.held × IsTrueTo (F.facts p.device) (held_in p.buffer p.held) };
+    ghost invariant = { λ p. FitsBuffer p.held
+        × IsTrueTo (F.facts p.device) (held_in p.buffer p.held) };
 }
 
 impl<F: Flash> Paged<F> {
     ghost use Rattle.std.specs.Borrow.{sem};
     ghost use Rattle.std.specs.Io.BufRead.{Rests};
-    ghost use Rattle.flash_device.specs.Pages.{Nothing, OnHonest, HasSeen, HasPulled, HasPiece, Covers, without_piece};
+    ghost use Rattle.flash_device.specs.Pages.{
+      Nothing,
+      OnHonest,
+      HasSeen,
+      HasPulled,
+      HasPiece,
+      Covers,
+      without_piece,
+    };
     ghost use Rattle.flash_device.specs.contracts.paged.Paged.{the_row};
 
-    /// Nothing is held, and no call is made.
+    /// Makes an empty buffer, without a call.
     pub fn new(device: F) -> Paged<F>
         ensures { result ≡ record { device = device; held = Nothing } }
     {
@@ -110,7 +117,7 @@ impl<F: Flash> Paged<F> {
         }
     }
 
-    /// How many bytes the device has.
+    /// Returns the length of the device in bytes.
     pub fn len(&self) -> u64
         ensures length { result ≡ length (F.facts self.now.device).content }
         ensures below { result < 2 ^ 32 }
@@ -118,22 +125,22 @@ impl<F: Flash> Paged<F> {
         self.device.len()
     }
 
-    /// Gives its caller that every place on the device fits 32 bits, so that sums of places don't overflow. It does
-    /// nothing when the program runs.
+    /// Proves to its caller that every offset on the device fits in 32 bits, so sums of offsets
+    /// don't overflow. No effect at run time.
     pub fn places_fit(&self)
         ensures { length (F.facts self.now.device).content < 2 ^ 32 }
     {
         let _len = self.device.len();
     }
 
-    /// The device as it is now.
+    /// Returns the device.
     pub fn flash(&self) -> &F
         ensures { result.now ≡ self.now.device }
     {
         &self.device
     }
 
-    /// The device alone: every write has reached it already.
+    /// Returns the device. The buffer has no pending writes.
     pub fn into_flash(self) -> F
         ensures { result ≡ self.device }
     {
@@ -141,7 +148,6 @@ impl<F: Flash> Paged<F> {
         device
     }
 
-    /// From here on no piece is held; a window is kept.
     fn forget_piece(&mut self)
         ensures { self.new ≡ record self.old { held = without_piece self.old.held } }
     {
@@ -150,14 +156,15 @@ impl<F: Flash> Paged<F> {
         }
     }
 
-    /// Reads at most 4096 bytes into `out`, from the window where it has them.
+    /// Reads at most 4096 bytes into `out`, from the window if possible.
     pub fn read_small(&mut self, at: u64, out: &mut [u8]) -> Result<(), FlashFault>
         requires inside { at + length out.old ≤ length (F.facts self.old.device).content }
         requires short { length out.old ≤ 4096 }
 
         ensures after { HasSeen F.facts at (length out.old) self.old self.new result }
-        ensures read { IsTrue (F.facts self.old.device).honest →
-            OnOk result (out.new ≡ slice_range (F.facts self.old.device).content at (at + length out.old)) }
+        ensures read { IsTrue (F.facts self.old.device).honest
+            → OnOk result
+            (out.new ≡ slice_range (F.facts self.old.device).content at (at + length out.old)) }
     {
         let n = out.len();
         self.fetch(at, n)?;
@@ -165,7 +172,7 @@ impl<F: Flash> Paged<F> {
         Ok(())
     }
 
-    /// The n bytes from `at` on, from the window where it has them.
+    /// Returns n bytes at an offset, from the window if possible.
     pub fn piece(&mut self, at: u64, n: usize) -> Result<&[u8], FlashFault>
         requires inside { at + n ≤ length (F.facts self.old.device).content }
         requires short { n ≤ 4096 }
@@ -173,27 +180,26 @@ impl<F: Flash> Paged<F> {
         ensures* after { sem 𝓛 (Rests (the_row F.row F.Flash) self.entry (λ new.
             HasSeen F.facts at n self.old new result)) }
         ensures size { IfOk result (λ bytes. length bytes.now ≡ n) }
-        ensures read { IsTrue (F.facts self.old.device).honest →
-            IfOk result (λ bytes. bytes.now ≡ slice_range (F.facts self.old.device).content at (at + n)) }
+        ensures read { IsTrue (F.facts self.old.device).honest
+            → IfOk result
+            (λ bytes. bytes.now ≡ slice_range (F.facts self.old.device).content at (at + n)) }
     {
         self.fetch(at, n)?;
         let window = &*self;
         Ok(window.part(at, n))
     }
 
-    /// A window is held, and has all of the n bytes from `at` on.
     fn covers(&self, at: u64, n: usize) -> bool
         ensures { IsTrue result ↔ Covers self.now.held at n }
     {
         let Buffered::Window { at: from, size } = self.held else {
             return false;
         };
-        // What is promised counts the bytes that are held.
+        // The contract uses the length of the buffered bytes.
         let held = self.buffer[..size].len();
         from <= at && n <= held && at - from <= (held - n) as u64
     }
 
-    /// Loads a window from `at` on, unless it has the n bytes from there on.
     fn fetch(&mut self, at: u64, n: usize) -> Result<(), FlashFault>
         requires inside { at + n ≤ length (F.facts self.old.device).content }
         requires short { n ≤ 4096 }
@@ -210,11 +216,11 @@ impl<F: Flash> Paged<F> {
         Ok(())
     }
 
-    /// The n bytes from `at` on, which the window has.
     fn part(&self, at: u64, n: usize) -> &[u8]
         requires { Covers self.now.held at n }
         ensures size { length result.now ≡ n }
-        ensures read { OnHonest F.facts self.now.device (λ image. result.now ≡ slice_range image at (at + n)) }
+        ensures read { OnHonest F.facts self.now.device
+            (λ image. result.now ≡ slice_range image at (at + n)) }
     {
         match self.held {
             Buffered::Window { at: from, .. } => {
@@ -225,7 +231,7 @@ impl<F: Flash> Paged<F> {
         }
     }
 
-    /// Loads n bytes of a source, from `from` on, as the piece that `push` writes.
+    /// Loads n bytes of a source, from `from` on, as the piece for `push`.
     pub fn pull<S: Source>(
         &mut self,
         source: &mut S,
@@ -241,9 +247,11 @@ impl<F: Flash> Paged<F> {
         ensures size { IfOk result (λ bytes. length bytes.now ≡ n) }
 
         // From an honest source.
-        ensures read { IsTrue (S.facts source.old).honest →
-            IfOk result (λ bytes. bytes.now ≡ slice_range (S.facts source.old).content from (from + n)) }
-        ensures unchanged { OnHonest S.facts source.old (λ content. (S.facts source.new).content ≡ content) }
+        ensures read { IsTrue (S.facts source.old).honest
+            → IfOk result
+            (λ bytes. bytes.now ≡ slice_range (S.facts source.old).content from (from + n)) }
+        ensures unchanged { OnHonest S.facts source.old
+            (λ content. (S.facts source.new).content ≡ content) }
     {
         self.held = Buffered::Nothing;
         load_from(source, &mut self.buffer, from, n)?;
@@ -251,9 +259,11 @@ impl<F: Flash> Paged<F> {
         Ok(&self.buffer[..n])
     }
 
-    /// Writes the piece that is held to the place `at`, and keeps it. A refused write may leave anything in its range.
+    /// Writes the piece to an offset, without dropping the piece. After a fault, the range is
+    /// unspecified.
     pub fn push(&mut self, at: u64) -> Result<(), FlashFault>
-        requires { HasPiece self.old.held (λ bytes. at + length bytes ≤ length (F.facts self.old.device).content) }
+        requires { HasPiece self.old.held
+            (λ bytes. at + length bytes ≤ length (F.facts self.old.device).content) }
 
         ensures after { HasPiece self.old.held (λ bytes.
             OneWrite at bytes (F.facts self.old.device) (F.facts self.new.device) result) }
@@ -266,22 +276,24 @@ impl<F: Flash> Paged<F> {
         self.device.write_at(at, &self.buffer[..size])
     }
 
-    /// Replaces the first bytes of a cell, whole or not at all.
+    /// Writes the first bytes of a cell atomically.
     pub fn commit(&mut self, at: u64, bytes: &[u8; HEADER_LENGTH]) -> Result<(), FlashFault>
         requires { at + length bytes.now ≤ length (F.facts self.old.device).content }
 
-        ensures after { OneCommit at bytes.now (F.facts self.old.device) (F.facts self.new.device) result }
+        ensures after { OneCommit at bytes.now (F.facts self.old.device)
+            (F.facts self.new.device) result }
         ensures dropped { self.new.held ≡ Nothing }
     {
         self.held = Buffered::Nothing;
         self.device.commit_at(at, bytes)
     }
 
-    /// Writes n times the same byte. Where a write fails, its piece may hold anything.
+    /// Writes a byte n times. After a fault, up to 4096 bytes of the range are unspecified.
     pub fn fill(&mut self, at: u64, n: u64, byte: u8) -> Result<(), FlashFault>
         requires { at + n ≤ length (F.facts self.old.device).content }
 
-        ensures after { HasFilled at n byte (F.facts self.old.device) (F.facts self.new.device) result }
+        ensures after { HasFilled at n byte (F.facts self.old.device)
+            (F.facts self.new.device) result }
         ensures dropped { self.new.held ≡ Nothing }
     {
         self.held = Buffered::Nothing;
@@ -289,18 +301,20 @@ impl<F: Flash> Paged<F> {
         write_copies(&mut self.device, at, n, &self.buffer, byte)
     }
 
-    /// Writes the first n bytes of a source. Where a write fails, its piece may hold anything.
+    /// Writes the first n bytes of a source. After a device fault, up to 4096 bytes of the range
+    /// are unspecified.
     pub fn copy_in<S: Source>(&mut self, at: u64, n: u64, source: &mut S) -> Result<(), CopyFault>
         requires inside { at + n ≤ length (F.facts self.old.device).content }
         requires in_source { n ≤ length (S.facts source.old).content }
 
-        ensures after { HasCopiedIn F.facts S.facts at n self.old.device self.new.device source.old source.new result }
+        ensures after { HasCopiedIn F.facts S.facts at n self.old.device self.new.device source.old
+            source.new result }
         ensures dropped { self.new.held ≡ Nothing }
     {
         self.copy_in_watched(at, n, source, &mut Nobody)
     }
 
-    /// The same in sight of a watcher, which is shown the bytes of each piece before they are written.
+    /// Copies like `copy_in`. The watcher sees each piece before its write.
     pub fn copy_in_watched<S: Source, W: Watch>(
         &mut self,
         at: u64,
@@ -311,24 +325,29 @@ impl<F: Flash> Paged<F> {
         requires inside { at + n ≤ length (F.facts self.old.device).content }
         requires in_source { n ≤ length (S.facts source.old).content }
 
-        ensures after { HasCopiedIn F.facts S.facts at n self.old.device self.new.device source.old source.new result }
+        ensures after { HasCopiedIn F.facts S.facts at n self.old.device self.new.device source.old
+            source.new result }
         ensures dropped { self.new.held ≡ Nothing }
-        // From an honest source, whatever the device.
-        ensures shown { IsTrue (S.facts source.old).honest → (seen : List ℕ) → W.saw watch.old seen →
-            OnOk result (W.saw watch.new (seen ++ take n (S.facts source.old).content)) }
+        // From an honest source, on any device.
+        ensures shown { IsTrue (S.facts source.old).honest → (seen : List ℕ)
+            → W.saw watch.old seen
+            → OnOk result (W.saw watch.new (seen ++ take n (S.facts source.old).content)) }
     {
         self.held = Buffered::Nothing;
         copy_pieces(&mut self.device, &mut self.buffer, at, n, source, watch)
     }
 
-    /// Puts the n bytes from `at` on into a sink. Where it stops, the sink has taken some of the first of them.
+    /// Writes n bytes at an offset into a sink. After a fault, the sink has a proper prefix of the
+    /// bytes.
     pub fn copy_out<W: Sink>(&mut self, at: u64, n: u64, out: &mut W) -> Result<(), CopyFault>
         requires { at + n ≤ length (F.facts self.old.device).content }
 
         ensures after { HasCopiedOut F.facts W.contents W.faults ((n + 4095) / 4096) at n
             self.old self.new out.old out.new result }
-        ensures pieces { OnHonest F.facts self.old.device (λ image. IsErrOf result CopyFault.Device →
-            AppendsPieces (W.contents out.old) (W.contents out.new) (slice_range image at (at + n))) }
+        ensures pieces { OnHonest F.facts self.old.device
+            (λ image. IsErrOf result CopyFault.Device
+            → AppendsPieces (W.contents out.old) (W.contents out.new)
+            (slice_range image at (at + n))) }
     {
         self.forget_piece();
         self.places_fit();
@@ -341,7 +360,6 @@ impl<F: Flash> Paged<F> {
         Ok(())
     }
 
-    /// The same of at most 4096 bytes, and at least one.
     fn copy_piece<W: Sink>(&mut self, at: u64, n: usize, out: &mut W) -> Result<(), CopyFault>
         requires inside { at + n ≤ length (F.facts self.old.device).content }
         requires short { n ≤ 4096 }
@@ -349,7 +367,8 @@ impl<F: Flash> Paged<F> {
 
         ensures after { HasCopiedOut F.facts W.contents W.faults 1 at n
             self.old self.new out.old out.new result }
-        ensures none { IsErrOf result CopyFault.Device → Keeps (W.contents out.old) (W.contents out.new) }
+        ensures none { IsErrOf result CopyFault.Device
+            → Keeps (W.contents out.old) (W.contents out.new) }
     {
         let bytes = self.piece(at, n)?;
         put_all(out, bytes)?;
@@ -357,7 +376,6 @@ impl<F: Flash> Paged<F> {
     }
 }
 
-/// Reads n bytes, which become the first of the buffer.
 fn load<F: Flash>(device: &mut F, buffer: &mut [u8], at: u64, n: usize) -> Result<(), FlashFault>
     requires inside { at + n ≤ length (F.facts device.old).content }
     requires short { n ≤ 4096 }
@@ -368,7 +386,6 @@ fn load<F: Flash>(device: &mut F, buffer: &mut [u8], at: u64, n: usize) -> Resul
     device.read_at(at, &mut buffer[..n])
 }
 
-/// The same from a source.
 fn load_from<S: Source>(
     source: &mut S,
     buffer: &mut [u8],
@@ -384,7 +401,6 @@ fn load_from<S: Source>(
     source.read_at(at, &mut buffer[..n])
 }
 
-/// Writes the first n bytes of a source, piece by piece, each by way of the buffer and in sight of a watcher.
 fn copy_pieces<F: Flash, S: Source, W: Watch>(
     device: &mut F,
     buffer: &mut [u8; PIECE],
@@ -396,9 +412,10 @@ fn copy_pieces<F: Flash, S: Source, W: Watch>(
     requires inside { at + n ≤ length (F.facts device.old).content }
     requires in_source { n ≤ length (S.facts source.old).content }
 
-    ensures after { HasCopiedIn F.facts S.facts at n device.old device.new source.old source.new result }
-    ensures shown { IsTrue (S.facts source.old).honest → (seen : List ℕ) → W.saw watch.old seen →
-        OnOk result (W.saw watch.new (seen ++ take n (S.facts source.old).content)) }
+    ensures after { HasCopiedIn F.facts S.facts at n device.old device.new source.old
+        source.new result }
+    ensures shown { IsTrue (S.facts source.old).honest → (seen : List ℕ) → W.saw watch.old seen
+        → OnOk result (W.saw watch.new (seen ++ take n (S.facts source.old).content)) }
 {
     let _len = device.len();
     let mut done = 0;
@@ -413,7 +430,6 @@ fn copy_pieces<F: Flash, S: Source, W: Watch>(
     Ok(())
 }
 
-/// Writes n bytes, piece by piece, each a prefix of the same 4096 bytes.
 fn write_copies<F: Flash>(
     device: &mut F,
     at: u64,

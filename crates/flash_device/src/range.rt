@@ -3,7 +3,7 @@ ghost use Rattle.std.specs.Prelude.{◌≡◌, ◌+◌, ◌<◌, ◌≤◌, Some
 
 use std::marker::Model;
 
-/// So many bytes of an image, from a place on.
+/// A range of an image, in bytes.
 #[derive(Clone, Copy, Debug, Default, PartialEq, Eq, Drop)]
 pub struct Region {
     start: u64,
@@ -21,10 +21,11 @@ impl Model for Region {
 }
 
 impl Region {
-    /// The range of `size` bytes from `start` on, or `None` where it doesn't lie inside an image of `image_len` bytes.
+    /// Returns a range, or `None` if the range ends after `image_len`.
     pub fn within(start: u64, size: u64, image_len: u64) -> Option<Region>
         ensures { MatchOption result (image_len < start + size)
-            (λ region. (region ≡ record { start = start; size = size }) × (start + size ≤ image_len)) }
+            (λ region. (region ≡ record { start = start; size = size })
+            × (start + size ≤ image_len)) }
     {
         if start > image_len || size > image_len - start {
             return None;
@@ -32,14 +33,14 @@ impl Region {
         Some(Region { start, size })
     }
 
-    /// Where the range begins, counted from the image's first byte.
+    /// Returns the offset of the range in the image.
     pub fn start(&self) -> u64
         ensures { result ≡ self.now.start }
     {
         self.start
     }
 
-    /// How many bytes it has.
+    /// Returns the size in bytes.
     pub fn size(&self) -> u64
         ensures { result ≡ self.now.size }
     {

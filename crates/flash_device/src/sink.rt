@@ -1,4 +1,4 @@
-//! Where output goes.
+//! Output of bytes.
 ghost use Rattle.std.specs.Prelude.{◌≡◌, ℕ, ◌+◌, ◌<◌, ◌≤◌, List, Option, length, take, OnOk, OnErr, IfOk, MatchResult};
 ghost use Rattle.std.specs.Io.KnownBytes.{Appends, Keeps};
 ghost use Rattle.flash_device.specs.Output.{AppendsPart};
@@ -7,19 +7,19 @@ use crate::counter::Counter;
 use std::io::Write;
 use std::marker::Model;
 
-/// A writer that took nothing.
+/// A failed call of a sink.
 #[derive(Clone, Copy, Debug, PartialEq, Eq, Drop)]
 pub struct SinkFault;
 
-/// A writer that may take less than it was given.
+/// A writer with possibly partial writes.
 pub trait Sink {
-    /// The bytes that it holds, where it tells them.
+    /// The bytes in the sink, if known.
     ghost contents: { Self → Option (List ℕ) };
 
-    /// How often the sink has failed.
+    /// The number of failed calls.
     ghost faults: { Self → ℕ };
 
-    /// Takes the first of the bytes, at least one of them.
+    /// Writes a prefix of the bytes, at least the first byte, and returns its length.
     fn put(&mut self, bytes: &[u8]) -> Result<usize, SinkFault>
         requires { 0 < length bytes.now }
 
@@ -31,7 +31,7 @@ pub trait Sink {
         ensures cause { OnErr result (faults self.old < faults self.new) };
 }
 
-/// The sink over a writer.
+/// A sink over a writer.
 #[derive(Drop)]
 pub struct WriteSink<W: Write> {
     writer: W,
@@ -47,7 +47,6 @@ impl<W: Write> Model for WriteSink<W> {
 }
 
 impl<W: Write> WriteSink<W> {
-    /// The sink over a writer, before any call.
     pub fn new(writer: W) -> WriteSink<W>
         ensures { result ≡ record { writer = writer; faults = 0 } }
     {
@@ -57,7 +56,6 @@ impl<W: Write> WriteSink<W> {
         }
     }
 
-    /// The writer, with what it took.
     pub fn into_inner(self) -> W
         ensures { result ≡ self.writer }
     {
@@ -81,7 +79,7 @@ impl<W: Write> Sink for WriteSink<W> {
     }
 }
 
-/// Puts all the bytes. Where the sink fails, it has taken some of the first of them.
+/// Writes all bytes. After a fault, the sink has a proper prefix of the bytes.
 pub fn put_all<W: Sink>(out: &mut W, bytes: &[u8]) -> Result<(), SinkFault>
     ensures put { OnOk result (Appends (W.contents out.old) (W.contents out.new) bytes.now) }
     ensures part { OnErr result (AppendsPart (W.contents out.old) (W.contents out.new) bytes.now) }

@@ -1,25 +1,26 @@
-//! Where input comes from.
+//! Input of bytes.
 ghost use Rattle.std.specs.Prelude.{◌≡◌, ◌+◌, ◌^◌, ◌<◌, ◌≤◌, length};
 ghost use Rattle.flash_device.specs.Device.{Device, OneRead};
 
-/// A call to a source that was refused.
+/// A failed call of a source.
 #[derive(Clone, Copy, Debug, PartialEq, Eq, Drop)]
 pub struct SourceFault;
 
-/// A file or a list of bytes that is read by position. Places count its bytes from 0.
+/// A file or memory with random access for reads. Offsets count bytes from 0.
 pub trait Source: Drop {
-    /// Its bytes, the calls but `len` and the faults so far, and whether it is honest.
+    /// The content, the number of calls except `len`, the number of faults, and the honesty.
     ghost facts: { Self → Device };
 
-    /// How many bytes there are. It makes no call, and no call changes it.
+    /// Returns the length in bytes. `len` isn't counted as a call, and no call changes the length.
     fn len(&self) -> u64
         ensures length { result ≡ length (facts self.now).content }
         ensures below { result < 2 ^ 32 };
 
-    /// Reads the bytes from `at` on. After a fault `out` may hold anything.
+    /// Reads bytes at an offset. After a fault, `out` is unspecified.
     fn read_at(&mut self, at: u64, out: &mut [u8]) -> Result<(), SourceFault>
         requires inside { at + length out.old ≤ length (facts self.old).content }
         requires short { length out.old ≤ 4096 }
 
-        ensures after { OneRead at (length out.old) (facts self.old) (facts self.new) result out.new };
+        ensures after { OneRead at (length out.old) (facts self.old) (facts self.new)
+            result out.new };
 }

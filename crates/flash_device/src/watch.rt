@@ -1,17 +1,17 @@
-//! Who is shown what is copied.
+//! Observers of copied bytes.
 ghost use Rattle.std.specs.Prelude.{◌≡◌, ℕ, List, ◌++◌};
 
-/// One that is shown bytes in pieces, in their order, while they are copied, such as a hasher.
+/// An observer of bytes, in pieces and in order, such as a hasher.
 pub trait Watch: Drop {
-    /// It may have been shown these bytes so far.
+    /// The bytes that the observer may have seen.
     ghost saw: { Self → List ℕ → Type 0 };
 
-    /// Shows the next bytes.
+    /// Passes the next bytes to the observer.
     fn see(&mut self, bytes: &[u8])
         ensures { (seen : List ℕ) → saw self.old seen → saw self.new (seen ++ bytes.now) };
 }
 
-/// A watcher that keeps nothing.
+/// An observer without state.
 #[derive(Drop)]
 pub struct Nobody;
 

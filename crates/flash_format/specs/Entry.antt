@@ -1,7 +1,7 @@
--- An entry: what stands at a place of a region, by all bytes from there up to the region's end; and the attributes of a
--- component: records of a tag, a length that counts the eight bytes of both, and data.
--- They are coreboot's CBFS file header with its name, and `struct cbfs_file_attribute`; that an entry fails the first of five
--- checks and is damaged, where a list of attributes ends and which lengths are well formed is this project's own.
+-- CBFS entries and attributes. An entry depends on all bytes up to the region's end. The formats
+-- are coreboot's CBFS file header with its name, and `struct cbfs_file_attribute`, whose length
+-- includes tag and length. This project's rules: the five checks of an entry and their order, the
+-- end of an attribute list, and the valid attribute lengths.
 use Rattle.std.specs.Prelude.{ℕ, zero, suc, pred, Bool, ◌||◌, List, [], ◌∷◌, length, slice_range, Option, Some, None, nat_lt, ◌==◌, if◌then◌else◌, not, take, Result, Ok, Err, is_some}
 use Rattle.std.specs.List.{find, list_any}
 use Rattle.std.specs.Option.{option_map, option_map_or}
@@ -19,7 +19,7 @@ pub record Attribute : Type 0 where
   pub tag : ℕ
   pub contents : List ℕ
 
--- the tag of a compression attribute: a value, then the size of the content once decompressed
+-- the tag of a compression attribute: the compression, and the decompressed size
 abbrev pub COMPRESSION : ℕ
 COMPRESSION = 0x42435a4c
 
@@ -27,30 +27,27 @@ COMPRESSION = 0x42435a4c
 abbrev pub HASH : ℕ
 HASH = 0x68736148
 
--- tags that are no attribute and come last
 abbrev pub is_unused : ℕ → Bool
 is_unused tag = tag == 0 || tag == 0xffffffff
 
--- an attribute of this tag has at least so many bytes
 abbrev pub least_len : ℕ → ℕ
 least_len tag = if tag == COMPRESSION then 16 else (if tag == HASH then 12 else 8)
 
--- the list ends here: no head of an attribute is left, or its tag is unused
+-- the list ends: fewer than eight bytes remain, or the tag is unused
 abbrev pub ends_list : List ℕ → Bool
 ends_list x = nat_lt (length x) 8 || is_unused (attr_head_of x).tag
 
--- an attribute is too short for its tag, or longer than the bytes that are left
+-- the attribute is too short for its tag, or longer than the remaining bytes
 abbrev pub has_bad_len : AttrHead → ℕ → Bool
 has_bad_len h left = nat_lt h.len (least_len h.tag) || nat_lt left h.len
 
 abbrev pub is_malformed : List ℕ → Bool
 is_malformed x = has_bad_len (attr_head_of x) (length x)
 
--- the attribute that these bytes begin with
 abbrev pub attribute : List ℕ → Attribute
 attribute x = let h = attr_head_of x in record { tag = h.tag; contents = slice_range x 8 h.len }
 
--- The attributes in bytes of which the first `skip` still belong to the one before.
+-- The attributes in bytes after the first `skip`, which belong to the previous attribute.
 unfoldable pub attributes_after : ℕ → List ℕ → Option (List Attribute)
 attributes_after skip [] = Some []
 attributes_after (suc skip) (b ∷ rest) = attributes_after skip rest
@@ -58,17 +55,19 @@ attributes_after zero (b ∷ rest) =
     let x = b ∷ rest in
     if ends_list x then Some []
     else (if is_malformed x then None
-    else option_map (λ others. attribute x ∷ others) (attributes_after (pred (attr_head_of x).len) rest))
+    else option_map (λ others. attribute x ∷ others)
+    (attributes_after (pred (attr_head_of x).len) rest))
 
--- the attributes in these bytes, or None where one is malformed
+-- the attributes, or None if an attribute is malformed
 abbrev pub attributes : List ℕ → Option (List Attribute)
 attributes x = attributes_after 0 x
 
 -- the data of the first attribute with a tag
 abbrev pub data_of : ℕ → List Attribute → Option (List ℕ)
-data_of tag all = option_map (λ (a : Attribute). a.contents) (find (λ (a : Attribute). a.tag == tag) all)
+data_of tag all =
+    option_map (λ (a : Attribute). a.contents) (find (λ (a : Attribute). a.tag == tag) all)
 
--- the name field ends at the attributes, or at the content where there are none
+-- the end of the name field: the start of the attributes, or of the content without attributes
 abbrev pub name_end : Head → ℕ
 name_end h = if h.attributes_offset == 0 then h.offset else h.attributes_offset
 
@@ -78,23 +77,22 @@ name_field h x = slice_range x 24 (name_end h)
 abbrev pub is_nul : ℕ → Bool
 is_nul b = b == 0
 
--- a NUL stands within the field's first 256 bytes
+-- the first 256 bytes of the field include a NUL
 abbrev pub has_name : List ℕ → Bool
 has_name field = list_any is_nul (take 256 field)
 
 -- the bytes between the name field and the content
 abbrev pub attribute_field : Head → List ℕ → List ℕ
-attribute_field h x = if h.attributes_offset == 0 then [] else slice_range x h.attributes_offset h.offset
+attribute_field h x =
+    if h.attributes_offset == 0 then [] else slice_range x h.attributes_offset h.offset
 
 pub data Entry : Type 0 where
   -- fewer than 24 bytes, or no magic
   absent : Entry
-  -- the first check that fails
   damaged : DamageKind → Entry
-  -- a cell of so many bytes
   cell : ℕ → Entry
 
--- what is checked of a component after its head
+-- the checks of a component after the checks of its head
 abbrev pub component : Head → List ℕ → ℕ → Entry
 component h x span =
     if not (has_name (name_field h x)) then damaged kinds.Name
@@ -105,10 +103,8 @@ abbrev pub present : Head → List ℕ → Result Extent DamageKind → Entry
 present h x (Err kind) = damaged kind
 present h x (Ok extent) = if is_free h then cell extent.span else component h x extent.span
 
--- the head that these bytes begin with, where there is one
 abbrev pub front : List ℕ → Option Head
 front x = if nat_lt (length x) 24 then None else head_at x
 
--- no entry, the first check that fails, or a cell of so many bytes
 unfoldable pub entry : List ℕ → Entry
 entry x = option_map_or (λ h. present h x (extent_of h (length x))) (front x) absent

@@ -1,6 +1,6 @@
--- The flashmap: a head and its areas, which name ranges of an image.
--- The fields are those of `struct fmap` and `struct fmap_area` of FMAP 1.1, and its numbers are little-endian.
--- What makes a map valid, and that an image's map is the lowest valid one, is this project's own.
+-- The flash map: a head, and areas, which name ranges of an image. The fields are those of `struct
+-- fmap` and `struct fmap_area` of FMAP 1.1, little-endian. This project's rules: the conditions of
+-- a valid map, and the choice of the lowest valid map.
 use Rattle.std.specs.Prelude.{ℕ, zero, suc, ◌+◌, ◌*◌, Bool, ◌&&◌, List, [], ◌∷◌, ◌++◌, length, drop, slice_index, slice_range, Option, Some, None, nat_eq, nat_le, ◌==◌, if◌then◌else◌}
 use Rattle.std.specs.List.{starts_with, list_any, list_all, before_first, find}
 use Rattle.byteorder.specs.Endian.{little_number, little_bytes}
@@ -10,15 +10,13 @@ use Rattle.flash_format.specs.declared.flashmap.FmapHead.{FmapHead}
 use Rattle.flash_format.specs.declared.flashmap.Area.{Area}
 use Rattle.flash_format.specs.Entry.{is_nul}
 
--- the little-endian number in the n bytes from a place on
+-- the little-endian number in n bytes at an offset
 abbrev pub le : ℕ → ℕ → List ℕ → ℕ
 le n at x = little_number n (slice_range x at (at + n))
 
--- how many bytes the head of a map has, with its signature
 abbrev pub fmap_head_len : ℕ
 fmap_head_len = 56
 
--- how many bytes an area has in a map
 abbrev pub area_len : ℕ
 area_len = 42
 
@@ -27,65 +25,70 @@ has_signature x = starts_with nat_eq x (codes "__FMAP__")
 
 -- the fields after the signature
 unfoldable pub fmap_head_of : List ℕ → FmapHead
-fmap_head_of x = record { major = slice_index x 8; minor = slice_index x 9; base = le 8 10 x; size = le 4 18 x; name = slice_range x 22 54; nareas = le 2 54 x }
+fmap_head_of x = record {
+  major = slice_index x 8;
+  minor = slice_index x 9;
+  base = le 8 10 x;
+  size = le 4 18 x;
+  name = slice_range x 22 54;
+  nareas = le 2 54 x;
+}
 
--- the bytes of `struct fmap`: the signature and the fields, in order
+-- the bytes of `struct fmap`
 unfoldable pub fmap_head_bytes : FmapHead → List ℕ
-fmap_head_bytes h = codes "__FMAP__" ++ (h.major ∷ h.minor ∷ []) ++ little_bytes 8 h.base ++ little_bytes 4 h.size ++ h.name ++ little_bytes 2 h.nareas
+fmap_head_bytes h =
+    codes "__FMAP__" ++ (h.major ∷ h.minor ∷ []) ++ little_bytes 8 h.base ++ little_bytes 4 h.size
+    ++ h.name ++ little_bytes 2 h.nareas
 
 unfoldable pub area_of : List ℕ → Area
-area_of x = record { offset = le 4 0 x; size = le 4 4 x; name = slice_range x 8 40; flags = le 2 40 x }
+area_of x =
+    record { offset = le 4 0 x; size = le 4 4 x; name = slice_range x 8 40; flags = le 2 40 x }
 
--- the bytes of `struct fmap_area`: the fields, in order
+-- the bytes of `struct fmap_area`
 unfoldable pub area_bytes : Area → List ℕ
 area_bytes a = little_bytes 4 a.offset ++ little_bytes 4 a.size ++ a.name ++ little_bytes 2 a.flags
 
--- the bytes before the first NUL, or all
+-- the bytes before the first NUL, or all bytes
 abbrev pub text_of : List ℕ → List ℕ
 text_of name = before_first is_nul name
 
--- a printing byte of ASCII, and no blank
+-- a printing ASCII byte except the blank
 abbrev pub is_printing : ℕ → Bool
 is_printing b = nat_le 0x21 b && nat_le b 0x7e
 
--- the name has a NUL, and only printing bytes before it
 abbrev pub is_named : List ℕ → Bool
 is_named name = list_any is_nul name && list_all is_printing (text_of name)
 
--- how long a map is, with its areas
 abbrev pub map_len : FmapHead → ℕ
 map_len h = fmap_head_len + area_len * h.nareas
 
--- what is asked of a head besides its signature, with so many bytes up to the image's end
+-- the conditions of a valid head besides its signature, with `left` bytes up to the image's end
 unfoldable pub is_valid_head : FmapHead → ℕ → Bool
 is_valid_head h left = h.major == 1 && (is_named h.name && nat_le (map_len h) left)
 
--- these bytes begin with a valid map
 unfoldable pub is_map : List ℕ → Bool
-is_map x = nat_le fmap_head_len (length x) && (has_signature x && is_valid_head (fmap_head_of x) (length x))
+is_map x =
+    nat_le fmap_head_len (length x)
+    && (has_signature x && is_valid_head (fmap_head_of x) (length x))
 
--- the lowest place of a valid map, of bytes whose first stands at this place
+-- the lowest position of a valid map; `at` is the position of the first byte
 unfoldable pub map_from : ℕ → List ℕ → Option ℕ
 map_from at [] = None
 map_from at (b ∷ x) = if is_map (b ∷ x) then Some at else map_from (at + 1) x
 
--- the image's map
 abbrev pub map_of : List ℕ → Option ℕ
 map_of image = map_from 0 image
 
--- the first n areas in these bytes
 unfoldable pub areas_from : ℕ → List ℕ → List Area
 areas_from zero x = []
 areas_from (suc n) x = area_of x ∷ areas_from n (drop area_len x)
 
--- the areas of the map at a place
 abbrev pub areas_at : List ℕ → ℕ → List Area
 areas_at image q = areas_from (fmap_head_of (drop q image)).nareas (drop (q + fmap_head_len) image)
 
--- the area has this name
 abbrev pub is_area : List ℕ → Area → Bool
 is_area name a = bytes_eq name (text_of a.name)
 
--- the first area of the name in the map at a place
+-- the first area with the given name in the map at position q
 abbrev pub area_in : List ℕ → ℕ → List ℕ → Option Area
 area_in image q name = find (is_area name) (areas_at image q)

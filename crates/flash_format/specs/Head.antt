@@ -1,6 +1,6 @@
--- The first 24 bytes of a CBFS entry, and the checks of them that need no other byte.
--- The fields are those of `struct cbfs_file` in coreboot's documentation of CBFS, and its numbers are big-endian.
--- The order of the checks and their limits are this project's own.
+-- The first 24 bytes of a CBFS entry, and the checks of a head alone. The fields are those of
+-- `struct cbfs_file` in coreboot's CBFS documentation, big-endian. This project's rules: the order
+-- of the checks and their limits.
 use Rattle.std.specs.Prelude.{ℕ, ◌+◌, ◌*◌, ◌/◌, Bool, not, ◌&&◌, ◌||◌, List, ◌++◌, slice_range, Option, Some, None, Result, Ok, Err, nat_eq, nat_lt, ◌==◌, if◌then◌else◌}
 use Rattle.std.specs.List.{starts_with}
 use Rattle.byteorder.specs.Endian.{big_number, big_bytes}
@@ -10,39 +10,42 @@ use Rattle.flash_format.specs.declared.head.Extent.{Extent}
 use Rattle.flash_format.specs.declared.head.DamageKind.{DamageKind}
 use Rattle.flash_format.specs.declared.head.DamageKind.TheVariants as kinds
 
--- the least multiple of 64 that is at least n
+-- the smallest multiple of 64 from n on
 abbrev pub round64 : ℕ → ℕ
 round64 n = (n + 63) / 64 * 64
 
--- the big-endian number in the four bytes from a place on
+-- the big-endian number in four bytes at an offset
 abbrev pub be32 : ℕ → List ℕ → ℕ
 be32 at x = big_number 4 (slice_range x at (at + 4))
 
--- the four numbers after the magic
 unfoldable pub head_of : List ℕ → Head
-head_of x = record { len = be32 8 x; kind = be32 12 x; attributes_offset = be32 16 x; offset = be32 20 x }
+head_of x =
+    record { len = be32 8 x; kind = be32 12 x; attributes_offset = be32 16 x; offset = be32 20 x }
 
 unfoldable pub has_magic : List ℕ → Bool
 has_magic x = starts_with nat_eq x (codes "LARCHIVE")
 
--- the head of 24 bytes, where they begin with the magic
 abbrev pub head_at : List ℕ → Option Head
 head_at x = if has_magic x then Some (head_of x) else None
 
--- the bytes of `struct cbfs_file`: the magic and the four numbers, in order
+-- the bytes of `struct cbfs_file`
 unfoldable pub head_bytes : Head → List ℕ
-head_bytes h = codes "LARCHIVE" ++ big_bytes 4 h.len ++ big_bytes 4 h.kind ++ big_bytes 4 h.attributes_offset ++ big_bytes 4 h.offset
+head_bytes h =
+    codes "LARCHIVE" ++ big_bytes 4 h.len ++ big_bytes 4 h.kind ++ big_bytes 4 h.attributes_offset
+    ++ big_bytes 4 h.offset
 
 -- the types deleted and null are free space
 abbrev pub is_free : Head → Bool
 is_free h = h.kind == 0 || h.kind == 0xffffffff
 
--- there are attributes, and they begin before the name has room for a NUL, or after the content's begin
+-- attributes begin before the least end of the name with its NUL, or after the start of the content
 abbrev pub attributes_misplaced : Head → Bool
-attributes_misplaced h = not (h.attributes_offset == 0) && (nat_lt h.attributes_offset 25 || nat_lt h.offset h.attributes_offset)
+attributes_misplaced h =
+    not (h.attributes_offset == 0)
+    && (nat_lt h.attributes_offset 25 || nat_lt h.offset h.attributes_offset)
 
--- The first check of a head that fails, with so many bytes from the entry up to the region's end, or else where
--- the content begins and how long the cell is.
+-- The first failed check of a head with `left` bytes up to the region's end; otherwise the
+-- content's start and the cell's length.
 unfoldable pub extent_of : Head → ℕ → Result Extent DamageKind
 extent_of h left =
     if nat_lt h.offset (if is_free h then 24 else 25) then Err kinds.Offset

@@ -1,7 +1,8 @@
--- What an edit makes: empty entries, which describe free space, and cells of components.
--- The fields are those of coreboot's `struct cbfs_file` and `struct cbfs_file_attr_hash`. To which multiple the field of a name
--- is padded, so that one of an empty entry has four bytes, all NUL; that an empty entry at a region's end spares the last four
--- bytes, where older images keep a pointer; and that a gap and what is left of a cell are 0xff, is this project's own.
+-- The results of an edit: empty entries, which describe free space, and cells of components. The
+-- fields are those of coreboot's `struct cbfs_file` and `struct cbfs_file_attr_hash`. This
+-- project's rules: the padding of a name field, so an empty entry's field is four NULs; an empty
+-- entry at a region's end excludes the last four bytes, because older images have a pointer there;
+-- a gap and the rest of a cell are 0xff.
 use Rattle.std.specs.Prelude.{ℕ, ◌-◌, Bool, List, ◌++◌, drop, replicate, Option, Some, None, is_some, if◌then◌else◌, ◌≡◌, ◌+◌, ◌*◌, ◌/◌, ◌^◌, ◌<◌, ◌≤◌, ◌==◌, ◌||◌, false, [], ◌∷◌, length, IfSome}
 use Rattle.flash_format.specs.Head.{head_bytes, round64}
 use Rattle.std.specs.List.{find, list_any}
@@ -16,54 +17,58 @@ use Rattle.flash_format.specs.declared.digest.Digest.TheVariants as digests
 use Rattle.flash_format.specs.declared.meta.Meta.{Meta}
 use Rattle.flash_format.specs.Entry.{Attribute, HASH, is_nul}
 
--- a name and its NUL are padded to a multiple of this
+-- the length of a name field is a multiple of this padding
 abbrev pub name_padding : ℕ
 name_padding = 4
 
--- how many bytes of an empty entry stand before the space that it describes: the head, and the field of an empty name
+-- the length of an empty entry's header: the head, and the field of an empty name
 abbrev pub header_length : ℕ
 header_length = 24 + name_padding
 
--- The header of an empty entry of so many bytes: its head and an empty name. Where `kept`, the cell's last four bytes are not
--- part of the space that it describes.
+-- The header of an empty entry of the given size: its head and an empty name. With `kept`, the
+-- described space excludes the cell's last four bytes.
 unfoldable pub empty_header : ℕ → Bool → List ℕ
 empty_header size kept =
-    head_bytes (record { len = size - header_length - (if kept then 4 else 0); kind = 0xffffffff; attributes_offset = 0; offset = header_length })
+    head_bytes (record {
+      len = size - header_length - (if kept then 4 else 0);
+      kind = 0xffffffff;
+      attributes_offset = 0;
+      offset = header_length;
+    })
     ++ replicate (header_length - 24) 0
 
--- n bytes 0xff up to a cell's end, where the last of them, up to four, may be kept
+-- n bytes 0xff up to a cell's end; up to four of the last bytes may be preserved
 abbrev pub padding : ℕ → Option (List ℕ) → List ℕ
 padding n None = replicate n 0xff
 padding n (Some last) = replicate (n - 4) 0xff ++ drop (4 - n) last
 
--- an empty entry of so many bytes, which keeps these four at its end
+-- an empty entry of the given size, which may preserve its last four bytes
 abbrev pub empty_entry : ℕ → Option (List ℕ) → List ℕ
 empty_entry size last = empty_header size (is_some last) ++ padding (size - header_length) last
 
--- how long the field of a name of k bytes is: the least multiple of the padding that holds the name and a NUL
+-- the length of the field for a name of k bytes: the smallest multiple of the padding with room for
+-- the name and a NUL
 abbrev pub name_room : ℕ → ℕ
 name_room k = (k / name_padding + 1) * name_padding
 
--- how many bytes a component has before its content, besides a gap
+-- the length of a component's metadata without its gap
 abbrev pub meta_length : ℕ → ℕ → ℕ
 meta_length name_len attr_len = 24 + name_room name_len + attr_len
 
--- what is known of an algorithm: its number, by vboot's `enum vb2_hash_algorithm`, how many bytes its digests have, and its name
+-- an algorithm's number in vboot's `enum vb2_hash_algorithm`, digest length and name
 pub record AlgorithmRow : Type 0 where
   pub number : ℕ
   pub len : ℕ
   pub name : List ℕ
 
--- the table of algorithms
 abbrev pub algorithm_row : Algorithm → AlgorithmRow
 algorithm_row Sha256 = record { number = 2; len = 32; name = codes "sha256" }
 algorithm_row Sha512 = record { number = 3; len = 64; name = codes "sha512" }
 
--- the algorithm of a number, where it is in the table
 abbrev pub algorithm_numbered : ℕ → Option Algorithm
-algorithm_numbered number = find (λ algorithm. (algorithm_row algorithm).number == number) (Sha256 ∷ Sha512 ∷ [])
+algorithm_numbered number =
+    find (λ algorithm. (algorithm_row algorithm).number == number) (Sha256 ∷ Sha512 ∷ [])
 
--- the digest by an algorithm that has these bytes
 abbrev pub digest_with : Algorithm → List ℕ → Digest
 digest_with Sha256 bytes = digests.Sha256 bytes
 digest_with Sha512 bytes = digests.Sha512 bytes
@@ -79,19 +84,20 @@ digest_bytes (digests.Sha512 bytes) = bytes
 abbrev pub digest_len : Digest → ℕ
 digest_len digest = (algorithm_row (algorithm digest)).len
 
--- the bytes of a hash attribute: its tag, its length, the algorithm and the digest
+-- the bytes of `struct cbfs_file_attr_hash`
 unfoldable pub hash_attribute : ℕ → List ℕ → List ℕ
-hash_attribute number bytes = big_bytes 4 HASH ++ big_bytes 4 (12 + length bytes) ++ big_bytes 4 number ++ bytes
+hash_attribute number bytes =
+    big_bytes 4 HASH ++ big_bytes 4 (12 + length bytes) ++ big_bytes 4 number ++ bytes
 
--- those of a component's hash attribute, where it has one
 abbrev pub hash_bytes : Option Digest → List ℕ
-hash_bytes digest = option_map_or (λ d. hash_attribute (algorithm_row (algorithm d)).number (digest_bytes d)) digest []
+hash_bytes digest =
+    option_map_or (λ d. hash_attribute (algorithm_row (algorithm d)).number (digest_bytes d))
+    digest []
 
--- how many bytes that has: 44 with SHA-256 and 76 with SHA-512
+-- the length of the hash attribute: 44 with SHA-256 and 76 with SHA-512
 abbrev pub hash_len : Option Digest → ℕ
 hash_len digest = option_map_or (λ d. 12 + digest_len d) digest 0
 
--- the head of a component with n bytes of content
 abbrev pub made_head : List ℕ → ℕ → Option Digest → ℕ → ℕ → Head
 made_head name kind digest gap n = record {
   len = n;
@@ -100,36 +106,38 @@ made_head name kind digest gap n = record {
   offset = meta_length (length name) (length (hash_bytes digest)) + gap;
 }
 
--- the field of a name: the name, and NULs up to the field's end
 abbrev pub padded_name : List ℕ → List ℕ
 padded_name name = name ++ replicate (name_room (length name) - length name) 0
 
--- the metadata of a component with n bytes of content: its head, its name, its hash attribute and a gap
 abbrev pub made_metadata : List ℕ → ℕ → Option Digest → ℕ → ℕ → List ℕ
-made_metadata name kind digest gap n = head_bytes (made_head name kind digest gap n) ++ padded_name name ++ hash_bytes digest ++ replicate gap 0xff
+made_metadata name kind digest gap n =
+    head_bytes (made_head name kind digest gap n) ++ padded_name name ++ hash_bytes digest
+    ++ replicate gap 0xff
 
--- the cell of a component, up to a multiple of 64, which may keep these four bytes at its end
+-- the cell of a component, up to a multiple of 64; may preserve the given last four bytes
 abbrev pub made : List ℕ → ℕ → Option Digest → ℕ → List ℕ → Option (List ℕ) → List ℕ
 made name kind digest gap content last =
     let component = made_metadata name kind digest gap (length content) ++ content in
     component ++ padding (round64 (length component) - length component) last
 
--- the attributes of a made component
 abbrev pub made_attributes : Option Digest → List Attribute
-made_attributes digest = option_map_or (λ d. record { tag = HASH; contents = big_bytes 4 (algorithm_row (algorithm d)).number ++ digest_bytes d } ∷ []) digest []
+made_attributes digest =
+    option_map_or (λ d. record {
+      tag = HASH;
+      contents = big_bytes 4 (algorithm_row (algorithm d)).number ++ digest_bytes d;
+    } ∷ []) digest []
 
--- ---- what made cells are read as
+-- ---- decoding of made cells
 
--- a digest has the length of its algorithm
 abbrev pub IsDigest : Option Digest → Type 0
 IsDigest digest = IfSome digest (λ d. length (digest_bytes d) ≡ digest_len d)
 
--- the four bytes that are kept, where some are
+-- if bytes are preserved, exactly four
 abbrev pub KeepsFour : Option (List ℕ) → Type 0
 KeepsFour last = IfSome last (λ bytes. length bytes ≡ 4)
 
--- what a component can be made of
-pub record IsMade (name : List ℕ) (kind : ℕ) (digest : Option Digest) (gap : ℕ) (content : List ℕ) : Type 0 where
+pub record IsMade (name : List ℕ) (kind : ℕ) (digest : Option Digest) (gap : ℕ)
+    (content : List ℕ) : Type 0 where
   pub name_short : length name ≤ 127
   pub name_plain : list_any is_nul name ≡ false
   pub kind_small : kind < 2 ^ 32
@@ -137,7 +145,7 @@ pub record IsMade (name : List ℕ) (kind : ℕ) (digest : Option Digest) (gap :
   pub digest_long : IsDigest digest
   pub small : length (made_metadata name kind digest gap (length content)) + length content < 2 ^ 32
 
--- ---- the same of a description
+-- ---- from a description
 
 abbrev pub described_head : Meta → Head
 described_head m = made_head m.name.now m.kind (option_copied m.digest) m.gap m.len
@@ -145,6 +153,5 @@ described_head m = made_head m.name.now m.kind (option_copied m.digest) m.gap m.
 abbrev pub described_len : Meta → ℕ
 described_len m = meta_length (length m.name.now) (hash_len (option_copied m.digest)) + m.gap
 
--- the metadata that it describes
 abbrev pub metadata_of : Meta → List ℕ
 metadata_of m = made_metadata m.name.now m.kind (option_copied m.digest) m.gap m.len

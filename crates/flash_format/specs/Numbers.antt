@@ -1,5 +1,5 @@
--- Numbers as text: decimal digits, or `0x` and hexadecimal digits of either case. Leading zeros are allowed.
--- That a number has no sign and no suffix, and is below 2^32, is this project's own.
+-- Numbers as text: decimal digits, or `0x` and hexadecimal digits of either case, with optional
+-- leading zeros. This project's rules: no sign, no suffix, and a value below 2^32.
 use Rattle.std.specs.Prelude.{ℕ, ◌+◌, ◌-◌, ◌*◌, ◌^◌, nat_le, nat_eq, nat_lt, ◌&&◌, if◌then◌else◌, List, [], ◌∷◌, drop, Option, Some, None}
 use Rattle.std.specs.List.{starts_with}
 use Rattle.std.specs.Option.{option_and_then}
@@ -11,24 +11,24 @@ digit_value b = if nat_le 48 b && nat_le b 57 then b - 48
     else (if nat_le 65 b && nat_le b 70 then b - 55
     else (if nat_le 97 b && nat_le b 102 then b - 87 else 16))
 
--- the number that goes on from a value with these digits, or None where one is no digit of the base
+-- the number after further digits, or None if a byte isn't a digit of the base
 abbrev pub value_from : ℕ → ℕ → List ℕ → Option ℕ
 value_from base n [] = Some n
-value_from base n (b ∷ bs) = if nat_lt (digit_value b) base then value_from base (n * base + digit_value b) bs else None
+value_from base n (b ∷ bs) =
+    if nat_lt (digit_value b) base then value_from base (n * base + digit_value b) bs else None
 
--- the number with these digits, of which there is at least one
+-- the number with at least one digit
 abbrev pub digits_value : ℕ → List ℕ → Option ℕ
 digits_value base [] = None
 digits_value base (b ∷ bs) = value_from base 0 (b ∷ bs)
 
--- the number, however large
 abbrev pub number_value : List ℕ → Option ℕ
-number_value text = if starts_with nat_eq text (codes "0x") then digits_value 16 (drop 2 text) else digits_value 10 text
+number_value text =
+    if starts_with nat_eq text (codes "0x") then digits_value 16 (drop 2 text)
+    else digits_value 10 text
 
--- a number that 32 bits hold
 abbrev pub in_32_bits : ℕ → Option ℕ
 in_32_bits n = if nat_lt n (2 ^ 32) then Some n else None
 
--- the number that a text stands for
 unfoldable pub number_of : List ℕ → Option ℕ
 number_of text = option_and_then in_32_bits (number_value text)

@@ -1,4 +1,4 @@
--- A component in place of free cells.
+-- The placement of a component in free cells.
 use Rattle.std.specs.Prelude.{◌≡◌, ℕ, ◌+◌, ◌-◌, ◌%◌, ◌^◌, ◌<◌, ◌≤◌, Bool, false, List, [], ◌∷◌, ◌++◌, length, Option}
 use Rattle.flash_format.specs.declared.digest.Digest.{Digest}
 use Rattle.flash_format.specs.Made.{empty_header, made_attributes}
@@ -8,17 +8,16 @@ use Rattle.flash_format.specs.Cut.{cut, IsCut}
 use Rattle.flash_format.specs.Components.{Component, component_at, components_from, components}
 use Rattle.flash_format.specs.Splices.{CellsBetween}
 
--- free space of so many bytes: none, or an empty entry's header and then anything
+-- free space of the given size: empty, or an empty entry's header and any bytes
 pub record IsSpace (size : ℕ) (bytes : List ℕ) : Type 0 where
   pub long : length bytes ≡ size
   pub header : 0 < size → (kept : Bool) × (more : List ℕ) × (bytes ≡ empty_header size kept ++ more)
 
--- its cells: none, or one
 abbrev pub space_cells : List ℕ → List (List ℕ)
 space_cells [] = []
 space_cells (b ∷ bytes) = (b ∷ bytes) ∷ []
 
--- A cell may stand at a place between start and end, and what stands before and after it there is free space.
+-- A cell lies between start and end, with free space before and after up to both ends.
 pub record IsPlacing (start end at : ℕ) (before cell after : List ℕ) : Type 0 where
   pub aligned : at % 64 ≡ 0
   pub from_start : start ≤ at
@@ -27,7 +26,6 @@ pub record IsPlacing (start end at : ℕ) (before cell after : List ℕ) : Type 
   pub space_before : IsSpace (at - start) before
   pub space_after : IsSpace (end - (at + length cell)) after
 
--- the component of a made cell at a place
 abbrev pub made_component : ℕ → List ℕ → ℕ → Option Digest → List ℕ → List ℕ → Component
 made_component at name kind digest content bytes = record {
   at = at;
@@ -38,16 +36,19 @@ made_component at name kind digest content bytes = record {
   bytes = bytes;
 }
 
--- these bytes begin with a cell of so many bytes, which is read as this component
-pub record IsReadAs (name : List ℕ) (kind : ℕ) (digest : Option Digest) (content : List ℕ) (x : List ℕ) (span : ℕ) : Type 0 where
+-- the bytes begin with a cell of the given length, which decodes to the component
+pub record IsReadAs (name : List ℕ) (kind : ℕ) (digest : Option Digest) (content : List ℕ)
+    (x : List ℕ) (span : ℕ) : Type 0 where
   pub is_cell : entry x ≡ cell span
   pub is_used : is_free (head_of x) ≡ false
   pub component : (at : ℕ) → component_at at x ≡ made_component at name kind digest content x
 
--- The region y has these cells in place of a group of free cells of x, and one component more than x. The others stay,
--- and so do the end of the cells and what is left after them.
-pub record HasOneMore (x : List ℕ) (start end : ℕ) (g : CellsBetween x start end) (cells : List (List ℕ)) (component : Component) (y : List ℕ) : Type 0 where
+-- The region y has the given cells in place of a group of free cells of x, and exactly one more
+-- component than x. All other cells, the end and the remainder are unchanged.
+pub record HasOneMore (x : List ℕ) (start end : ℕ) (g : CellsBetween x start end)
+    (cells : List (List ℕ)) (component : Component) (y : List ℕ) : Type 0 where
   pub is_cut : IsCut y (g.before ++ cells ++ g.after) g.rest g.ending
   pub same_end : (cut y).end ≡ (cut x).end
   pub old_components : components x ≡ components_from 0 g.before ++ components_from end g.after
-  pub new_components : components y ≡ components_from 0 g.before ++ (component ∷ components_from end g.after)
+  pub new_components : components y
+      ≡ components_from 0 g.before ++ (component ∷ components_from end g.after)

@@ -1,4 +1,4 @@
--- How names and numbers are printed. The forms of the texts are this project's own.
+-- Names and numbers as printed. The texts are this project's own.
 use Rattle.std.specs.Prelude.{◌≡◌, ℕ, ◌+◌, ◌≤◌, ◌/◌, ◌%◌, Bool, false, not, nat_le, ◌&&◌, List, [], ◌∷◌, ◌++◌, ◌==◌, if◌then◌else◌}
 use Rattle.std.specs.List.{flat_map, list_all}
 use Rattle.std.specs.Fmt.{digits, digit_glyph}
@@ -10,7 +10,8 @@ use Rattle.flash_format.specs.Flashmap.{is_printing}
 unfoldable pub hexadecimal : ℕ → List ℕ
 hexadecimal n = codes "0x" ++ digits 16 false n
 
--- a byte of a name: itself, or `\x` and two digits where it is no printing byte, or the backslash
+-- the text of a name's byte: the byte itself, or `\x` and two digits for the backslash and
+-- non-printing bytes
 unfoldable pub printed_byte : ℕ → List ℕ
 printed_byte b =
     if is_printing b && not (b == 0x5c) then b ∷ []
@@ -25,11 +26,11 @@ tab = codes "\t"
 abbrev pub line_feed : List ℕ
 line_feed = codes "\n"
 
--- a text that can stand between tabs: it has no byte below the blank, so no tab and no line feed
+-- a text between tabs: no byte is below the blank, so the text has no tab and no line feed
 abbrev pub is_field : List ℕ → Bool
 is_field text = list_all (nat_le 32) text
 
--- a buffer has a text after what it had, of at most so many bytes
+-- a text appended to a buffer, with an upper bound of the added length
 pub record Pushes (old : ArrayVec ℕ) (text : List ℕ) (most : ℕ) (new : ArrayVec ℕ) : Type 0 where
   pub items : new.items ≡ old.items ++ text
   pub len : array_vec_len new ≤ array_vec_len old + most

@@ -1,14 +1,13 @@
--- Neighbouring cells of a region, and others in their place.
+-- The replacement of neighbouring cells of a region.
 use Rattle.std.specs.List.{concat}
 use Rattle.std.specs.Prelude.{◌≡◌, ℕ, ◌+◌, true, List, ◌++◌, length, take, drop, All}
 use Rattle.flash_format.specs.Head.{head_of, is_free}
 use Rattle.flash_format.specs.Cut.{End, IsCut}
 
--- each of these cells is free space
 abbrev pub AllFree : List (List ℕ) → Type 0
 AllFree cells = All (λ c. is_free (head_of c) ≡ true) cells
 
--- a group of neighbouring cells of a region, from start up to end, between the others
+-- a group of neighbouring cells of a region, from start to end
 pub record CellsBetween (x : List ℕ) (start end : ℕ) : Type 0 where
   pub before : List (List ℕ)
   pub group : List (List ℕ)
@@ -19,6 +18,6 @@ pub record CellsBetween (x : List ℕ) (start end : ℕ) : Type 0 where
   pub start_is : length (concat before) ≡ start
   pub end_is : start + length (concat group) ≡ end
 
--- the bytes with others in place of those from start up to end
+-- the bytes from start to end replaced by others
 abbrev pub splice : List ℕ → ℕ → ℕ → List ℕ → List ℕ
 splice x start end new = take start x ++ (new ++ drop end x)

@@ -1,27 +1,25 @@
-//! The head of a component's attribute.
+//! Heads of component attributes.
 
 ghost use Rattle.std.specs.Prelude.{◌≡◌};
 ghost use Rattle.flash_format.specs.Entry.{attr_head_of, is_unused, least_len, has_bad_len};
 
 use byteorder::{BigEndian, ByteOrder};
 
-/// The first eight bytes of an attribute (`struct cbfs_file_attribute`).
+/// The first eight bytes of an attribute (`struct cbfs_file_attribute`), big-endian.
 #[derive(Clone, Copy, Debug, PartialEq, Eq)]
 pub struct AttrHead {
-    /// What the attribute tells; 0 and 0xffffffff are none, and end the list.
+    /// The kind of attribute. 0 and 0xffffffff end the list.
     pub tag: u32,
-    /// How many bytes the attribute has, these eight among them.
+    /// The attribute's length in bytes, including the head.
     pub len: u32,
 }
 
 impl AttrHead {
-    /// The tag of a compression attribute.
     pub const COMPRESSION: u32 = 0x4243_5a4c;
 
-    /// The tag of a hash attribute.
     pub const HASH: u32 = 0x6873_6148;
 
-    /// The head in these bytes, which are big-endian.
+    /// Decodes a head.
     #[tactic(auto, unfolding(crate::specs::Entry::attr_head_of))]
     pub fn read(bytes: &[u8; 8]) -> AttrHead
         ensures { result ≡ attr_head_of bytes.now }
@@ -32,21 +30,21 @@ impl AttrHead {
         }
     }
 
-    /// Whether this is no attribute, but the end of the list.
+    /// Returns true if the tag ends the list.
     pub fn is_unused(&self) -> bool
         ensures { result ≡ is_unused self.now.tag }
     {
         self.tag == 0 || self.tag == 0xffff_ffff
     }
 
-    /// Whether the attribute is too short for its tag, or longer than the `left` bytes up to the content.
+    /// Returns true if the attribute is too short for its tag, or longer than the `left` bytes
+    /// before the content.
     pub fn has_bad_len(&self, left: u64) -> bool
         ensures { result ≡ has_bad_len self.now left }
     {
         self.len < self.least_len() || left < u64::from(self.len)
     }
 
-    /// How many bytes an attribute of this tag has at least.
     fn least_len(&self) -> u32
         ensures { result ≡ least_len self.now.tag }
     {

@@ -1,4 +1,4 @@
-//! A text in a buffer.
+//! Text in a fixed buffer.
 
 ghost use Rattle.std.specs.Prelude.{◌+◌, ◌≤◌, length};
 ghost use Rattle.arrayvec.specs.ArrayVec.{array_vec_len};
@@ -6,7 +6,7 @@ ghost use Rattle.flash_format.specs.Printed.{Pushes};
 
 use arrayvec::ArrayVec;
 
-/// Puts a text after what a buffer has.
+/// Appends a text.
 #[inline]
 pub fn push_text<const N: usize>(buffer: &mut ArrayVec<u8, N>, text: &[u8])
     requires { array_vec_len buffer.old + length text.now ≤ N }

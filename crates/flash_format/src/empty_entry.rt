@@ -5,8 +5,10 @@ ghost use Rattle.flash_format.specs.Made.{empty_header};
 
 use crate::head::{HEADER_LENGTH, Head, NULL};
 
-/// The header of an empty entry whose cell has `cell_len` bytes. Where `kept`, as at a region's end, the space that it
-/// describes ends four bytes before the cell does. The bytes after the header are the caller's to write.
+/// Returns the header of an empty entry whose cell has `cell_len` bytes.
+///
+/// With `kept`, as at a region's end, the described space ends four bytes before the cell. The
+/// caller writes the bytes after the header.
 #[tactic(auto, unfolding(crate::specs::Made::empty_header, crate::specs::Head::head_bytes))]
 pub fn empty_header(cell_len: u32, kept: bool) -> [u8; HEADER_LENGTH]
     requires { 64 ≤ cell_len }

@@ -1,4 +1,4 @@
-//! The head and the areas of a flashmap.
+//! The head and the areas of a flash map (FMAP 1.1). All numbers are little-endian.
 
 ghost use Rattle.std.specs.Prelude.{◌≡◌, ◌≤◌, length, true, Some, None, if◌then◌else◌};
 ghost use Rattle.std.specs.List.{list_any, list_all, position};
@@ -7,34 +7,35 @@ ghost use Rattle.flash_format.specs.Flashmap.{fmap_head_of, fmap_head_bytes, has
 
 use byteorder::{ByteOrder, LittleEndian};
 
-/// The head of a flashmap, without its signature.
+/// The head of a flash map (`struct fmap`), without its signature.
 #[derive(Clone, Copy)]
 pub struct FmapHead {
-    /// The version before the point: 1 in every valid map.
+    /// The major version: 1 in every valid map.
     pub major: u8,
-    /// The version after the point, which nothing depends on.
+    /// The minor version, which is ignored.
     pub minor: u8,
-    /// Where the flash begins in the address space of its computer.
+    /// The address of the flash in the computer's memory.
     pub base: u64,
-    /// How many bytes the flash has.
+    /// The size of the flash in bytes.
     pub size: u32,
-    /// The flash's name, then NULs.
+    /// The name of the flash, padded with NULs.
     pub name: [u8; 32],
-    /// How many areas follow the head.
+    /// The number of areas after the head.
     pub nareas: u16,
 }
 
 impl FmapHead {
-    /// The bytes that a map begins with.
+    /// The first bytes of a map.
     pub const SIGNATURE: [u8; 8] = *b"__FMAP__";
 
-    /// How many bytes the head has, with its signature.
+    /// The length of the head in bytes, including the signature.
     pub const LENGTH: usize = 56;
 
-    /// The head in these bytes, or `None` without the signature.
+    /// Decodes a head, or returns `None` without the signature.
     #[tactic(auto, unfolding(crate::specs::Flashmap::fmap_head_of, crate::specs::Flashmap::has_signature))]
     pub fn read(bytes: &[u8; Self::LENGTH]) -> Option<FmapHead>
-        ensures { result ≡ (if has_signature bytes.now then Some (fmap_head_of bytes.now) else None) }
+        ensures { result
+            ≡ (if has_signature bytes.now then Some (fmap_head_of bytes.now) else None) }
     {
         if !bytes.starts_with(&Self::SIGNATURE) {
             return None;
@@ -49,7 +50,7 @@ impl FmapHead {
         })
     }
 
-    /// The bytes of `struct fmap` of FMAP 1.1 with these fields, whose numbers are little-endian.
+    /// Encodes the head as `struct fmap`.
     pub fn write(&self) -> [u8; Self::LENGTH]
         ensures bytes { result ≡ fmap_head_bytes self.now }
         ensures signature { has_signature result ≡ true }
@@ -74,7 +75,7 @@ impl FmapHead {
         out
     }
 
-    /// The name's bytes before its first NUL, or all 32.
+    /// Returns the name up to its first NUL, or all 32 bytes.
     pub fn text(&self) -> &[u8]
         ensures value { result.now ≡ text_of self.now.name }
         ensures short { length result.now ≤ 32 }
@@ -82,14 +83,14 @@ impl FmapHead {
         text_of(&self.name)
     }
 
-    /// How many bytes the map has, with its areas.
+    /// Returns the length in bytes of the map with all areas.
     pub fn map_len(&self) -> u64
         ensures { result ≡ map_len self.now }
     {
         Self::LENGTH as u64 + Area::LENGTH as u64 * u64::from(self.nareas)
     }
 
-    /// Whether a map with this head is valid, with `left` bytes from it up to the image's end.
+    /// Returns true if a map with the head is valid at `left` bytes before the image's end.
     #[tactic(auto, unfolding(crate::specs::Flashmap::is_valid_head))]
     pub fn is_valid(&self, left: u64) -> bool
         ensures { result ≡ is_valid_head self.now left }
@@ -98,24 +99,25 @@ impl FmapHead {
     }
 }
 
-/// An area of a flashmap.
+/// An area of a flash map (`struct fmap_area`).
 #[derive(Clone, Copy)]
 pub struct Area {
-    /// Where the area begins, counted from the image's first byte.
+    /// The start in the image.
     pub offset: u32,
-    /// How many bytes it has.
+    /// The size in bytes.
     pub size: u32,
-    /// Its name, then NULs.
+    /// The name, padded with NULs.
     pub name: [u8; 32],
-    /// The sum of 1 for static, 2 for compressed, 4 for read-only and 8 for preserve. They are kept and not looked at.
+    /// The sum of 1 for static, 2 for compressed, 4 for read-only and 8 for preserve. The flags are
+    /// stored, but not interpreted.
     pub flags: u16,
 }
 
 impl Area {
-    /// How many bytes an area has in a map.
+    /// The length of an encoded area in bytes.
     pub const LENGTH: usize = 42;
 
-    /// The area in these bytes.
+    /// Decodes an area.
     #[tactic(auto, unfolding(crate::specs::Flashmap::area_of))]
     pub fn read(bytes: &[u8; Self::LENGTH]) -> Area
         ensures { result ≡ area_of bytes.now }
@@ -128,7 +130,7 @@ impl Area {
         }
     }
 
-    /// The bytes of `struct fmap_area` of FMAP 1.1 with these fields, whose numbers are little-endian.
+    /// Encodes the area as `struct fmap_area`.
     pub fn write(&self) -> [u8; Self::LENGTH]
         ensures bytes { result ≡ area_bytes self.now }
         ensures read_back { area_of result ≡ self.now }
@@ -147,7 +149,7 @@ impl Area {
         out
     }
 
-    /// The name's bytes before its first NUL, or all 32.
+    /// Returns the name up to its first NUL, or all 32 bytes.
     pub fn text(&self) -> &[u8]
         ensures value { result.now ≡ text_of self.now.name }
         ensures short { length result.now ≤ 32 }
@@ -155,7 +157,7 @@ impl Area {
         text_of(self.name.as_slice())
     }
 
-    /// Whether this is the area's name.
+    /// Returns true if the area has the given name.
     pub fn name_is(&self, name: &[u8]) -> bool
         ensures { result ≡ is_area name.now self.now }
     {
@@ -178,7 +180,6 @@ fn first_nul(name: &[u8]) -> Option<usize>
     name.iter().position(|b| *b == 0)
 }
 
-/// The bytes before the first NUL, or all.
 fn text_of(name: &[u8]) -> &[u8]
     ensures value { result.now ≡ text_of name.now }
     ensures short { length result.now ≤ length name.now }

@@ -1,4 +1,4 @@
-//! The head of a CBFS entry, and the checks of it that need no other byte.
+//! The head of a CBFS entry, and the checks of a head alone.
 
 ghost use Rattle.std.specs.Prelude.{◌≡◌, Some};
 ghost use Rattle.flash_format.specs.Head.{head_at, head_bytes, is_free, attributes_misplaced, extent_of};
@@ -9,61 +9,61 @@ const MAGIC: [u8; 8] = *b"LARCHIVE";
 
 const DELETED: u32 = 0;
 
-/// The type that marks free space, as an erased chip has it.
+/// The type of free space, as on an erased chip.
 pub const NULL: u32 = 0xffff_ffff;
 
-/// The field of a name, which has at least one NUL, is padded with NULs to a multiple of this.
+/// The unit of a name field's length. The field ends with at least one NUL.
 pub const NAME_PADDING: usize = 4;
 
-/// How many bytes of an empty entry stand before the space that it describes: its head, and the field of an empty
-/// name. `lengths_are_defined` ties it to its definition.
+/// The length in bytes of an empty entry's header: the head and an empty name.
 pub const HEADER_LENGTH: usize = Head::LENGTH + NAME_PADDING;
 
-/// Where the field of a component's name ends at the earliest: it has room for a NUL.
+/// The least end of a component's name field, with room for a NUL.
 const LEAST_NAME_END: u32 = Head::LENGTH as u32 + 1;
 
-/// Why an entry is damaged: the first of these checks that fails.
+/// The first failed check of a damaged entry.
 #[derive(Clone, Copy, Debug, PartialEq, Eq)]
 pub enum DamageKind {
-    /// The content begins inside the head, or leaves a component no room for a name.
+    /// The content begins inside the head, or leaves no room for a component's name.
     Offset = 1,
-    /// The attributes begin before the name has room, or after the content's begin.
+    /// The attributes begin inside the head or the name's first byte, or after the start of the
+    /// content.
     AttrOffset = 2,
     /// The content ends after the region's end.
     Extent = 3,
-    /// The name has no NUL within its field's first 256 bytes.
+    /// The name has no NUL within the first 256 bytes of its field.
     Name = 4,
-    /// An attribute is too short for its tag, or ends after the content's begin.
+    /// An attribute is too short for its tag, or ends after the start of the content.
     AttrLength = 5,
 }
 
-/// Where the content of an entry lies that passed the checks of its head.
+/// The position of an entry's content after the checks of the head.
 #[derive(Clone, Copy, Debug, PartialEq, Eq)]
 pub struct Extent {
-    /// Where the content begins, counted from the entry.
+    /// The content's start, relative to the entry.
     pub content: u64,
-    /// How many bytes the entry's cell has, up to the next entry: a multiple of 64.
+    /// The length in bytes of the entry's cell, up to the next entry: a multiple of 64.
     pub span: u64,
 }
 
-/// The numbers that an entry begins with, after its magic (`struct cbfs_file`).
+/// The numbers of an entry after its magic (`struct cbfs_file`), big-endian.
 #[derive(Clone, Copy, Debug, PartialEq, Eq)]
 pub struct Head {
-    /// How many bytes of content there are.
+    /// The length of the content in bytes.
     pub len: u32,
-    /// The type; 0 and 0xffffffff are free space.
+    /// The type. 0 and 0xffffffff are free space.
     pub kind: u32,
-    /// Where the attributes begin, counted from the entry; 0 for none.
+    /// The start of the attributes, relative to the entry. 0 means no attributes.
     pub attributes_offset: u32,
-    /// Where the content begins, counted from the entry.
+    /// The content's start, relative to the entry.
     pub offset: u32,
 }
 
 impl Head {
-    /// How many bytes the head has, with its magic.
+    /// The length of the head in bytes, including the magic.
     pub const LENGTH: usize = 24;
 
-    /// The head in these bytes, or `None` without the magic.
+    /// Decodes a head, or returns `None` without the magic.
     #[tactic(auto, unfolding(crate::specs::Head::head_of, crate::specs::Head::has_magic))]
     pub fn read(bytes: &[u8; Self::LENGTH]) -> Option<Head>
         ensures { result ≡ head_at bytes.now }
@@ -79,7 +79,7 @@ impl Head {
         })
     }
 
-    /// The bytes of `struct cbfs_file` with these numbers, which are big-endian.
+    /// Encodes the head as `struct cbfs_file`.
     #[tactic(auto, unfolding(crate::specs::Head::head_bytes))]
     pub fn write(&self) -> [u8; Self::LENGTH]
         ensures bytes { result ≡ head_bytes self.now }
@@ -100,15 +100,15 @@ impl Head {
         out
     }
 
-    /// Whether the entry is free space.
+    /// Returns true for free space.
     pub fn is_free(&self) -> bool
         ensures { result ≡ is_free self.now }
     {
         self.kind == DELETED || self.kind == NULL
     }
 
-    /// Where the content lies, with `left` bytes from the entry up to the region's end, or what is wrong with
-    /// the head. The name and the attributes aren't looked at.
+    /// Returns the position of the content, or the first failed check of the head, with `left`
+    /// bytes from the entry to the region's end. Ignores the name and the attributes.
     #[tactic(auto, unfolding(crate::specs::Head::extent_of))]
     pub fn check(&self, left: u64) -> Result<Extent, DamageKind>
         ensures { result ≡ extent_of self.now left }
@@ -135,7 +135,6 @@ impl Head {
         })
     }
 
-    /// Whether there are attributes that begin before the name has room, or after the content's begin.
     fn attributes_misplaced(&self) -> bool
         ensures { result ≡ attributes_misplaced self.now }
     {

@@ -1,8 +1,6 @@
-//! The bytes of CBFS entries and of flashmaps: heads, attributes, areas, metadata of components, digests, and types,
-//! names and numbers as text.
+//! Encoders and decoders of CBFS entries, flash maps, and printed types, names and numbers.
 //!
-//! No call takes memory. The definitions of the formats, which every other crate's contracts speak of, lie in
-//! `specs/`; docs/FORMAT.md says them in words.
+//! No function allocates memory. `specs/` defines the formats; docs/FORMAT.md describes them.
 #![tactic(auto)]
 
 mod attribute;

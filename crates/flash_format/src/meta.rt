@@ -1,4 +1,5 @@
-//! The metadata of a component, which stands before its content: its head, its name, the hash attribute and a gap.
+//! The metadata of a component, before its content: the head, the name, the hash attribute and a
+//! gap.
 
 ghost use Rattle.std.specs.Prelude.{◌≡◌, ◌≤◌, ◌<◌, ◌+◌, ◌++◌, length, take, drop, replicate};
 ghost use Rattle.std.specs.Option.{option_copied};
@@ -12,26 +13,26 @@ use crate::digest::Digest;
 use crate::head::{Head, NAME_PADDING};
 use byteorder::{BigEndian, ByteOrder};
 
-/// How many bytes the longest metadata has: a head, the field of a name with 127 bytes, a hash attribute with SHA-512, and a
-/// gap of 63 bytes.
+/// The maximum length of metadata in bytes: a head, the field of a name with 127 bytes, a hash
+/// attribute with SHA-512, and a gap of 63 bytes.
 pub const LONGEST_METADATA: usize = Head::LENGTH + 128 + 76 + 63;
 
-/// A component, but for its content.
+/// The properties of a component except its content.
 #[derive(Clone, Copy)]
 pub struct Meta<'a> {
-    /// The name, without its NUL.
+    /// The name, without a NUL.
     pub name: &'a [u8],
-    /// The type, as `type_number` reads it. With 0 or 0xffffffff the cell would be free space.
+    /// The type, as in `type_number`. 0 and 0xffffffff would make free space.
     pub kind: u32,
-    /// How many bytes of content there are.
+    /// The length of the content in bytes.
     pub len: u32,
-    /// How many unused bytes, all 0xff, stand right before the content.
+    /// The number of unused 0xff bytes between metadata and content.
     pub gap: u32,
-    /// What the hash attribute holds. Without a digest there is none.
+    /// The digest in the hash attribute. Without a digest, the component has no hash attribute.
     pub digest: Option<&'a Digest>,
 }
 
-/// How many bytes the hash attribute with this digest has, and 0 without one.
+/// Returns the length in bytes of the hash attribute: 0 without a digest.
 #[tactic(auto, unfolding(crate::specs::Made::hash_attribute))]
 pub fn attr_len(digest: Option<&Digest>) -> usize
     ensures len { result ≡ hash_len (option_copied digest.entry) }
@@ -45,8 +46,8 @@ pub fn attr_len(digest: Option<&Digest>) -> usize
     }
 }
 
-/// How many bytes the metadata of a component has, besides the gap: its head, the field of a name with so many bytes,
-/// and a hash attribute with so many: 0 for none, 44 with SHA-256 and 76 with SHA-512, as `attr_len` says.
+/// Returns the length in bytes of a component's metadata without the gap. `attr_len` is 0 without a
+/// digest, 44 with SHA-256, and 76 with SHA-512.
 pub fn meta_len(name_len: usize, attr_len: usize) -> usize
     requires name { name_len ≤ 127 }
     requires attribute { attr_len ≤ 76 }
@@ -55,8 +56,8 @@ pub fn meta_len(name_len: usize, attr_len: usize) -> usize
     Head::LENGTH + name_room(name_len) + attr_len
 }
 
-/// Writes the metadata of a component, from `out`'s first byte on, and answers how many bytes it has. It is coreboot's
-/// `struct cbfs_file` with the name, then `struct cbfs_file_attr_hash` where there is a digest, then the gap.
+/// Writes a component's metadata to the front of `out`, and returns its length in bytes:
+/// `struct cbfs_file`, the name, `struct cbfs_file_attr_hash` if a digest is given, and the gap.
 pub fn write_meta(meta: &Meta<'_>, out: &mut [u8]) -> usize
     requires name { length meta.now.name.now ≤ 127 }
     requires gap { meta.now.gap < 64 }
@@ -66,7 +67,7 @@ pub fn write_meta(meta: &Meta<'_>, out: &mut [u8]) -> usize
     ensures written { take result out.new ≡ metadata_of meta.now }
     ensures after { drop result out.new ≡ drop result out.old }
 
-    // Besides the caller's own facts, this is what `made_cells_are_read_as_made` asks for.
+    // `made_cells_are_read_as_made` requires a digest of its algorithm's length.
     ensures digest { IsDigest (option_copied meta.now.digest) }
 {
     let head = head_of(meta);
@@ -76,12 +77,12 @@ pub fn write_meta(meta: &Meta<'_>, out: &mut [u8]) -> usize
     fill(out, at, meta.gap as usize, 0xff)
 }
 
-/// The component's head.
 fn head_of(meta: &Meta<'_>) -> Head
     requires name { length meta.now.name.now ≤ 127 }
     requires gap { meta.now.gap < 64 }
     ensures head { result ≡ described_head meta.now }
-    ensures hash { length (hash_bytes (option_copied meta.now.digest)) ≡ hash_len (option_copied meta.now.digest) }
+    ensures hash { length (hash_bytes (option_copied meta.now.digest))
+        ≡ hash_len (option_copied meta.now.digest) }
     ensures digest { IsDigest (option_copied meta.now.digest) }
 {
     let name_end = Head::LENGTH + name_room(meta.name.len());
@@ -97,7 +98,7 @@ fn head_of(meta: &Meta<'_>) -> Head
     }
 }
 
-/// How many bytes the field of a name has: the name, a NUL, and more of them up to a multiple of the padding.
+/// Returns the length in bytes of a name field: the name and one to four NULs.
 fn name_room(name_len: usize) -> usize
     requires { name_len ≤ 127 }
     ensures { result ≡ name_room name_len }
@@ -105,7 +106,7 @@ fn name_room(name_len: usize) -> usize
     (name_len / NAME_PADDING + 1) * NAME_PADDING
 }
 
-/// Writes these bytes at a place, and answers where they end.
+/// Returns the end of the written bytes.
 fn put(out: &mut [u8], at: usize, bytes: &[u8]) -> usize
     requires { at + length bytes.now ≤ length out.old }
     ensures end { result ≡ at + length bytes.now }
@@ -116,7 +117,7 @@ fn put(out: &mut [u8], at: usize, bytes: &[u8]) -> usize
     end
 }
 
-/// Writes one byte `count` times at a place, and answers where they end.
+/// Returns the end of the written bytes.
 fn fill(out: &mut [u8], at: usize, count: usize, byte: u8) -> usize
     requires { at + count ≤ length out.old }
     ensures end { result ≡ at + count }
@@ -127,7 +128,6 @@ fn fill(out: &mut [u8], at: usize, count: usize, byte: u8) -> usize
     end
 }
 
-/// Writes the field of a name, and answers where it ends.
 fn put_name(out: &mut [u8], at: usize, name: &[u8]) -> usize
     requires name { length name.now ≤ 127 }
     requires room { at + name_room (length name.now) ≤ length out.old }
@@ -139,7 +139,6 @@ fn put_name(out: &mut [u8], at: usize, name: &[u8]) -> usize
     fill(out, at, nuls, 0)
 }
 
-/// Writes the hash attribute, where there is one, and answers where it ends.
 fn put_hash(out: &mut [u8], at: usize, digest: Option<&Digest>) -> usize
     requires { at + hash_len (option_copied digest) ≤ length out.old }
     ensures end { result ≡ at + hash_len (option_copied digest.entry) }
@@ -151,7 +150,6 @@ fn put_hash(out: &mut [u8], at: usize, digest: Option<&Digest>) -> usize
     }
 }
 
-/// Writes a hash attribute, and answers where it ends.
 fn put_attribute(out: &mut [u8], at: usize, algorithm: u32, digest: &[u8]) -> usize
     requires size { length digest.now ≤ 64 }
     requires room { at + 12 + length digest.now ≤ length out.old }
@@ -163,7 +161,6 @@ fn put_attribute(out: &mut [u8], at: usize, algorithm: u32, digest: &[u8]) -> us
     put(out, at, digest)
 }
 
-/// What a hash attribute begins with: its tag, its length and the algorithm.
 fn attribute_prefix(algorithm: u32, len: u32) -> [u8; 12]
     ensures { result ≡ big_bytes 4 HASH ++ big_bytes 4 len ++ big_bytes 4 algorithm }
 {

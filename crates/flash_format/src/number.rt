@@ -3,10 +3,10 @@
 ghost use Rattle.std.specs.Prelude.{◌≡◌, ◌≤◌, ◌^◌, ℕ, Option, min, option_map, option_and_then};
 ghost use Rattle.flash_format.specs.Numbers as spec;
 
-/// Where values stop being told apart.
+/// The upper limit of parsed values.
 const LIMIT: u64 = 1 << 32;
 
-/// The number below 2^32 that a text stands for: decimal digits, or `0x` and hexadecimal digits of either case.
+/// Parses a number below 2^32: decimal digits, or `0x` and hexadecimal digits of either case.
 #[tactic(auto, unfolding(crate::specs::Numbers::number_of))]
 pub fn read_number(text: &str) -> Option<u32>
     ensures { result ≡ spec.number_of text.now }
@@ -24,8 +24,8 @@ fn number_value(bytes: &[u8]) -> Option<u64>
     }
 }
 
-/// The value of digits in a base, or 2^32 where it isn't below that. There is none without a digit, or where a byte
-/// isn't a digit of the base.
+/// Returns the value of digits in a base, limited to 2^32. Returns `None` without a digit, or if a
+/// byte isn't a digit of the base.
 pub fn digits_value(base: u64, digits: &[u8]) -> Option<u64>
     requires low { 1 ≤ base }
     requires high { base ≤ 16 }
@@ -45,7 +45,7 @@ pub fn digits_value(base: u64, digits: &[u8]) -> Option<u64>
     Some(value)
 }
 
-/// The value of a digit, and 16 for a byte that is none.
+/// Returns the value of a digit, and 16 for any other byte.
 fn digit_value(byte: u8) -> u64
     ensures { result ≡ spec.digit_value byte }
 {
@@ -57,9 +57,10 @@ fn digit_value(byte: u8) -> u64
     }
 }
 
-/// The value, where 32 bits hold it. It counts up to `LIMIT`.
+/// Returns the value below `LIMIT`, the greatest argument.
 fn in_32_bits(value: Option<u64>) -> Option<u32>
-    ensures { (exact : Option ℕ) → value ≡ option_map (min (2 ^ 32)) exact → result ≡ option_and_then spec.in_32_bits exact }
+    ensures { (exact : Option ℕ) → value ≡ option_map (min (2 ^ 32)) exact
+        → result ≡ option_and_then spec.in_32_bits exact }
 {
     match value {
         Some(value) if value < LIMIT => Some(value as u32),

@@ -1,4 +1,4 @@
-//! Numbers in hexadecimal.
+//! Hexadecimal numbers as printed.
 
 ghost use Rattle.std.specs.Prelude.{◌≡◌, ◌+◌, ◌<◌, ◌≤◌, false, drop};
 ghost use Rattle.std.specs.Fmt.{digit_glyph, digits};
@@ -8,7 +8,6 @@ ghost use Rattle.flash_format.specs.Printed.{Pushes, hexadecimal};
 use crate::buffer::push_text;
 use arrayvec::ArrayVec;
 
-/// A hexadecimal digit.
 pub fn digit(value: u8) -> u8
     requires { value < 16 }
     ensures { result ≡ digit_glyph false value }
@@ -20,7 +19,7 @@ pub fn digit(value: u8) -> u8
     }
 }
 
-/// Writes the hexadecimal digits of a number at the end of the text, and says where they begin.
+/// Writes the hexadecimal digits of a number at the end of the text, and returns their start.
 fn write_digits(n: u64, text: &mut [u8; 16]) -> usize
     ensures start { result < 16 }
     ensures digits { drop result text.new ≡ digits 16 false n }
@@ -36,7 +35,7 @@ fn write_digits(n: u64, text: &mut [u8; 16]) -> usize
     at
 }
 
-/// Puts `0x` and the digits of a number, in lower case and without leading zeros, after what a buffer has.
+/// Appends `0x` and the number's lower-case hexadecimal digits, without leading zeros.
 #[tactic(auto, unfolding(crate::specs::Printed::hexadecimal))]
 pub fn push_hexadecimal<const N: usize>(buffer: &mut ArrayVec<u8, N>, n: u64)
     requires { array_vec_len buffer.old + 18 ≤ N }
@@ -48,7 +47,7 @@ pub fn push_hexadecimal<const N: usize>(buffer: &mut ArrayVec<u8, N>, n: u64)
     push_text(buffer, &digits[start..]);
 }
 
-/// The same text by itself.
+/// Returns the text of `push_hexadecimal`.
 pub fn hexadecimal(n: u64) -> ArrayVec<u8, 18>
     ensures { result.items ≡ hexadecimal n }
 {

@@ -1,4 +1,4 @@
-//! A file that is read ahead.
+//! A file with read-ahead.
 ghost use Rattle.std.specs.Prelude.{◌≡◌, ◌≤◌, IsTrue, length, take, drop};
 ghost use Rattle.flash_store.specs.Storing.{SameBytes};
 
@@ -6,15 +6,15 @@ use crate::storage::{Storage, StorageFault};
 use crate::transfer::read_front;
 use std::marker::Model;
 
-/// How many bytes are read ahead.
+/// The size of the window in bytes.
 const AHEAD: usize = 16384;
 
-/// How far from the end of the last read one may begin that goes on: before it, since what stands across its end is read
-/// again; behind it, since contents are skipped.
+/// The maximum distance of a sequential read from the end of the last read: before the end, because
+/// bytes across the end are read again; after the end, because readers skip contents.
 const NEAR: u64 = 4096;
 
-/// A file whose reads are answered from a window where they can be. A read that goes on where the last one ended fills the
-/// window; any other asks for what it needs and no more.
+/// A file with a window for sequential reads. A read near the end of the last read fills the
+/// window; any other read outside the window requests only its own bytes.
 #[derive(Drop)]
 pub struct Ahead<S: Storage> {
     storage: S,
@@ -33,12 +33,12 @@ impl<S: Storage> Model for Ahead<S> {
     ghost view = { λ f. S.facts f.storage };
 
     ghost invariant = { λ f. (f.from ≤ f.to) × (f.to - f.from ≤ 16384)
-        × (IsTrue (S.facts f.storage).faithful →
-        take (f.to - f.from) f.window ≡ take (f.to - f.from) (drop f.from (S.facts f.storage).content)) };
+        × (IsTrue (S.facts f.storage).faithful
+        → take (f.to - f.from) f.window
+        ≡ take (f.to - f.from) (drop f.from (S.facts f.storage).content)) };
 }
 
 impl<S: Storage> Ahead<S> {
-    /// The file, of which nothing was read.
     pub fn new(storage: S) -> Ahead<S>
         ensures { result ≡ S.facts storage }
     {
@@ -51,7 +51,6 @@ impl<S: Storage> Ahead<S> {
         }
     }
 
-    /// The other file, with what was written.
     pub fn into_inner(self) -> S
         ensures { S.facts result ≡ self }
     {
@@ -59,15 +58,13 @@ impl<S: Storage> Ahead<S> {
         storage
     }
 
-    /// The other file, as it is.
     pub fn storage(&self) -> &S {
         &self.storage
     }
 
-    /// What the window holds from `at` on.
     fn held_from(&self, at: u64) -> &[u8]
-        ensures { IsTrue self.now.faithful →
-            result.now ≡ take (length result.now) (drop at self.now.content) }
+        ensures { IsTrue self.now.faithful
+            → result.now ≡ take (length result.now) (drop at self.now.content) }
     {
         if at < self.from || at > self.to {
             return &[];
@@ -75,7 +72,6 @@ impl<S: Storage> Ahead<S> {
         &self.window[(at - self.from) as usize..(self.to - self.from) as usize]
     }
 
-    /// Loads the window from `at` on.
     fn fill(&mut self, at: u64) -> Result<(), StorageFault>
         requires { at ≤ length self.old.content }
         ensures { SameBytes self.old self.new }
@@ -90,7 +86,6 @@ impl<S: Storage> Ahead<S> {
     }
 }
 
-/// Copies the first bytes, as many as there are and fit, and says how many.
 fn copy_first(bytes: &[u8], out: &mut [u8]) -> usize
     ensures fits { result ≤ length out.old }
     ensures there { result ≤ length bytes.now }

@@ -1,4 +1,4 @@
-//! A file of which it is known what is still erased.
+//! A file with a known erased range.
 ghost use Rattle.std.specs.Prelude.{◌≡◌, ◌⊎◌, ◌+◌, ◌<◌, ◌≤◌, IfOk, IsTrue, length, replicate, slice_range};
 ghost use Rattle.flash_store.specs.Storing.{SameFile, SameBytes, IsErased};
 
@@ -8,21 +8,20 @@ use flash_device::PIECE;
 use flash_format::HEADER_LENGTH;
 use std::marker::Model;
 
-/// How many bytes of a new file are written at once.
+/// The number of bytes in a write to a new file.
 const MANY: usize = 65536;
 
-/// The most bytes that one look reads.
+/// The maximum number of bytes in a look: a read before a write of 0xff.
 const LOOK: usize = 16384;
 
-/// How many writes are made without a look once one has seen something else than 0xff.
+/// The number of writes without a look, after a look with any byte except 0xff.
 const UNSEEN: u32 = 15;
 
-/// Bytes of the erase value.
 const ERASED: [u8; MANY] = [0xff; MANY];
 
-/// A file with a stretch in which each byte is 0xff. A write of more than a header's length of such bytes
-/// inside it makes no call, since it changes nothing; before one outside it is made, the file is read
-/// there. A shorter write is always made: it may be the one that gives a header room in each block.
+/// A file with a known range of 0xff. A write of 0xff inside the range, longer than a header, needs
+/// no call. Before another long write of 0xff, the file is read there, except after an unsuccessful
+/// look. A shorter write is always performed: it may reserve a header's space in each block.
 #[derive(Drop)]
 pub struct Erased<S: Storage> {
     storage: S,
@@ -41,11 +40,11 @@ impl<S: Storage> Model for Erased<S> {
     ghost view = { λ f. S.facts f.storage };
 
     ghost invariant = { λ f. (f.from ≤ f.to) × (f.to ≤ length (S.facts f.storage).content)
-        × (IsTrue (S.facts f.storage).faithful → IsErased f.from f.to (S.facts f.storage).content) };
+        × (IsTrue (S.facts f.storage).faithful
+        → IsErased f.from f.to (S.facts f.storage).content) };
 }
 
 impl<S: Storage> Erased<S> {
-    /// The file, of which nothing is known.
     pub fn new(storage: S) -> Erased<S>
         ensures { result ≡ S.facts storage }
     {
@@ -58,11 +57,11 @@ impl<S: Storage> Erased<S> {
         }
     }
 
-    /// The file, all of which it writes as 0xff.
+    /// Writes 0xff over the whole file.
     pub fn erase(mut storage: S) -> Result<Erased<S>, StorageFault>
         ensures same { IfOk result (λ file. SameFile (S.facts storage) file) }
-        ensures erased { IfOk result (λ file. IsTrue file.faithful →
-            file.content ≡ replicate (length file.content) 0xff) }
+        ensures erased { IfOk result (λ file. IsTrue file.faithful
+            → file.content ≡ replicate (length file.content) 0xff) }
     {
         let to = storage.len();
         let mut at = 0;
@@ -80,7 +79,6 @@ impl<S: Storage> Erased<S> {
         })
     }
 
-    /// The other file, with what was written.
     pub fn into_inner(self) -> S
         ensures { S.facts result ≡ self }
     {
@@ -88,19 +86,19 @@ impl<S: Storage> Erased<S> {
         storage
     }
 
-    /// The other file, as it is.
     pub fn storage(&self) -> &S {
         &self.storage
     }
 
-    /// Whether 0xff is to be written where the file is seen to have it; then what is seen is the stretch from then on.
-    /// The more is seen to be erased, the more is looked at; where something else is seen, the next writes aren't spared.
+    /// Returns true if a look finds 0xff in the range of a write of 0xff, and makes the look the
+    /// known range. Successful looks become longer; after an unsuccessful look, the next writes
+    /// have no look.
     fn looks_erased(&mut self, at: u64, bytes: &[u8]) -> bool
         requires { at + length bytes.now ≤ length self.old.content }
 
         ensures after { SameBytes self.old self.new }
-        ensures same { IsTrue result → IsTrue self.old.faithful →
-            slice_range self.old.content at (at + length bytes.now) ≡ bytes.now }
+        ensures same { IsTrue result → IsTrue self.old.faithful
+            → slice_range self.old.content at (at + length bytes.now) ≡ bytes.now }
         ensures long { IsTrue result → HEADER_LENGTH < length bytes.now }
     {
         if bytes.len() <= HEADER_LENGTH || bytes.len() > MANY || !is_erased(bytes) {
@@ -122,10 +120,9 @@ impl<S: Storage> Erased<S> {
         self.has(at, bytes)
     }
 
-    /// Whether it is known that these bytes stand from `at` on.
     fn has(&self, at: u64, bytes: &[u8]) -> bool
-        ensures same { IsTrue result → IsTrue self.now.faithful →
-            slice_range self.now.content at (at + length bytes.now) ≡ bytes.now }
+        ensures same { IsTrue result → IsTrue self.now.faithful
+            → slice_range self.now.content at (at + length bytes.now) ≡ bytes.now }
         ensures long { IsTrue result → HEADER_LENGTH < length bytes.now }
     {
         let n = bytes.len();
@@ -136,14 +133,15 @@ impl<S: Storage> Erased<S> {
     }
 }
 
-/// Up to where the bytes from `at` on are 0xff, as far as one read of up to `look` bytes tells: all that it gives, or none.
+/// Returns the end of the known 0xff bytes from `at` on: the whole result of a read of up to `look`
+/// bytes, or nothing.
 fn erased_up_to<S: Storage>(storage: &mut S, at: u64, look: usize) -> u64
     requires { at ≤ length (S.facts storage.old).content }
 
     ensures after { SameBytes (S.facts storage.old) (S.facts storage.new) }
     ensures inside { (at ≤ result) × (result ≤ length (S.facts storage.old).content) }
-    ensures erased { IsTrue (S.facts storage.old).faithful →
-        IsErased at result (S.facts storage.old).content }
+    ensures erased { IsTrue (S.facts storage.old).faithful
+        → IsErased at result (S.facts storage.old).content }
 {
     let mut seen = [0; LOOK];
     let n = (storage.len() - at).min(look.min(LOOK) as u64) as usize;
@@ -155,7 +153,6 @@ fn erased_up_to<S: Storage>(storage: &mut S, at: u64, look: usize) -> u64
     }
 }
 
-/// Whether each byte is 0xff.
 fn is_erased(bytes: &[u8]) -> bool
     requires { length bytes.now ≤ MANY }
     ensures { IsTrue result → bytes.now ≡ replicate (length bytes.now) 0xff }
@@ -163,7 +160,7 @@ fn is_erased(bytes: &[u8]) -> bool
     bytes == &ERASED[..bytes.len()]
 }
 
-/// What is left of a stretch outside a range: the longer one of the parts before and behind it.
+/// Returns the longer part of a range outside a removed range.
 fn longer_rest(from: u64, to: u64, at: u64, end: u64) -> (u64, u64)
     requires stretch { from ≤ to }
     requires range { at ≤ end }

@@ -1,4 +1,4 @@
-//! A file in memory for tests, which moves few bytes a call, is interrupted, and at last refuses.
+//! A test file in memory with short, interrupted and failed calls.
 ghost use Rattle.std.specs.Prelude.{◌≡◌, ◌+◌, ◌-◌, ◌^◌, ◌<◌, ◌≤◌, Err, length, true, IsOk};
 ghost use Rattle.flash_device.specs.Device.{overwritten};
 ghost use Rattle.flash_store.specs.Storing.{HasRoom, stored};
@@ -7,13 +7,12 @@ use crate::storage::{Storage, StorageFault};
 use flash_format::HEADER_LENGTH;
 use std::marker::Model;
 
-/// How many bytes a block of the file has.
 const BLOCK: u64 = 4096;
 
-/// A faithful file over bytes that it owns, fewer than 2^32. A call moves at most `most` bytes, but a
-/// write of at most a header's bytes moves all of them if they lie in one block or if the last write has
-/// written the same range. After each `between` calls one is interrupted, and after `left` calls all
-/// are refused.
+/// A faithful file over owned bytes, fewer than 2^32. A call moves at most `most` bytes. Exception:
+/// a write of at most a header's length is complete if the range lies in a block, or is the range
+/// of the last write. After every `between` calls, a call is interrupted; after `left` calls, every
+/// call fails.
 #[derive(Drop)]
 pub struct FlakyFile {
     bytes: Vec<u8>,
@@ -45,7 +44,7 @@ impl Model for FlakyFile {
 }
 
 impl FlakyFile {
-    /// The file of these bytes, before any call. Where `between` is 0, every call is interrupted.
+    /// Makes a file. If `between` is 0, every call is interrupted.
     pub fn new(bytes: Vec<u8>, most: usize, between: u64, left: u64) -> FlakyFile
         requires { length bytes.items < 2 ^ 32 }
         ensures { result ≡ record {
@@ -69,20 +68,23 @@ impl FlakyFile {
         }
     }
 
-    /// All its bytes as they are now.
+    /// Returns the present content.
     pub fn bytes(&self) -> &[u8]
         ensures { result.now ≡ self.now.content }
     {
         self.bytes.as_slice()
     }
 
-    /// Counts a call, and says whether it is made.
+    /// Counts a call, or returns its fault.
     fn begin(&mut self) -> Result<(), StorageFault>
-        ensures refused { self.old.left ≡ 0 → (result ≡ Err StorageFault.Failed) × (self.new ≡ self.old) }
-        ensures interrupted { 0 < self.old.left → self.old.before ≡ 0 → (result ≡ Err StorageFault.Interrupted)
+        ensures refused { self.old.left ≡ 0
+            → (result ≡ Err StorageFault.Failed) × (self.new ≡ self.old) }
+        ensures interrupted { 0 < self.old.left → self.old.before ≡ 0
+            → (result ≡ Err StorageFault.Interrupted)
             × (self.new ≡ record self.old { left = self.old.left - 1; before = self.old.between }) }
         ensures made { 0 < self.old.left → 0 < self.old.before → IsOk result
-            × (self.new ≡ record self.old { left = self.old.left - 1; before = self.old.before - 1 }) }
+            × (self.new
+            ≡ record self.old { left = self.old.left - 1; before = self.old.before - 1 }) }
         ensures same { (self.new.content ≡ self.old.content)
             × (self.new.written_at ≡ self.old.written_at)
             × (self.new.written_len ≡ self.old.written_len) }
@@ -99,7 +101,6 @@ impl FlakyFile {
         Ok(())
     }
 
-    /// Writes the bytes from `at` on, and notes the range.
     fn replace(&mut self, at: u64, bytes: &[u8])
         requires { at + length bytes.now ≤ length self.old.content }
         ensures { self.new ≡ record self.old {
@@ -116,11 +117,10 @@ impl FlakyFile {
         self.written_len = bytes.len();
     }
 
-    /// How many of these bytes a write from `at` on moves.
     fn moved(&self, at: u64, bytes: &[u8]) -> usize
         ensures some { result ≤ length bytes.now }
-        ensures all { length bytes.now ≤ HEADER_LENGTH →
-            HasRoom at (length bytes.now) (stored self.now) → result ≡ length bytes.now }
+        ensures all { length bytes.now ≤ HEADER_LENGTH
+            → HasRoom at (length bytes.now) (stored self.now) → result ≡ length bytes.now }
     {
         let n = bytes.len();
         let has_room = self.written_at == at && self.written_len == n;
@@ -132,7 +132,6 @@ impl FlakyFile {
     }
 }
 
-/// Whether the n bytes from `at` on lie in one block of the file.
 fn is_in_one_block(at: u64, n: usize) -> bool {
     at % BLOCK <= BLOCK.saturating_sub(n as u64)
 }

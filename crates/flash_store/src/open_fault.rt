@@ -1,17 +1,18 @@
-//! Why a file was not opened.
+//! Errors of opening a file.
 ghost use Rattle.std.specs.Prelude.{◌≡◌, ◌^◌, ◌<◌, ◌≤◌};
 
 use crate::storage::StorageFault;
 use std::io::{self, ErrorKind};
 
-/// Why a file was not opened as a device or a source. Nothing was read or written then.
+/// The reason for a file not opened as a device or a source, before any read or write.
 #[derive(Clone, Copy, Debug, PartialEq, Eq, Drop)]
 pub enum OpenFault {
-    /// It isn't there, or may not be used in this way: the kind of the system's error.
+    /// The file is missing, or not usable in the requested way. The value is the kind of the
+    /// system's error.
     Failed(ErrorKind),
-    /// It has 2^32 bytes or more.
+    /// The file has 2^32 bytes or more.
     TooLarge,
-    /// Memory was refused.
+    /// An allocation failed.
     Memory,
 }
 
@@ -40,7 +41,7 @@ impl From<StorageFault> for OpenFault {
     }
 }
 
-/// The length of a file that can be opened.
+/// Returns the length if below 2^32, or `TooLarge`.
 pub fn checked_length(length: u64) -> Result<u32, OpenFault>
     ensures below { length < 2 ^ 32 → result ≡ Ok length }
     ensures too_large { 2 ^ 32 ≤ length → result ≡ Err OpenFault.TooLarge }

@@ -1,5 +1,5 @@
-//! The system's files: each call of the trait is one call of the system. That a file is faithful is a premise: no
-//! contract says it or denies it.
+//! System files: each call of the trait is one system call. The faithfulness of a file is an
+//! assumption; no contract states or denies it.
 ghost use Rattle.std.specs.Prelude.{◌≡◌, ◌≢◌, Ok, Err, IfOk, IfErr, length};
 ghost use Rattle.std.specs.IoError.{error_kind};
 
@@ -13,10 +13,10 @@ use std::os::unix::fs::{FileExt, FileTypeExt, MetadataExt};
 use std::rt::Files;
 use std::snapshot::Snapshot;
 
-/// A file of the system.
+/// A system file with a fixed length.
 ///
-/// Its length is what it was when it was opened: what is added later isn't seen, and a read of bytes that it has lost
-/// gives none.
+/// The length is the length on opening. Later additions are invisible, and a read of truncated
+/// bytes returns no bytes.
 #[derive(Drop)]
 pub struct OsFile {
     file: File,
@@ -30,7 +30,8 @@ impl Model for OsFile {
 
     ghost Value = { Stored };
 
-    // No clause ties what a file gives to a list of bytes, so this one can promise nothing of its bytes.
+    // No clause relates a system file to a list of bytes, so the contract state says nothing about
+    // content.
     ghost view = { λ f. record {
       content = replicate f.len 0;
       faithful = f.faithful.value;
@@ -41,17 +42,17 @@ impl Model for OsFile {
     ghost invariant = { λ f. f.faithful.value ≡ false };
 }
 
-/// The lock that an open file takes: one that commands which only read may share, or one for itself.
+/// The lock of an open file: shared for commands which only read, or exclusive.
 #[derive(Clone, Copy, Debug, PartialEq, Eq, Drop)]
 pub enum Lock {
-    /// Others may hold the same lock.
+    /// Other shared locks are possible.
     Shared,
-    /// No other lock is held beside it.
+    /// No other lock is possible.
     Exclusive,
 }
 
 impl Lock {
-    /// Waits for this lock of a file. On a file system without locks it is not taken.
+    /// Waits for a lock. On a file system without locks, no lock is taken.
     fn take(self, file: &File) -> io::Result<()> {
         let answer = match self {
             Lock::Shared => file.lock_shared(),
@@ -74,7 +75,7 @@ impl OsFile {
         open_locked(rt, Access::Change, path, lock)?.with_all()
     }
 
-    /// Makes a file for `size` bytes, waits for its lock, and only then empties it if it was there.
+    /// Creates a file for `size` bytes, or truncates an existing file after waiting for its lock.
     pub fn create<R: Files<File = File>>(rt: &R, path: &str, size: u32) -> Result<OsFile, OpenFault>
         ensures { IfOk result (λ file. length file.content ≡ size) }
     {
@@ -87,14 +88,13 @@ impl OsFile {
         Ok(Self::with_length(opened.file, size))
     }
 
-    /// Opens a file for reading, and waits for a lock that other readers share. A pipe and a directory
-    /// aren't opened.
+    /// Opens a file for reading, and waits for a shared lock. A pipe or a directory is an error.
     pub fn open_shared<R: Files<File = File>>(rt: &R, path: &str) -> Result<OsFile, OpenFault> {
         open_locked(rt, Access::Read, path, Lock::Shared)?.with_all()
     }
 
-    /// Opens a regular file for reading. Another one isn't opened, since that of a pipe would wait for
-    /// a writer.
+    /// Opens a regular file for reading. Any other file is an error, because opening a pipe would
+    /// wait for a writer.
     pub fn open_to_read<R: Files<File = File>>(rt: &R, path: &str) -> Result<OsFile, OpenFault> {
         if !rt.metadata(path)?.is_file() {
             return Err(OpenFault::Failed(ErrorKind::Unsupported));
@@ -108,12 +108,11 @@ impl OsFile {
         Ok(Self::with_length(file, len))
     }
 
-    /// Gives the lock back before the file is closed.
+    /// Releases the lock before the file is closed.
     pub fn unlock(&self) {
         let _given_back = self.file.unlock();
     }
 
-    /// The file, of which `len` bytes count.
     fn with_length(file: File, len: u32) -> OsFile
         ensures { length result.content ≡ len }
     {
@@ -125,15 +124,13 @@ impl OsFile {
     }
 }
 
-/// The system's number for a file system that keeps no locks.
+/// The error number of a file system without locks.
 const ENOLCK: i32 = 37;
 
-/// Whether an error says that there are no locks.
 fn tells_no_locks(fault: &io::Error) -> bool {
     fault.kind() == ErrorKind::Unsupported || fault.raw_os_error() == Some(ENOLCK)
 }
 
-/// What a file is opened for.
 #[derive(Clone, Copy, PartialEq, Eq)]
 enum Access {
     Read,
@@ -158,8 +155,8 @@ impl Access {
     }
 }
 
-/// Refuses a pipe, which would be opened for reading only once there is a writer, and a directory,
-/// whose length depends on its file system.
+/// Returns an error for a pipe, because opening a pipe for reading waits for a writer, and for a
+/// directory, because its length depends on the file system.
 fn refuse_pipes<R: Files<File = File>>(rt: &R, path: &str) -> Result<(), OpenFault> {
     let kind = rt.metadata(path)?.file_type();
     if kind.is_dir() {
@@ -171,12 +168,11 @@ fn refuse_pipes<R: Files<File = File>>(rt: &R, path: &str) -> Result<(), OpenFau
     Ok(())
 }
 
-/// How often a path is opened anew because its file was replaced.
+/// The maximum number of attempts to open a replaced file.
 const OPENINGS: u32 = 1000;
 
-/// Opens a file by its path, and waits for its lock. If the path names another file by then, since one
-/// was moved there meanwhile, the lock is given back and that file is opened: a change of the file that
-/// was there before would be lost.
+/// Opens a file by its path, and waits for its lock. If another file was moved to the path
+/// meanwhile, releases the lock and opens the new file: a change of the old file would be lost.
 fn open_locked<R: Files<File = File>>(
     rt: &R,
     access: Access,
@@ -201,7 +197,6 @@ fn open_locked<R: Files<File = File>>(
     Err(OpenFault::Failed(ErrorKind::ResourceBusy))
 }
 
-/// A file that is open and locked.
 #[derive(Drop)]
 struct Opened {
     file: File,
@@ -209,7 +204,7 @@ struct Opened {
 }
 
 impl Opened {
-    /// Whether a path names this file.
+    /// Returns true if the path refers to the open file.
     fn is_at<R: Files<File = File>>(&self, rt: &R, path: &str) -> io::Result<bool> {
         let there = match rt.metadata(path) {
             Err(fault) if fault.kind() == ErrorKind::NotFound => return Ok(false),
@@ -218,8 +213,8 @@ impl Opened {
         Ok(self.metadata.dev() == there.dev() && self.metadata.ino() == there.ino())
     }
 
-    /// The file's length: that of its entry, or for a block device where a seek to its end stands. A
-    /// pipe, a socket and a terminal have none.
+    /// Returns the file's length: from its metadata, or for a block device from a seek to its end.
+    /// A pipe, a socket or a terminal has no length.
     fn len(&mut self) -> Result<u32, OpenFault> {
         if self.metadata.is_file() {
             return checked_length(self.metadata.len());
@@ -227,20 +222,18 @@ impl Opened {
         checked_length(self.file.seek(SeekFrom::End(0))?)
     }
 
-    /// The file with all its bytes.
     fn with_all(mut self) -> Result<OsFile, OpenFault> {
         let len = self.len()?;
         Ok(OsFile::with_length(self.file, len))
     }
 }
 
-/// What a call of the system says, as the count that it moved.
 fn moved(answer: io::Result<usize>) -> Result<usize, StorageFault>
     ensures count { IfOk answer (λ n. result ≡ Ok n) }
-    ensures interrupted { IfErr answer (λ fault. error_kind fault ≡ ErrorKind.Interrupted →
-        result ≡ Err StorageFault.Interrupted) }
-    ensures failed { IfErr answer (λ fault. error_kind fault ≢ ErrorKind.Interrupted →
-        result ≡ Err StorageFault.Failed) }
+    ensures interrupted { IfErr answer (λ fault. error_kind fault ≡ ErrorKind.Interrupted
+        → result ≡ Err StorageFault.Interrupted) }
+    ensures failed { IfErr answer (λ fault. error_kind fault ≢ ErrorKind.Interrupted
+        → result ≡ Err StorageFault.Failed) }
 {
     match answer {
         Ok(n) => Ok(n),

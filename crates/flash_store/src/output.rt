@@ -1,4 +1,4 @@
-//! The bytes that a program writes, collected before they are written.
+//! A buffered writer for a program's output.
 ghost use Rattle.std.specs.Prelude.{◌≡◌, ◌+◌, ◌≤◌, ◌++◌, length};
 ghost use Rattle.std.specs.Io.{WritesAtMost};
 ghost use Rattle.std.specs.Vec.{vec_capacity, vec_len};
@@ -7,15 +7,15 @@ use std::alloc::Global;
 use std::io::{self, Write};
 use std::mem;
 
-/// How many bytes a block has.
+/// The size of a block in bytes.
 const BLOCK: usize = 65536;
 
-/// A writer that collects bytes in blocks before it passes them on.
+/// A writer with a buffer of blocks.
 ///
-/// It passes on each block that is full, or keeps all blocks until `finish`. A command that lists an
-/// image keeps them, gives the image's lock back, and writes only then, since a reader at the other end
-/// of a pipe may wait for that lock. If memory for a block is refused, all bytes are passed on as they
-/// come.
+/// The writer forwards each full block, or holds all blocks until `finish`. A command which lists
+/// an image holds its output, releases the image's lock, and only then writes, because a reader at
+/// the end of a pipe may wait for the lock. After an allocation failure, all bytes are forwarded
+/// directly.
 #[derive(Drop)]
 pub struct Output<W: Write + Drop> {
     out: W,
@@ -26,7 +26,7 @@ pub struct Output<W: Write + Drop> {
 }
 
 impl<W: Write + Drop> Output<W> {
-    /// Returns a writer that passes on each full block.
+    /// Makes a writer with immediate forwarding of full blocks.
     pub fn new(alloc: Global, out: W) -> Output<W> {
         Output {
             out,
@@ -37,20 +37,20 @@ impl<W: Write + Drop> Output<W> {
         }
     }
 
-    /// Returns a writer that keeps all blocks, as long as there is memory for them.
+    /// Makes a writer with blocks held until `finish`, unless an allocation fails.
     pub fn keeping(alloc: Global, out: W) -> Output<W> {
         let mut output = Output::new(alloc, out);
         output.is_keeping = true;
         output
     }
 
-    /// Writes all bytes that are collected. An error comes from the writer.
+    /// Writes all buffered bytes. An error is the writer's.
     pub fn finish(mut self) -> io::Result<()> {
         self.pass_on()
     }
 
-    /// Returns how many bytes the block has room for: none if memory is refused, and then none are
-    /// collected.
+    /// Returns the free space of the block, or 0 after an allocation failure, which also ends
+    /// holding.
     fn room(&mut self) -> io::Result<usize> {
         if self.block.len() >= BLOCK {
             self.end_block()?;
@@ -66,7 +66,7 @@ impl<W: Write + Drop> Output<W> {
         Ok(BLOCK.saturating_sub(self.block.len()))
     }
 
-    /// Keeps the block, which is full, or passes it on.
+    /// Holds or forwards the full block.
     fn end_block(&mut self) -> io::Result<()> {
         if self.is_keeping {
             let block = mem::replace(&mut self.block, Vec::new(self.alloc));
@@ -79,7 +79,7 @@ impl<W: Write + Drop> Output<W> {
         self.pass_on()
     }
 
-    /// Writes bytes for which the block has no room: the first of them, as many as a block takes.
+    /// Writes bytes without enough space in the block: a prefix of up to the free space of a block.
     #[cold]
     #[inline(never)]
     fn write_at_border(&mut self, bytes: &[u8]) -> io::Result<usize>
@@ -92,8 +92,7 @@ impl<W: Write + Drop> Output<W> {
         Ok(n)
     }
 
-    /// Writes the blocks that are kept, and the last one. They are collected no more, even if the
-    /// writer fails.
+    /// Writes the held blocks and the last block, and removes them even if the writer fails.
     fn pass_on(&mut self) -> io::Result<()> {
         let kept = mem::replace(&mut self.kept, Vec::new(self.alloc));
         let mut written = write_blocks(&mut self.out, &kept);
@@ -105,7 +104,6 @@ impl<W: Write + Drop> Output<W> {
     }
 }
 
-/// Writes blocks one after the other.
 fn write_blocks<W: Write>(out: &mut W, blocks: &[Vec<u8>]) -> io::Result<()> {
     for block in blocks {
         out.write_all(block)?;
@@ -114,7 +112,7 @@ fn write_blocks<W: Write>(out: &mut W, blocks: &[Vec<u8>]) -> io::Result<()> {
 }
 
 impl<W: Write + Drop> Write for Output<W> {
-    /// Collects the bytes if the block has room for all of them, which most calls find.
+    /// Buffers the bytes if the block has enough space, the most frequent case.
     #[inline(always)]
     fn write(&mut self, bytes: &[u8]) -> io::Result<usize> {
         if bytes.len() < self.block.capacity() - self.block.len() {
@@ -129,7 +127,6 @@ impl<W: Write + Drop> Write for Output<W> {
     }
 }
 
-/// Appends bytes to a block that has room for them.
 #[inline(always)]
 fn append(block: &mut Vec<u8>, bytes: &[u8])
     requires { vec_len block.old + length bytes.now ≤ vec_capacity block.old }

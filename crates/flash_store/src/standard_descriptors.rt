@@ -1,18 +1,19 @@
-//! Files that are opened beside the standard input, output and error of a program.
+//! Files besides a program's standard input, output and error.
 use std::fs::{File, OpenOptions};
 use std::io;
 use std::os::fd::{AsRawFd, IntoRawFd};
 use std::rt::Files;
 
-/// The number after those of the standard input, output and error.
+/// The first descriptor after standard input, output and error.
 const STANDARD: i32 = 3;
 
-/// Opens a file with a number above those of the standard descriptors.
+/// Opens a file with a descriptor above the standard descriptors.
 ///
-/// The system gives the lowest number that is free. If a standard descriptor is closed, a file would
-/// get its number, and the program would write its output or its messages into that file. Then the
-/// file is closed, the root folder is opened for each closed standard descriptor, and the file is opened
-/// again. The root folder can't be read or written, so output to a closed descriptor is an output fault.
+/// The system assigns the lowest free descriptor. If a standard descriptor is closed, a file could
+/// receive its number, and the program's output or messages would enter the file. In this case, the
+/// function closes the file, opens the root directory for each closed standard descriptor, and
+/// opens the file again. Nothing can be read from or written to the root directory, so output to a
+/// closed descriptor is an output error.
 pub fn open_beside_standard<R: Files<File = File>>(
     rt: &R,
     how: &OpenOptions,
@@ -27,7 +28,7 @@ pub fn open_beside_standard<R: Files<File = File>>(
     how.open(rt, path)
 }
 
-/// Opens the root folder for each standard descriptor that is closed.
+/// Opens the root directory for each closed standard descriptor.
 fn open_standard<R: Files<File = File>>(rt: &R) -> io::Result<()> {
     for _ in 0..STANDARD {
         let file = open_for_nothing(rt)?;
@@ -39,7 +40,7 @@ fn open_standard<R: Files<File = File>>(rt: &R) -> io::Result<()> {
     Ok(())
 }
 
-/// Opens the root folder for reading, or the null device if the system doesn't allow that.
+/// Opens the root directory for reading, or the null device if the system refuses.
 fn open_for_nothing<R: Files<File = File>>(rt: &R) -> io::Result<File> {
     match OpenOptions::new().read(true).open(rt, "/") {
         Ok(file) => Ok(file),

@@ -1,41 +1,42 @@
-//! One call of a file.
+//! Single file calls.
 ghost use Rattle.std.specs.Prelude.{◌≡◌, ◌+◌, ◌^◌, ◌<◌, ◌≤◌, length, IsTrue, IsErrOf};
 ghost use Rattle.flash_store.specs.Storing.{Stored, HasReadSome, HasWrittenSome};
 
 use flash_format::HEADER_LENGTH;
 
-/// Why a call moved nothing, or not all that it should have.
+/// The reason for a failed call.
 #[derive(Clone, Copy, Debug, PartialEq, Eq, Drop)]
 pub enum StorageFault {
-    /// It was interrupted, and may be made again.
+    /// The call was interrupted, and can be repeated.
     Interrupted,
-    /// It failed.
+    /// The call failed.
     Failed,
 }
 
-/// A file that is read and written by position, a call of the system each. A call may move fewer bytes than it was asked
-/// to. Places count the file's bytes from 0.
+/// A file with random access; each call is one system call, and may move fewer bytes than
+/// requested. Offsets count bytes from 0.
 pub trait Storage: Drop {
-    /// Its bytes, and whether it is faithful: each call does what it answers.
+    /// The content, and the faithfulness: each call has the effect of its result.
     ghost facts: { Self → Stored };
 
-    /// How many bytes there are. No call changes it.
+    /// Returns the length in bytes, which no call changes.
     fn len(&self) -> u64
         ensures length { result ≡ length (facts self.now).content }
         ensures below { result < 2 ^ 32 };
 
-    /// Reads some of the bytes from `at` on into the front of `out`, and says how many. Behind them, and after a fault,
-    /// `out` may hold anything.
+    /// Reads a prefix of the bytes at an offset, and returns its length. The rest of `out`, and all
+    /// of `out` after a fault, is unspecified.
     fn read_some(&mut self, at: u64, out: &mut [u8]) -> Result<usize, StorageFault>
         requires inside { at + length out.old ≤ length (facts self.old).content }
 
-        ensures { HasReadSome at (length out.old) (facts self.old) (facts self.new) result out.new };
+        ensures { HasReadSome at (length out.old) (facts self.old) (facts self.new)
+            result out.new };
 
-    /// Writes some of the first bytes from `at` on, and says how many.
+    /// Writes a prefix of the bytes at an offset, and returns its length.
     fn write_some(&mut self, at: u64, bytes: &[u8]) -> Result<usize, StorageFault>
         requires inside { at + length bytes.now ≤ length (facts self.old).content }
 
         ensures after { HasWrittenSome at bytes.now (facts self.old) (facts self.new) result }
-        ensures interrupted { IsTrue (facts self.old).faithful →
-            IsErrOf result StorageFault.Interrupted → facts self.new ≡ facts self.old };
+        ensures interrupted { IsTrue (facts self.old).faithful
+            → IsErrOf result StorageFault.Interrupted → facts self.new ≡ facts self.old };
 }

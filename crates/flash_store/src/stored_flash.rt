@@ -14,7 +14,7 @@ use std::fs::File;
 use std::marker::Model;
 use std::rt::Files;
 
-/// A device in a file, which is honest exactly where the file is faithful.
+/// A device in a file: honest exactly if the file is faithful.
 #[derive(Drop)]
 pub struct StoredFlash<S: Storage> {
     storage: S,
@@ -32,7 +32,6 @@ impl<S: Storage> Model for StoredFlash<S> {
 }
 
 impl<S: Storage> StoredFlash<S> {
-    /// The device in a file, before any call.
     pub fn new(storage: S) -> StoredFlash<S>
         ensures { result ≡ stored_device (S.facts storage) 0 0 }
     {
@@ -43,7 +42,6 @@ impl<S: Storage> StoredFlash<S> {
         }
     }
 
-    /// The file, with what was written.
     pub fn into_inner(self) -> S
         ensures content { (S.facts result).content ≡ self.content }
         ensures faithful { (S.facts result).faithful ≡ self.honest }
@@ -52,11 +50,13 @@ impl<S: Storage> StoredFlash<S> {
         storage
     }
 
-    /// Counts a call, and the fault where it was refused.
+    /// Counts a call and its fault.
     fn counted(&mut self, answer: Result<(), StorageFault>) -> Result<(), FlashFault>
-        ensures passed { OnOk answer (IsOk result × (self.new ≡ record self.old { calls = self.old.calls + 1 })) }
+        ensures passed { OnOk answer
+            (IsOk result × (self.new ≡ record self.old { calls = self.old.calls + 1 })) }
         ensures refused { OnErr answer (IsErr result
-            × (self.new ≡ record self.old { calls = self.old.calls + 1; faults = self.old.faults + 1 })) }
+            × (self.new
+            ≡ record self.old { calls = self.old.calls + 1; faults = self.old.faults + 1 })) }
     {
         self.calls.tick();
         match answer {
@@ -92,24 +92,24 @@ impl<S: Storage> Flash for StoredFlash<S> {
     }
 }
 
-/// A device in a file that is open and locked. The lock ends with the device.
+/// A device in an open and locked file. Dropping the device releases the lock.
 ///
-/// Whether the system's files do what they answer isn't known, so every fact that a contract says of an honest device is,
-/// for this one, a premise about one call of the system at a time.
+/// The faithfulness of system files is unknown. Every contract clause for an honest device
+/// therefore assumes faithful system calls.
 pub type FileFlash = StoredFlash<Ahead<Erased<OsFile>>>;
 
 impl StoredFlash<Ahead<Erased<OsFile>>> {
-    /// Opens a file for reading and writing, and waits while another command holds a lock of it. A file
-    /// that isn't there, may not be read or written, is a directory, or can't tell its length, as a
-    /// pipe, is `Failed`; one of 2^32 bytes or more is `TooLarge`.
+    /// Opens a file for reading and writing, and waits while another command holds a lock. Errors:
+    /// `Failed` for a missing file, a file without read or write access, a directory, or a file
+    /// without a length, such as a pipe; `TooLarge` from 2^32 bytes on.
     pub fn open<R: Files<File = File>>(rt: &R, path: &str) -> Result<FileFlash, OpenFault>
         ensures { IfOk result (λ device. (device.calls ≡ 0) × (device.faults ≡ 0)) }
     {
         Self::open_with(rt, path, Lock::Exclusive)
     }
 
-    /// Opens a file as `open` does, with this lock: a command that changes nothing takes a shared one,
-    /// and waits only while a command that may change the file holds its lock.
+    /// Opens a file like `open`, with the given lock. A command without changes takes a shared
+    /// lock, and waits only for commands which may change the file.
     pub fn open_with<R: Files<File = File>>(
         rt: &R,
         path: &str,
@@ -120,16 +120,17 @@ impl StoredFlash<Ahead<Erased<OsFile>>> {
         Ok(device_in(Erased::new(OsFile::open(rt, path, lock)?)))
     }
 
-    /// Opens a file for reading alone, with a shared lock. Each write to the device is refused. The
-    /// faults are those of `open`.
+    /// Opens a file only for reading, with a shared lock. Each write to the device fails. The
+    /// errors are those of `open`.
     pub fn open_to_read<R: Files<File = File>>(rt: &R, path: &str) -> Result<FileFlash, OpenFault>
         ensures { IfOk result (λ device. (device.calls ≡ 0) × (device.faults ≡ 0)) }
     {
         Ok(device_in(Erased::new(OsFile::open_shared(rt, path)?)))
     }
 
-    /// Makes a file for a device of `size` bytes, or empties the one that is there once it has its lock, and writes all of
-    /// it as 0xff. A file that can't be made, opened or written is `Failed`, and so is a block device with less room.
+    /// Creates a file of `size` bytes, or truncates an existing file after waiting for its lock,
+    /// and writes 0xff everywhere. Errors: `Failed` for a file which can't be created, opened or
+    /// written, and for a block device with less space.
     pub fn create<R: Files<File = File>>(
         rt: &R,
         path: &str,
@@ -137,20 +138,19 @@ impl StoredFlash<Ahead<Erased<OsFile>>> {
     ) -> Result<FileFlash, OpenFault>
         ensures made { IfOk result (λ device.
             (device.calls ≡ 0) × (device.faults ≡ 0) × (length device.content ≡ size)) }
-        ensures erased { IfOk result (λ device. IsTrue device.honest →
-            device.content ≡ replicate size 0xff) }
+        ensures erased { IfOk result (λ device. IsTrue device.honest
+            → device.content ≡ replicate size 0xff) }
     {
         let file = Erased::erase(OsFile::create(rt, path, size)?)?;
         Ok(device_in(file))
     }
 
-    /// Gives the file's lock back while the device is still there. No call should follow.
+    /// Releases the file's lock before the device is dropped. The caller makes no further calls.
     pub fn unlock(&self) {
         self.storage.storage().storage().unlock();
     }
 }
 
-/// The device in an open file.
 fn device_in(file: Erased<OsFile>) -> FileFlash
     ensures { result ≡ stored_device file 0 0 }
 {

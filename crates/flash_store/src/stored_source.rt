@@ -7,7 +7,7 @@ use crate::transfer::read_whole;
 use flash_device::{Counter, Source, SourceFault};
 use std::marker::Model;
 
-/// A source in a file, which is honest exactly where the file is faithful.
+/// A source in a file: honest exactly if the file is faithful.
 #[derive(Drop)]
 pub struct StoredSource<S: Storage> {
     storage: S,
@@ -25,7 +25,6 @@ impl<S: Storage> Model for StoredSource<S> {
 }
 
 impl<S: Storage> StoredSource<S> {
-    /// The source in a file, before any read.
     pub fn new(storage: S) -> StoredSource<S>
         ensures { result ≡ stored_device (S.facts storage) 0 0 }
     {

@@ -1,5 +1,5 @@
-//! Calls of a file made until all of the bytes are moved. What a function leaves is said as one call of a device over the
-//! file.
+//! Complete transfers by repeated file calls. The contracts describe each function as one device
+//! call.
 ghost use Rattle.std.specs.Prelude.{◌≡◌, ◌+◌, ◌<◌, ◌≤◌, length, IfOk, OnOk, IsTrue};
 ghost use Rattle.flash_device.specs.Device.{OneRead, OneWrite, OneCommit, refusals};
 ghost use Rattle.flash_store.specs.Storing.{
@@ -14,10 +14,9 @@ ghost use Rattle.flash_store.specs.Storing.{
 use crate::storage::{Storage, StorageFault};
 use flash_format::HEADER_LENGTH;
 
-/// How often in a row a call may be interrupted.
+/// The maximum number of consecutive interrupted calls.
 const TRIES: u32 = 1000;
 
-/// Reads some of n bytes from `at` on into the front of `out`, and says how many.
 pub fn read_front<S: Storage>(
     storage: &mut S,
     at: u64,
@@ -32,11 +31,12 @@ pub fn read_front<S: Storage>(
     storage.read_some(at, &mut out[..n])
 }
 
-/// Reads some of the bytes from `at` on, at least one: one call, made again where it was interrupted.
+/// Reads a nonempty prefix of the bytes at an offset. Repeats interrupted calls.
 fn read_again<S: Storage>(storage: &mut S, at: u64, out: &mut [u8]) -> Result<usize, StorageFault>
     requires { at + length out.old ≤ length (S.facts storage.old).content }
 
-    ensures after { HasReadSome at (length out.old) (S.facts storage.old) (S.facts storage.new) result out.new }
+    ensures after { HasReadSome at (length out.old) (S.facts storage.old) (S.facts storage.new)
+        result out.new }
     ensures moved { IfOk result (λ n. 0 < n) }
 {
     for _ in 0..TRIES {
@@ -49,7 +49,7 @@ fn read_again<S: Storage>(storage: &mut S, at: u64, out: &mut [u8]) -> Result<us
     Err(StorageFault::Interrupted)
 }
 
-/// Writes some of the first bytes from `at` on, at least one: one call, made again where it was interrupted.
+/// Writes a nonempty prefix of the bytes at an offset. Repeats interrupted calls.
 fn write_again<S: Storage>(storage: &mut S, at: u64, bytes: &[u8]) -> Result<usize, StorageFault>
     requires { at + length bytes.now ≤ length (S.facts storage.old).content }
 
@@ -66,7 +66,7 @@ fn write_again<S: Storage>(storage: &mut S, at: u64, bytes: &[u8]) -> Result<usi
     Err(StorageFault::Interrupted)
 }
 
-/// Reads all the bytes from `at` on. After a fault `out` may hold anything.
+/// Reads all bytes at an offset. After a fault, `out` is unspecified.
 pub fn read_whole<S: Storage>(storage: &mut S, at: u64, out: &mut [u8]) -> Result<(), StorageFault>
     requires { at + length out.old ≤ length (S.facts storage.old).content }
 
@@ -81,7 +81,7 @@ pub fn read_whole<S: Storage>(storage: &mut S, at: u64, out: &mut [u8]) -> Resul
     Ok(())
 }
 
-/// Writes all the bytes from `at` on. Where it fails, the range may hold anything.
+/// Writes all bytes at an offset. After a fault, the range is unspecified.
 pub fn write_whole<S: Storage>(storage: &mut S, at: u64, bytes: &[u8]) -> Result<(), StorageFault>
     requires { at + length bytes.now ≤ length (S.facts storage.old).content }
 
@@ -96,7 +96,7 @@ pub fn write_whole<S: Storage>(storage: &mut S, at: u64, bytes: &[u8]) -> Result
     Ok(())
 }
 
-/// Writes a header's bytes from `at` on by one call. A call that writes fewer bytes is a failure.
+/// Writes a header in one call. A short call is a fault.
 fn write_in_one<S: Storage>(
     storage: &mut S,
     at: u64,
@@ -112,24 +112,24 @@ fn write_in_one<S: Storage>(
     Ok(())
 }
 
-/// Makes room for a header's bytes from `at` on, so that the next write of them is whole or absent: the
-/// bytes that are there are written once more. If a full disk, a limit of the file's size or a hole
-/// refuses a part of them, this write fails, and the file's bytes stay as they are.
+/// Reserves space for a header by writing the present bytes again, so the next header write at the
+/// same offset is atomic. If a full disk, a file size limit or a hole refuses some of the bytes,
+/// the first write fails without a change of content.
 fn make_room<S: Storage>(storage: &mut S, at: u64) -> Result<(), StorageFault>
     requires { at + HEADER_LENGTH ≤ length (S.facts storage.old).content }
 
     ensures after { SameFile (S.facts storage.old) (S.facts storage.new) }
-    ensures same { IsTrue (S.facts storage.old).faithful →
-        (S.facts storage.new).content ≡ (S.facts storage.old).content }
-    ensures room { IsTrue (S.facts storage.old).faithful →
-        OnOk result (HasRoom at HEADER_LENGTH (S.facts storage.new)) }
+    ensures same { IsTrue (S.facts storage.old).faithful
+        → (S.facts storage.new).content ≡ (S.facts storage.old).content }
+    ensures room { IsTrue (S.facts storage.old).faithful
+        → OnOk result (HasRoom at HEADER_LENGTH (S.facts storage.new)) }
 {
     let mut header = [0; HEADER_LENGTH];
     read_whole(storage, at, &mut header)?;
     write_in_one(storage, at, &header)
 }
 
-/// Replaces a header's bytes from `at` on, whole or not at all.
+/// Writes a header atomically.
 pub fn write_once<S: Storage>(
     storage: &mut S,
     at: u64,

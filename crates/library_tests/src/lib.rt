@@ -1,6 +1,6 @@
-//! Tests of the libraries over their public functions: sides that fail at a chosen call, files that move few bytes or are
-//! interrupted, and devices that lie. They stand in one crate of their own, so that no library is proved again with them, and
-//! what all tests reach is linked once.
+//! Tests of the libraries over their public functions: faults at a chosen call, short or
+//! interrupted file calls, and dishonest devices. The tests are a separate crate, so no library is
+//! proved again with its tests, and the dependencies of all tests are linked once.
 #![tactic(auto)]
 
 #[cfg(test)]

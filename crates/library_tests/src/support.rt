@@ -1,20 +1,20 @@
-//! What all tests use. A comparison by a call of this is proved in a third of a second, and not in the two seconds of
-//! an assertion in place. Devices and sources are let go by `drop`: where one only goes out of scope, the drop of each of
-//! its parts is proved in that place, which takes a second or two.
+//! Helpers of all tests. A comparison by a function is proved in 0.3 seconds, instead of two
+//! seconds for an assertion in place. Devices and sources end with `drop`: at the end of a scope,
+//! the drop of each part is proved in place, in a second or two.
 use flash_store::{FailAt, MemFlash, Paged, WriteSink};
 use std::fmt::Debug;
 use std::io::{self, ErrorKind, Write};
 use std::process::Abort;
 
-/// What stands where: each part over those before it, as far as it lies inside. All else is 0xff.
+/// The parts of an image, each at an offset and over the earlier parts, truncated at the image's
+/// end. All other bytes are 0xff.
 pub type Parts<'a> = &'a [(usize, &'a [u8])];
 
-/// So many bytes of this value.
 pub fn filled(rt: &(impl Abort + AllocGlobal), byte: u8, len: usize) -> Vec<u8> {
     Vec::from_elem(rt.alloc(), byte, len).expect(rt, "memory")
 }
 
-/// Puts bytes in place of those from `at` on, as far as they lie inside.
+/// Overwrites bytes at an offset, truncated at the end.
 pub fn write_over(bytes: &mut [u8], at: usize, part: &[u8]) {
     let start = at.min(bytes.len());
     let rest = &mut bytes[start..];
@@ -22,12 +22,12 @@ pub fn write_over(bytes: &mut [u8], at: usize, part: &[u8]) {
     rest[..n].copy_from_slice(&part[..n]);
 }
 
-/// A device that holds these bytes.
 pub fn device_from(rt: &impl Abort, bytes: Vec<u8>) -> MemFlash {
     MemFlash::new(bytes).expect(rt, "a device")
 }
 
-/// An image of so many bytes with this map, and these parts from `start` on; 0xff stands elsewhere.
+/// Returns an image of length `len` with a map, and parts from `start` on. All other bytes are
+/// 0xff.
 pub fn image_with(
     rt: &(impl Abort + AllocGlobal),
     len: usize,
@@ -43,46 +43,40 @@ pub fn image_with(
     image
 }
 
-/// A device with these parts.
 pub fn device_with(rt: &(impl Abort + AllocGlobal), len: usize, parts: Parts) -> MemFlash {
     device_from(rt, image_with(rt, len, &[], 0, parts))
 }
 
-/// A device whose calls after the first few are refused.
+/// A device with a limited number of successful calls.
 pub type Failing = Paged<FailAt<MemFlash>>;
 
-/// Such a device with these parts.
+/// Returns a device with the given parts and a limited number of successful calls.
 pub fn failing(rt: &(impl Abort + AllocGlobal), len: usize, parts: Parts, calls: u64) -> Failing {
     Paged::new(FailAt::new(device_with(rt, len, parts), calls, 0))
 }
 
-/// A device has ended with these bytes.
 pub fn ends_with(rt: &impl Abort, device: MemFlash, wanted: Vec<u8>) {
     same_bytes(rt, device.bytes(), &wanted);
     drop(device);
 }
 
-/// More calls than a test makes.
 pub const ALL: u64 = 1000;
 
-/// Two values are equal.
 pub fn equal<T: PartialEq + Debug>(rt: &impl Abort, left: &T, right: &T) {
     assert_eq!(rt; *left, *right);
 }
 
-/// Two runs of bytes are equal.
 pub fn same_bytes(rt: &impl Abort, left: &[u8], right: &[u8]) {
     equal(rt, &left, &right);
 }
 
-/// A writer that is to be given these bytes, takes `piece` of them a call, and fails once it has taken `room` bytes.
+/// A writer with expected bytes, writes of at most `piece` bytes, and an error after `room` bytes.
 #[derive(Drop)]
 pub struct Short<'a> {
-    /// What is left of the bytes.
     rest: &'a [u8],
     piece: usize,
     room: usize,
-    /// Whether it was given anything else.
+    /// True after any unexpected byte.
     differs: bool,
 }
 
@@ -105,7 +99,6 @@ impl Write for Short<'_> {
     }
 }
 
-/// A writer of these bytes.
 pub fn writer(piece: usize, room: usize, bytes: &[u8]) -> WriteSink<Short<'_>> {
     WriteSink::new(Short {
         rest: bytes,
@@ -115,18 +108,16 @@ pub fn writer(piece: usize, room: usize, bytes: &[u8]) -> WriteSink<Short<'_>> {
     })
 }
 
-/// Whether it was given its bytes, and no others.
 pub fn took_all(writer: WriteSink<Short<'_>>) -> bool {
     let Short { rest, differs, .. } = writer.into_inner();
     rest.is_empty() && !differs
 }
 
-/// It was given its bytes, and no others.
 pub fn has_all(rt: &impl Abort, writer: WriteSink<Short<'_>>) {
     assert!(rt; took_all(writer));
 }
 
-/// It was given nothing, of so many bytes that were wanted.
+/// Checks that nothing was written, with `wanted` expected bytes.
 pub fn took_none(rt: &impl Abort, writer: WriteSink<Short<'_>>, wanted: usize) {
     let Short { rest, differs, .. } = writer.into_inner();
     assert!(rt; rest.len() == wanted && !differs);

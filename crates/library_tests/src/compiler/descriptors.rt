@@ -1,4 +1,4 @@
-//! Readers and writers by pieces and with failures, and how much is read of a text.
+//! Partial and failed reads and writes of the descriptor compiler, and the length of its reads.
 
 use crate::support::{equal, has_all, writer};
 use fmap_compiler::{ReadText, Refusal, run};
@@ -9,7 +9,7 @@ use std::process::Abort;
 /// A flash of 4096 bytes at 0xff000000: an area of 512 bytes for the table, and the rest.
 pub const TEXT: &[u8] = b"FLASH@0xff000000 0x1000 { FMAP 0x200 COREBOOT(CBFS) }";
 
-/// Its table.
+/// The encoded table of `TEXT`.
 pub const TABLE: [u8; 140] = *b"__FMAP__\x01\x01\x00\x00\x00\xff\x00\x00\x00\x00\x00\x10\x00\x00\
 FLASH\0\0\0\0\0\0\0\0\0\0\0\0\0\0\0\0\0\0\0\0\0\0\0\0\0\0\0\x02\x00\
 \x00\x00\x00\x00\x00\x02\x00\x00\
@@ -17,8 +17,8 @@ FMAP\0\0\0\0\0\0\0\0\0\0\0\0\0\0\0\0\0\0\0\0\0\0\0\0\0\0\0\0\x00\x00\
 \x00\x02\x00\x00\x00\x0e\x00\x00\
 COREBOOT\0\0\0\0\0\0\0\0\0\0\0\0\0\0\0\0\0\0\0\0\0\0\0\0\x00\x00";
 
-/// A reader over memory whose reads give as many bytes as the pieces say, and then one byte each; it fails once
-/// `good` bytes are given.
+/// A reader over memory. The first reads have the lengths in the list, all later reads one byte; a
+/// read fails after `good` bytes.
 #[derive(Drop)]
 struct Pieces<'a> {
     rest: &'a [u8],
@@ -45,7 +45,6 @@ impl Read for Pieces<'_> {
     }
 }
 
-/// A reader of so many blanks.
 #[derive(Drop)]
 struct Blanks {
     left: usize,
@@ -62,7 +61,6 @@ impl Read for Blanks {
     }
 }
 
-/// A reader of the text by pieces.
 fn in_pieces(pieces: &[usize], good: usize) -> ReadText<Pieces<'_>> {
     ReadText::new(Pieces {
         rest: TEXT,
@@ -71,7 +69,6 @@ fn in_pieces(pieces: &[usize], good: usize) -> ReadText<Pieces<'_>> {
     })
 }
 
-/// A run over this reader answers so, and writes these bytes by so many a call, of which so many have room.
 fn compiles(
     rt: &(impl Abort + AllocGlobal),
     mut reader: ReadText<Pieces<'_>>,
@@ -85,7 +82,6 @@ fn compiles(
     has_all(rt, writer);
 }
 
-/// A run over a reader of these pieces makes the table.
 fn reads(rt: &(impl Abort + AllocGlobal), pieces: &[usize]) {
     let reader = in_pieces(pieces, usize::MAX);
     compiles(rt, reader, 4096, 4096, Ok(()), &TABLE);
@@ -98,7 +94,7 @@ fn any_pieces_make_the_same_table(rt: HostRuntime) {
     reads(&rt, &[4096]);
 }
 
-/// A reader that fails once so many bytes are given.
+/// Checks a run with a read error after `good` bytes.
 fn failing_after(rt: &(impl Abort + AllocGlobal), good: usize) {
     let reader = in_pieces(&[10, 9, 40], good);
     compiles(rt, reader, 4096, 4096, Err(Refusal::Read), &[]);
@@ -112,8 +108,7 @@ fn a_reader_that_fails_leaves_nothing_written(rt: HostRuntime) {
     failing_after(&rt, TEXT.len());
 }
 
-/// A writer that takes so many bytes a call, and so many in all, has then the first of the table, and this is the
-/// answer.
+/// Checks the output and the result of a run with limited writes and limited space.
 fn writes(
     rt: &(impl Abort + AllocGlobal),
     piece: usize,
@@ -135,11 +130,11 @@ fn a_writer_that_fails_has_a_prefix_of_the_table(rt: HostRuntime) {
     writes(&rt, 140, 0, fault, 0);
     writes(&rt, 3, 140, Ok(()), 140);
     writes(&rt, 1, 140, Ok(()), 140);
-    // It takes nothing, and doesn't fail.
+    // Each write returns 0.
     writes(&rt, 0, 140, fault, 0);
 }
 
-/// So many blanks are refused so, and so many are read.
+/// Checks the fault of a text of blanks, and the number of read bytes.
 fn refused_blanks(rt: &(impl Abort + AllocGlobal), left: usize, fault: FmdFault, taken: usize) {
     let mut reader = ReadText::new(Blanks { left, taken: 0 });
     let answer = run(rt.alloc(), &mut reader, &mut writer(4096, 0, &[]));

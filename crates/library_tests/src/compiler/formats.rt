@@ -1,5 +1,5 @@
-//! Heads of entries and of attributes, on bytes from outside. What else has a format, and the limits, are shown by
-//! `checks/check_cbfstool` and `checks/check_fmaptool`.
+//! Heads of entries and attributes from literal bytes. `checks/check_cbfstool` and
+//! `checks/check_fmaptool` test the other formats, and the limits.
 use crate::support::equal;
 use flash_format::{AttrHead, DamageKind, Extent, Head};
 
@@ -7,11 +7,10 @@ const RAW: u32 = 0x50;
 
 const NULL: u32 = 0xffff_ffff;
 
-/// The first 24 bytes of a region of 512 bytes that has nothing but free space.
+/// The first 24 bytes of an empty region of 512 bytes.
 const FRESH: [u8; 24] =
     *b"LARCHIVE\x00\x00\x01\xd4\xff\xff\xff\xff\x00\x00\x00\x00\x00\x00\x00\x28";
 
-/// An entry without attributes, whose content begins after 40 bytes.
 fn plain(kind: u32, len: u32) -> Head {
     Head {
         len,

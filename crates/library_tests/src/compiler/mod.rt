@@ -1,3 +1,3 @@
-//! The compiler of descriptors, and the formats.
+//! The descriptor compiler, and the formats.
 pub mod descriptors;
 mod formats;

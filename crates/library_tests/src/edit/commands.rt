@@ -1,4 +1,4 @@
-//! Outputs that fail at each place, the size of a new image, and creations that are refused or stopped.
+//! Output faults at each position, sizes of new images, and failed creations.
 
 use crate::edit::deeds::{COREBOOT, answer_into, stopped};
 use crate::edit::support::{LEN, MAP, Stop, source_of, stopping};
@@ -17,8 +17,8 @@ const PRINT: Command<'static> = Command::Print {
 
 // ---- outputs
 
-/// A command into a sink that takes so many bytes a call and so many in all writes this text, where the device refuses all calls
-/// after the first few.
+/// Checks the output of a command with limited writes, limited space and a limited number of device
+/// calls.
 fn tells(
     rt: &(impl Abort + AllocGlobal),
     calls: u64,
@@ -44,7 +44,7 @@ fn tells(
     drop(paged);
 }
 
-/// A command writes this text, by three bytes a call too, and as much of it as there is room for.
+/// Checks the output of a command for each limit of space, also with writes of three bytes.
 fn tells_what_has_room(rt: &(impl Abort + AllocGlobal), command: &Command, text: &[u8]) {
     for room in 0..text.len() {
         let first = text.get(..room).unwrap_or(text);
@@ -93,7 +93,6 @@ fn a_device_that_fails_as_it_is_read(rt: HostRuntime) {
 
 // ---- creations
 
-/// The size of an image from this source is answered so, where it refuses all reads after the first few.
 fn has_size(rt: &impl Abort, map: &[u8], reads: u64, answer: Result<u32, Refusal>) {
     let mut source = FailSource::new(source_of(rt, map), reads);
     equal(rt, &create_size(&mut source), &answer);
@@ -107,7 +106,6 @@ fn the_size_of_a_flashmap(rt: HostRuntime) {
     has_size(&rt, &MAP, 0, Err(Refusal::Source));
 }
 
-/// What a creation with regions of these names leaves that is stopped, and answers this.
 fn creation(
     rt: &impl Abort,
     device: MemFlash,
@@ -121,7 +119,7 @@ fn creation(
     stopped(rt, device, &Command::Create { regions }, map, stop, want)
 }
 
-/// A creation from this flashmap on a device of so many bytes is refused, and leaves them.
+/// Checks that a creation on a device of length `len` fails without a change.
 fn refuses(
     rt: &(impl Abort + AllocGlobal),
     len: usize,
@@ -146,8 +144,6 @@ fn what_is_refused_leaves_the_image(rt: HostRuntime) {
     refuses(&rt, 2 * LEN, &[COREBOOT], &MAP, Refusal::TableBad);
 }
 
-/// A creation ends so, where the device refuses all calls after the first `calls`, and the source all reads after the
-/// first `reads`.
 fn creates(rt: &(impl Abort + AllocGlobal), calls: u64, reads: u64, want: Result<(), Refusal>) {
     let stop = Stop {
         calls,
@@ -158,8 +154,8 @@ fn creates(rt: &(impl Abort + AllocGlobal), calls: u64, reads: u64, want: Result
     let _left = creation(rt, device, &[COREBOOT], &MAP, stop, &want);
 }
 
-/// One call fills, one writes the table, and two make the region an empty entry. One read is for the head, one for each of
-/// three areas, and one for the table.
+/// Calls: one fill, one write of the table, and two for the region's empty entry. Reads: the head,
+/// each of three areas, and the table.
 fn stop_creations(rt: &(impl Abort + AllocGlobal)) {
     for calls in 0..4 {
         creates(rt, calls, 5, Err(Refusal::Device));

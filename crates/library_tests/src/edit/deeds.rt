@@ -1,4 +1,4 @@
-//! What is done to the region of the small image: edits, and commands that edit.
+//! Edits of the small image's region, and commands for the edits.
 use crate::edit::support::{
     Held, MAGIC_20, SIZE, START, Stop, components, device_of, holds, region_of, source_of, stopping,
 };
@@ -23,7 +23,8 @@ const RUN_REMOVE: Command<'static> = Command::Remove {
     name: b"a",
 };
 
-/// The first removal joins free space on both sides, and the second takes the first of two components of a name.
+/// The first removal joins free space on both sides; the second removes the first of two components
+/// with one name.
 #[derive(Clone, Copy)]
 pub enum Deed {
     Join,
@@ -35,7 +36,6 @@ pub enum Deed {
     RunRemove,
 }
 
-/// What the region holds before it.
 pub fn before(deed: Deed) -> Held {
     match deed {
         Deed::Join => Held::Between,
@@ -46,7 +46,6 @@ pub fn before(deed: Deed) -> Held {
     }
 }
 
-/// What the region holds when it is done.
 pub fn after(deed: Deed) -> Held {
     match deed {
         Deed::FirstOfTwo => Held::Once,
@@ -58,7 +57,7 @@ pub fn after(deed: Deed) -> Held {
     }
 }
 
-/// What a command answers, where a source of these bytes refuses all reads after the first few.
+/// Runs a command on a source with a limited number of reads.
 pub fn answer_into<F: Flash>(
     rt: &impl Abort,
     paged: &mut Paged<F>,
@@ -73,7 +72,6 @@ pub fn answer_into<F: Flash>(
     answer
 }
 
-/// The same, into a sink that takes nothing.
 fn answer_of<F: Flash>(
     rt: &impl Abort,
     paged: &mut Paged<F>,
@@ -84,7 +82,7 @@ fn answer_of<F: Flash>(
     answer_into(rt, paged, command, bytes, reads, &mut writer(0, 0, &[]))
 }
 
-/// What a command leaves that is stopped, with a source of these bytes, and answers this.
+/// Returns the device after a stopped command with the given result.
 pub fn stopped(
     rt: &impl Abort,
     device: MemFlash,
@@ -102,7 +100,8 @@ pub fn stopped(
     paged.into_flash().into_inner()
 }
 
-/// What becomes of the fault of an edit as a command tells it; the other refusals are one here.
+/// Returns the command's refusal for an edit's fault. Only faults of the device and the source are
+/// distinguished.
 fn told(fault: Option<EditFault>) -> Result<(), Refusal> {
     match fault {
         None => Ok(()),
@@ -112,7 +111,6 @@ fn told(fault: Option<EditFault>) -> Result<(), Refusal> {
     }
 }
 
-/// Adds a component of the usual type.
 fn adds<F: Flash>(
     rt: &impl Abort,
     paged: &mut Paged<F>,
@@ -138,7 +136,6 @@ fn formats<F: Flash>(rt: &impl Abort, paged: &mut Paged<F>) -> Option<EditFault>
     format(paged, region).err()
 }
 
-/// Does this, and answers how it has ended.
 pub fn does<F: Flash>(rt: &impl Abort, paged: &mut Paged<F>, deed: Deed) -> Result<(), Refusal> {
     match deed {
         Deed::Join => told(removes(rt, paged, b"m")),
@@ -151,20 +148,19 @@ pub fn does<F: Flash>(rt: &impl Abort, paged: &mut Paged<F>, deed: Deed) -> Resu
     }
 }
 
-/// Whether these are the components of a region that holds that.
 fn are_those(rt: &(impl Abort + AllocGlobal), found: &[u8], held: Held) -> bool {
     components(rt, device_of(rt, held), START, SIZE).as_slice() == found
 }
 
-/// The region has the components that it has where it holds the one or the other.
+/// Checks that the region has the components of either state.
 pub fn leaves(rt: &(impl Abort + AllocGlobal), device: MemFlash, one: Held, other: Held) {
     let found = components(rt, device, START, SIZE);
     let is_left = are_those(rt, &found, one) || are_those(rt, &found, other);
     assert!(rt; is_left);
 }
 
-/// A deed has finished and left the image that it should, or the device has stopped it: then the region has the components of
-/// before or of after. Answers whether it has finished.
+/// Checks the image after a completed edit, and the components after a stopped edit: those before
+/// or after the edit. Returns true if the edit has completed.
 pub fn has_finished(
     rt: &(impl Abort + AllocGlobal),
     deed: Deed,

@@ -1,4 +1,4 @@
-//! An image whose region takes several pieces, from a source and on a device that stop at each call in turn.
+//! A region of several pieces, with a fault at each read of the source and each call of the device.
 
 use crate::edit::deeds::{COREBOOT, stopped};
 use crate::edit::support::{Stop, components};
@@ -8,23 +8,24 @@ use cbfs_edit::{HashChoice, Spot};
 use flash_store::MemFlash;
 use std::process::Abort;
 
-/// The map of an image of 32,768 bytes: FMAP and COREBOOT, a half each.
+/// The map of an image of 32,768 bytes: FMAP and COREBOOT, half each.
 const HALVES: [u8; 140] = *b"__FMAP__\x01\x01\0\0\0\0\0\0\0\0\0\x80\0\0\
 F\0\0\0\0\0\0\0\0\0\0\0\0\0\0\0\0\0\0\0\0\0\0\0\0\0\0\0\0\0\0\0\x02\0\
 \0\0\0\0\0\x40\0\0FMAP\0\0\0\0\0\0\0\0\0\0\0\0\0\0\0\0\0\0\0\0\0\0\0\0\0\0\0\0\0\0\
 \0\x40\0\0\0\x40\0\0COREBOOT\0\0\0\0\0\0\0\0\0\0\0\0\0\0\0\0\0\0\0\0\0\0\0\0\0\0";
 
-/// Where the region COREBOOT stands, and its length.
+/// The offset and the length of COREBOOT.
 const HALF: usize = 16384;
 
-/// Headers of empty entries at its end, of all of it and of 7104 bytes, and of one of 192 bytes.
+/// Headers of empty entries at the region's end (the whole region, and 7104 bytes), and of 192
+/// bytes.
 const LAST_16384: [u8; 28] = *b"LARCHIVE\0\0\x3f\xe0\xff\xff\xff\xff\0\0\0\0\0\0\0\x1c\0\0\0\0";
 
 const LAST_7104: [u8; 28] = *b"LARCHIVE\0\0\x1b\xa0\xff\xff\xff\xff\0\0\0\0\0\0\0\x1c\0\0\0\0";
 
 const EMPTY_192: [u8; 28] = *b"LARCHIVE\0\0\0\xa4\xff\xff\xff\xff\0\0\0\0\0\0\0\x1c\0\0\0\0";
 
-/// What stands before a gap of 36 bytes and the 9000 bytes of a component `b`.
+/// The metadata of a component `b` of 9000 bytes, after which a gap of 36 bytes follows.
 const B_9000: [u8; 28] = *b"LARCHIVE\0\0\x23\x28\0\0\0\x50\0\0\0\0\0\0\0\x40b\0\0\0";
 
 const ADD: Command<'static> = Command::Add {
@@ -37,19 +38,16 @@ const ADD: Command<'static> = Command::Add {
 
 const WRITE: Command<'static> = Command::Write { region: COREBOOT };
 
-/// The image with these parts of its region.
 fn halves(rt: &(impl Abort + AllocGlobal), parts: Parts) -> Vec<u8> {
     image_with(rt, 32768, &HALVES, HALF, parts)
 }
 
-/// A device with the image, whose region is free.
 fn device(rt: &(impl Abort + AllocGlobal)) -> MemFlash {
     device_from(rt, halves(rt, &[(0, &LAST_16384)]))
 }
 
-// ---- the region is written
+// ---- raw writes
 
-/// As many bytes as the region has, none of them 0xff.
 fn numbered(rt: &(impl Abort + AllocGlobal)) -> Vec<u8> {
     let mut bytes = filled(rt, 0, HALF);
     for (i, byte) in bytes.iter_mut().enumerate() {
@@ -58,8 +56,7 @@ fn numbered(rt: &(impl Abort + AllocGlobal)) -> Vec<u8> {
     bytes
 }
 
-/// Writes the region, where the device and the source are stopped: it is answered so, and so many bytes of the source are
-/// written before all else that was there.
+/// Checks the result of a raw write, and the number of written bytes before the fault.
 fn writes(
     rt: &(impl Abort + AllocGlobal),
     bytes: &[u8],
@@ -72,7 +69,6 @@ fn writes(
     ends_with(rt, device, halves(rt, &[(0, &LAST_16384), (0, written)]));
 }
 
-/// The source refuses its reads after the first few.
 fn reads(
     rt: &(impl Abort + AllocGlobal),
     bytes: &[u8],
@@ -88,7 +84,7 @@ fn reads(
     writes(rt, bytes, stop, want, n);
 }
 
-/// Each read of the source is refused in turn; the pieces before it are written.
+/// Checks a fault at each read: the earlier pieces are written.
 fn refuse_reads(rt: &(impl Abort + AllocGlobal), bytes: &[u8]) {
     let fault = Err(Refusal::Source);
     reads(rt, bytes, 0, &fault, 0);
@@ -103,7 +99,8 @@ fn a_source_that_fails_at_any_read(rt: HostRuntime) {
     refuse_reads(&rt, &numbered(&rt));
 }
 
-/// The device refuses its calls after the first few, and keeps this part of the first refused write.
+/// Checks a raw write with a limited number of device calls. The first failed write writes `part`
+/// bytes.
 fn calls(rt: &(impl Abort + AllocGlobal), bytes: &[u8], calls: u64, part: usize, n: usize) {
     let stop = Stop {
         calls,
@@ -113,8 +110,8 @@ fn calls(rt: &(impl Abort + AllocGlobal), bytes: &[u8], calls: u64, part: usize,
     writes(rt, bytes, stop, &Err(Refusal::Device), n);
 }
 
-/// Each call of the device is refused in turn, the one that finds the region and the four that write: the pieces before it are
-/// written, and this part of its own.
+/// Checks a fault at each device call, one for the search of the region and four writes: the
+/// earlier pieces and `part` bytes are written.
 fn refuse_calls(rt: &(impl Abort + AllocGlobal), bytes: &[u8], part: usize) {
     calls(rt, bytes, 0, part, 0);
     calls(rt, bytes, 1, part, part);
@@ -134,9 +131,8 @@ fn a_device_that_fails_at_any_call(rt: HostRuntime) {
     refuse_all(&rt, &numbered(&rt));
 }
 
-// ---- a component is added
+// ---- additions
 
-/// The device after an addition from a source that refuses all reads after the first few, which is answered so.
 fn adds(
     rt: &(impl Abort + AllocGlobal),
     bytes: &[u8],
@@ -151,13 +147,12 @@ fn adds(
     stopped(rt, device(rt), &ADD, bytes, stop, want)
 }
 
-/// The source stops the addition, and there is no component.
+/// Checks that a source fault adds no component.
 fn stops(rt: &(impl Abort + AllocGlobal), bytes: &[u8], reads: u64) {
     let device = adds(rt, bytes, reads, &Err(Refusal::Source));
     same_bytes(rt, &components(rt, device, HALF, HALF), b"");
 }
 
-/// The image has then a component of 9000 bytes.
 fn finishes(rt: &(impl Abort + AllocGlobal), bytes: &[u8], reads: u64) {
     let device = adds(rt, bytes, reads, &Ok(()));
     let parts: Parts = &[
@@ -169,7 +164,6 @@ fn finishes(rt: &(impl Abort + AllocGlobal), bytes: &[u8], reads: u64) {
     ends_with(rt, device, halves(rt, parts));
 }
 
-/// Each of three reads is refused in turn.
 fn stop_reads(rt: &(impl Abort + AllocGlobal), bytes: &[u8]) {
     stops(rt, bytes, 0);
     stops(rt, bytes, 1);

@@ -1,4 +1,5 @@
-//! Lists of edits, on a device in memory and on one that refuses a single call; and single edits on that one.
+//! Lists of edits on a device in memory, and on a device with a single fault; single edits with a
+//! single fault.
 ghost use Rattle.std.specs.Prelude.{◌≡◌, ◌+◌, true, false, IsTrue};
 
 use crate::edit::deeds::{Deed, before, does, leaves};
@@ -13,19 +14,16 @@ const STOPPED: Reply = Reply::Refused(EditFault::Device);
 
 const NOT_FOUND: Reply = Reply::Refused(EditFault::NotFound);
 
-/// The reply to the first component that is added.
 const FIRST: Reply = Reply::Placed(Placed {
     header: 0,
     content: 28,
 });
 
-/// The reply to the next one.
 const NEXT: Reply = Reply::Placed(Placed {
     header: 64,
     content: 92,
 });
 
-/// A component of the usual type is to be added to the first free space.
 fn addition<'a>(rt: &impl Abort, name: &'a [u8], content: &'a [u8]) -> Edit<'a, MemSource<'a>> {
     Edit::Add {
         name,
@@ -40,20 +38,20 @@ fn freed(start: u64, end: u64) -> Reply {
     Reply::Freed(Freed { start, end })
 }
 
-/// A device that refuses one call, and does nothing then.
+/// A device with a single failed call, which has no effect.
 #[derive(Drop)]
 struct FailOnce {
     device: MemFlash,
-    /// How many calls there are up to the one that is refused; 0 once it was.
+    /// The number of calls up to the failed call; 0 after the failed call.
     left: u64,
-    /// How many calls there were after that one.
+    /// The number of calls after the failed call.
     after: u64,
     calls: Counter,
     faults: Counter,
 }
 
 impl FailOnce {
-    /// The call of this number is refused, from 1 on.
+    /// Makes a device; the call `number`, from 1, fails.
     fn new(device: MemFlash, number: u64) -> FailOnce {
         FailOnce {
             device,
@@ -64,7 +62,6 @@ impl FailOnce {
         }
     }
 
-    /// Counts a call, and says whether it is the one that is refused.
     fn is_due(&mut self) -> bool
         ensures device { self.new.device ≡ self.old.device }
         ensures counted { self.new.calls ≡ self.old.calls + 1 }
@@ -118,7 +115,6 @@ impl Flash for FailOnce {
     }
 }
 
-/// The replies to two additions and the removal of the first component.
 fn replies_of<F: Flash>(rt: &impl Abort, paged: &mut Paged<F>) -> [Reply; 3] {
     let mut edits = [
         addition(rt, b"a", b"0123456789"),
@@ -131,7 +127,7 @@ fn replies_of<F: Flash>(rt: &impl Abort, paged: &mut Paged<F>) -> [Reply; 3] {
     replies
 }
 
-/// The number of the edit that was stopped, or 3.
+/// Returns the index of the stopped edit, or 3.
 fn stopped_of(replies: &[Reply; 3]) -> usize {
     if replies[0] == STOPPED {
         return 0;
@@ -142,7 +138,6 @@ fn stopped_of(replies: &[Reply; 3]) -> usize {
     if replies[2] == STOPPED { 2 } else { 3 }
 }
 
-/// The replies where this edit was stopped.
 fn wanted(stopped: usize) -> [Reply; 3] {
     match stopped {
         0 => [STOPPED, FIRST, NOT_FOUND],
@@ -152,7 +147,6 @@ fn wanted(stopped: usize) -> [Reply; 3] {
     }
 }
 
-/// A region with the components that are then left.
 fn left(stopped: usize) -> Held {
     match stopped {
         0 => Held::WithB,
@@ -161,16 +155,14 @@ fn left(stopped: usize) -> Held {
     }
 }
 
-/// Two components are added and the first is removed, on a device that refuses the call of a number. Answers which of
-/// them was stopped.
 fn stopped_at(rt: &(impl Abort + AllocGlobal), number: u64) -> usize {
     let mut paged = Paged::new(FailOnce::new(device_of(rt, Held::Fresh), number));
     let replies = replies_of(rt, &mut paged);
     has_stopped(rt, &replies, paged.into_flash().device)
 }
 
-/// Which edit was stopped. The others have the replies that they then have, and the device the components, where the removal
-/// was stopped with or without the first one.
+/// Checks the replies and the components, and returns the index of the stopped edit. A stopped
+/// removal may have removed its component.
 fn has_stopped(rt: &(impl Abort + AllocGlobal), replies: &[Reply; 3], device: MemFlash) -> usize {
     let stopped = stopped_of(replies);
     equal(rt, replies, &wanted(stopped));
@@ -183,7 +175,7 @@ fn has_stopped(rt: &(impl Abort + AllocGlobal), replies: &[Reply; 3], device: Me
     stopped
 }
 
-/// The lists are stopped at each call in turn, first in the first edit, then in the next ones, until none is.
+/// Stops a list of edits at each call, until no call fails.
 fn stop_lists(rt: &(impl Abort + AllocGlobal)) {
     let mut last = 0;
     for number in 1..60 {
@@ -202,8 +194,8 @@ fn a_stopped_edit_does_not_stop_the_later_ones(rt: HostRuntime) {
     stop_lists(&rt);
 }
 
-/// An edit on a device that refuses the call of a number, and no other: where one is refused, it is the last. Answers whether
-/// the edit has finished.
+/// Runs an edit with a single fault, after which no further call is made. Returns true if the edit
+/// has completed.
 fn ends_with(rt: &(impl Abort + AllocGlobal), deed: Deed, number: u64) -> bool {
     let mut paged = Paged::new(FailOnce::new(device_of(rt, before(deed)), number));
     let answer = does(rt, &mut paged, deed);
@@ -213,9 +205,7 @@ fn ends_with(rt: &(impl Abort + AllocGlobal), deed: Deed, number: u64) -> bool {
     answer.is_ok()
 }
 
-/// Each call of an edit is refused in turn, of which there is one at least.
 fn refuse_each(rt: &(impl Abort + AllocGlobal), deed: Deed) {
-    // 0 stands for none.
     let mut finished = 0;
     for number in 1..20 {
         if ends_with(rt, deed, number) {

@@ -1,4 +1,4 @@
-//! Edits, and commands.
+//! Edits and commands.
 mod commands;
 pub mod deeds;
 mod halves;

@@ -1,5 +1,5 @@
-//! Edits and commands on a device that stops at each call in turn, and on a file that moves few bytes a call, is interrupted, and
-//! refuses from a call on.
+//! Edits and commands with a device fault from each call on, and with short, interrupted and failed
+//! file calls.
 
 use crate::edit::deeds::{Deed, before, does, has_finished};
 use crate::edit::support::{Held, LEN, Stop, device_of, image_of, region_of, source_of, stopping};
@@ -8,9 +8,9 @@ use cbfs_edit::{EditFault, HashChoice, Spot, add};
 use flash_store::{Ahead, Erased, FlakyFile, Flash, MemFlash, Paged, StoredFlash};
 use std::process::Abort;
 
-// ---- a device that refuses all calls from one on
+// ---- device faults from a call on
 
-/// Does this on a device that refuses all calls after the first k. Answers whether it has finished.
+/// Returns true if an edit completes within `k` calls.
 fn on_device(rt: &(impl Abort + AllocGlobal), deed: Deed, k: u64, part: usize) -> bool {
     let stop = Stop {
         calls: k,
@@ -22,9 +22,8 @@ fn on_device(rt: &(impl Abort + AllocGlobal), deed: Deed, k: u64, part: usize) -
     has_finished(rt, deed, answer, paged.into_flash().into_inner())
 }
 
-/// Stops it at each call in turn, until one call more lets it finish. It doesn't finish without a call.
+/// Stops an edit at each call, until the edit completes. An edit never completes without a call.
 fn stop_each(rt: &(impl Abort + AllocGlobal), deed: Deed, part: usize) {
-    // 0 stands for none.
     let mut finished = 0;
     for k in 0..20 {
         if on_device(rt, deed, k, part) {
@@ -35,7 +34,7 @@ fn stop_each(rt: &(impl Abort + AllocGlobal), deed: Deed, part: usize) {
     assert!(rt; finished > 0);
 }
 
-/// Stops all edits, where this part of the first refused write is written.
+/// Stops all edits; the first failed write writes `part` bytes.
 fn stop_all(rt: &(impl Abort + AllocGlobal), part: usize) {
     stop_each(rt, Deed::Join, part);
     stop_each(rt, Deed::FirstOfTwo, part);
@@ -52,7 +51,6 @@ fn an_edit_stops_at_any_call(rt: HostRuntime) {
     stop_all(&rt, 4096);
 }
 
-/// The fault of an addition of nothing.
 fn fault_of<F: Flash>(
     rt: &impl Abort,
     paged: &mut Paged<F>,
@@ -68,7 +66,7 @@ fn fault_of<F: Flash>(
     answer.err()
 }
 
-/// An addition to a device that refuses every call is refused so.
+/// Checks the fault of an addition on a device without successful calls.
 fn refused_at_once(
     rt: &(impl Abort + AllocGlobal),
     name: &[u8],
@@ -95,9 +93,9 @@ fn what_the_words_refuse_makes_no_call(rt: HostRuntime) {
     refused_at_once(&rt, b"a", 0x50, Spot::First, EditFault::Device);
 }
 
-// ---- a file
+// ---- files
 
-/// The most bytes that a call of a file moves, and how many calls lie between two interruptions.
+/// The maximum transfer of a file call, and the number of calls between two interruptions.
 #[derive(Clone, Copy)]
 struct Calls {
     most: usize,
@@ -110,29 +108,26 @@ fn flaky(rt: &(impl Abort + AllocGlobal), held: Held, calls: Calls, made: u64) -
     FlakyFile::new(image, calls.most, calls.between, made)
 }
 
-/// A device in a file, as one in a file of the system is.
+/// A device with the layers of a device in a system file.
 type InFile = Paged<StoredFlash<Ahead<Erased<FlakyFile>>>>;
 
 fn in_file(file: FlakyFile) -> InFile {
     Paged::new(StoredFlash::new(Ahead::new(Erased::new(file))))
 }
 
-/// A device in memory with the bytes that the file has then.
 fn left_in(rt: &(impl Abort + AllocGlobal), paged: InFile) -> MemFlash {
     let file = paged.into_flash().into_inner().into_inner().into_inner();
     device_from(rt, file.bytes().to_vec(rt.alloc()).expect(rt, "memory"))
 }
 
-/// Does this on a file that makes so many calls. Answers whether it has finished.
+/// Returns true if an edit completes within a number of file calls.
 fn on_file(rt: &(impl Abort + AllocGlobal), deed: Deed, calls: Calls, made: u64) -> bool {
     let mut paged = in_file(flaky(rt, before(deed), calls, made));
     let answer = does(rt, &mut paged, deed);
     has_finished(rt, deed, answer, left_in(rt, paged))
 }
 
-/// Stops it at each call of the file in turn, until one call more lets it finish. It doesn't finish without a call.
 fn stop_each_of(rt: &(impl Abort + AllocGlobal), deed: Deed, calls: Calls) {
-    // 0 stands for none.
     let mut finished = 0;
     for made in 0..2000 {
         if on_file(rt, deed, calls, made) {
@@ -161,7 +156,6 @@ fn a_deed_stops_at_any_call_of_a_file(rt: HostRuntime) {
     stop_all_of(&rt, 30, 1);
 }
 
-/// A deed is refused by a file that makes so many calls.
 fn never(rt: &(impl Abort + AllocGlobal), deed: Deed, calls: Calls, made: u64) {
     assert!(rt; !on_file(rt, deed, calls, made));
 }

@@ -1,4 +1,4 @@
-//! A small image with a region, and what the tests of edits share.
+//! A small image with a region, and helpers of the tests of edits.
 ghost use Rattle.flash_device.specs.Regions.{LiesIn};
 
 use crate::support::{Failing, Parts, device_from, ends_with, image_with};
@@ -7,20 +7,17 @@ use flash_store::{FailAt, Flash, MemFlash, MemSource, Paged, Region};
 use std::alloc::AllocError;
 use std::process::Abort;
 
-/// The flashmap of an image of 1536 bytes: FMAP, COREBOOT and REST, of 512 bytes each.
+/// The flash map of an image of 1536 bytes: FMAP, COREBOOT and REST, of 512 bytes each.
 pub const MAP: [u8; 182] = *b"__FMAP__\x01\x01\x00\x00\x00\xff\x00\x00\x00\x00\x00\x06\x00\x00\
 FLASH\0\0\0\0\0\0\0\0\0\0\0\0\0\0\0\0\0\0\0\0\0\0\0\0\0\0\0\x03\x00\
 \x00\x00\x00\x00\x00\x02\x00\x00FMAP\0\0\0\0\0\0\0\0\0\0\0\0\0\0\0\0\0\0\0\0\0\0\0\0\0\0\0\0\0\0\
 \x00\x02\x00\x00\x00\x02\x00\x00COREBOOT\0\0\0\0\0\0\0\0\0\0\0\0\0\0\0\0\0\0\0\0\0\0\0\0\0\0\
 \x00\x04\x00\x00\x00\x02\x00\x00REST\0\0\0\0\0\0\0\0\0\0\0\0\0\0\0\0\0\0\0\0\0\0\0\0\0\0\0\0\0\0";
 
-/// How long the image is.
 pub const LEN: usize = 1536;
 
-/// Where the region COREBOOT stands in it.
 pub const START: usize = 512;
 
-/// How long the region is.
 pub const SIZE: usize = 512;
 
 /// Deleted space of 20 bytes.
@@ -42,19 +39,19 @@ pub const X2: [u8; 42] =
 pub const NULL_340: [u8; 40] =
     *b"LARCHIVE\0\0\x01\x54\xff\xff\xff\xff\0\0\0\0\0\0\0\x28\0\0\0\0\0\0\0\0\0\0\0\0\0\0\0\0";
 
-/// The component `a` of ten bytes, as it is added.
+/// A component `a` of ten bytes, as added.
 pub const A: [u8; 38] = *b"LARCHIVE\0\0\0\x0a\0\0\0\x50\0\0\0\0\0\0\0\x1ca\0\0\00123456789";
 
-/// A component `b` of 20 bytes, as it is added, and the same but for its content, which stands behind a gap of 36.
+/// A component `b` of 20 bytes, as added; the same without its content, and with a gap of 36.
 pub const B: [u8; 48] =
     *b"LARCHIVE\0\0\0\x14\0\0\0\x50\0\0\0\0\0\0\0\x1cb\0\0\0LARCHIVE89abcdefghij";
 
 pub const B_BEFORE_GAP: [u8; 28] = *b"LARCHIVE\0\0\0\x14\0\0\0\x50\0\0\0\0\0\0\0\x40b\0\0\0";
 
-/// Content that looks like an entry.
+/// Content with the magic of an entry.
 pub const MAGIC_20: [u8; 20] = *b"LARCHIVE89abcdefghij";
 
-/// Headers of empty entries inside a region, by their sizes, and of such at its end.
+/// Headers of empty entries by size, inside a region (EMPTY) and at its end (LAST).
 pub const EMPTY_64: [u8; 28] = *b"LARCHIVE\0\0\0\x24\xff\xff\xff\xff\0\0\0\0\0\0\0\x1c\0\0\0\0";
 
 pub const EMPTY_128: [u8; 28] = *b"LARCHIVE\0\0\0\x64\xff\xff\xff\xff\0\0\0\0\0\0\0\x1c\0\0\0\0";
@@ -67,34 +64,31 @@ pub const LAST_448: [u8; 28] = *b"LARCHIVE\0\0\x01\xa0\xff\xff\xff\xff\0\0\0\0\0
 
 pub const LAST_512: [u8; 28] = *b"LARCHIVE\0\0\x01\xe0\xff\xff\xff\xff\0\0\0\0\0\0\0\x1c\0\0\0\0";
 
-/// What a region holds.
 #[derive(Clone, Copy)]
 pub enum Held {
-    /// One empty entry.
     Fresh,
     /// A component between free cells.
     Between,
-    /// Two components of a name.
+    /// Two components with one name.
     Twice,
-    /// The second of them.
+    /// The second of the two components.
     Once,
-    /// The component `a`.
     WithA,
-    /// The same, and `b` with a gap before its content.
+    /// `a`, and `b` with a gap before its content.
     WithLater,
-    /// `a`, and `b` behind it.
+    /// `a`, then `b`.
     Both,
-    /// These, of which `a` was removed.
+    /// `b` after free space: `a` was removed.
     BehindFree,
     /// `b` at the start.
     WithB,
     /// The component `a`, and other last four bytes.
     WithLast,
-    /// One empty entry before these.
+    /// One empty entry, and the other last four bytes.
     FreshBeforeLast,
 }
 
-/// What stands where in such a region; 0xff stands elsewhere.
+/// Returns the parts of a region; all other bytes are 0xff.
 fn parts_of(held: Held) -> Parts<'static> {
     match held {
         Held::Fresh => &[(0, &LAST_512)],
@@ -117,7 +111,6 @@ fn parts_of(held: Held) -> Parts<'static> {
     }
 }
 
-/// The image whose region holds that.
 pub fn image_of(rt: &(impl Abort + AllocGlobal), held: Held) -> Vec<u8> {
     image_with(rt, LEN, &MAP, START, parts_of(held))
 }
@@ -126,8 +119,8 @@ pub fn device_of(rt: &(impl Abort + AllocGlobal), held: Held) -> MemFlash {
     device_from(rt, image_of(rt, held))
 }
 
-/// When a device and a source refuse all calls: after the first `calls`, where the first `part` bytes of the write that is
-/// refused first are kept, and after the first `reads`.
+/// The numbers of successful calls of a device and reads of a source, and the written length of the
+/// first failed write.
 #[derive(Clone, Copy)]
 pub struct Stop {
     pub calls: u64,
@@ -135,24 +128,20 @@ pub struct Stop {
     pub reads: u64,
 }
 
-/// Such a device.
 pub fn stopping(device: MemFlash, stop: Stop) -> Failing {
     Paged::new(FailAt::new(device, stop.calls, stop.part))
 }
 
-/// A device has this image.
 pub fn holds(rt: &(impl Abort + AllocGlobal), device: MemFlash, held: Held) {
     ends_with(rt, device, image_of(rt, held));
 }
 
-/// A part of a device.
 pub fn part_of<F: Flash>(rt: &impl Abort, paged: &Paged<F>, start: u64, size: u64) -> Region
     ensures { LiesIn result (F.facts paged.now.device).content }
 {
     Region::within(start, size, paged.len()).expect(rt, "a region")
 }
 
-/// The region COREBOOT.
 pub fn region_of<F: Flash>(rt: &impl Abort, paged: &Paged<F>) -> Region
     ensures { LiesIn result (F.facts paged.now.device).content }
 {
@@ -164,7 +153,7 @@ pub fn source_of<'a>(rt: &impl Abort, bytes: &'a [u8]) -> MemSource<'a> {
     MemSource::new(bytes)
 }
 
-/// Puts down a component: its place in the region, and its bytes up to the end of its content.
+/// Records a component: its position in the region, and its bytes up to the end of its content.
 fn put_down(told: &mut Vec<u8>, cell: &Cell, bytes: &[u8]) -> Result<(), AllocError> {
     if cell.head.is_free() {
         return Ok(());
@@ -175,8 +164,7 @@ fn put_down(told: &mut Vec<u8>, cell: &Cell, bytes: &[u8]) -> Result<(), AllocEr
     told.extend_from_slice(rest.get(..n).unwrap_or(rest))
 }
 
-/// Puts down the components up to the end of a walk through the region that begins at `start`, and answers whether no entry is
-/// damaged.
+/// Records the components of the region at `start`. Returns true if no entry is damaged.
 fn walk_on(
     walk: &mut Walk,
     paged: &mut Paged<MemFlash>,
@@ -197,7 +185,6 @@ fn walk_on(
     }
 }
 
-/// All components of a region, none of which is damaged.
 pub fn components(
     rt: &(impl Abort + AllocGlobal),
     device: MemFlash,

@@ -1,4 +1,4 @@
-//! Additions: the place of the component, the bytes of the region, and the order of the refusals.
+//! Additions: the position of the component, the bytes of the region, and the order of refusals.
 use crate::compiler::descriptors::TABLE;
 use crate::edit::support::{
     A, B_BEFORE_GAP, EMPTY_128, LAST_192, LAST_512, MAGIC_20, part_of, source_of,
@@ -23,8 +23,8 @@ fn a_small_component_is_added(rt: HostRuntime) {
     refuses(&rt, WITH_A, plain(b"a", TEN), Refusal::Exists);
 }
 
-/// Checks that an empty component with this name, type and spot is refused, and that the image with
-/// `a` stays.
+/// Checks that the addition of an empty component with the given name, type and spot is refused,
+/// and the image with `a` is unchanged.
 fn refused(rt: &(impl Abort + AllocGlobal), name: &[u8], kind: u32, spot: Spot, refusal: Refusal) {
     let image = board(rt, WITH_A);
     adds_to(
@@ -60,7 +60,7 @@ fn an_older_padding_is_edited_as_it_is(rt: HostRuntime) {
     adds(&rt, &[(0, &OLD_468)], plain(b"a", TEN), WITH_A);
 }
 
-// ---- the most that fits
+// ---- maximum lengths
 
 const A_480: [u8; 28] = *b"LARCHIVE\0\0\x01\xe0\0\0\0\x50\0\0\0\0\0\0\0\x1ca\0\0\0";
 
@@ -69,7 +69,7 @@ const A_484: [u8; 28] = *b"LARCHIVE\0\0\x01\xe4\0\0\0\x50\0\0\0\0\0\0\0\x1ca\0\0
 /// The header before a gap of 12 bytes and 472 bytes of content.
 const A_472: [u8; 28] = *b"LARCHIVE\0\0\x01\xd8\0\0\0\x50\0\0\0\0\0\0\0\x28a\0\0\0";
 
-/// Checks that so many bytes fit into the fresh region, with this header, and one more doesn't.
+/// Checks that `len` bytes fit in the fresh region with the given header, and another byte doesn't.
 fn fits(rt: &(impl Abort + AllocGlobal), spot: Spot, header: &[u8; 28], at: usize, len: usize) {
     let bytes = content(rt, len);
     adds(
@@ -102,7 +102,7 @@ fn last_four_bytes_that_are_kept(rt: HostRuntime) {
     drop(bytes);
 }
 
-// ---- places
+// ---- positions
 
 #[test]
 fn content_that_looks_like_an_entry_is_not_walked(rt: HostRuntime) {
@@ -157,14 +157,14 @@ fn a_fixed_place_at_the_end(rt: HostRuntime) {
     prints(&rt, after, text, Ok(()));
 }
 
-// ---- a tail
+// ---- tails
 
 const NULL_344: [u8; 40] =
     *b"LARCHIVE\0\0\x01\x58\xff\xff\xff\xff\0\0\0\0\0\0\0\x28\0\0\0\0\0\0\0\0\0\0\0\0\0\0\0\0";
 
 const B_356: [u8; 28] = *b"LARCHIVE\0\0\x01\x64\0\0\0\x50\0\0\0\0\0\0\0\x1cb\0\0\0";
 
-/// Checks that 356 bytes fit before a tail of 64, which keeps its bytes.
+/// Checks that 356 bytes fit before a tail of 64, which is unchanged.
 fn fits_before(rt: &(impl Abort + AllocGlobal), tail: &[u8]) {
     let bytes = content(rt, 356);
     let before = changed(rt, &[(0, &A), (64, &NULL_344)], 460, tail);
@@ -172,7 +172,6 @@ fn fits_before(rt: &(impl Abort + AllocGlobal), tail: &[u8]) {
     adds_to(rt, &before, plain(b"b", &bytes), 0x50, Ok(()), &after);
 }
 
-/// Checks that one byte more doesn't fit.
 fn is_too_much_before(rt: &(impl Abort + AllocGlobal), tail: &[u8]) {
     let more = content(rt, 357);
     let before: Parts = &[(0, &A), (64, &NULL_344), (460, tail)];
@@ -187,9 +186,9 @@ fn a_tail_is_kept_and_never_used(rt: HostRuntime) {
     is_too_much_before(&rt, b"tail");
 }
 
-// ---- a map that is content
+// ---- maps in content
 
-/// The flashmap of a flash of 4096 bytes: COREBOOT and FMAP, of 512 bytes each, and REST.
+/// The flash map of a flash of 4096 bytes: COREBOOT and FMAP, of 512 bytes each, and REST.
 const MAP_BEHIND: [u8; 182] = *b"__FMAP__\x01\x01\0\0\0\0\0\0\0\0\x00\x10\x00\x00\
 FLASH\0\0\0\0\0\0\0\0\0\0\0\0\0\0\0\0\0\0\0\0\0\0\0\0\0\0\0\x03\x00\
 \x00\x00\x00\x00\x00\x02\x00\x00COREBOOT\0\0\0\0\0\0\0\0\0\0\0\0\0\0\0\0\0\0\0\0\0\0\0\0\0\0\
@@ -198,7 +197,6 @@ FLASH\0\0\0\0\0\0\0\0\0\0\0\0\0\0\0\0\0\0\0\0\0\0\0\0\0\0\0\x03\x00\
 
 const M_140: [u8; 28] = *b"LARCHIVE\0\0\0\x8c\0\0\0\x50\0\0\0\0\0\0\0\x1cm\0\0\0";
 
-/// Returns the image with these parts.
 fn behind(rt: &(impl Abort + AllocGlobal), parts: Parts) -> Vec<u8> {
     image_with(rt, 4096, &[], 0, parts)
 }
@@ -236,7 +234,6 @@ struct Attempt<'a> {
     content: &'a [u8],
 }
 
-/// Checks that the addition is refused with this fault, and that the device stays.
 fn meets(rt: &(impl Abort + AllocGlobal), attempt: Attempt, want: EditFault) {
     let mut paged = Paged::new(device_with(rt, 512, attempt.region));
     let region = part_of(rt, &paged, 0, attempt.size);
@@ -267,7 +264,7 @@ fn meets(rt: &(impl Abort + AllocGlobal), attempt: Attempt, want: EditFault) {
 
 const NAME_128: [u8; 128] = [b'n'; 128];
 
-/// The head of a component with that name.
+/// The head of a component with the name `NAME_128`.
 const LONG: [u8; 24] = *b"LARCHIVE\0\0\0\0\0\0\0\x50\0\0\0\0\0\0\0\x9c";
 
 const WITH_LONG: Parts = &[
@@ -277,7 +274,7 @@ const WITH_LONG: Parts = &[
     (192, &LAST_320),
 ];
 
-/// The component `a`, and a damaged entry whose offset is 0.
+/// The component `a`, and a damaged entry with offset 0.
 const DAMAGED: Parts = &[(0, &A), (64, b"LARCHIVE\0\0\0\0\0\0\0\x50\0\0\0\0\0\0\0\0")];
 
 const DAMAGE: EditFault = EditFault::Damaged {
@@ -285,14 +282,13 @@ const DAMAGE: EditFault = EditFault::Damaged {
     kind: DamageKind::Offset,
 };
 
-/// More content than the region has bytes.
 const MANY: &[u8] = &[0x6c; 513];
 
 const BAD_TYPE: u32 = 0xffff_ffff;
 
 const BAD_ALIGNMENT: Spot = Spot::Aligned(0);
 
-/// An addition to the region with `a` that has no fault.
+/// An addition without faults to the region with `a`.
 const SOUND: Attempt = Attempt {
     region: WITH_A,
     size: 512,

@@ -1,4 +1,4 @@
-//! Whole images, raw writes and reads of a region, and the size in a flashmap.
+//! Whole images, raw writes and reads of a region, and the size in a flash map.
 use crate::compiler::descriptors::TABLE;
 use crate::edit::deeds::COREBOOT;
 use crate::edit::support::{LAST_512, source_of};
@@ -8,7 +8,6 @@ use arrayvec::ArrayVec;
 use cbfs_commands::{Command, MOST_REGIONS, Refusal, create_size};
 use std::process::Abort;
 
-/// Checks that a creation from this flashmap returns this answer and leaves this image.
 fn creates_on(
     rt: &(impl Abort + AllocGlobal),
     device: &[u8],
@@ -34,7 +33,7 @@ fn creates(rt: &(impl Abort + AllocGlobal), names: &[&[u8]], map: &[u8], after: 
     creates_on(rt, &filled(rt, 7, 4096), names, map, Ok(()), after);
 }
 
-/// Checks that a creation is refused, and that a device of this length keeps its bytes.
+/// Checks that a creation is refused, and a device of the given length is unchanged.
 fn refuses(
     rt: &(impl Abort + AllocGlobal),
     len: usize,
@@ -53,7 +52,7 @@ fn an_image_is_made_from_its_flashmap(rt: HostRuntime) {
     drop(wanted);
 }
 
-/// The flashmap of a flash of 4096 bytes at 0: FMAP of 1024, B of 2048 and C of 1024.
+/// The flash map of a flash of 4096 bytes at 0: FMAP of 1024, B of 2048 and C of 1024.
 const TWO: [u8; 182] = *b"__FMAP__\x01\x01\0\0\0\0\0\0\0\0\x00\x10\x00\x00\
 F\0\0\0\0\0\0\0\0\0\0\0\0\0\0\0\0\0\0\0\0\0\0\0\0\0\0\0\0\0\0\0\x03\x00\
 \x00\x00\x00\x00\x00\x04\x00\x00FMAP\0\0\0\0\0\0\0\0\0\0\0\0\0\0\0\0\0\0\0\0\0\0\0\0\0\0\0\0\0\0\
@@ -66,7 +65,6 @@ const LAST_1024: [u8; 28] = *b"LARCHIVE\0\0\x03\xe0\xff\xff\xff\xff\0\0\0\0\0\0\
 
 const TWO_FRESH: Parts = &[(0x400, &LAST_2048), (0xc00, &LAST_1024)];
 
-/// Checks the listing of a region of the image with two regions.
 fn prints(rt: &(impl Abort + AllocGlobal), region: &[u8], text: &[u8]) {
     let command = Command::Print {
         region,

@@ -1,4 +1,4 @@
-//! Trees, layouts and tables of descriptors, as values, and each refusal with its place.
+//! Trees, layouts and tables of descriptors, as values, and each refusal with its position.
 use crate::compiler::descriptors::{TABLE, TEXT};
 use crate::support::{equal, filled, has_all, same_bytes, write_over, writer};
 use flash_format::Area;
@@ -8,17 +8,14 @@ use std::process::Abort;
 
 // ---- trees and tables
 
-/// Returns the tree of a text.
 fn tree_of(rt: &(impl Abort + AllocGlobal), text: &[u8]) -> Section {
     parse(rt.alloc(), text).expect(rt, "a tree")
 }
 
-/// Returns a part of a section.
 fn part<'a>(rt: &impl Abort, section: &'a Section, index: usize) -> &'a Section {
     section.parts.get(index).expect(rt, "a part")
 }
 
-/// Checks the fields of a section, and the number of its parts.
 fn is_section(
     rt: &impl Abort,
     section: &Section,
@@ -34,7 +31,6 @@ fn is_section(
     equal(rt, &section.size, &size);
 }
 
-/// Returns the table of a text.
 fn table_of(rt: &(impl Abort + AllocGlobal), text: &[u8]) -> Table {
     let tree = tree_of(rt, text);
     let table = lay_out(rt.alloc(), &tree).expect(rt, "a table");
@@ -49,7 +45,6 @@ fn padded(name: &[u8]) -> [u8; 32] {
     field
 }
 
-/// Checks the head of a table, and the number of its areas.
 fn has_head(rt: &impl Abort, table: &Table, base: u64, size: u32, name: &[u8], areas: usize) {
     equal(
         rt,
@@ -59,7 +54,6 @@ fn has_head(rt: &impl Abort, table: &Table, base: u64, size: u32, name: &[u8], a
     same_bytes(rt, &table.name, &padded(name));
 }
 
-/// Checks an area of a table: its name, its offset and size, and its flags.
 fn has_area(
     rt: &impl Abort,
     table: &Table,
@@ -74,14 +68,12 @@ fn has_area(
     equal(rt, &area.flags, &flags);
 }
 
-/// Checks the encoded bytes of a table.
 fn is_encoded(rt: &(impl Abort + AllocGlobal), table: &Table, wanted: &[u8]) {
     let bytes = encode(rt.alloc(), table).expect(rt, "bytes");
     same_bytes(rt, &bytes, wanted);
     drop(bytes);
 }
 
-/// Checks that the compiler writes these bytes for this text.
 fn compiles(rt: &(impl Abort + AllocGlobal), text: &[u8], wanted: &[u8]) {
     let mut reader = ReadText::new(text);
     let mut out = writer(4096, usize::MAX, wanted);
@@ -124,7 +116,7 @@ fn a_size_that_is_omitted_between_others(rt: HostRuntime) {
 
 pub const NESTED: &[u8] = b"F@0x10 4K { FMAP 1K P(PRESERVE)@2K 1K { Q 512 R } }";
 
-/// The bytes of its table.
+/// The encoded table of `NESTED`.
 pub const NESTED_TABLE: [u8; 224] = *b"__FMAP__\x01\x01\x10\0\0\0\0\0\0\0\x00\x10\x00\x00\
 F\0\0\0\0\0\0\0\0\0\0\0\0\0\0\0\0\0\0\0\0\0\0\0\0\0\0\0\0\0\0\0\x04\x00\
 \x00\x00\x00\x00\x00\x04\x00\x00FMAP\0\0\0\0\0\0\0\0\0\0\0\0\0\0\0\0\0\0\0\0\0\0\0\0\0\0\0\0\0\0\
@@ -159,7 +151,6 @@ fn the_table_of_sections_in_sections(rt: HostRuntime) {
 
 // ---- refusals
 
-/// Returns the refusal of a text, if there is one.
 fn fault_of(rt: &(impl Abort + AllocGlobal), text: &[u8]) -> Option<FmdFault> {
     match parse(rt.alloc(), text) {
         Ok(_) => None,
@@ -167,12 +158,11 @@ fn fault_of(rt: &(impl Abort + AllocGlobal), text: &[u8]) -> Option<FmdFault> {
     }
 }
 
-/// Checks that a text is refused with this fault.
 fn refuses(rt: &(impl Abort + AllocGlobal), text: &[u8], fault: FmdFault) {
     equal(rt, &fault_of(rt, text), &Some(fault));
 }
 
-/// Checks that a text is refused because something else has to stand at this place.
+/// Checks that the parser expects other input at a position.
 fn expects(rt: &(impl Abort + AllocGlobal), text: &[u8], at: usize, what: Expected) {
     refuses(rt, text, FmdFault::Expected { at, what });
 }
@@ -209,7 +199,6 @@ fn words_that_were_not_expected(rt: HostRuntime) {
     expects(&rt, b"F{5", 2, Expected::SectionOrClose);
 }
 
-/// Returns the refusal of a tree's layout, if there is one.
 fn layout_fault(rt: &(impl Abort + AllocGlobal), tree: &Section) -> Option<FmdFault> {
     match lay_out(rt.alloc(), tree) {
         Ok(_) => None,
@@ -217,7 +206,6 @@ fn layout_fault(rt: &(impl Abort + AllocGlobal), tree: &Section) -> Option<FmdFa
     }
 }
 
-/// Checks that the layout of a text is refused with this fault.
 fn refuses_layout(rt: &(impl Abort + AllocGlobal), text: &[u8], fault: FmdFault) {
     let tree = tree_of(rt, text);
     equal(rt, &layout_fault(rt, &tree), &Some(fault));
@@ -252,9 +240,8 @@ fn layouts_that_are_refused(rt: HostRuntime) {
     refuses_layout(&rt, b"F 4K { FMAP 64 A }", FmdFault::FmapTooSmall);
 }
 
-// ---- more areas than a table can count
+// ---- too many areas
 
-/// Returns a section of this name without a size.
 fn section(rt: &(impl Abort + AllocGlobal), name: &[u8]) -> Section {
     Section {
         name: name.to_vec(rt.alloc()).expect(rt, "memory"),
@@ -265,7 +252,7 @@ fn section(rt: &(impl Abort + AllocGlobal), name: &[u8]) -> Section {
     }
 }
 
-/// Returns a name of four letters, another one for each number below 65,536.
+/// Returns a name of four letters, unique for each number below 65,536.
 fn name_of(number: usize) -> [u8; 4] {
     [
         b'a' + ((number >> 12) % 16) as u8,
@@ -275,7 +262,6 @@ fn name_of(number: usize) -> [u8; 4] {
     ]
 }
 
-/// Adds this number of sections with distinct names.
 fn push_sections(rt: &(impl Abort + AllocGlobal), parts: &mut Vec<Section>, count: usize) {
     for number in 0..count {
         parts
@@ -299,7 +285,6 @@ fn a_layout_of_65536_sections(rt: HostRuntime) {
     drop(root);
 }
 
-/// Returns a table with this number of areas.
 fn table_with(rt: &(impl Abort + AllocGlobal), areas: usize) -> Table {
     let area = Area {
         offset: 0,
@@ -315,7 +300,6 @@ fn table_with(rt: &(impl Abort + AllocGlobal), areas: usize) -> Table {
     }
 }
 
-/// Returns the length of the encoded table.
 fn length_of(rt: &(impl Abort + AllocGlobal), table: &Table) -> Result<usize, FmdFault> {
     match encode(rt.alloc(), table) {
         Ok(bytes) => Ok(bytes.len()),
@@ -333,10 +317,10 @@ fn a_table_of_65536_areas(rt: HostRuntime) {
     drop(more);
 }
 
-// ---- each byte between two words
+// ---- bytes between two words
 
 /// The class of each byte between the words `A` and `1`: `_` is a blank, `n` continues the name,
-/// `!` is refused, and each other character is the mark itself.
+/// `!` is refused, and every other character is the mark itself.
 const BYTES: [u8; 256] = *b"!!!!!!!!!__!!_!!\
 !!!!!!!!!!!!!!!!\
 _nn#nnnn()nnnnnn\
@@ -354,7 +338,7 @@ nnnnnnnnnnn{n}n!\
 !!!!!!!!!!!!!!!!\
 !!!!!!!!!!!!!!!!";
 
-/// The length of the root's name, its offset and its size, or the refusal.
+/// The length of the root's name, its offset and its size, or the fault.
 type Read = Result<(usize, Option<u32>, Option<u32>), FmdFault>;
 
 fn read(rt: &(impl Abort + AllocGlobal), text: &[u8]) -> Read {
@@ -364,7 +348,6 @@ fn read(rt: &(impl Abort + AllocGlobal), text: &[u8]) -> Read {
     }
 }
 
-/// Returns the result for a byte of this class.
 fn wanted(mark: u8) -> Read {
     match mark {
         b'_' => Ok((1, None, Some(1))),
@@ -382,7 +365,6 @@ fn unexpected(at: usize, what: Expected) -> Read {
     Err(FmdFault::Expected { at, what })
 }
 
-/// Parses the text with each byte between its two words.
 fn read_each(rt: &(impl Abort + AllocGlobal)) {
     for (byte, mark) in BYTES.iter().enumerate() {
         equal(rt, &read(rt, &[b'A', byte as u8, b'1']), &wanted(*mark));

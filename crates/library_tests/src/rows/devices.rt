@@ -1,4 +1,4 @@
-//! The search for a map, listings through one buffer before and after an edit, and images in files.
+//! The search for a map, listings through a buffer before and after an edit, and images in files.
 use crate::compiler::descriptors::TABLE;
 use crate::edit::deeds::{COREBOOT, answer_into};
 use crate::edit::support::{MAGIC_20, source_of};
@@ -17,7 +17,6 @@ use std::rt::Files;
 
 // ---- the search
 
-/// Returns the place of the device's map, if it has one.
 fn place_of(rt: &impl Abort, paged: &mut Paged<MemFlash>) -> Option<u64> {
     let found = find_fmap(paged).expect(rt, "a search");
     match found {
@@ -26,14 +25,14 @@ fn place_of(rt: &impl Abort, paged: &mut Paged<MemFlash>) -> Option<u64> {
     }
 }
 
-/// Checks that the map of an image with this length and these parts is found at this place.
+/// Checks the offset of the map in an image of the given length and parts.
 fn is_found(rt: &(impl Abort + AllocGlobal), len: usize, parts: Parts, at: u64) {
     let mut paged = Paged::new(device_with(rt, len, parts));
     equal(rt, &place_of(rt, &mut paged), &Some(at));
     drop(paged);
 }
 
-/// A table with the major version 2, and one with 1 above it.
+/// A table with the major version 2, and a valid table at a higher offset.
 const VERSION_2: Parts = &[(0x100, &TABLE), (0x108, b"\x02"), (0x400, &TABLE)];
 
 #[test]
@@ -43,7 +42,7 @@ fn a_map_behind_half_a_signature(rt: HostRuntime) {
     is_found(&rt, 4096, VERSION_2, 0x400);
 }
 
-/// Finds a table at each place around the border of two pieces.
+/// Finds a table at each offset around the boundary of two pieces.
 fn find_each(rt: &(impl Abort + AllocGlobal)) {
     for at in 4083..4104 {
         is_found(rt, 8192, &[(at, &TABLE)], at as u64);
@@ -55,7 +54,7 @@ fn a_map_across_two_pieces(rt: HostRuntime) {
     find_each(&rt);
 }
 
-/// Returns 4096 bytes that repeat the first six of a signature.
+/// Returns 4096 bytes of repeated signature prefixes of six bytes.
 fn halves_of_signatures(rt: &(impl Abort + AllocGlobal)) -> Vec<u8> {
     let mut bytes = filled(rt, 0, 4096);
     for (i, byte) in bytes.iter_mut().enumerate() {
@@ -94,9 +93,8 @@ fn has_head(rt: &impl Abort, paged: &mut Paged<MemFlash>) {
     );
 }
 
-// ---- one buffer and a fresh one
+// ---- used and new buffers
 
-/// Checks the listing of the region.
 fn lists<F: Flash>(rt: &impl Abort, paged: &mut Paged<F>, text: &[u8]) {
     let mut out = writer(4096, usize::MAX, text);
     equal(
@@ -107,7 +105,7 @@ fn lists<F: Flash>(rt: &impl Abort, paged: &mut Paged<F>, text: &[u8]) {
     has_all(rt, out);
 }
 
-/// Checks that a buffer which has listed a region lists it after an edit as a new buffer does.
+/// Checks that a used buffer and a new buffer give the same listing after an edit.
 fn lists_again(
     rt: &(impl Abort + AllocGlobal),
     region: Parts,
@@ -158,7 +156,6 @@ fn a_buffer_lists_an_edit_as_a_fresh_one_does(rt: HostRuntime) {
 
 // ---- files
 
-/// Checks that a command with this source is done and writes this text.
 fn obeys<F: Flash, S: Source>(
     rt: &impl Abort,
     paged: &mut Paged<F>,
@@ -171,12 +168,11 @@ fn obeys<F: Flash, S: Source>(
     has_all(rt, out);
 }
 
-/// Returns a path in the current folder that no other run of the tests uses.
+/// Returns a path in the current directory, unique for each run.
 fn path_of(rt: &(impl Abort + AllocGlobal), id: u32, name: &str) -> String {
     format!(in rt.alloc(); "library_tests_{id}_{name}").expect(rt, "memory")
 }
 
-/// Creates the image in a file.
 fn create<R: Files<File = File> + Abort>(rt: &R, path: &str) {
     let mut regions: ArrayVec<&[u8], MOST_REGIONS> = ArrayVec::new();
     let _fits = regions.try_extend_from_slice(&[COREBOOT]);
@@ -193,7 +189,6 @@ fn create<R: Files<File = File> + Abort>(rt: &R, path: &str) {
     drop(paged);
 }
 
-/// Checks that a command on the image in a file is done and writes this text.
 fn obeys_in<R: Files<File = File> + Abort>(rt: &R, path: &str, command: &Command, text: &[u8]) {
     let mut paged = Paged::new(FileFlash::open(rt, path).expect(rt, "a device"));
     let mut source = source_of(rt, b"");
@@ -202,7 +197,6 @@ fn obeys_in<R: Files<File = File> + Abort>(rt: &R, path: &str, command: &Command
     drop(paged);
 }
 
-/// Checks that a command with a source in a file is done.
 fn obeys_from<R: Files<File = File> + Abort>(rt: &R, path: &str, command: &Command, from: &str) {
     let mut paged = Paged::new(FileFlash::open(rt, path).expect(rt, "a device"));
     let mut source = FileSource::open(rt, from).expect(rt, "a source");
@@ -211,7 +205,6 @@ fn obeys_from<R: Files<File = File> + Abort>(rt: &R, path: &str, command: &Comma
     drop(paged);
 }
 
-/// Checks all bytes of a file.
 fn file_has<R: Files<File = File> + Abort + AllocGlobal>(rt: &R, path: &str, wanted: &[u8]) {
     let bytes = fs::read(rt, path).expect(rt, "a file");
     same_bytes(rt, &bytes, wanted);
@@ -228,8 +221,8 @@ const ADD_A: Command<'static> = Command::Add {
 
 const WRITE: Command<'static> = Command::Write { region: COREBOOT };
 
-/// Creates an image in a file, lists it, adds a component from another file, and writes the region
-/// from one.
+/// Creates an image in a file, lists the image, adds a component from another file, and writes the
+/// region from a file.
 fn work_on<R: Files<File = File> + Abort + AllocGlobal>(rt: &R, image: &str, from: &str) {
     create(rt, image);
     file_has(rt, image, &board(rt, FRESH));
@@ -256,7 +249,7 @@ fn an_image_and_contents_in_files(rt: HostRuntime) {
     drop(from);
 }
 
-/// Checks that neither a device nor a source can be opened at this path.
+/// Checks that neither a device nor a source opens at a path.
 fn is_absent<R: Files<File = File> + Abort>(rt: &R, path: &str) {
     equal(
         rt,

@@ -1,5 +1,5 @@
 //! Components with digests: their bytes, and the lines of valid, invalid and unsupported digests.
-//! The digests are those of no bytes and of `abc`, as the standard's examples have them.
+//! The digests are the examples of FIPS 180 for no bytes and for `abc`.
 use crate::edit::support::LAST_384;
 use crate::rows::support::{Addition, FRESH, PRINT_ALL, WITH_A, adds, changed, prints_all, shows};
 use crate::support::{Parts, device_with, equal};
@@ -10,14 +10,14 @@ use flash_format::Digest;
 use flash_store::Paged;
 use std::process::Abort;
 
-/// The bytes before a digest of 32: the head, the name, and the first twelve of the attribute.
+/// The bytes before a digest of 32 bytes: the head, the name, and the first twelve of the
+/// attribute.
 const E: [u8; 40] =
     *b"LARCHIVE\0\0\0\0\0\0\0\x50\0\0\0\x1c\0\0\0\x48e\0\0\0hsaH\0\0\0\x2c\0\0\0\x02";
 
 const F: [u8; 40] =
     *b"LARCHIVE\0\0\0\x03\0\0\0\x50\0\0\0\x1c\0\0\0\x48f\0\0\0hsaH\0\0\0\x2c\0\0\0\x02";
 
-/// The bytes before a digest of 64.
 const G: [u8; 40] =
     *b"LARCHIVE\0\0\0\0\0\0\0\x50\0\0\0\x1c\0\0\0\x68g\0\0\0hsaH\0\0\0\x4c\0\0\0\x03";
 
@@ -66,7 +66,6 @@ const WITH_H: Parts = &[
     (256, &LAST_256),
 ];
 
-/// The verbose listings of these regions.
 const E_TEXT: &[u8] = b"e\t0x0\traw\t0\tnone\n\tattr\t0x68736148\t44\n\thash\tsha256\t\
 e3b0c44298fc1c149afbf4c8996fb92427ae41e4649b934ca495991b7852b855\tvalid\n\
 (empty)\t0x80\tnull\t352\tnone\n";
@@ -110,7 +109,6 @@ ddaf35a193617abacc417349ae20413112e6fa4e89a97ea20a9eeee64b55d39a\
 const G_UNSUPPORTED: &[u8] = b"g\t0x0\traw\t0\tnone\n\tattr\t0x68736148\t75\n\thash\tunsupported\n\
 (empty)\t0x80\tnull\t352\tnone\n";
 
-/// Returns an addition with a digest.
 fn hashed<'a>(name: &'a [u8], hash: HashChoice, content: &'a [u8]) -> Addition<'a> {
     Addition {
         name,
@@ -120,7 +118,7 @@ fn hashed<'a>(name: &'a [u8], hash: HashChoice, content: &'a [u8]) -> Addition<'
     }
 }
 
-/// Checks the verbose listing of a region with other bytes from this place on.
+/// Checks the verbose listing of a region after a change at an offset.
 fn with(rt: &(impl Abort + AllocGlobal), region: Parts, at: usize, bytes: &[u8], text: &[u8]) {
     shows(
         rt,
@@ -177,7 +175,6 @@ fn a_hash_attribute_that_is_too_short(rt: HostRuntime) {
     with(&rt, WITH_G, 35, b"\x4b", G_UNSUPPORTED);
 }
 
-/// Checks the hash state of the component with this name.
 fn has_state(rt: &(impl Abort + AllocGlobal), region: Parts, name: &[u8], want: HashState) {
     let mut paged = Paged::new(device_with(rt, 512, region));
     let place = whole(rt, &paged);

@@ -1,4 +1,4 @@
-//! Damaged regions and images that are cut.
+//! Damaged regions and truncated images.
 use crate::edit::support::{A, LAST_448};
 use crate::rows::support::{
     FRESH, PRINT, board, changed, extracts, plain, prints, refuses, removes, shows,
@@ -15,7 +15,7 @@ fn damaged(at: u64, kind: DamageKind) -> Refusal {
     Refusal::Damaged { at, kind }
 }
 
-/// The region with `a`, and a second entry that claims 4 GiB.
+/// The region with `a`, and a second entry with a length of 4 GiB.
 const CLAIMS: Parts = &[(0, &A), (64, &LAST_448), (72, b"\xff\xff\xff\xff")];
 
 const A_ALONE: &[u8] = b"a\t0x0\traw\t10\tnone\n";
@@ -32,8 +32,8 @@ fn an_entry_that_claims_4_gib(rt: HostRuntime) {
 
 // ---- each kind of damage
 
-/// Heads of components with name fields of 16 bytes: without attributes, with attributes that begin
-/// inside the head, and with 16 bytes of attributes.
+/// Heads of components with name fields of 16 bytes: without attributes, with attributes from
+/// inside the head on, and with 16 bytes of attributes.
 const WITHOUT: [u8; 24] = *b"LARCHIVE\0\0\0\0\0\0\0\x50\0\0\0\0\0\0\0\x28";
 
 const INSIDE: [u8; 24] = *b"LARCHIVE\0\0\0\0\0\0\0\x50\0\0\0\x18\0\0\0\x28";
@@ -46,7 +46,7 @@ const SEVEN: [u8; 8] = *b"\0\0\x12\x34\0\0\0\x07";
 
 const SEVENTEEN: [u8; 8] = *b"\0\0\x12\x34\0\0\0\x11";
 
-/// Checks that a region is refused for this damage of its first entry, and that nothing is listed.
+/// Checks that a region with the given damage in its first entry is refused without output.
 fn is_damaged(rt: &(impl Abort + AllocGlobal), region: Parts, kind: DamageKind) {
     prints(rt, region, b"", Err(damaged(0, kind)));
 }
@@ -80,7 +80,7 @@ fn each_kind_of_damage(rt: HostRuntime) {
     );
 }
 
-// ---- numbers on both sides of each limit
+// ---- numbers around each limit
 
 /// The region with the component `a` of ten bytes and an empty entry, both with name fields of 16
 /// bytes.
@@ -92,10 +92,9 @@ const A_40: [u8; 50] =
 const NULL_404: [u8; 40] =
     *b"LARCHIVE\0\0\x01\x94\xff\xff\xff\xff\0\0\0\0\0\0\0\x28\0\0\0\0\0\0\0\0\0\0\0\0\0\0\0\0";
 
-/// The listing of that region.
 pub const A_AND_404: &[u8] = b"a\t0x0\traw\t10\tnone\n(empty)\t0x40\tnull\t404\tnone\n";
 
-/// Checks the listing of that region with other bytes from this place on.
+/// Checks the listing of `PADDED` after a change at an offset.
 fn with(
     rt: &(impl Abort + AllocGlobal),
     at: usize,
@@ -106,8 +105,8 @@ fn with(
     shows(rt, &changed(rt, PADDED, at, bytes), &PRINT, text, answer);
 }
 
-/// The places of the last two bytes of numbers: the length and the offset of the second entry, and
-/// the offset and the start of the attributes of the first one.
+/// The offsets of the last two bytes of numbers: the length and the offset of the second entry, and
+/// the offset and the start of the attributes of the first entry.
 const LENGTH: usize = 64 + 10;
 
 const OFFSET: usize = 64 + 22;
@@ -203,7 +202,6 @@ fn attributes_at_each_place(rt: HostRuntime) {
 
 // ---- walks
 
-/// Checks the steps of a walk over a whole device of this length.
 fn walks(rt: &(impl Abort + AllocGlobal), len: usize, region: Parts, want: &[Answer]) {
     let mut paged = Paged::new(device_with(rt, len, region));
     let mut walk = Walk::new(whole(rt, &paged));
@@ -241,9 +239,8 @@ fn each_end_of_a_walk(rt: HostRuntime) {
     walks(&rt, 500, PADDED, &[shape, shape]);
 }
 
-// ---- cuts
+// ---- truncated images
 
-/// Returns the listing of the first bytes of the image, `len` of them.
 fn rows_of(len: usize) -> &'static [u8] {
     if len < 1024 { b"" } else { A_AND_404 }
 }
@@ -258,7 +255,7 @@ fn end_of(len: usize) -> Result<(), Refusal> {
     Ok(())
 }
 
-/// Lists the image cut to each length. The map ends at 182 and the region at 1024.
+/// Lists the image truncated to each length. The map ends at 182 and the region at 1024.
 fn cut_each(rt: &(impl Abort + AllocGlobal), image: &[u8]) {
     for len in 0..4096 {
         let front = image.get(..len).unwrap_or(image);

@@ -1,6 +1,6 @@
 //! Command lines as values: the image, the file, and the command with its names and numbers.
 //!
-//! The tests forget lines and don't drop them, since a drop of clap's matches is costly to prove.
+//! The tests forget lines, because proofs of dropping clap's matches are slow.
 use crate::edit::deeds::COREBOOT;
 use crate::support::equal;
 use cbfs_commands::{Command, Refusal};
@@ -9,13 +9,11 @@ use cbfs_line::{Line, read_line};
 use std::mem::forget;
 use std::process::Abort;
 
-/// Checks the image and the file of a line.
 fn has_files(rt: &impl Abort, line: &Line, image: &str, file: Option<&str>) {
     equal(rt, &line.image(), &image);
     equal(rt, &line.file(), &file);
 }
 
-/// Returns the command of a line, after a check of its image and file.
 fn command_in<'a>(
     rt: &impl Abort,
     line: Line<'a>,
@@ -28,7 +26,6 @@ fn command_in<'a>(
     command
 }
 
-/// Returns the command of these arguments, after a check of their image and file.
 fn command_of<'a>(
     rt: &(impl Abort + AllocGlobal),
     words: &'a [&'a str],
@@ -115,7 +112,6 @@ fn an_addition_with_an_alignment_and_a_digest(rt: HostRuntime) {
     forget(command);
 }
 
-/// Returns the refusal of a line's command, if there is one.
 fn command_refusal(line: Line) -> Option<Refusal> {
     let refusal = match line.command() {
         Ok(command) => {
@@ -128,7 +124,6 @@ fn command_refusal(line: Line) -> Option<Refusal> {
     refusal
 }
 
-/// Returns the refusal of these arguments, by the reading or by the command.
 fn refusal_of(rt: &(impl Abort + AllocGlobal), words: &[&str]) -> Option<Refusal> {
     match read_line(rt.alloc(), words) {
         Ok(line) => command_refusal(line),
@@ -136,7 +131,7 @@ fn refusal_of(rt: &(impl Abort + AllocGlobal), words: &[&str]) -> Option<Refusal
     }
 }
 
-/// Checks that these arguments are no command line.
+/// Checks that the arguments are not a command line.
 fn is_none(rt: &(impl Abort + AllocGlobal), words: &[&str]) {
     equal(rt, &refusal_of(rt, words), &Some(Refusal::Usage));
 }

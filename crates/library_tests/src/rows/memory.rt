@@ -1,8 +1,8 @@
-//! Allocation failures: each call returns out of memory, and nothing is written.
+//! Allocation failures: each call returns out of memory without output.
 //!
-//! The calls take the system's allocator by its type, so a test can't pass one that refuses. These
-//! tests accept the result and out of memory; `checks/rows --growths` runs them with each growth of
-//! memory refused in turn.
+//! The calls take the system's allocator by its type, so a test can't pass a failing allocator. The
+//! tests accept both the result and out of memory; `checks/rows --growths` runs them with a failure
+//! at each growth of memory.
 use crate::rows::descriptors::{NESTED, NESTED_TABLE};
 use crate::rows::line::is_print;
 use crate::support::{equal, has_all, same_bytes, took_none, writer};
@@ -14,7 +14,6 @@ use std::alloc::Global;
 use std::mem::forget;
 use std::process::Abort;
 
-/// Returns the bytes of a descriptor's table.
 fn table_bytes(alloc: Global, text: &[u8]) -> Result<Vec<u8>, FmdFault> {
     let tree = parse(alloc, text)?;
     let table = lay_out(alloc, &tree)?;
@@ -43,7 +42,6 @@ fn a_compiled_text_or_want_of_memory(rt: HostRuntime) {
     drop(reader);
 }
 
-/// Checks that a line asks for a verbose listing.
 fn lists(rt: &impl Abort, line: Line) {
     let command = line.command().expect(rt, "a command");
     equal(rt, &is_print(&command), &true);

@@ -1,5 +1,5 @@
-//! The worked examples of docs/FORMAT.md on literal bytes. Texts, refusals and images are compared
-//! as wholes.
+//! The worked examples of docs/FORMAT.md with literal bytes. The tests compare whole texts,
+//! refusals and images.
 mod add;
 mod create;
 pub mod descriptors;

@@ -1,4 +1,4 @@
-//! Listings of regions and areas, and regions that are absent, cut or no CBFS.
+//! Listings of regions and areas, and absent, truncated and invalid regions.
 use crate::edit::support::{A, B, LAST_448, NULL_340};
 use crate::rows::support::{
     A_AND_416, BOARD, FRESH, LAST_320, PRINT, WITH_A, adds, board, changed, extracts, plain,
@@ -27,7 +27,7 @@ fn a_small_component_beside_the_rest(rt: HostRuntime) {
     extracts(&rt, WITH_A, b"z", b"", Err(Refusal::NotFound));
 }
 
-/// The component `p` of 30 bytes up to its attribute, and attributes for it.
+/// The component `p` of 30 bytes up to its attribute, and attributes for `p`.
 const P: [u8; 40] =
     *b"LARCHIVE\0\0\0\x1e\0\0\0\x50\0\0\0\x28\0\0\0\x38p\0\0\0\0\0\0\0\0\0\0\0\0\0\0\0";
 
@@ -41,7 +41,6 @@ const OTHER_TAG: [u8; 16] = *b"\0\0\x12\x34\0\0\0\x10\0\0\0\x01\0\0\0\x64";
 
 const CONTENT_30: &[u8] = b"abcdefghijklmnopqrstuvwxyz0123";
 
-/// Checks the listing of that component with this attribute.
 fn lists_p(rt: &(impl Abort + AllocGlobal), attribute: &[u8; 16], text: &[u8]) {
     let parts: Parts = &[(0, &P), (40, attribute), (56, CONTENT_30), (128, &NULL_340)];
     prints(rt, parts, text, Ok(()));
@@ -68,7 +67,7 @@ fn a_compressed_component(rt: HostRuntime) {
     extracts(&rt, parts, b"p", b"", Err(Refusal::Compressed));
 }
 
-/// The component with an unknown attribute, alone and with `b` beside it.
+/// The component with an unknown attribute, alone and with `b`.
 const UNPACKED: Parts = &[
     (0, &P),
     (40, &OTHER_TAG),
@@ -95,7 +94,7 @@ fn an_unknown_attribute_is_kept(rt: HostRuntime) {
     adds(&rt, UNPACKED, plain(b"b", b"LARCHIVE89abcdefghij"), BESIDE);
 }
 
-/// The header of an empty entry of 384 bytes that ends before the last 64 of the region.
+/// The header of an empty entry of 384 bytes before the last 64 bytes of the region.
 const NULL_344: [u8; 40] =
     *b"LARCHIVE\0\0\x01\x58\xff\xff\xff\xff\0\0\0\0\0\0\0\x28\0\0\0\0\0\0\0\0\0\0\0\0\0\0\0\0";
 
@@ -120,7 +119,6 @@ fn a_type_without_a_name_and_a_name_with_odd_bytes(rt: HostRuntime) {
     prints(&rt, &[(0, &ODD), (64, &LAST_448)], text, Ok(()));
 }
 
-/// Checks that the image cut to this length is refused.
 fn cut(rt: &(impl Abort + AllocGlobal), len: usize, refusal: Refusal) {
     let image = board(rt, FRESH);
     let front = image.get(..len).expect(rt, "a front");
@@ -134,7 +132,6 @@ fn an_image_that_is_cut(rt: HostRuntime) {
     cut(&rt, 0, Refusal::NoFmap);
 }
 
-/// Checks that another region of the fresh image is refused.
 fn names(rt: &(impl Abort + AllocGlobal), region: &[u8], refusal: Refusal) {
     let command = Command::Print {
         region,
@@ -152,7 +149,7 @@ fn regions_that_are_no_cbfs(rt: HostRuntime) {
     drop(image);
 }
 
-/// Checks that a region is refused whose size the flashmap states by these four bytes.
+/// Checks that a region is refused, given the four size bytes in the flash map.
 fn sized(rt: &(impl Abort + AllocGlobal), size: &[u8; 4], refusal: Refusal) {
     let parts: Parts = &[(102, size), (512, b"LARCHIVE")];
     let image = image_with(rt, 4096, &BOARD, 0, parts);

@@ -12,7 +12,7 @@ fn a_removal_joins_the_free_space_on_both_sides(rt: HostRuntime) {
     removes(&rt, BETWEEN, b"m", Ok(()), FRESH);
 }
 
-/// Two components of one name, and the region after the removal of the first.
+/// Two components with one name, and the region after the removal of the first.
 const TWICE: Parts = &[(0, &X1), (64, &X2), (128, &NULL_340)];
 
 const ONCE: Parts = &[(0, &EMPTY_64), (64, &X2), (128, &NULL_340)];

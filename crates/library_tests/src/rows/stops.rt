@@ -1,5 +1,5 @@
-//! Edits on a device that stops at each call in turn, and a list of edits with refusals. Sources
-//! and outputs that stop are in `edit/`.
+//! Edits on a device with a fault at each call, and a list of edits with refusals. `edit/` has
+//! faults of sources and outputs.
 use crate::edit::deeds::{COREBOOT, answer_into};
 use crate::edit::support::{
     A, B_BEFORE_GAP, DELETED, EMPTY_128, LAST_192, M, MAGIC_20, NULL_340, Stop, part_of, source_of,
@@ -14,7 +14,6 @@ use std::process::Abort;
 
 // ---- a list of edits
 
-/// Returns an addition of the ten bytes as `a`.
 fn addition<'a>(rt: &impl Abort) -> Edit<'a, MemSource<'a>> {
     Edit::Add {
         name: b"a",
@@ -25,7 +24,6 @@ fn addition<'a>(rt: &impl Abort) -> Edit<'a, MemSource<'a>> {
     }
 }
 
-/// Returns the replies to a list of edits of the fresh region.
 fn replies_of(rt: &impl Abort, paged: &mut Paged<MemFlash>) -> [Reply; 4] {
     let mut edits = [
         addition(rt),
@@ -39,7 +37,7 @@ fn replies_of(rt: &impl Abort, paged: &mut Paged<MemFlash>) -> [Reply; 4] {
     replies
 }
 
-/// The expected replies, two of them refusals.
+/// The expected replies, including two refusals.
 const REPLIES: [Reply; 4] = [
     Reply::Placed(Placed {
         header: 0,
@@ -57,7 +55,7 @@ fn a_refused_edit_does_not_stop_the_later_ones(rt: HostRuntime) {
     ends_with(&rt, paged.into_flash(), board(&rt, FRESH));
 }
 
-// ---- edits that a device stops
+// ---- stopped edits
 
 const ADD_A: Command<'static> = Command::Add {
     region: COREBOOT,
@@ -88,7 +86,7 @@ struct State {
     contents: &'static [(&'static [u8], &'static [u8])],
 }
 
-/// The first addition, a second one at a multiple of 256, and a removal between free cells.
+/// The first addition, a second addition at a multiple of 256, and a removal between free cells.
 #[derive(Clone, Copy)]
 enum Edited {
     First,
@@ -96,7 +94,7 @@ enum Edited {
     Removal,
 }
 
-/// An edit with its source, and the region before and after it.
+/// An edit with its source, and the region before and after the edit.
 #[derive(Clone, Copy)]
 struct Change {
     edit: Edited,
@@ -158,7 +156,6 @@ const REMOVAL: Change = Change {
     after: NOTHING,
 };
 
-/// Returns whether a command writes this text.
 fn writes(rt: &impl Abort, paged: &mut Paged<MemFlash>, command: &Command, text: &[u8]) -> bool {
     let mut out = writer(4096, usize::MAX, text);
     equal(
@@ -169,7 +166,6 @@ fn writes(rt: &impl Abort, paged: &mut Paged<MemFlash>, command: &Command, text:
     took_all(out)
 }
 
-/// Checks that the extraction of a component gives this content.
 fn extracts(rt: &impl Abort, paged: &mut Paged<MemFlash>, name: &[u8], content: &[u8]) {
     let command = Command::Extract {
         region: COREBOOT,
@@ -178,16 +174,14 @@ fn extracts(rt: &impl Abort, paged: &mut Paged<MemFlash>, name: &[u8], content: 
     equal(rt, &writes(rt, paged, &command, content), &true);
 }
 
-/// Checks the contents of all components.
 fn has_contents(rt: &impl Abort, paged: &mut Paged<MemFlash>, state: State) {
     for (name, content) in state.contents {
         extracts(rt, paged, name, content);
     }
 }
 
-/// Checks that the region is listed as before the change or as after it, and that its components
-/// have their contents. The free space is listed alike too: the empty entry over the run is as long
-/// as the one before.
+/// Checks the listing, before or after the change, and the contents of the components. The listings
+/// of the free space are equal: the empty entry over the run has the length of the old entry.
 fn is_either(rt: &impl Abort, device: MemFlash, change: Change) {
     let mut paged = Paged::new(device);
     if writes(rt, &mut paged, &PRINT, change.before.text) {
@@ -203,7 +197,6 @@ fn is_either(rt: &impl Abort, device: MemFlash, change: Change) {
     drop(paged);
 }
 
-/// Runs the command of a change.
 fn edit(rt: &impl Abort, paged: &mut Failing, change: Change) -> Result<(), Refusal> {
     let mut none = writer(0, 0, b"");
     let source = change.source;
@@ -214,8 +207,7 @@ fn edit(rt: &impl Abort, paged: &mut Failing, change: Change) -> Result<(), Refu
     }
 }
 
-/// Runs a change on a device that refuses all calls after the first ones. Returns whether it has
-/// finished.
+/// Returns true if a change completes within a number of device calls.
 fn changes(rt: &(impl Abort + AllocGlobal), change: Change, calls: u64, part: usize) -> bool {
     let stop = Stop {
         calls,
@@ -227,7 +219,6 @@ fn changes(rt: &(impl Abort + AllocGlobal), change: Change, calls: u64, part: us
     ends(rt, answer, paged.into_flash().into_inner(), change)
 }
 
-/// Checks the device after a change. Returns whether the change has finished.
 fn ends(
     rt: &(impl Abort + AllocGlobal),
     answer: Result<(), Refusal>,
@@ -243,9 +234,9 @@ fn ends(
     false
 }
 
-/// Stops a change at each call in turn, until it finishes. It doesn't finish without a call.
+/// Stops a change at each call, until the change completes. A change never completes without a
+/// call.
 fn stop_each(rt: &(impl Abort + AllocGlobal), change: Change, part: usize) {
-    // 0 stands for none.
     let mut finished = 0;
     for calls in 0..40 {
         if changes(rt, change, calls, part) {

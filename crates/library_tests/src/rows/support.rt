@@ -1,5 +1,5 @@
-//! The image of most examples, and the helpers that run a command on an image and compare its text,
-//! its refusal and the image as wholes.
+//! The image of most examples, and helpers which run a command and compare its whole output,
+//! refusal and image.
 use crate::edit::deeds::{COREBOOT, answer_into};
 use crate::edit::support::{A, LAST_448, LAST_512};
 use crate::support::{
@@ -10,7 +10,7 @@ use cbfs_edit::{HashChoice, Spot};
 use flash_store::Paged;
 use std::process::Abort;
 
-/// The flashmap of a flash of 4096 bytes at 0xff000000: FMAP and COREBOOT, of 512 bytes each, and
+/// The flash map of a flash of 4096 bytes at 0xff000000: FMAP and COREBOOT, of 512 bytes each, and
 /// REST.
 pub const BOARD: [u8; 182] = *b"__FMAP__\x01\x01\x00\x00\x00\xff\x00\x00\x00\x00\x00\x10\x00\x00\
 FLASH\0\0\0\0\0\0\0\0\0\0\0\0\0\0\0\0\0\0\0\0\0\0\0\0\0\0\0\x03\x00\
@@ -37,23 +37,21 @@ pub const PRINT_ALL: Command<'static> = Command::Print {
     verbose: true,
 };
 
-/// The listing of the region with the component `a`.
 pub const A_AND_416: &[u8] = b"a\t0x0\traw\t10\tnone\n(empty)\t0x40\tnull\t416\tnone\n";
 
-/// Returns the image with these parts of its region, which begins at 0x200.
+/// Returns the image with the given parts of its region, which begins at 0x200.
 pub fn board(rt: &(impl Abort + AllocGlobal), region: Parts) -> Vec<u8> {
     image_with(rt, 4096, &BOARD, 0x200, region)
 }
 
-/// Returns the image with these parts, and other bytes from a place of the region on.
+/// Returns the image after a change of the region at an offset.
 pub fn changed(rt: &(impl Abort + AllocGlobal), region: Parts, at: usize, bytes: &[u8]) -> Vec<u8> {
     let mut image = board(rt, region);
     write_over(&mut image, at.saturating_add(0x200), bytes);
     image
 }
 
-/// Checks that a command with this source writes this text, returns this answer and leaves this
-/// image.
+/// Checks the output, the result and the image of a command with a source.
 pub fn runs(
     rt: &(impl Abort + AllocGlobal),
     image: &[u8],
@@ -75,7 +73,7 @@ pub fn runs(
     drop(paged);
 }
 
-/// Checks that a command writes this text, returns this answer and leaves the image as it is.
+/// Checks the output and the result of a command without a change of the image.
 pub fn shows(
     rt: &(impl Abort + AllocGlobal),
     image: &[u8],
@@ -86,7 +84,6 @@ pub fn shows(
     runs(rt, image, command, b"", text, answer, image);
 }
 
-/// Checks the listing of a region with these parts.
 pub fn prints(
     rt: &(impl Abort + AllocGlobal),
     region: Parts,
@@ -101,7 +98,6 @@ pub fn prints_all(rt: &(impl Abort + AllocGlobal), region: Parts, text: &[u8]) {
     shows(rt, &board(rt, region), &PRINT_ALL, text, Ok(()));
 }
 
-/// Checks the extraction of a component.
 pub fn extracts(
     rt: &(impl Abort + AllocGlobal),
     region: Parts,
@@ -116,7 +112,6 @@ pub fn extracts(
     shows(rt, &board(rt, region), &command, content, answer);
 }
 
-/// The new component of an addition.
 #[derive(Clone, Copy)]
 pub struct Addition<'a> {
     pub name: &'a [u8],
@@ -125,7 +120,7 @@ pub struct Addition<'a> {
     pub content: &'a [u8],
 }
 
-/// Returns a component without a digest for the first free space.
+/// Returns an addition without a digest at the first free space.
 pub fn plain<'a>(name: &'a [u8], content: &'a [u8]) -> Addition<'a> {
     spotted(name, Spot::First, content)
 }
@@ -139,7 +134,6 @@ pub fn spotted<'a>(name: &'a [u8], spot: Spot, content: &'a [u8]) -> Addition<'a
     }
 }
 
-/// Checks that an addition returns this answer and leaves the image `after`.
 pub fn adds_to(
     rt: &(impl Abort + AllocGlobal),
     before: &[u8],
@@ -158,7 +152,6 @@ pub fn adds_to(
     runs(rt, before, &command, addition.content, b"", answer, after);
 }
 
-/// Checks that an addition of the type raw is done and leaves the region `after`.
 pub fn adds(rt: &(impl Abort + AllocGlobal), before: Parts, addition: Addition, after: Parts) {
     adds_to(
         rt,
@@ -170,7 +163,6 @@ pub fn adds(rt: &(impl Abort + AllocGlobal), before: Parts, addition: Addition, 
     );
 }
 
-/// Checks that an addition is refused and leaves the image as it is.
 pub fn refuses(
     rt: &(impl Abort + AllocGlobal),
     region: Parts,
@@ -181,7 +173,6 @@ pub fn refuses(
     adds_to(rt, &image, addition, 0x50, Err(refusal), &image);
 }
 
-/// Checks that a removal returns this answer and leaves the region `after`.
 pub fn removes(
     rt: &(impl Abort + AllocGlobal),
     before: Parts,
@@ -204,7 +195,7 @@ pub fn removes(
     );
 }
 
-/// Returns this number of bytes, none of them 0xff.
+/// Returns `len` bytes without 0xff.
 pub fn content(rt: &(impl Abort + AllocGlobal), len: usize) -> Vec<u8> {
     let mut bytes = filled(rt, 0, len);
     for (i, byte) in bytes.iter_mut().enumerate() {

@@ -1,5 +1,5 @@
-//! The digest of a component that covers more than one piece. Other digests, contents and algorithms are shown by
-//! `checks/check_cbfstool`.
+//! The digest of a component of several pieces. `checks/check_cbfstool` tests other digests,
+//! contents and algorithms.
 ghost use Rattle.std.specs.Prelude.{◌≡◌, false};
 ghost use Rattle.flash_format.specs.Head.{is_free};
 ghost use Rattle.cbfs_walk.specs.Cells.{IsCellIn};
@@ -15,7 +15,7 @@ use std::process::Abort;
 const HASHED: [u8; 52] =
     *b"LARCHIVE\0\0\x10\x01\0\0\0\x50\0\0\0\x28\0\0\0\x54h\0\0\0\0\0\0\0\0\0\0\0\0\0\0\0hsaH\0\0\0\x2c\0\0\0\x02";
 
-/// Its content, and the digest of that, made by Python.
+/// The content, and its digest, computed by Python.
 const CONTENT: [u8; 4097] = [7; 4097];
 
 const DIGEST: [u8; 32] =
@@ -23,7 +23,6 @@ const DIGEST: [u8; 32] =
 
 const PARTS: Parts = &[(0, &HASHED), (52, &DIGEST), (84, &CONTENT)];
 
-/// The whole of a device that holds the component, and the component.
 fn hashed(rt: &(impl Abort + AllocGlobal)) -> (Region, Cell)
     ensures cell { IsCellIn result.0.size result.1 }
     ensures component { is_free result.1.head ≡ false }
@@ -35,7 +34,7 @@ fn hashed(rt: &(impl Abort + AllocGlobal)) -> (Region, Cell)
     (region, cell.expect(rt, "a component"))
 }
 
-/// The component on another device that holds it has this state, where its calls after the first few fail.
+/// Checks the hash state on another device with the component and a limited number of calls.
 fn fails_after(rt: &(impl Abort + AllocGlobal), calls: u64, want: &Result<HashState, FlashFault>) {
     let mut paged = failing(rt, 4544, PARTS, calls);
     let (region, cell) = hashed(rt);

@@ -1,4 +1,4 @@
-//! Walks, digests, and what they stand on: devices, the buffer, files.
+//! Walks, digests, devices, the buffer and files.
 mod hashes;
 mod store;
 pub mod walks;

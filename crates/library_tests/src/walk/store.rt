@@ -1,5 +1,6 @@
-//! What no clause shows of the store: bytes from outside, and that calls do their work. Files of the system, their lengths and
-//! locks are shown by `checks/check_cbfstool`, `checks/check_create`, `checks/check_files` and `checks/check_cbfscheck`.
+//! Behaviour without clauses: literal bytes, and the effects of calls. `checks/check_cbfstool`,
+//! `checks/check_create`, `checks/check_files` and `checks/check_cbfscheck` test system files,
+//! their lengths and locks.
 use crate::support::{device_with, equal, filled, same_bytes, write_over};
 use flash_format::HEADER_LENGTH;
 use flash_store::{
@@ -8,7 +9,7 @@ use flash_store::{
 };
 use std::process::Abort;
 
-/// The map of a flash of 4096 bytes at 0xff000000 with the areas FMAP of 512 bytes and COREBOOT of the rest.
+/// The map of a flash of 4096 bytes at 0xff000000: FMAP of 512 bytes, and COREBOOT of the rest.
 const MAP: [u8; 140] = *b"__FMAP__\x01\x01\x00\x00\x00\xff\x00\x00\x00\x00\x00\x10\x00\x00\
 FLASH\x00\x00\x00\x00\x00\x00\x00\x00\x00\x00\x00\x00\x00\x00\x00\x00\x00\x00\x00\x00\x00\x00\x00\x00\x00\x00\x00\x02\x00\
 \x00\x00\x00\x00\x00\x02\x00\x00\
@@ -16,7 +17,8 @@ FMAP\x00\x00\x00\x00\x00\x00\x00\x00\x00\x00\x00\x00\x00\x00\x00\x00\x00\x00\x00
 \x00\x02\x00\x00\x00\x0e\x00\x00\
 COREBOOT\x00\x00\x00\x00\x00\x00\x00\x00\x00\x00\x00\x00\x00\x00\x00\x00\x00\x00\x00\x00\x00\x00\x00\x00\x00\x00";
 
-/// The region of the name of an area, and none of a name with a NUL, which no words can have.
+/// The region of an area's name, and no region for a name with a NUL, which no argument can
+/// contain.
 #[test]
 fn areas_are_those_of_the_map(rt: HostRuntime) {
     let mut paged = Paged::new(device_with(&rt, 4096, &[(0x80, &MAP)]));
@@ -31,7 +33,7 @@ fn place_of(paged: &mut Paged<MemFlash>, word: &[u8]) -> Result<(u64, u64), Stor
     Ok((found.start(), found.size()))
 }
 
-/// A hundred bytes, in which no three in a row stand twice.
+/// A hundred bytes without a repeated sequence of three.
 const NUMBERED: [u8; 100] =
     *b"00,01,02,03,04,05,06,07,08,09,10,11,12,13,14,15,16,17,18,19,20,21,22,23,24,25,26,27,28,29,30,31,32,.";
 
@@ -42,7 +44,7 @@ fn what_is_read_after_a_write_is_what_the_device_holds(rt: HostRuntime) {
     drop(paged);
 }
 
-/// Writes in each way into the window that the check before has loaded.
+/// Writes in each way into the loaded window.
 fn write_each(rt: &impl Abort, paged: &mut Paged<MemFlash>) {
     agrees(rt, paged, b"3,04,");
     push_six(rt, paged);
@@ -80,7 +82,7 @@ fn copy_six(rt: &impl Abort, paged: &mut Paged<MemFlash>) {
     drop(source);
 }
 
-/// A read gives these bytes from 110 on, and after them what the device holds.
+/// Checks the bytes from 110 on, and the device's bytes after them.
 fn agrees(rt: &impl Abort, paged: &mut Paged<MemFlash>, written: &[u8]) {
     let mut seen = [0; 100];
     assert!(rt; paged.len() == 9000);
@@ -90,14 +92,13 @@ fn agrees(rt: &impl Abort, paged: &mut Paged<MemFlash>, written: &[u8]) {
     same_bytes(rt, held, &seen);
 }
 
-/// A file of the hundred bytes that moves at most so many bytes a call, is interrupted at every fourth, and refuses all after
-/// the first `calls`.
+/// Returns a file of the hundred bytes with a maximum transfer, an interruption at each fourth
+/// call, and a limited number of calls.
 fn flaky(rt: &(impl Abort + AllocGlobal), most: usize, calls: u64) -> FlakyFile {
     let bytes = NUMBERED.to_vec(rt.alloc()).expect(rt, "memory");
     FlakyFile::new(bytes, most, 3, calls)
 }
 
-/// Whether a read of a source gives all its hundred bytes.
 fn reads(rt: &impl Abort, source: &mut StoredSource<FlakyFile>, out: &mut [u8; 100]) -> bool {
     assert!(rt; source.len() == 100);
     source.read_at(0, out).is_ok()
@@ -112,7 +113,7 @@ fn a_source_in_a_file_moves_all(rt: HostRuntime) {
     same_bytes(&rt, &seen, &NUMBERED);
 }
 
-// As one that was cut after it was opened.
+// Like a file truncated after opening.
 #[test]
 fn a_source_in_a_file_that_gives_nothing_is_refused(rt: HostRuntime) {
     let mut source = StoredSource::new(flaky(&rt, 0, 1000));
@@ -131,13 +132,12 @@ fn a_file_is_erased(rt: HostRuntime) {
     same_bytes(&rt, device.into_inner().into_inner().bytes(), &wanted);
 }
 
-/// Writes bytes that end inside the file.
 fn write_part(rt: &impl Abort, device: &mut StoredFlash<Erased<FlakyFile>>, at: u64, bytes: &[u8]) {
     assert!(rt; device.len() == 100 && at <= 50 && bytes.len() <= 50);
     equal(rt, &device.write_at(at, bytes).is_ok(), &true);
 }
 
-/// Writes over 0xff, and 0xff over the first byte of that again.
+/// Writes over 0xff, and 0xff over the first written byte.
 fn write_parts(rt: &impl Abort, device: &mut StoredFlash<Erased<FlakyFile>>) {
     write_part(rt, device, 10, &[0xff; 50]);
     write_part(rt, device, 30, b"new");
@@ -149,15 +149,15 @@ fn a_file_that_refuses_is_not_erased(rt: HostRuntime) {
     assert!(rt; Erased::erase(flaky(&rt, 7, 10)).is_err());
 }
 
-// ---- a header over a border between two blocks of a file
+// ---- a header across two blocks of a file
 
-/// Where a header begins that has twelve bytes in one block and sixteen in the next.
+/// The offset of a header with twelve bytes in one block and sixteen in the next.
 const OVER_THE_BORDER: u64 = 4096 - 12;
 
 const NEW_HEADER: [u8; HEADER_LENGTH] = *b"twenty-eight bytes of header";
 
-/// Commits the header to a file that moves at most so many bytes a call and refuses all calls after
-/// the first few. It is done or not, and the file has the new bytes or the old ones.
+/// Commits the header to a file with a maximum transfer and a limited number of calls. Checks the
+/// result, and that the file has the new or the old bytes.
 fn commits(rt: &(impl Abort + AllocGlobal), most: usize, calls: u64, is_done: bool) {
     let mut wanted = filled(rt, b'o', 8192);
     let old = filled(rt, b'o', 8192);
@@ -173,7 +173,7 @@ fn commits(rt: &(impl Abort + AllocGlobal), most: usize, calls: u64, is_done: bo
     drop(wanted);
 }
 
-/// A file that writes no more than twelve bytes of it at first refuses it.
+/// A file with a first write of at most twelve bytes fails.
 #[test]
 fn a_header_over_a_border_is_whole_or_absent(rt: HostRuntime) {
     commits(&rt, 12, 5000, false);

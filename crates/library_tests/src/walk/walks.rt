@@ -1,5 +1,5 @@
-//! A device that lies, and one that fails at each call in turn. What regions have and how they are refused is shown by
-//! `checks/check_cbfstool`.
+//! A dishonest device, and a device with a fault at each call. `checks/check_cbfstool` tests the
+//! content of regions and their refusals.
 ghost use Rattle.std.specs.Prelude.{◌≡◌};
 ghost use Rattle.flash_device.specs.Regions.{LiesIn};
 
@@ -16,14 +16,14 @@ pub type Answer = Result<Step, WalkFault>;
 const NULL_340: [u8; 40] =
     *b"LARCHIVE\0\0\x01\x54\xff\xff\xff\xff\0\0\0\0\0\0\0\x28\0\0\0\0\0\0\0\0\0\0\0\0\0\0\0\0";
 
-/// A component `a` of 3992 bytes, whose cell is one of 4032.
+/// A component `a` of 3992 bytes in a cell of 4032.
 const LONG: [u8; 40] =
     *b"LARCHIVE\0\0\x0f\x98\0\0\0\x50\0\0\0\0\0\0\0\x28a\0\0\0\0\0\0\0\0\0\0\0\0\0\0\0";
 
-/// The head of a component of ten bytes, whose name field has 64.
+/// The head of a component of ten bytes with a name field of 64.
 const WIDE: [u8; 24] = *b"LARCHIVE\0\0\0\x0a\0\0\0\x50\0\0\0\0\0\0\0\x58";
 
-/// A component of no bytes, with a name and room up to the next.
+/// An empty component with a name and space up to the next entry.
 const LIE: [u8; 64] =
     *b"LARCHIVE\0\0\0\0\0\0\0\x50\0\0\0\0\0\0\0\x28l\0\0\0\0\0\0\0\0\0\0\0\0\0\0\0\0\0\0\0\0\0\0\0\0\0\0\0\0\0\0\0\0\0\0\0\0\0\0\0";
 
@@ -31,14 +31,12 @@ pub const RAW: u32 = 0x50;
 
 pub const NULL: u32 = 0xffff_ffff;
 
-/// The whole of a device.
 pub fn whole<F: Flash>(rt: &impl Abort, paged: &Paged<F>) -> Region
     ensures { LiesIn result (F.facts paged.now.device).content }
 {
     Region::within(0, paged.len(), paged.len()).expect(rt, "a region")
 }
 
-/// The next answers of a walk are these.
 pub fn answers<F: Flash>(rt: &impl Abort, walk: &mut Walk, paged: &mut Paged<F>, want: &[Answer])
     requires { LiesIn walk.old.region (F.facts paged.old.device).content }
     ensures region { walk.new.region ≡ walk.old.region }
@@ -49,7 +47,6 @@ pub fn answers<F: Flash>(rt: &impl Abort, walk: &mut Walk, paged: &mut Paged<F>,
     }
 }
 
-/// Passes over so many answers of a walk.
 fn pass<F: Flash>(walk: &mut Walk, paged: &mut Paged<F>, calls: u32)
     requires { LiesIn walk.old.region (F.facts paged.old.device).content }
     ensures { LiesIn walk.new.region (F.facts paged.new.device).content }
@@ -59,7 +56,6 @@ fn pass<F: Flash>(walk: &mut Walk, paged: &mut Paged<F>, calls: u32)
     }
 }
 
-/// A component without attributes, or free space.
 fn cell(at: u64, len: u32, kind: u32, span: u64) -> Cell {
     let head = Head {
         len,
@@ -78,7 +74,7 @@ fn damaged(at: u64, kind: DamageKind) -> WalkFault {
     WalkFault::Damaged { at, kind }
 }
 
-/// A device that tells of components side by side wherever it is asked, with other contents at each call.
+/// A device with neighbouring components at every offset, and other content at each call.
 #[derive(Drop)]
 struct Liar {
     len: u32,
@@ -92,7 +88,8 @@ impl Model for Liar {
 
     ghost Value = { Device };
 
-    ghost view = { λ l. record { content = replicate l.len 0; calls = l.calls; faults = 0; honest = false } };
+    ghost view = { λ l.
+        record { content = replicate l.len 0; calls = l.calls; faults = 0; honest = false } };
 }
 
 impl Flash for Liar {
@@ -130,7 +127,8 @@ fn a_walk_over_lies_ends(rt: HostRuntime) {
         calls: Counter::new(),
     });
     let mut walk = Walk::new(whole(&rt, &paged));
-    // Four calls: contents of 30 and then of 60 bytes in cells of 128, of 90 and of 120 in cells of 192.
+    // Four calls: contents of 30 and then of 60 bytes in cells of 128, of 90 and of 120 in cells of
+    // 192.
     pass(&mut walk, &mut paged, 85);
     answers(&rt, &mut walk, &mut paged, &[gives(12224, 90, RAW, 192)]);
     pass(&mut walk, &mut paged, 20);
@@ -140,10 +138,10 @@ fn a_walk_over_lies_ends(rt: HostRuntime) {
     drop(paged);
 }
 
-/// A long component, one whose head ends a buffer and whose name is in the next, and free space: two calls to read.
+/// A long component, a component whose head ends a window and whose name is in the next window, and
+/// free space: two reads.
 const LONGER: Parts = &[(0, &LONG), (4032, &WIDE), (4056, b"w\0"), (4160, &NULL_340)];
 
-/// The second cell.
 fn wide() -> Cell {
     let head = Head {
         len: 10,
@@ -158,7 +156,8 @@ fn wide() -> Cell {
     }
 }
 
-/// A walk over a device whose calls after the first few fail answers this, and that from then on over one that holds the same.
+/// Checks the results of a walk with a limited number of device calls, and the results afterwards
+/// on an equal device.
 fn goes_on(rt: &(impl Abort + AllocGlobal), calls: u64, first: &[Answer], then: &[Answer]) {
     let mut stopped = failing(rt, 4544, LONGER, calls);
     let mut sound = failing(rt, 4544, LONGER, ALL);
@@ -193,7 +192,6 @@ fn a_walk_goes_on_after_each_fault(rt: HostRuntime) {
     goes_on(&rt, 2, &[long, wide, free, end], &[end]);
 }
 
-/// A search of a device whose calls after the first few fail answers this.
 fn searches(
     rt: &(impl Abort + AllocGlobal),
     calls: u64,
