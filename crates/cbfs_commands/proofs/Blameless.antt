@@ -23,7 +23,7 @@ use Rattle.cbfs_edit.specs.Runs.{runs}
 use Rattle.cbfs_edit.specs.declared.fault.EditFault.{EditFault}
 use Rattle.cbfs_edit.specs.declared.fault.EditFault.TheVariants as edit
 use Rattle.cbfs_edit.specs.declared.place.Spot.{Spot}
-use Rattle.cbfs_commands.specs.declared.plan.Plan.{Plan}
+use Rattle.cbfs_commands.specs.declared.create.plan.Plan.{Plan}
 use Rattle.cbfs_commands.specs.declared.refusal.Refusal.{Refusal}
 use Rattle.cbfs_commands.specs.declared.refusal.Refusal.TheVariants as refusals
 use Rattle.cbfs_commands.specs.Creations.{head_for, map_place, plan_for, plan_of, region_place, region_places, some_overlap}

@@ -7,7 +7,7 @@ use Rattle.flash_device.specs.Laws.{with_edit}
 use Rattle.flash_device.specs.Regions.{Range}
 use Rattle.cbfs_edit.specs.Formats.{formatted}
 use Rattle.flash_device.specs.Pages.{OnHonest, Pages}
-use Rattle.cbfs_commands.specs.declared.plan.Plan.{Plan}
+use Rattle.cbfs_commands.specs.declared.create.plan.Plan.{Plan}
 use Rattle.cbfs_commands.specs.declared.refusal.Refusal.{Refusal}
 use Rattle.cbfs_commands.specs.declared.refusal.Refusal.TheVariants as refusals
 use Rattle.cbfs_commands.specs.Creations.{created_image, plan_for}

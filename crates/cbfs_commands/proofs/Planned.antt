@@ -15,7 +15,7 @@ use Rattle.flash_device.specs.Laws.{LieApart}
 use Rattle.flash_device.specs.Regions.{Range, region_by_area}
 use Rattle.flash_device.proofs.FmapLemmas.{head_some, valid_fits}
 use Rattle.cbfs_walk.specs.Shapes.{has_bad_size}
-use Rattle.cbfs_commands.specs.declared.plan.Plan.{Plan}
+use Rattle.cbfs_commands.specs.declared.create.plan.Plan.{Plan}
 use Rattle.cbfs_commands.specs.declared.refusal.Refusal.{Refusal}
 use Rattle.cbfs_commands.specs.declared.refusal.Refusal.TheVariants as refusals
 use Rattle.cbfs_commands.specs.Creations.{FitsImage, IsPlace, head_for, map_place, overlap, plan_for, plan_of, region_place, region_places, some_overlap}

@@ -14,7 +14,7 @@ use Rattle.cbfs_edit.specs.Formats.{IsOneFreeCell}
 use Rattle.cbfs_edit.specs.Laws.{IsAdded}
 use Rattle.cbfs_edit.specs.declared.place.Place.{Place}
 use Rattle.cbfs_edit.specs.declared.place.Spot.{Spot}
-use Rattle.cbfs_commands.specs.declared.plan.Plan.{Plan}
+use Rattle.cbfs_commands.specs.declared.create.plan.Plan.{Plan}
 use Rattle.cbfs_commands.specs.Creations.{FitsImage, created_image, plan_for}
 use Rattle.cbfs_commands.specs.Deeds.{deed, outcome, replaces, Request, Task, on_region}
 use Rattle.cbfs_commands.specs.Outcomes.{extract_region, told_in}

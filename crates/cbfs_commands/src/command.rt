@@ -1,6 +1,6 @@
 //! The commands of the command line.
 
-use crate::flashmap::MOST_REGIONS;
+use crate::create::MOST_REGIONS;
 use arrayvec::ArrayVec;
 use cbfs_edit::{HashChoice, Spot};
 

@@ -1,24 +1,23 @@
 //! The commands on an image: print, layout, extract, add, remove, read, write and create.
 #![tactic(auto)]
 
+mod add;
 mod command;
 mod create;
-mod detail;
-mod engine;
+mod execution;
 mod extract;
-mod flashmap;
 mod laws;
 mod layout;
-mod plan;
 mod print;
 mod read;
 mod refusal;
+mod remove;
 mod row;
 mod write;
 
 pub use command::Command;
-pub use engine::run;
-pub use flashmap::{MOST_REGIONS, create_size};
+pub use create::{MOST_REGIONS, create_size};
+pub use execution::run;
 pub use laws::{
     additions_are_extracted, created_regions_are_free, lines_are_read_back,
     outcomes_are_of_the_region, outcomes_have_no_fault, plans_are_laid, rows_are_read_back,

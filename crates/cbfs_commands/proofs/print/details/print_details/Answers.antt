@@ -1,0 +1,17 @@
+use Rattle.std.proofs.Common.{arith, refl}
+use Rattle.cbfs_commands.specs.Rows.{hash_text}
+use Rattle.cbfs_commands.specs.Told.{cell_of, shows}
+use Rattle.cbfs_commands.proofs.Telling.{so_far-ends, so_far-of, still_cell, told-stopped, told-within}
+use Rattle.cbfs_commands.proofs.print.details.print_details.Goals as goal
+
+pub print_hash-requires : goal.print_hash-requires
+print_hash-requires g c = record { cell = still_cell c.print_attributes.ensures.read c.requires.cell; used = c.requires.used }
+
+pub returns-in_err-print_attributes : goal.returns-in_err-print_attributes
+returns-in_err-print_attributes g c =
+    told-within _ (omega arith) (told-stopped (λ image. shows (hash_text (cell_of c.args.region c.args.cell.now image))) c.in_err-print_attributes.ensures c.from_residual.ensures.1)
+
+pub returns : goal.returns
+returns g c =
+    let rest = so_far-of (λ image. shows (hash_text (cell_of c.args.region c.args.cell.now image))) c.in_ok-print_attributes.ensures in
+    so_far-ends rest _ c.print_hash.ensures (λ h. refl) (omega arith)

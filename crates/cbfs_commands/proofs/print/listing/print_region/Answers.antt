@@ -1,0 +1,34 @@
+use Rattle.std.proofs.Common.{Ok, Err, arith, refl}
+use Rattle.flash_device.specs.Regions.{bytes_in}
+use Rattle.cbfs_commands.proofs.Printing.{print_region-from, printed-done, printed-failed, printed-more, printed-stops}
+use Rattle.cbfs_commands.proofs.Telling.{so_far-none}
+use Rattle.cbfs_commands.proofs.print.listing.print_region.Goals as goal
+
+pub loop-cell-init : goal.loop-cell-init
+loop-cell-init g c = rw c.new-walk.ensures (record {
+  region = refl;
+  going = refl;
+  inside = omega arith;
+  aligned = refl;
+  told = so_far-none _ _ _ _ _ (λ image. print_region-from c.args.verbose (bytes_in c.args.region image));
+})
+
+pub loop-cell-preserved : goal.loop-cell-preserved
+loop-cell-preserved g c =
+    let step = c.in_ok-cell.ensures in
+    printed-more c.loop-cell.invariant c.requires (Ok c.in_ok-cell.field-0) step.after step.answer c.in-Cell.cell (cc) step.cell c.in_ok-print_cell.ensures _ step.moved
+
+pub returns-in_err-print_cell : goal.returns-in_err-print_cell
+returns-in_err-print_cell g c =
+    let step = c.in_ok-cell.ensures in
+    printed-stops c.loop-cell.invariant c.requires (Ok c.in_ok-cell.field-0) step.after step.answer c.in-Cell.cell (cc) step.cell c.in_err-print_cell.ensures c.from_residual-in_err-print_cell.ensures.1
+
+pub returns : goal.returns
+returns g c =
+    let step = c.in_ok-cell.ensures in
+    printed-done c.loop-cell.invariant c.requires (Ok c.in_ok-cell.field-0) step.after step.answer c.in_ok-cell.field-0 refl c.in_default.not-Cell
+
+pub returns-in_err-cell : goal.returns-in_err-cell
+returns-in_err-cell g c =
+    let step = c.in_err-cell.ensures in
+    printed-failed c.loop-cell.invariant c.requires (Err c.in_err-cell.field-0.0) step.after step.answer c.in_err-cell.field-0.0 refl c.from_residual.ensures.1

@@ -1,0 +1,27 @@
+//! The command `add`.
+
+ghost use Rattle.std.specs.Prelude.{◌+◌, ◌*◌, length};
+ghost use Rattle.cbfs_commands.specs.Deeds.{HasChanged, adds};
+
+use crate::refusal::Refusal;
+use cbfs_edit::{HashChoice, Spot};
+use flash_device::{Flash, Paged, Source};
+
+/// Adds the source to the region as the content of a component.
+pub fn add<F: Flash, S: Source>(
+    paged: &mut Paged<F>,
+    region: &[u8],
+    name: &[u8],
+    kind: u32,
+    hash: HashChoice,
+    spot: Spot,
+    source: &mut S,
+) -> Result<(), Refusal>
+    ensures { HasChanged F.facts (2 * length (F.facts paged.old.device).content + 64)
+        (adds region.now name.now kind hash spot) paged.old paged.new (S.facts source.old)
+        (S.facts source.new) result }
+{
+    let region = flash_device::region(paged, region)?;
+    cbfs_edit::add(paged, region, name, kind, hash, spot, source)?;
+    Ok(())
+}

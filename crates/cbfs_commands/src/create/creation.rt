@@ -1,0 +1,71 @@
+//! The command `create`.
+
+ghost use Rattle.std.specs.Prelude.{◌≡◌, ◌+◌, ◌*◌, ◌/◌, ◌≤◌, All, fold, length, map, OnOk, OnErr};
+ghost use Rattle.std.specs.Prelude.{Err};
+ghost use Rattle.flash_device.specs.Device.{Calls, refusals};
+ghost use Rattle.flash_device.specs.Laws.{with_edit};
+ghost use Rattle.flash_device.specs.Pages.{OnHonest};
+ghost use Rattle.cbfs_edit.specs.Formats.{formatted};
+ghost use Rattle.cbfs_commands.specs.declared.create.flashmap.TheConstants.{MOST_REGIONS};
+ghost use Rattle.cbfs_commands.specs.Creations.{IsPlace};
+ghost use Rattle.cbfs_commands.specs.Deeds.{HasChanged, creates};
+
+use crate::create::plan::read_plan;
+use crate::refusal::Refusal;
+use cbfs_edit::{EditFault, format};
+use flash_device::{Flash, Paged, Region, Source};
+
+/// Formats a region as a single empty entry.
+fn format_place<F: Flash>(paged: &mut Paged<F>, place: Region) -> Result<(), Refusal>
+    requires { IsPlace (length (F.facts paged.old.device).content) place }
+
+    ensures calls { Calls (length (F.facts paged.old.device).content / 4096 + 2) (refusals result)
+        (F.facts paged.old.device) (F.facts paged.new.device) }
+    ensures is { OnErr result (result ≡ Err Refusal.Device) }
+    ensures formatted { OnHonest F.facts paged.old.device (λ image.
+        OnOk result ((F.facts paged.new.device).content ≡ with_edit place formatted image)) }
+{
+    match format(paged, place) {
+        Ok(()) => Ok(()),
+        Err(_) => Err(Refusal::Device),
+    }
+}
+
+/// Formats each region as a single empty entry, in order.
+fn format_all<F: Flash>(paged: &mut Paged<F>, mut places: &[Region]) -> Result<(), Refusal>
+    requires { All (IsPlace (length (F.facts paged.old.device).content)) places.now }
+
+    ensures calls { Calls
+        (length places.entry.now * (length (F.facts paged.old.device).content / 4096 + 2))
+        (refusals result) (F.facts paged.old.device) (F.facts paged.new.device) }
+    ensures is { OnErr result (result ≡ Err Refusal.Device) }
+    ensures formatted { OnHonest F.facts paged.old.device (λ image.
+        OnOk result ((F.facts paged.new.device).content
+        ≡ fold (λ x place. with_edit place formatted x) image places.entry.now)) }
+{
+    while let [place, rest @ ..] = places {
+        format_place(paged, *place)?;
+        places = rest;
+    }
+    Ok(())
+}
+
+/// Creates the whole image from the source's flashmap: 0xff throughout, the flashmap in the area
+/// FMAP, and each named region as a single empty entry. Performs all checks before the first write.
+pub fn create<F: Flash, S: Source>(
+    paged: &mut Paged<F>,
+    names: &[&[u8]],
+    source: &mut S,
+) -> Result<(), Refusal>
+    requires { length names.now ≤ MOST_REGIONS }
+    ensures { HasChanged F.facts (2 * length (F.facts paged.old.device).content + 64)
+        (creates (map (λ name. name.now) names.now)) paged.old paged.new (S.facts source.old)
+        (S.facts source.new) result }
+{
+    let image_len = paged.len();
+    let plan = read_plan(names, source, image_len)?;
+    paged.fill(0, image_len, 0xff)?;
+    paged.copy_in(plan.map.start(), plan.map_len, source)?;
+    format_all(paged, plan.regions.as_slice())?;
+    Ok(())
+}

@@ -1,0 +1,145 @@
+//! The plan of a new image: the places of its flashmap and of the formatted regions.
+
+ghost use Rattle.std.specs.Prelude.{◌≡◌, ◌⊎◌, ◌+◌, ◌/◌, ◌≤◌, length, map, nat_lt, IsTrue, IsErrOf};
+ghost use Rattle.std.specs.Prelude.{IfOk};
+ghost use Rattle.std.specs.List.{list_any};
+ghost use Rattle.std.specs.Result.{result_map_both};
+ghost use Rattle.flash_format.specs.Flashmap.{area_len, map_len};
+ghost use Rattle.flash_device.specs.Device.{Reads, faults_told};
+ghost use Rattle.cbfs_commands.specs.Creations.{FitsImage, map_place, overlap, plan_for, plan_of};
+ghost use Rattle.cbfs_commands.specs.Creations.{region_place, region_places, some_overlap};
+ghost use Rattle.cbfs_commands.specs.Refusals.{by_source};
+
+use crate::create::flashmap::{MOST_REGIONS, first_areas, head_for};
+use crate::refusal::Refusal;
+use arrayvec::ArrayVec;
+use flash_device::{Region, Source, region_of_area};
+use flash_format::{Area, FmapHead};
+
+/// The layout of a new image.
+#[derive(Drop)]
+pub struct Plan {
+    /// The area of the flashmap.
+    pub map: Region,
+    /// The length of the flashmap, in bytes.
+    pub map_len: u64,
+    /// The regions to format, in the order of the command line.
+    pub regions: ArrayVec<Region, MOST_REGIONS>,
+}
+
+/// Returns the place of the flashmap's own area, with room for the flashmap.
+fn map_place(area: Option<Area>, map_len: u64, image_len: u64) -> Result<Region, Refusal>
+    ensures { result ≡ map_place image_len map_len area }
+{
+    match region_of_area(area, image_len) {
+        Ok(place) if place.size() >= map_len => Ok(place),
+        _ => Err(Refusal::FmapArea),
+    }
+}
+
+/// Returns the place of a region's area with a valid size for a CBFS.
+fn region_place(area: Option<Area>, image_len: u64) -> Result<Region, Refusal>
+    ensures { result ≡ region_place image_len area }
+{
+    let place = region_of_area(area, image_len)?;
+    if place.size() == 0 || place.size() % 64 != 0 {
+        return Err(Refusal::RegionShape);
+    }
+    Ok(place)
+}
+
+/// Returns the places of all regions.
+fn region_places(
+    areas: &[Option<Area>],
+    image_len: u64,
+) -> Result<ArrayVec<Region, MOST_REGIONS>, Refusal>
+    requires { length areas.now ≤ MOST_REGIONS }
+    ensures { result_map_both (λ places. places.items) (λ refusal. refusal) result
+        ≡ region_places image_len areas.now }
+{
+    let mut places = ArrayVec::new();
+    for i in 0..areas.len() {
+        places.push(region_place(areas[i], image_len)?);
+    }
+    Ok(places)
+}
+
+/// Returns whether two ranges overlap.
+fn overlap(a: &Region, b: &Region) -> bool
+    ensures { result ≡ overlap a.now b.now }
+{
+    begins_before_end(a, b) && begins_before_end(b, a)
+}
+
+fn begins_before_end(a: &Region, b: &Region) -> bool
+    ensures { result ≡ nat_lt a.now.start (b.now.start + b.now.size) }
+{
+    a.start() < b.start() || a.start() - b.start() < b.size()
+}
+
+fn overlaps_any(place: &Region, others: &[Region]) -> bool
+    ensures { result ≡ list_any (overlap place.now) others.now }
+{
+    others.iter().any(|other| overlap(place, other))
+}
+
+/// Returns whether any two of the ranges overlap.
+fn some_overlap(mut places: &[Region]) -> bool
+    ensures { result ≡ some_overlap places.entry.now }
+{
+    while let [first, rest @ ..] = places {
+        if overlaps_any(first, rest) {
+            return true;
+        }
+        places = rest;
+    }
+    false
+}
+
+/// Returns the plan for the given areas.
+#[tactic(auto, unfolding(crate::specs::Creations::plan_of))]
+fn plan_of(
+    head: &FmapHead,
+    map: Option<Area>,
+    regions: &[Option<Area>],
+    image_len: u64,
+) -> Result<Plan, Refusal>
+    requires { length regions.now ≤ MOST_REGIONS }
+    ensures { result ≡ plan_of image_len (map_len head.now) map regions.now }
+{
+    let map_len = head.map_len();
+    let map = map_place(map, map_len, image_len)?;
+    let regions = region_places(regions, image_len)?;
+    if overlaps_any(&map, &regions) || some_overlap(&regions) {
+        return Err(Refusal::FmapArea);
+    }
+    Ok(Plan {
+        map,
+        map_len,
+        regions,
+    })
+}
+
+/// Returns the plan of an image of `image_len` bytes with the named regions, by the source's
+/// flashmap.
+#[tactic(auto, unfolding(crate::specs::Creations::plan_for))]
+pub fn read_plan<S: Source>(
+    names: &[&[u8]],
+    source: &mut S,
+    image_len: u64,
+) -> Result<Plan, Refusal>
+    requires { length names.now ≤ MOST_REGIONS }
+
+    ensures calls { Reads (length (S.facts source.old).content / area_len + 1)
+        (faults_told by_source result) (S.facts source.old) (S.facts source.new) }
+    ensures no_device { IsErrOf result Refusal.Device → ⊥ }
+    ensures no_output { IsErrOf result Refusal.Output → ⊥ }
+    ensures fits { IfOk result (λ plan.
+        FitsImage image_len (length (S.facts source.old).content) plan) }
+    ensures plan { IsTrue (S.facts source.old).honest → IsErrOf result Refusal.Source
+        ⊎ (result ≡ plan_for image_len (map (λ n. n.now) names.now) (S.facts source.old).content) }
+{
+    let head = head_for(source, image_len)?;
+    let found = first_areas(source, &head, names)?;
+    plan_of(&head, found.map, &found.regions[..names.len()], image_len)
+}

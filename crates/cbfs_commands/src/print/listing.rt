@@ -1,0 +1,121 @@
+//! The command `print`.
+
+ghost use Rattle.std.specs.Prelude.{◌≡◌, ◌+◌, ◌*◌, ◌/◌, ◌<◌, ◌≤◌, length, OnOk, if◌then◌else◌};
+ghost use Rattle.flash_device.specs.Pages.{HasAnswered, OnHonest};
+ghost use Rattle.flash_device.specs.Regions.{LiesIn, bytes_in};
+ghost use Rattle.cbfs_commands.specs.Outcomes.{print_region, told_in};
+ghost use Rattle.cbfs_commands.specs.Rows.{shown_cell, row};
+ghost use Rattle.cbfs_commands.specs.Told.{HasTold, IsCellOf, cell_of, shows};
+
+use crate::print::details::print_details;
+use crate::refusal::Refusal;
+use crate::row::{Row, put_row, set_row_text};
+use arrayvec::ArrayVec;
+use cbfs_walk::{Cell, Step, Walk, cells_stand_in_their_image, name, packing};
+use flash_device::{Flash, FlashFault, Paged, Region, Sink};
+
+/// Formats the row of a cell. A fault leaves arbitrary bytes in the buffer.
+fn set_cell_row<F: Flash>(
+    paged: &mut Paged<F>,
+    region: Region,
+    cell: &Cell,
+    buffer: &mut Row,
+) -> Result<(), FlashFault>
+    requires { IsCellOf F.facts region cell.now paged.old.device }
+
+    ensures after { HasAnswered F.facts (2 + cell.now.span / 3840) paged.old paged.new result }
+    ensures row { OnHonest F.facts paged.old.device (λ image.
+        OnOk result (buffer.new.items ≡ row cell.now.at (cell_of region cell.now image))) }
+{
+    cells_stand_in_their_image();
+    if cell.head.is_free() {
+        set_row_text(buffer, cell.at, &cell.head, None, 0);
+        return Ok(());
+    }
+    let mut field = [0; 256];
+    let len = name(paged, region, cell, &mut field)?;
+    let value = packing(paged, region, cell)?;
+    set_row_text(buffer, cell.at, &cell.head, Some(&field[..len]), value);
+    Ok(())
+}
+
+/// Prints the row of a cell.
+fn print_row<F: Flash, W: Sink>(
+    paged: &mut Paged<F>,
+    region: Region,
+    cell: &Cell,
+    buffer: &mut Row,
+    out: &mut W,
+) -> Result<(), Refusal>
+    requires { IsCellOf F.facts region cell.now paged.old.device }
+
+    ensures { HasTold F.facts W.contents W.faults (2 + cell.now.span / 3840)
+        paged.old paged.new out.old out.new result (λ image.
+        shows (row cell.now.at (cell_of region cell.now image))) }
+{
+    set_cell_row(paged, region, cell, buffer)?;
+    put_row(out, buffer)
+}
+
+/// Prints the row of a cell, and if verbose the lines of a component.
+fn print_cell<F: Flash, W: Sink>(
+    paged: &mut Paged<F>,
+    region: Region,
+    cell: &Cell,
+    verbose: bool,
+    buffer: &mut Row,
+    out: &mut W,
+) -> Result<(), Refusal>
+    requires { IsCellOf F.facts region cell.now paged.old.device }
+
+    ensures { HasTold F.facts W.contents W.faults
+        (2 + cell.now.span / 3840
+        + (if verbose then 1 + cell.now.span / 8 + cell.now.span / 3840 else 0))
+        paged.old paged.new out.old out.new result
+        (λ image. shows (shown_cell verbose cell.now.at (cell_of region cell.now image))) }
+{
+    cells_stand_in_their_image();
+    print_row(paged, region, cell, buffer, out)?;
+    if verbose && !cell.head.is_free() {
+        return print_details(paged, region, cell, buffer, out);
+    }
+    Ok(())
+}
+
+/// Prints the rows of a region's cells.
+fn print_region<F: Flash, W: Sink>(
+    paged: &mut Paged<F>,
+    region: Region,
+    verbose: bool,
+    out: &mut W,
+) -> Result<(), Refusal>
+    requires { LiesIn region (F.facts paged.old.device).content }
+
+    ensures { HasTold F.facts W.contents W.faults
+        ((if verbose then region.size / 4 else region.size / 16) + 2)
+        paged.old paged.new out.old out.new result (λ image.
+        print_region (bytes_in region image) verbose) }
+{
+    let mut buffer = ArrayVec::new();
+    let mut walk = Walk::new(region);
+    while let Step::Cell(cell) = walk.next(paged)? {
+        print_cell(paged, region, &cell, verbose, &mut buffer, out)?;
+    }
+    Ok(())
+}
+
+/// Prints the cells of a region.
+pub fn print<F: Flash, W: Sink>(
+    paged: &mut Paged<F>,
+    name: &[u8],
+    verbose: bool,
+    out: &mut W,
+) -> Result<(), Refusal>
+    ensures { HasTold F.facts W.contents W.faults
+        (2 * length (F.facts paged.old.device).content + 64)
+        paged.old paged.new out.old out.new result (λ image.
+        told_in image name.now (λ x. print_region x verbose)) }
+{
+    let region = flash_device::region(paged, name)?;
+    print_region(paged, region, verbose, out)
+}
