@@ -4,3 +4,4 @@ pub mod Telling
 pub mod Tails
 pub mod Checking
 pub mod Unshadowed
+pub mod Parts

@@ -1,14 +1,14 @@
-//! Why an image isn't checked.
+//! Errors of a check.
 ghost use Rattle.std.specs.Prelude.{◌≡◌};
 ghost use Rattle.check_findings.specs.declared.fault.CheckFault.TheVariants as faults;
 
 use flash_device::FlashFault;
 use std::alloc::AllocError;
 
-/// The cause of a check that returns no findings.
+/// The error of a check. There are no findings then.
 #[derive(Clone, Copy, Debug, PartialEq, Eq, Drop)]
 pub enum CheckFault {
-    /// The device refused a read.
+    /// A read of the device failed.
     Device,
     /// An allocation failed.
     Memory,

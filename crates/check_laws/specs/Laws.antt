@@ -1,5 +1,6 @@
--- What commands answer of regions and images of which nothing bad is told.
-use Rattle.std.specs.Prelude.{◌≡◌, Bool, false, All, Contains, List, ℕ}
+-- Laws about commands on regions and images without bad findings, and about `add`.
+use Rattle.std.specs.Prelude.{◌≡◌, ◌↔◌, ◌≤◌, Bool, true, false, All, Contains, List, ℕ, None}
+use Rattle.std.specs.Prelude.{is_some, length}
 use Rattle.std.specs.List.{list_any}
 use Rattle.flash_format.specs.Components.{Component, components}
 use Rattle.flash_format.specs.Cut.{cut}
@@ -9,6 +10,12 @@ use Rattle.check_findings.specs.Region.RegionFindings.{region_findings}
 use Rattle.check_findings.specs.Image.ImageFindings.{bytes_of, image_findings}
 use Rattle.check_findings.specs.Image.RegionAreas.{region_areas}
 use Rattle.check_findings.specs.Image.Verdicts.{is_bad, is_bad_region}
+use Rattle.check_findings.specs.declared.region.finding.RegionFinding.TheVariants.{LargestContent}
+use Rattle.cbfs_walk.specs.Shapes.{shape_fault}
+use Rattle.cbfs_edit.specs.Places.{first_place}
+use Rattle.cbfs_edit.specs.Runs.{runs}
+use Rattle.cbfs_edit.specs.declared.place.Wanted.{Wanted}
+use Rattle.cbfs_edit.specs.declared.place.Spot.TheVariants.{First}
 use Rattle.cbfs_commands.specs.Rows.{rows_from}
 use Rattle.cbfs_commands.specs.Outcomes.{extract_region, print_region, told_component, told_in}
 use Rattle.cbfs_commands.specs.Told.{shows}
@@ -20,16 +27,21 @@ whole_listing x verbose = rows_from verbose 0 (cut x).cells
 -- a listing of a region without a bad finding has the rows of all its cells, and is done
 abbrev pub FitRegionsAreListed : Type 0
 FitRegionsAreListed =
-    (needs : Bool) (x : List ℕ) (verbose : Bool) → list_any (is_bad_region needs) (region_findings x) ≡ false
+    (needs : Bool) (x : List ℕ) (verbose : Bool)
+    → list_any (is_bad_region needs) (region_findings x) ≡ false
     → print_region x verbose ≡ shows (whole_listing x verbose)
 
 -- `print` of the area by its name has the rows of all its cells, and is done
 abbrev pub IsListed : List ℕ → Bool → NumberedArea → Type 0
-IsListed image verbose a = told_in image (text_of a.area.name) (λ x. print_region x verbose) ≡ shows (whole_listing (bytes_of image a) verbose)
+IsListed image verbose a =
+    told_in image (text_of a.area.name) (λ x. print_region x verbose)
+    ≡ shows (whole_listing (bytes_of image a) verbose)
 
--- `extract` of each of the area's components, by both names, shows its content, unless that is compressed
+-- `extract` of each component of the area, by both names, returns its content, unless it is
+-- compressed
 abbrev pub IsExtracted : List ℕ → NumberedArea → Type 0
-IsExtracted image a = (c : Component) → Contains (components (bytes_of image a)) c → told_in image (text_of a.area.name) (λ x. extract_region x c.name) ≡ told_component c
+IsExtracted image a = (c : Component) → Contains (components (bytes_of image a)) c
+    → told_in image (text_of a.area.name) (λ x. extract_region x c.name) ≡ told_component c
 
 -- in an image without a bad finding each area is listed that is checked as a region
 abbrev pub FitImagesAreListed : Type 0
@@ -44,3 +56,26 @@ FitImagesAreExtracted =
     (needs : Bool) (image : List ℕ) (names expected : List (List ℕ))
     → list_any (is_bad needs) (image_findings image names expected) ≡ false
     → All (IsExtracted image) (region_areas (image_findings image names expected))
+
+-- ---- the largest content
+
+-- a content of n bytes at the first place with room; the header and a name of at most 3 bytes with
+-- its NUL have 28 bytes
+abbrev pub content_of : ℕ → Wanted
+content_of n = record { metadata_len = 28; len = n; spot = First }
+
+-- `add` has a place for a content of n bytes in the region
+abbrev pub IsTaken : List ℕ → ℕ → Type 0
+IsTaken x n = is_some (first_place (content_of n) (length x) (runs x)) ≡ true
+
+-- the findings of the region have a largest content of at least n bytes
+pub record IsWithinLargest (x : List ℕ) (n : ℕ) : Type 0 where
+  pub largest : ℕ
+  pub reported : Contains (region_findings x) (LargestContent largest)
+  pub enough : n ≤ largest
+
+-- in a region of a good size with an entry at its start, `add` takes exactly the contents that are
+-- no longer than the largest content of the findings
+abbrev pub LargestContentIsTaken : Type 0
+LargestContentIsTaken =
+    (x : List ℕ) (n : ℕ) → shape_fault x ≡ None → IsTaken x n ↔ IsWithinLargest x n

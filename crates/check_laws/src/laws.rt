@@ -1,26 +1,35 @@
-//! Laws of what is listed where nothing bad is told. These functions do nothing: their contracts are the laws.
-ghost use Rattle.check_laws.specs.Laws.{FitImagesAreExtracted, FitImagesAreListed, FitRegionsAreListed};
+//! Laws about commands on regions and images whose reports have no bad finding, and about `add`.
+//! These functions do nothing: their contracts are the laws.
+ghost use Rattle.check_laws.specs.Laws.{FitImagesAreExtracted, FitImagesAreListed};
+ghost use Rattle.check_laws.specs.Laws.{FitRegionsAreListed, LargestContentIsTaken};
 
 use check_findings::{fit_images_are_whole, fit_regions_are_whole};
 
-/// A listing of a region of which nothing bad is told has the rows of all its cells, and is done.
+/// If a region has no bad finding, `print` lists all its entries and succeeds.
 pub fn fit_regions_are_listed()
     ensures { FitRegionsAreListed }
 {
     fit_regions_are_whole();
 }
 
-/// In an image of which nothing bad is told, `print` is such a listing of each area that was checked as a region, by the
-/// area's name.
+/// If an image has no bad finding, `print` does the same for each checked area, by the area's name.
 pub fn fit_images_are_listed()
     ensures { FitImagesAreListed }
 {
     fit_images_are_whole();
 }
 
-/// There `extract` of each component of such an area, by both names, shows its content, unless that is compressed.
+/// If an image has no bad finding, `extract` returns the content of each component of a checked
+/// area, unless the component is compressed. The area and the component are found by name.
 pub fn fit_images_are_extracted()
     ensures { FitImagesAreExtracted }
 {
     fit_images_are_whole();
 }
+
+/// In a region of a good size with an entry at its start, `add` without `-A`, `-a` and `-b` has a
+/// place for a content, with a name of at most 3 bytes, exactly if the findings report a largest
+/// content of at least this length.
+pub fn largest_content_is_taken()
+    ensures { LargestContentIsTaken }
+{}

@@ -69,7 +69,7 @@ fit_region needs x fit =
     let parts = none_of (is_bad_region needs) (cells_findings [] 0 (cut x).cells) _ told.1 in
     record {
       shaped = told.0;
-      undamaged = undamaged needs x (place_after 0 (cut x).cells) (cut x).end (counts_of (cut x).cells) parts.1;
+      undamaged = undamaged needs x (place_after 0 (cut x).cells) (cut x).end (counts_of (length x) (cut x).cells) parts.1;
       intact = intact needs [] 0 (cut x).cells parts.0;
-      blank = λ is. quiet_tail (is_bad_region needs) (place_after 0 (cut x).cells) x (counts_of (cut x).cells) (λ place. refl) (rw is at parts.1);
+      blank = λ is. quiet_tail (is_bad_region needs) (place_after 0 (cut x).cells) x (counts_of (length x) (cut x).cells) (λ place. refl) (rw is at parts.1);
     }

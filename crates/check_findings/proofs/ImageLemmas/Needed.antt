@@ -1,24 +1,22 @@
 -- The first content of a name among the findings of a region is that of the component that a search finds.
-use Rattle.std.proofs.Common.{◌≡◌, ℕ, ◌+◌, Bool, true, false, cond, List, [], ◌∷◌, ◌++◌, length, Option, Some, None, ◌==◌, ◌-◌, ◌/◌, drop, zero, suc, refl, sym, ap, ap₂, subst, ◌∙◌}
-use Rattle.std.specs.Prelude.{Result, Ok, Err, is_some, not, map, ◌*◌, nat_le, All}
+use Rattle.std.proofs.Common.{◌≡◌, ℕ, ◌+◌, Bool, true, false, cond, List, [], ◌∷◌, ◌++◌, length, Option, Some, None, ◌==◌, refl, sym, ap, ap₂, ◌∙◌}
+use Rattle.std.specs.Prelude.{is_some, not, map, ◌*◌, nat_le, All}
 use Rattle.std.proofs.lemmas.List.Elements.{All-append, All-cons, All-head, All-nil, All-tail, Contains-append_left, Contains-append_right, Contains-push}
-use Rattle.std.specs.List.{find, position_from}
-use Rattle.std.specs.Option.{option_map, option_map_or}
+use Rattle.std.specs.List.{find}
+use Rattle.std.specs.Option.{option_map}
 use Rattle.std.specs.Str.{bytes_eq, is_utf8}
-use Rattle.flash_format.specs.declared.head.Head.{Head}
 use Rattle.flash_format.specs.Head.{head_of, is_free}
-use Rattle.flash_format.specs.Cut.{End, complete, tail, damage, cut}
+use Rattle.flash_format.specs.Cut.{cut}
 use Rattle.flash_format.specs.TypeNames.{name_of_type}
-use Rattle.flash_format.specs.Components.{Component, component_at, components_from, components, cell_name, cell_attributes, cell_content}
-use Rattle.cbfs_walk.specs.Finding.{Found, component_in, first_named, found_or, not_found}
-use Rattle.cbfs_walk.specs.Hashes.{hash_state}
+use Rattle.flash_format.specs.Components.{Component, component_at, components_from, components, cell_name}
+use Rattle.cbfs_walk.specs.Finding.{component_in, first_named}
 use Rattle.cbfs_walk.specs.Shapes.{shape_fault, refused_or}
 use Rattle.cbfs_walk.specs.Shaped.{place_after}
 use Rattle.cbfs_walk.specs.declared.walk.WalkFault.{WalkFault}
 use Rattle.cbfs_walk.specs.declared.walk.WalkFault.TheVariants as walk
-use Rattle.check_findings.specs.Region.Counts.{free_bytes, longest_free}
+use Rattle.check_findings.specs.Region.Counts.{free_bytes, largest_room}
 use Rattle.check_findings.specs.Region.Names.{is_among}
-use Rattle.check_findings.specs.Region.RegionFindings.{begins_with_entry, cell_findings, cells_findings, component_findings, count_findings, counts_of, end_findings, entries_findings, entry_findings, filled_findings, free_findings, is_filled, region_findings, shape_findings, tail_bytes, tail_findings, told_if}
+use Rattle.check_findings.specs.Region.RegionFindings.{cell_findings, cells_findings, component_findings, counts_of, end_findings, free_findings, region_findings, shape_findings, told_if}
 use Rattle.check_findings.specs.declared.region.finding.ComponentFinding.TheVariants as kinds
 use Rattle.flash_format.specs.Flashmap.{is_area}
 use Rattle.check_findings.specs.Image.Needs.{HasContent, Wish, component_content, content_named, first_content, first_of, is_met, unmet, unmet_by, unmet_in}
@@ -34,7 +32,9 @@ use Rattle.check_findings.specs.declared.image.finding.ImageFinding.TheVariants.
 use Rattle.check_findings.specs.declared.image.needs.NeedFinding.TheVariants.{Elsewhere}
 use Rattle.check_findings.specs.declared.region.finding.Content.{Content}
 use Rattle.check_findings.specs.declared.region.finding.RegionFinding.{RegionFinding}
-use Rattle.check_findings.specs.declared.region.finding.RegionFinding.TheVariants.{Components, FreeBytes, LargestFree, NoComponents, TailFilled}
+use Rattle.check_findings.specs.declared.region.finding.RegionFinding.TheVariants.{Deleted}
+use Rattle.check_findings.specs.declared.region.finding.RegionFinding.TheVariants.{Component as OfComponent}
+use Rattle.check_findings.proofs.RegionLemmas.Parts.{Part, IsIn, cell_part, end_part, count_part, of_end, of_counts}
 
 -- ---- lists of findings
 
@@ -111,41 +111,25 @@ of_cells name names at (x ∷ cells) =
 
 of_shape : (name : List ℕ) (fault : WalkFault) → first_content name (shape_findings fault) ≡ None
 of_shape name walk.RegionShape = refl
-of_shape name walk.NotCbfs = refl
-of_shape name walk.Device = refl
-of_shape name (walk.Damaged at kind) = refl
+of_shape name other = refl
 
-of_entries : (name : List ℕ) (n at : ℕ) (x : List ℕ) → first_content name (entries_findings n at x) ≡ None
-unfolding entries_findings
-of_entries name zero at x = refl
-of_entries name (suc n) at x =
-    passed name (entry_findings at x) _ (quiet name _ refl (begins_with_entry (drop at x))) ∙ of_entries name n (at + 64) x
+-- a finding that is of no cell has no content
+no_content : (name : List ℕ) (f : RegionFinding) → (IsIn cell_part f → ⊥) → content_named name f ≡ None
+no_content name (OfComponent at other what) elsewhere = absurd (elsewhere refl)
+no_content name (Deleted at) elsewhere = refl
+no_content name other elsewhere = refl
 
-of_tail : (name : List ℕ) (at : ℕ) (x : List ℕ) → first_content name (tail_findings at x) ≡ None
-unfolding tail_findings
-of_tail name at x = passed name (filled_findings at x) _ (go (position_from is_filled at (tail_bytes at x))) ∙ of_entries name ((length x - at) / 64) at x
-  where
-    go : (o : Option ℕ) → first_content name (option_map_or (λ place. TailFilled place ∷ []) o []) ≡ None
-    go None = refl
-    go (Some place) = refl
-
-of_end : (name : List ℕ) (x : List ℕ) (at : ℕ) (end : End) → first_content name (end_findings x at end) ≡ None
-of_end name x at complete = refl
-of_end name x at tail = of_tail name at x
-of_end name x at (damage kind) = refl
-
-of_counts : (name : List ℕ) (components free longest : ℕ) → first_content name (count_findings components free longest) ≡ None
-of_counts name components free longest = go (components == 0)
-  where
-    go : (b : Bool) → first_content name (cond b NoComponents (Components components) ∷ FreeBytes free ∷ LargestFree longest ∷ []) ≡ None
-    go true = refl
-    go false = refl
+none_among : (name : List ℕ) (part : Part) (l : List RegionFinding) → (part ≡ cell_part → ⊥) → All (IsIn part) l → first_content name l ≡ None
+none_among name part [] other all = refl
+none_among name part (f ∷ l) other all =
+    ap (λ o. first_of o (first_content name l)) (no_content name f (λ here. other (sym (All-head (IsIn part) f l all) ∙ here)))
+    ∙ none_among name part l other (All-tail (IsIn part) f l all)
 
 -- the findings after those of the cells have no content
-of_last : (name x : List ℕ) → first_content name (end_findings x (place_after 0 (cut x).cells) (cut x).end ++ counts_of (cut x).cells) ≡ None
+of_last : (name x : List ℕ) → first_content name (end_findings x (place_after 0 (cut x).cells) (cut x).end ++ counts_of (length x) (cut x).cells) ≡ None
 of_last name x =
-    passed name (end_findings x (place_after 0 (cut x).cells) (cut x).end) _ (of_end name x (place_after 0 (cut x).cells) (cut x).end)
-    ∙ of_counts name (length (components_from 0 (cut x).cells)) (free_bytes (cut x).cells) (longest_free 0 (cut x).cells)
+    passed name (end_findings x (place_after 0 (cut x).cells) (cut x).end) _ (none_among name end_part (end_findings x (place_after 0 (cut x).cells) (cut x).end) (λ e. cc) (of_end x (place_after 0 (cut x).cells) (cut x).end))
+    ∙ none_among name count_part (counts_of (length x) (cut x).cells) (λ e. cc) (of_counts (length (components_from 0 (cut x).cells)) (free_bytes (cut x).cells) (largest_room (length x) 0 0 (cut x).cells))
 
 first_of-none : (o : Option Content) → first_of o None ≡ o
 first_of-none None = refl
@@ -156,11 +140,11 @@ pub has_content : (x name : List ℕ) (content : Content) → first_content name
 unfolding region_findings component_in
 has_content x name content is = go (shape_fault x) refl is
   where
-    cells : List RegionFinding
-    cells = cells_findings [] 0 (cut x).cells
+    of_components : List RegionFinding
+    of_components = cells_findings [] 0 (cut x).cells
 
     last : List RegionFinding
-    last = end_findings x (place_after 0 (cut x).cells) (cut x).end ++ counts_of (cut x).cells
+    last = end_findings x (place_after 0 (cut x).cells) (cut x).end ++ counts_of (length x) (cut x).cells
 
     listed : (o : Option Component) → option_map component_content o ≡ Some content → first_named name (components x) ≡ o → shape_fault x ≡ None → HasContent x name content
     listed None e here good = absurd cc
@@ -170,12 +154,12 @@ has_content x name content is = go (shape_fault x) refl is
       is = cc;
     }
 
-    go : (o : Option WalkFault) → shape_fault x ≡ o → first_content name (refused_or shape_findings o (cells ++ last)) ≡ Some content → HasContent x name content
+    go : (o : Option WalkFault) → shape_fault x ≡ o → first_content name (refused_or shape_findings o (of_components ++ last)) ≡ Some content → HasContent x name content
     go (Some fault) bad e = absurd (let none = of_shape name fault in cc)
     go None good e =
         listed (first_named name (components x))
-        (sym (of_cells name [] 0 (cut x).cells) ∙ sym (first_of-none (first_content name cells))
-        ∙ ap (first_of (first_content name cells)) (sym (of_last name x)) ∙ sym (first_content-append name cells last) ∙ e)
+        (sym (of_cells name [] 0 (cut x).cells) ∙ sym (first_of-none (first_content name of_components))
+        ∙ ap (first_of (first_content name of_components)) (sym (of_last name x)) ∙ sym (first_content-append name of_components last) ∙ e)
         refl good
 
 -- ---- an image
@@ -183,9 +167,7 @@ has_content x name content is = go (shape_fault x) refl is
 -- a region's findings are those of its bytes
 IsOf : List ℕ → ImageFinding → Type 0
 IsOf image (Region a findings) = findings ≡ region_findings (bytes_of image a)
-IsOf image (Map finding) = Unit {0}
-IsOf image (NotChecked a named) = Unit {0}
-IsOf image (NoArea number) = Unit {0}
+IsOf image other = Unit {0}
 
 module _ (image : List ℕ) where
   of_map : (told : List MapFinding) → All (IsOf image) (map Map told)
@@ -264,12 +246,10 @@ module _ (image : List ℕ) (wish : Wish) where
   met : (findings : List ImageFinding) → All (IsOf image) findings → unmet findings wish ≡ None → IsMet image (region_areas findings) wish
   unfolding IsOf
   met [] each none = absurd cc
-  met (Map finding ∷ findings) each none = met findings (All-tail (IsOf image) _ findings each) none
-  met (NotChecked a named ∷ findings) each none = met findings (All-tail (IsOf image) _ findings each) none
-  met (NoArea number ∷ findings) each none = met findings (All-tail (IsOf image) _ findings each) none
   met (Region a of_region ∷ findings) each none =
       met_in a of_region findings (All-head (IsOf image) (Region a of_region) findings each)
       (met findings (All-tail (IsOf image) (Region a of_region) findings each)) (is_area wish.area a.area) refl none
+  met (other ∷ findings) each none = met findings (All-tail (IsOf image) other findings each) none
 
 pub needs_met : NeedsAreThere
 needs_met image names expected wish none = met image wish (image_findings image names expected) (of_image image names expected) none

@@ -1,5 +1,5 @@
 -- The areas that are checked, one by one, and the whole of what is found.
-use Rattle.std.proofs.Common.{◌≡◌, ◌∙◌, ℕ, ◌+◌, ◌-◌, ◌*◌, ◌<◌, ◌≤◌, Bool, true, false, cond, All, List, [], ◌∷◌, ◌++◌, length, get_or, drop, nat_le, refl, sym, ap, subst, arith, add-one, append_assoc, append-nil, drop-cons, length-append}
+use Rattle.std.proofs.Common.{◌≡◌, ◌∙◌, ℕ, ◌+◌, ◌-◌, ◌*◌, ◌<◌, ◌≤◌, Bool, true, false, cond, List, [], ◌∷◌, ◌++◌, length, get_or, drop, nat_le, refl, sym, ap, arith, add-one, append_assoc, append-nil, drop-cons, length-append}
 use Rattle.std.specs.Prelude.{filter, map, is_some}
 use Rattle.std.specs.List.{find}
 use Rattle.std.proofs.Math.Seq.{drop-length}

@@ -1,5 +1,5 @@
 -- What a check has told so far, and what the rest of a region tells.
-use Rattle.std.proofs.Common.{◌≡◌, ℕ, ◌+◌, ◌/◌, ◌%◌, ◌≤◌, ◌⊎◌, inl, inr, Bool, true, false, cond, IsTrue, drop, List, [], ◌∷◌, ◌++◌, length, Option, Some, None, Result, Ok, Err, Vec, Global, refl, sym, ap, subst, ◌∙◌, arith, append_assoc}
+use Rattle.std.proofs.Common.{◌≡◌, ℕ, ◌+◌, ◌*◌, ◌/◌, ◌%◌, ◌≤◌, ◌⊎◌, inl, inr, Bool, true, false, cond, IsTrue, drop, List, [], ◌∷◌, ◌++◌, length, Option, Some, None, Result, Ok, Err, Vec, Global, refl, sym, ap, subst, ◌∙◌, arith, append_assoc}
 use Rattle.std.specs.Prelude.{◌==◌, IsErrOf, IfOk}
 use mathlib.Core.Path.{fun_ext}
 use Rattle.flash_format.specs.Cut.{Cut, End, after, cut}
@@ -42,7 +42,7 @@ tell_cut : List ℕ → ℕ → Cut → Told → Count → List RegionFinding
 tell_cut bytes at k t n = t.findings ++ (cells_findings t.names at k.cells ++ last bytes k.end (place_after at k.cells) (count_all n at k.cells))
 
 tell_cell : List ℕ → Cell → (Told → Count → List RegionFinding) → Told → Count → List RegionFinding
-tell_cell x given later t n = later (told_cell t given.at x) (count_after n (is_free given.head) given.span)
+tell_cell x given later t n = later (told_cell t given.at x) (count_after n (is_free given.head) given.at given.span)
 
 tell_fault : WalkFault → Told → Count → List RegionFinding
 tell_fault fault t n = t.findings ++ shape_findings fault
@@ -51,10 +51,10 @@ joined : (told here later end : List RegionFinding) → told ++ ((here ++ later)
 joined told here later end = ap (λ (l : List RegionFinding). told ++ l) (append_assoc here later end) ∙ sym (append_assoc told here (later ++ end))
 
 cell_more : (bytes : List ℕ) (at : ℕ) (x : List ℕ) (k : Cut) (t : Told) (n : Count)
-    → tell_cut bytes at (after (x ∷ []) k) t n ≡ tell_cut bytes (at + length x) k (told_cell t at x) (count_after n (is_free (head_of x)) (length x))
+    → tell_cut bytes at (after (x ∷ []) k) t n ≡ tell_cut bytes (at + length x) k (told_cell t at x) (count_after n (is_free (head_of x)) at (length x))
 unfolding tell_cut cells_findings last
 cell_more bytes at x k t n =
-    let next = count_after n (is_free (head_of x)) (length x) in
+    let next = count_after n (is_free (head_of x)) at (length x) in
     ap (λ (m : List RegionFinding). t.findings ++ ((cell_findings t.names at x ++ cells_findings (names_after t.names x) (at + length x) k.cells) ++ last bytes k.end (place_after (at + length x) k.cells) m)) (count_more n at x k.cells)
     ∙ joined t.findings (cell_findings t.names at x) (cells_findings (names_after t.names x) (at + length x) k.cells) (last bytes k.end (place_after (at + length x) k.cells) (count_all next (at + length x) k.cells))
 
@@ -66,15 +66,15 @@ law bytes at x k = fun_ext (λ (t : Told). fun_ext (λ (n : Count). cell_more by
 pub told_from : List ℕ → Told → Count → ℕ → List RegionFinding
 told_from x t n at = reading_of tell_fault (tell_cut x) x at t n
 
-whole_counts : (x : List ℕ) → (cells_findings [] 0 (cut x).cells ++ last x (cut x).end (place_after 0 (cut x).cells) (counts_of (cut x).cells)) ≡ tell_cut x 0 (cut x) told_nothing nothing
+whole_counts : (x : List ℕ) → (cells_findings [] 0 (cut x).cells ++ last x (cut x).end (place_after 0 (cut x).cells) (counts_of (length x) (cut x).cells)) ≡ tell_cut x 0 (cut x) told_nothing (nothing (length x))
 unfolding tell_cut last
-whole_counts x = ap (λ (m : List RegionFinding). cells_findings [] 0 (cut x).cells ++ last x (cut x).end (place_after 0 (cut x).cells) m) (sym (count_whole (cut x).cells))
+whole_counts x = ap (λ (m : List RegionFinding). cells_findings [] 0 (cut x).cells ++ last x (cut x).end (place_after 0 (cut x).cells) m) (sym (count_whole (length x) (cut x).cells))
 
-told_whole : (x : List ℕ) → region_findings x ≡ told_from x told_nothing nothing 0
+told_whole : (x : List ℕ) → region_findings x ≡ told_from x told_nothing (nothing (length x)) 0
 unfolding told_from tell_fault region_findings reading_of last
 told_whole x = go (shape_fault x)
   where
-    go : (o : Option WalkFault) → refused_or shape_findings o (cells_findings [] 0 (cut x).cells ++ last x (cut x).end (place_after 0 (cut x).cells) (counts_of (cut x).cells)) ≡ refused_or tell_fault o (tell_cut x 0 (cut x)) told_nothing nothing
+    go : (o : Option WalkFault) → refused_or shape_findings o (cells_findings [] 0 (cut x).cells ++ last x (cut x).end (place_after 0 (cut x).cells) (counts_of (length x) (cut x).cells)) ≡ refused_or tell_fault o (tell_cut x 0 (cut x)) told_nothing (nothing (length x))
     go None = whole_counts x
     go (Some fault) = refl
 
@@ -86,11 +86,11 @@ told_step : (x : List ℕ) (t : Told) (n : Count) (at : ℕ) → at ≤ length x
 unfolding told_from told_by
 told_step x t n at inside aligned = ap (λ (f : Told → Count → List RegionFinding). f t n) (shaped_step tell_fault (tell_cut x) tell_cell (law x) x at inside aligned)
 
-told_end : (x : List ℕ) (t : Told) (n : Count) → told_by x t n (Ok steps.End) ≡ t.findings ++ findings.Complete ∷ counted n
+told_end : (x : List ℕ) (t : Told) (n : Count) → told_by x t n (Ok steps.End) ≡ t.findings ++ findings.Complete ∷ counted n (length x)
 unfolding told_by tell_cut cells_findings last
 told_end x t n = ap (λ m. t.findings ++ findings.Complete ∷ m) (count_none n (length x))
 
-told_tail : (x : List ℕ) (t : Told) (n : Count) (at : ℕ) → told_by x t n (Ok (steps.Tail at)) ≡ t.findings ++ (tail_findings at x ++ counted n)
+told_tail : (x : List ℕ) (t : Told) (n : Count) (at : ℕ) → told_by x t n (Ok (steps.Tail at)) ≡ t.findings ++ (tail_findings at x ++ counted n at)
 unfolding told_by tell_cut cells_findings last
 told_tail x t n at = ap (λ m. t.findings ++ (tail_findings at x ++ m)) (count_none n at)
 
@@ -125,16 +125,16 @@ pub record Checking {F : Type 0} (facts : F → Device) (r : Range) (w : Walking
   pub before : IsCountBefore w.at count
   pub so_far : IsTrue (facts old.device).honest → (t : Told) × HasTold report t × (region_findings (bytes_in r (facts old.device).content) ≡ told_from (bytes_in r (facts old.device).content) t count w.at)
 
-pub checking_start : {F : Type 0} (facts : F → Device) (r : Range) (report : Report) (old : Pages F) → report.findings.items ≡ [] → report.names.keys ≡ []
-    → Checking facts r (walk_of r) report nothing old old
-checking_start facts r report old none unnamed = record {
+pub checking_start : {F : Type 0} (facts : F → Device) (r : Range) (report : Report) (old : Pages F) → LiesIn r (facts old.device).content → report.findings.items ≡ [] → report.names.keys ≡ []
+    → Checking facts r (walk_of r) report (nothing r.size) old old
+checking_start facts r report old lies none unnamed = record {
   region = refl;
   going = refl;
   inside = omega arith;
   aligned = refl;
   read = HasRead-within facts 0 (0 / 16) 0 old old (omega arith) (HasRead-none facts old);
-  before = record { components = omega arith; free = omega arith; row = omega arith };
-  so_far = λ h. (told_nothing, (none, rw unnamed (λ q. refl)), told_whole (bytes_in r (facts old.device).content));
+  before = record { components = omega arith; free = omega arith };
+  so_far = λ h. (told_nothing, (none, rw unnamed (λ q. refl)), told_whole (bytes_in r (facts old.device).content) ∙ ap (λ n. told_from (bytes_in r (facts old.device).content) told_nothing (nothing n) 0) (length-bytes_in r (facts old.device).content lies));
 }
 
 -- a step is no fault of the device
@@ -163,10 +163,10 @@ module _ {F : Type 0} (facts : F → Device) (r : Range) (w : Walking) (report :
 
   -- a cell is told
   pub checking_more : (c : Cell) (v : Walking) (next : Report) (more : Count) (mid new : Pages F) (n m : ℕ) → IsCellIn w.region.size c × (c.at ≡ w.at)
-      → HasRead facts n 0 now mid → n ≡ reads_over c.span → HasRead facts m 0 mid new → m ≡ 2 + c.span / 3840
+      → HasRead facts n 0 now mid → n ≡ reads_over c.span → HasRead facts m 0 mid new → m ≡ 3 + 2 * (c.span / 3840)
       → Answers (Ok (steps.Cell c))
       → v ≡ record w { at = w.at + c.span; steps = w.steps + 1 }
-      → IsCountBefore (c.at + c.span) more → more ≡ count_after count (is_free c.head) c.span
+      → IsCountBefore (c.at + c.span) more → more ≡ count_after count (is_free c.head) c.at c.span
       → (IsTrue (facts mid.device).honest → StandsIn (bytes_in r (facts mid.device).content) c → (t : Told) → HasTold report t → HasTold next (told_cell t c.at (cell_in (bytes_in r (facts mid.device).content) c)))
       → Checking facts r v next more old new
   unfolding told_by tell_cell told_from
@@ -185,7 +185,7 @@ module _ {F : Type 0} (facts : F → Device) (r : Range) (w : Walking) (report :
         let t = told.1.0 in (
           told_cell t c.at (cell_in x c),
           (rw same at (tells (honest_still reads.device.calls.same_honesty k))) stands t told.1.1,
-          told.1.2 ∙ ap (λ p. told_from x (told_cell t c.at (cell_in x c)) (count_after count (is_free c.head) c.span) (p + c.span)) given.1
+          told.1.2 ∙ ap (λ p. told_from x (told_cell t c.at (cell_in x c)) (count_after count (is_free c.head) c.at c.span) (p + c.span)) given.1
               ∙ ap (λ (n : Count). told_from x (told_cell t c.at (cell_in x c)) n (w.at + c.span)) (sym is_more),
         );
   })
@@ -195,13 +195,14 @@ module _ {F : Type 0} (facts : F → Device) (r : Range) (w : Walking) (report :
 
   -- ---- the walk ended
 
-  pub checking_end : Answers (Ok steps.End) → IsTrue (facts old.device).honest → report.findings.items ++ findings.Complete ∷ counted count ≡ region_findings x
-  checking_end answer h =
+  pub checking_end : (here : ℕ) → Answers (Ok steps.End) → here ≡ r.size → IsTrue (facts old.device).honest → report.findings.items ++ findings.Complete ∷ counted count here ≡ region_findings x
+  checking_end here answer place h =
       let told = (step_answered steps.End answer h).1 in
-      ap (λ l. l ++ findings.Complete ∷ counted count) told.1.0 ∙ sym (told.2 ∙ told_end x told.0 count)
+      let same : here ≡ length x = place ∙ sym (length-bytes_in r (facts old.device).content lies) in
+      ap (λ l. l ++ findings.Complete ∷ counted count here) told.1.0 ∙ ap (λ p. told.0.findings ++ findings.Complete ∷ counted count p) same ∙ sym (told.2 ∙ told_end x told.0 count)
 
   pub checking_tail : (at here n : ℕ) (mid : Pages F) (tailed : List RegionFinding) → Answers (Ok (steps.Tail at)) → here ≡ w.at → HasRead facts n 0 now mid
-      → (IsTrue (facts mid.device).honest → tailed ≡ report.findings.items ++ tail_findings here (bytes_in r (facts mid.device).content)) → IsTrue (facts old.device).honest → tailed ++ counted count ≡ region_findings x
+      → (IsTrue (facts mid.device).honest → tailed ≡ report.findings.items ++ tail_findings here (bytes_in r (facts mid.device).content)) → IsTrue (facts old.device).honest → tailed ++ counted count here ≡ region_findings x
   checking_tail at here n mid tailed answer place reads tells h =
       let known = step_answered (steps.Tail at) answer h in
       let told = known.1 in
@@ -209,8 +210,9 @@ module _ {F : Type 0} (facts : F → Device) (r : Range) (w : Walking) (report :
       let content : (facts mid.device).content ≡ (facts old.device).content = reads.device.unchanged k ∙ i.read.device.unchanged h in
       let is : tailed ≡ report.findings.items ++ tail_findings here x = (rw content at (tells (honest_still reads.device.calls.same_honesty k))) in
       let same : here ≡ at = place ∙ sym (tail_place x w.at at known.0) in
-      ap (λ l. l ++ counted count) (is ∙ ap (λ p. report.findings.items ++ tail_findings p x) same ∙ ap (λ l. l ++ tail_findings at x) told.1.0)
-      ∙ append_assoc told.0.findings (tail_findings at x) (counted count) ∙ sym (told.2 ∙ told_tail x told.0 count at)
+      ap (λ l. l ++ counted count here) (is ∙ ap (λ p. report.findings.items ++ tail_findings p x) same ∙ ap (λ l. l ++ tail_findings at x) told.1.0)
+      ∙ ap (λ p. (told.0.findings ++ tail_findings at x) ++ counted count p) same
+      ∙ append_assoc told.0.findings (tail_findings at x) (counted count at) ∙ sym (told.2 ∙ told_tail x told.0 count at)
 
   checking_fault : (fault : WalkFault) → (fault ≡ walk.Device → ⊥) → Answers (Err fault) → IsTrue (facts old.device).honest → refused_findings report.findings.items count fault ≡ region_findings x
   checking_fault fault other answer h = go (answer (honest_still i.read.device.calls.same_honesty h) i.going)

@@ -7,28 +7,28 @@ use Rattle.check_findings.specs.declared.region.count.Count.{Count}
 use Rattle.check_findings.specs.declared.region.finding.RegionFinding.{RegionFinding}
 use Rattle.check_findings.specs.Region.RegionFindings.{count_findings, counts_of}
 use Rattle.check_findings.specs.Region.Reports.{counted}
-use Rattle.check_findings.specs.Region.Counts.{free_bytes, longest_free, nothing, count_after}
+use Rattle.check_findings.specs.Region.Counts.{free_bytes, largest_room, nothing, count_after, usable}
 
 -- what is told of the counts after cells of which the first stands at a place
 abbrev pub count_all : Count → ℕ → List (List ℕ) → List RegionFinding
-count_all n at cells = count_findings (n.components + length (components_from at cells)) (n.free + free_bytes cells) (max n.longest_free (longest_free n.row cells))
+count_all n at cells = count_findings (n.components + length (components_from at cells)) (n.free + free_bytes cells) (max n.room (largest_room n.size n.start at cells))
 
 counts_are : (c d f g l m : ℕ) → c ≡ d → f ≡ g → l ≡ m → count_findings c f l ≡ count_findings d g m
 counts_are c d f g l m p q r = rw (p, q, r) refl
 
-pub count_more : (n : Count) (at : ℕ) (x : List ℕ) (cells : List (List ℕ)) → count_all n at (x ∷ cells) ≡ count_all (count_after n (is_free (head_of x)) (length x)) (at + length x) cells
-unfolding components_from free_bytes longest_free
+pub count_more : (n : Count) (at : ℕ) (x : List ℕ) (cells : List (List ℕ)) → count_all n at (x ∷ cells) ≡ count_all (count_after n (is_free (head_of x)) at (length x)) (at + length x) cells
+unfolding components_from free_bytes largest_room
 count_more n at x cells = go (is_free (head_of x))
   where
     go : (free : Bool) → count_findings (n.components + length (cond free (components_from (at + length x) cells) (component_at at x ∷ components_from (at + length x) cells)))
         (n.free + cond free (length x + free_bytes cells) (free_bytes cells))
-        (max n.longest_free (cond free (max (n.row + length x) (longest_free (n.row + length x) cells)) (longest_free 0 cells))) ≡ count_all (count_after n free (length x)) (at + length x) cells
-    go true = counts_are _ _ _ _ _ _ refl (omega arith) (omega arith)
-    go false = counts_are _ _ _ _ _ _ (omega arith) refl refl
+        (max n.room (cond free (largest_room n.size n.start (at + length x) cells) (max (usable n.size n.start at) (largest_room n.size (at + length x) (at + length x) cells)))) ≡ count_all (count_after n free at (length x)) (at + length x) cells
+    go true = counts_are _ _ _ _ _ _ refl (omega arith) refl
+    go false = counts_are _ _ _ _ _ _ (omega arith) refl (omega arith)
 
-pub count_none : (n : Count) (at : ℕ) → count_all n at [] ≡ counted n
-unfolding components_from free_bytes longest_free
-count_none n at = counts_are _ _ _ _ _ _ (omega arith) (omega arith) (omega arith)
+pub count_none : (n : Count) (at : ℕ) → count_all n at [] ≡ counted n at
+unfolding components_from free_bytes largest_room
+count_none n at = counts_are _ _ _ _ _ _ (omega arith) (omega arith) refl
 
-pub count_whole : (cells : List (List ℕ)) → count_all nothing 0 cells ≡ counts_of cells
-count_whole cells = counts_are _ _ _ _ _ _ (omega arith) (omega arith) (omega arith)
+pub count_whole : (size : ℕ) (cells : List (List ℕ)) → count_all (nothing size) 0 cells ≡ counts_of size cells
+count_whole size cells = counts_are _ _ _ _ _ _ (omega arith) (omega arith) (omega arith)

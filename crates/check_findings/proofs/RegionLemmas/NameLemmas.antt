@@ -1,9 +1,7 @@
 -- The names of components.
-use Rattle.std.proofs.Common.{◌≡◌, ℕ, Bool, true, false, cond, ◌||◌, List, ◌∷◌, Vec, Global, Result, Ok, Err, refl, sym, ap, ◌∙◌}
+use Rattle.std.proofs.Common.{◌≡◌, ℕ, Bool, true, false, cond, ◌||◌, List, ◌∷◌, Vec, Global, refl, sym, ap, ◌∙◌}
 use Rattle.std.proofs.lemmas.Slice.Eq.{bytes_eq-Decides}
-use Rattle.std.specs.Result.{MatchResult, is_ok}
-use Rattle.std.proofs.lemmas.Str.{IsUtf8-from_is_utf8, is_utf8-from_IsUtf8}
-use Rattle.std.specs.Str.{IsUtf8, bytes_eq, is_utf8}
+use Rattle.std.specs.Str.{bytes_eq}
 use Rattle.std.specs.HashSet.{HashSet, Updates}
 use Rattle.std.specs.Set.{KeepsOthers}
 use Rattle.std.specs.Cmp.Lexicographic.{nat_list_eq_equiv}
@@ -28,12 +26,3 @@ module _ {S : Type 0} (x : Key) (old now : HashSet Key S) (updates : Updates (λ
   names_added name names is before = λ q.
       has-more q (bytes_eq q name) (nat_list_eq_equiv.symm x.items q ∙ ap (bytes_eq q) is)
       ∙ or-cond (bytes_eq q name) (has q old.keys) (is_among q names) (before q)
-
--- whether a name was read as text
-pub text_is : {T E : Type 0} (P : T → Type 0) (Q : E → Type 0) (name : List ℕ) (read : Result T E) → MatchResult read (λ s. P s × IsUtf8 name) (λ e. (IsUtf8 name → ⊥) × Q e) → is_ok read ≡ is_utf8 name
-text_is P Q name (Ok s) cases = sym (is_utf8-from_IsUtf8 name cases.1)
-text_is P Q name (Err fault) cases = go (is_utf8 name) refl
-  where
-    go : (b : Bool) → is_utf8 name ≡ b → false ≡ b
-    go true e = absurd (cases.0 (IsUtf8-from_is_utf8 name e))
-    go false e = refl

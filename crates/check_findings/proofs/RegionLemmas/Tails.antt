@@ -13,13 +13,12 @@ use Rattle.flash_device.specs.Pages.{Pages, HasRead}
 use Rattle.flash_device.specs.Regions.{LiesIn, Range, bytes_in}
 use Rattle.flash_device.proofs.CopyLemmas.{HasRead-piece, slice_range-join}
 use Rattle.flash_device.proofs.DeviceLemmas.{honest_still}
-use Rattle.flash_device.proofs.WindowLemmas.{HasRead-none, HasRead-then, HasRead-within}
+use Rattle.flash_device.proofs.WindowLemmas.{HasRead-none, HasRead-within}
 use Rattle.cbfs_walk.proofs.Parts.{length-range, length-region, part-in}
 use Rattle.check_findings.specs.Region.Laws.{BlankTailsAreKnown, IsBlankTail}
 use Rattle.check_findings.specs.Region.RegionFindings.{begins_with_entry, is_filled, tail_bytes, filled_findings, entry_findings, entries_findings, tail_findings}
 use Rattle.check_findings.specs.declared.region.finding.RegionFinding.{RegionFinding}
 use Rattle.check_findings.specs.declared.region.finding.RegionFinding.TheVariants as findings
-use Rattle.check_findings.specs.declared.region.report.Report.{Report}
 
 -- ---- the first filled byte
 
@@ -129,43 +128,19 @@ seeking_none facts r at end place old now lies s is_end over h =
 
 -- ---- entries
 
--- the entries of a tail are told up to a place
-pub record Listing {F : Type 0} (facts : F → Device) (r : Range) (at place : ℕ) (before report : Report) (old now : Pages F) : Type 0 where
-  pub low : at ≤ place
-  pub inside : place ≤ r.size
-  pub whole : (place - at) % 64 ≡ 0
-  pub read : HasRead facts ((place - at) / 64) 0 old now
-  pub so_far : IsTrue (facts old.device).honest → (let x = bytes_in r (facts old.device).content in
-      report.findings.items ++ entries_findings ((length x - place) / 64) place x ≡ before.findings.items ++ entries_findings ((length x - at) / 64) at x)
-
-one_line : (x : List ℕ) (place : ℕ) → place + 64 ≤ length x → entries_findings ((length x - place) / 64) place x ≡ entry_findings place x ++ entries_findings ((length x - (place + 64)) / 64) (place + 64) x
+-- after the entry at one place the rest is that of the next one
+pub entries_more : (x : List ℕ) (n i at : ℕ) (here next all : List RegionFinding) → i < n → next ≡ here ++ entry_findings (at + 64 * i) x
+    → here ++ entries_findings (n - i) (at + 64 * i) x ≡ all → next ++ entries_findings (n - (i + 1)) (at + 64 * (i + 1)) x ≡ all
 unfolding entries_findings
-one_line x place fits = ap (λ n. entries_findings n place x) {y = suc ((length x - (place + 64)) / 64)} (omega (arith, fits))
+entries_more x n i at here next all more is so_far =
+    let later = entries_findings (n - (i + 1)) (at + 64 * i + 64) x in
+    ap (λ p. next ++ entries_findings (n - (i + 1)) p x) (omega arith) ∙ ap (λ (l : List RegionFinding). l ++ later) is ∙ append_assoc here (entry_findings (at + 64 * i) x) later
+    ∙ ap (λ m. here ++ entries_findings m (at + 64 * i) x) {x = suc (n - (i + 1))} {y = n - i} (omega (arith, more)) ∙ so_far
 
-pub listing_more : {F : Type 0} (facts : F → Device) (r : Range) (at place : ℕ) (before report next : Report) (old now new : Pages F) → LiesIn r (facts old.device).content
-    → Listing facts r at place before report old now → place + 64 ≤ r.size → HasRead facts 1 0 now new
-    → (IsTrue (facts now.device).honest → next.findings.items ≡ report.findings.items ++ entry_findings place (bytes_in r (facts now.device).content)) → Listing facts r at (place + 64) before next old new
-listing_more facts r at place before report next old now new lies s fits read told = record {
-  low = omega (arith, s.low);
-  inside = fits;
-  whole = omega (arith, s.whole, s.low);
-  read = HasRead-within facts ((place - at) / 64 + 1) ((place + 64 - at) / 64) 0 old new (omega (arith, s.low)) (HasRead-then facts ((place - at) / 64) 1 0 old now new s.read read);
-  so_far = λ h.
-      let x = bytes_in r (facts old.device).content in
-      let later = entries_findings ((length x - (place + 64)) / 64) (place + 64) x in
-      let here = told (honest_still s.read.device.calls.same_honesty h) ∙ ap (λ image. report.findings.items ++ entry_findings place (bytes_in r image)) (s.read.device.unchanged h) in
-      ap (λ (l : List RegionFinding). l ++ later) here ∙ append_assoc report.findings.items (entry_findings place x) later
-      ∙ ap (λ (l : List RegionFinding). report.findings.items ++ l) (sym (one_line x place (omega (arith, length-region r (facts old.device).content lies, fits)))) ∙ s.so_far h;
-}
-
-pub listing_done : {F : Type 0} (facts : F → Device) (r : Range) (at place : ℕ) (before report : Report) (old now : Pages F) → LiesIn r (facts old.device).content
-    → Listing facts r at place before report old now → r.size - place < 64
-    → IsTrue (facts old.device).honest → report.findings.items ≡ before.findings.items ++ entries_findings ((length (bytes_in r (facts old.device).content) - at) / 64) at (bytes_in r (facts old.device).content)
+pub entries_done : (x : List ℕ) (n i at : ℕ) (here all : List RegionFinding) → n ≤ i → here ++ entries_findings (n - i) (at + 64 * i) x ≡ all → here ≡ all
 unfolding entries_findings
-listing_done facts r at place before report old now lies s over h =
-    sym (append-nil report.findings.items)
-    ∙ ap (λ n. report.findings.items ++ entries_findings n place (bytes_in r (facts old.device).content)) {x = 0} {y = (length (bytes_in r (facts old.device).content) - place) / 64} (omega (arith, over, length-region r (facts old.device).content lies))
-    ∙ s.so_far h
+entries_done x n i at here all over so_far =
+    sym (append-nil here) ∙ ap (λ m. here ++ entries_findings m (at + 64 * i) x) {x = 0} {y = n - i} (omega (arith, over)) ∙ so_far
 
 -- ---- a blank tail
 

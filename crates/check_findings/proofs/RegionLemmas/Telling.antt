@@ -1,15 +1,15 @@
 -- What is told of one cell more.
-use Rattle.std.proofs.Common.{◌≡◌, ℕ, Bool, true, false, not, List, [], ◌∷◌, ◌++◌, Ok, refl, sym, ap, subst, ◌∙◌, append_assoc}
+use Rattle.std.proofs.Common.{◌≡◌, ℕ, Bool, true, false, not, List, [], ◌∷◌, ◌++◌, Ok, refl, sym, ap, ◌∙◌, append_assoc}
 use Rattle.std.specs.Prelude.{is_some}
 use Rattle.std.specs.Str.{is_utf8}
 use Rattle.flash_format.specs.TypeNames.{name_of_type}
 use Rattle.flash_format.specs.declared.head.Head.{Head}
 use Rattle.flash_format.specs.Head.{head_of, is_free}
-use Rattle.flash_format.specs.Components.{cell_name, cell_attributes, cell_content}
+use Rattle.flash_format.specs.Components.{cell_name, cell_attributes, cell_content, packing}
 use Rattle.cbfs_walk.specs.Hashes.{hash_state}
 use Rattle.cbfs_walk.specs.declared.hashes.HashState.{HashState}
 use Rattle.check_findings.specs.Region.Names.{HasNames, is_among}
-use Rattle.check_findings.specs.Region.RegionFindings.{content_of, told_if, named_findings, component_findings}
+use Rattle.check_findings.specs.Region.RegionFindings.{content_of, told_if, named_findings}
 use Rattle.check_findings.specs.Region.Reports.{Told, HasTold, AddsFindings, told_component, told_cell}
 use Rattle.check_findings.specs.declared.region.finding.Content.{Content}
 use Rattle.check_findings.specs.declared.region.finding.RegionFinding.{RegionFinding}
@@ -18,17 +18,11 @@ use Rattle.check_findings.specs.declared.region.finding.ComponentFinding.TheVari
 use Rattle.check_findings.specs.declared.region.report.Report.{Report}
 
 -- a component's name, type and content are those of its cell
-pub cell_told : (new : Report) (at : ℕ) (x name : List ℕ) (head : Head) (state : HashState) (t : Told)
-    → is_free head ≡ false → name ≡ cell_name x → head_of x ≡ head → state ≡ hash_state (cell_attributes x) (cell_content x)
-    → HasTold new (told_component t name (named_findings t.names at name (content_of at head state))) → HasTold new (told_cell t at x)
-cell_told new at x name head state t used is_name is_head is_state told =
-    let digest = hash_state (cell_attributes x) (cell_content x) in
-    let whole : HasTold new (told_component t (cell_name x) (component_findings t.names at x)) =
-    subst (λ (n : List ℕ). HasTold new (told_component t n (named_findings t.names at n (content_of at (head_of x) digest)))) is_name
-    (subst (λ (h : Head). HasTold new (told_component t name (named_findings t.names at name (content_of at h digest)))) (sym is_head)
-    (subst (λ (s : HashState). HasTold new (told_component t name (named_findings t.names at name (content_of at head s)))) is_state told)) in
-    let kept : is_free (head_of x) ≡ false = ap (λ (h : Head). is_free h) is_head ∙ used in
-    rw kept whole
+pub cell_told : (new : Report) (at : ℕ) (x name : List ℕ) (head : Head) (compression : ℕ) (state : HashState) (t : Told)
+    → is_free head ≡ false → name ≡ cell_name x → head_of x ≡ head → compression ≡ packing (cell_attributes x) → state ≡ hash_state (cell_attributes x) (cell_content x)
+    → HasTold new (told_component t name (named_findings t.names at name (content_of at head compression state))) → HasTold new (told_cell t at x)
+cell_told new at x name head compression state t used is_name is_head is_packed is_state told =
+    rw (ap (λ (h : Head). is_free h) is_head ∙ used) (rw (is_name, sym is_head, is_packed, is_state) at told)
 
 joined : (told a b c d : List RegionFinding) → (((told ++ a) ++ b) ++ c) ++ d ≡ told ++ (a ++ (b ++ (c ++ d)))
 joined told a b c d = append_assoc ((told ++ a) ++ b) c d ∙ append_assoc (told ++ a) b (c ++ d) ∙ append_assoc told a (b ++ (c ++ d))

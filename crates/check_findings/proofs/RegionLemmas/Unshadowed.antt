@@ -1,7 +1,7 @@
 -- Components that aren't told to be shadowed.
-use Rattle.std.proofs.Common.{◌≡◌, ℕ, ◌+◌, ◌⊎◌, inl, inr, Bool, true, false, cond, ◌||◌, List, [], ◌∷◌, ◌++◌, length, None, Option, Contains, refl, sym, ap, subst, ◌∙◌, arith}
+use Rattle.std.proofs.Common.{◌≡◌, ℕ, ◌+◌, ◌⊎◌, inl, inr, Bool, true, false, cond, List, [], ◌∷◌, ◌++◌, length, None, Option, Contains, refl, sym, ap, subst, ◌∙◌, arith}
 use Rattle.std.specs.Str.{bytes_eq}
-use Rattle.std.proofs.lemmas.Bool.{false≢true}
+use Rattle.std.proofs.lemmas.Bool.{false≢true, or_parts}
 use Rattle.std.proofs.lemmas.Slice.Eq.{bytes_eq-Decides}
 use Rattle.std.proofs.lemmas.List.Elements.{All-nil, All-cons, Contains-append_left, Contains-append_right, Contains-append_cases, Contains-push, Contains-push_cases}
 use Rattle.flash_format.specs.Head.{head_of, is_free}
@@ -34,14 +34,6 @@ other_name a b other = go (bytes_eq b a) refl
     go : (r : Bool) → bytes_eq b a ≡ r → r ≡ false
     go true e = absurd (false≢true (sym other ∙ (bytes_eq-Decides a b).1 (sym ((bytes_eq-Decides b a).0 e))))
     go false e = refl
-
-left_false : (a b : Bool) → (a || b) ≡ false → a ≡ false
-left_false true b e = absurd (false≢true (sym e))
-left_false false b e = refl
-
-right_false : (a b : Bool) → (a || b) ≡ false → b ≡ false
-right_false true b e = absurd (false≢true (sym e))
-right_false false b e = e
 
 -- ---- lists
 
@@ -86,13 +78,13 @@ first_component names at x others more none = (
 later_component : (names : List (List ℕ)) (d : Component) (others : List Component) (c : Component) → IsNewIn (d.name ∷ names) others c → IsNewIn names (d ∷ others) c
 unfolding IsNewIn
 later_component names d others c new = (
-  right_false (bytes_eq c.name d.name) (is_among c.name names) new.0,
+  (or_parts (bytes_eq c.name d.name) (is_among c.name names) new.0).1,
   record {
     before = d ∷ new.1.before;
     after = new.1.after;
     whole = ap (λ (l : List Component). d ∷ l) new.1.whole;
     named = new.1.named;
-    none_before = All-cons (IsOther c.name) d new.1.before (other_name c.name d.name (left_false (bytes_eq c.name d.name) (is_among c.name names) new.0)) new.1.none_before;
+    none_before = All-cons (IsOther c.name) d new.1.before (other_name c.name d.name (or_parts (bytes_eq c.name d.name) (is_among c.name names) new.0).0) new.1.none_before;
   },
 )
 
@@ -137,4 +129,4 @@ unshadowed_first x c good listed none =
     (Contains-append_left (cells_findings [] 0 (cut x).cells) last _ told)))).1
   where
     last : List RegionFinding
-    last = end_findings x (place_after 0 (cut x).cells) (cut x).end ++ counts_of (cut x).cells
+    last = end_findings x (place_after 0 (cut x).cells) (cut x).end ++ counts_of (length x) (cut x).cells

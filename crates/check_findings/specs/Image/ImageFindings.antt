@@ -1,5 +1,6 @@
--- The findings of an image. Their order and the rule for regions are this project's own.
-use Rattle.std.specs.Prelude.{ℕ, ◌+◌, ◌-◌, ◌*◌, Bool, not, ◌&&◌, ◌||◌, List, [], ◌∷◌, ◌++◌, filter, length, map, is_some, nat_le, nat_lt, ◌==◌, if◌then◌else◌}
+-- The findings of an image. The order and the rule for regions are this project's own.
+use Rattle.std.specs.Prelude.{ℕ, ◌+◌, ◌-◌, ◌*◌, Bool, not, ◌&&◌, ◌||◌, List, [], ◌∷◌, ◌++◌, filter}
+use Rattle.std.specs.Prelude.{length, map, is_some, nat_le, nat_lt, ◌==◌, if◌then◌else◌}
 use Rattle.std.specs.List.{find, list_any}
 use lib.Chars.{codes}
 use Rattle.flash_format.specs.Flashmap.{is_area}
@@ -8,7 +9,8 @@ use Rattle.check_findings.specs.declared.map.finding.NumberedArea.{NumberedArea}
 use Rattle.check_findings.specs.Map.MapFindings.{area_end, has_name, image_areas, map_findings}
 use Rattle.check_findings.specs.Region.RegionFindings.{begins_with_entry, region_findings}
 use Rattle.check_findings.specs.declared.image.finding.ImageFinding.{ImageFinding}
-use Rattle.check_findings.specs.declared.image.finding.ImageFinding.TheVariants.{Map, Region, NotChecked, NoArea}
+use Rattle.check_findings.specs.declared.image.finding.ImageFinding.TheVariants.{Map, Region}
+use Rattle.check_findings.specs.declared.image.finding.ImageFinding.TheVariants.{NotChecked, NoArea}
 
 -- the area as a range of the image
 abbrev pub range_of : NumberedArea → Range
@@ -18,27 +20,27 @@ range_of a = record { start = a.area.offset; size = a.area.size }
 abbrev pub bytes_of : List ℕ → NumberedArea → List ℕ
 bytes_of image a = bytes_in (range_of a) image
 
--- the area has one of these names
+-- the area has a name of the list
 abbrev pub has_one_of : List (List ℕ) → NumberedArea → Bool
 has_one_of names a = list_any (λ name. is_area name a.area) names
 
--- the names of areas that are expected to be regions: the given ones and the default region's
+-- the names of areas that are expected to be regions: the given names and the default region
 abbrev pub expected_names : List (List ℕ) → List (List ℕ) → List (List ℕ)
 expected_names names expected = (names ++ codes "COREBOOT" ∷ []) ++ expected
 
--- the area begins at this place, has room for the head of an entry, and fewer bytes than these
+-- the area begins at offset `at`, and has room for a header and fewer than `size` bytes
 abbrev pub begins_at : ℕ → ℕ → NumberedArea → Bool
 begins_at at size a = a.area.offset == at && (nat_le 24 a.area.size && nat_lt a.area.size size)
 
--- one of these areas is smaller and begins at the same place, so with an entry if this one does
+-- a smaller area begins at the same offset, and so with an entry if area `a` does
 abbrev pub has_smaller : List NumberedArea → NumberedArea → Bool
 has_smaller areas a = list_any (begins_at a.area.offset a.area.size) areas
 
--- of these areas, this one is the smallest that begins with an entry at its place
+-- the area is the smallest area at its offset, and begins with an entry
 abbrev pub is_cbfs : List ℕ → List NumberedArea → NumberedArea → Bool
 is_cbfs image areas a = not (has_smaller areas a) && begins_with_entry (bytes_of image a)
 
--- the area is to be checked: it lies inside the image, and has one of the names or is a CBFS
+-- the area must be checked: it lies inside the image, and has a name of the list or is a CBFS
 abbrev pub is_wanted : List ℕ → List (List ℕ) → List NumberedArea → NumberedArea → Bool
 is_wanted image names areas a =
     nat_le (area_end a.area) (length image) && (has_one_of names a || is_cbfs image areas a)
@@ -46,7 +48,7 @@ is_wanted image names areas a =
 abbrev pub wanted_areas : List ℕ → List (List ℕ) → List NumberedArea → List NumberedArea
 wanted_areas image names areas = filter (is_wanted image names areas) areas
 
--- those that are checked whatever names are expected
+-- the areas that must be checked if no name is expected
 abbrev pub cbfs_areas : List ℕ → List NumberedArea → List NumberedArea
 cbfs_areas image areas =
     filter (λ a. nat_le (area_end a.area) (length image) && is_cbfs image areas a) areas
@@ -55,17 +57,17 @@ cbfs_areas image areas =
 abbrev pub region_finding : List ℕ → NumberedArea → ImageFinding
 region_finding image a = Region a (region_findings (bytes_of image a))
 
--- of an area, if so many bytes may still be checked
+-- of an area, if `left` bytes may still be checked
 abbrev pub area_finding : List ℕ → List (List ℕ) → ℕ → NumberedArea → ImageFinding
 area_finding image names left a =
     if nat_le a.area.size left then region_finding image a
     else NotChecked a (has_one_of names a)
 
--- how many bytes may be checked after the area
+-- the number of bytes that may be checked after the area
 abbrev pub left_after : ℕ → NumberedArea → ℕ
 left_after left a = if nat_le a.area.size left then left - a.area.size else left
 
--- of these areas
+-- of a list of areas
 unfoldable pub areas_findings :
     List ℕ → List (List ℕ) → ℕ → List NumberedArea → List ImageFinding
 areas_findings image names left [] = []
@@ -73,24 +75,24 @@ areas_findings image names left (a ∷ areas) =
     area_finding image names left a
     ∷ areas_findings image names (left_after left a) areas
 
--- that no area has the name of this number
+-- of a name with index `number`: that no area has the name
 abbrev pub name_findings : List NumberedArea → ℕ → List ℕ → List ImageFinding
 name_findings areas number name =
     if is_some (find (has_name name) areas) then [] else NoArea number ∷ []
 
--- the same of these names, which are numbered from this one on
+-- the same for a list of names, with indices from `number`
 abbrev pub names_findings : List NumberedArea → ℕ → List (List ℕ) → List ImageFinding
 names_findings areas number [] = []
 names_findings areas number (name ∷ names) =
     name_findings areas number name ++ names_findings areas (number + 1) names
 
--- of the areas that are to be checked
+-- of the areas that must be checked
 abbrev pub regions_findings : List ℕ → List (List ℕ) → List ImageFinding
 regions_findings image names =
     areas_findings image names (8 * length image)
     (wanted_areas image names (image_areas image))
 
--- of an image: of its map, of its regions, and of names that no area has
+-- of an image: of the map, of the regions, and of names without an area
 unfoldable pub image_findings : List ℕ → List (List ℕ) → List (List ℕ) → List ImageFinding
 image_findings image names expected =
     map Map (map_findings image)

@@ -1,4 +1,4 @@
--- What regions and images are of which nothing bad is told.
+-- Laws about regions and images without bad findings.
 use Rattle.std.specs.Prelude.{◌≡◌, ◌≢◌, Bool, true, false, All, Contains, List, ℕ, None, Some, Ok}
 use Rattle.std.specs.List.{list_any}
 use Rattle.flash_format.specs.declared.digest.Digest.{Digest}
@@ -21,40 +21,46 @@ use Rattle.check_findings.specs.Image.RegionAreas.{region_areas}
 use Rattle.check_findings.specs.declared.region.finding.Content.{Content}
 use Rattle.check_findings.specs.Image.Verdicts.{is_bad, is_bad_region}
 
--- each of its components is what a search of its name finds
+-- in a region without bad findings, a search finds each component by its name
 abbrev pub FitRegionsLoseNothing : Type 0
-FitRegionsLoseNothing = (needs : Bool) (x : List ℕ) (c : Component) → list_any (is_bad_region needs) (region_findings x) ≡ false → Contains (components x) c → component_in x c.name ≡ Ok (Some c)
+FitRegionsLoseNothing = (needs : Bool) (x : List ℕ) (c : Component)
+    → list_any (is_bad_region needs) (region_findings x) ≡ false
+    → Contains (components x) c → component_in x c.name ≡ Ok (Some c)
 
--- the digest that is stored with a component, if any, is no other one than its content's
+-- the stored digest of the component, if any, matches its content
 abbrev pub IsIntact : Component → Type 0
 IsIntact c = (stored : Digest) → hash_state c.attributes c.content ≢ Invalid stored
 
--- a region of a good size with an entry at its start, in which no entry is damaged, each component is intact and the tail, if
--- any, is blank
+-- a region of a good size with an entry at its start, without damaged entries, with intact
+-- components and a blank tail, if it has a tail
 pub record IsWhole (x : List ℕ) : Type 0 where
   pub shaped : shape_fault x ≡ None
   pub undamaged : (kind : DamageKind) → (cut x).end ≢ damage kind
   pub intact : All IsIntact (components x)
   pub blank : (cut x).end ≡ tail → IsBlankTail (place_after 0 (cut x).cells) x
 
--- it is whole
+-- a region without bad findings is whole
 abbrev pub FitRegionsAreWhole : Type 0
-FitRegionsAreWhole = (needs : Bool) (x : List ℕ) → list_any (is_bad_region needs) (region_findings x) ≡ false → IsWhole x
+FitRegionsAreWhole = (needs : Bool) (x : List ℕ)
+    → list_any (is_bad_region needs) (region_findings x) ≡ false → IsWhole x
 
--- the area is the region that a command finds by its name; it is whole, and each of its components is found by its name
+-- the name of the area leads a command to it, the area is whole, and a search finds each of its
+-- components by its name
 pub record IsFit (image : List ℕ) (a : NumberedArea) : Type 0 where
   pub reached : region_of image (text_of a.area.name) ≡ Ok (range_of a)
   pub whole : IsWhole (bytes_of image a)
-  pub found : (c : Component) → Contains (components (bytes_of image a)) c → component_in (bytes_of image a) c.name ≡ Ok (Some c)
+  pub found : (c : Component) → Contains (components (bytes_of image a)) c
+      → component_in (bytes_of image a) c.name ≡ Ok (Some c)
 
--- in an image of which nothing bad is told each area is fit that is checked as a region
+-- in an image without bad findings, each checked area is fit
 abbrev pub FitImagesAreWhole : Type 0
 FitImagesAreWhole =
     (needs : Bool) (image : List ℕ) (names expected : List (List ℕ))
     → list_any (is_bad needs) (image_findings image names expected) ≡ false
     → All (IsFit image) (region_areas (image_findings image names expected))
 
--- a checked area has the name that a need gives, and a search there finds a component of its name, whose content has the place
+-- a checked area has the area name, a search there finds a component with the name, and its content
+-- has the position
 pub record IsMet (image : List ℕ) (areas : List NumberedArea) (wish : Wish) : Type 0 where
   pub area : NumberedArea
   pub checked : Contains areas area
@@ -63,7 +69,7 @@ pub record IsMet (image : List ℕ) (areas : List NumberedArea) (wish : Wish) : 
   pub has : HasContent (bytes_of image area) wish.name content
   pub placed : is_met wish.place content area.area.size ≡ true
 
--- a need that the findings of an image meet is met by the image
+-- if the findings of an image meet a need, the image does
 abbrev pub NeedsAreThere : Type 0
 NeedsAreThere =
     (image : List ℕ) (names expected : List (List ℕ)) (wish : Wish)

@@ -1,4 +1,4 @@
--- What the tables of names and of places hold.
+-- The contents of the tables of names and of offsets.
 use Rattle.std.specs.Prelude.{◌≡◌, ℕ, Bool, false, List, nat_lt, is_some}
 use Rattle.std.specs.List.{list_any}
 use Rattle.std.specs.Option.{option_map_or}
@@ -11,20 +11,20 @@ use Rattle.check_findings.specs.declared.image.names.NameSet.{NameSet}
 use Rattle.check_findings.specs.declared.image.starts.Starts.{Starts}
 use Rattle.check_findings.specs.Image.ImageFindings.{begins_at}
 
--- the set has this name
+-- the set has the name
 abbrev pub has_name : NameSet → List ℕ → Bool
 has_name set name = is_some (get_by (λ k. slice_cmp nat_cmp name k.now) set.names)
 
--- the set has these names and no others
+-- the set has exactly the names of the list
 abbrev pub HasNames : NameSet → List (List ℕ) → Type 0
 HasNames set names = (name : List ℕ) → has_name set name ≡ list_any (λ n. bytes_eq n name) names
 
--- the smallest area that is kept for a place is smaller than so many bytes
+-- the table has a size below `size` for the offset `at`
 abbrev pub is_below : Starts → ℕ → ℕ → Bool
 is_below starts at size =
     option_map_or (λ least. nat_lt least size) (get nat_cmp starts.smallest at) false
 
--- so it is exactly if one of these areas is, of those that begin there with room for an entry
+-- the table has a smaller size exactly if a smaller area with room for an entry has the offset
 abbrev pub HasStarts : Starts → List NumberedArea → Type 0
 HasStarts starts areas =
     (at size : ℕ) → is_below starts at size ≡ list_any (begins_at at size) areas

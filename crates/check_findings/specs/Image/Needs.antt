@@ -1,8 +1,9 @@
--- Components that an image must have.
-use Rattle.std.specs.Prelude.{◌≡◌, ℕ, ◌+◌, ◌==◌, Bool, true, List, [], ◌∷◌, Option, Some, None, Ok, if◌then◌else◌}
+-- Required components.
+use Rattle.std.specs.Prelude.{◌≡◌, ℕ, ◌+◌, ◌==◌, Bool, true, List, [], ◌∷◌, Option, Some, None, Ok}
+use Rattle.std.specs.Prelude.{if◌then◌else◌}
 use Rattle.std.specs.Str.{bytes_eq}
 use Rattle.flash_format.specs.Flashmap.{is_area}
-use Rattle.flash_format.specs.Components.{Component}
+use Rattle.flash_format.specs.Components.{Component, packing}
 use Rattle.flash_format.specs.Head.{head_of}
 use Rattle.cbfs_walk.specs.Finding.{component_in}
 use Rattle.cbfs_walk.specs.Hashes.{hash_state}
@@ -29,37 +30,39 @@ pub record Wish : Type 0 where
 abbrev pub wish_of : Need → Wish
 wish_of need = record { area = need.area.now; name = need.name.now; place = need.place }
 
--- a content has the place in an area of this size
+-- the content has the position in an area of this size
 abbrev pub is_met : NeededPlace → Content → ℕ → Bool
 is_met places.Any content size = true
 is_met (places.At start) content size = content.start == start
 is_met places.End content size = content.start + content.len == size
 
--- the content of a component of this name
+-- the content of the finding, if its component has this name
 abbrev pub content_named : List ℕ → RegionFinding → Option Content
 content_named name (of_region.Component at other (of_component.Content content)) =
     if bytes_eq other name then Some content else None
 content_named name _ = None
 
--- the first of two values that is there
+-- the first value, or else the second
 abbrev pub first_of : {X : Type 0} → Option X → Option X → Option X
 first_of None other = other
 first_of (Some x) other = Some x
 
--- the content of the first component of this name
+-- the content of the first component with this name
 abbrev pub first_content : List ℕ → List RegionFinding → Option Content
 first_content name [] = None
-first_content name (finding ∷ findings) = first_of (content_named name finding) (first_content name findings)
+first_content name (finding ∷ findings) =
+    first_of (content_named name finding) (first_content name findings)
 
--- why a component with this content doesn't meet the need
+-- the reason if this content doesn't meet the need
 abbrev pub unmet_by : NumberedArea → Wish → Option Content → Option NeedFinding
 unmet_by a wish None = Some Missing
-unmet_by a wish (Some content) = if is_met wish.place content a.area.size then None else Some (Elsewhere content.start)
+unmet_by a wish (Some content) =
+    if is_met wish.place content a.area.size then None else Some (Elsewhere content.start)
 
 abbrev pub unmet_in : NumberedArea → List RegionFinding → Wish → Option NeedFinding
 unmet_in a findings wish = unmet_by a wish (first_content wish.name findings)
 
--- why the findings of an image don't meet a need: by the first checked area of its name
+-- the reason if the findings don't meet the need, by the first checked area with its name
 abbrev pub unmet : List ImageFinding → Wish → Option NeedFinding
 unmet [] wish = Some Missing
 unmet (Region a of_region ∷ findings) wish =
@@ -68,9 +71,10 @@ unmet (_ ∷ findings) wish = unmet findings wish
 
 -- the content of a component
 abbrev pub component_content : Component → Content
-component_content c = content_of c.at (head_of c.bytes) (hash_state c.attributes c.content)
+component_content c =
+    content_of c.at (head_of c.bytes) (packing c.attributes) (hash_state c.attributes c.content)
 
--- a search of a region's bytes finds a component of the name, which has this content
+-- a search of the region finds a component by the name, and it has this content
 pub record HasContent (x name : List ℕ) (content : Content) : Type 0 where
   pub component : Component
   pub found : component_in x name ≡ Ok (Some component)

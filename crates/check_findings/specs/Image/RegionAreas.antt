@@ -11,15 +11,15 @@ abbrev pub region_area : ImageFinding → List NumberedArea
 region_area (Region a findings) = a ∷ []
 region_area _ = []
 
--- those of these findings
+-- the areas of all findings
 abbrev pub region_areas : List ImageFinding → List NumberedArea
 region_areas findings = flat_map region_area findings
 
--- how many bytes these areas have together
+-- the sum of the sizes
 abbrev pub sum_sizes : List NumberedArea → ℕ
 sum_sizes areas = sum_by (λ (a : NumberedArea). a.area.size) areas
 
--- at most so many areas lie inside an image of n bytes, and leave so many of eight times its length
+-- at most `most` areas lie inside an image of n bytes, and leave `left` of 8n bytes
 pub record AreChecked (n most left : ℕ) (areas : List NumberedArea) : Type 0 where
   pub count : length areas ≤ most
   pub inside : All (λ a. area_end a.area ≤ n) areas

@@ -1,5 +1,5 @@
--- Which findings are bad: those by which a command or the boot goes wrong, and that an area of an expected
--- name isn't checked. All others are remarks. If each component needs a digest, one without is bad too.
+-- Bad findings: those that break a command or the boot, and checks that could not be made. All
+-- others are remarks. A missing digest is bad if each component needs one.
 use Rattle.std.specs.Prelude.{Bool, true, false}
 use Rattle.std.specs.List.{list_any}
 use Rattle.cbfs_walk.specs.declared.hashes.HashState.{HashState}
@@ -11,7 +11,8 @@ use Rattle.check_findings.specs.declared.region.finding.ComponentFinding.TheVari
 use Rattle.check_findings.specs.declared.region.finding.RegionFinding.{RegionFinding}
 use Rattle.check_findings.specs.declared.region.finding.RegionFinding.TheVariants as of_region
 use Rattle.check_findings.specs.declared.image.finding.ImageFinding.{ImageFinding}
-use Rattle.check_findings.specs.declared.image.finding.ImageFinding.TheVariants.{Map, Region, NotChecked, NoArea}
+use Rattle.check_findings.specs.declared.image.finding.ImageFinding.TheVariants.{Map, Region}
+use Rattle.check_findings.specs.declared.image.finding.ImageFinding.TheVariants.{NotChecked, NoArea}
 
 abbrev pub is_bad_map : MapFinding → Bool
 is_bad_map of_map.NoMap = true
@@ -25,9 +26,9 @@ is_bad_map (of_map.Map map) = false
 is_bad_map (of_map.OtherMap map) = false
 is_bad_map (of_map.AreaEmpty a) = false
 is_bad_map (of_map.AreaNameNotText a) = false
-is_bad_map of_map.TooManyAreas = false
+is_bad_map of_map.TooManyAreas = true
 
--- whether each component needs a digest
+-- a digest is bad if it doesn't match, or if it is missing and each component needs one
 abbrev pub is_bad_hash : Bool → HashState → Bool
 is_bad_hash needs hashes.Absent = needs
 is_bad_hash needs (hashes.Valid digest) = false
@@ -53,9 +54,10 @@ is_bad_region needs (of_region.Damaged at kind) = true
 is_bad_region needs (of_region.Components n) = false
 is_bad_region needs of_region.NoComponents = false
 is_bad_region needs (of_region.FreeBytes n) = false
-is_bad_region needs (of_region.LargestFree n) = false
+is_bad_region needs (of_region.LargestContent n) = false
+is_bad_region needs of_region.NoRoom = false
 
--- a region's findings are bad where one of them is
+-- a region is bad if any of its findings is
 abbrev pub is_bad : Bool → ImageFinding → Bool
 is_bad needs (Map finding) = is_bad_map finding
 is_bad needs (Region a findings) = list_any (is_bad_region needs) findings

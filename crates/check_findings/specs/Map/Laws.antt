@@ -1,5 +1,6 @@
--- What a flashmap is of which nothing is told but where it is.
-use Rattle.std.specs.Prelude.{◌≡◌, true, ℕ, ◌+◌, ◌<◌, ◌≤◌, ◌⊎◌, List, [], ◌∷◌, length, Contains, IsSomeAnd, Some, None}
+-- Laws about flash maps without findings.
+use Rattle.std.specs.Prelude.{◌≡◌, true, ℕ, ◌+◌, ◌<◌, ◌≤◌, ◌⊎◌, List, [], ◌∷◌, length, Contains}
+use Rattle.std.specs.Prelude.{IsSomeAnd, Some, None}
 use Rattle.std.specs.List.{find}
 use Rattle.std.specs.Str.{is_utf8}
 use lib.Chars.{codes}
@@ -11,37 +12,44 @@ use Rattle.check_findings.specs.declared.map.finding.NumberedArea.{NumberedArea}
 use Rattle.check_findings.specs.declared.map.finding.MapFinding.TheVariants as findings
 use Rattle.check_findings.specs.Map.MapFindings.{area_end, has_name, map_areas, map_findings}
 
--- the area has bytes, and all of them lie in an image of n bytes
+-- the area has bytes, and lies inside an image of n bytes
 pub record IsInside (n : ℕ) (area : Area) : Type 0 where
   pub some : 0 < area.size
   pub inside : area_end area ≤ n
 
--- the first area holds the second one
+-- area `a` contains area `b`
 pub record Holds (a b : Area) : Type 0 where
   pub start : a.offset ≤ b.offset
   pub end : area_end b ≤ area_end a
 
--- no byte lies in both areas, or one holds the other
+-- the areas have no common byte, or one contains the other
 abbrev pub Nest : Area → Area → Type 0
 Nest a b = ((area_end a ≤ b.offset) ⊎ (area_end b ≤ a.offset)) ⊎ (Holds a b ⊎ Holds b a)
 
--- the area holds all of the map
+-- the area contains the whole map
 pub record HoldsMap (map : FoundMap) (area : Area) : Type 0 where
   pub start : area.offset ≤ map.at
   pub end : map.at + map_len map.head ≤ area_end area
 
--- An image's map with no other one above it. Each of its areas lies inside, has a name of text by
--- which it is found, and nests with each; the one with the map's own name holds all of the map.
+-- The map of an image, with the size of the image and no map at a higher offset. Each area lies
+-- inside the image, has a name of text that leads to the area, and nests with each area. The first
+-- area with the name `FMAP` contains the whole map.
 pub record IsSound (image : List ℕ) (map : FoundMap) : Type 0 where
   pub found : found_in image ≡ Some map
   pub size : map.head.size ≡ length image
   pub only : found_from (map.at + 1) image ≡ None
-  pub inside : (a : NumberedArea) → Contains (map_areas image map) a → IsInside (length image) a.area
-  pub text : (a : NumberedArea) → Contains (map_areas image map) a → is_utf8 (text_of a.area.name) ≡ true
-  pub named : (a : NumberedArea) → Contains (map_areas image map) a → find (has_name (text_of a.area.name)) (map_areas image map) ≡ Some a
-  pub nested : (a b : NumberedArea) → Contains (map_areas image map) a → Contains (map_areas image map) b → Nest a.area b.area
-  pub held : IsSomeAnd (find (has_name (codes "FMAP")) (map_areas image map)) (λ a. HoldsMap map a.area)
+  pub inside : (a : NumberedArea) → Contains (map_areas image map) a
+      → IsInside (length image) a.area
+  pub text : (a : NumberedArea) → Contains (map_areas image map) a
+      → is_utf8 (text_of a.area.name) ≡ true
+  pub named : (a : NumberedArea) → Contains (map_areas image map) a
+      → find (has_name (text_of a.area.name)) (map_areas image map) ≡ Some a
+  pub nested : (a b : NumberedArea) → Contains (map_areas image map) a
+      → Contains (map_areas image map) b → Nest a.area b.area
+  pub held : IsSomeAnd (find (has_name (codes "FMAP")) (map_areas image map))
+      (λ a. HoldsMap map a.area)
 
--- a map of which nothing is told but itself is sound
+-- a map without a finding but itself is sound
 abbrev pub UntoldMapsAreSound : Type 0
-UntoldMapsAreSound = (image : List ℕ) (map : FoundMap) → map_findings image ≡ findings.Map map ∷ [] → IsSound image map
+UntoldMapsAreSound = (image : List ℕ) (map : FoundMap)
+    → map_findings image ≡ findings.Map map ∷ [] → IsSound image map

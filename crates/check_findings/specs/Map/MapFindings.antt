@@ -1,5 +1,6 @@
--- What is told of an image's flashmap. What is told, and in which order, is this project's own.
-use Rattle.std.specs.Prelude.{ℕ, ◌+◌, Bool, not, ◌&&◌, ◌||◌, List, [], ◌∷◌, ◌++◌, length, drop, nat_lt, nat_le, Option, Some, None, ◌==◌, if◌then◌else◌}
+-- The findings of a flash map. The selection and the order are this project's own.
+use Rattle.std.specs.Prelude.{ℕ, ◌+◌, Bool, not, ◌&&◌, ◌||◌, List, [], ◌∷◌, ◌++◌, length, drop}
+use Rattle.std.specs.Prelude.{nat_lt, nat_le, Option, Some, None, ◌==◌, if◌then◌else◌}
 use Rattle.std.specs.List.{find, flat_map}
 use Rattle.std.specs.Str.{is_utf8}
 use lib.Chars.{codes}
@@ -11,31 +12,31 @@ use Rattle.check_findings.specs.declared.map.finding.NumberedArea.{NumberedArea}
 use Rattle.check_findings.specs.declared.map.finding.MapFinding.{MapFinding}
 use Rattle.check_findings.specs.declared.map.finding.MapFinding.TheVariants as findings
 
--- these areas with their numbers, from this one on
+-- the areas with indices from `number`
 abbrev pub numbered_from : ℕ → List Area → List NumberedArea
 numbered_from number [] = []
 numbered_from number (area ∷ areas) =
     record { number = number; area = area } ∷ numbered_from (number + 1) areas
 
--- the areas of a map of an image, with their numbers
+-- the areas of a map of an image, with indices
 abbrev pub map_areas : List ℕ → FoundMap → List NumberedArea
 map_areas image map =
     numbered_from 0 (areas_from map.head.nareas (drop (map.at + fmap_head_len) image))
 
--- where the area ends
+-- the end of the area
 abbrev pub area_end : Area → ℕ
 area_end area = area.offset + area.size
 
--- this finding, or none
+-- the finding, if `told`
 abbrev pub told_if : Bool → MapFinding → List MapFinding
 told_if told finding = if told then finding ∷ [] else []
 
--- of the next valid map above the image's own
+-- of the next valid map at a higher offset
 abbrev pub next_findings : Option FoundMap → List MapFinding
 next_findings None = []
 next_findings (Some next) = findings.OtherMap next ∷ []
 
--- of one area, in an image of n bytes
+-- of an area on its own, in an image of n bytes
 abbrev pub area_findings : ℕ → NumberedArea → List MapFinding
 area_findings n a =
     told_if (nat_lt n (area_end a.area)) (findings.AreaOutside a)
@@ -46,57 +47,57 @@ area_findings n a =
 abbrev pub has_name : List ℕ → NumberedArea → Bool
 has_name name a = is_area name a.area
 
--- of an area, where this is the first one before it that has its name
+-- of an area, if an earlier area has its name
 abbrev pub name_finding : NumberedArea → Option NumberedArea → List MapFinding
 name_finding a None = []
 name_finding a (Some first) = findings.SameName a first ∷ []
 
--- of each area whose name an earlier one has, with the areas before these
+-- of each area with the name of an earlier area, also of the areas `before`
 abbrev pub name_findings : List NumberedArea → List NumberedArea → List MapFinding
 name_findings before [] = []
 name_findings before (a ∷ areas) =
     name_finding a (find (has_name (text_of a.area.name)) before)
     ++ name_findings (before ++ a ∷ []) areas
 
--- the first area begins before the second one and ends inside it
+-- area `a` begins before area `b` and ends inside it
 abbrev pub ends_inside : Area → Area → Bool
 ends_inside a b =
     nat_lt a.offset b.offset && (nat_lt b.offset (area_end a) && nat_lt (area_end a) (area_end b))
 
--- two areas have bytes in common, and neither holds the other
+-- two areas overlap, and neither contains the other
 abbrev pub overlap : NumberedArea → NumberedArea → Bool
 overlap a b = ends_inside a.area b.area || ends_inside b.area a.area
 
--- of an area, where this is the first one that it overlaps
+-- of an area, if it overlaps another area
 abbrev pub overlap_finding : NumberedArea → Option NumberedArea → List MapFinding
 overlap_finding a None = []
 overlap_finding a (Some other) = findings.Overlap a other ∷ []
 
--- of each of these areas that overlaps one of them all
+-- of each area of `areas` that overlaps any area of `all`
 abbrev pub overlaps_among : List NumberedArea → List NumberedArea → List MapFinding
 overlaps_among all areas =
     flat_map (λ (a : NumberedArea). overlap_finding a (find (overlap a) all)) areas
 
--- how many areas are compared with each other
+-- the most areas that are compared pairwise
 abbrev pub most_compared : ℕ
 most_compared = 4096
 
--- of each area that overlaps another one
+-- of each area that overlaps another area
 abbrev pub overlap_findings : List NumberedArea → List MapFinding
 overlap_findings areas =
     if nat_lt most_compared (length areas) then findings.TooManyAreas ∷ []
     else overlaps_among areas areas
 
--- the area holds all of the map
+-- the area contains the whole map
 abbrev pub holds_map : FoundMap → Area → Bool
 holds_map map area = nat_le area.offset map.at && nat_le (map.at + map_len map.head) (area_end area)
 
--- of the first area with the map's own name
+-- of the first area with the name `FMAP`
 abbrev pub map_area_findings : FoundMap → Option NumberedArea → List MapFinding
 map_area_findings map None = findings.NoMapArea ∷ []
 map_area_findings map (Some a) = told_if (not (holds_map map a.area)) (findings.MapAreaMisses a)
 
--- of a map with this next one and these areas, in an image of n bytes
+-- of a map, the next map and the areas, in an image of n bytes
 abbrev pub findings_of : ℕ → FoundMap → Option FoundMap → List NumberedArea → List MapFinding
 findings_of n map next areas =
     findings.Map map
@@ -112,7 +113,7 @@ findings_under image None = findings.NoMap ∷ []
 findings_under image (Some map) =
     findings_of (length image) map (found_from (map.at + 1) image) (map_areas image map)
 
--- the areas of the image's flashmap; none where it has none
+-- the areas of the flash map; none without a map
 abbrev pub areas_under : List ℕ → Option FoundMap → List NumberedArea
 areas_under image None = []
 areas_under image (Some map) = map_areas image map
@@ -120,6 +121,6 @@ areas_under image (Some map) = map_areas image map
 unfoldable pub image_areas : List ℕ → List NumberedArea
 image_areas image = areas_under image (found_in image)
 
--- what is told of the image's flashmap
+-- the findings of the flash map of an image
 unfoldable pub map_findings : List ℕ → List MapFinding
 map_findings image = findings_under image (found_in image)

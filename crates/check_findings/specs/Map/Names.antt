@@ -8,10 +8,10 @@ use Rattle.check_findings.specs.declared.map.finding.NumberedArea.{NumberedArea}
 use Rattle.check_findings.specs.declared.map.names.AreaNames.{AreaNames}
 use Rattle.check_findings.specs.Map.MapFindings.{has_name}
 
--- the area that is kept for a name
+-- the area of a name in the table
 abbrev pub area_for : AreaNames → List ℕ → Option NumberedArea
 area_for names name = get_by (λ k. slice_cmp nat_cmp name k.now) names.first
 
--- the first of these areas with each name is kept, and no more
+-- the table has exactly the first area of each name
 abbrev pub Notes : AreaNames → List NumberedArea → Type 0
 Notes names areas = (name : List ℕ) → area_for names name ≡ find (has_name name) areas

@@ -1,34 +1,45 @@
--- What the cells of a region sum up to.
-use Rattle.std.specs.Prelude.{ℕ, ◌+◌, ◌≤◌, Bool, List, [], ◌∷◌, length, max, if◌then◌else◌}
+-- Sums over the entries of a region.
+use Rattle.std.specs.Prelude.{ℕ, ◌+◌, ◌-◌, ◌≤◌, Bool, List, [], ◌∷◌, length, max, ◌==◌}
+use Rattle.std.specs.Prelude.{if◌then◌else◌}
 use Rattle.flash_format.specs.Head.{head_of, is_free}
 use Rattle.check_findings.specs.declared.region.count.Count.{Count}
 
--- the bytes of all free cells among these
+-- the bytes of all empty entries
 unfoldable pub free_bytes : List (List ℕ) → ℕ
 free_bytes [] = 0
-free_bytes (x ∷ cells) = if is_free (head_of x) then length x + free_bytes cells else free_bytes cells
+free_bytes (x ∷ cells) =
+    if is_free (head_of x) then length x + free_bytes cells else free_bytes cells
 
--- the bytes of the longest row of free cells that ends among these, where so many free bytes stand right before them
-unfoldable pub longest_free : ℕ → List (List ℕ) → ℕ
-longest_free row [] = 0
-longest_free row (x ∷ cells) =
-    let longer = row + length x in
-    if is_free (head_of x) then max longer (longest_free longer cells) else longest_free 0 cells
+-- the number of bytes that a component can use of a run of empty entries: all, but four less if the
+-- run ends with the region
+abbrev pub usable : ℕ → ℕ → ℕ → ℕ
+usable size start end = end - start - (if end == size then 4 else 0)
 
--- ---- as they are counted
+-- the most bytes that a component can use of one run of empty entries; the first run begins at
+-- `start`, and the entries of the list begin at `at`
+unfoldable pub largest_room : ℕ → ℕ → ℕ → List (List ℕ) → ℕ
+largest_room size start at [] = usable size start at
+largest_room size start at (x ∷ cells) =
+    let end = at + length x in
+    if is_free (head_of x) then largest_room size start end cells
+    else max (usable size start at) (largest_room size end end cells)
 
-abbrev pub nothing : Count
-nothing = record { components = 0; free = 0; longest_free = 0; row = 0 }
+-- ---- step by step
 
--- the counts after one more cell, free or not, of so many bytes
-abbrev pub count_after : Count → Bool → ℕ → Count
-count_after n free len =
-    let longer = n.row + len in
-    if free then record n { free = n.free + len; longest_free = max n.longest_free longer; row = longer }
-    else record n { components = n.components + 1; row = 0 }
+abbrev pub nothing : ℕ → Count
+nothing size = record { size = size; components = 0; free = 0; start = 0; room = 0 }
 
--- no count is above the bytes before a place
+-- the most bytes that a component can use of one run, if the entries end here
+abbrev pub room_to : Count → ℕ → ℕ
+room_to n end = max n.room (usable n.size n.start end)
+
+-- the counts with the next entry, empty or not, at this offset and of this many bytes
+abbrev pub count_after : Count → Bool → ℕ → ℕ → Count
+count_after n free at len =
+    if free then record n { free = n.free + len }
+    else record n { components = n.components + 1; room = room_to n at; start = at + len }
+
+-- the counts are at most the offset
 pub record IsCountBefore (at : ℕ) (n : Count) : Type 0 where
   pub components : n.components ≤ at
   pub free : n.free ≤ at
-  pub row : n.row ≤ at

@@ -1,11 +1,11 @@
-//! What is told of an image.
+//! Findings of an image.
 ghost use Rattle.std.specs.Prelude.{◌≡◌};
 
 use crate::map::{MapFinding, NumberedArea};
 use crate::region::RegionFinding;
 use std::marker::Model;
 
-/// What is told of one region.
+/// The findings of a region.
 #[derive(Drop)]
 pub struct RegionFindings {
     findings: Vec<RegionFinding>,
@@ -21,14 +21,14 @@ impl Model for RegionFindings {
 }
 
 impl RegionFindings {
-    /// These findings, in their order.
+    /// Wraps these findings.
     pub fn new(findings: Vec<RegionFinding>) -> RegionFindings
         ensures { result ≡ findings.items }
     {
         RegionFindings { findings }
     }
 
-    /// The findings, in their order.
+    /// Returns the findings in their order.
     pub fn as_slice(&self) -> &[RegionFinding]
         ensures { result.now ≡ self.now }
     {
@@ -36,22 +36,22 @@ impl RegionFindings {
     }
 }
 
-/// One thing that is told of an image.
+/// A finding of an image.
 #[derive(Drop)]
 pub enum ImageFinding {
-    /// Something of the image's flashmap.
+    /// A finding of the flash map.
     Map(MapFinding),
-    /// What is told of the CBFS region that the area is.
+    /// The findings of an area that was checked as a CBFS region.
     Region {
         area: NumberedArea,
         findings: RegionFindings,
     },
-    /// The area isn't checked, since too many bytes were checked before it. `is_named`: its name is
-    /// expected.
+    /// The area isn't checked, because the areas before it have too many bytes. `is_named` is
+    /// whether its name is expected.
     NotChecked {
         area: NumberedArea,
         is_named: bool,
     },
-    /// No area has the given name of this number, counted from 0.
+    /// No area has the name with this index among the given names.
     NoArea(usize),
 }

@@ -1,5 +1,6 @@
 //! The check of an image.
-ghost use Rattle.std.specs.Prelude.{ℕ, List, All, ◌≡◌, ◌+◌, ◌-◌, ◌*◌, ◌/◌, ◌≤◌, [], ◌∷◌, ◌++◌, length, map, OnOk, IfOk, nat_le, if◌then◌else◌};
+ghost use Rattle.std.specs.Prelude.{ℕ, List, All, ◌≡◌, ◌+◌, ◌-◌, ◌*◌, ◌/◌, ◌≤◌, [], ◌∷◌, ◌++◌};
+ghost use Rattle.std.specs.Prelude.{length, map, OnOk, IfOk, nat_le, if◌then◌else◌};
 ghost use Rattle.flash_format.specs.Flashmap.{area_len};
 ghost use Rattle.flash_device.specs.Device.{faults_told};
 ghost use Rattle.flash_device.specs.Fmap.{found_in};
@@ -8,15 +9,17 @@ ghost use Rattle.check_findings.specs.Map.MapFindings.{area_end, image_areas};
 ghost use Rattle.check_findings.specs.declared.image.finding.ImageFinding.TheVariants.{Map};
 ghost use Rattle.check_findings.specs.Faults.{by_device};
 ghost use Rattle.check_findings.specs.Image.ImageFindings as told;
-ghost use Rattle.check_findings.specs.Image.ImageFindings.{expected_names, image_findings, left_after};
+ghost use Rattle.check_findings.specs.Image.ImageFindings.{expected_names, image_findings};
+ghost use Rattle.check_findings.specs.Image.ImageFindings.{left_after};
 ghost use Rattle.check_findings.specs.Image.Lookups.{HasNames};
-ghost use Rattle.check_findings.specs.Image.RegionAreas.{AreChecked, region_area, region_areas, sum_sizes};
+ghost use Rattle.check_findings.specs.Image.RegionAreas.{AreChecked, region_area, region_areas};
+ghost use Rattle.check_findings.specs.Image.RegionAreas.{sum_sizes};
 
 use crate::fault::CheckFault;
 use crate::image::finding::{ImageFinding, RegionFindings};
 use crate::image::names::{NameSet, push_missing};
 use crate::image::wanted::wanted_areas;
-use crate::map::{MapFinding, NumberedArea, checked_map};
+use crate::map::{MapFinding, NumberedArea, check_map};
 use crate::region::check_region;
 use flash_device::{Flash, FoundMap, Paged, Region};
 use std::alloc::{AllocError, Global};
@@ -25,8 +28,8 @@ use std::hash::RandomState;
 /// The bytes of all checked areas together are at most those of this many images.
 const MAX_IMAGES: u64 = 8;
 
-/// Returns the finding of an area. It is checked if it has at most as many bytes as are left, and
-/// fewer are left then.
+/// Returns the finding of an area. Checks the area if it has at most `left` bytes, and subtracts
+/// its size.
 fn area_finding<F: Flash>(
     alloc: Global,
     keys: RandomState,
@@ -66,7 +69,7 @@ fn area_finding<F: Flash>(
     }
 }
 
-/// Returns the findings of these areas, one of each.
+/// Returns a finding for each of these areas.
 fn areas_findings<F: Flash>(
     alloc: Global,
     keys: RandomState,
@@ -83,8 +86,8 @@ fn areas_findings<F: Flash>(
         AreChecked (length (F.facts paged.old.device).content) (length areas.now) 0
         (region_areas findings.items)) }
     ensures told { OnHonest F.facts paged.old.device (λ image.
-        (names : List (List ℕ)) → HasNames expected.now names → IfOk result (λ findings. findings.items
-        ≡ told.areas_findings image names (8 * length image) areas.now)) }
+        (names : List (List ℕ)) → HasNames expected.now names → IfOk result (λ findings.
+        findings.items ≡ told.areas_findings image names (8 * length image) areas.now)) }
 {
     paged.places_fit();
     let mut left = MAX_IMAGES * paged.len();
@@ -96,6 +99,7 @@ fn areas_findings<F: Flash>(
     Ok(findings)
 }
 
+/// Adds a finding.
 pub fn push(findings: &mut Vec<ImageFinding>, finding: ImageFinding) -> Result<(), AllocError>
     ensures { OnOk result (findings.new.items ≡ findings.old.items ++ finding ∷ []) }
 {
@@ -105,7 +109,7 @@ pub fn push(findings: &mut Vec<ImageFinding>, finding: ImageFinding) -> Result<(
     }
 }
 
-/// What is told of the image's flashmap.
+/// Returns the findings of the flash map as findings of an image.
 fn map_part(alloc: Global, told: &[MapFinding]) -> Result<Vec<ImageFinding>, AllocError>
     ensures { IfOk result (λ findings. findings.items ≡ map Map told.now) }
 {
@@ -116,18 +120,26 @@ fn map_part(alloc: Global, told: &[MapFinding]) -> Result<Vec<ImageFinding>, All
     Ok(findings)
 }
 
-/// The areas of an image's map, and what is told of the image.
+/// The findings of an image, with its flash map and areas.
 #[derive(Drop)]
 pub struct CheckedImage {
     /// The map, or `None` if the image has none.
     pub found: Option<FoundMap>,
-    /// All areas of the map, in its order; none where the image has no map.
+    /// All areas of the map, in its order; empty if the image has no map.
     pub areas: Vec<NumberedArea>,
     pub findings: Vec<ImageFinding>,
 }
 
-/// Returns the findings of `check_image`, and the areas of the map, which is read once.
-pub fn checked_image<F: Flash>(
+/// Returns the findings of an image: of its flash map, of the areas that are checked as regions, in
+/// the order of the map, and of each of `names` that no area has.
+///
+/// An area inside the image is checked if its name is expected: one of `names`, one of `expected`,
+/// or `COREBOOT`. An area of any other name is checked if it begins with an entry, and no smaller
+/// area that begins with an entry starts at the same offset. The sizes of the checked areas add up
+/// to at most eight times the length of the image. An area that would exceed the sum isn't checked.
+///
+/// Returns `Device` exactly if the device refused a read, and `Memory` if an allocation failed.
+pub fn check_image<F: Flash>(
     alloc: Global,
     keys: RandomState,
     paged: &mut Paged<F>,
@@ -151,11 +163,12 @@ pub fn checked_image<F: Flash>(
     ensures findings { OnHonest F.facts paged.old.device (λ image. IfOk result (λ checked.
         checked.findings.items ≡ image_findings image
         (map (λ n. n.now) names.now) (map (λ n. n.now) expected.now))) }
-    ensures found { OnHonest F.facts paged.old.device (λ image. IfOk result (λ checked. checked.found ≡ found_in image)) }
+    ensures found { OnHonest F.facts paged.old.device (λ image. IfOk result (λ checked.
+        checked.found ≡ found_in image)) }
     ensures areas { OnHonest F.facts paged.old.device (λ image. IfOk result (λ checked.
         checked.areas.items ≡ image_areas image)) }
 {
-    let map = checked_map(alloc, paged)?;
+    let map = check_map(alloc, paged)?;
     let mut findings = map_part(alloc, &map.findings)?;
     let set = NameSet::of(alloc, names, expected)?;
     let wanted = wanted_areas(alloc, paged, &set, &map.areas)?;
@@ -167,34 +180,4 @@ pub fn checked_image<F: Flash>(
         areas: map.areas,
         findings,
     })
-}
-
-/// Returns the findings of an image: of its flash map, of the areas that are checked as regions, in
-/// the order of the map, and of each of `names` that no area has.
-///
-/// An area inside the image is checked if its name is expected: one of `names`, one of `expected`,
-/// or `COREBOOT`. An area of any other name is checked if it begins with an entry, and no smaller
-/// area that begins with an entry starts at the same place. The sizes of the checked areas add up
-/// to at most eight times the image's length: an area that would exceed that isn't checked.
-///
-/// `Device` comes exactly
-/// where the device refused a read, and `Memory` where an allocation was refused.
-pub fn check_image<F: Flash>(
-    alloc: Global,
-    keys: RandomState,
-    paged: &mut Paged<F>,
-    names: &[&[u8]],
-    expected: &[&[u8]],
-) -> Result<Vec<ImageFinding>, CheckFault>
-    // On any device.
-    ensures after { HasRead F.facts (2 * length (F.facts paged.old.device).content + 64)
-        (faults_told by_device result) paged.old paged.new }
-
-    // On an honest device.
-    ensures findings { OnHonest F.facts paged.old.device (λ image. IfOk result (λ findings.
-        findings.items ≡ image_findings image
-        (map (λ n. n.now) names.now) (map (λ n. n.now) expected.now))) }
-{
-    let checked = checked_image(alloc, keys, paged, names, expected)?;
-    Ok(checked.findings)
 }

@@ -1,31 +1,32 @@
-//! What it means that nothing bad is told. Nothing runs here: a call gives its caller the law.
-ghost use Rattle.check_findings.specs.Image.Laws.{FitImagesAreWhole, FitRegionsAreWhole, FitRegionsLoseNothing, NeedsAreThere};
+//! Laws about images without bad findings. The functions do nothing: their contracts are the laws.
+ghost use Rattle.check_findings.specs.Image.Laws.{FitImagesAreWhole, FitRegionsAreWhole};
+ghost use Rattle.check_findings.specs.Image.Laws.{FitRegionsLoseNothing, NeedsAreThere};
 
 use crate::region::unshadowed_components_are_found;
 
-/// In a region of which nothing bad is told, each component is found by its name.
+/// In a region without bad findings, a search finds each component by its name.
 pub fn fit_regions_lose_nothing()
     ensures { FitRegionsLoseNothing }
 {
     unshadowed_components_are_found();
 }
 
-/// A region of which nothing bad is told has a good size and an entry at its start, no entry of it is damaged, and no
-/// digest that is stored with a component is another one than that of its content.
+/// A region without bad findings has a good size and an entry at its start. None of its entries is
+/// damaged, each stored digest matches its content, and the tail is blank.
 pub fn fit_regions_are_whole()
     ensures { FitRegionsAreWhole }
 {}
 
-/// In an image of which nothing bad is told, each area that is checked as a region is the one that a command finds by its
-/// name, has such bytes, and loses no component.
+/// In an image without bad findings, the name of each checked area leads a command to this area.
+/// The area is a region as in the laws above.
 pub fn fit_images_are_whole()
     ensures { FitImagesAreWhole }
 {
     fit_regions_lose_nothing();
 }
 
-/// A need that the findings of an image meet is met by the image: an area that is checked has its name, a search in that area
-/// finds a component of its name, and the content of that component has the needed place.
+/// If the findings of an image meet a need, the image does: a checked area has the area name, a
+/// search there finds a component with the name, and its content has the required position.
 pub fn needs_are_there()
     ensures { NeedsAreThere }
 {}

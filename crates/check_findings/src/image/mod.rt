@@ -1,6 +1,6 @@
-//! Tells whether an image is fit to be flashed: its flashmap, and each CBFS region in it.
+//! The check of an image: its flash map, and each CBFS region in it.
 //!
-//! A check takes memory for what it tells, and leaves the bytes of an honest device as they are.
+//! A check allocates memory for its findings. It never writes to the device.
 
 mod finding;
 mod image;
@@ -12,7 +12,7 @@ mod verdict;
 mod wanted;
 
 pub use finding::{ImageFinding, RegionFindings};
-pub use image::{CheckedImage, check_image, checked_image};
+pub use image::{CheckedImage, check_image};
 pub use laws::{
     fit_images_are_whole, fit_regions_are_whole, fit_regions_lose_nothing, needs_are_there,
 };

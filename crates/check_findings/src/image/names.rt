@@ -1,7 +1,8 @@
-//! The names by which areas are checked, whatever the areas begin with.
+//! The names of areas that are checked even if they don't begin with an entry.
 ghost use Rattle.std.specs.Prelude.{◌≡◌, ◌∷◌, [], ◌++◌, List, ℕ, map, codes, IfOk, OnOk};
 ghost use Rattle.check_findings.specs.Map.Names.{Notes};
-ghost use Rattle.check_findings.specs.Image.ImageFindings.{expected_names, has_one_of, name_findings, names_findings};
+ghost use Rattle.check_findings.specs.Image.ImageFindings.{expected_names, has_one_of};
+ghost use Rattle.check_findings.specs.Image.ImageFindings.{name_findings, names_findings};
 ghost use Rattle.check_findings.specs.Image.Lookups.{HasNames};
 
 use crate::image::finding::ImageFinding;
@@ -71,7 +72,7 @@ impl<'a> NameSet<'a> {
     }
 }
 
-/// Adds a finding if no area has the name of this number.
+/// Adds a finding if no area has this name, whose index is `number`.
 fn push_if_missing<'a>(
     findings: &mut Vec<ImageFinding>,
     areas: &AreaNames<'a>,

@@ -6,18 +6,18 @@ use crate::image::finding::ImageFinding;
 use crate::map::NumberedArea;
 use crate::region::{ComponentFinding, Content, RegionFinding};
 
-/// The place that the content of a needed component must have in its area.
+/// The required position of a content in its area.
 #[derive(Clone, Copy, Debug, PartialEq, Eq)]
 pub enum NeededPlace {
     Any,
-    /// It begins at this offset from the area's start, in bytes.
+    /// The content starts at this offset in the area, in bytes.
     At(u64),
-    /// It ends at the area's end.
+    /// The content ends with the area.
     End,
 }
 
 impl NeededPlace {
-    /// Returns whether this content of a component of an area of `size` bytes has the place.
+    /// Returns whether a content has the position in an area of `size` bytes.
     fn is_met(self, content: Content, size: u32) -> bool
         ensures { result ≡ needs.is_met self content size }
     {
@@ -37,16 +37,16 @@ pub struct Need<'a> {
     pub place: NeededPlace,
 }
 
-/// Why a need isn't met.
+/// The reason for an unmet need.
 #[derive(Clone, Copy)]
 pub enum NeedFinding {
-    /// No checked area has the name, or it has no component of the name.
+    /// No checked area has the name, or the area has no component with the name.
     Missing,
-    /// The content of the first component of the name begins at this offset from the area's start.
+    /// The content of the first component with the name starts at this offset in the area.
     Elsewhere(u64),
 }
 
-/// Returns the content of the component of the finding, if it has this name.
+/// Returns the content of the finding, if its component has this name.
 fn content_named(finding: &RegionFinding, name: &[u8]) -> Option<Content>
     ensures { result ≡ needs.content_named name.now finding.now }
 {
@@ -60,7 +60,7 @@ fn content_named(finding: &RegionFinding, name: &[u8]) -> Option<Content>
     }
 }
 
-/// Returns the content of the first component of this name.
+/// Returns the content of the first component with this name.
 fn first_content(findings: &[RegionFinding], name: &[u8]) -> Option<Content>
     ensures { result ≡ needs.first_content name.now findings.now }
 {
@@ -72,7 +72,7 @@ fn first_content(findings: &[RegionFinding], name: &[u8]) -> Option<Content>
     None
 }
 
-/// Returns why the need isn't met by the area with these findings, if the area has its name.
+/// Returns the reason if an area with the name and these findings doesn't meet the need.
 fn unmet_in(area: NumberedArea, findings: &[RegionFinding], need: Need<'_>) -> Option<NeedFinding>
     ensures { result ≡ needs.unmet_in area findings.now (needs.wish_of need.entry) }
 {
@@ -83,8 +83,10 @@ fn unmet_in(area: NumberedArea, findings: &[RegionFinding], need: Need<'_>) -> O
     }
 }
 
-/// Returns why these findings of an image don't meet the need, or `None` if they do: the first checked area of its name has a
-/// component of its name, and the content of the first such component has the needed place.
+/// Returns the reason if the findings of an image don't meet the need, or `None` if they do.
+///
+/// The need is met if the first checked area with its area name has a component with its component
+/// name, and the content of the first such component has the required position.
 pub fn unmet(findings: &[ImageFinding], need: Need<'_>) -> Option<NeedFinding>
     ensures { result ≡ needs.unmet findings.now (needs.wish_of need.entry) }
 {

@@ -1,4 +1,4 @@
-//! The places at which areas begin.
+//! The offsets at which areas begin.
 ghost use Rattle.std.specs.Prelude.{◌≡◌, ◌∷◌, [], ◌++◌, List, IfOk, OnOk};
 ghost use Rattle.check_findings.specs.declared.map.finding.NumberedArea.{NumberedArea};
 ghost use Rattle.check_findings.specs.Image.ImageFindings.{has_smaller};
@@ -8,14 +8,14 @@ use crate::map::NumberedArea;
 use std::alloc::{AllocError, Global};
 use std::collections::BTreeMap;
 
-/// The smallest size of an area with room for an entry, by the place at which the area begins.
+/// The smallest size of an area with room for an entry, by the offset of the area.
 #[derive(Drop)]
 pub struct Starts {
     smallest: BTreeMap<u32, u32>,
 }
 
 impl Starts {
-    /// Returns the places at which these areas begin.
+    /// Returns the smallest size at each offset.
     pub fn of(alloc: Global, areas: &[NumberedArea]) -> Result<Starts, AllocError>
         ensures { IfOk result (λ starts. HasStarts starts areas.now) }
     {
@@ -43,7 +43,7 @@ impl Starts {
         Ok(())
     }
 
-    /// Returns whether an area with room for an entry begins where this one does and is smaller.
+    /// Returns whether a smaller area with room for an entry begins at the offset of this area.
     pub fn has_smaller(&self, area: &NumberedArea) -> bool
         ensures { (areas : List NumberedArea) → HasStarts self.now areas →
             result ≡ has_smaller areas area.now }

@@ -1,4 +1,4 @@
-//! Which findings are bad.
+//! The classification of findings as bad.
 ghost use Rattle.std.specs.Prelude.{◌≡◌};
 ghost use Rattle.std.specs.List.{list_any};
 ghost use Rattle.check_findings.specs.Image.Verdicts as verdicts;
@@ -8,7 +8,8 @@ use crate::map::MapFinding;
 use crate::region::{ComponentFinding, RegionFinding};
 use cbfs_walk::HashState;
 
-/// Whether a command or the boot goes wrong by a finding of the flashmap.
+/// Returns whether a finding of the flash map is bad: it breaks a command or the boot, or a check
+/// could not be made.
 pub fn is_bad_map(finding: &MapFinding) -> bool
     ensures { result ≡ verdicts.is_bad_map finding.now }
 {
@@ -18,17 +19,17 @@ pub fn is_bad_map(finding: &MapFinding) -> bool
         | MapFinding::AreaOutside(_)
         | MapFinding::SameName { .. }
         | MapFinding::Overlap { .. }
+        | MapFinding::TooManyAreas
         | MapFinding::NoMapArea
         | MapFinding::MapAreaMisses(_) => true,
         MapFinding::Map(_)
         | MapFinding::OtherMap(_)
         | MapFinding::AreaEmpty(_)
-        | MapFinding::AreaNameNotText(_)
-        | MapFinding::TooManyAreas => false,
+        | MapFinding::AreaNameNotText(_) => false,
     }
 }
 
-/// Whether a component with this digest is bad, where each may need one.
+/// Returns whether a component with this digest is bad.
 fn is_bad_hash(state: HashState, needs_hashes: bool) -> bool
     ensures { result ≡ verdicts.is_bad_hash needs_hashes state }
 {
@@ -49,8 +50,8 @@ fn is_bad_component(what: ComponentFinding, needs_hashes: bool) -> bool
     }
 }
 
-/// Whether a command or the boot goes wrong by a finding of a region, or a digest is missing that
-/// each component needs.
+/// Returns whether a finding of a region is bad: it breaks a command or the boot, or `needs_hashes`
+/// is set and a component has no digest of a known algorithm.
 pub fn is_bad_region(finding: &RegionFinding, needs_hashes: bool) -> bool
     ensures { result ≡ verdicts.is_bad_region needs_hashes finding.now }
 {
@@ -65,7 +66,8 @@ pub fn is_bad_region(finding: &RegionFinding, needs_hashes: bool) -> bool
         | RegionFinding::Components(_)
         | RegionFinding::NoComponents
         | RegionFinding::FreeBytes(_)
-        | RegionFinding::LargestFree(_) => false,
+        | RegionFinding::LargestContent(_)
+        | RegionFinding::NoRoom => false,
     }
 }
 
@@ -77,7 +79,7 @@ pub fn has_bad_region(findings: &[RegionFinding], needs_hashes: bool) -> bool
         .any(|finding| is_bad_region(finding, needs_hashes))
 }
 
-/// Whether a finding is bad, of a region where one of its findings is.
+/// Returns whether a finding is bad. A region is bad if any of its findings is.
 pub fn is_bad(finding: &ImageFinding, needs_hashes: bool) -> bool
     ensures { result ≡ verdicts.is_bad needs_hashes finding.now }
 {
@@ -89,7 +91,7 @@ pub fn is_bad(finding: &ImageFinding, needs_hashes: bool) -> bool
     }
 }
 
-/// Whether any finding is bad, so that the image isn't fit to be flashed.
+/// Returns whether any finding is bad.
 pub fn has_bad(findings: &[ImageFinding], needs_hashes: bool) -> bool
     ensures { result ≡ list_any (verdicts.is_bad needs_hashes) findings.now }
 {

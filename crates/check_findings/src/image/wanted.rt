@@ -1,5 +1,6 @@
-//! The areas that are checked as regions.
-ghost use Rattle.std.specs.Prelude.{ℕ, ◌≡◌, ◌≤◌, ◌+◌, ◌∷◌, [], ◌++◌, List, All, IsTrue, filter, length, IfOk, OnOk};
+//! The selection of the areas that are checked as regions.
+ghost use Rattle.std.specs.Prelude.{ℕ, ◌≡◌, ◌≤◌, ◌+◌, ◌∷◌, [], ◌++◌, List, All, IsTrue, filter};
+ghost use Rattle.std.specs.Prelude.{length, IfOk, OnOk};
 ghost use Rattle.flash_device.specs.Device.{faults_told};
 ghost use Rattle.flash_device.specs.Pages.{HasRead, HasAnswered, OnHonest};
 ghost use Rattle.check_findings.specs.declared.map.finding.NumberedArea.{NumberedArea};
@@ -16,8 +17,8 @@ use crate::region::starts_with_entry;
 use flash_device::{Flash, FlashFault, Paged, Region};
 use std::alloc::Global;
 
-/// Returns the areas that lie inside the image and hold a CBFS: each begins with an entry, and no
-/// smaller area that begins with an entry starts at the same place.
+/// Returns the areas inside the image that contain a CBFS: each begins with an entry, and no
+/// smaller area that begins with an entry starts at the same offset.
 pub fn cbfs_areas<F: Flash>(
     alloc: Global,
     paged: &mut Paged<F>,
@@ -65,8 +66,8 @@ fn push_if_wanted<F: Flash>(
     wanted: &mut Vec<NumberedArea>,
 ) -> Result<(), CheckFault>
     ensures after { HasRead F.facts 1 (faults_told by_device result) paged.old paged.new }
-    ensures inside { All (λ a. area_end a.area ≤ length (F.facts paged.old.device).content) wanted.old.items →
-        OnOk result
+    ensures inside { All (λ a. area_end a.area ≤ length (F.facts paged.old.device).content)
+        wanted.old.items → OnOk result
         (All (λ a. area_end a.area ≤ length (F.facts paged.old.device).content) wanted.new.items) }
     ensures count { OnOk result (length wanted.new.items ≤ length wanted.old.items + 1) }
     ensures area { OnHonest F.facts paged.old.device (λ image.

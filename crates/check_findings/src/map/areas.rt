@@ -1,4 +1,4 @@
-//! The areas of a flashmap, read once.
+//! The areas of a flash map.
 
 ghost use Rattle.std.specs.Prelude.{◌≡◌, ◌+◌, ◌*◌, ◌/◌, ◌≤◌, [], ◌∷◌, ◌++◌, length, IfOk, OnOk};
 ghost use Rattle.flash_format.specs.Flashmap.{area_len, map_len};
@@ -22,13 +22,17 @@ pub struct ImageMap {
     pub areas: Vec<NumberedArea>,
 }
 
-/// Returns the image's flash map with its areas. `Device` is returned exactly if the device refused a read.
+/// Returns the flash map of an image with its areas. Returns `Device` exactly if a read failed.
 pub fn image_map<F: Flash>(alloc: Global, paged: &mut Paged<F>) -> Result<ImageMap, CheckFault>
     ensures after { HasRead F.facts (length (F.facts paged.old.device).content / 2
-        + length (F.facts paged.old.device).content / area_len + 8) (faults_told by_device result) paged.old paged.new }
-    ensures fits { IfOk result (λ map. area_len * length map.areas.items ≤ length (F.facts paged.old.device).content) }
-    ensures found { OnHonest F.facts paged.old.device (λ image. IfOk result (λ map. map.found ≡ found_in image)) }
-    ensures areas { OnHonest F.facts paged.old.device (λ image. IfOk result (λ map. map.areas.items ≡ image_areas image)) }
+        + length (F.facts paged.old.device).content / area_len + 8) (faults_told by_device result)
+        paged.old paged.new }
+    ensures fits { IfOk result (λ map.
+        area_len * length map.areas.items ≤ length (F.facts paged.old.device).content) }
+    ensures found { OnHonest F.facts paged.old.device (λ image.
+        IfOk result (λ map. map.found ≡ found_in image)) }
+    ensures areas { OnHonest F.facts paged.old.device (λ image.
+        IfOk result (λ map. map.areas.items ≡ image_areas image)) }
 {
     let Some(found) = find_fmap(paged)? else {
         let areas = Vec::new(alloc);
@@ -39,7 +43,7 @@ pub fn image_map<F: Flash>(alloc: Global, paged: &mut Paged<F>) -> Result<ImageM
     Ok(ImageMap { found, areas })
 }
 
-/// All areas of the map, in its order.
+/// Returns all areas of the map, in its order.
 pub fn map_areas<F: Flash>(
     alloc: Global,
     paged: &mut Paged<F>,
@@ -47,9 +51,11 @@ pub fn map_areas<F: Flash>(
 ) -> Result<Vec<NumberedArea>, CheckFault>
     requires { map.now.at + map_len map.now.head ≤ length (F.facts paged.old.device).content }
 
-    ensures after { HasRead F.facts map.now.head.nareas (faults_told by_device result) paged.old paged.new }
+    ensures after { HasRead F.facts map.now.head.nareas (faults_told by_device result)
+        paged.old paged.new }
     ensures count { IfOk result (λ areas. length areas.items ≡ map.now.head.nareas) }
-    ensures areas { OnHonest F.facts paged.old.device (λ image. IfOk result (λ areas. areas.items ≡ map_areas image map.now)) }
+    ensures areas { OnHonest F.facts paged.old.device (λ image.
+        IfOk result (λ areas. areas.items ≡ map_areas image map.now)) }
 {
     let mut areas = Vec::new(alloc);
     for number in 0..map.head.nareas {

@@ -1,4 +1,4 @@
-//! The whole check of a flashmap.
+//! The check of a flash map.
 
 ghost use Rattle.std.specs.Prelude.{◌≡◌, ◌+◌, ◌*◌, ◌/◌, ◌≤◌, [], ◌∷◌, length, IfOk};
 ghost use Rattle.flash_format.specs.Flashmap.{area_len};
@@ -15,38 +15,30 @@ use crate::map::findings::{findings_of, push_if};
 use flash_device::{Flash, FoundMap, Paged, find_fmap, find_fmap_from};
 use std::alloc::{AllocError, Global};
 
-/// What is told of the image's flashmap, in the order of `MapFinding`. It only reads. `Device` comes exactly where the
-/// device refused a read; what was found till then is dropped.
-pub fn check_map<F: Flash>(
-    alloc: Global,
-    paged: &mut Paged<F>,
-) -> Result<Vec<MapFinding>, CheckFault>
-    ensures after { HasRead F.facts (length (F.facts paged.old.device).content
-        + length (F.facts paged.old.device).content / area_len + 16) (faults_told by_device result) paged.old paged.new }
-    ensures answer { OnHonest F.facts paged.old.device (λ image. IfOk result (λ findings. findings.items ≡ map_findings image)) }
-{
-    let map = checked_map(alloc, paged)?;
-    Ok(map.findings)
-}
-
-/// What is told of an image's flashmap, and the areas of which it is told.
+/// The findings of a flash map, with the map and its areas.
 #[derive(Drop)]
 pub struct CheckedMap {
     pub findings: Vec<MapFinding>,
     /// The map, or `None` if the image has none.
     pub found: Option<FoundMap>,
-    /// All areas of the map, in its order; none where the image has no map.
+    /// All areas of the map, in its order; empty if the image has no map.
     pub areas: Vec<NumberedArea>,
 }
 
-/// What `check_map` tells, and the areas with it, for which the map is read once.
-pub fn checked_map<F: Flash>(alloc: Global, paged: &mut Paged<F>) -> Result<CheckedMap, CheckFault>
+/// Returns the findings of an image's flash map, in the order of `MapFinding`, with the map and its
+/// areas. Returns `Device` exactly if a read failed.
+pub fn check_map<F: Flash>(alloc: Global, paged: &mut Paged<F>) -> Result<CheckedMap, CheckFault>
     ensures after { HasRead F.facts (length (F.facts paged.old.device).content
-        + length (F.facts paged.old.device).content / area_len + 16) (faults_told by_device result) paged.old paged.new }
-    ensures fits { IfOk result (λ map. area_len * length map.areas.items ≤ length (F.facts paged.old.device).content) }
-    ensures found { OnHonest F.facts paged.old.device (λ image. IfOk result (λ map. map.found ≡ found_in image)) }
-    ensures answer { OnHonest F.facts paged.old.device (λ image. IfOk result (λ map. map.findings.items ≡ map_findings image)) }
-    ensures areas { OnHonest F.facts paged.old.device (λ image. IfOk result (λ map. map.areas.items ≡ image_areas image)) }
+        + length (F.facts paged.old.device).content / area_len + 16) (faults_told by_device result)
+        paged.old paged.new }
+    ensures fits { IfOk result (λ map.
+        area_len * length map.areas.items ≤ length (F.facts paged.old.device).content) }
+    ensures found { OnHonest F.facts paged.old.device (λ image.
+        IfOk result (λ map. map.found ≡ found_in image)) }
+    ensures answer { OnHonest F.facts paged.old.device (λ image.
+        IfOk result (λ map. map.findings.items ≡ map_findings image)) }
+    ensures areas { OnHonest F.facts paged.old.device (λ image.
+        IfOk result (λ map. map.areas.items ≡ image_areas image)) }
 {
     let len = paged.len();
     let Some(map) = find_fmap(paged)? else {
@@ -70,7 +62,7 @@ pub fn checked_map<F: Flash>(alloc: Global, paged: &mut Paged<F>) -> Result<Chec
     })
 }
 
-/// What is told where there is no map.
+/// Returns the findings of an image without a map.
 fn no_map(alloc: Global) -> Result<Vec<MapFinding>, AllocError>
     ensures { IfOk result (λ findings. findings.items ≡ MapFinding.NoMap ∷ []) }
 {

@@ -1,4 +1,4 @@
-//! What is told of a flashmap.
+//! Findings of a flash map.
 
 ghost use Rattle.std.specs.Prelude.{◌≡◌};
 
@@ -6,45 +6,46 @@ use flash_device::{FlashFault, FoundMap};
 use flash_format::Area;
 use std::alloc::AllocError;
 
-/// An area with its number in the map, counted from 0.
+/// An area with its index in the map.
 #[derive(Clone, Copy, Drop)]
 pub struct NumberedArea {
     pub number: u16,
     pub area: Area,
 }
 
-/// One thing that is told of an image's flashmap.
+/// A finding of a flash map.
 #[derive(Clone, Copy, Drop)]
 pub enum MapFinding {
-    /// The image has no valid flashmap. Nothing else is then told.
+    /// The image has no valid flash map. There is no other finding then.
     NoMap,
-    /// The image's flashmap.
+    /// The flash map of the image.
     Map(FoundMap),
-    /// The next valid map above it, which a reader that searches in another order may take.
+    /// The next valid map at a higher offset. A reader that searches in another order may use it.
     OtherMap(FoundMap),
-    /// The map states another size than the image has.
+    /// The size in the map differs from the size of the image.
     OtherSize,
-    /// The area ends after the image's end.
+    /// The area ends after the end of the image.
     AreaOutside(NumberedArea),
-    /// The area has no bytes.
+    /// The size of the area is 0.
     AreaEmpty(NumberedArea),
-    /// The area's name isn't UTF-8.
+    /// The name of the area isn't UTF-8.
     AreaNameNotText(NumberedArea),
-    /// An earlier area has the area's name, so that no name reaches it. `first` is the first such.
+    /// An earlier area has the same name, so no command finds this area. `first` is the first area
+    /// with the name.
     SameName {
         area: NumberedArea,
         first: NumberedArea,
     },
-    /// The area has bytes in common with another one, and neither holds the other. `other` is the
-    /// first such.
+    /// The area overlaps another area, and neither contains the other. `other` is the first such
+    /// area.
     Overlap {
         area: NumberedArea,
         other: NumberedArea,
     },
-    /// The map has more than 4096 areas. Whether they overlap isn't looked for.
+    /// The map has more than 4096 areas, so overlaps are not looked for.
     TooManyAreas,
-    /// No area has the map's own name.
+    /// No area has the name `FMAP`.
     NoMapArea,
-    /// The first area with the map's own name doesn't hold all of the map.
+    /// The first area with the name `FMAP` doesn't contain the whole map.
     MapAreaMisses(NumberedArea),
 }

@@ -1,20 +1,23 @@
-//! What is told of a map whose areas are read.
+//! The findings of a flash map and its areas.
 
 ghost use Rattle.std.specs.Prelude.{◌≡◌, ◌+◌, ◌^◌, ◌<◌, ◌≤◌, ◌++◌, length, IfOk, OnOk, drop};
 ghost use Rattle.std.specs.List.{find, flat_map};
-ghost use Rattle.std.specs.Str.{is_utf8};
 ghost use lib.Chars.{codes};
 ghost use Rattle.flash_format.specs.Flashmap.{map_len};
-ghost use Rattle.check_findings.specs.Map.MapFindings.{told_if, area_findings, has_name, holds_map, map_area_findings, next_findings, findings_of};
+ghost use Rattle.check_findings.specs.Map.MapFindings.{area_findings, findings_of, has_name};
+ghost use Rattle.check_findings.specs.Map.MapFindings.{holds_map};
+ghost use Rattle.check_findings.specs.Map.MapFindings.{map_area_findings, next_findings, told_if};
 
 use crate::map::finding::{MapFinding, NumberedArea};
 use crate::map::names::push_name_findings;
 use crate::map::overlaps::push_overlap_findings;
+use crate::text::is_text;
 use flash_device::FoundMap;
 use flash_format::{Area, FmapHead};
 use std::alloc::{AllocError, Global};
 
-/// What is told of a map with this next one and these areas, in an image of `len` bytes.
+/// Returns the findings of a map with these areas in an image of `len` bytes. `next` is the map at
+/// the next higher offset.
 pub fn findings_of(
     alloc: Global,
     len: u64,
@@ -40,7 +43,7 @@ pub fn findings_of(
     Ok(findings)
 }
 
-/// Pushes the finding where it is to be told.
+/// Adds the finding if `told` is set.
 pub fn push_if(
     findings: &mut Vec<MapFinding>,
     told: bool,
@@ -54,7 +57,7 @@ pub fn push_if(
     Ok(())
 }
 
-/// Pushes the next map.
+/// Adds a finding for the next map.
 fn push_next_findings(
     findings: &mut Vec<MapFinding>,
     next: Option<FoundMap>,
@@ -67,13 +70,14 @@ fn push_next_findings(
     Ok(())
 }
 
-/// Pushes what is told of each area by itself.
+/// Adds the findings of each area on its own.
 fn push_area_findings(
     findings: &mut Vec<MapFinding>,
     len: u64,
     areas: &[NumberedArea],
 ) -> Result<(), AllocError>
-    ensures { OnOk result (findings.new.items ≡ findings.old.items ++ flat_map (area_findings len) areas.now) }
+    ensures { OnOk result (findings.new.items
+        ≡ findings.old.items ++ flat_map (area_findings len) areas.now) }
 {
     for a in areas {
         let end = u64::from(a.area.offset) + u64::from(a.area.size);
@@ -88,21 +92,15 @@ fn push_area_findings(
     Ok(())
 }
 
-/// Returns whether the bytes are UTF-8.
-fn is_text(bytes: &[u8]) -> bool
-    ensures { result ≡ is_utf8 bytes.now }
-{
-    str::from_utf8(bytes).is_ok()
-}
-
-/// Pushes what is told of the first area with the map's own name.
+/// Adds the finding of the first area with the name `FMAP`.
 fn push_map_area_findings(
     findings: &mut Vec<MapFinding>,
     map: &FoundMap,
     areas: &[NumberedArea],
 ) -> Result<(), AllocError>
     requires { map.now.at + map_len map.now.head < 2 ^ 64 }
-    ensures { OnOk result (findings.new.items ≡ findings.old.items ++ map_area_findings map.now (find (has_name (codes "FMAP")) areas.now)) }
+    ensures { OnOk result (findings.new.items ≡ findings.old.items
+        ++ map_area_findings map.now (find (has_name (codes "FMAP")) areas.now)) }
 {
     match map_area(areas) {
         Some(a) => push_if(
@@ -114,7 +112,7 @@ fn push_map_area_findings(
     }
 }
 
-/// The first area with the map's own name.
+/// Returns the first area with the name `FMAP`.
 fn map_area(areas: &[NumberedArea]) -> Option<NumberedArea>
     ensures { result ≡ find (has_name (codes "FMAP")) areas.now }
 {
@@ -126,7 +124,7 @@ fn map_area(areas: &[NumberedArea]) -> Option<NumberedArea>
     None
 }
 
-/// Whether the area holds all of the map.
+/// Returns whether the area contains the whole map.
 fn holds_map(map: &FoundMap, area: &Area) -> bool
     requires { map.now.at + map_len map.now.head < 2 ^ 64 }
     ensures { result ≡ holds_map map.now area.now }

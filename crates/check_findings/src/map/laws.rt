@@ -1,9 +1,9 @@
-//! What it means that nothing is told. Nothing runs here: a call gives its caller the law.
+//! Laws about flash maps without findings. The functions do nothing: their contracts are the laws.
 ghost use Rattle.check_findings.specs.Map.Laws.{UntoldMapsAreSound};
 
-/// A map of which nothing is told but where it is has the image's size and stands alone; each of its
-/// areas lies inside the image, has bytes, is found by its name, which is text, and overlaps none
-/// that it neither holds nor is held by; and the area `FMAP` holds all of the map.
+/// A map whose only finding is its position has the size of the image, and no other map follows it.
+/// Each area lies inside the image, has bytes and a name of text that leads to it, and contains or
+/// is contained in each area that it overlaps. The area `FMAP` contains the map.
 pub fn untold_maps_are_sound()
     ensures { UntoldMapsAreSound }
 {}

@@ -1,4 +1,4 @@
-//! Tells what is to be said of an image's flashmap before the image is flashed.
+//! The check of a flash map.
 
 mod areas;
 mod check;
@@ -9,7 +9,7 @@ mod names;
 mod overlaps;
 
 pub use areas::{ImageMap, image_map, push_area};
-pub use check::{CheckedMap, check_map, checked_map};
+pub use check::{CheckedMap, check_map};
 pub use finding::{MapFinding, NumberedArea};
 pub use laws::untold_maps_are_sound;
 pub use names::AreaNames;

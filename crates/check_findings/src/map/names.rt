@@ -1,4 +1,4 @@
-//! Areas that no name reaches.
+//! Areas with the name of an earlier area.
 
 ghost use Rattle.std.specs.Prelude.{◌≡◌, [], ◌∷◌, ◌++◌, List, IfOk, OnOk};
 ghost use Rattle.flash_format.specs.Flashmap.{text_of};
@@ -18,7 +18,7 @@ pub struct AreaNames<'a> {
 impl<'a> AreaNames<'a> {
     ghost use Rattle.check_findings.specs.Map.Names.{area_for, Notes};
 
-    /// Of no areas.
+    /// Returns the names of no areas.
     pub fn new(alloc: Global) -> AreaNames<'a>
         ensures { Notes result [] }
     {
@@ -27,7 +27,7 @@ impl<'a> AreaNames<'a> {
         }
     }
 
-    /// Of these areas.
+    /// Returns the names of these areas.
     pub fn of(alloc: Global, areas: &'a [NumberedArea]) -> Result<AreaNames<'a>, AllocError>
         ensures { IfOk result (λ names. Notes names areas.now) }
     {
@@ -38,17 +38,19 @@ impl<'a> AreaNames<'a> {
         Ok(names)
     }
 
-    /// The first area with the name.
+    /// Returns the first area with the name.
     pub fn get(&self, name: &'a [u8]) -> Option<NumberedArea>
         ensures { result ≡ area_for self.now name.now }
     {
         self.first.get(&name).copied()
     }
 
-    /// The first area with the area's name. Where there is none, the area is noted.
+    /// Returns the first area with the name of this area. Adds the area if there is none.
     fn note(&mut self, area: &'a NumberedArea) -> Result<Option<NumberedArea>, AllocError>
-        ensures first { IfOk result (λ first. first ≡ area_for self.old (text_of area.now.area.name)) }
-        ensures more { (before : List NumberedArea) → Notes self.old before → OnOk result (Notes self.new (before ++ area.now ∷ [])) }
+        ensures first { IfOk result (λ first.
+            first ≡ area_for self.old (text_of area.now.area.name)) }
+        ensures more { (before : List NumberedArea) → Notes self.old before →
+            OnOk result (Notes self.new (before ++ area.now ∷ [])) }
     {
         let name = area.area.text();
         if let Some(first) = self.first.get(&name) {
@@ -59,7 +61,7 @@ impl<'a> AreaNames<'a> {
     }
 }
 
-/// Pushes what is told of each area whose name an earlier one has.
+/// Adds a finding for each area with the name of an earlier area.
 pub fn push_name_findings(
     alloc: Global,
     findings: &mut Vec<MapFinding>,
@@ -75,7 +77,7 @@ pub fn push_name_findings(
     Ok(())
 }
 
-/// Pushes that an earlier area, which is given, has the area's name.
+/// Adds a finding if there is an earlier area with the name.
 fn push_name_finding(
     findings: &mut Vec<MapFinding>,
     a: &NumberedArea,

@@ -1,18 +1,19 @@
-//! Areas that overlap, and neither holds the other.
+//! Areas that overlap without containing each other.
 
 ghost use Rattle.std.specs.Prelude.{◌≡◌, ◌++◌, length, OnOk};
 ghost use Rattle.std.specs.List.{find};
-ghost use Rattle.check_findings.specs.Map.MapFindings.{ends_inside, overlap, overlap_finding, overlaps_among, overlap_findings};
+ghost use Rattle.check_findings.specs.Map.MapFindings.{ends_inside, overlap, overlap_finding};
+ghost use Rattle.check_findings.specs.Map.MapFindings.{overlaps_among, overlap_findings};
 
 use crate::map::finding::{MapFinding, NumberedArea};
 use crate::map::findings::push_if;
 use flash_format::Area;
 use std::alloc::AllocError;
 
-/// How many areas are compared, each with each. All that a map can have would take seconds.
+/// The most areas that are compared pairwise. The largest map has 65535, which would take seconds.
 const MOST_COMPARED: usize = 4096;
 
-/// Pushes what is told of each area that overlaps another one.
+/// Adds a finding for each area that overlaps another area.
 pub fn push_overlap_findings(
     findings: &mut Vec<MapFinding>,
     areas: &[NumberedArea],
@@ -26,9 +27,10 @@ pub fn push_overlap_findings(
     }
 }
 
-/// Compares each area with each.
+/// Compares the areas pairwise.
 fn push_overlaps(findings: &mut Vec<MapFinding>, areas: &[NumberedArea]) -> Result<(), AllocError>
-    ensures { OnOk result (findings.new.items ≡ findings.old.items ++ overlaps_among areas.now areas.now) }
+    ensures { OnOk result (findings.new.items
+        ≡ findings.old.items ++ overlaps_among areas.now areas.now) }
 {
     for a in areas {
         push_overlap(findings, a, first_overlap(areas, a))?;
@@ -36,6 +38,7 @@ fn push_overlaps(findings: &mut Vec<MapFinding>, areas: &[NumberedArea]) -> Resu
     Ok(())
 }
 
+/// Adds a finding if there is an overlapping area.
 fn push_overlap(
     findings: &mut Vec<MapFinding>,
     a: &NumberedArea,
@@ -49,7 +52,7 @@ fn push_overlap(
     Ok(())
 }
 
-/// The first of these areas that this one overlaps.
+/// Returns the first of these areas that overlaps `a`.
 fn first_overlap(areas: &[NumberedArea], a: &NumberedArea) -> Option<NumberedArea>
     ensures { result ≡ find (overlap a.now) areas.now }
 {
@@ -61,7 +64,7 @@ fn first_overlap(areas: &[NumberedArea], a: &NumberedArea) -> Option<NumberedAre
     None
 }
 
-/// Whether the first area begins before the second one and ends inside it.
+/// Returns whether area `a` begins before area `b` and ends inside it.
 fn ends_inside(a: &Area, b: &Area) -> bool
     ensures { result ≡ ends_inside a.now b.now }
 {

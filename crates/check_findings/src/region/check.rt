@@ -1,5 +1,5 @@
 //! The check of a region.
-ghost use Rattle.std.specs.Prelude.{◌≡◌, ◌↔◌, ◌+◌, ◌/◌, IfOk, IsErrOf};
+ghost use Rattle.std.specs.Prelude.{◌≡◌, ◌↔◌, ◌+◌, ◌*◌, ◌/◌, IfOk, IsErrOf};
 ghost use Rattle.flash_device.specs.Device.{faults_told};
 ghost use Rattle.flash_device.specs.Pages.{HasRead, OnHonestIn};
 ghost use Rattle.flash_device.specs.Regions.{LiesIn};
@@ -7,19 +7,22 @@ ghost use Rattle.cbfs_walk.specs.Cells.{IsCellIn, cell_in};
 ghost use Rattle.cbfs_walk.specs.Walks.{StandsIn};
 ghost use Rattle.check_findings.specs.Faults.{by_device};
 ghost use Rattle.check_findings.specs.Region.RegionFindings.{free_findings, region_findings};
-ghost use Rattle.check_findings.specs.Region.Reports.{AddsFindings, TellsMore, told_cell, refused_findings};
+ghost use Rattle.check_findings.specs.Region.Reports.{AddsFindings, TellsMore};
+ghost use Rattle.check_findings.specs.Region.Reports.{refused_findings, told_cell};
 
 use crate::fault::CheckFault;
 use crate::region::count::Count;
 use crate::region::finding::{Content, RegionFinding};
 use crate::region::report::Report;
 use crate::region::tail::tell_tail;
-use cbfs_walk::{Cell, Step, Walk, WalkFault, cells_stand_in_their_image, check_hash, name};
+use cbfs_walk::{
+    Cell, Step, Walk, WalkFault, cells_stand_in_their_image, check_hash, name, packing,
+};
 use flash_device::{Flash, Paged, Region};
 use std::alloc::{AllocError, Global};
 use std::hash::RandomState;
 
-/// Tells what there is to tell of a free cell.
+/// Adds the findings of an empty entry.
 fn tell_free(cell: &Cell, report: &mut Report) -> Result<(), AllocError>
     ensures { AddsFindings result report.old report.new (free_findings cell.now.at cell.now.head) }
 {
@@ -29,7 +32,7 @@ fn tell_free(cell: &Cell, report: &mut Report) -> Result<(), AllocError>
     Ok(())
 }
 
-/// Tells what there is to tell of a cell.
+/// Adds the findings of an entry.
 fn tell_cell<F: Flash>(
     paged: &mut Paged<F>,
     region: Region,
@@ -39,9 +42,11 @@ fn tell_cell<F: Flash>(
     requires region { LiesIn region (F.facts paged.old.device).content }
     requires cell { IsCellIn region.size cell.now }
 
-    ensures after { HasRead F.facts (2 + cell.now.span / 3840) (faults_told by_device result) paged.old paged.new }
+    ensures after { HasRead F.facts (3 + 2 * (cell.now.span / 3840)) (faults_told by_device result)
+        paged.old paged.new }
     ensures told { OnHonestIn F.facts paged.old.device region (λ x. StandsIn x cell.now →
-        TellsMore result report.old report.new (λ t. told_cell t cell.now.at (cell_in x cell.now))) }
+        TellsMore result report.old report.new
+        (λ t. told_cell t cell.now.at (cell_in x cell.now))) }
 {
     cells_stand_in_their_image();
     if cell.head.is_free() {
@@ -50,20 +55,23 @@ fn tell_cell<F: Flash>(
     }
     let mut field = [0; 256];
     let len = name(paged, region, cell, &mut field)?;
+    let compression = packing(paged, region, cell)?;
     let hash = check_hash(paged, region, cell)?;
     let content = Content {
         kind: cell.head.kind,
         start: cell.at + u64::from(cell.head.offset),
         len: u64::from(cell.head.len),
+        compression,
         hash,
     };
     report.tell_named(cell.at, &field[..len], content)?;
     Ok(())
 }
 
-/// What is told where a walk gives no cell more.
+/// Returns the findings if the walk ends with a fault.
 fn refused(report: Report, count: Count, fault: WalkFault) -> Result<Vec<RegionFinding>, CheckFault>
-    ensures told { IfOk result (λ all. all.items ≡ refused_findings report.findings.items count fault) }
+    ensures told { IfOk result (λ all.
+        all.items ≡ refused_findings report.findings.items count fault) }
     ensures device { IsErrOf result CheckFault.Device ↔ (fault ≡ WalkFault.Device) }
 {
     let mut report = report;
@@ -73,15 +81,15 @@ fn refused(report: Report, count: Count, fault: WalkFault) -> Result<Vec<RegionF
         WalkFault::NotCbfs => report.tell(RegionFinding::NotCbfs)?,
         WalkFault::Damaged { at, kind } => {
             report.tell(RegionFinding::Damaged { at, kind })?;
-            return Ok(report.counted(count)?);
+            return Ok(report.counted(count, at)?);
         }
     }
     Ok(report.findings)
 }
 
-/// What is told of a region, cell by cell. It is the same with any keys for the hasher of names.
-/// `Device` comes exactly where the device refused a read, and `Memory` where an allocation was
-/// refused; then nothing is told.
+/// Returns the findings of a region, entry by entry. They don't depend on the keys, which are for
+/// the hash table of names. Returns `Device` exactly if a read failed, and `Memory` if an
+/// allocation failed.
 pub fn check_region<F: Flash>(
     alloc: Global,
     keys: RandomState,
@@ -91,7 +99,8 @@ pub fn check_region<F: Flash>(
     requires { LiesIn region (F.facts paged.old.device).content }
 
     // On any device.
-    ensures after { HasRead F.facts (region.size / 16 + 2) (faults_told by_device result) paged.old paged.new }
+    ensures after { HasRead F.facts (region.size / 16 + 2) (faults_told by_device result)
+        paged.old paged.new }
 
     // On an honest device.
     ensures findings { OnHonestIn F.facts paged.old.device region (λ x.
@@ -99,7 +108,8 @@ pub fn check_region<F: Flash>(
 {
     paged.places_fit();
     let mut report = Report::new(alloc, keys);
-    let mut count = Count::new();
+    let size = region.size();
+    let mut count = Count::new(size);
     let mut walk = Walk::new(region);
     let mut at = 0;
     loop {
@@ -111,11 +121,11 @@ pub fn check_region<F: Flash>(
             }
             Ok(Step::Tail(_)) => {
                 tell_tail(paged, region, at, &mut report)?;
-                return Ok(report.counted(count)?);
+                return Ok(report.counted(count, at)?);
             }
             Ok(Step::End) => {
                 report.tell(RegionFinding::Complete)?;
-                return Ok(report.counted(count)?);
+                return Ok(report.counted(count, size)?);
             }
             Err(fault) => return refused(report, count, fault),
         }

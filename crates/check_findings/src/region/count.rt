@@ -1,53 +1,73 @@
-//! What the cells of a region sum up to.
+//! Sums over the entries of a region.
 ghost use Rattle.std.specs.Prelude.{◌≡◌, ◌+◌, ◌^◌, ◌<◌};
 ghost use Rattle.flash_format.specs.Head.{is_free};
+ghost use Rattle.check_findings.specs.Region.Counts.{usable};
 
 use cbfs_walk::Cell;
 
-/// How many components and free bytes the cells so far have.
+/// The sums over the entries of a region up to an offset.
 #[derive(Clone, Copy)]
 pub struct Count {
+    /// The size of the region in bytes.
+    pub size: u64,
     pub components: u64,
-    /// All free cells together.
+    /// The bytes of all empty entries.
     pub free: u64,
-    /// The longest run of free cells that follow each other.
-    pub longest_free: u64,
-    /// The free cells right before the walk's place.
-    pub row: u64,
+    /// The offset after the last component. All later entries are empty.
+    pub start: u64,
+    /// The most bytes that a component can use of one run of empty entries before `start`.
+    pub room: u64,
+}
+
+/// Returns how many bytes a component can use of a run of empty entries in a region of this size.
+/// The last four bytes of the region are kept.
+fn usable(size: u64, start: u64, end: u64) -> u64
+    ensures { result ≡ usable size start end }
+{
+    let kept = if end == size { 4 } else { 0 };
+    end.saturating_sub(start).saturating_sub(kept)
 }
 
 impl Count {
-    ghost use Rattle.check_findings.specs.Region.Counts.{IsCountBefore, count_after, nothing};
+    ghost use Rattle.check_findings.specs.Region.Counts.{IsCountBefore, count_after};
+    ghost use Rattle.check_findings.specs.Region.Counts.{nothing, room_to};
 
-    /// No cell is counted yet.
-    pub fn new() -> Count
-        ensures { result ≡ nothing }
+    /// Returns the sums over no entries, in a region of this size.
+    pub fn new(size: u64) -> Count
+        ensures { result ≡ nothing size }
     {
         Count {
+            size,
             components: 0,
             free: 0,
-            longest_free: 0,
-            row: 0,
+            start: 0,
+            room: 0,
         }
     }
 
-    /// One cell more.
+    /// Returns the most bytes that a component can use of one run, if the entries end here.
+    pub fn room_to(self, end: u64) -> u64
+        ensures { result ≡ room_to self end }
+    {
+        self.room.max(usable(self.size, self.start, end))
+    }
+
+    /// Returns the sums with the next entry.
     pub fn with(self, cell: &Cell) -> Count
         requires before { IsCountBefore cell.now.at self }
         requires small { cell.now.at + cell.now.span < 2 ^ 32 }
         requires some { 0 < cell.now.span }
 
-        ensures is { result ≡ count_after self (is_free cell.now.head) cell.now.span }
+        ensures is { result ≡ count_after self (is_free cell.now.head) cell.now.at cell.now.span }
         ensures before { IsCountBefore (cell.now.at + cell.now.span) result }
     {
         let mut next = self;
         if cell.head.is_free() {
-            next.row += cell.span;
             next.free += cell.span;
-            next.longest_free = next.longest_free.max(next.row);
         } else {
-            next.row = 0;
             next.components += 1;
+            next.room = self.room_to(cell.at);
+            next.start = cell.at + cell.span;
         }
         next
     }

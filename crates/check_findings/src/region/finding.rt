@@ -1,4 +1,4 @@
-//! What is told of a region.
+//! Findings of a region.
 ghost use Rattle.std.specs.Prelude.{◌≡◌, IfOk};
 
 use cbfs_walk::HashState;
@@ -6,7 +6,7 @@ use flash_format::DamageKind;
 use std::alloc::{AllocError, Global};
 use std::marker::Model;
 
-/// The bytes of a component's name, without its NUL.
+/// The name of a component, without its NUL.
 #[derive(Drop)]
 pub struct Name {
     bytes: Vec<u8>,
@@ -21,7 +21,7 @@ impl Model for Name {
 }
 
 impl Name {
-    /// A copy of these bytes.
+    /// Returns a copy of these bytes.
     pub fn copied(alloc: Global, bytes: &[u8]) -> Result<Name, AllocError>
         ensures { IfOk result (λ name. name ≡ bytes.now) }
     {
@@ -29,7 +29,7 @@ impl Name {
         Ok(Name { bytes })
     }
 
-    /// The bytes.
+    /// Returns the bytes.
     pub fn as_slice(&self) -> &[u8]
         ensures { result.now ≡ self.now }
     {
@@ -37,72 +37,77 @@ impl Name {
     }
 }
 
-/// A component's type, the range of its content, and what its first hash attribute says of it.
+/// The type of a component, the range and compression of its content, and the state of its digest.
 #[derive(Clone, Copy)]
 pub struct Content {
     pub kind: u32,
-    /// The content's begin, counted from the region's start.
+    /// The offset of the content in the region.
     pub start: u64,
     pub len: u64,
+    /// The value of its first compression attribute, or 0 if it has none.
+    pub compression: u32,
     pub hash: HashState,
 }
 
-/// What is told of a component.
+/// A finding of a component.
 #[derive(Clone, Copy)]
 pub enum ComponentFinding {
-    /// A component in front of it has its name, so that no search finds it.
+    /// An earlier component has the same name, so no search finds this component.
     Shadowed,
-    /// Its name isn't UTF-8, so that no argument of a command can give it.
+    /// Its name isn't UTF-8, so no argument of a command can contain it.
     NameNotText,
-    /// Its type, a number that has no name.
+    /// Its type has no name.
     UnknownType(u32),
-    /// Its type and its content. Each component has this finding, as its last one.
+    /// Its content. The findings of each component end with this finding.
     Content(Content),
 }
 
-/// One thing that is told of a region. Places count from the region's start, in bytes.
+/// A finding of a region. Each `at` is an offset in the region, in bytes.
 #[derive(Drop)]
 pub enum RegionFinding {
-    /// The region's size is 0 or no multiple of 64. Nothing else is told of it.
+    /// The size of the region is 0 or no multiple of 64. There is no other finding then.
     BadSize,
-    /// No entry stands at the region's start. Nothing else is told of it.
+    /// The region doesn't begin with an entry. There is no other finding then.
     NotCbfs,
-    /// Something of the component at this place.
+    /// A finding of the component at this offset.
     Component {
         at: u64,
         name: Name,
         what: ComponentFinding,
     },
-    /// A component was deleted: free space of type 0 stands at this place.
+    /// The offset has an empty entry of type 0: a deleted component.
     Deleted {
         at: u64,
     },
-    /// The cells fill the region.
+    /// The entries fill the region.
     Complete,
-    /// The cells end at a place without an entry; the rest of the region is never used.
+    /// The entries end at an offset without an entry. The rest of the region is never used.
     Tail {
         at: u64,
     },
-    /// The first byte of the tail stands here that is neither erased (0xff) nor cleared (0x00). The
-    /// region's last four bytes aren't looked at.
+    /// The first byte of the tail that is neither erased (0xff) nor cleared (0x00). The last four
+    /// bytes of the region are ignored.
     TailFilled {
         at: u64,
     },
-    /// An entry begins in the tail, at a multiple of 64, but no walk comes to it.
+    /// An entry in the tail, at a multiple of 64. No walk reaches it.
     TailEntry {
         at: u64,
     },
-    /// The cells end at an entry that fails this check: the first that it fails.
+    /// The entries end at a damaged entry. `kind` is the first check that it fails.
     Damaged {
         at: u64,
         kind: DamageKind,
     },
-    /// How many components the region has, and at least one.
+    /// The number of components, if the region has any.
     Components(u64),
     /// The region has no component.
     NoComponents,
-    /// The bytes of all free cells together.
+    /// The bytes of all empty entries.
     FreeBytes(u64),
-    /// The bytes of the longest run of free cells that follow each other.
-    LargestFree(u64),
+    /// The length in bytes of the longest content that `add` takes without `-A`, `-a` and `-b` and
+    /// with a name of at most 3 bytes.
+    LargestContent(u64),
+    /// There is no room even for an empty content.
+    NoRoom,
 }

@@ -1,6 +1,4 @@
-//! Tells whether a CBFS region of a device is fit to be flashed: what is found in it, cell by cell.
-//!
-//! A check takes memory for what it tells, and leaves the bytes of an honest device as they are.
+//! The check of a CBFS region, entry by entry.
 
 mod check;
 mod count;

@@ -1,23 +1,15 @@
-//! The names of the components so far.
+//! A set of the names of components.
 ghost use Rattle.std.specs.Prelude.{◌≡◌, ℕ, ◌∷◌, List, not, IfOk, OnOk};
-ghost use Rattle.std.specs.Str.{is_utf8};
 ghost use Rattle.check_findings.specs.Region.Names.{HasNames, is_among};
 
 use std::alloc::{AllocError, Global};
 use std::collections::HashSet;
 use std::hash::RandomState;
 
-/// Names as a set. Whoever makes an image picks its names, so they are hashed with keys that nobody knows before.
+/// A set of names, hashed with random keys: the author of an image chooses its names.
 pub type Names = HashSet<Vec<u8>, RandomState>;
 
-/// Whether a name is text.
-pub fn is_text(name: &[u8]) -> bool
-    ensures { result ≡ is_utf8 name.now }
-{
-    str::from_utf8(name).is_ok()
-}
-
-/// Adds a name, and answers whether it is new.
+/// Adds a name. Returns whether it is new.
 pub fn add_name(alloc: Global, names: &mut Names, name: &[u8]) -> Result<bool, AllocError>
     ensures new { IfOk result (λ new. (before : List (List ℕ)) → HasNames names.old.keys before →
         new ≡ not (is_among name.now before)) }

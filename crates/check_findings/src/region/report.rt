@@ -1,15 +1,19 @@
-//! What is told so far.
+//! The report of a region.
 ghost use Rattle.std.specs.Prelude.{◌≡◌, [], ◌∷◌, ◌++◌, IfOk};
 
 use crate::region::count::Count;
 use crate::region::finding::{ComponentFinding, Content, Name, RegionFinding};
-use crate::region::names::{Names, add_name, is_text};
+use crate::region::names::{Names, add_name};
+use crate::text::is_text;
 use flash_format::type_name;
 use std::alloc::{AllocError, Global};
 use std::collections::HashSet;
 use std::hash::RandomState;
 
-/// What is told so far, and the names of the components so far.
+/// The bytes of an entry's header and of a name of at most 3 bytes with its NUL.
+const METADATA: u64 = 28;
+
+/// The findings of the entries so far, and the names of their components.
 #[derive(Drop)]
 pub struct Report {
     pub alloc: Global,
@@ -19,9 +23,10 @@ pub struct Report {
 
 impl Report {
     ghost use Rattle.check_findings.specs.Region.RegionFindings.{named_findings, told_if};
-    ghost use Rattle.check_findings.specs.Region.Reports.{AddsFindings, TellsMore, counted, told_component};
+    ghost use Rattle.check_findings.specs.Region.Reports.{AddsFindings, TellsMore};
+    ghost use Rattle.check_findings.specs.Region.Reports.{counted, told_component};
 
-    /// Nothing is told yet.
+    /// Returns the empty report.
     pub fn new(alloc: Global, keys: RandomState) -> Report
         ensures findings { result.findings.items ≡ [] }
         ensures names { result.names.keys ≡ [] }
@@ -33,7 +38,7 @@ impl Report {
         }
     }
 
-    /// Tells one thing more.
+    /// Adds a finding.
     pub fn tell(&mut self, finding: RegionFinding) -> Result<(), AllocError>
         ensures { AddsFindings result self.old self.new (finding ∷ []) }
     {
@@ -41,7 +46,7 @@ impl Report {
         Ok(())
     }
 
-    /// Tells something of a component, where it is so.
+    /// Adds a finding of a component if `is_so` is set.
     fn tell_if(
         &mut self,
         is_so: bool,
@@ -58,7 +63,7 @@ impl Report {
         self.tell(RegionFinding::Component { at, name, what })
     }
 
-    /// Tells what there is to tell of a component of a name, with this content, and adds its name.
+    /// Adds the findings of a component with this name and content, and its name.
     pub fn tell_named(&mut self, at: u64, name: &[u8], content: Content) -> Result<(), AllocError>
         ensures { TellsMore result self.old self.new
             (λ t. told_component t name.now (named_findings t.names at name.now content)) }
@@ -73,9 +78,9 @@ impl Report {
         Ok(())
     }
 
-    /// Tells what the cells sum up to, and no more.
-    pub fn counted(self, count: Count) -> Result<Vec<RegionFinding>, AllocError>
-        ensures { IfOk result (λ all. all.items ≡ self.findings.items ++ counted count) }
+    /// Returns the findings with those of the counts. The entries end at this offset.
+    pub fn counted(self, count: Count, end: u64) -> Result<Vec<RegionFinding>, AllocError>
+        ensures { IfOk result (λ all. all.items ≡ self.findings.items ++ counted count end) }
     {
         let mut report = self;
         report.tell(if count.components == 0 {
@@ -84,7 +89,10 @@ impl Report {
             RegionFinding::Components(count.components)
         })?;
         report.tell(RegionFinding::FreeBytes(count.free))?;
-        report.tell(RegionFinding::LargestFree(count.longest_free))?;
+        report.tell(match count.room_to(end).checked_sub(METADATA) {
+            Some(len) => RegionFinding::LargestContent(len),
+            None => RegionFinding::NoRoom,
+        })?;
         Ok(report.findings)
     }
 }

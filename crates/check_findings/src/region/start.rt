@@ -1,4 +1,4 @@
-//! Whether an entry begins at a place of a region.
+//! Entries at an offset of a region.
 ghost use Rattle.std.specs.Prelude.{◌≡◌, ◌≤◌, drop, IfOk};
 ghost use Rattle.flash_device.specs.Pages.{HasAnswered, OnHonestIn};
 ghost use Rattle.flash_device.specs.Regions.{LiesIn};
@@ -7,7 +7,7 @@ ghost use Rattle.check_findings.specs.Region.RegionFindings.{begins_with_entry};
 use flash_device::{Flash, FlashFault, Paged, Region};
 use flash_format::Head;
 
-/// Whether an entry begins at a place of the region, sound or not.
+/// Returns whether an entry begins at this offset of the region. The entry may be damaged.
 pub fn has_entry_at<F: Flash>(
     paged: &mut Paged<F>,
     region: Region,
@@ -33,8 +33,7 @@ pub fn has_entry_at<F: Flash>(
     Ok(head.is_some())
 }
 
-/// Whether an entry begins at the region's start, sound or not, so that there is a CBFS to check.
-/// The region's size isn't looked at.
+/// Returns whether a region of any size begins with an entry. The entry may be damaged.
 pub fn starts_with_entry<F: Flash>(paged: &mut Paged<F>, region: Region) -> Result<bool, FlashFault>
     requires { LiesIn region (F.facts paged.old.device).content }
 

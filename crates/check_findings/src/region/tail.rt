@@ -1,4 +1,4 @@
-//! The bytes after the cells of a region.
+//! The bytes after the entries of a region.
 ghost use Rattle.std.specs.Prelude.{◌≡◌, ◌+◌, ◌-◌, ◌/◌, ◌<◌, ◌≤◌, ◌++◌, length, IfOk, IfSome, OnOk};
 ghost use Rattle.std.specs.List.{position, position_from};
 ghost use Rattle.flash_device.specs.Device.{faults_told};
@@ -19,7 +19,7 @@ use crate::region::report::Report;
 use crate::region::start::has_entry_at;
 use flash_device::{Flash, FlashFault, PIECE, Paged, Region};
 
-/// The first of these bytes that is neither erased nor cleared.
+/// Returns the index of the first byte that is neither 0xff nor 0x00.
 fn first_filled(bytes: &[u8]) -> Option<usize>
     ensures first { result ≡ position is_filled bytes.now }
     ensures inside { IfSome result (λ k. k < length bytes.now) }
@@ -27,7 +27,8 @@ fn first_filled(bytes: &[u8]) -> Option<usize>
     bytes.iter().position(|b| !(*b == 0xff || *b == 0x00))
 }
 
-/// The place of the first such byte of the region from `at` on, before its last four.
+/// Returns the offset of the first such byte from `at` on. Ignores the last four bytes of the
+/// region.
 fn find_filled<F: Flash>(
     paged: &mut Paged<F>,
     region: Region,
@@ -35,7 +36,8 @@ fn find_filled<F: Flash>(
 ) -> Result<Option<u64>, FlashFault>
     requires { LiesIn region (F.facts paged.old.device).content }
 
-    ensures after { HasAnswered F.facts ((region.size - at + 4095) / 4096) paged.old paged.new result }
+    ensures after { HasAnswered F.facts ((region.size - at + 4095) / 4096)
+        paged.old paged.new result }
     ensures found { OnHonestIn F.facts paged.old.device region (λ x.
         IfOk result (λ found. found ≡ position_from is_filled at (tail_bytes at x))) }
 {
@@ -53,7 +55,7 @@ fn find_filled<F: Flash>(
     Ok(None)
 }
 
-/// Tells where an entry begins at a place.
+/// Adds a finding if an entry begins at this offset.
 fn tell_entry<F: Flash>(
     paged: &mut Paged<F>,
     region: Region,
@@ -64,8 +66,8 @@ fn tell_entry<F: Flash>(
     requires inside { at ≤ region.size }
 
     ensures after { HasRead F.facts 1 (faults_told by_device result) paged.old paged.new }
-    ensures told { OnHonestIn F.facts paged.old.device region (λ x. OnOk result (report.new.findings.items
-        ≡ report.old.findings.items ++ entry_findings at x)) }
+    ensures told { OnHonestIn F.facts paged.old.device region (λ x. OnOk result
+        (report.new.findings.items ≡ report.old.findings.items ++ entry_findings at x)) }
 {
     if has_entry_at(paged, region, at)? {
         report.tell(RegionFinding::TailEntry { at })?;
@@ -73,7 +75,7 @@ fn tell_entry<F: Flash>(
     Ok(())
 }
 
-/// Tells which entries begin at a place and at each 64th byte after it.
+/// Adds a finding for each entry that begins at `at` or a multiple of 64 bytes later.
 fn tell_entries<F: Flash>(
     paged: &mut Paged<F>,
     region: Region,
@@ -83,19 +85,20 @@ fn tell_entries<F: Flash>(
     requires region { LiesIn region (F.facts paged.old.device).content }
     requires inside { at ≤ region.size }
 
-    ensures after { HasRead F.facts ((region.size - at) / 64) (faults_told by_device result) paged.old paged.new }
-    ensures told { OnHonestIn F.facts paged.old.device region (λ x. OnOk result (report.new.findings.items
-        ≡ report.old.findings.items ++ entries_findings ((length x - at) / 64) at x)) }
+    ensures after { HasRead F.facts ((region.size - at) / 64) (faults_told by_device result)
+        paged.old paged.new }
+    ensures told { OnHonestIn F.facts paged.old.device region (λ x. OnOk result
+        (report.new.findings.items ≡ report.old.findings.items
+        ++ entries_findings ((length x - at) / 64) at x)) }
 {
-    let mut place = at;
-    while region.size() - place >= 64 {
-        tell_entry(paged, region, place, report)?;
-        place += 64;
+    let lines = (region.size() - at) / 64;
+    for i in 0..lines {
+        tell_entry(paged, region, at + 64 * i, report)?;
     }
     Ok(())
 }
 
-/// Tells of the tail that begins at a place.
+/// Adds the findings of the tail that begins at this offset.
 pub fn tell_tail<F: Flash>(
     paged: &mut Paged<F>,
     region: Region,
@@ -107,8 +110,8 @@ pub fn tell_tail<F: Flash>(
 
     ensures after { HasRead F.facts ((region.size - at + 4095) / 4096 + (region.size - at) / 64)
         (faults_told by_device result) paged.old paged.new }
-    ensures told { OnHonestIn F.facts paged.old.device region (λ x. OnOk result (report.new.findings.items
-        ≡ report.old.findings.items ++ tail_findings at x)) }
+    ensures told { OnHonestIn F.facts paged.old.device region (λ x. OnOk result
+        (report.new.findings.items ≡ report.old.findings.items ++ tail_findings at x)) }
 {
     report.tell(RegionFinding::Tail { at })?;
     let Some(filled) = find_filled(paged, region, at)? else {

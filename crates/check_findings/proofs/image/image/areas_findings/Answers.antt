@@ -1,8 +1,6 @@
 use Rattle.std.proofs.Common.{◌≤◌, arith}
-use Rattle.std.proofs.lemmas.List.Elements.{All-nil}
 use Rattle.flash_device.proofs.DeviceLemmas.{honest_still}
-use Rattle.flash_device.proofs.WindowLemmas.{HasRead-none, HasRead-then, HasRead-within}
-use Rattle.check_findings.specs.Map.MapFindings.{area_end}
+use Rattle.flash_device.proofs.WindowLemmas.{HasRead-then, HasRead-within}
 use Rattle.check_findings.proofs.ImageLemmas.Regions.{checked_more, told_all, told_more}
 use Rattle.check_findings.proofs.image.image.areas_findings.Goals as goal
 

@@ -9,7 +9,7 @@ pub returns-in-Ok-End-clause-after : goal.returns-in-Ok-End-clause-after
 returns-in-Ok-End-clause-after g c = search rules
 
 pub loop-cell-init : goal.loop-cell-init
-loop-cell-init g c = rw (c.new-walk.ensures, c.new-count.ensures) (checking_start g.F.Flash.facts c.args.region c.new-report.result c.args.paged.now c.new-report.ensures.findings c.new-report.ensures.names, refl)
+loop-cell-init g c = rw (c.new-walk.ensures, c.new-count.ensures, c.size-size.ensures) (checking_start g.F.Flash.facts c.args.region c.new-report.result c.args.paged.now c.requires c.new-report.ensures.findings c.new-report.ensures.names, refl)
 
 pub loop-cell-preserved : goal.loop-cell-preserved
 loop-cell-preserved g c =
@@ -32,8 +32,8 @@ returns-in-Ok-Tail-clause-findings g c = λ h.
 
 pub returns-in-Ok-End-clause-findings : goal.returns-in-Ok-End-clause-findings
 returns-in-Ok-End-clause-findings g c = λ h.
-    let told = checking_end g.F.Flash.facts c.args.region c.loop-cell.walk c.loop-cell.report c.loop-cell.count _ _ c.requires c.loop-cell.invariant.0 (rw c.in-Ok-End.field-0-is at c.in-Ok-End.ensures.answer) h in
-    c.in_ok-counted-in-Ok-End.ensures ∙ ap (λ (l : List RegionFinding). l ++ counted c.loop-cell.count) c.in_ok-tell-in-Ok-End.ensures.findings ∙ append_assoc c.loop-cell.report.findings.items _ _ ∙ told
+    let told = checking_end g.F.Flash.facts c.args.region c.loop-cell.walk c.loop-cell.report c.loop-cell.count _ _ c.requires c.loop-cell.invariant.0 c.size-size.result (rw c.in-Ok-End.field-0-is at c.in-Ok-End.ensures.answer) c.size-size.ensures h in
+    c.in_ok-counted-in-Ok-End.ensures ∙ ap (λ (l : List RegionFinding). l ++ counted c.loop-cell.count c.size-size.result) c.in_ok-tell-in-Ok-End.ensures.findings ∙ append_assoc c.loop-cell.report.findings.items _ _ ∙ told
 
 pub returns-in-Err-clause-findings : goal.returns-in-Err-clause-findings
 returns-in-Err-clause-findings g c = λ h.

@@ -1,5 +1,5 @@
-use Rattle.std.proofs.Common.{◌≡◌, List, ℕ, rules, sym, subst}
-use Rattle.flash_format.specs.Components.{cell_attributes, cell_content}
+use Rattle.std.proofs.Common.{◌≡◌, ◌∙◌, List, ℕ, rules, sym, subst}
+use Rattle.flash_format.specs.Components.{cell_attributes, cell_content, packing}
 use Rattle.flash_device.specs.Regions.{bytes_in}
 use Rattle.flash_device.proofs.DeviceLemmas.{honest_still}
 use Rattle.cbfs_walk.specs.Cells.{cell_in}
@@ -27,6 +27,12 @@ returns-clause-told g c = λ h stands. λ t told.
     let named = c.in_ok-len.ensures in
     let same = named.after.read.device.unchanged h in
     let there = subst (λ (l : List ℕ). StandsIn (bytes_in r l) cell) (sym same) stands in
-    let state = subst (λ (l : List ℕ). c.in_ok-hash.hash ≡ hash_state (cell_attributes (cell_in (bytes_in r l) cell)) (cell_content (cell_in (bytes_in r l) cell))) same
-    (c.in_ok-hash.ensures.state (honest_still named.after.read.device.calls.same_honesty h) there) in
-    cell_told c.tell_named.new.self cell.at x _ cell.head c.in_ok-hash.hash t (sym c.if-is_free.ensures) (named.name h stands) known.head state (rw (c.from.ensures, c.from-2.ensures) at (c.in_ok-tell_named.ensures t told))
+    let still = honest_still named.after.read.device.calls.same_honesty h in
+    let compressed = subst (λ (l : List ℕ). c.in_ok-compression.compression ≡ packing (cell_attributes (cell_in (bytes_in r l) cell))) same
+    (c.in_ok-compression.ensures.packing still there) in
+    let packed = c.in_ok-compression.ensures.after.read.device in
+    let after = packed.unchanged still ∙ same in
+    let stays = subst (λ (l : List ℕ). StandsIn (bytes_in r l) cell) (sym after) stands in
+    let state = subst (λ (l : List ℕ). c.in_ok-hash.hash ≡ hash_state (cell_attributes (cell_in (bytes_in r l) cell)) (cell_content (cell_in (bytes_in r l) cell))) after
+    (c.in_ok-hash.ensures.state (honest_still packed.calls.same_honesty still) stays) in
+    cell_told c.tell_named.new.self cell.at x _ cell.head c.in_ok-compression.compression c.in_ok-hash.hash t (sym c.if-is_free.ensures) (named.name h stands) known.head compressed state (rw (c.from.ensures, c.from-2.ensures) at (c.in_ok-tell_named.ensures t told))

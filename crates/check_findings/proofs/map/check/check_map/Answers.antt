@@ -1,7 +1,7 @@
 use Rattle.std.proofs.Common.{rules, sym, ◌∙◌}
 use Rattle.flash_device.proofs.DeviceLemmas.{honest_still}
 use Rattle.check_findings.proofs.MapLemmas.Telling.{none-told, map-told, none-listed, map-listed}
-use Rattle.check_findings.proofs.map.check.checked_map.Goals as goal
+use Rattle.check_findings.proofs.map.check.check_map.Goals as goal
 
 pub returns-in_default-clause-after : goal.returns-in_default-clause-after
 returns-in_default-clause-after g c = search rules

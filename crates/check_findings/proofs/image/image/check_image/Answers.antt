@@ -3,17 +3,17 @@ use Rattle.flash_device.proofs.DeviceLemmas.{honest_still}
 use Rattle.check_findings.specs.Map.MapFindings.{area_end}
 use Rattle.check_findings.specs.Image.RegionAreas.{region_areas, sum_sizes}
 use Rattle.check_findings.proofs.ImageLemmas.Regions.{listed, region_areas-listed, told_image}
-use Rattle.check_findings.proofs.image.image.checked_image.Goals as goal
+use Rattle.check_findings.proofs.image.image.check_image.Goals as goal
 
 pub returns-clause-total : goal.returns-clause-total
 returns-clause-total g c =
     let is = region_areas-listed c.deref.result.now c.deref-4.result.now _ _ c.in_ok-regions.regions.items _ _ c.in_ok-findings.ensures c.in_ok-append.ensures.items c.in_ok-push_missing.ensures in
-    omega (arith, ap sum_sizes is, c.in_ok-regions.ensures.checked.total, c.wanted_areas.ensures.after.device.calls.same_length, c.checked_map.ensures.after.device.calls.same_length)
+    omega (arith, ap sum_sizes is, c.in_ok-regions.ensures.checked.total, c.wanted_areas.ensures.after.device.calls.same_length, c.check_map.ensures.after.device.calls.same_length)
 
 pub returns-clause-inside : goal.returns-clause-inside
 returns-clause-inside g c =
     let is = region_areas-listed c.deref.result.now c.deref-4.result.now _ _ c.in_ok-regions.regions.items _ _ c.in_ok-findings.ensures c.in_ok-append.ensures.items c.in_ok-push_missing.ensures in
-    let same = c.wanted_areas.ensures.after.device.calls.same_length ∙ c.checked_map.ensures.after.device.calls.same_length in
+    let same = c.wanted_areas.ensures.after.device.calls.same_length ∙ c.check_map.ensures.after.device.calls.same_length in
     subst (λ l. All (λ a. area_end a.area ≤ length (g.F.Flash.facts c.args.paged.now.device).content) l) (sym is) (subst (λ n. All (λ a. area_end a.area ≤ n) (region_areas c.in_ok-regions.regions.items)) same c.in_ok-regions.ensures.checked.inside)
 
 pub returns-clause-fits : goal.returns-clause-fits
@@ -23,7 +23,7 @@ returns-clause-fits g c =
 
 pub returns-clause-findings : goal.returns-clause-findings
 returns-clause-findings g c = λ h.
-    let map = c.checked_map.ensures.after.device in
+    let map = c.check_map.ensures.after.device in
     let wanted = c.wanted_areas.ensures.after.device in
     let here = honest_still map.calls.same_honesty h in
     let named = rw (map.unchanged h, c.deref-2.ensures.value) at (c.in_ok-wanted.ensures.areas here _ c.in_ok-set.ensures) in
