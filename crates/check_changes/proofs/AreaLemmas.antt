@@ -1,3 +1,4 @@
 pub mod BlockLemmas
 pub mod Changing
 pub mod ImageLemmas
+pub mod Reported

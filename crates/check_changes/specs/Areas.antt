@@ -1,3 +1,4 @@
 pub mod AreaChanges
 pub mod Blocks
+pub mod Laws
 pub mod MapChanges

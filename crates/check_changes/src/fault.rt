@@ -1,11 +1,11 @@
-//! The causes of a comparison that fails.
+//! The faults of a comparison.
 ghost use Rattle.std.specs.Prelude.{◌≡◌};
 ghost use Rattle.check_changes.specs.declared.fault.ChangeFault.TheVariants as faults;
 
 use check_findings::CheckFault;
 use std::alloc::AllocError;
 
-/// The cause of a comparison that returns no changes.
+/// The fault of a comparison, which then returns no changes.
 #[derive(Clone, Copy, Debug, PartialEq, Eq)]
 pub enum ChangeFault {
     /// The device with the old image refused a read.

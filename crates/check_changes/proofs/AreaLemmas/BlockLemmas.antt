@@ -1,5 +1,5 @@
 -- The blocks of a region's bytes, and how many differ.
-use Rattle.std.proofs.Common.{◌≡◌, ◌∙◌, ℕ, zero, suc, ◌+◌, ◌-◌, ◌*◌, ◌<◌, ◌≤◌, Bool, true, false, List, length, take, drop, min, max, refl, sym, ap, arith, ⊎_elim, length-take, length-drop, slice_range}
+use Rattle.std.proofs.Common.{◌≡◌, ◌∙◌, ℕ, zero, suc, ◌+◌, ◌-◌, ◌*◌, ◌<◌, ◌≤◌, Bool, true, false, List, [], length, take, drop, min, max, refl, sym, ap, arith, ⊎_elim, length-take, length-drop, slice_range}
 use Rattle.std.specs.Prelude.{not, if◌then◌else◌}
 use Rattle.std.specs.Int.{from_bool}
 use Rattle.std.specs.Str.{bytes_eq}
@@ -8,7 +8,7 @@ use Rattle.std.proofs.lemmas.List.{drop-drop, drop-take, take-take, take_all}
 use Rattle.std.proofs.lemmas.Slice.Eq.{bytes_eq-Decides}
 use Rattle.flash_device.specs.Regions.{Range, bytes_in}
 use Rattle.flash_device.proofs.BytesLemmas.{slice_range_is}
-use Rattle.check_changes.specs.Areas.Blocks.{blocks_of, block, differs, different_among, different_blocks}
+use Rattle.check_changes.specs.Areas.Blocks.{blocks_of, block, differs, count_below, different_blocks}
 
 -- two limits on a length are the lower one
 take-both : (m n : ℕ) (x : List ℕ) → take m (take n x) ≡ take (min n m) x
@@ -50,37 +50,41 @@ length-block x number = length-take 4096 (drop (4096 * number) x) ∙ ap (min 40
 differs-behind : (x y : List ℕ) (number : ℕ) → blocks_of (min (length x) (length y)) ≤ number → number < blocks_of (max (length x) (length y)) → differs x y number ≡ true
 differs-behind x y number behind before = differs-lengths x y number (λ same. absurd (omega (arith, behind, before, same, length-block x number, length-block y number)))
 
--- how many differ up to the end of the longer one, by how many do up to that of the shorter one
-more-behind : (x y : List ℕ) (k : ℕ) → blocks_of (min (length x) (length y)) + k ≤ blocks_of (max (length x) (length y)) → different_among x y (blocks_of (min (length x) (length y)) + k) ≡ different_among x y (blocks_of (min (length x) (length y))) + k
-more-behind x y zero within = let same = λ (n : ℕ). different_among x y n in ap same {x = blocks_of (min (length x) (length y)) + 0} {y = blocks_of (min (length x) (length y))} (omega arith) ∙ omega arith
+-- the count up to the end of the longer one, by the count up to the end of the shorter one
+more-behind : (x y : List ℕ) (k : ℕ) → blocks_of (min (length x) (length y)) + k ≤ blocks_of (max (length x) (length y)) → count_below (differs x y) (blocks_of (min (length x) (length y)) + k) ≡ count_below (differs x y) (blocks_of (min (length x) (length y))) + k
+more-behind x y zero within = let same = λ (n : ℕ). count_below (differs x y) n in ap same {x = blocks_of (min (length x) (length y)) + 0} {y = blocks_of (min (length x) (length y))} (omega arith) ∙ omega arith
 more-behind x y (suc k) within =
     let here = blocks_of (min (length x) (length y)) + k in
     let next : blocks_of (min (length x) (length y)) + suc k ≡ suc here = omega arith in
     let fewer = more-behind x y k (omega (arith, within)) in
     let one : ◌≡◌ {A = ℕ} (if differs x y here then 1 else 0) 1 = rw (differs-behind x y here (omega arith) (omega (arith, within))) refl in
-    ap (λ n. different_among x y n) next ∙ omega (arith, fewer, one)
+    ap (λ n. count_below (differs x y) n) next ∙ omega (arith, fewer, one)
 
--- all that differ, by those up to the end of the shorter one
-pub different_blocks-all : (x y : List ℕ) (m n common longer number count : ℕ) → length x ≡ m → length y ≡ n → common ≡ blocks_of (min m n) → longer ≡ blocks_of (max m n) → number ≡ common → count ≡ longer - common + different_among x y number → count ≡ different_blocks x y
-unfolding different_blocks
-different_blocks-all x y m n common longer number count old_len new_len few many end is =
-    let short : number ≡ blocks_of (min (length x) (length y)) = omega (arith, old_len, new_len, few, end) in
-    let sum : blocks_of (min (length x) (length y)) + (longer - common) ≡ blocks_of (max (length x) (length y)) = omega (arith, old_len, new_len, few, many) in
-    let all = sym (more-behind x y (longer - common) (omega (arith, sum))) ∙ ap (different_among x y) sum in
-    omega (arith, is, all, ap (different_among x y) short)
-
-pub bytes_in-whole : (r : Range) (x : List ℕ) (n : ℕ) → r ≡ record { start = 0; size = n } → n ≡ length x → bytes_in r x ≡ x
+bytes_in-whole : (r : Range) (x : List ℕ) (n : ℕ) → r ≡ record { start = 0; size = n } → n ≡ length x → bytes_in r x ≡ x
 bytes_in-whole r x n is long = ap (λ (r : Range). bytes_in r x) is ∙ slice_range_is x 0 n ∙ take_all n x (omega (arith, long))
+
+-- all blocks of two images that differ, by the blocks up to the end of the shorter one
+pub different_blocks-all : (x y : List ℕ) (r s : Range) (m n shorter longer common count : ℕ) → r ≡ record { start = 0; size = m } → s ≡ record { start = 0; size = n } → m ≡ length x → n ≡ length y → shorter ≡ blocks_of (min m n) → longer ≡ blocks_of (max m n)
+    → common ≡ count_below (differs (bytes_in r x) (bytes_in s y)) shorter → count ≡ longer - shorter + common → count ≡ different_blocks x y
+unfolding different_blocks
+different_blocks-all x y r s m n shorter longer common count whole new_whole old_len new_len few many is sum =
+    let short : shorter ≡ blocks_of (min (length x) (length y)) = omega (arith, old_len, new_len, few) in
+    let long : blocks_of (min (length x) (length y)) + (longer - shorter) ≡ blocks_of (max (length x) (length y)) = omega (arith, old_len, new_len, few, many) in
+    let own : common ≡ count_below (differs x y) shorter =
+    is ∙ ap (λ u. count_below (λ k. differs u (bytes_in s y) k) shorter) (bytes_in-whole r x m whole old_len)
+    ∙ ap (λ v. count_below (λ k. differs x v k) shorter) (bytes_in-whole s y n new_whole new_len) in
+    let all = sym (more-behind x y (longer - shorter) (omega (arith, long))) ∙ ap (count_below (differs x y)) long in
+    omega (arith, sum, own, all, ap (count_below (differs x y)) short)
 
 -- one block more was counted
 one_if : (b : Bool) → from_bool b ≡ (if b then 1 else 0)
 one_if true = refl
 one_if false = refl
 
-pub different_among-more : (x y : List ℕ) (number one : ℕ) (different : Bool) → different ≡ differs x y number → one ≡ from_bool different → different_among x y number + one ≡ different_among x y (number + 1)
-different_among-more x y number one different is counted =
+pub count_below-more : (test : ℕ → Bool) (number one : ℕ) (passes : Bool) → passes ≡ test number → one ≡ from_bool passes → count_below test number + one ≡ count_below test (number + 1)
+count_below-more test number one passes is counted =
     let next : number + 1 ≡ suc number = omega arith in
-    rw (next, counted, is) (ap (λ k. different_among x y number + k) (one_if (differs x y number)))
+    rw (next, counted, is) (ap (λ k. count_below test number + k) (one_if (test number)))
 
 pub at_most_one : (b : Bool) (n : ℕ) → n ≡ from_bool b → n ≤ 1
 at_most_one true n is = omega arith

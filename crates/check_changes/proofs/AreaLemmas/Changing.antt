@@ -4,7 +4,7 @@ use Rattle.std.specs.List.{flat_map}
 use Rattle.std.proofs.Math.Seq.{drop-cons}
 use Rattle.check_findings.specs.declared.map.finding.NumberedArea.{NumberedArea}
 use Rattle.check_changes.specs.declared.areas.change.AreaChange.{AreaChange}
-use Rattle.check_changes.specs.declared.areas.pairs.Pair.{Pair}
+use Rattle.check_changes.specs.declared.areas.pairs.AreaPair.{AreaPair}
 use Rattle.check_changes.specs.Areas.AreaChanges.{pairs, changes_in, gone_of, area_changes}
 
 -- one element more
@@ -16,9 +16,9 @@ flat_map-more f xs i d before after all lt pushed so_far =
     ap (λ l. l ++ rest) pushed ∙ append_assoc before (f here) rest ∙ ap (λ l. before ++ l) (sym left) ∙ so_far
 
 -- what is told of the new map, and then of the old one
-pub area_changes-parts : (x y : List ℕ) (olds news : List NumberedArea) (found read : List Pair) (first second all : List AreaChange) → first ≡ [] → read ≡ found → found ≡ pairs olds news
-    → second ≡ first ++ changes_in (8 * length y) x y read → all ≡ second ++ flat_map (gone_of olds news) olds → all ≡ area_changes x olds y news
+pub area_changes-parts : (x y : List ℕ) (olds news : List NumberedArea) (found read : List AreaPair) (first second all : List AreaChange) → first ≡ [] → read ≡ found → found ≡ pairs olds news
+    → second ≡ first ++ changes_in (8 * length y) x y read read → all ≡ second ++ flat_map (gone_of olds news) olds → all ≡ area_changes x olds y news
 unfolding area_changes
 area_changes-parts x y olds news found read first second all none same is told gone =
-    let start : second ≡ changes_in (8 * length y) x y read = told ∙ ap (λ (l : List AreaChange). l ++ changes_in (8 * length y) x y read) none in
-    gone ∙ ap (λ (l : List AreaChange). l ++ flat_map (gone_of olds news) olds) (start ∙ ap (changes_in (8 * length y) x y) (same ∙ is))
+    let start : second ≡ changes_in (8 * length y) x y read read = told ∙ ap (λ (l : List AreaChange). l ++ changes_in (8 * length y) x y read read) none in
+    gone ∙ ap (λ (l : List AreaChange). l ++ flat_map (gone_of olds news) olds) (start ∙ ap (λ ps. changes_in (8 * length y) x y ps ps) (same ∙ is))

@@ -1,6 +1,6 @@
 -- What is told of a component, by the lists of both regions.
-use Rattle.std.proofs.Common.{◌≡◌, ℕ, ◌+◌, ◌/◌, ◌<◌, ◌≤◌, Bool, true, false, cond, not, List, [], ◌∷◌, ◌++◌, length, take, drop, get_or, map, Option, Some, None, Result, Ok, Err, refl, sym, ap, ◌∙◌, arith, add-one, append_assoc}
-use Rattle.std.specs.Prelude.{All, OnOk}
+use Rattle.std.proofs.Common.{◌≡◌, ℕ, ◌+◌, ◌/◌, ◌<◌, ◌≤◌, Bool, true, false, cond, not, List, [], ◌∷◌, ◌++◌, length, take, drop, get_or, map, Option, Some, None, refl, sym, ap, ◌∙◌, arith, add-one, append_assoc}
+use Rattle.std.specs.Prelude.{All, ◌&&◌}
 use Rattle.std.specs.List.{find, flat_map}
 use Rattle.std.specs.Option.{option_map, is_some}
 use Rattle.std.specs.Str.{bytes_eq}
@@ -64,11 +64,6 @@ some_same x name all = ap (λ (o : Option ComponentState). is_some o) (find_stat
 
 -- ---- what is told
 
--- a call that told this has told what is the same
-pub on_ok : {T E : Type 0} (result : Result T E) (told before one all : List ComponentChange) → one ≡ all → OnOk result (told ≡ before ++ one) → OnOk result (told ≡ before ++ all)
-on_ok (Err fault) told before one all same was = tt
-on_ok (Ok done) told before one all same was = was ∙ ap (λ (l : List ComponentChange). before ++ l) same
-
 module _ (x y : List ℕ) (old new : List Listed) (l : Listed) where
   abbrev change : List ComponentChange
   change = change_of (map (state_in x) old) (map (state_in y) new) (state_in y l)
@@ -97,17 +92,8 @@ module _ (x y : List ℕ) (old new : List Listed) (l : Listed) where
       go None e = absurd cc
       go (Some d) e = let same : d.cell ≡ c = cc in ap (λ (k : Cell). pair_change (cell_difference x k y l.cell) k.at l.cell.at l.name) same
 
-  pub removal_later : is_first old l ≡ false → removal ≡ []
-  removal_later later = rw (first_same x old l ∙ later) refl
-
-  by_name : is_first old l ≡ true → removal ≡ cond (not (is_some (first_cell l.name new))) (Removed l.cell.at l.name ∷ []) []
-  by_name first = rw (first_same x old l ∙ first) (ap (λ b. cond (not b) (Removed l.cell.at l.name ∷ []) []) (some_same y l.name new))
-
-  pub removal_none : (c : Cell) → is_first old l ≡ true → Some c ≡ first_cell l.name new → removal ≡ []
-  removal_none c first found = by_name first ∙ ap (λ (o : Option Cell). cond (not (is_some o)) (Removed l.cell.at l.name ∷ []) []) (sym found)
-
-  pub removal_told : is_first old l ≡ true → None ≡ first_cell l.name new → removal ≡ Removed l.cell.at l.name ∷ []
-  removal_told first none = by_name first ∙ ap (λ (o : Option Cell). cond (not (is_some o)) (Removed l.cell.at l.name ∷ []) []) (sym none)
+  pub removal_is : (removed : Bool) → removed ≡ (is_first old l && not (is_some (first_cell l.name new))) → removal ≡ cond removed (Removed l.cell.at l.name ∷ []) []
+  removal_is removed is = rw (first_same x old l, some_same y l.name new, is) refl
 
 -- what is told of a list of components
 pub flat_states : (x : List ℕ) (f : ComponentState → List ComponentChange) (all : List Listed) → flat_map (λ (l : Listed). f (state_in x l)) all ≡ flat_map f (map (state_in x) all)

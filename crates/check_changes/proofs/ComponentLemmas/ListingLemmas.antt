@@ -1,6 +1,6 @@
 -- The components of a region, cell by cell.
-use Rattle.std.proofs.Common.{◌≡◌, ℕ, ◌+◌, ◌/◌, ◌%◌, ◌≤◌, ◌⊎◌, inl, inr, IsTrue, Bool, true, false, cond, List, [], ◌∷◌, ◌++◌, length, map, None, Result, Ok, Err, refl, sym, ap, ◌∙◌, arith, append_assoc}
-use Rattle.std.specs.Prelude.{All, IsErrOf, OnOk, slice_range}
+use Rattle.std.proofs.Common.{◌≡◌, ℕ, ◌+◌, ◌/◌, ◌%◌, ◌≤◌, ◌⊎◌, inl, inr, IsTrue, Bool, true, false, cond, List, [], ◌∷◌, ◌++◌, length, map, None, Ok, Err, refl, sym, ap, ◌∙◌, arith, append_assoc}
+use Rattle.std.specs.Prelude.{All, IsErrOf, slice_range}
 use Rattle.std.proofs.lemmas.List.{map-append, append-nil}
 use Rattle.std.proofs.lemmas.List.Elements.{All-nil, All-push}
 use Rattle.std.proofs.lemmas.List.Sums.{sum_by-append}
@@ -49,14 +49,8 @@ state_shown x c name used is_name is_head fits = rw used (ap (λ (s : ComponentS
         ∙ ap (λ (h : Head). record { at = c.at; name = cell_name (cell_in x c); kind = h.kind; content = slice_range (cell_in x c) h.offset (h.offset + h.len); attributes = slice_range (cell_in x c) (name_end h) h.offset }) (sym is_head)
 
 -- a component more
-pub listed_more : {E : Type 0} (result : Result (Unit {0}) E) (x : List ℕ) (old new : List Listed) (l : Listed) → state_in x l ∷ [] ≡ cell_states x l.cell → OnOk result (new ≡ old ++ l ∷ [])
-    → OnOk result (map (state_in x) new ≡ map (state_in x) old ++ cell_states x l.cell)
-listed_more (Err fault) x old new l shown added = tt
-listed_more (Ok done) x old new l shown added = ap (map (state_in x)) added ∙ map-append (state_in x) old (l ∷ []) ∙ ap (λ (s : List ComponentState). map (state_in x) old ++ s) shown
-
-pub adds_one : {E : Type 0} (result : Result (Unit {0}) E) (old new : List Listed) (c : Cell) (name : List ℕ) → is_free c.head ≡ false → OnOk result (new ≡ old ++ record { name = name; cell = c } ∷ []) → OnOk result (AddsAtMost c old new)
-adds_one (Err fault) old new c name used added = tt
-adds_one (Ok done) old new c name used added = inr (record { name = name; used = used; added = added })
+pub listed_more : (x : List ℕ) (old new : List Listed) (l : Listed) → state_in x l ∷ [] ≡ cell_states x l.cell → new ≡ old ++ l ∷ [] → map (state_in x) new ≡ map (state_in x) old ++ cell_states x l.cell
+listed_more x old new l shown added = ap (map (state_in x)) added ∙ map-append (state_in x) old (l ∷ []) ∙ ap (λ (s : List ComponentState). map (state_in x) old ++ s) shown
 
 -- ---- what a region has from a place on
 

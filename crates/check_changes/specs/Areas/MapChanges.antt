@@ -1,5 +1,4 @@
--- What changes between the flash maps of two images. What is reported, and in which order, is this
--- project's own.
+-- The changes between the flash maps of two images. Their choice and order are this project's.
 use Rattle.std.specs.Prelude.{not, List, [], ◌∷◌, ◌++◌, Option, Some, None, ◌==◌}
 use Rattle.std.specs.Str.{bytes_eq}
 use Rattle.flash_format.specs.Flashmap.{text_of}
@@ -8,7 +7,7 @@ use Rattle.check_changes.specs.Areas.AreaChanges.{told_if}
 use Rattle.check_changes.specs.declared.areas.change.MapChange.{MapChange}
 use Rattle.check_changes.specs.declared.areas.change.MapChange.TheVariants.{NoOldMap, MovedFrom, BaseChanged, NameChanged}
 
--- the place, the base address and the name of the map, where they differ
+-- the offset, the base address and the name of the map, if they differ
 abbrev pub map_changes : Option FoundMap → Option FoundMap → List MapChange
 map_changes old None = []
 map_changes None (Some new) = NoOldMap ∷ []

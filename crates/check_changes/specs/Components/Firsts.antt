@@ -1,4 +1,4 @@
--- A map that keeps for each name the cell of the first component with it.
+-- A map from each name to the cell of the first component of the name.
 use Rattle.std.specs.Prelude.{◌≡◌, ℕ, Bool, false, List, Option, Some, None, ◌==◌}
 use Rattle.std.specs.Borrow.{Bor}
 use Rattle.std.specs.List.{find}
@@ -15,7 +15,7 @@ is_named name l = bytes_eq name l.name
 abbrev pub first_cell : List ℕ → List Listed → Option Cell
 first_cell name all = option_map (λ (l : Listed). l.cell) (find (is_named name) all)
 
--- a cell that stands at this place
+-- the cell has this offset
 abbrev pub is_at : ℕ → Option Cell → Bool
 is_at at None = false
 is_at at (Some c) = c.at == at
@@ -24,10 +24,10 @@ is_at at (Some c) = c.at == at
 abbrev pub is_first : List Listed → Listed → Bool
 is_first all l = is_at l.cell.at (first_cell l.name all)
 
--- the cell that is kept for a name
+-- the cell in the map for a name
 abbrev pub cell_for : {S : Type 0} → HashMap (Bor (List ℕ)) Cell S → List ℕ → Option Cell
 cell_for first name = get_by (λ k. bytes_eq name k.now) first
 
--- the map keeps those of these components, and no more
+-- the map has the first cells of these components, and no others
 abbrev pub Notes : {S : Type 0} → HashMap (Bor (List ℕ)) Cell S → List Listed → Type 0
 Notes first all = (name : List ℕ) → cell_for first name ≡ first_cell name all

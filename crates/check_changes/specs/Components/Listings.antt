@@ -1,4 +1,4 @@
--- Components as a walk gave them.
+-- The components that a walk returned.
 use Rattle.std.specs.Prelude.{◌≡◌, ◌⊎◌, ℕ, ◌+◌, ◌≤◌, false, List, [], ◌∷◌, ◌++◌, Vec, All, map, slice_range, Option, if◌then◌else◌}
 use Rattle.std.specs.List.{sum_by}
 use Rattle.std.specs.declared.alloc.Global.{Global}
@@ -28,7 +28,7 @@ IsListedIn size l = IsUsedIn size l.cell
 abbrev pub spans : List Listed → ℕ
 spans all = sum_by (λ (l : Listed). l.cell.span) all
 
--- what is compared of a cell, in a region of these bytes
+-- the compared parts of a cell, in a region of these bytes
 abbrev pub state_at : List ℕ → List ℕ → Cell → ComponentState
 state_at x name c = record {
   at = c.at;
@@ -44,22 +44,24 @@ state_in x l = state_at x l.name l.cell
 abbrev pub states_in : List ℕ → List Listed → List ComponentState
 states_in x all = map (state_in x) all
 
--- what differs first between two cells, in regions of these bytes, whatever their name
+-- the first difference between two cells, in regions of these bytes, under any names
 abbrev pub cell_difference : List ℕ → Cell → List ℕ → Cell → Option Difference
 cell_difference x old y new = difference (state_at x [] old) (state_at y [] new)
 
--- what is told of a component of the new list, and of one of the old, in regions of these bytes
-abbrev pub listed_change : List ℕ → List Listed → List ℕ → List Listed → Listed → List ComponentChange
+-- the changes of a component of the new list, then of the old list, in regions of these bytes
+abbrev pub listed_change : List ℕ → List Listed → List ℕ → List Listed → Listed
+    → List ComponentChange
 listed_change x old y new l = change_of (states_in x old) (states_in y new) (state_in y l)
 
-abbrev pub listed_removal : List ℕ → List Listed → List ℕ → List Listed → Listed → List ComponentChange
+abbrev pub listed_removal : List ℕ → List Listed → List ℕ → List Listed → Listed
+    → List ComponentChange
 listed_removal x old y new l = removal_of (states_in x old) (states_in y new) (state_in x l)
 
--- what a cell adds in a region of these bytes
+-- the component of a cell in a region of these bytes; an empty entry has no component
 abbrev pub cell_states : List ℕ → Cell → List ComponentState
 cell_states x c = if is_free c.head then [] else state_of (component_at c.at (cell_in x c)) ∷ []
 
--- a list with this cell under some name, where it isn't free
+-- a list with this cell under some name, if the cell is no empty entry
 pub record AddsCell (c : Cell) (old new : List Listed) : Type 0 where
   pub name : List ℕ
   pub used : is_free c.head ≡ false
@@ -68,9 +70,10 @@ pub record AddsCell (c : Cell) (old new : List Listed) : Type 0 where
 abbrev pub AddsAtMost : Cell → List Listed → List Listed → Type 0
 AddsAtMost c old new = (new ≡ old) ⊎ AddsCell c old new
 
--- these are the components of a region: each lies in it, together they are no longer than it, and
--- on an honest device they are as defined
-pub record Lists {F : Type 0} (facts : F → Device) (region : Range) (pages : Pages F) (all : Vec Listed Global) : Type 0 where
+-- These are the components of a region: each lies in the region, the sum of their sizes is at most
+-- the region's size, and on an honest device they equal the definition.
+pub record Lists {F : Type 0} (facts : F → Device) (region : Range) (pages : Pages F)
+    (all : Vec Listed Global) : Type 0 where
   pub cells : All (IsListedIn region.size) all.items
   pub room : spans all.items ≤ region.size
   pub shown : OnHonestIn facts pages.device region (λ x. states_in x all.items ≡ states x)

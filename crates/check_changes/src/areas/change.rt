@@ -1,18 +1,14 @@
 //! The changes between two flash maps.
-ghost use Rattle.std.specs.Prelude.{◌≡◌, ◌++◌, OnOk};
-ghost use Rattle.check_changes.specs.Areas.AreaChanges.{told_if};
-
 use check_findings::NumberedArea;
-use std::alloc::AllocError;
 
-/// A change between the areas of an old image and those of a new one.
+/// A change between the areas of an old image and a new image.
 #[derive(Clone, Copy, Drop)]
 pub enum AreaChange {
-    /// Only the new map has an area of the name.
+    /// Only the new map has an area of this name.
     Added(NumberedArea),
-    /// Only the old map has an area of the name.
+    /// Only the old map has an area of this name.
     Gone(NumberedArea),
-    /// The area begins at another place.
+    /// The area has another offset.
     Moved {
         old: NumberedArea,
         new: NumberedArea,
@@ -27,14 +23,17 @@ pub enum AreaChange {
         old: NumberedArea,
         new: NumberedArea,
     },
-    /// The area, of the new map, has the size that it had, and other bytes: in so many of its
-    /// blocks, the pieces of 4096 bytes from its start on.
+    /// The area of the new map has the size of the old area, and other bytes. `blocks` counts its
+    /// blocks (4096 bytes each, from its start) that differ. `own` omits the blocks that a smaller
+    /// area holds whole: that area has the same shift from its old offset to its new offset, one
+    /// size in both maps, and lies in both images.
     Differs {
         area: NumberedArea,
         blocks: u32,
+        own: u32,
     },
-    /// The area, of the new map, has the size that it had, and its bytes aren't compared: it ends
-    /// outside one of the images, or too much was compared before.
+    /// The area of the new map has the size of the old area, but its bytes aren't compared: one of
+    /// the areas ends outside its image, or the limit of compared bytes is reached.
     NotCompared(NumberedArea),
 }
 
@@ -43,20 +42,10 @@ pub enum AreaChange {
 pub enum MapChange {
     /// Only the new image has a map.
     NoOldMap,
-    /// The map was at this place, counted from the image's first byte.
+    /// The offset of the old map in its image.
     MovedFrom(u64),
     /// The map has another base address.
     BaseChanged { old: u64, new: u64 },
     /// The map has another name.
     NameChanged,
-}
-
-/// Pushes the change if it is to be reported.
-pub fn push_if<C: Drop>(changes: &mut Vec<C>, told: bool, change: C) -> Result<(), AllocError>
-    ensures { OnOk result (changes.new.items ≡ changes.old.items ++ told_if told change) }
-{
-    if told {
-        changes.push(change)?;
-    }
-    Ok(())
 }

@@ -1,13 +1,14 @@
-//! What changes between the flash maps of two images.
+//! The changes between the flash maps of two images.
 ghost use Rattle.std.specs.Prelude.{◌≡◌, IfOk};
 ghost use Rattle.check_changes.specs.Areas.MapChanges as maps;
 
-use crate::areas::change::{MapChange, push_if};
+use crate::areas::change::MapChange;
+use crate::lists::push_if;
 use flash_device::FoundMap;
 use std::alloc::{AllocError, Global};
 
-/// Returns what changes of the flash map itself: its place, its base address, then its name. Of a
-/// new image without a map there are no changes.
+/// Returns the changes of the flash map itself: its offset, its base address, then its name. If the
+/// new image has no map, there are no changes.
 pub fn map_changes(
     alloc: Global,
     old: Option<FoundMap>,
@@ -24,20 +25,10 @@ pub fn map_changes(
         return Ok(changes);
     };
     push_if(&mut changes, old.at != new.at, MapChange::MovedFrom(old.at))?;
-    let (old, new) = (old.head, new.head);
-    let has_other_base = old.base != new.base;
-    push_if(
-        &mut changes,
-        has_other_base,
-        MapChange::BaseChanged {
-            old: old.base,
-            new: new.base,
-        },
-    )?;
-    push_if(
-        &mut changes,
-        old.text() != new.text(),
-        MapChange::NameChanged,
-    )?;
+    let has_other_name = old.head.text() != new.head.text();
+    let (old, new) = (old.head.base, new.head.base);
+    let base = MapChange::BaseChanged { old, new };
+    push_if(&mut changes, old != new, base)?;
+    push_if(&mut changes, has_other_name, MapChange::NameChanged)?;
     Ok(changes)
 }

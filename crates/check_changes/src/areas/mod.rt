@@ -1,4 +1,4 @@
-//! Finds the changes between the maps, the areas and the blocks of two images.
+//! Compares the flash maps, the areas and the blocks of two images.
 
 mod areas;
 mod blocks;

@@ -4,37 +4,37 @@ use check_findings::Name;
 /// The first difference between two components of one name.
 #[derive(Clone, Copy)]
 pub enum Difference {
-    /// Their types.
+    /// The types.
     Type,
-    /// The lengths of their contents.
+    /// The lengths of the contents.
     Length,
-    /// Their contents, as they are stored.
+    /// The contents, as stored.
     Content,
-    /// The bytes between the name and the content, which hold the attributes.
+    /// The attributes: the bytes between the name and the content.
     Attributes,
 }
 
-/// A change of one component. Places count from the start of its region, in bytes.
+/// A change of one component. Offsets count from the start of its region, in bytes.
 #[derive(Drop)]
 pub enum ComponentChange {
-    /// Only the new region has it.
+    /// Only the new region has the component.
     Added {
         at: u64,
         name: Name,
     },
-    /// Only the old region has it.
+    /// Only the old region has the component.
     Removed {
         at: u64,
         name: Name,
     },
-    /// It differs.
+    /// The component differs.
     Changed {
         old: u64,
         new: u64,
         name: Name,
         what: Difference,
     },
-    /// It is at another place. Where it differs too, this comes after `Changed`.
+    /// The component has another offset. If it differs too, `Changed` precedes this change.
     Moved {
         old: u64,
         new: u64,

@@ -1,9 +1,8 @@
 //! The comparison of components of two devices.
 ghost use Rattle.std.specs.Prelude.{◌≡◌, ◌+◌, ◌-◌, ◌/◌, ◌≤◌, true, length, slice_range, IfOk};
 ghost use Rattle.std.specs.Str.{bytes_eq};
-ghost use Rattle.flash_device.specs.Pages.{OnHonest, OnHonestIn};
 ghost use Rattle.check_changes.specs.Components.Listings.{IsUsedIn, cell_difference};
-ghost use Rattle.check_changes.specs.Images.{BothLieIn, HasCompared};
+ghost use Rattle.check_changes.specs.Images.{BothLieIn, HasCompared, OnBoth, OnBothIn};
 
 use crate::components::change::Difference;
 use crate::components::stretch::Stretch;
@@ -11,7 +10,8 @@ use crate::fault::ChangeFault;
 use cbfs_walk::Cell;
 use flash_device::{Flash, PIECE, Paged, Region};
 
-/// Returns the first difference between a component of the old region and one of the new.
+/// Returns the first difference between a component of the old region and a component of the new
+/// region.
 pub fn difference<F: Flash, G: Flash>(
     old: &mut Paged<F>,
     old_region: Region,
@@ -20,13 +20,16 @@ pub fn difference<F: Flash, G: Flash>(
     new_region: Region,
     after: &Cell,
 ) -> Result<Option<Difference>, ChangeFault>
-    requires regions { BothLieIn F.facts old.old.device old_region G.facts new.old.device new_region }
+    requires regions { BothLieIn F.facts old.old.device old_region
+        G.facts new.old.device new_region }
     requires before { IsUsedIn old_region.size before.now }
     requires after { IsUsedIn new_region.size after.now }
 
-    ensures after { HasCompared F.facts G.facts (2 + after.now.span / 4096) old.old old.new new.old new.new result }
-    ensures difference { OnHonestIn F.facts old.old.device old_region (λ x. OnHonestIn G.facts new.old.device new_region (λ y.
-        IfOk result (λ what. what ≡ cell_difference x before.now y after.now))) }
+    ensures after { HasCompared F.facts G.facts (2 + after.now.span / 4096)
+        old.old old.new new.old new.new result }
+    ensures difference { OnBothIn F.facts old.old.device old_region
+        G.facts new.old.device new_region (λ x y.
+        IfOk result (λ what. what ≡ cell_difference x before.now y after.now)) }
 {
     old.places_fit();
     new.places_fit();
@@ -47,7 +50,7 @@ pub fn difference<F: Flash, G: Flash>(
     Ok(None)
 }
 
-/// Returns whether two stretches have the same bytes.
+/// Returns whether two stretches have equal bytes.
 fn same_stretch<F: Flash, G: Flash>(
     old: &mut Paged<F>,
     old_region: Region,
@@ -56,15 +59,19 @@ fn same_stretch<F: Flash, G: Flash>(
     new_region: Region,
     after: Stretch,
 ) -> Result<bool, ChangeFault>
-    requires regions { BothLieIn F.facts old.old.device old_region G.facts new.old.device new_region }
+    requires regions { BothLieIn F.facts old.old.device old_region
+        G.facts new.old.device new_region }
     requires before { before.end ≤ old_region.size }
     requires after { after.end ≤ new_region.size }
     requires old_order { before.from ≤ before.end }
     requires new_order { after.from ≤ after.end }
 
-    ensures after { HasCompared F.facts G.facts (1 + (after.end - after.from) / 4096) old.old old.new new.old new.new result }
-    ensures same { OnHonestIn F.facts old.old.device old_region (λ x. OnHonestIn G.facts new.old.device new_region (λ y.
-        IfOk result (λ same. same ≡ bytes_eq (slice_range x before.from before.end) (slice_range y after.from after.end)))) }
+    ensures after { HasCompared F.facts G.facts (1 + (after.end - after.from) / 4096)
+        old.old old.new new.old new.new result }
+    ensures same { OnBothIn F.facts old.old.device old_region
+        G.facts new.old.device new_region (λ x y.
+        IfOk result (λ same. same ≡ bytes_eq (slice_range x before.from before.end)
+        (slice_range y after.from after.end))) }
 {
     old.places_fit();
     new.places_fit();
@@ -81,7 +88,7 @@ fn same_stretch<F: Flash, G: Flash>(
     )
 }
 
-/// Returns whether n bytes of the old device and of the new are the same.
+/// Returns whether `n` bytes of both devices are equal.
 fn same_bytes<F: Flash, G: Flash>(
     old: &mut Paged<F>,
     before: u64,
@@ -92,9 +99,11 @@ fn same_bytes<F: Flash, G: Flash>(
     requires before { before + n ≤ length (F.facts old.old.device).content }
     requires after { after + n ≤ length (G.facts new.old.device).content }
 
-    ensures after { HasCompared F.facts G.facts (1 + n / 4096) old.old old.new new.old new.new result }
-    ensures same { OnHonest F.facts old.old.device (λ x. OnHonest G.facts new.old.device (λ y.
-        IfOk result (λ same. same ≡ bytes_eq (slice_range x before (before + n)) (slice_range y after (after + n))))) }
+    ensures after { HasCompared F.facts G.facts (1 + n / 4096)
+        old.old old.new new.old new.new result }
+    ensures same { OnBoth F.facts old.old.device G.facts new.old.device (λ x y.
+        IfOk result (λ same. same ≡ bytes_eq (slice_range x before (before + n))
+        (slice_range y after (after + n)))) }
 {
     old.places_fit();
     new.places_fit();
@@ -109,7 +118,7 @@ fn same_bytes<F: Flash, G: Flash>(
     Ok(true)
 }
 
-/// Returns whether at most 4096 bytes of both devices are the same.
+/// Returns whether `n` bytes of both devices are equal, at most 4096.
 fn same_piece<F: Flash, G: Flash>(
     old: &mut Paged<F>,
     before: u64,
@@ -121,9 +130,11 @@ fn same_piece<F: Flash, G: Flash>(
     requires after { after + n ≤ length (G.facts new.old.device).content }
     requires short { n ≤ 4096 }
 
-    ensures after { HasCompared F.facts G.facts 1 old.old old.new new.old new.new result }
-    ensures same { OnHonest F.facts old.old.device (λ x. OnHonest G.facts new.old.device (λ y.
-        IfOk result (λ same. same ≡ bytes_eq (slice_range x before (before + n)) (slice_range y after (after + n))))) }
+    ensures after { HasCompared F.facts G.facts 1
+        old.old old.new new.old new.new result }
+    ensures same { OnBoth F.facts old.old.device G.facts new.old.device (λ x y.
+        IfOk result (λ same. same ≡ bytes_eq (slice_range x before (before + n))
+        (slice_range y after (after + n)))) }
 {
     let Ok(old_bytes) = old.piece(before, n) else {
         return Err(ChangeFault::OldDevice);

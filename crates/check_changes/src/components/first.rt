@@ -12,11 +12,10 @@ use std::alloc::{AllocError, Global};
 use std::collections::HashMap;
 use std::hash::RandomState;
 
-/// The cells of names. Whoever makes an image picks its names, so they are hashed with keys that
-/// nobody knows in advance.
+/// The cells by name. An image can have any names, so they are hashed with random keys.
 pub type Firsts<'a> = HashMap<&'a [u8], Cell, RandomState>;
 
-/// The components of a region, and of each name the cell of the first.
+/// The components of a region, and the cell of the first component of each name.
 #[derive(Drop)]
 pub struct Listing<'a> {
     pub region: Region,
@@ -34,7 +33,7 @@ impl<'a> Listing<'a> {
         self.first.get(name).copied()
     }
 
-    /// Returns whether no earlier component has this one's name.
+    /// Returns whether the component is the first component of its name.
     pub fn is_first(&self, listed: &'a Listed) -> bool
         ensures { result ≡ is_first self.now.all.now listed.now }
     {
@@ -59,7 +58,7 @@ pub fn with_firsts<'a>(
 {
     let mut first = HashMap::with_hasher(alloc, keys);
     let mut left = all.len();
-    // The last one of a name is noted first, so that the first one stays.
+    // Backwards, so that the first component of a name replaces the later components.
     while left > 0 {
         left -= 1;
         note(&mut first, &all[left])?;
@@ -67,9 +66,10 @@ pub fn with_firsts<'a>(
     Ok(Listing { region, all, first })
 }
 
-/// Notes a component's cell, in place of that of a later one of its name.
+/// Notes a component's cell, and replaces the cell of a later component of its name.
 fn note<'a>(first: &mut Firsts<'a>, listed: &'a Listed) -> Result<(), AllocError>
-    ensures { (behind : List Listed) → Notes first.old behind → OnOk result (Notes first.new (listed.now ∷ behind)) }
+    ensures { (behind : List Listed) → Notes first.old behind →
+        OnOk result (Notes first.new (listed.now ∷ behind)) }
 {
     first.insert(listed.name.as_slice(), listed.cell)?;
     Ok(())

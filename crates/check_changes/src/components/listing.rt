@@ -8,10 +8,11 @@ ghost use Rattle.cbfs_walk.specs.Walks.{StandsIn};
 ghost use Rattle.check_changes.specs.Components.Listings.{AddsAtMost, Lists, cell_states, states_in};
 ghost use Rattle.check_findings.specs.Faults.{by_device};
 
+use crate::lists::push;
 use cbfs_walk::{Cell, Step, Walk, WalkFault, cells_stand_in_their_image, name};
 use check_findings::{CheckFault, Name};
 use flash_device::{Flash, Paged, Region};
-use std::alloc::Global;
+use std::alloc::{AllocError, Global};
 
 /// A component that a walk found.
 #[derive(Drop)]
@@ -20,7 +21,16 @@ pub struct Listed {
     pub cell: Cell,
 }
 
-/// Adds the component of a cell. Free space has none.
+impl Listed {
+    /// Returns a copy of the component's name.
+    pub fn copied_name(&self, alloc: Global) -> Result<Name, AllocError>
+        ensures { IfOk result (λ name. name ≡ self.now.name) }
+    {
+        Name::copied(alloc, self.name.as_slice())
+    }
+}
+
+/// Pushes the component of a cell. An empty entry has no component.
 fn list_cell<F: Flash>(
     alloc: Global,
     paged: &mut Paged<F>,
@@ -34,7 +44,8 @@ fn list_cell<F: Flash>(
     ensures after { HasRead F.facts 1 (faults_told by_device result) paged.old paged.new }
     ensures adds { OnOk result (AddsAtMost cell.now all.old.items all.new.items) }
     ensures listed { OnHonestIn F.facts paged.old.device region (λ x. StandsIn x cell.now →
-        OnOk result (states_in x all.new.items ≡ states_in x all.old.items ++ cell_states x cell.now)) }
+        OnOk result (states_in x all.new.items ≡ states_in x all.old.items
+        ++ cell_states x cell.now)) }
 {
     cells_stand_in_their_image();
     if cell.head.is_free() {
@@ -43,21 +54,12 @@ fn list_cell<F: Flash>(
     let mut field = [0; 256];
     let len = name(paged, region, cell, &mut field)?;
     let name = Name::copied(alloc, &field[..len])?;
-    add(all, Listed { name, cell: *cell })
+    push(all, Listed { name, cell: *cell })?;
+    Ok(())
 }
 
-/// Adds a component.
-fn add(all: &mut Vec<Listed>, listed: Listed) -> Result<(), CheckFault>
-    ensures added { OnOk result (all.new.items ≡ all.old.items ++ listed ∷ []) }
-    ensures memory { IfErr result (λ fault. fault ≡ CheckFault.Memory) }
-{
-    match all.push(listed) {
-        Ok(()) => Ok(()),
-        Err(_) => Err(CheckFault::Memory),
-    }
-}
-
-/// Returns the components of a region in order, up to a damage; none if its shape is refused.
+/// Returns the components of a region in order, up to a damage. If the region has no valid shape,
+/// it returns no components.
 pub fn components<F: Flash>(
     alloc: Global,
     paged: &mut Paged<F>,
@@ -65,7 +67,8 @@ pub fn components<F: Flash>(
 ) -> Result<Vec<Listed>, CheckFault>
     requires { LiesIn region (F.facts paged.old.device).content }
 
-    ensures after { HasRead F.facts (region.size / 24 + 2) (faults_told by_device result) paged.old paged.new }
+    ensures after { HasRead F.facts (region.size / 24 + 2)
+        (faults_told by_device result) paged.old paged.new }
     ensures lists { IfOk result (Lists F.facts region paged.old) }
 {
     let mut all = Vec::new(alloc);
@@ -83,7 +86,7 @@ pub fn components<F: Flash>(
     }
 }
 
-/// Returns the fault of a walk, unless it only ends the cells.
+/// Returns the device fault of a walk. Any other fault only ends the list of cells.
 fn ended(fault: WalkFault) -> Result<(), CheckFault>
     ensures ended { OnOk result (fault ≢ WalkFault.Device) }
     ensures device { OnErr result (fault ≡ WalkFault.Device) }

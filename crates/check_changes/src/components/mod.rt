@@ -1,4 +1,4 @@
-//! Finds the changes between the components of two CBFS regions, each on a device of its own.
+//! Compares the components of two CBFS regions on two devices.
 
 mod change;
 mod changes;

@@ -4,7 +4,7 @@ ghost use Rattle.flash_format.specs.Entry.{name_end};
 
 use cbfs_walk::Cell;
 
-/// The bytes between two places, counted from the region's start.
+/// The bytes between two offsets in a region.
 #[derive(Clone, Copy)]
 pub struct Stretch {
     pub from: u64,

@@ -1,9 +1,8 @@
 //! The changes of a region.
-ghost use Rattle.std.specs.Prelude.{◌≡◌, [], ◌∷◌, ◌++◌, OnOk};
+ghost use Rattle.std.specs.Prelude.{◌≡◌};
 
 use crate::components::ComponentChange;
 use check_findings::NumberedArea;
-use std::alloc::AllocError;
 use std::marker::Model;
 
 /// The changes between the components of two regions.
@@ -22,14 +21,14 @@ impl Model for ComponentChanges {
 }
 
 impl ComponentChanges {
-    /// Returns these changes, in their order.
+    /// Returns these changes, in order.
     pub fn new(changes: Vec<ComponentChange>) -> ComponentChanges
         ensures { result ≡ changes.items }
     {
         ComponentChanges { changes }
     }
 
-    /// Returns the changes, in their order.
+    /// Returns the changes, in order.
     pub fn as_slice(&self) -> &[ComponentChange]
         ensures { result.now ≡ self.now }
     {
@@ -45,16 +44,7 @@ pub enum RegionChange {
         area: NumberedArea,
         changes: ComponentChanges,
     },
-    /// Not compared: the old area ends outside the old image, or too much of that was compared
-    /// before.
+    /// Not compared: the old area ends outside the old image, or the limit of compared bytes is
+    /// reached.
     NotCompared(NumberedArea),
-}
-
-pub fn push(changes: &mut Vec<RegionChange>, change: RegionChange) -> Result<(), AllocError>
-    ensures { OnOk result (changes.new.items ≡ changes.old.items ++ change ∷ []) }
-{
-    match changes.push(change) {
-        Ok(()) => Ok(()),
-        Err(_) => Err(AllocError),
-    }
 }

@@ -1,4 +1,4 @@
-//! Finds the changes of the components in the regions of an image.
+//! Compares the components of the regions of two images.
 
 mod change;
 mod pairs;

@@ -9,21 +9,23 @@ ghost use Rattle.check_changes.specs.Regions.RegionChanges.{pair_of, pairs};
 use check_findings::{AreaNames, ImageFinding, NumberedArea};
 use std::alloc::{AllocError, Global};
 
-/// An area of the new image, and the first one of the old image with its name.
+/// An area of the new image, and the first area of the old image with its name.
 #[derive(Clone, Copy, Drop)]
 pub struct Pair {
     pub old: NumberedArea,
     pub new: NumberedArea,
 }
 
-/// Pushes the area of a region's finding with the old one of its name, if there is one.
+/// Pushes the area of a region's finding with the old area of its name, if the old map has the
+/// name.
 fn push_pair<'a>(
     pairs: &mut Vec<Pair>,
     old_names: &AreaNames<'a>,
     finding: &'a ImageFinding,
 ) -> Result<(), AllocError>
     ensures { (olds : List NumberedArea) → Notes old_names.now olds →
-        OnOk result (pairs.new.items ≡ pairs.old.items ++ flat_map (pair_of olds) (region_area finding.now)) }
+        OnOk result (pairs.new.items ≡ pairs.old.items ++ flat_map
+        (pair_of olds) (region_area finding.now)) }
 {
     let ImageFinding::Region { area, .. } = finding else {
         return Ok(());
@@ -34,8 +36,8 @@ fn push_pair<'a>(
     Ok(())
 }
 
-/// Returns the areas of the regions of these findings, in their order, each with the first old one
-/// of its name; without those that have none.
+/// Returns the areas of the regions in these findings, in order, each with the first old area of
+/// its name. Areas whose names the old map lacks are omitted.
 pub fn pairs<'a>(
     alloc: Global,
     old_names: &AreaNames<'a>,

@@ -10,4 +10,4 @@ returns-clause-listed g c = λ h stands.
     let x = bytes_in c.args.region image in
     let known = c.cells_stand_in_their_image.ensures c.args.region image cell c.requires.region c.requires.cell stands in
     let shown = state_shown x cell c.in_ok-name.name (sym c.is_free.ensures ∙ c.if-is_free.false) (c.in_ok-name.ensures ∙ c.in_ok-len.ensures.name h stands) known.head c.requires.cell.content in
-    listed_more c.add.result x c.args.all.now.items c.add.new.all.items _ shown c.add.ensures.added
+    listed_more x c.args.all.now.items c.push.new.list.items _ shown c.in_ok-push.ensures

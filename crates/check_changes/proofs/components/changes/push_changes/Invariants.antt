@@ -4,7 +4,7 @@ use Rattle.std.specs.List.{flat_map}
 use Rattle.flash_device.specs.Regions.{bytes_in}
 use Rattle.check_changes.specs.Components.Listings.{listed_change, spans}
 use Rattle.check_changes.specs.Images.{HasReadBoth}
-use Rattle.check_changes.proofs.components.changes.tell_changes.Given as goal
+use Rattle.check_changes.proofs.components.changes.push_changes.Given as goal
 
 abbrev pub invariant-loop-listed : goal.invariant-loop-listed
 invariant-loop-listed g l =
@@ -13,5 +13,5 @@ invariant-loop-listed g l =
     let change = listed_change (bytes_in l.before.region old.content) l.before.all.now (bytes_in l.after.region new.content) l.after.all.now in
     record {
       read : HasReadBoth g.F.Flash.facts g.G.Flash.facts (spans (take l.listed-index l.after.all.now) / 24) 0 0 l.fn.old l.old l.fn.new l.new;
-      told : IsTrue old.honest → IsTrue new.honest → l.changes.told.items ++ flat_map change (drop l.listed-index l.after.all.now) ≡ l.initial.changes.told.items ++ flat_map change l.after.all.now;
+      changes : IsTrue old.honest → IsTrue new.honest → l.changes.items ++ flat_map change (drop l.listed-index l.after.all.now) ≡ l.initial.changes.items ++ flat_map change l.after.all.now;
     }
