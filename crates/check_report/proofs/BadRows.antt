@@ -10,7 +10,7 @@ use Rattle.check_findings.specs.declared.region.finding.ComponentFinding.TheVari
 use Rattle.check_findings.specs.declared.region.finding.Content.{Content}
 use Rattle.check_findings.specs.declared.map.finding.NumberedArea.{NumberedArea}
 use Rattle.cbfs_walk.specs.declared.hashes.HashState.{HashState}
-use Rattle.check_report.specs.declared.region.Asked.{Asked}
+use Rattle.check_report.specs.declared.request.Asked.{Asked}
 use Rattle.check_report.specs.declared.rows.row.Detail.TheVariants as details
 use Rattle.check_findings.specs.declared.region.finding.RegionFinding.{RegionFinding}
 use Rattle.check_findings.specs.declared.region.finding.RegionFinding.TheVariants as of_region
@@ -75,7 +75,8 @@ bad_region asked region (of_region.Damaged at kind) = refl
 bad_region asked region of_region.NoComponents = refl
 bad_region asked region (of_region.Components n) = refl
 bad_region asked region (of_region.FreeBytes n) = refl
-bad_region asked region (of_region.LargestFree n) = refl
+bad_region asked region (of_region.LargestContent n) = refl
+bad_region asked region of_region.NoRoom = refl
 
 bad_named : (b : Bool) (a : NumberedArea) (code what : List ℕ) → list_any is_bad_row (map_area_row (verdict_of b) a code what details.None ∷ []) ≡ b
 bad_named true a code what = refl

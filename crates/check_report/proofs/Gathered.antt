@@ -1,14 +1,14 @@
--- The rows of what was gathered of two images.
+-- The result of a check of two images.
 use Rattle.std.proofs.Common.{◌≡◌, ℕ, List, refl}
 use Rattle.check_findings.specs.declared.map.finding.NumberedArea.{NumberedArea}
 use Rattle.check_findings.specs.Map.MapFindings.{image_areas}
-use Rattle.check_findings.specs.declared.image.finding.ImageFinding.{ImageFinding}
-use Rattle.check_report.specs.declared.change.Changes.{Changes}
-use Rattle.check_report.specs.Reports.{Wish, change_rows, compared_areas, found_rows, new_findings, with_changes}
-use Rattle.check_report.specs.Changes.{AreChanges}
+use Rattle.check_report.specs.declared.change.NewImage.{NewImage}
+use Rattle.check_report.specs.declared.change.OldImage.{OldImage}
+use Rattle.check_report.specs.Reports.{Wish, compared, inspected_change, new_findings}
+use Rattle.check_report.specs.Changes.{AreChanges, IsOldImage, seen_new}
 
-pub gathered : (wish : Wish) (x y : List ℕ) (olds news : List NumberedArea) (findings : List ImageFinding) (c : Changes)
-    → olds ≡ compared_areas x y → news ≡ image_areas y → findings ≡ new_findings wish x y → AreChanges x y olds news findings c
-    → with_changes (found_rows wish findings) wish c olds news ≡ change_rows wish x y
-gathered wish x y olds news findings c old_areas areas found k =
-    rw (k.old_len, k.new_len, k.blocks, k.map, k.areas, k.regions, old_areas, areas, found) refl
+pub gathered : (wish : Wish) (x y : List ℕ) (image : OldImage) (n : NewImage) (olds : List NumberedArea)
+    → IsOldImage x image → n.areas.items ≡ image_areas y → n.findings.items ≡ new_findings wish x y → olds ≡ compared image.map.found image.map.areas.items n.areas.items
+    → AreChanges x y olds n.areas.items n.findings.items n.comparison → seen_new image n ≡ inspected_change wish x y
+gathered wish x y image n olds is areas found old_areas k =
+    rw (k.old_len, k.new_len, k.blocks, k.map, k.areas, k.regions, old_areas, is.found, is.areas, is.regions, areas, found) refl

@@ -1,5 +1,10 @@
 pub mod RowLemmas
 mod Gathered
 mod TellingChanges
+mod Counting
+mod ReportParts
+mod SoundRows
+mod ListedParts
+mod Texts
 pub mod BadRows
 mod ShownRows

@@ -1,5 +1,5 @@
 -- A row that is not shown is like one that is.
-use Rattle.std.proofs.Common.{◌≡◌, ◌∙◌, ℕ, ◌<◌, nat_lt, List, [], ◌∷◌, ◌++◌, Bool, true, false, refl, arith}
+use Rattle.std.proofs.Common.{◌≡◌, ℕ, ◌<◌, nat_lt, List, [], ◌∷◌, ◌++◌, Bool, true, false, refl, arith}
 use Rattle.std.specs.Prelude.{◌||◌, count_by}
 use Rattle.std.specs.List.{list_any}
 use Rattle.std.proofs.lemmas.List.Folds.{list_any-append}
@@ -28,19 +28,24 @@ like_bad row (r ∷ rs) some bad = go (is_like row r) refl (like_bad row rs)
     go true is later = grind (arith, same row.verdict r.verdict, bad, is)
     go false is later = grind (arith, later, bad, is, some)
 
-step : (most : ℕ) (shown : List SeenRow) (row : SeenRow) → 0 < most
-    → list_any is_bad_row (shown ++ row_within most shown row) ≡ (list_any is_bad_row shown || is_bad_row row)
-step most shown row some = go (nat_lt (count_by (is_like row) shown) most) refl
+-- a row after others, and the rows after it
+step : (most : ℕ) (before : List SeenRow) (row : SeenRow) (shown rows : Bool) → 0 < most
+    → (list_any is_bad_row (before ++ row ∷ []) || shown) ≡ (list_any is_bad_row (before ++ row ∷ []) || rows)
+    → (list_any is_bad_row before || (list_any is_bad_row (row_within most before row) || shown)) ≡ (list_any is_bad_row before || (is_bad_row row || rows))
+step most before row shown rows some later = go (nat_lt (count_by (is_like row) before) most) refl
   where
-    go : (b : Bool) → nat_lt (count_by (is_like row) shown) most ≡ b → list_any is_bad_row (shown ++ row_if b row) ≡ (list_any is_bad_row shown || is_bad_row row)
-    go true is = rw (list_any-append is_bad_row shown (row ∷ [])) (grind arith)
-    go false is = grind (arith, like_bad row shown, list_any-append is_bad_row shown [], is, some)
+    go : (b : Bool) → nat_lt (count_by (is_like row) before) most ≡ b
+        → (list_any is_bad_row before || (list_any is_bad_row (row_if b row) || shown)) ≡ (list_any is_bad_row before || (is_bad_row row || rows))
+    go true is = grind (arith, later, list_any-append is_bad_row before (row ∷ []))
+    go false is = grind (arith, later, list_any-append is_bad_row before (row ∷ []), like_bad row before, is, some)
 
-bad_first : (most : ℕ) (shown rows : List SeenRow) → 0 < most → list_any is_bad_row (first_rows most shown rows) ≡ (list_any is_bad_row shown || list_any is_bad_row rows)
+bad_first : (most : ℕ) (before rows : List SeenRow) → 0 < most
+    → (list_any is_bad_row before || list_any is_bad_row (first_rows most before rows)) ≡ (list_any is_bad_row before || list_any is_bad_row rows)
 unfolding first_rows
-bad_first most shown [] some = grind arith
-bad_first most shown (row ∷ rows) some =
-    bad_first most (shown ++ row_within most shown row) rows some ∙ rw (step most shown row some) (grind arith)
+bad_first most before [] some = refl
+bad_first most before (row ∷ rows) some =
+    rw (list_any-append is_bad_row (row_within most before row) (first_rows most (before ++ row ∷ []) rows))
+    (step most before row (list_any is_bad_row (first_rows most (before ++ row ∷ []) rows)) (list_any is_bad_row rows) some (bad_first most (before ++ row ∷ []) rows some))
 
 pub bad_shown : (rows : List SeenRow) → list_any is_bad_row (shown_rows rows) ≡ list_any is_bad_row rows
 bad_shown rows = bad_first 16 [] rows (grind arith)

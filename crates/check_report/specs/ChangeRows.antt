@@ -1,9 +1,11 @@
 -- Changes as rows. The codes and texts are this project's own.
-use Rattle.std.specs.Prelude.{ℕ, Bool, not, ◌||◌, ◌%◌, nat_le, List, [], ◌∷◌, ◌++◌, map, nat_lt, None, ◌==◌, if◌then◌else◌}
+use Rattle.std.specs.Prelude.{ℕ, Bool, true, not, ◌||◌, ◌%◌, nat_le, List, [], ◌∷◌, ◌++◌, map, nat_lt}
+use Rattle.std.specs.Prelude.{None, ◌==◌, if◌then◌else◌}
 use Rattle.std.specs.List.{flat_map, list_any}
 use lib.Chars.{codes}
 use Rattle.check_changes.specs.declared.regions.change.RegionChange.{RegionChange}
-use Rattle.check_changes.specs.declared.regions.change.RegionChange.TheVariants.{Compared, NotCompared}
+use Rattle.check_changes.specs.declared.regions.change.RegionChange.TheVariants.{Compared}
+use Rattle.check_changes.specs.declared.regions.change.RegionChange.TheVariants.{NotCompared}
 use Rattle.check_findings.specs.declared.map.finding.NumberedArea.{NumberedArea}
 use Rattle.check_findings.specs.Map.MapFindings.{has_name}
 use Rattle.check_changes.specs.declared.areas.change.MapChange.{MapChange}
@@ -11,7 +13,9 @@ use Rattle.check_changes.specs.declared.areas.change.MapChange.TheVariants as ma
 use Rattle.check_changes.specs.declared.areas.change.AreaChange.{AreaChange}
 use Rattle.check_changes.specs.declared.areas.change.AreaChange.TheVariants as areas
 use Rattle.check_changes.specs.declared.components.change.Difference.{Difference}
-use Rattle.check_changes.specs.declared.components.change.Difference.TheVariants.{«Type», Length, Content, Attributes}
+use Rattle.check_changes.specs.declared.components.change.Difference.TheVariants.{«Type», Length}
+use Rattle.check_changes.specs.declared.components.change.Difference.TheVariants.{Content}
+use Rattle.check_changes.specs.declared.components.change.Difference.TheVariants.{Attributes}
 use Rattle.check_changes.specs.declared.components.change.ComponentChange.{ComponentChange}
 use Rattle.check_changes.specs.declared.components.change.ComponentChange.TheVariants as components
 use Rattle.check_findings.specs.Image.ImageFindings.{has_one_of}
@@ -19,7 +23,8 @@ use Rattle.check_report.specs.declared.rows.row.Verdict.{Verdict}
 use Rattle.check_report.specs.declared.rows.row.Verdict.TheVariants as verdicts
 use Rattle.check_report.specs.declared.rows.row.Detail.{Detail}
 use Rattle.check_report.specs.declared.rows.row.Detail.TheVariants as details
-use Rattle.check_report.specs.Rows.Rows.{SeenRow, row_if, image_row, area_name, area_row, map_area_row, component_row}
+use Rattle.check_report.specs.Rows.Rows.{SeenRow, row_if, image_row, area_name, area_row}
+use Rattle.check_report.specs.Rows.Rows.{map_area_row, component_row}
 
 -- what differs in an area is bad where its name is kept, and else a mere change
 abbrev pub verdict_of : List (List ℕ) → NumberedArea → Verdict
@@ -31,23 +36,42 @@ verdict_of kept a = if has_one_of kept a then verdicts.Bad else verdicts.Change
 abbrev pub changed_row : List (List ℕ) → NumberedArea → List ℕ → List ℕ → Detail → SeenRow
 changed_row kept a code what detail = map_area_row (verdict_of kept a) a code what detail
 
-abbrev pub area_change_row : List (List ℕ) → AreaChange → SeenRow
-area_change_row kept (areas.Added a) = changed_row kept a (codes "area-added") (codes "area added") details.None
-area_change_row kept (areas.Gone a) = changed_row kept a (codes "area-gone") (codes "area gone") details.None
-area_change_row kept (areas.Moved old new) =
-    changed_row kept new (codes "area-moved") (codes "area moved from") (details.Number old.area.offset)
-area_change_row kept (areas.Resized old new) =
-    changed_row kept new (codes "area-resized") (codes "area resized from") (details.Number old.area.size)
-area_change_row kept (areas.FlagsChanged old new) =
-    changed_row kept new (codes "area-flags") (codes "flags changed from") (details.Number old.area.flags)
-area_change_row kept (areas.Differs a blocks) =
-    changed_row kept a (codes "area-changed") (codes "erase blocks differ") (details.Count blocks)
-area_change_row kept (areas.NotCompared a) =
+-- the number of blocks that is reported of an area: all that differ if its name is kept, and else
+-- those that no smaller area holds
+abbrev pub reported_blocks : List (List ℕ) → NumberedArea → ℕ → ℕ → ℕ
+reported_blocks kept a blocks own = if has_one_of kept a then blocks else own
+
+-- the row of a change; an area with a vital name must not be gone
+abbrev pub area_change_row : List (List ℕ) → List (List ℕ) → AreaChange → SeenRow
+area_change_row kept vital (areas.Added a) =
+    changed_row kept a (codes "area-added") (codes "area added") details.None
+area_change_row kept vital (areas.Gone a) =
+    changed_row vital a (codes "area-gone") (codes "area gone") details.None
+area_change_row kept vital (areas.Moved old new) =
+    changed_row kept new (codes "area-moved") (codes "area moved from")
+    (details.Number old.area.offset)
+area_change_row kept vital (areas.Resized old new) =
+    changed_row kept new (codes "area-resized") (codes "area resized from")
+    (details.Number old.area.size)
+area_change_row kept vital (areas.FlagsChanged old new) =
+    changed_row kept new (codes "area-flags") (codes "flags changed from")
+    (details.Number old.area.flags)
+area_change_row kept vital (areas.Differs a blocks own) = changed_row kept a (codes "area-changed")
+    (codes "erase blocks differ") (details.Count (reported_blocks kept a blocks own))
+area_change_row kept vital (areas.NotCompared a) =
     changed_row kept a (codes "area-not-compared") (codes "not compared") details.None
 
--- a row of each change
-abbrev pub area_rows : List (List ℕ) → List AreaChange → List SeenRow
-area_rows kept changes = map (area_change_row kept) changes
+-- a change has a row; one of blocks only if some are reported
+abbrev pub has_change_row : List (List ℕ) → AreaChange → Bool
+has_change_row kept (areas.Differs a blocks own) = nat_lt 0 (reported_blocks kept a blocks own)
+has_change_row kept _ = true
+
+abbrev pub area_change_rows : List (List ℕ) → List (List ℕ) → AreaChange → List SeenRow
+area_change_rows kept vital change =
+    row_if (has_change_row kept change) (area_change_row kept vital change)
+
+abbrev pub area_rows : List (List ℕ) → List (List ℕ) → List AreaChange → List SeenRow
+area_rows kept vital changes = flat_map (area_change_rows kept vital) changes
 
 -- ---- components of an area of the new image
 
@@ -67,11 +91,13 @@ abbrev pub component_change_row : Verdict → List ℕ → ComponentChange → S
 component_change_row v area (components.Added at name) =
     component_row v area at name (codes "component-added") (codes "component added") details.None
 component_change_row v area (components.Removed at name) =
-    component_row v area at name (codes "component-removed") (codes "component removed") details.None
+    component_row v area at name (codes "component-removed")
+    (codes "component removed") details.None
 component_change_row v area (components.Changed old new name what) =
     component_row v area new name (difference_code what) (difference_words what) details.None
 component_change_row v area (components.Moved old new name) =
-    component_row v area new name (codes "component-moved") (codes "component moved from") (details.Number old)
+    component_row v area new name (codes "component-moved") (codes "component moved from")
+    (details.Number old)
 
 -- a row of each change, all with the area's verdict
 abbrev pub component_rows : List (List ℕ) → NumberedArea → List ComponentChange → List SeenRow
@@ -80,7 +106,8 @@ component_rows kept a changes = map (component_change_row (verdict_of kept a) (a
 -- that the components of an area are not compared
 abbrev pub not_compared_row : List (List ℕ) → NumberedArea → SeenRow
 not_compared_row kept a =
-    changed_row kept a (codes "components-not-compared") (codes "components not compared") details.None
+    changed_row kept a (codes "components-not-compared")
+    (codes "components not compared") details.None
 
 -- of what becomes of the components of a region
 abbrev pub region_rows : List (List ℕ) → RegionChange → List SeenRow
@@ -93,26 +120,34 @@ regions_rows kept changes = flat_map (region_rows kept) changes
 -- ---- whole images
 
 abbrev pub size_row : ℕ → SeenRow
-size_row old = image_row verdicts.Change None (codes "image-size") (codes "image size changed from") (details.Number old)
+size_row old =
+    image_row verdicts.Change None (codes "image-size") (codes "image size changed from")
+    (details.Number old)
 
 abbrev pub blocks_row : ℕ → SeenRow
-blocks_row n = image_row verdicts.Change None (codes "blocks") (codes "erase blocks differ") (details.Count n)
+blocks_row n =
+    image_row verdicts.Change None (codes "blocks") (codes "erase blocks differ") (details.Count n)
 
 -- of images of these lengths, which differ in so many blocks
 abbrev pub image_rows : ℕ → ℕ → ℕ → List SeenRow
-image_rows old new blocks = row_if (not (old == new)) (size_row old) ++ row_if (nat_lt 0 blocks) (blocks_row blocks)
+image_rows old new blocks =
+    row_if (not (old == new)) (size_row old) ++ row_if (nat_lt 0 blocks) (blocks_row blocks)
 
 -- ---- the flash map
 
 abbrev pub map_change_row : MapChange → SeenRow
 map_change_row maps.NoOldMap =
-    image_row verdicts.Change None (codes "no-old-map") (codes "the old image has no flashmap") details.None
+    image_row verdicts.Change None (codes "no-old-map")
+    (codes "the old image has no flashmap") details.None
 map_change_row (maps.MovedFrom at) =
-    image_row verdicts.Change None (codes "map-moved") (codes "flashmap moved from") (details.Number at)
+    image_row verdicts.Change None (codes "map-moved") (codes "flashmap moved from")
+    (details.Number at)
 map_change_row (maps.BaseChanged old new) =
-    image_row verdicts.Change None (codes "map-base") (codes "base address changed from") (details.Number old)
+    image_row verdicts.Change None (codes "map-base") (codes "base address changed from")
+    (details.Number old)
 map_change_row maps.NameChanged =
-    image_row verdicts.Change None (codes "map-name") (codes "name of the flashmap changed") details.None
+    image_row verdicts.Change None (codes "map-name")
+    (codes "name of the flashmap changed") details.None
 
 abbrev pub map_rows : List MapChange → List SeenRow
 map_rows changes = map map_change_row changes
@@ -129,7 +164,8 @@ name_if is_there name = if is_there then name ∷ [] else []
 abbrev pub preserved_names : List NumberedArea → List (List ℕ)
 preserved_names areas = flat_map (λ a. name_if (is_preserved a) (area_name a)) areas
 
--- the given names, and those of the areas that have the flag in one of two maps, if these are kept too
+-- the given names, and those of the areas that have the flag in one of two maps, if these are
+-- kept too
 abbrev pub kept_by : List (List ℕ) → Bool → List NumberedArea → List NumberedArea → List (List ℕ)
 kept_by kept keeps olds news =
     if keeps then (kept ++ preserved_names olds) ++ preserved_names news else kept
@@ -140,10 +176,12 @@ is_there all name = list_any (has_name name) all
 
 -- that no area has the name
 abbrev pub missing_row : List ℕ → SeenRow
-missing_row name = area_row verdicts.Bad name None (codes "no-area") (codes "no such area") details.None
+missing_row name =
+    area_row verdicts.Bad name None (codes "no-area") (codes "no such area") details.None
 
 abbrev pub missing_if : List NumberedArea → List NumberedArea → List ℕ → List SeenRow
-missing_if olds news name = row_if (not (is_there olds name || is_there news name)) (missing_row name)
+missing_if olds news name =
+    row_if (not (is_there olds name || is_there news name)) (missing_row name)
 
 -- of each kept name that no area of either image has
 abbrev pub missing_rows : List (List ℕ) → List NumberedArea → List NumberedArea → List SeenRow

@@ -1,30 +1,38 @@
 -- The rows of what was found in an image. Their codes and texts are this project's own.
-use Rattle.std.specs.Prelude.{ℕ, Bool, true, false, not, ◌||◌, List, [], ◌∷◌, ◌++◌, Some, None, slice_get, Option}
+use Rattle.std.specs.Prelude.{ℕ, Bool, true, false, not, ◌||◌, List, [], ◌∷◌, ◌++◌, Some, None}
+use Rattle.std.specs.Prelude.{slice_get, Option}
 use Rattle.std.specs.List.{flat_map}
 use lib.Chars.{codes}
 use Rattle.flash_format.specs.Made.{algorithm_row, algorithm}
 use Rattle.flash_format.specs.declared.head.DamageKind.{DamageKind}
 use Rattle.flash_format.specs.declared.head.DamageKind.TheVariants as kinds
 use Rattle.cbfs_walk.specs.declared.hashes.HashState.{HashState}
-use Rattle.cbfs_walk.specs.declared.hashes.HashState.TheVariants.{Absent, Valid, Invalid, Unsupported}
+use Rattle.cbfs_walk.specs.declared.hashes.HashState.TheVariants.{Absent, Valid, Invalid}
+use Rattle.cbfs_walk.specs.declared.hashes.HashState.TheVariants.{Unsupported}
 use Rattle.check_findings.specs.declared.region.finding.ComponentFinding.{ComponentFinding}
-use Rattle.check_findings.specs.declared.region.finding.ComponentFinding.TheVariants.{Shadowed, NameNotText, UnknownType, Content}
+use Rattle.check_findings.specs.declared.region.finding.ComponentFinding.TheVariants.{Shadowed}
+use Rattle.check_findings.specs.declared.region.finding.ComponentFinding.TheVariants.{NameNotText}
+use Rattle.check_findings.specs.declared.region.finding.ComponentFinding.TheVariants.{UnknownType}
+use Rattle.check_findings.specs.declared.region.finding.ComponentFinding.TheVariants.{Content}
 use Rattle.check_findings.specs.declared.region.finding.RegionFinding.{RegionFinding}
 use Rattle.check_findings.specs.declared.region.finding.RegionFinding.TheVariants as of_region
 use Rattle.check_findings.specs.declared.map.finding.NumberedArea.{NumberedArea}
 use Rattle.check_findings.specs.declared.map.finding.MapFinding.{MapFinding}
 use Rattle.check_findings.specs.declared.map.finding.MapFinding.TheVariants as of_map
 use Rattle.check_findings.specs.declared.image.finding.ImageFinding.{ImageFinding}
-use Rattle.check_findings.specs.declared.image.finding.ImageFinding.TheVariants.{Map, Region, NotChecked, NoArea}
+use Rattle.check_findings.specs.declared.image.finding.ImageFinding.TheVariants.{Map, Region}
+use Rattle.check_findings.specs.declared.image.finding.ImageFinding.TheVariants.{NotChecked}
+use Rattle.check_findings.specs.declared.image.finding.ImageFinding.TheVariants.{NoArea}
 use Rattle.check_findings.specs.Image.Needs.{Wish, unmet}
 use Rattle.check_findings.specs.declared.image.needs.NeedFinding.{NeedFinding}
 use Rattle.check_findings.specs.declared.image.needs.NeedFinding.TheVariants.{Missing, Elsewhere}
 use Rattle.check_findings.specs.Image.Verdicts.{is_bad_map, is_bad_region}
-use Rattle.check_report.specs.declared.region.Asked.{Asked}
+use Rattle.check_report.specs.declared.request.Asked.{Asked}
 use Rattle.check_report.specs.declared.rows.row.Verdict.{Verdict}
 use Rattle.check_report.specs.declared.rows.row.Verdict.TheVariants.{Bad, Remark}
 use Rattle.check_report.specs.declared.rows.row.Detail.TheVariants as details
-use Rattle.check_report.specs.Rows.Rows.{SeenRow, row, row_if, image_row, area_name, area_row, map_area_row, component_row}
+use Rattle.check_report.specs.Rows.Rows.{SeenRow, row, row_if, image_row, area_name, area_row}
+use Rattle.check_report.specs.Rows.Rows.{map_area_row, component_row}
 
 abbrev pub verdict_of : Bool → Verdict
 verdict_of true = Bad
@@ -39,23 +47,28 @@ with_other a row = record row { other = Some (area_name a) }
 -- the row of a finding of the flashmap, with a verdict
 abbrev pub map_row_with : Verdict → MapFinding → SeenRow
 map_row_with v of_map.NoMap = image_row v None (codes "no-map") (codes "no flashmap") details.None
-map_row_with v (of_map.Map m) = image_row v (Some m.at) (codes "map") (codes "flashmap") details.None
+map_row_with v (of_map.Map m) =
+    image_row v (Some m.at) (codes "map") (codes "flashmap") details.None
 map_row_with v (of_map.OtherMap m) =
     image_row v (Some m.at) (codes "other-map") (codes "another flashmap") details.None
 map_row_with v of_map.OtherSize = image_row v None (codes "map-size")
     (codes "the flashmap states another size than the image has") details.None
 map_row_with v (of_map.AreaOutside a) =
     map_area_row v a (codes "area-outside") (codes "ends outside the image") details.None
-map_row_with v (of_map.AreaEmpty a) = map_area_row v a (codes "area-empty") (codes "has no bytes") details.None
+map_row_with v (of_map.AreaEmpty a) =
+    map_area_row v a (codes "area-empty") (codes "has no bytes") details.None
 map_row_with v (of_map.AreaNameNotText a) =
     map_area_row v a (codes "area-name") (codes "name isn't UTF-8") details.None
 map_row_with v (of_map.SameName a first) = with_other first
-    (map_area_row v a (codes "area-same-name") (codes "has the name of an earlier area") details.None)
+    (map_area_row v a (codes "area-same-name")
+    (codes "has the name of an earlier area") details.None)
 map_row_with v (of_map.Overlap a other) = with_other other
     (map_area_row v a (codes "area-overlaps") (codes "overlaps") details.None)
 map_row_with v of_map.TooManyAreas =
-    image_row v None (codes "too-many-areas") (codes "too many areas to look for overlaps") details.None
-map_row_with v of_map.NoMapArea = image_row v None (codes "no-map-area") (codes "no area FMAP") details.None
+    image_row v None (codes "too-many-areas")
+    (codes "too many areas to look for overlaps") details.None
+map_row_with v of_map.NoMapArea =
+    image_row v None (codes "no-map-area") (codes "no area FMAP") details.None
 map_row_with v (of_map.MapAreaMisses a) =
     map_area_row v a (codes "map-area") (codes "doesn't hold the flashmap") details.None
 
@@ -85,7 +98,8 @@ hash_text Unsupported = codes "hash unsupported"
 abbrev pub of_component : Verdict → List ℕ → ℕ → List ℕ → ComponentFinding → SeenRow
 of_component v region at name Shadowed = component_row v region at name (codes "component-shadowed")
     (codes "has the name of an earlier component") details.None
-of_component v region at name (UnknownType kind) = component_row v region at name (codes "component-type")
+of_component v region at name (UnknownType kind) =
+    component_row v region at name (codes "component-type")
     (codes "type without a name") (details.Number kind)
 of_component v region at name NameNotText =
     component_row v region at name (codes "component-name") (codes "name isn't UTF-8") details.None
@@ -107,15 +121,20 @@ count_row v region code what count = area_row v region None code what (details.C
 -- the row of a finding of a region, with a verdict
 abbrev pub region_row_with : Verdict → List ℕ → RegionFinding → SeenRow
 region_row_with v region of_region.BadSize =
-    area_row v region None (codes "region-size") (codes "size is 0 or no multiple of 64") details.None
-region_row_with v region of_region.NotCbfs = area_row v region None (codes "no-cbfs") (codes "no CBFS") details.None
-region_row_with v region (of_region.Component at name finding) = of_component v region at name finding
+    area_row v region None (codes "region-size")
+    (codes "size is 0 or no multiple of 64") details.None
+region_row_with v region of_region.NotCbfs =
+    area_row v region None (codes "no-cbfs") (codes "no CBFS") details.None
+region_row_with v region (of_region.Component at name finding) =
+    of_component v region at name finding
 region_row_with v region (of_region.Deleted at) =
     area_row v region (Some at) (codes "component-deleted") (codes "deleted component") details.None
-region_row_with v region of_region.Complete = area_row v region None (codes "complete") (codes "complete") details.None
+region_row_with v region of_region.Complete =
+    area_row v region None (codes "complete") (codes "complete") details.None
 region_row_with v region (of_region.Tail at) =
     area_row v region (Some at) (codes "tail") (codes "unused tail") details.None
-region_row_with v region (of_region.TailFilled at) = area_row v region (Some at) (codes "tail-bytes")
+region_row_with v region (of_region.TailFilled at) =
+    area_row v region (Some at) (codes "tail-bytes")
     (codes "unused tail has other bytes than 0xff and 0x00") details.None
 region_row_with v region (of_region.TailEntry at) =
     area_row v region (Some at) (codes "tail-entry") (codes "entry in the unused tail") details.None
@@ -123,10 +142,14 @@ region_row_with v region (of_region.Damaged at kind) =
     area_row v region (Some at) (codes "entry-damaged") (damage_text kind) details.None
 region_row_with v region of_region.NoComponents =
     area_row v region None (codes "no-components") (codes "no components") details.None
-region_row_with v region (of_region.Components n) = count_row v region (codes "components") (codes "components") n
-region_row_with v region (of_region.FreeBytes n) = count_row v region (codes "free-bytes") (codes "free bytes") n
-region_row_with v region (of_region.LargestFree n) =
-    count_row v region (codes "largest-free") (codes "largest free run") n
+region_row_with v region (of_region.Components n) =
+    count_row v region (codes "components") (codes "components") n
+region_row_with v region (of_region.FreeBytes n) =
+    count_row v region (codes "free-bytes") (codes "free bytes") n
+region_row_with v region (of_region.LargestContent n) =
+    count_row v region (codes "largest-content") (codes "largest content that add takes") n
+region_row_with v region of_region.NoRoom =
+    area_row v region None (codes "no-room") (codes "no room for a component") details.None
 
 -- a finding has a row; that a component has no digest only if it is asked for
 abbrev pub has_row : Asked → RegionFinding → Bool
@@ -169,9 +192,11 @@ finding_rows asked names findings = flat_map (rows_of asked names) findings
 -- why a need isn't met
 abbrev pub need_row : Wish → NeedFinding → SeenRow
 need_row wish Missing =
-    row (Some wish.area) (Some wish.name) Bad None (codes "need-missing") (codes "needed component isn't there") details.None
+    row (Some wish.area) (Some wish.name) Bad None (codes "need-missing")
+    (codes "needed component isn't there") details.None
 need_row wish (Elsewhere at) =
-    row (Some wish.area) (Some wish.name) Bad (Some at) (codes "need-elsewhere") (codes "needed component is elsewhere") details.None
+    row (Some wish.area) (Some wish.name) Bad (Some at) (codes "need-elsewhere")
+    (codes "needed component is elsewhere") details.None
 
 abbrev pub unmet_rows : Wish → Option NeedFinding → List SeenRow
 unmet_rows wish None = []

@@ -3,7 +3,7 @@ use Rattle.std.specs.Prelude.{◌≡◌, ℕ, List}
 use Rattle.std.specs.List.{list_any}
 use Rattle.check_findings.specs.declared.image.finding.ImageFinding.{ImageFinding}
 use Rattle.check_findings.specs.Image.Verdicts.{is_bad}
-use Rattle.check_report.specs.declared.region.Asked.{Asked}
+use Rattle.check_report.specs.declared.request.Asked.{Asked}
 use Rattle.check_report.specs.Rows.Rows.{SeenRow, is_bad_row}
 use Rattle.check_report.specs.Rows.Limits.{shown_rows}
 use Rattle.check_report.specs.FindingRows.{finding_rows}
@@ -12,8 +12,10 @@ use Rattle.check_report.specs.FindingRows.{finding_rows}
 abbrev pub RowsTellWhatIsBad : Type 0
 RowsTellWhatIsBad =
     (asked : Asked) (names : List (List ℕ)) (findings : List ImageFinding)
-    → list_any is_bad_row (finding_rows asked names findings) ≡ list_any (is_bad asked.needs_hashes) findings
+    → list_any is_bad_row (finding_rows asked names findings)
+    ≡ list_any (is_bad asked.needs_hashes) findings
 
 -- some row that is shown is bad exactly where some row is
 abbrev pub LimitsLoseNoBadRow : Type 0
-LimitsLoseNoBadRow = (rows : List SeenRow) → list_any is_bad_row (shown_rows rows) ≡ list_any is_bad_row rows
+LimitsLoseNoBadRow =
+    (rows : List SeenRow) → list_any is_bad_row (shown_rows rows) ≡ list_any is_bad_row rows

@@ -4,5 +4,6 @@ pub mod Reports
 pub mod Changes
 pub mod Names
 pub mod FindingRows
+pub mod Lists
 pub mod ChangeRows
 pub mod Laws

@@ -8,5 +8,6 @@ abbrev pub names_in : List (Bor (List ℕ)) → List (List ℕ)
 names_in names = map (λ n. n.now) names
 
 -- a call that is done has added these names
-abbrev pub AddsNames : Result (Unit {0}) AllocError → List (Bor (List ℕ)) → List (Bor (List ℕ)) → List (List ℕ) → Type 0
+abbrev pub AddsNames : Result (Unit {0}) AllocError → List (Bor (List ℕ)) → List (Bor (List ℕ))
+    → List (List ℕ) → Type 0
 AddsNames result old new more = OnOk result (names_in new ≡ names_in old ++ more)

@@ -1,6 +1,8 @@
 -- The rows of a report. Which rows there are, and in which order, is this project's own.
-use Rattle.std.specs.Prelude.{ℕ, Bool, List, [], ◌++◌, length, map, is_none, if◌then◌else◌}
-use Rattle.std.specs.List.{flat_map, list_any}
+use Rattle.std.specs.Prelude.{ℕ, Bool, List, [], ◌++◌, Option, Some, None, length, map}
+use Rattle.std.specs.Prelude.{option_map, is_none, if◌then◌else◌}
+use Rattle.std.specs.List.{flat_map}
+use Rattle.std.specs.Option.{option_map_or}
 use Rattle.flash_device.specs.Fmap.{found_in}
 use Rattle.check_findings.specs.declared.map.finding.NumberedArea.{NumberedArea}
 use Rattle.check_findings.specs.Map.MapFindings.{image_areas}
@@ -11,15 +13,18 @@ use Rattle.check_changes.specs.Areas.AreaChanges.{area_changes}
 use Rattle.check_changes.specs.Areas.Blocks.{different_blocks}
 use Rattle.check_changes.specs.Areas.MapChanges.{map_changes}
 use Rattle.check_changes.specs.Regions.RegionChanges.{region_changes}
-use Rattle.check_report.specs.declared.rows.report.Form.{Form}
-use Rattle.check_report.specs.declared.region.Asked.{Asked}
-use Rattle.check_report.specs.Rows.Rows.{SeenRow, area_name, is_bad_row}
-use Rattle.check_report.specs.Rows.Reports.{report}
+use Rattle.check_changes.specs.declared.areas.change.AreaChange.{AreaChange}
+use Rattle.check_changes.specs.declared.areas.change.MapChange.{MapChange}
+use Rattle.check_changes.specs.declared.regions.change.RegionChange.{RegionChange}
+use Rattle.check_report.specs.declared.request.Asked.{Asked}
+use Rattle.check_report.specs.Rows.Rows.{SeenRow, area_name}
 use Rattle.check_report.specs.FindingRows.{finding_rows, need_rows}
 use Rattle.check_report.specs.ChangeRows as rows
 use Rattle.check_report.specs.Names.{names_in}
-use Rattle.check_report.specs.declared.answer.Request.{Request}
-use Rattle.check_report.specs.declared.change.Changes.{Changes}
+use Rattle.check_report.specs.declared.request.Request.{Request}
+use Rattle.check_report.specs.declared.inspection.Changes.{Changes}
+use Rattle.check_report.specs.declared.inspection.Comparison.{Comparison}
+use Rattle.check_report.specs.declared.inspection.Inspection.{Inspection}
 
 -- what is asked of the rows
 pub record Wish : Type 0 where
@@ -38,16 +43,6 @@ wish_of request = record {
   asked = request.asked;
 }
 
--- what is answered
-pub record Reported : Type 0 where
-  pub text : List ℕ
-  pub is_bad : Bool
-
--- with these rows
-abbrev pub answer_of : Form → Bool → List SeenRow → Reported
-answer_of form is_verbose rows =
-    record { text = report form is_verbose rows; is_bad = list_any is_bad_row rows }
-
 -- the rows of what was found in an image, and of the needs that this doesn't meet
 abbrev pub found_rows : Wish → List ImageFinding → List SeenRow
 found_rows wish findings =
@@ -57,39 +52,92 @@ found_rows wish findings =
 abbrev pub need_areas : Wish → List (List ℕ)
 need_areas wish = map (λ n. n.area) wish.needs
 
--- the rows of an image
-abbrev pub image_rows : Wish → List ℕ → List SeenRow
-image_rows wish image = found_rows wish (image_findings image wish.areas (need_areas wish))
+-- the changes from one image to another
+pub record SeenChanges : Type 0 where
+  pub old_len : ℕ
+  pub new_len : ℕ
+  pub blocks : ℕ
+  pub map : List MapChange
+  pub areas : List AreaChange
+  pub regions : List RegionChange
+  pub old_areas : List NumberedArea
+  pub old_regions : List NumberedArea
+  pub new_areas : List NumberedArea
 
--- the areas of an old image x by which a new image y is compared: those of y if x has no map
-abbrev pub compared_areas : List ℕ → List ℕ → List NumberedArea
-compared_areas x y = if is_none (found_in x) then image_areas y else image_areas x
+-- the result of a check
+pub record SeenInspection : Type 0 where
+  pub findings : List ImageFinding
+  pub changes : Option SeenChanges
 
--- these rows, and then those of changes: of the images as wholes, of their maps, areas and components, and of
--- kept names that no area has
-abbrev pub with_changes : List SeenRow → Wish → Changes → List NumberedArea → List NumberedArea → List SeenRow
-with_changes found wish c olds news =
-    let kept = rows.kept_by wish.kept wish.keeps_preserved olds news in
-    ((((found ++ rows.image_rows c.old_len c.new_len c.blocks)
-    ++ rows.map_rows c.map.items)
-    ++ rows.area_rows kept c.areas.items)
-    ++ rows.regions_rows kept c.regions.items)
-    ++ rows.missing_rows wish.kept olds news
+-- the areas by which a new image is compared with an old one: its own ones if the old one has no
+-- map
+abbrev pub compared : {M : Type 0} → Option M → List NumberedArea → List NumberedArea
+    → List NumberedArea
+compared old_map olds news = if is_none old_map then news else olds
+
+abbrev pub seen_comparison : {M : Type 0} → Comparison → Option M → List NumberedArea
+    → List NumberedArea → List NumberedArea → SeenChanges
+seen_comparison c old_map olds regions news = record {
+  old_len = c.old_len;
+  new_len = c.new_len;
+  blocks = c.blocks;
+  map = c.map.items;
+  areas = c.areas.items;
+  regions = c.regions.items;
+  old_areas = compared old_map olds news;
+  old_regions = regions;
+  new_areas = news;
+}
+
+abbrev pub seen_changes : Changes → SeenChanges
+seen_changes c = seen_comparison c.comparison c.old_map c.old_areas.items c.old_regions.items
+    c.new_areas.items
+
+abbrev pub seen_inspection : Inspection → SeenInspection
+seen_inspection i =
+    record { findings = i.findings.items; changes = option_map seen_changes i.changes }
+
+-- the result for an image
+abbrev pub inspected_image : Wish → List ℕ → SeenInspection
+inspected_image wish image =
+    record { findings = image_findings image wish.areas (need_areas wish); changes = None }
 
 -- the findings of a new image y that replaces an old image x, whose regions are expected in y too
 abbrev pub new_findings : Wish → List ℕ → List ℕ → List ImageFinding
 new_findings wish x y =
     image_findings y wish.areas (need_areas wish ++ map area_name (cbfs_areas x (image_areas x)))
 
--- the rows of a new image y that replaces an old image x: what is found in y, and then what changes
-abbrev pub change_rows : Wish → List ℕ → List ℕ → List SeenRow
-change_rows wish x y =
-    let olds = compared_areas x y in
-    let news = image_areas y in
-    let kept = rows.kept_by wish.kept wish.keeps_preserved olds news in
-    let findings = new_findings wish x y in
-    ((((found_rows wish findings ++ rows.image_rows (length x) (length y) (different_blocks x y))
-    ++ rows.map_rows (map_changes (found_in x) (found_in y)))
-    ++ rows.area_rows kept (area_changes x olds y news))
-    ++ rows.regions_rows kept (region_changes x olds y findings))
-    ++ rows.missing_rows wish.kept olds news
+abbrev pub changes_between : Wish → List ℕ → List ℕ → SeenChanges
+changes_between wish x y =
+    let olds = compared (found_in x) (image_areas x) (image_areas y) in
+    record {
+      old_len = length x;
+      new_len = length y;
+      blocks = different_blocks x y;
+      map = map_changes (found_in x) (found_in y);
+      areas = area_changes x olds y (image_areas y);
+      regions = region_changes x olds y (new_findings wish x y);
+      old_areas = olds;
+      old_regions = cbfs_areas x (image_areas x);
+      new_areas = image_areas y;
+    }
+
+-- the result for a new image y that replaces an old image x
+abbrev pub inspected_change : Wish → List ℕ → List ℕ → SeenInspection
+inspected_change wish x y =
+    record { findings = new_findings wish x y; changes = Some (changes_between wish x y) }
+
+-- the rows of changes: of the images as wholes, of their maps, areas and components, and of kept
+-- names that no area has
+abbrev pub change_rows : Wish → SeenChanges → List SeenRow
+change_rows wish c =
+    let kept = rows.kept_by wish.kept wish.keeps_preserved c.old_areas c.new_areas in
+    let vital = kept ++ map area_name c.old_regions in
+    (((rows.image_rows c.old_len c.new_len c.blocks ++ rows.map_rows c.map)
+    ++ rows.area_rows kept vital c.areas) ++ rows.regions_rows kept c.regions)
+    ++ rows.missing_rows wish.kept c.old_areas c.new_areas
+
+-- the rows of a report: those of the findings, and those of the changes
+abbrev pub inspection_rows : Wish → SeenInspection → List SeenRow
+inspection_rows wish i =
+    found_rows wish i.findings ++ option_map_or (change_rows wish) i.changes []

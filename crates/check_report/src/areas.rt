@@ -3,7 +3,7 @@ ghost use Rattle.std.specs.Prelude.{◌≡◌, map};
 ghost use Rattle.check_report.specs.Rows.Rows.{seen_row};
 ghost use Rattle.check_report.specs.ChangeRows as of;
 
-use crate::kept::verdict_of;
+use crate::kept::{is_kept, verdict_of};
 use crate::rows::{Detail, Row, Verdict, image_row, map_area_row};
 use check_changes::{AreaChange, MapChange};
 use check_findings::NumberedArea;
@@ -15,7 +15,8 @@ fn changed_row<'a>(
     what: &'static str,
     detail: Detail,
 ) -> Row<'a>
-    ensures { seen_row result ≡ of.changed_row (map (λ n. n.now) kept.now) area.now code.now what.now detail }
+    ensures { seen_row result
+        ≡ of.changed_row (map (λ n. n.now) kept.now) area.now code.now what.now detail }
 {
     Row {
         detail,
@@ -45,16 +46,38 @@ pub fn map_change_row<'a>(change: &MapChange) -> Row<'a>
     }
 }
 
-/// Returns the row of a change, which is bad where its area has one of the kept names.
-pub fn area_change_row<'a>(kept: &[&[u8]], change: &'a AreaChange) -> Row<'a>
-    ensures { seen_row result ≡ of.area_change_row (map (λ n. n.now) kept.now) change.now }
+/// Returns the number of different blocks that is reported of an area: all of them if its name is
+/// kept, and else those that no smaller area holds.
+fn reported_blocks(kept: &[&[u8]], area: NumberedArea, blocks: u32, own: u32) -> u32
+    ensures { result ≡ of.reported_blocks (map (λ n. n.now) kept.now) area blocks own }
+{
+    if is_kept(kept, area) { blocks } else { own }
+}
+
+/// Returns whether a change has a row. Different blocks have none if smaller areas hold them all.
+pub fn has_change_row(kept: &[&[u8]], change: &AreaChange) -> bool
+    ensures { result ≡ of.has_change_row (map (λ n. n.now) kept.now) change.now }
+{
+    match change {
+        AreaChange::Differs { area, blocks, own } => {
+            reported_blocks(kept, *area, *blocks, *own) > 0
+        }
+        _ => true,
+    }
+}
+
+/// Returns the row of a change. It is bad if its area has a kept name, or is gone and has a vital
+/// name.
+pub fn area_change_row<'a>(kept: &[&[u8]], vital: &[&[u8]], change: &'a AreaChange) -> Row<'a>
+    ensures { seen_row result ≡ of.area_change_row
+        (map (λ n. n.now) kept.now) (map (λ n. n.now) vital.now) change.now }
 {
     match change {
         AreaChange::Added(area) => {
             changed_row(kept, area, "area-added", "area added", Detail::None)
         }
         AreaChange::Gone(area) => {
-            changed_row(kept, area, "area-gone", "area gone", Detail::None)
+            changed_row(vital, area, "area-gone", "area gone", Detail::None)
         }
         AreaChange::Moved { old, new } => {
             let offset = Detail::Number(u64::from(old.area.offset));
@@ -68,18 +91,14 @@ pub fn area_change_row<'a>(kept: &[&[u8]], change: &'a AreaChange) -> Row<'a>
             let flags = Detail::Number(u64::from(old.area.flags));
             changed_row(kept, new, "area-flags", "flags changed from", flags)
         }
-        AreaChange::Differs { area, blocks } => {
-            let blocks = Detail::Count(u64::from(*blocks));
+        AreaChange::Differs { area, blocks, own } => {
+            let blocks = reported_blocks(kept, *area, *blocks, *own);
+            let blocks = Detail::Count(u64::from(blocks));
             changed_row(kept, area, "area-changed", "erase blocks differ", blocks)
         }
         AreaChange::NotCompared(area) => {
-            changed_row(
-                kept,
-                area,
-                "area-not-compared",
-                "not compared",
-                Detail::None,
-            )
+            let what = "not compared";
+            changed_row(kept, area, "area-not-compared", what, Detail::None)
         }
     }
 }

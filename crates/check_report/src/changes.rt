@@ -1,15 +1,17 @@
 //! The rows of what changes.
 ghost use Rattle.std.specs.Prelude.{◌≡◌, map};
-ghost use Rattle.check_report.specs.Rows.Rows.{Adds, seen_row};
+ghost use Rattle.check_report.specs.Rows.Rows.{seen_row};
+ghost use Rattle.check_report.specs.Rows.Writing.{Adds};
 ghost use Rattle.check_report.specs.ChangeRows as of;
 
-use crate::areas::{area_change_row, map_change_row, not_compared_row};
+use crate::areas::{area_change_row, has_change_row, map_change_row, not_compared_row};
 use crate::components::component_change_row;
+use crate::fault::WriteFault;
 use crate::kept::verdict_of;
-use crate::rows::{Detail, Row, Verdict, add, add_if, image_row};
+use crate::rows::{Detail, Row, RowWriter, Verdict, image_row};
 use check_changes::{AreaChange, ComponentChange, MapChange, RegionChange};
 use check_findings::NumberedArea;
-use std::alloc::AllocError;
+use flash_device::Sink;
 
 fn size_row<'a>(old: u64) -> Row<'a>
     ensures { seen_row result ≡ of.size_row old }
@@ -34,85 +36,95 @@ fn blocks_row<'a>(blocks: u64) -> Row<'a>
     }
 }
 
-/// Adds what changes between two images as wholes: their lengths, and in how many blocks of 4096 bytes they differ.
-pub fn add_image_changes(
-    rows: &mut Vec<Row<'_>>,
+/// Adds what changes between two images as wholes: their lengths, and in how many blocks of 4096
+/// bytes they differ.
+pub fn add_image_changes<W: Sink + Drop>(
+    rows: &mut RowWriter<'_, W>,
     old_len: u64,
     new_len: u64,
     blocks: u32,
-) -> Result<(), AllocError>
-    ensures { Adds result rows.old.items rows.new.items (of.image_rows old_len new_len blocks) }
+) -> Result<(), WriteFault>
+    ensures { Adds W.contents result rows.old rows.new (of.image_rows old_len new_len blocks) }
 {
-    add_if(rows, old_len != new_len, size_row(old_len))?;
+    rows.add_if(old_len != new_len, size_row(old_len))?;
     let blocks = u64::from(blocks);
-    add_if(rows, blocks > 0, blocks_row(blocks))
+    rows.add_if(blocks > 0, blocks_row(blocks))
 }
 
 /// Adds a row of each change of the flash map itself.
-pub fn add_map_changes(rows: &mut Vec<Row<'_>>, changes: &[MapChange]) -> Result<(), AllocError>
-    ensures { Adds result rows.old.items rows.new.items (of.map_rows changes.now) }
+pub fn add_map_changes<W: Sink + Drop>(
+    rows: &mut RowWriter<'_, W>,
+    changes: &[MapChange],
+) -> Result<(), WriteFault>
+    ensures { Adds W.contents result rows.old rows.new (of.map_rows changes.now) }
 {
     for change in changes {
-        add(rows, map_change_row(change))?;
+        rows.add(map_change_row(change))?;
     }
     Ok(())
 }
 
-/// Adds a row of each change of an area.
-pub fn add_area_changes<'a>(
-    rows: &mut Vec<Row<'a>>,
+/// Adds the rows of the changes of areas.
+pub fn add_area_changes<'a, W: Sink + Drop>(
+    rows: &mut RowWriter<'a, W>,
     kept: &[&[u8]],
+    vital: &[&[u8]],
     changes: &'a [AreaChange],
-) -> Result<(), AllocError>
-    ensures { Adds result rows.old.items rows.new.items (of.area_rows (map (λ n. n.now) kept.now) changes.now) }
+) -> Result<(), WriteFault>
+    ensures { Adds W.contents result rows.old rows.new
+        (of.area_rows (map (λ n. n.now) kept.now) (map (λ n. n.now) vital.now) changes.now) }
 {
     for change in changes {
-        add(rows, area_change_row(kept, change))?;
-    }
-    Ok(())
-}
-
-/// Adds a row of each change of a component of the area, all bad where the area has one of the kept names.
-fn add_component_changes<'a>(
-    rows: &mut Vec<Row<'a>>,
-    kept: &[&[u8]],
-    area: &'a NumberedArea,
-    changes: &'a [ComponentChange],
-) -> Result<(), AllocError>
-    ensures { Adds result rows.old.items rows.new.items (of.component_rows (map (λ n. n.now) kept.now) area.now changes.now) }
-{
-    let verdict = verdict_of(kept, *area);
-    for change in changes {
-        add(
-            rows,
-            component_change_row(verdict, area.area.text(), change),
+        rows.add_if(
+            has_change_row(kept, change),
+            area_change_row(kept, vital, change),
         )?;
     }
     Ok(())
 }
 
-fn add_region_change<'a>(
-    rows: &mut Vec<Row<'a>>,
+/// Adds a row of each change of a component of the area, all bad where the area has one of the
+/// kept names.
+fn add_component_changes<'a, W: Sink + Drop>(
+    rows: &mut RowWriter<'a, W>,
+    kept: &[&[u8]],
+    area: &'a NumberedArea,
+    changes: &'a [ComponentChange],
+) -> Result<(), WriteFault>
+    ensures { Adds W.contents result rows.old rows.new (of.component_rows (map
+        (λ n. n.now) kept.now) area.now changes.now) }
+{
+    let verdict = verdict_of(kept, *area);
+    for change in changes {
+        rows.add(component_change_row(verdict, area.area.text(), change))?;
+    }
+    Ok(())
+}
+
+fn add_region_change<'a, W: Sink + Drop>(
+    rows: &mut RowWriter<'a, W>,
     kept: &[&[u8]],
     change: &'a RegionChange,
-) -> Result<(), AllocError>
-    ensures { Adds result rows.old.items rows.new.items (of.region_rows (map (λ n. n.now) kept.now) change.now) }
+) -> Result<(), WriteFault>
+    ensures { Adds W.contents result rows.old rows.new (of.region_rows (map
+        (λ n. n.now) kept.now) change.now) }
 {
     match change {
         RegionChange::Compared { area, changes } => {
             add_component_changes(rows, kept, area, changes.as_slice())
         }
-        RegionChange::NotCompared(area) => add(rows, not_compared_row(kept, area)),
+        RegionChange::NotCompared(area) => rows.add(not_compared_row(kept, area)),
     }
 }
 
 /// Adds what becomes of the components of the new image's regions.
-pub fn add_region_changes<'a>(
-    rows: &mut Vec<Row<'a>>,
+pub fn add_region_changes<'a, W: Sink + Drop>(
+    rows: &mut RowWriter<'a, W>,
     kept: &[&[u8]],
     changes: &'a [RegionChange],
-) -> Result<(), AllocError>
-    ensures { Adds result rows.old.items rows.new.items (of.regions_rows (map (λ n. n.now) kept.now) changes.now) }
+) -> Result<(), WriteFault>
+    ensures { Adds W.contents result rows.old rows.new (of.regions_rows (map
+        (λ n. n.now) kept.now) changes.now) }
 {
     for change in changes {
         add_region_change(rows, kept, change)?;

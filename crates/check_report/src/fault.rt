@@ -2,9 +2,11 @@
 ghost use Rattle.std.specs.Prelude.{◌≡◌};
 ghost use Rattle.check_report.specs.Faults.{of_changes, of_image};
 ghost use Rattle.check_report.specs.declared.fault.ReportFault.TheVariants as faults;
+ghost use Rattle.check_report.specs.declared.fault.WriteFault.TheVariants as writes;
 
 use check_changes::ChangeFault;
 use check_findings::CheckFault;
+use flash_device::SinkFault;
 use std::alloc::AllocError;
 
 /// The cause of a report that isn't made.
@@ -48,5 +50,30 @@ impl From<ChangeFault> for ReportFault {
             ChangeFault::NewDevice => ReportFault::NewDevice,
             ChangeFault::Memory => ReportFault::Memory,
         }
+    }
+}
+
+/// The cause of a report that isn't whole.
+#[derive(Clone, Copy, Debug, PartialEq, Eq)]
+pub enum WriteFault {
+    /// An allocation failed.
+    Memory,
+    /// The sink failed.
+    Output,
+}
+
+impl From<AllocError> for WriteFault {
+    ghost from_gives = { λ _ fault. fault ≡ writes.Memory };
+
+    fn from(_: AllocError) -> WriteFault {
+        WriteFault::Memory
+    }
+}
+
+impl From<SinkFault> for WriteFault {
+    ghost from_gives = { λ _ fault. fault ≡ writes.Output };
+
+    fn from(_: SinkFault) -> WriteFault {
+        WriteFault::Output
     }
 }

@@ -1,14 +1,17 @@
 //! The rows of an image's findings.
 ghost use Rattle.std.specs.Prelude.{◌≡◌, map};
 ghost use Rattle.std.specs.Option.{option_copied};
-ghost use Rattle.check_report.specs.Rows.Rows.{Adds, seen_row};
+ghost use Rattle.check_report.specs.Rows.Rows.{seen_row};
+ghost use Rattle.check_report.specs.Rows.Writing.{Adds};
 ghost use Rattle.check_report.specs.FindingRows as of;
 
+use crate::fault::WriteFault;
 use crate::map::{map_row, verdict_of};
-use crate::region::{Asked, add_region};
-use crate::rows::{Row, Verdict, add, image_row, map_area_row};
+use crate::region::add_region;
+use crate::request::Asked;
+use crate::rows::{Row, RowWriter, Verdict, image_row, map_area_row};
 use check_findings::{ImageFinding, NumberedArea};
-use std::alloc::AllocError;
+use flash_device::Sink;
 
 fn missing_row<'a>(names: &[&'a [u8]], number: usize) -> Row<'a>
     ensures { seen_row result ≡ of.missing_row (map (λ n. n.now) names.now) number }
@@ -27,32 +30,33 @@ fn not_checked_row<'a>(area: &'a NumberedArea, is_named: bool) -> Row<'a>
 }
 
 /// Adds the rows of a finding.
-fn add_finding<'a>(
-    rows: &mut Vec<Row<'a>>,
+fn add_finding<'a, W: Sink + Drop>(
+    rows: &mut RowWriter<'a, W>,
     asked: Asked,
     finding: &'a ImageFinding,
     names: &[&'a [u8]],
-) -> Result<(), AllocError>
-    ensures { Adds result rows.old.items rows.new.items (of.rows_of asked (map (λ n. n.now) names.now) finding.now) }
+) -> Result<(), WriteFault>
+    ensures { Adds W.contents result rows.old rows.new (of.rows_of asked (map
+        (λ n. n.now) names.now) finding.now) }
 {
     match finding {
-        ImageFinding::Map(of_map) => add(rows, map_row(of_map)),
+        ImageFinding::Map(of_map) => rows.add(map_row(of_map)),
         ImageFinding::Region { area, findings } => {
             add_region(rows, asked, area.area.text(), findings.as_slice())
         }
-        ImageFinding::NotChecked { area, is_named } => add(rows, not_checked_row(area, *is_named)),
-        ImageFinding::NoArea(number) => add(rows, missing_row(names, *number)),
+        ImageFinding::NotChecked { area, is_named } => rows.add(not_checked_row(area, *is_named)),
+        ImageFinding::NoArea(number) => rows.add(missing_row(names, *number)),
     }
 }
 
 /// Adds the rows of these findings, in their order, which were made with these names of areas.
-pub fn add_findings<'a>(
-    rows: &mut Vec<Row<'a>>,
+pub fn add_findings<'a, W: Sink + Drop>(
+    rows: &mut RowWriter<'a, W>,
     asked: Asked,
     findings: &'a [ImageFinding],
     names: &[&'a [u8]],
-) -> Result<(), AllocError>
-    ensures { Adds result rows.old.items rows.new.items
+) -> Result<(), WriteFault>
+    ensures { Adds W.contents result rows.old rows.new
         (of.finding_rows asked (map (λ n. n.now) names.now) findings.now) }
 {
     for finding in findings {

@@ -1,14 +1,16 @@
 //! The areas that are to stay as they are.
 ghost use Rattle.std.specs.Prelude.{◌≡◌, map};
 ghost use Rattle.check_findings.specs.Image.ImageFindings.{has_one_of};
-ghost use Rattle.check_report.specs.Rows.Rows.{Adds};
+ghost use Rattle.check_report.specs.Rows.Writing.{Adds};
 ghost use Rattle.check_report.specs.ChangeRows as of;
 
-use crate::rows::{Row, Verdict, add_if, area_row};
+use crate::fault::WriteFault;
+use crate::rows::{RowWriter, Verdict, area_row};
 use check_findings::NumberedArea;
-use std::alloc::AllocError;
+use flash_device::Sink;
 
-fn is_kept(kept: &[&[u8]], area: NumberedArea) -> bool
+/// Returns whether the area has one of the kept names.
+pub fn is_kept(kept: &[&[u8]], area: NumberedArea) -> bool
     ensures { result ≡ has_one_of (map (λ n. n.now) kept.now) area }
 {
     for name in kept {
@@ -36,20 +38,33 @@ fn is_there(areas: &[NumberedArea], name: &[u8]) -> bool
     areas.iter().any(|a| a.area.name_is(name))
 }
 
-/// Adds a row of each kept name that no area of either image has.
-pub fn add_missing<'a>(
-    rows: &mut Vec<Row<'a>>,
+/// Adds a row if no area of either image has the name.
+fn add_if_missing<'a, W: Sink + Drop>(
+    rows: &mut RowWriter<'a, W>,
+    name: &'a [u8],
+    old_areas: &[NumberedArea],
+    new_areas: &[NumberedArea],
+) -> Result<(), WriteFault>
+    ensures { Adds W.contents result rows.old rows.new
+        (of.missing_if old_areas.now new_areas.now name.now) }
+{
+    let is_missing = !(is_there(old_areas, name) || is_there(new_areas, name));
+    let row = area_row(Verdict::Bad, name, None, "no-area", "no such area");
+    rows.add_if(is_missing, row)
+}
+
+/// Adds a row for each kept name that no area of either image has.
+pub fn add_missing<'a, W: Sink + Drop>(
+    rows: &mut RowWriter<'a, W>,
     kept: &[&'a [u8]],
     old_areas: &[NumberedArea],
     new_areas: &[NumberedArea],
-) -> Result<(), AllocError>
-    ensures { Adds result rows.old.items rows.new.items
+) -> Result<(), WriteFault>
+    ensures { Adds W.contents result rows.old rows.new
         (of.missing_rows (map (λ n. n.now) kept.now) old_areas.now new_areas.now) }
 {
     for name in kept {
-        let is_missing = !(is_there(old_areas, name) || is_there(new_areas, name));
-        let row = area_row(Verdict::Bad, name, None, "no-area", "no such area");
-        add_if(rows, is_missing, row)?;
+        add_if_missing(rows, name, old_areas, new_areas)?;
     }
     Ok(())
 }

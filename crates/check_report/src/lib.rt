@@ -1,9 +1,9 @@
 //! Reports what is wrong in a flash image, and what a new image changes.
 //!
-//! A report allocates memory for its rows, and leaves the bytes of honest devices as they are.
+//! A check allocates memory for its findings, and leaves the bytes of honest devices as they are.
+//! Its report is written row by row, and allocates memory for one row at a time.
 #![tactic(auto)]
 
-mod answer;
 mod areas;
 mod change;
 mod changes;
@@ -11,20 +11,22 @@ mod components;
 mod fault;
 mod findings;
 mod image;
+mod inspection;
 mod kept;
 mod laws;
+mod list;
 mod map;
 mod names;
 mod needs;
 mod region;
+mod request;
 mod rows;
 
-pub use answer::{Answer, Request};
-pub use change::report_change;
+pub use change::inspect_change;
 pub use check_findings::{Need, NeededPlace};
-pub use fault::ReportFault;
-pub use findings::add_findings;
-pub use image::report_image;
+pub use fault::{ReportFault, WriteFault};
+pub use image::inspect_image;
+pub use inspection::{Changes, Comparison, Inspection};
 pub use laws::{limits_lose_no_bad_row, rows_tell_what_is_bad};
-pub use region::Asked;
-pub use rows::{Detail, Form, Row, Verdict, report_text};
+pub use request::{Asked, Files, Request};
+pub use rows::{Detail, Form, Row, RowWriter, Verdict, Written};

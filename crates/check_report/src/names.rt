@@ -40,7 +40,8 @@ fn push_names<'a>(names: &mut Vec<&'a [u8]>, more: &[&'a [u8]]) -> Result<(), Al
 
 /// Returns the names of the areas of these needs.
 pub fn need_areas<'a>(alloc: Global, needs: &[Need<'a>]) -> Result<Vec<&'a [u8]>, AllocError>
-    ensures { IfOk result (λ names. names_in names.items ≡ map (λ n. n.area) (map wish_of needs.now)) }
+    ensures { IfOk result (λ names. names_in names.items
+        ≡ map (λ n. n.area) (map wish_of needs.now)) }
 {
     let mut names = Vec::new(alloc);
     for need in needs {
@@ -80,7 +81,8 @@ pub fn with_areas<'a>(
     more: &[&'a [u8]],
     areas: &'a [NumberedArea],
 ) -> Result<Vec<&'a [u8]>, AllocError>
-    ensures { IfOk result (λ names. names_in names.items ≡ names_in more.now ++ map area_name areas.now) }
+    ensures { IfOk result (λ names. names_in names.items ≡ names_in more.now
+        ++ map area_name areas.now) }
 {
     let mut names = Vec::new(alloc);
     push_names(&mut names, more)?;
@@ -88,7 +90,8 @@ pub fn with_areas<'a>(
     Ok(names)
 }
 
-/// Returns the names of the areas that must not change: the given ones and, if these are kept too, those of the areas that
+/// Returns the names of the areas that must not change: the given ones and, if these are kept
+/// too, those of the areas that
 /// have the flag PRESERVE in one of the maps.
 pub fn kept_names<'a>(
     alloc: Global,
@@ -98,7 +101,8 @@ pub fn kept_names<'a>(
     new_areas: &'a [NumberedArea],
 ) -> Result<Vec<&'a [u8]>, AllocError>
     ensures { IfOk result (λ names.
-        names_in names.items ≡ of.kept_by (names_in kept.now) keeps_preserved old_areas.now new_areas.now) }
+        names_in names.items
+        ≡ of.kept_by (names_in kept.now) keeps_preserved old_areas.now new_areas.now) }
 {
     let mut names = Vec::new(alloc);
     push_names(&mut names, kept)?;

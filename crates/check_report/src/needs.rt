@@ -2,12 +2,14 @@
 ghost use Rattle.std.specs.Prelude.{◌≡◌, map, IfOk, OnOk};
 ghost use Rattle.std.specs.List.{flat_map};
 ghost use Rattle.check_findings.specs.Image.Needs.{wish_of};
-ghost use Rattle.check_report.specs.Rows.Rows.{Adds, seen_row};
+ghost use Rattle.check_report.specs.Rows.Rows.{seen_row};
+ghost use Rattle.check_report.specs.Rows.Writing.{Adds};
 ghost use Rattle.check_report.specs.FindingRows as of;
 
-use crate::rows::{Detail, Row, Verdict, add, area_row};
+use crate::fault::WriteFault;
+use crate::rows::{Detail, Row, RowWriter, Verdict, area_row};
 use check_findings::{ImageFinding, Need, NeedFinding, unmet};
-use std::alloc::{AllocError, Global};
+use flash_device::Sink;
 
 fn need_row<'a>(need: &Need<'a>, finding: NeedFinding) -> Row<'a>
     ensures { seen_row result ≡ of.need_row (wish_of need.now) finding }
@@ -26,26 +28,27 @@ fn need_row<'a>(need: &Need<'a>, finding: NeedFinding) -> Row<'a>
 }
 
 /// Adds a row if the findings don't meet the need.
-fn add_need<'a>(
-    rows: &mut Vec<Row<'a>>,
+fn add_need<'a, W: Sink + Drop>(
+    rows: &mut RowWriter<'a, W>,
     findings: &[ImageFinding],
     need: &Need<'a>,
-) -> Result<(), AllocError>
-    ensures { Adds result rows.old.items rows.new.items (of.need_rows findings.now (wish_of need.now)) }
+) -> Result<(), WriteFault>
+    ensures { Adds W.contents result rows.old rows.new (of.need_rows findings.now
+        (wish_of need.now)) }
 {
     match unmet(findings, *need) {
-        Some(finding) => add(rows, need_row(need, finding)),
+        Some(finding) => rows.add(need_row(need, finding)),
         None => Ok(()),
     }
 }
 
 /// Adds a row for each need that the findings don't meet.
-pub fn add_needs<'a>(
-    rows: &mut Vec<Row<'a>>,
+pub fn add_needs<'a, W: Sink + Drop>(
+    rows: &mut RowWriter<'a, W>,
     findings: &[ImageFinding],
     needs: &[Need<'a>],
-) -> Result<(), AllocError>
-    ensures { Adds result rows.old.items rows.new.items
+) -> Result<(), WriteFault>
+    ensures { Adds W.contents result rows.old rows.new
         (flat_map (of.need_rows findings.now) (map wish_of needs.now)) }
 {
     for need in needs {

@@ -1,15 +1,18 @@
 //! The rows of a region's findings.
 ghost use Rattle.std.specs.Prelude.{◌≡◌};
 ghost use Rattle.std.specs.List.{flat_map};
-ghost use Rattle.check_report.specs.Rows.Rows.{Adds, seen_row};
+ghost use Rattle.check_report.specs.Rows.Rows.{seen_row};
+ghost use Rattle.check_report.specs.Rows.Writing.{Adds};
 ghost use Rattle.check_report.specs.FindingRows as of;
 
+use crate::fault::WriteFault;
 use crate::map::verdict_of;
-use crate::rows::{Detail, Row, Verdict, add_if, area_row, component_row};
+use crate::request::Asked;
+use crate::rows::{Detail, Row, RowWriter, Verdict, area_row, component_row};
 use cbfs_walk::HashState;
 use check_findings::{ComponentFinding, RegionFinding, is_bad_region};
+use flash_device::Sink;
 use flash_format::{DamageKind, Digest};
-use std::alloc::AllocError;
 
 fn hash_code(state: HashState) -> &'static str
     ensures { result.now ≡ of.hash_code state }
@@ -22,7 +25,7 @@ fn hash_code(state: HashState) -> &'static str
     }
 }
 
-fn hash_text(state: HashState) -> &'static str
+pub fn hash_text(state: HashState) -> &'static str
     ensures { result.now ≡ of.hash_text state }
 {
     match state {
@@ -139,23 +142,17 @@ fn region_row_with<'a>(v: Verdict, region: &'a [u8], finding: &'a RegionFinding)
         }
         RegionFinding::Components(n) => count_row(v, region, "components", "components", *n),
         RegionFinding::FreeBytes(n) => count_row(v, region, "free-bytes", "free bytes", *n),
-        RegionFinding::LargestFree(n) => {
-            count_row(v, region, "largest-free", "largest free run", *n)
+        RegionFinding::LargestContent(n) => {
+            let what = "largest content that add takes";
+            count_row(v, region, "largest-content", what, *n)
         }
+        RegionFinding::NoRoom => { area_row(v, region, None, "no-room", "no room for a component") }
     }
 }
 
-/// The rows that are asked for beside the others.
-#[derive(Clone, Copy)]
-pub struct Asked {
-    /// All of them.
-    pub is_verbose: bool,
-    /// Each component needs a digest.
-    pub needs_hashes: bool,
-}
-
 impl Asked {
-    /// Returns whether a finding has a row. That a component has no digest only has one if it is asked for.
+    /// Returns whether a finding has a row. That a component has no digest only has one if it is
+    /// asked for.
     fn has_row(self, finding: &RegionFinding) -> bool
         ensures { result ≡ of.has_row self finding.now }
     {
@@ -178,21 +175,17 @@ fn region_row<'a>(asked: Asked, region: &'a [u8], finding: &'a RegionFinding) ->
 }
 
 /// Adds the rows of the findings of the region of this name.
-pub fn add_region<'a>(
-    rows: &mut Vec<Row<'a>>,
+pub fn add_region<'a, W: Sink + Drop>(
+    rows: &mut RowWriter<'a, W>,
     asked: Asked,
     region: &'a [u8],
     findings: &'a [RegionFinding],
-) -> Result<(), AllocError>
-    ensures { Adds result rows.old.items rows.new.items
+) -> Result<(), WriteFault>
+    ensures { Adds W.contents result rows.old rows.new
         (flat_map (of.region_rows asked region.now) findings.now) }
 {
     for finding in findings {
-        add_if(
-            rows,
-            asked.has_row(finding),
-            region_row(asked, region, finding),
-        )?;
+        rows.add_if(asked.has_row(finding), region_row(asked, region, finding))?;
     }
     Ok(())
 }

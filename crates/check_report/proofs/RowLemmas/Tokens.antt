@@ -6,11 +6,12 @@ use lib.Chars.{codes}
 use Rattle.json.specs.Json.{Json, string}
 use Rattle.json.specs.Token.{Token, begin_object, begin_array, end_array, end_object, key}
 use Rattle.json.specs.Tree.{json_tokens, items_tokens, members_tokens}
-use Rattle.check_report.specs.declared.rows.row.Counts.{Counts}
+use Rattle.check_report.specs.declared.rows.kinds.Counts.{Counts}
 use Rattle.std.proofs.lemmas.Str.{is_utf8-from_IsUtf8, IsUtf8-from_is_utf8}
 use Rattle.std.specs.Str.{IsUtf8, is_utf8}
 use Rattle.check_report.specs.Rows.Rows.{SeenRow, verdict_word, detail_number}
-use Rattle.check_report.specs.Rows.Documents.{items, members, member_tokens, name_json, number_json, number_token, bytes_json, row_json, row_tokens, what_tokens, document, opening_tokens, closing_tokens}
+use Rattle.check_report.specs.Rows.Components.{SeenComponent, printed_compression, printed_type}
+use Rattle.check_report.specs.Rows.Documents.{SeenFiles, items, members, member_tokens, name_json, number_json, number_token, bytes_json, between_tokens, component_json, content_tokens, place_tokens, row_json, row_tokens, start_tokens, what_tokens, document, closing_tokens}
 
 -- the members that are there, and the end of the object
 abbrev all_tokens : List (List ℕ × Option Json) → List Token
@@ -52,11 +53,47 @@ rows_tokens rows rest =
     ap (λ ts. ts ++ rest) (items_tokens-items (map row_json rows) ∙ ap (λ ts. ts ++ end_array ∷ []) (flat_map-map json_tokens row_json rows))
     ∙ append_assoc (flat_map row_tokens rows) (end_array ∷ []) rest
 
-pub document-tokens : (rows : List SeenRow) (counts : Counts) → json_tokens (document rows counts) ≡
-    (opening_tokens ++ flat_map row_tokens rows) ++ closing_tokens counts
-unfolding document opening_tokens closing_tokens member_tokens
-document-tokens rows counts =
-    ap (λ ts. begin_object ∷ key (codes "format") ∷ number_token 1 ∷ key (codes "rows") ∷ begin_array ∷ ts) (rows_tokens rows _)
+-- what comes before the rows
+abbrev pub opening_tokens : SeenFiles → Option (List SeenComponent) → List Token
+opening_tokens files None = start_tokens files (codes "rows")
+opening_tokens files (Some cs) = (start_tokens files (codes "components") ++ flat_map json_tokens (map component_json cs)) ++ between_tokens
+
+list_tokens : (js : List Json) (rows : List SeenRow) (rest : List Token)
+    → items_tokens (items js) ++ key (codes "rows") ∷ begin_array ∷ (items_tokens (items (map row_json rows)) ++ rest)
+    ≡ ((flat_map json_tokens js ++ between_tokens) ++ flat_map row_tokens rows) ++ (end_array ∷ rest)
+list_tokens js rows rest = rw (items_tokens-items js, rows_tokens rows rest) (simp append_assoc)
+
+document-files : (image : List ℕ) (old : Option (List ℕ)) (list : Option (List SeenComponent)) (rows : List SeenRow) (counts : Counts)
+    → json_tokens (document (record { image = image; old = old }) list rows counts)
+    ≡ (opening_tokens (record { image = image; old = old }) list ++ flat_map row_tokens rows) ++ closing_tokens counts
+unfolding document start_tokens closing_tokens member_tokens
+document-files image None None rows counts = ap (λ ts. begin_object ∷ key (codes "format") ∷ number_token 1
+    ∷ key (codes "image") ∷ Token.string image ∷ key (codes "rows") ∷ begin_array ∷ ts) (rows_tokens rows _)
+document-files image (Some old) None rows counts = ap (λ ts. begin_object ∷ key (codes "format") ∷ number_token 1
+    ∷ key (codes "image") ∷ Token.string image ∷ key (codes "old") ∷ Token.string old ∷ key (codes "rows") ∷ begin_array ∷ ts)
+    (rows_tokens rows _)
+document-files image None (Some cs) rows counts = ap (λ ts. begin_object ∷ key (codes "format") ∷ number_token 1
+    ∷ key (codes "image") ∷ Token.string image ∷ key (codes "components") ∷ begin_array ∷ ts) (list_tokens (map component_json cs) rows _)
+document-files image (Some old) (Some cs) rows counts = ap (λ ts. begin_object ∷ key (codes "format") ∷ number_token 1
+    ∷ key (codes "image") ∷ Token.string image ∷ key (codes "old") ∷ Token.string old ∷ key (codes "components") ∷ begin_array ∷ ts)
+    (list_tokens (map component_json cs) rows _)
+
+pub document-tokens : (files : SeenFiles) (list : Option (List SeenComponent)) (rows : List SeenRow) (counts : Counts) → json_tokens (document files list rows counts)
+    ≡ (opening_tokens files list ++ flat_map row_tokens rows) ++ closing_tokens counts
+document-tokens files list rows counts = document-files files.image files.old list rows counts
+
+pub component_tokens-parts : (c : SeenComponent) → json_tokens (component_json c) ≡ begin_object ∷ (place_tokens c ++ (content_tokens c ++ end_object ∷ []))
+unfolding component_json
+component_tokens-parts c = ap (λ ts. begin_object ∷ ts) (members_tokens-members (
+    (codes "area", Some (name_json c.area))
+    ∷ (codes "component", Some (name_json c.name))
+    ∷ (codes "position", Some (number_json c.position))
+    ∷ (codes "type", Some (string (printed_type c.kind)))
+    ∷ (codes "length", Some (number_json c.len))
+    ∷ (codes "compression", Some (string (printed_compression c.compression)))
+    ∷ (codes "hash", Some (string c.hash))
+    ∷ []))
+    ∙ simp append_assoc
 
 number_items : (bytes : List ℕ) → items_tokens (items (map number_json bytes)) ≡ map number_token bytes ++ end_array ∷ []
 number_items [] = refl

@@ -1,36 +1,61 @@
 -- At most 16 rows of a kind, a kind being a verdict and a code.
-use Rattle.std.specs.Prelude.{ℕ, ◌-◌, nat_lt, Bool, ◌&&◌, List, [], ◌∷◌, ◌++◌, None, count_by}
+use Rattle.std.specs.Prelude.{ℕ, ◌-◌, nat_lt, Bool, ◌&&◌, List, [], ◌∷◌, ◌++◌, None, count_by, map}
 use Rattle.std.specs.List.{flat_map}
 use Rattle.std.specs.Str.{bytes_eq}
 use lib.Chars.{codes}
+use Rattle.check_report.specs.declared.rows.kinds.Kind.{Kind}
+use Rattle.check_report.specs.declared.rows.row.Verdict.{Verdict}
 use Rattle.check_report.specs.declared.rows.row.Detail.TheVariants.{Count}
 use Rattle.check_report.specs.Rows.Rows.{SeenRow, row_if, image_row, is_verdict}
 
+-- two rows are of one kind
 abbrev pub is_like : SeenRow → SeenRow → Bool
 is_like row other = is_verdict row.verdict other.verdict && bytes_eq row.code other.code
 
--- the row, where fewer than so many of these rows are of its kind
+-- the row, if fewer than so many of the rows before it are of its kind
 abbrev pub row_within : ℕ → List SeenRow → SeenRow → List SeenRow
-row_within most rows row = row_if (nat_lt (count_by (is_like row) rows) most) row
+row_within most before row = row_if (nat_lt (count_by (is_like row) before) most) row
 
--- these rows, and of the others the first of each kind, at most so many in all
+-- of the rows after others, those that fewer than so many rows of their kind precede
 unfoldable pub first_rows : ℕ → List SeenRow → List SeenRow → List SeenRow
-first_rows most shown [] = shown
-first_rows most shown (row ∷ rows) = first_rows most (shown ++ row_within most shown row) rows
+first_rows most before [] = []
+first_rows most before (row ∷ rows) =
+    row_within most before row ++ first_rows most (before ++ row ∷ []) rows
 
 abbrev pub shown_rows : List SeenRow → List SeenRow
 shown_rows rows = first_rows 16 [] rows
 
--- that so many rows of a row's kind are not shown
-abbrev pub more_row : SeenRow → ℕ → SeenRow
-more_row row hidden = image_row row.verdict None row.code (codes "more of these") (Count hidden)
+-- a kind, and the number of its rows
+pub record SeenKind : Type 0 where
+  pub verdict : Verdict
+  pub code : List ℕ
+  pub count : ℕ
 
-abbrev pub more_of : List SeenRow → SeenRow → List SeenRow
-more_of rows row = row_if (nat_lt 0 (count_by (is_like row) rows - 16)) (more_row row (count_by (is_like row) rows - 16))
+abbrev pub seen_kind : Kind → SeenKind
+seen_kind kind = record { verdict = kind.verdict; code = kind.code.now; count = kind.count }
 
--- one for each kind of which some are not shown, in the order of the first rows of the kinds
+-- the row is of the kind
+abbrev pub is_of : SeenKind → SeenRow → Bool
+is_of kind row = is_verdict kind.verdict row.verdict && bytes_eq kind.code row.code
+
+abbrev pub kind_in : List SeenRow → SeenRow → SeenKind
+kind_in rows row =
+    record { verdict = row.verdict; code = row.code; count = count_by (is_like row) rows }
+
+-- the kinds of these rows, in the order of the first rows of the kinds
+abbrev pub kinds_of : List SeenRow → List SeenKind
+kinds_of rows = map (kind_in rows) (first_rows 1 [] rows)
+
+-- the row for the rows of a kind that are not shown
+abbrev pub more_row : SeenKind → SeenRow
+more_row kind =
+    image_row kind.verdict None kind.code (codes "more of these") (Count (kind.count - 16))
+
+abbrev pub more_of : SeenKind → List SeenRow
+more_of kind = row_if (nat_lt 16 kind.count) (more_row kind)
+
 abbrev pub more_rows : List SeenRow → List SeenRow
-more_rows rows = flat_map (more_of rows) (first_rows 1 [] rows)
+more_rows rows = flat_map more_of (kinds_of rows)
 
 abbrev pub limited_rows : List SeenRow → List SeenRow
 limited_rows rows = shown_rows rows ++ more_rows rows

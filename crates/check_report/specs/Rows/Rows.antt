@@ -1,6 +1,6 @@
 -- Rows of a report as text. The form of the text is this project's own.
-use Rattle.std.specs.Prelude.{◌≡◌, ℕ, List, [], ◌∷◌, ◌++◌, Bool, true, false, Option, Some, None, Result, OnOk, count_by, map, if◌then◌else◌}
-use Rattle.std.specs.declared.alloc.AllocError.{AllocError}
+use Rattle.std.specs.Prelude.{ℕ, List, [], ◌∷◌, ◌++◌, Bool, true, false, Option, Some, None}
+use Rattle.std.specs.Prelude.{count_by, if◌then◌else◌}
 use Rattle.flash_format.specs.Flashmap.{text_of}
 use Rattle.check_findings.specs.declared.map.finding.NumberedArea.{NumberedArea}
 use Rattle.std.specs.Fmt.{decimal}
@@ -12,7 +12,7 @@ use Rattle.check_report.specs.declared.rows.row.Verdict.TheVariants as verdicts
 use Rattle.check_report.specs.declared.rows.row.Detail.{Detail}
 use Rattle.check_report.specs.declared.rows.row.Detail.TheVariants as details
 use Rattle.check_report.specs.declared.rows.row.Row.{Row}
-use Rattle.check_report.specs.declared.rows.row.Counts.{Counts}
+use Rattle.check_report.specs.declared.rows.kinds.Counts.{Counts}
 
 -- a row by its bytes
 pub record SeenRow : Type 0 where
@@ -38,16 +38,13 @@ seen_row row = record {
   other = option_copied row.other;
 }
 
--- a call that is done has added these rows
-abbrev pub Adds : Result (Unit {0}) AllocError → List Row → List Row → List SeenRow → Type 0
-Adds result old new more = OnOk result (map seen_row new ≡ map seen_row old ++ more)
-
 -- this row, or none
 abbrev pub row_if : Bool → SeenRow → List SeenRow
 row_if is_there row = if is_there then row ∷ [] else []
 
 -- a row without a second area, of the area and the component that are there
-abbrev pub row : Option (List ℕ) → Option (List ℕ) → Verdict → Option ℕ → List ℕ → List ℕ → Detail → SeenRow
+abbrev pub row : Option (List ℕ) → Option (List ℕ) → Verdict → Option ℕ → List ℕ → List ℕ
+    → Detail → SeenRow
 row area component verdict position code what detail = record {
   verdict = verdict;
   area = area;
@@ -64,18 +61,21 @@ image_row verdict position code what detail = row None None verdict position cod
 
 -- of the area of this name
 abbrev pub area_row : Verdict → List ℕ → Option ℕ → List ℕ → List ℕ → Detail → SeenRow
-area_row verdict name position code what detail = row (Some name) None verdict position code what detail
+area_row verdict name position code what detail =
+    row (Some name) None verdict position code what detail
 
 abbrev pub area_name : NumberedArea → List ℕ
 area_name a = text_of a.area.name
 
 -- of an area of a flashmap, at its start
 abbrev pub map_area_row : Verdict → NumberedArea → List ℕ → List ℕ → Detail → SeenRow
-map_area_row verdict a code what detail = area_row verdict (area_name a) (Some a.area.offset) code what detail
+map_area_row verdict a code what detail =
+    area_row verdict (area_name a) (Some a.area.offset) code what detail
 
 -- of a component, at its place in the area of this name
 abbrev pub component_row : Verdict → List ℕ → ℕ → List ℕ → List ℕ → List ℕ → Detail → SeenRow
-component_row verdict area at name code what detail = row (Some area) (Some name) verdict (Some at) code what detail
+component_row verdict area at name code what detail =
+    row (Some area) (Some name) verdict (Some at) code what detail
 
 abbrev pub verdict_word : Verdict → List ℕ
 verdict_word verdicts.Bad = codes "bad"
@@ -106,9 +106,11 @@ other_field (Some name) = tab ++ printed_name name
 abbrev pub end_text : SeenRow → List ℕ
 end_text row = row.what ++ detail_field row.detail ++ other_field row.other ++ line_feed
 
--- a row as text: verdict, area, component, position, what is said, and the detail where there is one
+-- a row as text: verdict, area, component, position, what is said, and the detail where there is
+-- one
 unfoldable pub row_text : SeenRow → List ℕ
-row_text row = verdict_word row.verdict ++ tab ++ name_or_dash row.area ++ tab ++ name_or_dash row.component
+row_text row =
+    verdict_word row.verdict ++ tab ++ name_or_dash row.area ++ tab ++ name_or_dash row.component
     ++ tab ++ position_or_dash row.position ++ tab ++ end_text row
 
 abbrev pub is_verdict : Verdict → Verdict → Bool
@@ -132,7 +134,9 @@ is_bad_row row = is_verdict verdicts.Bad row.verdict
 
 -- the line after all rows
 unfoldable pub summary : Counts → List ℕ
-summary counts = decimal counts.bad ++ codes " bad, " ++ decimal counts.remarks ++ codes " remarks, " ++ decimal counts.changes ++ codes " changes\n"
+summary counts =
+    decimal counts.bad ++ codes " bad, " ++ decimal counts.remarks ++ codes " remarks, "
+    ++ decimal counts.changes ++ codes " changes\n"
 
 -- the number of a detail
 abbrev pub detail_number : Detail → Option ℕ

@@ -1,12 +1,17 @@
-//! Rows of a report, as tab-separated text or as one JSON document.
+//! The rows of a report, as tab-separated text or as one JSON document.
 
+mod component;
 mod document;
-mod limit;
-mod report;
+mod form;
+mod kinds;
+mod list;
 mod row;
 mod text;
+mod writer;
 
-pub use report::{Form, report_text};
-pub use row::{
-    Detail, Row, Verdict, add, add_if, area_row, component_row, image_row, map_area_row,
-};
+pub use component::Listed;
+pub use document::{json_between, json_start};
+pub use form::Form;
+pub use list::ListWriter;
+pub use row::{Detail, Row, Verdict, area_row, component_row, image_row, map_area_row};
+pub use writer::{RowWriter, Written};

@@ -1,12 +1,11 @@
 //! What a row says.
 
-ghost use Rattle.std.specs.Prelude.{◌≡◌, ◌∷◌, [], count_by, map};
+ghost use Rattle.std.specs.Prelude.{◌≡◌};
 ghost use Rattle.check_report.specs.declared.rows.row.Detail.TheVariants as details;
 ghost use Rattle.check_report.specs.Rows.Rows as rows;
-ghost use Rattle.check_report.specs.Rows.Rows.{Adds, counts_of, detail_number, is_verdict, row_if, seen_row, verdict_word};
+ghost use Rattle.check_report.specs.Rows.Rows.{detail_number, is_verdict, seen_row, verdict_word};
 
 use check_findings::NumberedArea;
-use std::alloc::AllocError;
 
 /// Whether a row is bad, a remark or a change.
 #[derive(Clone, Copy)]
@@ -32,33 +31,6 @@ impl Verdict {
         ensures { result ≡ is_verdict wanted self }
     {
         self == wanted
-    }
-}
-
-/// How many rows have a verdict.
-#[derive(Clone, Copy)]
-pub struct Counts {
-    pub bad: u64,
-    pub remarks: u64,
-    pub changes: u64,
-}
-
-fn count(rows: &[Row], wanted: Verdict) -> u64
-    ensures { result ≡ count_by (λ row. is_verdict wanted row.verdict) rows.now }
-{
-    rows.iter().filter(|row| row.verdict.is(wanted)).count() as u64
-}
-
-impl Counts {
-    /// Returns the counts of these rows.
-    pub fn of(rows: &[Row]) -> Counts
-        ensures { result ≡ counts_of (map seen_row rows.now) }
-    {
-        Counts {
-            bad: count(rows, Verdict::Bad),
-            remarks: count(rows, Verdict::Remark),
-            changes: count(rows, Verdict::Change),
-        }
     }
 }
 
@@ -131,7 +103,8 @@ pub fn area_row<'a>(
     code: &'static str,
     what: &'static str,
 ) -> Row<'a>
-    ensures { seen_row result ≡ rows.area_row verdict name.now position code.now what.now details.None }
+    ensures { seen_row result
+        ≡ rows.area_row verdict name.now position code.now what.now details.None }
 {
     Row {
         area: Some(name),
@@ -166,25 +139,11 @@ pub fn component_row<'a>(
     code: &'static str,
     what: &'static str,
 ) -> Row<'a>
-    ensures { seen_row result ≡ rows.component_row verdict area.now at name.now code.now what.now details.None }
+    ensures { seen_row result
+        ≡ rows.component_row verdict area.now at name.now code.now what.now details.None }
 {
     Row {
         component: Some(name),
         ..area_row(verdict, area, Some(at), code, what)
     }
-}
-
-/// Adds a row.
-pub fn add<'a>(rows: &mut Vec<Row<'a>>, row: Row<'a>) -> Result<(), AllocError>
-    ensures { Adds result rows.old.items rows.new.items (seen_row row.entry ∷ []) }
-{
-    rows.push(row)?;
-    Ok(())
-}
-
-/// Adds a row where it is to be there.
-pub fn add_if<'a>(rows: &mut Vec<Row<'a>>, is_there: bool, row: Row<'a>) -> Result<(), AllocError>
-    ensures { Adds result rows.old.items rows.new.items (row_if is_there (seen_row row.entry)) }
-{
-    if is_there { add(rows, row) } else { Ok(()) }
 }

@@ -3,28 +3,33 @@
 ghost use Rattle.std.specs.Prelude.{◌≡◌, ◌++◌, OnOk};
 ghost use Rattle.std.specs.Fmt.{decimal};
 ghost use Rattle.std.specs.Option.{option_copied};
-ghost use Rattle.check_report.specs.Rows.Rows.{detail_field, end_text, name_or_dash, other_field, position_or_dash, row_text, seen_row, summary};
+ghost use Rattle.check_report.specs.Rows.Rows.{detail_field, end_text, name_or_dash, other_field};
+ghost use Rattle.check_report.specs.Rows.Rows.{position_or_dash, row_text, seen_row, summary};
 
-use crate::rows::row::{Counts, Detail, Row};
+use crate::rows::kinds::Counts;
+use crate::rows::row::{Detail, Row};
 use flash_format::{hexadecimal, printed_byte};
 use itoa::Buffer;
 use std::alloc::AllocError;
 
+/// Adds bytes.
 pub fn push(text: &mut Vec<u8>, part: &[u8]) -> Result<(), AllocError>
     ensures { OnOk result (text.new.items ≡ text.old.items ++ part.now) }
 {
     text.extend_from_slice(part)
 }
 
-fn push_decimal(text: &mut Vec<u8>, n: u64) -> Result<(), AllocError>
+pub fn push_decimal(text: &mut Vec<u8>, n: u64) -> Result<(), AllocError>
     ensures { OnOk result (text.new.items ≡ text.old.items ++ decimal n) }
 {
     let mut buffer = Buffer::new();
     push(text, buffer.format(n).as_bytes())
 }
 
-fn push_name(text: &mut Vec<u8>, name: Option<&[u8]>) -> Result<(), AllocError>
-    ensures { OnOk result (text.new.items ≡ text.old.items ++ name_or_dash (option_copied name.entry)) }
+/// Adds a name, or a dash.
+pub fn push_name(text: &mut Vec<u8>, name: Option<&[u8]>) -> Result<(), AllocError>
+    ensures { OnOk result (text.new.items ≡ text.old.items
+        ++ name_or_dash (option_copied name.entry)) }
 {
     let Some(bytes) = name else {
         return push(text, b"-");
@@ -61,7 +66,8 @@ fn push_detail(text: &mut Vec<u8>, detail: Detail) -> Result<(), AllocError>
 }
 
 fn push_other(text: &mut Vec<u8>, other: Option<&[u8]>) -> Result<(), AllocError>
-    ensures { OnOk result (text.new.items ≡ text.old.items ++ other_field (option_copied other.entry)) }
+    ensures { OnOk result (text.new.items ≡ text.old.items
+        ++ other_field (option_copied other.entry)) }
 {
     match other {
         None => Ok(()),

@@ -76,7 +76,8 @@ fn areas_on_devices_that_refuse_a_read(rt: HostRuntime) {
     told_after(&rt, 2, 1, Err(ChangeFault::NewDevice));
 }
 
-// Each block is read for the image, and again for the areas that hold it.
+// Each block is read for the image, and again for each area that has it. `BOTH` and `FIRST` have
+// the one block that differs.
 #[test]
 fn areas_that_stay(rt: HostRuntime) {
     told_after(&rt, ALL, ALL, Ok((1, 2)));

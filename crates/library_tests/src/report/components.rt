@@ -18,8 +18,8 @@ fn changes_of(
     new: &mut Failing,
     new_size: u64,
 ) -> Result<Vec<ComponentChange>, ChangeFault> {
-    let before = Region::within(0, old_size, old.len());
-    let after = Region::within(0, new_size, new.len());
+    let before = Region::within(0, old_size, old.len()).unwrap_or_default();
+    let after = Region::within(0, new_size, new.len()).unwrap_or_default();
     component_changes(rt.alloc(), keys(rt), old, before, new, after)
 }
 

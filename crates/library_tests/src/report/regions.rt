@@ -2,7 +2,7 @@
 use crate::report::support::{MAP, ONE, count, keys};
 use crate::support::{ALL, Failing, equal, failing};
 use check_changes::{ChangeFault, region_changes};
-use check_findings::{NumberedArea, checked_image};
+use check_findings::{NumberedArea, check_image};
 use flash_format::Area;
 use std::process::Abort;
 use std::random::RandomSource;
@@ -40,7 +40,7 @@ fn told_between(
     old: &mut Failing,
     new: &mut Failing,
 ) -> Result<usize, ChangeFault> {
-    let checked = checked_image(rt.alloc(), keys(rt), new, &[], &[]).expect(rt, "findings");
+    let checked = check_image(rt.alloc(), keys(rt), new, &[], &[]).expect(rt, "findings");
     count(region_changes(rt.alloc(), keys(rt), old, &AREAS, new, &checked.findings))
 }
 

@@ -1,11 +1,13 @@
 //! Reports on devices that fail.
 use crate::report::support::{image, keys};
 use crate::support::{ALL, Failing, equal};
-use check_report::{Answer, Asked, Form, ReportFault, Request, report_change, report_image};
+use check_report::{
+    Asked, Files, Form, Inspection, ReportFault, Request, inspect_change, inspect_image,
+};
 use std::process::Abort;
 use std::random::RandomSource;
 
-fn request<'a>(kept: &'a [&'a [u8]], form: Form) -> Request<'a> {
+pub fn request<'a>(kept: &'a [&'a [u8]], form: Form) -> Request<'a> {
     Request {
         areas: &[],
         needs: &[],
@@ -14,16 +16,21 @@ fn request<'a>(kept: &'a [&'a [u8]], form: Form) -> Request<'a> {
         asked: Asked {
             is_verbose: false,
             needs_hashes: false,
+            lists: false,
         },
         form,
+        files: Files {
+            image: "new.rom",
+            old: None,
+        },
     }
 }
 
 fn of_image(
     rt: &(impl Abort + AllocGlobal + RandomSource),
     paged: &mut Failing,
-) -> Result<Answer, ReportFault> {
-    report_image(rt.alloc(), keys(rt), paged, request(&[], Form::Json))
+) -> Result<Inspection, ReportFault> {
+    inspect_image(rt.alloc(), keys(rt), paged, request(&[], Form::Json))
 }
 
 /// The report on what changes, where `A` is to be kept.
@@ -31,12 +38,12 @@ fn of_change(
     rt: &(impl Abort + AllocGlobal + RandomSource),
     old: &mut Failing,
     new: &mut Failing,
-) -> Result<Answer, ReportFault> {
-    report_change(rt.alloc(), keys(rt), old, new, request(&[b"A"], Form::Text))
+) -> Result<Inspection, ReportFault> {
+    inspect_change(rt.alloc(), keys(rt), old, new, request(&[b"A"], Form::Text))
 }
 
 /// There is no report, for this reason.
-fn is_refused(rt: &impl Abort, answer: Result<Answer, ReportFault>, fault: ReportFault) {
+fn is_refused(rt: &impl Abort, answer: Result<Inspection, ReportFault>, fault: ReportFault) {
     equal(rt, &answer.err(), &Some(fault));
 }
 

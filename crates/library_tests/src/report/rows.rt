@@ -5,12 +5,11 @@ use check_report::{Detail, Form, Verdict};
 
 #[test]
 fn a_report_without_rows(rt: HostRuntime) {
-    prints(&rt, Form::Text, &[], b"0 bad, 0 remarks, 0 changes\n");
+    prints(&rt, Form::Text, b"0 bad, 0 remarks, 0 changes\n");
     prints(
         &rt,
         Form::Json,
-        &[],
-        b"{\"format\":1,\"rows\":[],\"bad\":0,\"remarks\":0,\"changes\":0}\n",
+        b"{\"format\":1,\"image\":\"new.rom\",\"rows\":[],\"bad\":0,\"remarks\":0,\"changes\":0}\n",
     );
 }
 

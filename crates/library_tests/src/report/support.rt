@@ -1,6 +1,9 @@
 //! An image, and what several of the tests of reports make and compare.
+use crate::report::reports::request;
 use crate::support::{Failing, equal, failing};
-use check_report::{Form, Row, report_text};
+use check_findings::ImageFinding;
+use check_report::{Form, Inspection, Request, Written};
+use flash_device::WriteSink;
 use std::hash::RandomState;
 use std::process::Abort;
 use std::random::RandomSource;
@@ -35,8 +38,31 @@ pub fn keys(rt: &(impl Abort + RandomSource)) -> RandomState {
     RandomState::new(rt).expect(rt, "random numbers")
 }
 
-/// A report of these rows has this text.
-pub fn prints(rt: &(impl Abort + AllocGlobal), form: Form, rows: &[Row], expected: &[u8]) {
-    let text = report_text(rt.alloc(), form, false, rows).expect(rt, "memory");
+/// Returns the report of these findings, with names of areas.
+pub fn text_of(
+    rt: &(impl Abort + AllocGlobal),
+    form: Form,
+    findings: Vec<ImageFinding>,
+    areas: &[&[u8]],
+) -> Vec<u8> {
+    let inspection = Inspection {
+        findings,
+        changes: None,
+    };
+    let request = Request {
+        areas,
+        ..request(&[], form)
+    };
+    let sink = WriteSink::new(Vec::new(rt.alloc()));
+    let written = inspection
+        .write(rt.alloc(), request, sink)
+        .expect(rt, "memory");
+    let Written { out, is_bad: _ } = written;
+    out.into_inner()
+}
+
+/// Checks the text of a report without findings.
+pub fn prints(rt: &(impl Abort + AllocGlobal), form: Form, expected: &[u8]) {
+    let text = text_of(rt, form, Vec::new(rt.alloc()), &[]);
     equal(rt, &text.as_slice(), &expected);
 }

@@ -1,8 +1,9 @@
 use Rattle.std.proofs.Common.{Ok, map, take}
-use Rattle.check_report.specs.Rows.Rows.{Adds}
-use Rattle.check_report.specs.ChangeRows.{area_change_row}
+use Rattle.std.specs.List.{flat_map}
+use Rattle.check_report.specs.Rows.Writing.{Adds}
+use Rattle.check_report.specs.ChangeRows.{area_change_rows}
 use Rattle.check_report.proofs.changes.add_area_changes.Given as goal
 
 abbrev pub invariant-loop-change : goal.invariant-loop-change
-invariant-loop-change l = Adds (Ok tt) l.initial.rows.items l.rows.items
-    (map (area_change_row (map (λ n. n.now) l.kept)) (take l.change-index l.changes))
+invariant-loop-change g l = Adds g.W.Sink.contents (Ok tt) l.initial.rows l.rows
+    (flat_map (area_change_rows (map (λ n. n.now) l.kept) (map (λ n. n.now) l.vital)) (take l.change-index l.changes))

@@ -1,8 +1,9 @@
 use Rattle.std.proofs.Common.{Ok, map, take}
-use Rattle.check_report.specs.Rows.Rows.{Adds, area_name}
+use Rattle.check_report.specs.Rows.Rows.{area_name}
+use Rattle.check_report.specs.Rows.Writing.{Adds}
 use Rattle.check_report.specs.ChangeRows.{component_change_row}
 use Rattle.check_report.proofs.changes.add_component_changes.Given as goal
 
 abbrev pub invariant-loop-change : goal.invariant-loop-change
-invariant-loop-change l = Adds (Ok tt) l.initial.rows.items l.rows.items
+invariant-loop-change g l = Adds g.W.Sink.contents (Ok tt) l.initial.rows l.rows
     (map (component_change_row l.verdict (area_name l.area)) (take l.change-index l.changes))

@@ -1,8 +1,8 @@
 use Rattle.std.proofs.Common.{Ok, map, take}
-use Rattle.check_report.specs.Rows.Rows.{Adds}
+use Rattle.check_report.specs.Rows.Writing.{Adds}
 use Rattle.check_report.specs.ChangeRows.{regions_rows}
 use Rattle.check_report.proofs.changes.add_region_changes.Given as goal
 
 abbrev pub invariant-loop-change : goal.invariant-loop-change
-invariant-loop-change l = Adds (Ok tt) l.initial.rows.items l.rows.items
+invariant-loop-change g l = Adds g.W.Sink.contents (Ok tt) l.initial.rows l.rows
     (regions_rows (map (λ n. n.now) l.kept) (take l.change-index l.changes))

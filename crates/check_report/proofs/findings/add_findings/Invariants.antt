@@ -1,8 +1,8 @@
 use Rattle.std.proofs.Common.{Ok, map, take}
-use Rattle.check_report.specs.Rows.Rows.{Adds}
+use Rattle.check_report.specs.Rows.Writing.{Adds}
 use Rattle.check_report.specs.FindingRows.{finding_rows}
 use Rattle.check_report.proofs.findings.add_findings.Given as goal
 
 abbrev pub invariant-loop-finding : goal.invariant-loop-finding
-invariant-loop-finding l = Adds (Ok tt) l.initial.rows.items l.rows.items
+invariant-loop-finding g l = Adds g.W.Sink.contents (Ok tt) l.initial.rows l.rows
     (finding_rows l.asked (map (λ n. n.now) l.names) (take l.finding-index l.findings))

@@ -1,4 +1,4 @@
-use Rattle.std.proofs.Common.{List, ◌∷◌, [], ◌≡◌, map, ap, sym, refl, ◌∙◌}
+use Rattle.std.proofs.Common.{List, ◌∷◌, [], ◌≡◌, map, ap, refl, ◌∙◌}
 use Rattle.std.proofs.lemmas.List.{take_all}
 use Rattle.check_findings.specs.declared.image.needs.Need.{Need}
 use Rattle.check_findings.specs.Image.Needs.{Wish, wish_of}

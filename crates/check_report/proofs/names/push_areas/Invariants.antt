@@ -1,7 +1,5 @@
 use Rattle.std.proofs.Common.{Ok, map, take}
-use Rattle.check_findings.specs.Image.Needs.{wish_of}
-use Rattle.check_report.specs.ChangeRows.{preserved_names}
-use Rattle.check_report.specs.Names.{AddsNames, names_in}
+use Rattle.check_report.specs.Names.{AddsNames}
 use Rattle.check_report.specs.Rows.Rows.{area_name}
 use Rattle.check_report.proofs.names.push_areas.Given as goal
 

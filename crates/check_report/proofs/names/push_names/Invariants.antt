@@ -1,8 +1,5 @@
-use Rattle.std.proofs.Common.{Ok, map, take}
-use Rattle.check_findings.specs.Image.Needs.{wish_of}
-use Rattle.check_report.specs.ChangeRows.{preserved_names}
+use Rattle.std.proofs.Common.{Ok, take}
 use Rattle.check_report.specs.Names.{AddsNames, names_in}
-use Rattle.check_report.specs.Rows.Rows.{area_name}
 use Rattle.check_report.proofs.names.push_names.Given as goal
 
 abbrev pub invariant-loop-name : goal.invariant-loop-name

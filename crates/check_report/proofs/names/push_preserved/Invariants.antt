@@ -1,8 +1,6 @@
-use Rattle.std.proofs.Common.{Ok, map, take}
-use Rattle.check_findings.specs.Image.Needs.{wish_of}
+use Rattle.std.proofs.Common.{Ok, take}
 use Rattle.check_report.specs.ChangeRows.{preserved_names}
-use Rattle.check_report.specs.Names.{AddsNames, names_in}
-use Rattle.check_report.specs.Rows.Rows.{area_name}
+use Rattle.check_report.specs.Names.{AddsNames}
 use Rattle.check_report.proofs.names.push_preserved.Given as goal
 
 abbrev pub invariant-loop-area : goal.invariant-loop-area

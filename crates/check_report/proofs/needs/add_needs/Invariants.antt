@@ -1,10 +1,10 @@
 use Rattle.std.proofs.Common.{Ok, take}
 use Rattle.std.specs.List.{flat_map}
 use Rattle.check_findings.specs.Image.Needs.{wish_of}
-use Rattle.check_report.specs.Rows.Rows.{Adds}
+use Rattle.check_report.specs.Rows.Writing.{Adds}
 use Rattle.check_report.specs.FindingRows.{need_rows}
 use Rattle.check_report.proofs.needs.add_needs.Given as goal
 
 abbrev pub invariant-loop-need : goal.invariant-loop-need
-invariant-loop-need l = Adds (Ok tt) l.initial.rows.items l.rows.items
+invariant-loop-need g l = Adds g.W.Sink.contents (Ok tt) l.initial.rows l.rows
     (flat_map (λ n. need_rows l.findings (wish_of n)) (take l.need-index l.needs))

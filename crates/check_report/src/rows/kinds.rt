@@ -1,0 +1,120 @@
+//! The kinds of the rows of a report. A kind is a verdict and a code.
+ghost use Rattle.std.specs.Prelude.{◌≡◌, ◌+◌, ◌++◌, ◌∷◌, [], map, IfOk, OnOk};
+ghost use Rattle.check_report.specs.Rows.Limits.{is_of, seen_kind};
+ghost use Rattle.check_report.specs.Rows.Writing.{count_in, count_once, counted, earlier, tallied};
+ghost use Rattle.check_report.specs.Rows.Rows.{seen_row};
+
+use crate::fault::WriteFault;
+use crate::rows::row::{Row, Verdict};
+use std::alloc::AllocError;
+
+/// A kind, and the number of its rows.
+#[derive(Clone, Copy)]
+pub struct Kind {
+    pub verdict: Verdict,
+    pub code: &'static str,
+    pub count: u64,
+}
+
+/// The numbers of rows by verdict.
+#[derive(Clone, Copy)]
+pub struct Counts {
+    pub bad: u64,
+    pub remarks: u64,
+    pub changes: u64,
+}
+
+/// Returns the next number. A report of 2^64 rows ends with `Memory`.
+fn next(count: u64) -> Result<u64, WriteFault>
+    ensures { IfOk result (λ n. n ≡ count + 1) }
+{
+    count.checked_add(1).ok_or(WriteFault::Memory)
+}
+
+impl Kind {
+    fn is_of(&self, row: &Row) -> bool
+        ensures { result ≡ is_of (seen_kind self.now) (seen_row row.now) }
+    {
+        row.verdict.is(self.verdict) && self.code == row.code
+    }
+
+    /// Returns the number of rows of the kind if the row is of it, or else `before`.
+    fn earlier(self, row: &Row, before: u64) -> u64
+        ensures { result ≡ earlier (seen_row row.now) before self }
+    {
+        if self.is_of(row) { self.count } else { before }
+    }
+
+    /// Returns the kind after a row.
+    fn with(self, row: &Row) -> Result<Kind, WriteFault>
+        ensures { IfOk result (λ kind. kind ≡ count_once (seen_row row.now) self) }
+    {
+        if !self.is_of(row) {
+            return Ok(self);
+        }
+        Ok(Kind {
+            count: next(self.count)?,
+            ..self
+        })
+    }
+}
+
+fn push(kinds: &mut Vec<Kind>, kind: Kind) -> Result<(), AllocError>
+    ensures { OnOk result (kinds.new.items ≡ kinds.old.items ++ kind ∷ []) }
+{
+    kinds.push(kind)?;
+    Ok(())
+}
+
+/// Counts a row of one of these kinds, and returns the number of earlier ones.
+fn count_known(kinds: &mut [Kind], row: &Row) -> Result<u64, WriteFault>
+    ensures before { IfOk result (λ n. n ≡ count_in kinds.old (seen_row row.now)) }
+    ensures kinds { OnOk result (kinds.new ≡ map (count_once (seen_row row.now)) kinds.old) }
+{
+    let mut before = 0;
+    for i in 0..kinds.len() {
+        let kind = kinds[i];
+        before = kind.earlier(row, before);
+        kinds[i] = kind.with(row)?;
+    }
+    Ok(before)
+}
+
+/// Counts a row of its kind, and returns the number of earlier ones.
+pub fn count_row(kinds: &mut Vec<Kind>, row: &Row) -> Result<u64, WriteFault>
+    ensures before { IfOk result (λ n. n ≡ count_in kinds.old.items (seen_row row.now)) }
+    ensures kinds { OnOk result (kinds.new.items ≡ counted kinds.old.items row.now) }
+{
+    let before = count_known(kinds, row)?;
+    if before == 0 {
+        let kind = Kind {
+            verdict: row.verdict,
+            code: row.code,
+            count: 1,
+        };
+        push(kinds, kind)?;
+    }
+    Ok(before)
+}
+
+impl Counts {
+    /// Counts a row with this verdict.
+    pub fn with(self, verdict: Verdict) -> Result<Counts, WriteFault>
+        ensures { IfOk result (λ counts. counts ≡ tallied self verdict) }
+    {
+        Ok(match verdict {
+            Verdict::Bad => Counts {
+                bad: next(self.bad)?,
+                ..self
+            },
+            Verdict::Remark => Counts {
+                remarks: next(self.remarks)?,
+                ..self
+            },
+            Verdict::Change => Counts {
+                changes: next(self.changes)?,
+                ..self
+            },
+        })
+    }
+}
