@@ -1,14 +1,15 @@
-//! Checks that the flash map and the file systems of an image are sound, and lists what a new image changes.
+//! Checks the flash map and the file systems of an image, and lists the changes of a new image.
 #![tactic(auto)]
 
-ghost use Rattle.std.specs.Prelude.{◌≡◌, if◌then◌else◌, map};
+ghost use Rattle.std.specs.Prelude.{◌≡◌, if◌then◌else◌, option_map, unwrap_or};
 
 mod texts;
 
-pub use check_line::{CheckLine, LineFault, read_check};
-pub use check_report::{Answer, ReportFault, Request, report_change, report_image};
-use check_report::{Asked, Form, Need, NeededPlace};
-use flash_store::{FileFlash, OpenFault, Paged};
+pub use check_line::{Asked, CheckLine, LineFault, read_check};
+pub use check_report::{Inspection, ReportFault, Request, inspect_change, inspect_image};
+use check_report::{Files, Form, WriteFault, Written};
+use flash_store::{FileFlash, OpenFault, Output, Paged, WriteSink};
+use std::alloc::AllocError;
 use std::env;
 use std::hash::RandomState;
 use std::io::{self, ErrorKind, Write};
@@ -16,7 +17,7 @@ use std::process::ExitCode;
 use texts::{HELP, USAGE, VERSION};
 use thiserror::Error;
 
-/// Why an image can't be read; the text is what the program prints of it.
+/// Why an image can't be read.
 #[derive(Clone, Copy, Debug, PartialEq, Eq, Error)]
 enum ImageFault {
     #[error("No such file or directory")]
@@ -42,7 +43,7 @@ impl From<ErrorKind> for ImageFault {
     }
 }
 
-/// Why no report is printed; the text is what the program prints of it.
+/// Why the program ends with status 2; the text is its error message.
 #[derive(Clone, Copy, Debug, PartialEq, Eq, Error)]
 enum Refusal<'a> {
     #[error("{0} (see cbfscheck --help)")]
@@ -70,6 +71,21 @@ impl<'a> From<LineFault<'a>> for Refusal<'a> {
     }
 }
 
+impl<'a> From<AllocError> for Refusal<'a> {
+    fn from(_: AllocError) -> Refusal<'a> {
+        Refusal::Memory
+    }
+}
+
+impl<'a> From<WriteFault> for Refusal<'a> {
+    fn from(fault: WriteFault) -> Refusal<'a> {
+        match fault {
+            WriteFault::Memory => Refusal::Memory,
+            WriteFault::Output => Refusal::Output,
+        }
+    }
+}
+
 impl<'a> Refusal<'a> {
     /// Returns the refusal of an image that can't be opened.
     fn of_opening(path: &'a str, fault: OpenFault) -> Refusal<'a> {
@@ -81,8 +97,7 @@ impl<'a> Refusal<'a> {
         Refusal::Image { path, fault }
     }
 
-    /// Returns the refusal of a report on the image at `new`, or on what it changes of the one at
-    /// `old`.
+    /// Returns the refusal of an inspection of the images at these paths.
     fn of_report(old: &'a str, new: &'a str, fault: ReportFault) -> Refusal<'a> {
         let path = match fault {
             ReportFault::Memory => return Refusal::Memory,
@@ -104,163 +119,114 @@ fn open<'a>(rt: &HostRuntime, path: &'a str) -> Result<Paged<FileFlash>, Refusal
     Ok(Paged::new(image))
 }
 
-fn place_of(place: check_line::NeededPlace) -> NeededPlace {
-    match place {
-        check_line::NeededPlace::Any => NeededPlace::Any,
-        check_line::NeededPlace::At(start) => NeededPlace::At(start),
-        check_line::NeededPlace::End => NeededPlace::End,
-    }
-}
-
-/// Returns the components that a line asks for.
-fn needs_of<'a>(rt: &HostRuntime, line: &CheckLine<'a>) -> Result<Vec<Need<'a>>, Refusal<'a>> {
-    let mut needs = Vec::new(rt.alloc());
-    for need in line.needs() {
-        let need = Need {
-            area: need.area(),
-            name: need.name(),
-            place: place_of(need.place()),
-        };
-        needs.push(need).map_err(|_| Refusal::Memory)?;
-    }
-    Ok(needs)
-}
-
-/// Returns the report that a line with these needs asks for.
-fn request_of<'l>(line: &'l CheckLine<'_>, needs: &'l [Need<'l>]) -> Request<'l>
-    ensures areas { map (λ name. name.now) result.areas.now ≡ line.now.areas }
-    ensures needs { result.needs.now ≡ needs.entry.now }
-    ensures kept { map (λ name. name.now) result.kept.now ≡ line.now.kept }
+/// Returns the report that a line requests.
+fn request_of<'l>(line: &'l CheckLine<'_>) -> Request<'l>
+    ensures areas { result.areas.now ≡ line.now.areas.items }
+    ensures needs { result.needs.now ≡ line.now.needs.items }
+    ensures kept { result.kept.now ≡ line.now.kept.items }
     ensures preserved { result.keeps_preserved ≡ line.now.keeps_preserved }
     ensures verbose { result.asked.is_verbose ≡ line.now.is_verbose }
     ensures hashes { result.asked.needs_hashes ≡ line.now.needs_hashes }
+    ensures lists { result.asked.lists ≡ line.now.lists }
     ensures form { result.form ≡ (if line.now.is_json then Form.Json else Form.Text) }
+    ensures image { result.files.image ≡ unwrap_or line.now.new_image line.now.image }
+    ensures old { result.files.old ≡ option_map (λ _. line.now.image) line.now.new_image }
 {
     Request {
-        areas: line.areas(),
-        needs,
-        kept: line.kept(),
-        keeps_preserved: line.keeps_preserved(),
-        asked: Asked {
-            is_verbose: line.is_verbose(),
-            needs_hashes: line.needs_hashes(),
+        areas: &line.areas,
+        needs: &line.needs,
+        kept: &line.kept,
+        keeps_preserved: line.keeps_preserved,
+        asked: check_report::Asked {
+            is_verbose: line.is_verbose,
+            needs_hashes: line.needs_hashes,
+            lists: line.lists,
         },
-        form: if line.is_json() {
-            Form::Json
-        } else {
-            Form::Text
+        form: if line.is_json { Form::Json } else { Form::Text },
+        files: Files {
+            image: line.new_image.unwrap_or(line.image),
+            old: line.new_image.and(Some(line.image)),
         },
     }
 }
 
-/// A report on the image at `new`, or on what it changes of the one at `old`, or its refusal.
-fn answered<'a>(
-    old: &'a str,
-    new: &'a str,
-    report: Result<Answer, ReportFault>,
-) -> Result<Answer, Refusal<'a>> {
-    report.map_err(|fault| Refusal::of_report(old, new, fault))
-}
-
-/// Keys for the hasher of names.
-fn random_keys<'a>(rt: &HostRuntime) -> Result<RandomState, Refusal<'a>> {
-    RandomState::new(rt).map_err(|_| Refusal::Random)
-}
-
-/// Checks an image.
-fn check_one<'a>(
+/// Inspects the images of a line, which are closed on return.
+fn inspect<'a>(
     rt: &HostRuntime,
-    keys: RandomState,
-    path: &'a str,
+    line: &CheckLine<'a>,
     request: Request<'_>,
-) -> Result<Answer, Refusal<'a>> {
-    let mut image = open(rt, path)?;
-    let report = report_image(rt.alloc(), keys, &mut image, request);
-    answered(path, path, report)
-}
-
-/// Checks a new image against the old one.
-fn check_both<'a>(
-    rt: &HostRuntime,
-    keys: RandomState,
-    old: &'a str,
-    new: &'a str,
-    request: Request<'_>,
-) -> Result<Answer, Refusal<'a>> {
-    let mut old_image = open(rt, old)?;
-    let mut new_image = open(rt, new)?;
-    let report = report_change(rt.alloc(), keys, &mut old_image, &mut new_image, request);
-    answered(old, new, report)
-}
-
-/// Checks the image of a line, or the new one against the old.
-fn check<'a>(rt: &HostRuntime, line: &CheckLine<'a>) -> Result<Answer, Refusal<'a>> {
-    let needs = needs_of(rt, line)?;
-    let request = request_of(line, &needs);
-    let keys = random_keys(rt)?;
-    match line.new_image() {
-        Some(new) => check_both(rt, keys, line.image(), new, request),
-        None => check_one(rt, keys, line.image(), request),
+) -> Result<Inspection, Refusal<'a>> {
+    let keys = RandomState::new(rt).map_err(|_| Refusal::Random)?;
+    let (old, alloc) = (line.image, rt.alloc());
+    let Some(new) = line.new_image else {
+        let mut image = open(rt, old)?;
+        return match inspect_image(alloc, keys, &mut image, request) {
+            Ok(inspection) => Ok(inspection),
+            Err(fault) => Err(Refusal::of_report(old, old, fault)),
+        };
+    };
+    let (mut before, mut after) = (open(rt, old)?, open(rt, new)?);
+    match inspect_change(alloc, keys, &mut before, &mut after, request) {
+        Ok(inspection) => Ok(inspection),
+        Err(fault) => Err(Refusal::of_report(old, new, fault)),
     }
 }
 
-/// Prints a report, which is whole by now.
-fn print<'a>(rt: &HostRuntime, text: &[u8]) -> Result<(), Refusal<'a>> {
-    io::writer(rt).write_all(text).map_err(|_| Refusal::Output)
+/// Prints the report of a line, and returns whether a finding is bad. Nothing is printed before the
+/// images are closed, since a reader of the report may wait for their locks.
+fn check<'a>(rt: &HostRuntime, line: &CheckLine<'a>) -> Result<bool, Refusal<'a>> {
+    let request = request_of(line);
+    let inspection = inspect(rt, line, request)?;
+    let out = WriteSink::new(Output::new(rt.alloc(), io::writer(rt)));
+    let Written { out, is_bad } = inspection.write(rt.alloc(), request, out)?;
+    out.into_inner().finish().map_err(|_| Refusal::Output)?;
+    Ok(is_bad)
 }
 
-/// The words after the program's name.
+/// Prints a text of the program.
+fn print<'a>(rt: &HostRuntime, text: &str) -> Result<bool, Refusal<'a>> {
+    io::writer(rt)
+        .write_all(text.as_bytes())
+        .map_err(|_| Refusal::Output)?;
+    Ok(false)
+}
+
+/// Returns the arguments after the program's name.
 fn read_words<'a>(rt: &HostRuntime) -> Result<Vec<String>, Refusal<'a>> {
-    let words = match env::args(rt) {
-        Ok(words) => words,
-        Err(fault) if fault.kind() == ErrorKind::OutOfMemory => return Err(Refusal::Memory),
-        Err(_) => return Err(Refusal::Words),
-    };
-    let mut all = Vec::new(rt.alloc());
-    for word in words.skip(1) {
-        all.push(word).map_err(|_| Refusal::Memory)?;
+    match env::args(rt) {
+        Ok(words) => Ok(words.skip(1).collect(rt.alloc())?),
+        Err(fault) if fault.kind() == ErrorKind::OutOfMemory => Err(Refusal::Memory),
+        Err(_) => Err(Refusal::Words),
     }
-    Ok(all)
 }
 
-/// The words as texts.
-fn texts_of<'a>(rt: &HostRuntime, words: &'a [String]) -> Result<Vec<&'a str>, Refusal<'a>> {
-    let mut texts = Vec::new(rt.alloc());
-    for word in words {
-        texts.push(word.as_str()).map_err(|_| Refusal::Memory)?;
-    }
-    Ok(texts)
-}
-
-/// Does what the words ask for, and returns whether something is bad.
+/// Performs the request of the arguments, and returns whether a finding is bad.
 fn obey<'a>(rt: &HostRuntime, words: &'a [&'a str]) -> Result<bool, Refusal<'a>> {
-    let line = match read_check(rt.alloc(), words)? {
-        check_line::Asked::Help => return print(rt, HELP.as_bytes()).map(|()| false),
-        check_line::Asked::Version => return print(rt, VERSION.as_bytes()).map(|()| false),
-        check_line::Asked::Check(line) => line,
-    };
-    let answer = check(rt, &line)?;
-    print(rt, answer.text())?;
-    Ok(answer.is_bad())
+    match read_check(rt.alloc(), words)? {
+        Asked::Help => print(rt, HELP),
+        Asked::Version => print(rt, VERSION),
+        Asked::Check(line) => check(rt, &line),
+    }
 }
 
-/// Prints why there is no report.
+/// Prints an error message, and returns exit status 2.
 fn refuse(rt: &HostRuntime, refusal: Refusal<'_>) -> ExitCode {
     let _told = eprintln!(rt; "cbfscheck: {refusal}");
     ExitCode::from(2)
 }
 
-/// Does what the words ask for, and returns the exit status. Without words prints the usage.
+/// Performs the request of the arguments, and returns the exit status. Without arguments prints the
+/// usage.
 fn answer_to(rt: &HostRuntime, words: &[String]) -> ExitCode {
     if words.is_empty() {
         let _told = eprint!(rt; "{USAGE}");
         return ExitCode::from(2);
     }
-    let texts = match texts_of(rt, words) {
-        Ok(texts) => texts,
-        Err(refusal) => return refuse(rt, refusal),
+    let Ok(texts) = words.iter().map(|word| word.as_str()).collect(rt.alloc()) else {
+        return refuse(rt, Refusal::Memory);
     };
-    match obey(rt, texts.as_slice()) {
+    let texts: Vec<&str> = texts;
+    match obey(rt, &texts) {
         Ok(is_bad) => ExitCode::from(if is_bad { 1 } else { 0 }),
         Err(refusal) => refuse(rt, refusal),
     }
@@ -268,7 +234,7 @@ fn answer_to(rt: &HostRuntime, words: &[String]) -> ExitCode {
 
 fn main(rt: HostRuntime) -> ExitCode {
     match read_words(&rt) {
-        Ok(words) => answer_to(&rt, words.as_slice()),
+        Ok(words) => answer_to(&rt, &words),
         Err(refusal) => refuse(&rt, refusal),
     }
 }

@@ -1,3 +1,2 @@
 mod Matching
 mod NeedLemmas
-mod RequestLemmas

@@ -1,21 +1,31 @@
--- The words of cbfscheck as clap's definitions have them, and what they ask for.
-use Rattle.std.specs.Prelude.{ℕ, Bool, true, false, not, List, [], ◌∷◌, length, take, ◌<◌, ◌≤◌, ◌==◌, ◌&&◌, ◌||◌, ◌≡◌, ◌≢◌, ◌⊎◌, ⊤, Option, Some, None, is_some, is_none, Result, Ok, Err, MatchOption, if◌then◌else◌, find, take_while, filter_map, slice_get}
+-- The arguments of cbfscheck by clap's definitions, and what they request.
+use Rattle.std.specs.Prelude.{ℕ, Bool, true, false, not, List, [], ◌∷◌, length, map, take, ◌<◌}
+use Rattle.std.specs.Prelude.{◌≤◌, ◌==◌, ◌&&◌, ◌||◌, ◌≡◌, ◌≢◌, ◌⊎◌, ⊤, Option, Some, None, is_some}
+use Rattle.std.specs.Prelude.{is_none, option_map, Result, Ok, Err, MatchOption, if◌then◌else◌}
+use Rattle.std.specs.Prelude.{find, take_while, filter_map, slice_get}
+use Rattle.std.specs.Borrow.{Bor}
 use Rattle.std.specs.List.{list_any, slice_split}
+use Rattle.std.specs.Option.{option_or}
 use Rattle.std.specs.Str.{bytes_eq}
 use lib.Chars.{codes}
-use Rattle.clap.specs.Words.{App, IsAmong, Kinds, Row, Rule, fault_of, first_of, matches_of, new_rule}
+use Rattle.clap.specs.Words.{App, IsAmong, Row, Rule, fault_of, first_of, matches_of, new_rule}
 use Rattle.clap.specs.Simple.{new_shape}
 use Rattle.clap.specs.declared.builder.action.ArgAction.TheVariants.{SetTrue}
 use Rattle.clap.specs.declared.error.kind.ErrorKind.{ErrorKind}
 use Rattle.clap.specs.declared.error.kind.ErrorKind.TheVariants as reason
+use Rattle.check_findings.specs.Image.Needs.{wish_of}
 use Rattle.check_line.specs.Needs.{is_no_need, need_in}
-use Rattle.check_line.specs.Wishes.{Wanted}
 use Rattle.check_line.specs.declared.fault.LineFault.{LineFault}
 use Rattle.check_line.specs.declared.fault.LineFault.TheVariants.{Word, NoImage, NoNewImage, Memory}
 use Rattle.check_line.specs.declared.fault.WordFault.{WordFault}
 use Rattle.check_line.specs.declared.fault.WordFault.TheVariants as mistake
 use Rattle.check_line.specs.declared.line.Asked.{Asked}
 use Rattle.check_line.specs.declared.line.Asked.TheVariants.{Help, Version, Check}
+use Rattle.check_line.specs.declared.line.CheckLine.{CheckLine}
+
+-- the bytes of arguments
+abbrev pub texts : List (Bor (List ℕ)) → List (List ℕ)
+texts words = map (λ (word : Bor (List ℕ)). word.now) words
 
 -- `-C VALUE`
 abbrev pub short_option : ℕ → List ℕ → Rule
@@ -29,114 +39,111 @@ long_option name = record (new_rule name) { long = Some name }
 abbrev pub flag : Rule → Rule
 flag rule = record rule { action = Some SetTrue }
 
--- the words after the program's name: the paths of an image and of a new one, and the options
+-- the arguments: the paths of an image and of a new image, and the options
 abbrev pub check_words : App
 check_words = record {
   top = record (new_shape (codes "cbfscheck")) {
     no_binary_name = true;
     rules = new_rule (codes "image") ∷ new_rule (codes "new")
         ∷ short_option 114 (codes "areas") ∷ flag (short_option 118 (codes "verbose"))
-        ∷ flag (long_option (codes "json")) ∷ long_option (codes "keep")
-        ∷ flag (long_option (codes "keep-preserved")) ∷ flag (long_option (codes "all-hashed"))
-        ∷ long_option (codes "need") ∷ [];
+        ∷ flag (long_option (codes "json")) ∷ flag (long_option (codes "list"))
+        ∷ long_option (codes "keep") ∷ flag (long_option (codes "keep-preserved"))
+        ∷ flag (long_option (codes "all-hashed")) ∷ long_option (codes "need") ∷ [];
   };
   subs = [];
 }
 
--- ---- what the options ask for
+-- ---- the options
 
--- why words that clap takes ask for nothing
+-- why accepted arguments request nothing
 pub data Complaint : Type 0 where
   no_image : Complaint
   no_new_image : Complaint
   wrong : WordFault → List ℕ → Complaint
 
--- what comes between the commas of a list
-abbrev pub names_in : List ℕ → List (List ℕ)
-names_in list = slice_split (λ b. b == 44) list
+-- the parts of an option's list, between its commas (44)
+abbrev pub parts_of : Option (List ℕ) → List (List ℕ)
+parts_of None = []
+parts_of (Some list) = slice_split (λ b. b == 44) list
 
 abbrev pub is_empty : List ℕ → Bool
 is_empty name = length name == 0
 
--- the names that an option gives, of which none may be empty
-abbrev pub names_by : Option (List ℕ) → Result (List (List ℕ)) Complaint
-names_by None = Ok []
-names_by (Some list) = if list_any is_empty (names_in list) then Err (wrong mistake.BadAreas list)
-    else Ok (names_in list)
+-- the complaint about a list of areas with an empty name
+abbrev pub bad_areas : Option (List ℕ) → Option Complaint
+bad_areas list = if list_any is_empty (parts_of list) then option_map (wrong mistake.BadAreas) list
+    else None
 
--- the needs that an option gives, of which each must be one
-abbrev pub needs_unless : Option (List ℕ) → List (List ℕ) → Result (List Wanted) Complaint
-needs_unless (Some bad) parts = Err (wrong mistake.BadNeed bad)
-needs_unless None parts = Ok (filter_map need_in parts)
+-- the complaint about the first bad part of a list of needs
+abbrev pub bad_need : Option (List ℕ) → Option Complaint
+bad_need list = option_map (wrong mistake.BadNeed) (find is_no_need (parts_of list))
 
-abbrev pub needs_by : Option (List ℕ) → Result (List Wanted) Complaint
-needs_by None = Ok []
-needs_by (Some list) = needs_unless (find is_no_need (names_in list)) (names_in list)
+-- an option without a value is present
+abbrev pub is_set : Option (List ℕ) → Bool
+is_set None = false
+is_set (Some text) = bytes_eq text (codes "true")
 
--- whether an option without a text is there, of which clap gives one
-abbrev pub is_set_by : Option (List ℕ) → Bool
-is_set_by None = false
-is_set_by (Some text) = bytes_eq text (codes "true")
-
-abbrev pub and_then : {T U : Type 0} → Result T Complaint → (T → Result U Complaint)
-    → Result U Complaint
-and_then (Ok given) next = next given
-and_then (Err complaint) next = Err complaint
-
--- whether an option compares two images
+-- an option compares two images
 abbrev pub is_comparing : List Row → Bool
 is_comparing rows = is_some (first_of (codes "keep") rows)
-    || is_set_by (first_of (codes "keep-preserved") rows)
+    || is_set (first_of (codes "keep-preserved") rows)
 
--- what these matches of clap's ask for
-abbrev pub asked_of : Option (List ℕ) → List Row → Result Asked Complaint
-asked_of None rows = Err no_image
-asked_of (Some image) rows = if is_comparing rows && is_none (first_of (codes "new") rows)
-    then Err no_new_image
-    else and_then (names_by (first_of (codes "areas") rows)) (λ areas.
-    and_then (names_by (first_of (codes "keep") rows)) (λ kept.
-    and_then (needs_by (first_of (codes "need") rows)) (λ needs. Ok (Check (record {
-      image = image;
-      new_image = first_of (codes "new") rows;
-      areas = areas;
-      is_verbose = is_set_by (first_of (codes "verbose") rows);
-      is_json = is_set_by (first_of (codes "json") rows);
-      kept = kept;
-      keeps_preserved = is_set_by (first_of (codes "keep-preserved") rows);
-      needs_hashes = is_set_by (first_of (codes "all-hashed") rows);
-      needs = needs;
-    })))))
+-- the first complaint about clap's matches
+abbrev pub complaint_in : List Row → Option Complaint
+complaint_in rows = if is_none (first_of (codes "image") rows) then Some no_image
+    else (if is_comparing rows && is_none (first_of (codes "new") rows) then Some no_new_image
+    else option_or (bad_areas (first_of (codes "areas") rows))
+    (option_or (bad_areas (first_of (codes "keep") rows))
+    (bad_need (first_of (codes "need") rows))))
 
-abbrev pub asked_in : List Row → Result Asked Complaint
-asked_in rows = asked_of (first_of (codes "image") rows) rows
+-- the request has the images and the options of clap's matches
+pub record IsLineOf (rows : List Row) (line : CheckLine) : Type 0 where
+  pub image : first_of (codes "image") rows ≡ Some line.image.now
+  pub new_image : first_of (codes "new") rows
+      ≡ option_map (λ (path : Bor (List ℕ)). path.now) line.new_image
+  pub areas : texts line.areas.items ≡ parts_of (first_of (codes "areas") rows)
+  pub is_verbose : line.is_verbose ≡ is_set (first_of (codes "verbose") rows)
+  pub is_json : line.is_json ≡ is_set (first_of (codes "json") rows)
+  pub lists : line.lists ≡ is_set (first_of (codes "list") rows)
+  pub kept : texts line.kept.items ≡ parts_of (first_of (codes "keep") rows)
+  pub keeps_preserved : line.keeps_preserved ≡ is_set (first_of (codes "keep-preserved") rows)
+  pub needs_hashes : line.needs_hashes ≡ is_set (first_of (codes "all-hashed") rows)
+  pub needs : map wish_of line.needs.items
+      ≡ filter_map need_in (parts_of (first_of (codes "need") rows))
 
--- what is answered is what is asked, and the fault is why nothing is; or memory was refused
-abbrev pub Gives : {T : Type 0} → Result T Complaint → Result T LineFault → Type 0
-Gives asked (Ok given) = asked ≡ Ok given
-Gives asked (Err (Word fault word)) = asked ≡ Err (wrong fault word.now)
-Gives asked (Err NoImage) = asked ≡ Err no_image
-Gives asked (Err NoNewImage) = asked ≡ Err no_new_image
-Gives asked (Err Memory) = ⊤
+-- without a complaint a value with the property is returned, and otherwise the complaint; or an
+-- allocation fails
+abbrev pub Gives : {T : Type 0} → Option Complaint → (T → Type 0) → Result T LineFault → Type 0
+Gives complaint Is (Ok given) = (complaint ≡ None) × Is given
+Gives complaint Is (Err (Word fault word)) = complaint ≡ Some (wrong fault word.now)
+Gives complaint Is (Err NoImage) = complaint ≡ Some no_image
+Gives complaint Is (Err NoNewImage) = complaint ≡ Some no_new_image
+Gives complaint Is (Err Memory) = ⊤
 
--- ---- which word is wrong
+-- ---- the wrong argument
 
--- clap refuses the words for this reason
-abbrev pub Refuses : ErrorKind → List (List ℕ) → Type 0
-Refuses kind words = IsAmong kind (fault_of check_words words)
+-- clap accepts the arguments
+abbrev pub IsAccepted : List (Bor (List ℕ)) → Type 0
+IsAccepted words = fault_of check_words (texts words) ≡ []
 
--- it takes them, or refuses them for another reason
-abbrev pub Spares : ErrorKind → List (List ℕ) → Type 0
-Spares kind words = (fault_of check_words words ≡ [])
+-- clap refuses the arguments for this reason
+abbrev pub Refuses : ErrorKind → List (Bor (List ℕ)) → Type 0
+Refuses kind words = IsAmong kind (fault_of check_words (texts words))
+
+-- clap accepts them, or refuses them for another reason
+abbrev pub Spares : ErrorKind → List (Bor (List ℕ)) → Type 0
+Spares kind words = IsAccepted words
     ⊎ ((other : ErrorKind) × (other ≢ kind) × Refuses other words)
 
--- the kind of the error with which clap refuses the words, or memory was refused
-abbrev pub IsKindOf : Option ErrorKind → List (List ℕ) → Type 0
-IsKindOf None words = fault_of check_words words ≡ []
+-- the kind of clap's error for the arguments, or an allocation failed
+abbrev pub IsKindOf : Option ErrorKind → List (Bor (List ℕ)) → Type 0
+IsKindOf None words = IsAccepted words
 IsKindOf (Some kind) words = (kind ≡ reason.OutOfMemory) ⊎ Refuses kind words
 
--- The words before this one aren't refused for this reason. With it, and with any number of those
--- after it, they are.
-pub record IsWrong (kind : ErrorKind) (words : List (List ℕ)) (word : List ℕ) : Type 0 where
+-- The arguments before this one aren't refused for this reason. With it, and with any number of the
+-- next ones, they are.
+pub record IsWrong (kind : ErrorKind) (words : List (Bor (List ℕ))) (word : Bor (List ℕ))
+    : Type 0 where
   pub n : ℕ
   pub here : slice_get words n ≡ Some word
   pub before : Spares kind (take n words)
@@ -147,40 +154,51 @@ abbrev pub is_option : List ℕ → Bool
 is_option (first ∷ second ∷ rest) = first == 45
 is_option word = false
 
--- what is wrong with it
+-- the mistake of the wrong argument
 abbrev pub word_fault : ErrorKind → List ℕ → WordFault
 word_fault reason.InvalidValue word = mistake.MissingValue
 word_fault reason.TooManyValues word = mistake.UnneededValue
 word_fault reason.ArgumentConflict word = mistake.GivenTwice
 word_fault kind word = if is_option word then mistake.UnknownOption else mistake.TooManyPaths
 
--- ---- the answer
+-- ---- the result
 
-abbrev pub is_request : List ℕ → Bool
-is_request word = bytes_eq word (codes "-h") || bytes_eq word (codes "--help")
-    || bytes_eq word (codes "--version")
+abbrev pub is_request : Bor (List ℕ) → Bool
+is_request word = bytes_eq word.now (codes "-h") || bytes_eq word.now (codes "--help")
+    || bytes_eq word.now (codes "--version")
 
 -- it isn't the `--` that ends the options
-abbrev pub is_before_end : List ℕ → Bool
-is_before_end word = not (bytes_eq word (codes "--"))
+abbrev pub is_before_end : Bor (List ℕ) → Bool
+is_before_end word = not (bytes_eq word.now (codes "--"))
 
--- the first word before `--` that asks for the help or the version
-abbrev pub request_in : List (List ℕ) → Option (List ℕ)
-request_in words = find is_request (take_while is_before_end words)
+-- the first argument before `--` that requests the help or the version
+abbrev pub request_in : List (Bor (List ℕ)) → Option (List ℕ)
+request_in words = option_map (λ (word : Bor (List ℕ)). word.now)
+    (find is_request (take_while is_before_end words))
 
 abbrev pub requested : List ℕ → Asked
 requested word = if bytes_eq word (codes "--version") then Version else Help
 
--- the answer to words in which clap finds these faults
-abbrev pub ReadAs : Kinds → List (List ℕ) → Result Asked LineFault → Type 0
-ReadAs [] words answer = Gives (asked_in (matches_of check_words words)) answer
-ReadAs (k ∷ ks) words (Ok asked) = (asked ≡ Help) × IsAmong reason.DisplayHelp (k ∷ ks)
-ReadAs (k ∷ ks) words (Err (Word fault word)) = (kind : ErrorKind) × (kind ≢ reason.DisplayHelp)
-    × IsWrong kind words word.now × (fault ≡ word_fault kind word.now)
-ReadAs (k ∷ ks) words (Err Memory) = ⊤
-ReadAs (k ∷ ks) words (Err fault) = ⊥
+-- clap's matches of the arguments request this
+abbrev pub IsAsked : List Row → Asked → Type 0
+IsAsked rows (Check line) = IsLineOf rows line
+IsAsked rows asked = ⊥
 
--- the answer to the words after the program's name
-abbrev pub Answers : List (List ℕ) → Result Asked LineFault → Type 0
-Answers words answer = MatchOption (request_in words)
-    (ReadAs (fault_of check_words words) words answer) (λ word. answer ≡ Ok (requested word))
+-- the result for arguments that clap refuses, or for which it returns its help
+abbrev pub IsRefusal : List (Bor (List ℕ)) → Result Asked LineFault → Type 0
+IsRefusal words (Ok Help) = Refuses reason.DisplayHelp words
+IsRefusal words (Err (Word fault word)) = (kind : ErrorKind) × (kind ≢ reason.DisplayHelp)
+    × IsWrong kind words word × (fault ≡ word_fault kind word.now)
+IsRefusal words (Err Memory) = ⊤
+IsRefusal words result = ⊥
+
+-- the result for arguments by clap's definitions
+abbrev pub IsRead : List (Bor (List ℕ)) → Result Asked LineFault → Type 0
+IsRead words result = (IsAccepted words
+    × Gives (complaint_in (matches_of check_words (texts words)))
+    (IsAsked (matches_of check_words (texts words))) result) ⊎ IsRefusal words result
+
+-- the result for the arguments after the program's name
+abbrev pub Answers : List (Bor (List ℕ)) → Result Asked LineFault → Type 0
+Answers words result = MatchOption (request_in words) (IsRead words result)
+    (λ word. result ≡ Ok (requested word))

@@ -1,3 +1,2 @@
 pub mod CheckWords
 pub mod Needs
-pub mod Wishes

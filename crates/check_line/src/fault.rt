@@ -1,4 +1,4 @@
-//! Why words are no command line of cbfscheck.
+//! The errors of a command line.
 
 ghost use Rattle.std.specs.Prelude.{◌≡◌};
 ghost use Rattle.check_line.specs.declared.fault.LineFault.TheVariants.{Memory};
@@ -6,13 +6,13 @@ ghost use Rattle.check_line.specs.declared.fault.LineFault.TheVariants.{Memory};
 use std::alloc::AllocError;
 use thiserror::Error;
 
-/// What is wrong with a word, or with the value of an option.
+/// The mistake of an argument, or of the value of an option.
 #[derive(Clone, Copy, Debug, PartialEq, Eq, Error)]
 pub enum WordFault {
     /// No option has this name.
     #[error("unknown option")]
     UnknownOption,
-    /// There are two paths before it.
+    /// Two paths precede it.
     #[error("too many images:")]
     TooManyPaths,
     /// No value follows the option.
@@ -21,40 +21,34 @@ pub enum WordFault {
     /// The option takes no value.
     #[error("unexpected value in")]
     UnneededValue,
-    /// The option is there twice, and is complete here for the second time.
+    /// The option is given twice; the argument completes the second one.
     #[error("an option is given twice at")]
     GivenTwice,
-    /// A name in the list of areas is empty.
+    /// A list of areas has an empty name.
     #[error("bad list of areas")]
     BadAreas,
-    /// A need that isn't `AREA:NAME` or `AREA:NAME@OFFSET`.
+    /// A need is neither `AREA:NAME` nor `AREA:NAME@OFFSET`.
     #[error("bad need")]
     BadNeed,
 }
 
-/// Why no line is read; the text is what the program prints of it.
+/// An error of the command line; its text is the error message.
 #[derive(Clone, Copy, Debug, PartialEq, Eq, Error)]
 pub enum LineFault<'a> {
-    /// A word, or a value, is wrong.
+    /// An argument, or the value of an option, is wrong.
     #[error("{fault} '{word}'")]
-    Word {
-        /// What is wrong.
-        fault: WordFault,
-        /// The word or the value.
-        word: &'a str,
-    },
-    /// There is no path.
+    Word { fault: WordFault, word: &'a str },
+    /// No path is given.
     #[error("no image")]
     NoImage,
-    /// An option compares two images, and there is one path.
+    /// An option compares two images, and one path is given.
     #[error("--keep and --keep-preserved need two images")]
     NoNewImage,
-    /// Memory was refused.
+    /// An allocation failed.
     #[error("out of memory")]
     Memory,
 }
 
-/// An allocation failed.
 impl From<AllocError> for LineFault<'_> {
     ghost from_gives = { λ _ fault. fault ≡ Memory };
 

@@ -1,4 +1,4 @@
-//! The command line of cbfscheck: IMAGE, for a comparison NEW, and the options, as clap reads them.
+//! The command line of cbfscheck: IMAGE, or OLD and NEW, and the options, parsed by clap.
 #![tactic(auto)]
 
 mod fault;
@@ -9,5 +9,4 @@ mod words;
 
 pub use fault::{LineFault, WordFault};
 pub use line::{Asked, CheckLine};
-pub use need::{Need, NeededPlace};
 pub use reading::read_check;

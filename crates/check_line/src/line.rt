@@ -1,146 +1,70 @@
-//! The command line: the images, and the options of their check.
+//! The request of a command line: the images, and the options of their check.
 
-ghost use Rattle.std.specs.Prelude.{◌≡◌, IfOk, filter_map, find, map, option_map};
+ghost use Rattle.std.specs.Prelude.{◌≡◌, ◌<◌, ◌∷◌, IfOk, IfSome, Some, filter_map, length, map};
+ghost use Rattle.std.specs.Prelude.{option_map};
 ghost use Rattle.std.specs.List.{list_any};
-ghost use Rattle.std.specs.Result.{result_map_both};
 ghost use Rattle.clap.specs.Words.{first_of, found_of, rows_of};
-ghost use Rattle.check_line.specs.CheckWords.{Gives, asked_in, is_empty, is_set_by, names_by, names_in, needs_by};
-ghost use Rattle.check_line.specs.Needs.{need_in, is_no_need};
+ghost use Rattle.check_findings.specs.Image.Needs.{wish_of};
+ghost use Rattle.check_line.specs.CheckWords.{Gives, IsAsked, bad_areas, bad_need, complaint_in};
+ghost use Rattle.check_line.specs.CheckWords.{is_empty, is_set, parts_of, texts};
+ghost use Rattle.check_line.specs.Needs.{need_in};
 
 use crate::fault::{LineFault, WordFault};
-use crate::need::{Need, need_of};
+use crate::need::need_of;
+use check_findings::Need;
 use clap::ArgMatches;
 use std::alloc::{AllocError, Global};
-use std::marker::Model;
 
-/// What a command line asks for.
+/// The request of a command line.
 #[derive(Drop)]
 pub enum Asked<'a> {
-    /// The text of the help.
     Help,
-    /// The version.
     Version,
-    /// A check.
     Check(CheckLine<'a>),
 }
 
-/// A check that a command line asks for.
+/// A check of an image, or of a new image against an old image.
 #[derive(Drop)]
 pub struct CheckLine<'a> {
-    image: &'a str,
-    new_image: Option<&'a str>,
-    areas: Vec<&'a [u8]>,
-    is_verbose: bool,
-    is_json: bool,
-    kept: Vec<&'a [u8]>,
-    keeps_preserved: bool,
-    needs_hashes: bool,
-    needs: Vec<Need<'a>>,
+    /// The path of the only image, or of the old image.
+    pub image: &'a str,
+    pub new_image: Option<&'a str>,
+    /// The areas to check as a CBFS even without an entry at their start (`-r`).
+    pub areas: Vec<&'a [u8]>,
+    /// Reports all rows, and components without a digest (`-v`).
+    pub is_verbose: bool,
+    /// Prints one JSON document (`--json`).
+    pub is_json: bool,
+    /// Lists the components of the checked areas (`--list`).
+    pub lists: bool,
+    /// The areas that the new image must not change (`--keep`).
+    pub kept: Vec<&'a [u8]>,
+    /// Adds the areas with the flag PRESERVE to `kept` (`--keep-preserved`).
+    pub keeps_preserved: bool,
+    /// Requires a digest for each component (`--all-hashed`).
+    pub needs_hashes: bool,
+    /// The required components (`--need`).
+    pub needs: Vec<Need<'a>>,
 }
 
-impl<'a> Model for CheckLine<'a> {
-    ghost use Rattle.std.specs.Prelude.{map, option_map};
-    ghost use Rattle.check_line.specs.Wishes.{Wish};
-
-    ghost Value = { Wish };
-
-    ghost view = { λ l. record {
-      image = l.image.now;
-      new_image = option_map (λ path. path.now) l.new_image;
-      areas = map (λ name. name.now) l.areas.items;
-      is_verbose = l.is_verbose;
-      is_json = l.is_json;
-      kept = map (λ name. name.now) l.kept.items;
-      keeps_preserved = l.keeps_preserved;
-      needs_hashes = l.needs_hashes;
-      needs = l.needs.items;
-    } };
-}
-
-impl<'a> CheckLine<'a> {
-    /// The path of the image that is checked, or that a new one is compared with.
-    pub fn image(&self) -> &'a str
-        ensures { result.now ≡ self.now.image }
-    {
-        self.image
-    }
-
-    /// The path of the new image, where two are given.
-    pub fn new_image(&self) -> Option<&'a str>
-        ensures { option_map (λ path. path.now) result ≡ self.now.new_image }
-    {
-        self.new_image
-    }
-
-    /// The names of the areas that are checked as a CBFS whatever they begin with (`-r`).
-    pub fn areas(&self) -> &[&'a [u8]]
-        ensures { map (λ name. name.now) result.now ≡ self.now.areas }
-    {
-        self.areas.as_slice()
-    }
-
-    /// Whether components without a digest are told, too (`-v`).
-    pub fn is_verbose(&self) -> bool
-        ensures { result ≡ self.now.is_verbose }
-    {
-        self.is_verbose
-    }
-
-    /// Whether the report is one JSON document (`--json`).
-    pub fn is_json(&self) -> bool
-        ensures { result ≡ self.now.is_json }
-    {
-        self.is_json
-    }
-
-    /// The names of the areas that a new image must not change (`--keep`).
-    pub fn kept(&self) -> &[&'a [u8]]
-        ensures { map (λ name. name.now) result.now ≡ self.now.kept }
-    {
-        self.kept.as_slice()
-    }
-
-    /// Whether a new image must not change the areas that its map marks as preserved
-    /// (`--keep-preserved`).
-    pub fn keeps_preserved(&self) -> bool
-        ensures { result ≡ self.now.keeps_preserved }
-    {
-        self.keeps_preserved
-    }
-
-    /// Whether a component without a digest is a finding (`--all-hashed`).
-    pub fn needs_hashes(&self) -> bool
-        ensures { result ≡ self.now.needs_hashes }
-    {
-        self.needs_hashes
-    }
-
-    /// The components that areas must hold (`--need`).
-    pub fn needs(&self) -> &[Need<'a>]
-        ensures { result.now ≡ self.now.needs }
-    {
-        self.needs.as_slice()
-    }
-}
-
-/// The names between the commas of a list.
+/// Returns the names between the commas of a list.
 fn names_of<'a>(alloc: Global, list: &'a str) -> Result<Vec<&'a [u8]>, AllocError>
-    ensures { IfOk result (λ names. map (λ name. name.now) names.items ≡ names_in list.entry.now) }
+    ensures { IfOk result (λ names. texts names.items ≡ parts_of (Some list.entry.now)) }
 {
     list.as_bytes().split(|byte| *byte == b',').collect(alloc)
 }
 
-/// Whether one of the names is empty.
+/// Returns whether a name is empty.
 fn has_empty(names: &[&[u8]]) -> bool
-    ensures { result ≡ list_any is_empty (map (λ name. name.now) names.now) }
+    ensures { result ≡ list_any is_empty (texts names.now) }
 {
     names.iter().any(|name| name.is_empty())
 }
 
-/// The names that an option gives. Refused where one of them is empty.
+/// Returns the names in the list of an option, none of which may be empty.
 fn names_given<'a>(alloc: Global, list: Option<&'a str>) -> Result<Vec<&'a [u8]>, LineFault<'a>>
-    ensures { Gives (names_by (option_map (λ t. t.now) list.entry))
-        (result_map_both (λ names. map (λ name. name.now) names.items) (λ fault. fault) result) }
+    ensures { Gives (bad_areas (option_map (λ t. t.now) list.entry))
+        (λ names. texts names.items ≡ parts_of (option_map (λ t. t.now) list.entry)) result }
 {
     let Some(list) = list else {
         return Ok(Vec::new(alloc));
@@ -155,49 +79,52 @@ fn names_given<'a>(alloc: Global, list: Option<&'a str>) -> Result<Vec<&'a [u8]>
     Ok(names)
 }
 
-/// The first part of a list that is no need.
-fn bad_need<'a>(list: &'a str) -> Option<&'a str>
-    ensures { option_map (λ t. t.now) result ≡ find is_no_need (names_in list.entry.now) }
+/// Splits a list at its first comma, if any.
+fn first_part<'a>(list: &'a str) -> (&'a str, Option<&'a str>)
+    ensures parts { parts_of (Some list.entry.now)
+        ≡ result.0.now ∷ parts_of (option_map (λ t. t.now) result.1) }
+    ensures shorter { IfSome result.1 (λ rest. length rest.now < length list.entry.now) }
 {
-    list.split(',').find(|part| need_of(part).is_none())
-}
-
-/// The needs between the commas of a list, without the parts that are none.
-fn needs_of<'a>(alloc: Global, list: &'a str) -> Result<Vec<Need<'a>>, AllocError>
-    ensures { IfOk result (λ needs. needs.items ≡ filter_map need_in (names_in list.entry.now)) }
-{
-    list.split(',')
-        .filter_map(|part| need_of(part))
-        .collect(alloc)
-}
-
-/// The needs that an option gives. Refused where a part of its list is none.
-fn needs_given<'a>(alloc: Global, list: Option<&'a str>) -> Result<Vec<Need<'a>>, LineFault<'a>>
-    ensures { Gives (needs_by (option_map (λ t. t.now) list.entry))
-        (result_map_both (λ needs. needs.items) (λ fault. fault) result) }
-{
-    let Some(list) = list else {
-        return Ok(Vec::new(alloc));
-    };
-    match bad_need(list) {
-        Some(word) => Err(LineFault::Word {
-            fault: WordFault::BadNeed,
-            word,
-        }),
-        None => Ok(needs_of(alloc, list)?),
+    match list.split_once(',') {
+        Some((part, rest)) => (part, Some(rest)),
+        None => (list, None),
     }
 }
 
-/// The text that the words give for an id.
+/// Returns the needs in the list of an option. Refuses the first bad part.
+fn needs_given<'a>(alloc: Global, list: Option<&'a str>) -> Result<Vec<Need<'a>>, LineFault<'a>>
+    ensures { Gives (bad_need (option_map (λ t. t.now) list.entry))
+        (λ needs. map wish_of needs.items
+        ≡ filter_map need_in (parts_of (option_map (λ t. t.now) list.entry))) result }
+{
+    let mut needs = Vec::new(alloc);
+    let mut rest = list;
+    while let Some(parts) = rest {
+        let (word, others) = first_part(parts);
+        let Some(need) = need_of(word) else {
+            return Err(LineFault::Word {
+                fault: WordFault::BadNeed,
+                word,
+            });
+        };
+        if needs.push(need).is_err() {
+            return Err(LineFault::Memory);
+        }
+        rest = others;
+    }
+    Ok(needs)
+}
+
+/// Returns the value of an option or a path.
 fn text<'a>(matches: &ArgMatches<'a>, id: &str) -> Option<&'a str>
     ensures { option_map (λ t. t.now) result ≡ first_of id.now (rows_of (found_of matches.now)) }
 {
     matches.get_str(id)
 }
 
-/// Whether an option without a text is there.
+/// Returns whether an option without a value is present.
 fn is_set(matches: &ArgMatches<'_>, id: &str) -> bool
-    ensures { result ≡ is_set_by (first_of id.now (rows_of (found_of matches.now))) }
+    ensures { result ≡ is_set (first_of id.now (rows_of (found_of matches.now))) }
 {
     match text(matches, id) {
         Some(text) => text == "true",
@@ -205,10 +132,11 @@ fn is_set(matches: &ArgMatches<'_>, id: &str) -> bool
     }
 }
 
-/// The line of these matches. Refused without an image, where an option compares two images and
-/// there is one, and where a list is bad.
+/// Returns the request of clap's matches. Refuses a missing image, a missing new image if an option
+/// compares two, and a bad list.
 pub fn line_of<'a>(alloc: Global, matches: &ArgMatches<'a>) -> Result<Asked<'a>, LineFault<'a>>
-    ensures { Gives (asked_in (rows_of (found_of matches.now))) result }
+    ensures { Gives (complaint_in (rows_of (found_of matches.now)))
+        (IsAsked (rows_of (found_of matches.now))) result }
 {
     let (new_image, keep) = (text(matches, "new"), text(matches, "keep"));
     let keeps_preserved = is_set(matches, "keep-preserved");
@@ -224,6 +152,7 @@ pub fn line_of<'a>(alloc: Global, matches: &ArgMatches<'a>) -> Result<Asked<'a>,
         areas: names_given(alloc, text(matches, "areas"))?,
         is_verbose: is_set(matches, "verbose"),
         is_json: is_set(matches, "json"),
+        lists: is_set(matches, "list"),
         kept: names_given(alloc, keep)?,
         keeps_preserved,
         needs_hashes: is_set(matches, "all-hashed"),

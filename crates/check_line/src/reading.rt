@@ -1,8 +1,9 @@
-//! What the words after the program's name ask for, and which of them is wrong.
+//! Reads the arguments after the program's name, and finds the wrong one.
 
-ghost use Rattle.std.specs.Prelude.{◌≡◌, IfOk, MatchBool, Some, map, option_map};
-ghost use Rattle.clap.specs.Words.{fault_of};
-ghost use Rattle.check_line.specs.CheckWords.{Answers, IsKindOf, IsWrong, ReadAs, Refuses, check_words, Spares, is_before_end, is_option, is_request, request_in, requested, word_fault};
+ghost use Rattle.std.specs.Prelude.{◌≡◌, IfOk, MatchBool, Some, option_map};
+ghost use Rattle.check_line.specs.CheckWords.{Answers, IsKindOf, IsRead, IsRefusal, IsWrong};
+ghost use Rattle.check_line.specs.CheckWords.{Refuses, Spares, request_in};
+ghost use Rattle.check_line.specs.CheckWords.{requested, word_fault};
 
 use crate::fault::{LineFault, WordFault};
 use crate::line::{Asked, line_of};
@@ -10,32 +11,18 @@ use crate::words::whole_command;
 use clap::error::ErrorKind;
 use std::alloc::{AllocError, Global};
 
-/// Whether a word asks for the help or the version.
-fn is_request(word: &str) -> bool
-    ensures { result ≡ is_request word.now }
-{
-    matches!(word, "-h" | "--help" | "--version")
-}
-
-/// Whether a word isn't the `--` that ends the options.
-fn is_before_end(word: &str) -> bool
-    ensures { result ≡ is_before_end word.now }
-{
-    word != "--"
-}
-
-/// The first word before `--` that asks for the help or the version.
+/// Returns the first argument before `--` that requests the help or the version.
 fn request_in<'a>(words: &'a [&'a str]) -> Option<&'a str>
-    ensures { option_map (λ w. w.now) result ≡ request_in (map (λ w. w.now) words.entry.now) }
+    ensures { option_map (λ w. w.now) result ≡ request_in words.entry.now }
 {
     words
         .iter()
         .copied()
-        .take_while(|word| is_before_end(word))
-        .find(|word| is_request(word))
+        .take_while(|word| *word != "--")
+        .find(|word| matches!(*word, "-h" | "--help" | "--version"))
 }
 
-/// What such a word asks for.
+/// Returns the request of such an argument.
 fn requested<'a>(word: &str) -> Asked<'a>
     ensures { result ≡ requested word.now }
 {
@@ -46,9 +33,9 @@ fn requested<'a>(word: &str) -> Asked<'a>
     }
 }
 
-/// The kind of the error with which clap refuses words.
+/// Returns the kind of clap's error for the arguments, or `None` if clap accepts them.
 fn refused_kind<'a>(alloc: Global, words: &'a [&'a str]) -> Result<Option<ErrorKind>, AllocError>
-    ensures { IfOk result (λ kind. IsKindOf kind (map (λ w. w.now) words.entry.now)) }
+    ensures { IfOk result (λ kind. IsKindOf kind words.entry.now) }
 {
     match whole_command(alloc)?.try_get_matches_from(words) {
         Ok(_matches) => Ok(None),
@@ -56,9 +43,10 @@ fn refused_kind<'a>(alloc: Global, words: &'a [&'a str]) -> Result<Option<ErrorK
     }
 }
 
-/// Whether clap refuses words for this reason.
+/// Returns whether clap refuses the arguments with an error of this kind.
 fn refuses<'a>(alloc: Global, words: &'a [&'a str], kind: ErrorKind) -> Result<bool, AllocError>
-    ensures { IfOk result (λ answer. MatchBool answer (Refuses kind (map (λ w. w.now) words.entry.now)) (Spares kind (map (λ w. w.now) words.entry.now))) }
+    ensures { IfOk result (λ answer. MatchBool answer (Refuses kind words.entry.now)
+        (Spares kind words.entry.now)) }
 {
     match refused_kind(alloc, words)? {
         None => Ok(false),
@@ -67,14 +55,14 @@ fn refuses<'a>(alloc: Global, words: &'a [&'a str], kind: ErrorKind) -> Result<b
     }
 }
 
-/// The word from which on clap refuses the words for this reason.
+/// Returns the first argument from which on clap refuses the arguments with an error of this kind.
 fn wrong_word<'a>(
     alloc: Global,
     words: &'a [&'a str],
     kind: ErrorKind,
 ) -> Result<&'a str, AllocError>
-    requires { Refuses kind (map (λ w. w.now) words.now) }
-    ensures { IfOk result (λ word. IsWrong kind (map (λ w. w.now) words.entry.now) word.now) }
+    requires { Refuses kind words.now }
+    ensures { IfOk result (λ word. IsWrong kind words.entry.now word) }
 {
     let mut n = words.len() - 1;
     while n > 0 && refuses(alloc, &words[..n], kind)? {
@@ -83,14 +71,7 @@ fn wrong_word<'a>(
     Ok(words[n])
 }
 
-/// Whether a word is `-` and more.
-fn is_option(word: &str) -> bool
-    ensures { result ≡ is_option word.now }
-{
-    matches!(word.as_bytes(), [b'-', _, ..])
-}
-
-/// What is wrong with such a word.
+/// Returns the mistake of the wrong argument.
 fn word_fault(kind: ErrorKind, word: &str) -> WordFault
     ensures { result ≡ word_fault kind word.now }
 {
@@ -98,19 +79,19 @@ fn word_fault(kind: ErrorKind, word: &str) -> WordFault
         ErrorKind::InvalidValue => WordFault::MissingValue,
         ErrorKind::TooManyValues => WordFault::UnneededValue,
         ErrorKind::ArgumentConflict => WordFault::GivenTwice,
-        _ if is_option(word) => WordFault::UnknownOption,
+        _ if matches!(word.as_bytes(), [b'-', _, ..]) => WordFault::UnknownOption,
         _ => WordFault::TooManyPaths,
     }
 }
 
-/// The answer to words that clap refuses, or to a wish for its help.
+/// Returns the result for an error of clap, which its help is too.
 fn refusal_of<'a>(
     alloc: Global,
     words: &'a [&'a str],
     kind: ErrorKind,
 ) -> Result<Asked<'a>, LineFault<'a>>
-    requires { IsKindOf (Some kind) (map (λ w. w.now) words.now) }
-    ensures { ReadAs (fault_of check_words (map (λ w. w.now) words.entry.now)) (map (λ w. w.now) words.entry.now) result }
+    requires { IsKindOf (Some kind) words.now }
+    ensures { IsRefusal words.entry.now result }
 {
     match kind {
         ErrorKind::OutOfMemory => Err(LineFault::Memory),
@@ -123,9 +104,9 @@ fn refusal_of<'a>(
     }
 }
 
-/// Reads words by clap's definitions.
+/// Parses the arguments by clap.
 fn read_options<'a>(alloc: Global, words: &'a [&'a str]) -> Result<Asked<'a>, LineFault<'a>>
-    ensures { ReadAs (fault_of check_words (map (λ w. w.now) words.entry.now)) (map (λ w. w.now) words.entry.now) result }
+    ensures { IsRead words.entry.now result }
 {
     match whole_command(alloc)?.try_get_matches_from(words) {
         Ok(matches) => line_of(alloc, &matches),
@@ -133,10 +114,10 @@ fn read_options<'a>(alloc: Global, words: &'a [&'a str]) -> Result<Asked<'a>, Li
     }
 }
 
-/// Reads the words after the program's name: IMAGE and maybe NEW, and the options, in any order.
-/// The first `-h`, `--help` or `--version` before `--` decides, whatever the other words are.
+/// Reads the arguments after the program's name: IMAGE, or OLD and NEW, and the options, in any
+/// order. The first `-h`, `--help` or `--version` before `--` decides, whatever else is given.
 pub fn read_check<'a>(alloc: Global, words: &'a [&'a str]) -> Result<Asked<'a>, LineFault<'a>>
-    ensures { Answers (map (λ w. w.now) words.entry.now) result }
+    ensures { Answers words.entry.now result }
 {
     match request_in(words) {
         Some(word) => Ok(requested(word)),

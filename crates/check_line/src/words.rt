@@ -1,4 +1,4 @@
-//! The words that clap reads: IMAGE and NEW, and the options, which may stand anywhere among them.
+//! The clap command for the arguments after the program's name: the paths and the options.
 
 ghost use Rattle.std.specs.Prelude.{◌≡◌, IfOk, false};
 ghost use Rattle.clap.specs.Words.{app_of, rule_of};
@@ -31,7 +31,7 @@ fn flag<'a>(option: Arg<'a>) -> Arg<'a>
     option.action(ArgAction::SetTrue)
 }
 
-/// Returns the words after the program's name.
+/// Returns the command.
 pub fn whole_command<'a>(alloc: Global) -> Result<Command<'a>, AllocError>
     ensures { IfOk result (λ c. app_of c ≡ check_words) }
 {
@@ -42,6 +42,7 @@ pub fn whole_command<'a>(alloc: Global) -> Result<Command<'a>, AllocError>
         .arg(short(alloc, 'r', "areas"))?
         .arg(flag(short(alloc, 'v', "verbose")))?
         .arg(flag(long(alloc, "json")))?
+        .arg(flag(long(alloc, "list")))?
         .arg(long(alloc, "keep"))?
         .arg(flag(long(alloc, "keep-preserved")))?
         .arg(flag(long(alloc, "all-hashed")))?

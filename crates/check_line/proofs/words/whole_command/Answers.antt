@@ -20,7 +20,8 @@ returns c =
     let areas = c.in_ok-arg-3.ensures.shape c.short.ensures.local ∙ ap₂ with_rule new c.short.ensures.rule in
     let verbose = c.in_ok-arg-4.ensures.shape (c.flag.ensures.local ∙ c.short-2.ensures.local) ∙ ap₂ with_rule areas (c.flag.ensures.rule ∙ ap flag c.short-2.ensures.rule) in
     let json = c.in_ok-arg-5.ensures.shape (c.flag-2.ensures.local ∙ c.long.ensures.local) ∙ ap₂ with_rule verbose (c.flag-2.ensures.rule ∙ ap flag c.long.ensures.rule) in
-    let keep = c.in_ok-arg-6.ensures.shape c.long-2.ensures.local ∙ ap₂ with_rule json c.long-2.ensures.rule in
-    let preserved = c.in_ok-arg-7.ensures.shape (c.flag-3.ensures.local ∙ c.long-3.ensures.local) ∙ ap₂ with_rule keep (c.flag-3.ensures.rule ∙ ap flag c.long-3.ensures.rule) in
-    let hashed = c.in_ok-arg-8.ensures.shape (c.flag-4.ensures.local ∙ c.long-4.ensures.local) ∙ ap₂ with_rule preserved (c.flag-4.ensures.rule ∙ ap flag c.long-4.ensures.rule) in
-    IfOk-weaker c.arg-9.result _ _ (λ m h. h.shape c.long-5.ensures.local ∙ ap₂ with_rule hashed c.long-5.ensures.rule) c.arg-9.ensures
+    let list = c.in_ok-arg-6.ensures.shape (c.flag-3.ensures.local ∙ c.long-2.ensures.local) ∙ ap₂ with_rule json (c.flag-3.ensures.rule ∙ ap flag c.long-2.ensures.rule) in
+    let keep = c.in_ok-arg-7.ensures.shape c.long-3.ensures.local ∙ ap₂ with_rule list c.long-3.ensures.rule in
+    let preserved = c.in_ok-arg-8.ensures.shape (c.flag-4.ensures.local ∙ c.long-4.ensures.local) ∙ ap₂ with_rule keep (c.flag-4.ensures.rule ∙ ap flag c.long-4.ensures.rule) in
+    let hashed = c.in_ok-arg-9.ensures.shape (c.flag-5.ensures.local ∙ c.long-5.ensures.local) ∙ ap₂ with_rule preserved (c.flag-5.ensures.rule ∙ ap flag c.long-5.ensures.rule) in
+    IfOk-weaker c.arg-10.result _ _ (λ m h. h.shape c.long-6.ensures.local ∙ ap₂ with_rule hashed c.long-6.ensures.rule) c.arg-10.ensures
