@@ -680,22 +680,49 @@ mistakes() {
     [ "$count" -gt 50 ] || fail "claims: only $count names in MISTAKES.md"
 }
 
-# walks: what docs/DEVELOPING.md tells of how the program is read names files and functions that are there; its examples of a
-# proof, a test and an edit stand so in the crates, line by line
+# walk HEADING MOST: each step of this walk of docs/DEVELOPING.md is a source file that has the names of the step, and the
+# definition files of the step are cited by that file, and by no file of an earlier step; there are at most so many steps
+walk() {
+    local line source word count=0 names=0
+    : > cited
+    while IFS= read -r line; do
+        count=$((count + 1))
+        source=$(sed -n 's/^[0-9]*\. `\([^`]*\)`: .*/\1/p' <<< "$line")
+        [ -n "$source" ] && [ -f "$top/crates/$source" ] || fail "claims: DEVELOPING.md names ${source:-no file}, which isn't there"
+        while read -r word; do
+            names=$((names + 1))
+            grep -qw -e "$word" "$top/crates/$source" || fail "claims: DEVELOPING.md names $word, which $source doesn't have"
+        done < <(sed 's/^[^:]*://; s/Definitions: .*//' <<< "$line" | grep -oE '`[^`]*`' | tr -d '`')
+        while read -r word; do
+            names=$((names + 1))
+            [ -f "$top/crates/${word%%/*}/specs/${word#*/}" ] || fail "claims: DEVELOPING.md names $word, which isn't there"
+            grep -oE 'Rattle\.[A-Za-z_.]*[A-Za-z_]' "$top/crates/$source" | grep -qxE "Rattle\.${word%%/*}\.specs\.$(sed 's,^[^/]*/,,; s,\.antt$,,; s,/,\\.,g' <<< "$word")" ||
+                fail "claims: DEVELOPING.md names $word, which $source doesn't cite"
+            ! grep -qxF -e "$word" cited || fail "claims: DEVELOPING.md names $word in two steps"
+            echo "$word" >> cited
+        done < <(sed -n 's/.*Definitions: //p' <<< "$line" | grep -oE '`[^`]*`' | tr -d '`')
+    done < <(awk -v heading="### $1" '/^##/ { inside = $0 == heading } inside && /^[0-9]/' "$file")
+    [ "$count" -gt 10 ] && [ "$count" -le "$2" ] || fail "claims: $count steps of \"$1\" in DEVELOPING.md"
+    [ "$names" -gt 30 ] || fail "claims: only $names names in \"$1\" of DEVELOPING.md"
+}
+
+# walks: the walks of docs/DEVELOPING.md lead through files that are there; so are the files that a change affects; its examples
+# of a proof, a test and an edit stand so in the crates, line by line
 walks() {
     local file=$pages/DEVELOPING.md word line count=0
     [ -e "$file" ] || file=$top/docs/DEVELOPING.md
-    sed -n '/^## Reading it/,/^## How layers compose/p' "$file" | grep '^[0-9]' | grep -oE '`[A-Za-z_][A-Za-z_0-9:/.]*`' | tr -d '`' | sort -u > words
+    walk "An added file with a digest" 25
+    walk "A check of two images" 30
+    walk "A descriptor" 16
     while read -r word; do
         count=$((count + 1))
         case $word in
-            *.rt) [ -n "$(find "$top/crates" -path "*/$word")" ] || fail "claims: DEVELOPING.md names $word, which isn't there" ;;
-            *.antt) [ -n "$(find "$top/crates" -path "*/specs/$word")" ] || fail "claims: DEVELOPING.md names $word, which isn't there" ;;
-            *) grep -rqw --include='*.rt' --exclude-dir=out -e "${word##*::}" "$top/crates" || [ -d "$top/crates/$word" ] ||
-                fail "claims: DEVELOPING.md names $word, which isn't there" ;;
-        esac
-    done < words
-    [ "$count" -gt 40 ] || fail "claims: only $count names in the walks of DEVELOPING.md"
+            checks/* | docs/* | man/* | bench/*) [ -e "$top/$word" ] ;;
+            *) [ -n "$(find "$top/crates" -path "*/$word" -not -path '*/out/*')" ] ;;
+        esac || fail "claims: DEVELOPING.md names $word, which isn't there"
+    done < <(sed -n '/^## What a change affects/,/^## How a proof/p' "$file" |
+        grep -oE '`(([A-Za-z_0-9/]+\.(rt|antt|edit|1|5|json))|(checks|docs|man|bench)/[A-Za-z_0-9.]+)`' | tr -d '`' | sort -u)
+    [ "$count" -gt 50 ] || fail "claims: only $count files that a change affects in DEVELOPING.md"
     sed -n '/^## How a proof/,/^## The gate/p' "$file" | awk '/^```/ { block = !block; next } block && NF' > lines
     [ "$(wc -l < lines)" -gt 10 ] || fail "claims: only $(wc -l < lines) lines of examples in DEVELOPING.md"
     while IFS= read -r line; do
@@ -757,7 +784,7 @@ ROWS
 readme() {
     local file=$pages/README.md picture boxes
     [ -e "$file" ] || file=$top/README.md
-    [ "$(head -n 12 "$file" | grep -cE '^\| `make (cbfstool|test)` \|')" = 2 ] || fail "claims: the README doesn't begin with make cbfstool and make test"
+    [ "$(head -n 14 "$file" | grep -cE '^\| `make (cbfstool|test)` \|')" = 2 ] || fail "claims: the README doesn't begin with make cbfstool and make test"
     [ "$(sed -n '/^## What is promised/,/^## Building/p' "$file" | grep -cE '^[0-9]+\. ')" = 3 ] || fail "claims: the README hasn't three promises"
     [ "$(grep -nE '^!\[|^## Getting it' "$file" | sed 's/.*](\(.*\)).*/\1/; s/.*## //' | head -n 1)" = "Getting it" ] || fail "claims: the README has a picture first"
     picture=$(sed -n 's/^!\[.*](\(.*\))$/\1/p' "$file")

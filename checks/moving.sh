@@ -1,4 +1,4 @@
-# What checks/moving runs its rows with: the files, what is compared, and what is made at random.
+# What checks/moving runs its examples with: the files, what is compared, what is made at random, and planted mistakes.
 # shellcheck shell=bash
 
 # board NUMBER: writes the descriptor of one of two boards, whose regions have the same names, other places and other sizes
@@ -203,33 +203,35 @@ our_areas() {
     done
 }
 
-# same_cells IMAGE IMAGE: each program lists the same cells of both, and extracts the same contents
+# same_cells IMAGE IMAGE: in each CBFS region each program lists the same cells of both, and extracts the same contents
 same_cells() {
-    local shown count=0 tool image words
+    local shown count=0 tool image words region
     without_lengths "$1" > "$work/one.rom"
     without_lengths "$2" > "$work/other.rom"
-    cbfstool "$work/one.rom" print > "$work/rows" || wrong "ours doesn't list the image of coreboot's"
-    for image in one other; do
-        cbfstool "$work/$image.rom" print | diff "$work/rows" - >&2 || wrong "the cells differ"
-        "$theirs" "$work/$image.rom" print | their_rows | diff "$work/rows" - >&2 ||
-            wrong "coreboot's lists otherwise"
-    done
-    while IFS=$'\t' read -r shown _; do
-        [ "$shown" != "(empty)" ] || continue
-        count=$((count + 1))
-        cbfstool "$1" extract -n "$(printf %b "$shown")" -f "$work/wanted" || wrong "ours doesn't extract $shown"
-        for image in "$1" "$2"; do
-            for tool in cbfstool "$theirs"; do
-                rm -f "$work/content"
-                words=(extract -n "$(printf %b "$shown")" -f "$work/content")
-                # (coreboot's would make an ELF of a payload)
-                [ "$tool" = cbfstool ] || words+=(-U)
-                "$tool" "$image" "${words[@]}" > /dev/null 2>&1 || :
-                cmp "$work/wanted" "$work/content" >&2 || wrong "$tool extracts another $shown"
-            done
+    for region in COREBOOT FW_MAIN_A FW_MAIN_B FULL_2 SMM_3; do
+        cbfstool "$work/one.rom" print -r $region > "$work/rows" || wrong "ours doesn't list the image of coreboot's"
+        for image in one other; do
+            cbfstool "$work/$image.rom" print -r $region | diff "$work/rows" - >&2 || wrong "the cells differ"
+            "$theirs" "$work/$image.rom" print -r $region | their_rows | diff "$work/rows" - >&2 ||
+                wrong "coreboot's lists otherwise"
         done
-    done < "$work/rows"
-    [ "$count" -gt 4 ] || wrong "only $count components"
+        while IFS=$'\t' read -r shown _; do
+            [ "$shown" != "(empty)" ] || continue
+            count=$((count + 1))
+            cbfstool "$1" extract -r $region -n "$(printf %b "$shown")" -f "$work/wanted" || wrong "ours doesn't extract $shown"
+            for image in "$1" "$2"; do
+                for tool in cbfstool "$theirs"; do
+                    rm -f "$work/content"
+                    words=(extract -r $region -n "$(printf %b "$shown")" -f "$work/content")
+                    # (coreboot's would make an ELF of a payload)
+                    [ "$tool" = cbfstool ] || words+=(-U)
+                    "$tool" "$image" "${words[@]}" > /dev/null 2>&1 || :
+                    cmp "$work/wanted" "$work/content" >&2 || wrong "$tool extracts another $shown"
+                done
+            done
+        done < "$work/rows"
+    done
+    [ "$count" -gt 6 ] || wrong "only $count components"
 }
 
 # pick COUNT: a number below COUNT, as `picked`; the row of numbers depends on the seed alone
@@ -385,4 +387,59 @@ random_additions() {
 stated() {
     echo "seed $seed: $1"
     [ "$seed" != 1 ] || grep -qF -e "$1" "$top/docs/MOVING.md" || { number="the end" && wrong "doesn't say: $1"; }
+}
+
+# plant FILE PART CHANGE TEXT: with the change, which sed makes in this part of the document, or in moving.rows, an example
+# of the document is refused by a message with the text
+plant() {
+    local document=$top/docs/MOVING.md entries=$top/checks/moving.rows part=$2
+    sed -n "$part" "$document" > "$work/part"
+    case $1 in
+        document)
+            sed "$3" "$work/part" > "$work/planted"
+            ! cmp -s "$work/part" "$work/planted" || fail "moving: nothing is planted by $3"
+            document=$work/planted
+            ;;
+        rows)
+            sed "$3" "$entries" > "$work/planted"
+            ! cmp -s "$entries" "$work/planted" || fail "moving: nothing is planted by $3"
+            document=$work/part entries=$work/planted
+            ;;
+    esac
+    (try_document) > "$work/found" 2>&1 || fail "moving: $3: $(cat "$work/found")"
+    grep -F -e "$4" "$work/found" > /dev/null || fail "moving: no message with \"$4\" after $3: $(cat "$work/found")"
+    plants=$((plants + 1))
+}
+
+# planted_mistakes: each mistake in the document or in moving.rows is found, on the first board
+planted_mistakes() {
+    local plants=0 boards=1 several='/^### Several/,/^Compared/p' unchanged='/^## Unchanged/,/^## Creating/p'
+    local absent='/^## Not supported/,/^## Different/p' different='/^## Different/,/^## Descriptors/p'
+    plant document "$several" 's/-t raw -r \$region/-t spd -r $region/' "the images differ"
+    plant document "$several" 's/^Compared: image/Compared: pictures/' "pictures isn't a comparison"
+    plant document "$several" '/^Compared/d' "a use that isn't compared"
+    plant document "$several" '/^Here:/d' "a use without two blocks"
+    plant document "$several" 's/add -f logo.bmp -n/add -f absent -n/' "coreboot's ends with status 1"
+    plant document '/^### All areas/,/^Compared/p' 's/^Compared: .*/Compared: image/' "coreboot's leaves the image as it was"
+    plant document '/^### All areas/,/^Compared/p' 's/layout$/layout | grep -v GBB/' "they list other areas"
+    plant document '/^### The list/,/^Compared/p' 's/^Compared: .*/Compared: file `chip.fmd`/' "doesn't make chip.fmd"
+    plant document '/^### The list/,/^Compared/p' 's/paste -sd ,/paste -sd :/' "the files differ"
+    plant document '/^### Content at/,/^Compared/p' 's/add-at-end coreboot.rom FW_MAIN_B/add-at-end coreboot.rom FW_MAIN_A/' "the cells differ"
+    plant document '/^### Microcode/,/^Compared/p' '/^cbfstool coreboot.rom print/d' "coreboot's prints nothing"
+    plant document '/^### Components/,/^Compared/p' 's/FW_MAIN_A FW_MAIN_B/FW_MAIN_B FW_MAIN_A/' "they list otherwise"
+    plant document '/^### Filters/,/^Compared/p' 's/-cx mrc/-c mrc/; s/-f 1 | grep pci/-f 1,2 | grep pci/' "they print otherwise"
+    plant document "$unchanged" 's/^Compared: cells/Compared: bytes/' "the images differ"
+    plant document "$unchanged" 's/^Compared: image/Compared: files/' "coreboot's makes no file"
+    plant document "$unchanged" 's/^Compared: files/Compared: printed/' "coreboot's prints nothing"
+    plant document "$unchanged" 's/^- `read -r GBB.*/| & |/' "a table that isn't run"
+    plant document "$absent" 's/^- `compact`/- `compactor`/' "no commands of: absent \`compactor\`"
+    plant document "$absent" '/^- `compact`/d' "no line of: absent \`compact\`"
+    plant rows "$absent" 's/layout -w$/layout/' "ours ends with status 0"
+    plant rows "$absent" '$a absent `compact`' "has twice: absent \`compact\`"
+    plant document "$different" 's/ 139 → / 138 → /' "theirs ends with status 139"
+    plant document "$different" 's/^\(- an empty file: .*\)FMAP/\1map/' "ours doesn't print"
+    plant document "$different" 's/`Found file config`/silent/' "theirs is not silent"
+    plant document "$different" '/^- an empty file/s/ → /, /' "a line without two results"
+    plant document '/^## Descriptors/,/^## How/p' 's/^\(- empty braces: 4 → \)0/\11/' "ours ends with status 0"
+    echo "moving: $plants planted mistakes are found"
 }

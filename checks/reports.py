@@ -23,7 +23,7 @@ KINDS = {
     "area-empty": ("remark", "has no bytes"),
     "area-same-name": ("bad", "has the name of an earlier area"),
     "area-overlaps": ("bad", "overlaps"),
-    "too-many-areas": ("remark", "too many areas to look for overlaps"),
+    "too-many-areas": ("bad", "too many areas to look for overlaps"),
     "area-name": ("remark", "name isn't UTF-8"),
     "no-map-area": ("bad", "no area FMAP"),
     "map-area": ("bad", "doesn't hold the flashmap"),
@@ -47,7 +47,8 @@ KINDS = {
     "no-components": ("remark", "no components"),
     "components": ("remark", "components"),
     "free-bytes": ("remark", "free bytes"),
-    "largest-free": ("remark", "largest free run"),
+    "largest-content": ("remark", "largest content that add takes"),
+    "no-room": ("remark", "no room for a component"),
     "need-missing": ("bad", "needed component isn't there"),
     "need-elsewhere": ("bad", "needed component is elsewhere"),
     "image-size": ("change", "image size changed from"),
@@ -84,6 +85,10 @@ Need = collections.namedtuple("Need", "area component place")
 Wishes = collections.namedtuple("Wishes", "areas kept needs is_verbose needs_hashes keeps_preserved",
                                 defaults=((), (), (), False, False, False))
 Component = collections.namedtuple("Component", "at name type content attributes")
+# a component as --list shows it
+Listed = collections.namedtuple("Listed", "area component position type length compression hash")
+# an entry's header and the shortest name field; the bytes at the end of a region that no entry uses
+METADATA, KEPT = 28, 4
 
 
 class Shown:
@@ -127,6 +132,18 @@ def found(row):
     """The finding of a row of a JSON document."""
     area, component, other = (name_of(row.get(key)) for key in ("area", "component", "other"))
     return Finding(row["verdict"], row["code"], area, component, row.get("position"), row["what"], row.get("value"), other)
+
+
+def listed_in(member):
+    """The component of a JSON document's list."""
+    area, component = name_of(member["area"]), name_of(member["component"])
+    return Listed(area, component, *(member[key] for key in Listed._fields[2:]))
+
+
+def listed_line(row):
+    """A component of the list as a line of text."""
+    fields = [shown(row.area), shown(row.component), f"0x{row.position:x}", row.type, str(row.length)]
+    return "\t".join(["component", *fields, row.compression, row.hash])
 
 
 def line(row):
@@ -291,20 +308,32 @@ def of_region(area, view, wishes):
     """The rows of a region, by its listing."""
     if view.text in SHAPES:
         return [finding(SHAPES[view.text], area.name)]
-    rows, names, free, longest, run = [], set(), 0, 0, 0
+    rows, names = [], set()
     for row in view.rows:
         if row.free:
-            free, run = free + len(row.cell), run + len(row.cell)
-            longest = max(longest, run)
             rows += [finding("component-deleted", area.name, position=row.at)] * (row.type == 0)
         else:
-            run = 0
             rows += of_component(area, row, names, wishes)
             names.add(row.name)
     rows += of_end(area, view, sum(len(row.cell) for row in view.rows))
     count = sum(not row.free for row in view.rows)
     rows.append(finding("components", area.name, value=count) if count else finding("no-components", area.name))
-    return rows + [finding("free-bytes", area.name, value=free), finding("largest-free", area.name, value=longest)]
+    free = sum(len(row.cell) for row in view.rows if row.free)
+    return [*rows, finding("free-bytes", area.name, value=free), of_room(area, view)]
+
+
+def of_room(area, view):
+    """The row of the longest content that has room in one of the runs of free cells."""
+    runs, end = [], None
+    for row in view.rows:
+        if row.free:
+            runs = [*runs[:-1], (runs[-1][0], row.at + len(row.cell))] if end == row.at else [*runs, (row.at, row.at + len(row.cell))]
+            end = row.at + len(row.cell)
+    rooms = [end - start - METADATA - KEPT * (end == area.size) for start, end in runs]
+    largest = max([room for room in rooms if room >= 0], default=None)
+    if largest is None:
+        return finding("no-room", area.name)
+    return finding("largest-content", area.name, value=largest)
 
 
 def of_missing(areas, names):
@@ -345,7 +374,36 @@ def of_maps(old, new):
     return rows + [finding("map-name")] * (old.map_name() != new.map_name())
 
 
-def of_area(before, area, left, old, new):
+def is_inside(pair, old, new):
+    """Whether the two areas of a pair lie in their images."""
+    return ends(pair[0]) <= len(old.data) and ends(pair[1]) <= len(new.data)
+
+
+def is_held(block, pair, pairs, old, new):
+    """Whether a smaller area of one size and the same shift holds a block of the new image, from its
+    first byte to its end."""
+    before, area = pair
+    return any(is_inside(other, old, new) and was.size == is_now.size < area.size
+               and was.offset - is_now.offset == before.offset - area.offset
+               and is_now.offset <= block[0] and block[1] <= ends(is_now)
+               for other in pairs for was, is_now in [other])
+
+
+def own_blocks(pair, pairs, kept, old, new):
+    """In how many erase blocks of an area the bytes differ that no smaller area holds; in how many at all
+    if the area has to stay."""
+    before, area = pair
+    pairs = [] if area.name in kept else pairs
+    count = 0
+    for at in range(0, area.size, BLOCK):
+        end = min(at + BLOCK, area.size)
+        was = old.data[before.offset + at:before.offset + end]
+        differs = was != new.data[area.offset + at:area.offset + end]
+        count += differs and not is_held((area.offset + at, area.offset + end), pair, pairs, old, new)
+    return count
+
+
+def of_area(before, area, left, pairs, kept, old, new):
     """The rows of an area that both images have, and how many bytes are left to compare."""
     place = {"area": area.name, "position": area.offset}
     rows = [finding("area-moved", **place, value=before.offset)] * (before.offset != area.offset)
@@ -353,20 +411,21 @@ def of_area(before, area, left, old, new):
     rows += [finding("area-flags", **place, value=before.flags)] * (before.flags != area.flags)
     if before.size != area.size:
         return rows, left
-    if ends(before) > len(old.data) or ends(area) > len(new.data) or area.size > left:
+    if not is_inside((before, area), old, new) or area.size > left:
         return [*rows, finding("area-not-compared", **place)], left
-    count = blocks(old.data[before.offset:ends(before)], new.data[area.offset:ends(area)])
+    count = own_blocks((before, area), pairs, kept, old, new)
     return rows + [finding("area-changed", **place, value=count)] * (count > 0), left - area.size
 
 
-def of_areas(old, new):
-    """The rows of the areas of two images."""
+def of_areas(old, new, kept):
+    """The rows of the areas of two images, of which those of these names have to stay."""
     rows, left, before, after = [], TIMES * len(new.data), firsts(old.areas), firsts(new.areas)
+    pairs = [(before[name], area) for name, area in after.items() if name in before]
     for name, area in after.items():
         if name not in before:
             rows.append(finding("area-added", name, position=area.offset))
             continue
-        more, left = of_area(before[name], area, left, old, new)
+        more, left = of_area(before[name], area, left, pairs, kept, old, new)
         rows += more
     return rows + [finding("area-gone", name, position=area.offset) for name, area in before.items() if name not in after]
 
@@ -425,16 +484,31 @@ def of_regions(old, new, checked):
 
 def of_changes(old, new, checked, wishes):
     """The rows of what changes from the old image to the new one."""
+    # (an area of the old image that holds a CBFS must not be gone)
+    regions = {old.areas[number].name for number in selected(old)}
     # (an old image without a map has the areas of the new one)
     if old.place is None:
         old = Shown(old.data, None, None, new.areas, old.view)
     kept = kept_names(old, new, wishes)
+    vital = kept | regions
     count = blocks(old.data, new.data)
     rows = [finding("image-size", value=len(old.data))] * (len(old.data) != len(new.data))
     rows += [finding("blocks", value=count)] * (count > 0) + of_maps(old, new)
-    told = of_areas(old, new) + of_regions(old, new, checked)
-    rows += [row._replace(verdict="bad") if row.area in kept else row for row in told]
+    told = of_areas(old, new, kept) + of_regions(old, new, checked)
+    rows += [row._replace(verdict="bad") if row.area in (vital if row.code == "area-gone" else kept) else row
+             for row in told]
     return rows + of_missing([*old.areas, *new.areas], wishes.kept)
+
+
+def listed(old, new, wishes):
+    """The components of all areas that are checked, in their order."""
+    rows = []
+    for area in [new.areas[number] for number in of_image(new, expected_names(old, wishes), wishes)[1]]:
+        for row in new.view(area).rows:
+            if not row.free:
+                rows.append(Listed(area.name, row.name, row.at, TYPES.get(row.type, f"0x{row.type:x}"), row.size,
+                                   row.packing.decode(), of_hash(row, wishes)[1]))
+    return rows
 
 
 def report(old, new, wishes):

@@ -71,7 +71,7 @@ def many_areas():
     put("areas.rom", image(areas, (at, region), (last_at, b"last but one....")))
     put("areas.layout", layout(b"MOST", 0, SIZE, areas))
     put("areas.print", "(empty)\t0x0\tnull\t4064\tnone\n")
-    rows = fit(0, 4096, "remark - - - too_many_areas_to_look_for_overlaps")
+    rows = fit(0, 4096, "bad - - - too_many_areas_to_look_for_overlaps")
     put("areas.report", report(*rows))
     # the last area but one has another name, and another byte behind it
     renamed = [*areas[:-2], (b"OTHER", *areas[-2][1:]), areas[-1]]
@@ -88,7 +88,7 @@ def fit(components, free, *more):
     return ["remark - - 0x0 flashmap", *more, "remark COREBOOT - - complete",
             f"remark COREBOOT - - {f'components {components}' if components else 'no_components'}",
             f"remark COREBOOT - - free_bytes {free}",
-            f"remark COREBOOT - - largest_free_run {free}"]
+            f"remark COREBOOT - - largest_content_that_add_takes {free - 32}"]
 
 
 def component(number, size, is_hashed):
@@ -106,12 +106,13 @@ def component(number, size, is_hashed):
 
 def many_components():
     """A region of many components, each thousandth of which has a digest, and free space."""
-    region, rows, details, hashed = bytearray(), [], [], []
+    region, rows, details, hashed, listed = bytearray(), [], [], [], []
     for number in range(1, MOST_COMPONENTS + 1):
         is_hashed = number % 1000 == 0
         entry, content = component(number, number % 33, is_hashed)
         rows.append(f"c{number}\t0x{len(region):x}\traw\t{len(content)}\tnone")
         details.append(rows[-1])
+        listed.append(f"component\tCOREBOOT\t{rows[-1]}\t{'sha256 valid' if is_hashed else 'no hash'}\n")
         if is_hashed:
             digest = hashlib.sha256(content).hexdigest()
             details += ["\tattr\t0x68736148\t44", f"\thash\tsha256\t{digest}\tvalid"]
@@ -126,7 +127,9 @@ def many_components():
     put("components.rom", image(areas, (0x1000, data)))
     put("components.print", "\n".join(rows + end) + "\n")
     put("components.details", "\n".join(details + end) + "\n")
-    put("components.report", report(*fit(MOST_COMPONENTS, free, *hashed)))
+    text = report(*fit(MOST_COMPONENTS, free, *hashed))
+    put("components.report", text)
+    put("components.listed", "".join(listed) + text)
     # the last but one has another byte; the last is gone, and its cell is free space too
     other = bytearray(data)
     before = int(rows[-2].split("\t")[1], 16)

@@ -62,7 +62,7 @@ _cbfscheck() {
         ((images > 1)) || compopt -o default
         return 0
     fi
-    for option in -r -v --need --all-hashed --json --keep --keep-preserved --help --version; do
+    for option in -r -v --need --all-hashed --list --json --keep --keep-preserved --help --version; do
         [[ $option != "$cur"* || $given == *" $option "* ]] || COMPREPLY+=("$option")
     done
 }
