@@ -17,8 +17,10 @@ DOC = $(PREFIX)/share/doc/cbfstool$(SUFFIX)
 # (the folder of the documents as the pages name it)
 DOC_SHOWN = $(DOC)
 FOLDERS = $(BIN) $(MAN1) $(MAN5) $(BASH_FILES) $(ZSH_FILES) $(FISH_FILES) $(DOC)/docs $(DOC)/bench $(DOC)/examples $(DOC)
-DOCUMENTS = bench.svg growth.svg layers.svg overview.svg cbfscheck.schema.json DECISIONS.md DEVELOPING.md FORMAT.md MISTAKES.md MOVING.md PROMISES.md
-EXAMPLES = add-at-end check-build extract-all flash-checked fmap-config replace-component
+DOCUMENTS = addition.svg bench.svg growth.svg layers.svg overview.svg cbfscheck.schema.json \
+	CLAUSES.md DECISIONS.md DEVELOPING.md EXAMPLES.md FORMAT.md MISTAKES.md MOVING.md PROMISES.md VERIFICATION.md
+EXAMPLES = add-aligned add-at-address add-at-end bad-digests cbfs-regions check-build component-digest component-place \
+	extract-all flash-checked flashrom-layout fmap-config replace-component sign-region undo-nested-map
 PROGRAMS = cbfstool fmaptool cbfscheck
 FILES = $(foreach program,$(PROGRAMS),$(BIN)/$(program)$(SUFFIX) $(MAN1)/$(program)$(SUFFIX).1 \
 	$(BASH_FILES)/$(program)$(SUFFIX) $(ZSH_FILES)/_$(program)$(SUFFIX) $(FISH_FILES)/$(program)$(SUFFIX).fish) \
