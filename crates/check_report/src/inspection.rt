@@ -198,8 +198,9 @@ impl Inspection {
         }
     }
 
-    /// Writes the report, row by row, after the list of components if it is asked for. Returns the sink, and whether a row is bad. Returns `Output`
-    /// if the sink failed.
+    /// Writes the report, row by row, after the list of components if it is requested. Returns the
+    /// sink, and whether a row is bad, or a fault: `Output` if the sink failed, `Memory` if an
+    /// allocation failed. After a fault the sink may have a part of the report.
     pub fn write<W: Sink + Drop>(
         &self,
         alloc: Global,
