@@ -1,4 +1,4 @@
--- The rows of the areas of a flashmap, one by one.
+-- The rows of a flashmap's areas.
 use Rattle.std.proofs.Common.{◌≡◌, ℕ, ◌+◌, ◌-◌, ◌*◌, ◌<◌, ◌≤◌, List, [], ◌++◌, drop, Option, suc, ap, ◌∙◌, arith, Some, None}
 use Rattle.std.specs.List.{flat_map}
 use Rattle.std.specs.Option.{option_map, option_map_or}
@@ -11,11 +11,10 @@ use Rattle.cbfs_commands.proofs.Telling.{text_then}
 use Rattle.cbfs_commands.specs.Told.{Told, refuses, shows}
 use Rattle.cbfs_commands.specs.declared.refusal.Refusal.TheVariants as refusals
 
--- the rows of n areas from a place on
 abbrev pub rows_of : List ℕ → ℕ → ℕ → List ℕ
 rows_of image n at = flat_map area_row (areas_from n (drop at image))
 
--- what is told of the areas from one on
+-- the output from an area on
 abbrev pub rows_left : List ℕ → ℕ → ℕ → ℕ → Told
 rows_left image at n i = shows (rows_of image (n - i) (at + 42 * i))
 
@@ -34,7 +33,7 @@ pub none_left : (image : List ℕ) (at n i : ℕ) → n ≤ i → rows_left imag
 unfolding areas_from
 none_left image at n i le = let none : n - i ≡ 0 = omega arith in ap (λ j. shows (rows_of image j (at + 42 * i))) none
 
--- the row of the map that was found, and then those of its areas
+-- the map's row, then the areas' rows
 pub layout-is : (image : List ℕ) (map : FoundMap) → Some map ≡ found_in image → layout image ≡ text_then (map_row map.at map.head) (shows (rows_of image map.head.nareas (map.at + 56)))
 unfolding layout
 layout-is image map is = go (map_of image) is

@@ -1,4 +1,4 @@
--- No outcome's own answer blames a side: each of its refusals is one of the image, the command or the source as they are.
+-- No outcome's own answer is a fault of the device, the output or the source.
 use Rattle.std.proofs.Common.{◌≡◌, inl, inr, ℕ, Bool, true, false, cond, List, [], ◌∷◌, ◌++◌, drop, length, nat_lt, if◌then◌else◌, ◌+◌, ◌==◌, ◌&&◌, is_some, Option, Some, None, Result, Ok, Err, sym, subst}
 use Rattle.std.specs.List.{flat_map}
 use Rattle.std.specs.Option.{ok_or, option_map_or}
@@ -34,23 +34,21 @@ use Rattle.cbfs_commands.specs.Refusals.{HasNoFault, edit_refusal, fault_or, sto
 use Rattle.cbfs_commands.specs.Deeds as requests
 use Rattle.cbfs_commands.specs.Told.{Told, refuses, shows}
 
--- a refusal that blames no side
+-- an error that is no such fault
 abbrev BlamesNone : Refusal → Type 0
 BlamesNone refusals.Device = ⊥
 BlamesNone refusals.Output = ⊥
 BlamesNone refusals.Source = ⊥
 BlamesNone _ = ⊤
 
--- a refusal of a command, as it is
 abbrev itself : Refusal → Refusal
 itself refusal = refusal
 
--- the same of an answer, by the refusal that its fault is told as
+-- the same for an answer, with its error converted
 abbrev Blameless : {T E : Type 0} → (E → Refusal) → Result T E → Type 0
 Blameless tell (Ok value) = ⊤
 Blameless tell (Err fault) = BlamesNone (tell fault)
 
--- it is no fault of a side
 no_fault : {T : Type 0} (answer : Result T Refusal) → Blameless itself answer → HasNoFault answer
 no_fault {T} answer own (inl blamed) = subst (λ (a : Result T Refusal). Blameless itself a) blamed own
 no_fault {T} answer own (inr (inl blamed)) = subst (λ (a : Result T Refusal). Blameless itself a) blamed own
@@ -61,12 +59,11 @@ when : {T E : Type 0} (tell : E → Refusal) (b : Bool) (x y : Result T E) → B
 when tell true x y left right = left
 when tell false x y left right = right
 
--- a value, where there is one
 given : {T E : Type 0} (tell : E → Refusal) (o : Option T) (fault : E) → BlamesNone (tell fault) → Blameless tell (ok_or o fault)
 given tell None fault own = own
 given tell (Some value) fault own = tt
 
--- what comes of a value
+-- a result of a value
 next-blameless : {T U E : Type 0} (tell : E → Refusal) (r : Result T E) (next : T → Result U Refusal) → Blameless tell r → ((value : T) → Blameless itself (next value)) → Blameless itself (fault_or (λ fault. Err (tell fault)) r next)
 next-blameless tell (Err fault) next own each = own
 next-blameless tell (Ok value) next own each = each value
@@ -89,7 +86,7 @@ region_of-blameless image name = go (map_of image)
     go None = tt
     go (Some q) = inside-blameless (length image) (area_in image q name)
 
--- what holds of the two refusals by a region's shape, and of what is answered without one
+-- either error of a region's shape, or the later answer
 unless-misshapen : {A : Type 0} (P : A → Type 0) (refuse : WalkFault → A) (x : List ℕ) (otherwise : A) → P (refuse walk.RegionShape) → P (refuse walk.NotCbfs) → P otherwise → P (refused_or refuse (shape_fault x) otherwise)
 unless-misshapen P refuse x otherwise misshapen empty other = go (has_bad_size (length x)) (0 == 0 && is_absent (entry x))
   where
@@ -169,7 +166,7 @@ told_found-blameless : (c : Option Component) → Blameless itself (option_map_o
 told_found-blameless None = tt
 told_found-blameless (Some c) = elim (is_packed c.attributes) as (λ b. Blameless itself (let t : Told = cond b (refuses refusals.Compressed) (shows c.content) in t).answer) [ true ↦ tt | false ↦ tt ]
 
--- by what is told of the region of a name, or made of it
+-- by the region's output or change
 by_region : (image name : List ℕ) (tell : List ℕ → Told) → ((x : List ℕ) → Blameless itself (tell x).answer) → Blameless itself (told_in image name tell).answer
 by_region image name tell each = told-blameless store_refusal _ _ (region_of-blameless image name) (λ region. each (bytes_in region image))
 

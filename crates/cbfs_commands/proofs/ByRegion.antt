@@ -1,4 +1,4 @@
--- The outcome of a command on a region depends on the region's bytes alone.
+-- The outcome of a command on a region depends only on the region's bytes.
 use Rattle.std.proofs.Common.{◌≡◌, ℕ, false, List, [], length, Result, Ok, Err, ◌==◌, refl, sym, ◌∙◌}
 use Rattle.std.specs.Prelude.{if◌then◌else◌}
 use Rattle.std.specs.Result.{result_unwrap_or}
@@ -16,20 +16,18 @@ use Rattle.cbfs_commands.specs.Told.{Told, shows}
 use Rattle.cbfs_commands.specs.Laws.{OutcomesAreOfTheRegion}
 use Rattle.cbfs_commands.proofs.RegionPlaces.{alike_over, region_lies}
 
--- two images with the same bytes in a region
+-- two images with equal bytes in a region
 module _ (name : List ℕ) (region : Range) (image other : List ℕ) (here : region_of image name ≡ Ok region) (there : region_of other name ≡ Ok region) (same : bytes_in region other ≡ bytes_in region image) where
-  -- the same is told, and the same bytes are left in the region
+  -- equal outputs, and equal bytes of the region
   abbrev Alike : Outcome → Outcome → Type 0
   Alike a b = (b.told ≡ a.told) × (bytes_in region b.image ≡ bytes_in region a.image)
 
-  -- the same is told of them
   told : (tell : List ℕ → Told) → Alike (record { told = told_in image name tell; image = image }) (record { told = told_in other name tell; image = other })
   told tell =
       let first : told_in image name tell ≡ tell (bytes_in region image) = rw here refl in
       let last : told_in other name tell ≡ tell (bytes_in region image) = rw (there, same) refl in
       (last ∙ sym first, same)
 
-  -- the same is made of them
   made : (source : List ℕ) (make : Range → List ℕ → List ℕ → Result (List ℕ) Refusal) → let d = changes (edits name false make StopsIn) in Alike (outcome d image source) (outcome d other source)
   made source make = rw (here, there, same) (go (make region (bytes_in region image) source))
     where

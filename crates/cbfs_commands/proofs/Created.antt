@@ -1,4 +1,4 @@
--- Each region that `create` formats is one free cell.
+-- Each region formatted by `create` is one free cell.
 use Rattle.std.proofs.Common.{◌≡◌, ◌⊎◌, inl, inr, ℕ, zero, suc, ◌+◌, ◌-◌, ◌%◌, ◌^◌, ◌<◌, ◌≤◌, false, All, List, [], ◌∷◌, length, take, replicate, Some, refl, sym, ◌∙◌, ap, subst, arith, length-take, length-drop}
 use Rattle.std.specs.Prelude.{fold}
 use Rattle.std.specs.List.{list_any}
@@ -26,7 +26,7 @@ positive : (size : ℕ) → has_bad_size size ≡ false → 0 < size
 positive zero good = absurd cc
 positive (suc size) good = omega arith
 
--- the regions in order, each as one empty entry
+-- as empty entries, in order
 abbrev all_formatted : List ℕ → List Range → List ℕ
 all_formatted image places = fold (λ x place. with_edit place formatted x) image places
 
@@ -55,7 +55,7 @@ module _ (n : ℕ) (image : List ℕ) (long : length image ≡ n) (place : Range
   here : bytes_in place (with_edit place formatted image) ≡ formatted (bytes_in place image)
   here = whole_over place image (formatted (bytes_in place image)) lies formatted_long
 
-  -- and any other
+  -- any other region
   beside : (other : Range) → LieApart other place → bytes_in other (with_edit place formatted image) ≡ bytes_in other image
   beside other apart = written_beside other image place.start (formatted (bytes_in place image)) (omega (arith, is.inside, long)) (where_it_is apart)
     where
@@ -68,7 +68,7 @@ module _ (n : ℕ) (image : List ℕ) (long : length image ≡ n) (place : Range
       subst (λ (l : List ℕ). IsOneFreeCell l) (sym here)
       (formatted_free (bytes_in place image) (omega (arith, region_long, some)) (ap (λ k. k % 64) region_long ∙ whole) (omega (arith, region_long, is.inside, small)))
 
--- what is formatted after it leaves a region as it is
+-- later formats leave a region unchanged
 untouched : (n : ℕ) (image : List ℕ) (other : Range) (places : List Range) → length image ≡ n → All (IsPlace n) places → list_any (overlap other) places ≡ false → bytes_in other (all_formatted image places) ≡ bytes_in other image
 untouched n image other [] long each none = refl
 untouched n image other (place ∷ places) long each none =

@@ -1,4 +1,4 @@
--- What is left of a region where an edit of it is refused.
+-- A region after a refused edit.
 use Rattle.std.proofs.Common.{◌≡◌, ◌≢◌, ◌⊎◌, [], inl, inr, ℕ, List, Result, Ok, Err, IsErrOf, refl, sym, ◌∙◌}
 use Rattle.std.specs.Result.{IsErrAnd, result_unwrap_or}
 use Rattle.flash_device.specs.Regions.{Range, bytes_in, region_of}
@@ -22,12 +22,12 @@ use Rattle.cbfs_commands.specs.Refusals.{edit_refusal, fault_or, store_refusal}
 use Rattle.cbfs_commands.specs.Told.{Answer}
 use Rattle.cbfs_commands.proofs.Telling.{handed}
 
--- an addition is refused as the place for it is
+-- the error of the place is the error of the addition
 refused_place : (place : Result Place EditFault) (fault : EditFault) (next : Place → Result (List ℕ) Refusal) → (let r : Result Placed EditFault = Err fault in r ≡ placed_of place) → fault_or (λ f. Err (edit_refusal f)) place next ≡ Err (edit_refusal fault)
 refused_place (Err other) fault next is = let same : other ≡ fault = cc in rw same refl
 refused_place (Ok place) fault next is = absurd cc
 
--- In a region that was found: the answer is the edit's refusal, and nothing has changed but where a side failed.
+-- a found region: the answer is the edit's error, and only a fault leaves a change
 module _ (image between now source name : List ℕ) (region : Range) (fault : EditFault) (answer : Answer) (sought : (let r : Result Range StoreFault = Ok region in IsErrOf r store.Device ⊎ (r ≡ region_of image name))) (unread : between ≡ image) (told : IsErrAnd answer (λ refusal. refusal ≡ edit_refusal fault)) (same : fault ≢ edit.Device → fault ≢ edit.Source → now ≡ between) where
   here : Ok region ≡ region_of image name
   here = elim sought [ inl failed ↦ absurd cc | inr is ↦ is ]
@@ -43,7 +43,7 @@ module _ (image between now source name : List ℕ) (region : Range) (fault : Ed
       go edit.Source is kept refused = inr (inr is)
       go other is kept refused = rw (refused (λ e. absurd cc) (λ e. absurd cc)) (inl (is, kept (λ e. absurd cc) (λ e. absurd cc) ∙ unread))
 
-  -- what is said of the side that the edit blames is said of the one that the answer does
+  -- the faults of the edit and of the answer agree
   by_side : {T D S : Type 0} (f : EditFault) → answer ≡ Err (edit_refusal f) → (let r : Result T EditFault = Err f in (IsErrOf r edit.Device → D) × (IsErrOf r edit.Source → S)) → (answer ≡ Err refusals.Device → D) × (answer ≡ Err refusals.Source → S)
   by_side edit.Device is of = (λ _. of.0 refl, λ blamed. absurd cc)
   by_side edit.Source is of = (λ blamed. absurd cc, λ _. of.1 refl)

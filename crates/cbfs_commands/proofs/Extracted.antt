@@ -1,4 +1,4 @@
--- What was added is extracted.
+-- Added content is extracted.
 use Rattle.std.proofs.Common.{◌≡◌, ℕ, false, cond, List, length, Option, Some, None, Result, refl, ◌∙◌, ap}
 use Rattle.std.specs.Option.{option_map_or}
 use Rattle.flash_format.specs.Components.{is_packed}
@@ -19,7 +19,7 @@ use Rattle.cbfs_commands.specs.Told.{Told, refuses, shows}
 use Rattle.cbfs_commands.specs.Laws.{AddedFilesAreExtracted, AdditionsAreExtracted}
 use Rattle.cbfs_commands.proofs.RegionPlaces.{region_lies, whole_over}
 
--- what is made has no attribute of compression
+-- no compression attribute
 plain : (digest : Option Digest) → is_packed (made_attributes digest) ≡ false
 plain None = refl
 plain (Some digest) = refl

@@ -1,4 +1,4 @@
--- The lines of a component's attributes, one by one.
+-- The lines of a component's attributes.
 use Rattle.std.proofs.Common.{◌≡◌, List, [], ◌∷◌, map, Option, Some, None, sym, ap, ◌∙◌}
 use Rattle.std.specs.List.{flat_map}
 use Rattle.flash_format.specs.declared.attribute.AttrHead.{AttrHead}
@@ -8,16 +8,15 @@ use Rattle.cbfs_commands.specs.Rows.{attribute_line}
 use Rattle.cbfs_commands.proofs.Telling.{text_then}
 use Rattle.cbfs_commands.specs.Told.{Told, shows}
 
--- the lines of attributes
 abbrev pub lines : List Attribute → Told
 lines all = shows (flat_map attribute_line (map head_of_attribute all))
 
--- the same of those that are left; none where one of them is malformed
+-- the remaining lines, or none if malformed
 abbrev pub lines_left : Option (List Attribute) → Told
 lines_left None = shows []
 lines_left (Some all) = lines all
 
--- the line of the first that is left, and then the others
+-- the first line, then the others
 pub lines-first : (o p : Option (List Attribute)) (all : List Attribute) (head : AttrHead) → o ≡ Some all → Some head ≡ first_head all → p ≡ Some (after_first all)
     → lines_left o ≡ text_then (attribute_line head) (lines_left p)
 lines-first o p [] head left is next = absurd cc

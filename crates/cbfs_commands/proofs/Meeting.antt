@@ -1,4 +1,4 @@
--- A creation may change all bytes of its image, and nothing else is promised of one that stops.
+-- A creation can change all bytes of the image. An interruption has no further promise.
 use Rattle.std.proofs.Common.{◌≡◌, ◌∙◌, ◌⊎◌, ◌++◌, inl, inr, IsErrOf, IsTrue, Ok, Err, Result, ℕ, List, length, drop, take, replicate, length-drop, ◌+◌, ap, refl, sym, arith}
 use Rattle.std.specs.Prelude.{fold}
 use Rattle.std.proofs.lemmas.List.{append-nil, length-replicate, nil_from_length}
@@ -16,7 +16,6 @@ use Rattle.cbfs_commands.specs.Outcomes.{LeavesOr}
 use Rattle.cbfs_commands.specs.Refusals.{by_device, by_source}
 use Rattle.cbfs_commands.specs.Told.{Answer}
 
--- all bytes lie in the whole image
 whole-image : (image now : List ℕ) → length now ≡ length image → SameOutside 0 (length image) image now
 whole-image image now same = record {
   before = refl;
@@ -40,7 +39,7 @@ module _ {F : Type 0} {facts : F → Device} {n : ℕ} (names : List (List ℕ))
   pub creation_stopped : (answer ≡ Err refusals.Device) ⊎ (answer ≡ Err refusals.Source) → HasChanged facts n (creates names) old new source now answer
   creation_stopped failed = creation (inr failed) (λ output. elim failed [ inl device ↦ absurd cc | inr stopped ↦ absurd cc ]) (λ h serves. inr failed)
 
--- one that is done has made the image of its plan
+-- a successful creation makes the image of its plan
 pub creation_done : {F : Type 0} {facts : F → Device} {n : ℕ} (names : List (List ℕ)) {old new : Pages F} {source now : Device} (plan : Plan) → Calls n 0 (facts old.device) (facts new.device) → Calls (source_calls (changes (creates names)) (length source.content)) 0 source now
     → OnHonest facts old.device (λ image. IsTrue source.honest → ((let r : Result Plan Refusal = Ok plan in IsErrOf r refusals.Source) ⊎ (Ok plan ≡ plan_for (length image) names source.content)) × ((facts new.device).content ≡ created_image (length image) plan source.content))
     → HasChanged facts n (creates names) old new source now (Ok tt)

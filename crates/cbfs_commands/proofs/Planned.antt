@@ -1,4 +1,4 @@
--- A plan that isn't refused fits its image, and its areas lie apart.
+-- A plan fits its image, and its ranges lie apart.
 use Rattle.std.proofs.Common.{◌≡◌, inl, inr, ℕ, ◌+◌, ◌≤◌, ◌==◌, ◌&&◌, Bool, true, false, cond, All, List, [], ◌∷◌, length, Option, Some, None, Result, Ok, Err, refl, sym, ap, subst, arith}
 use Rattle.std.specs.Prelude.{IfOk, nat_le, nat_lt}
 use Rattle.std.specs.List.{AllPairs, list_any}
@@ -23,7 +23,7 @@ use Rattle.cbfs_commands.specs.Laws.{PlansAreLaid}
 use Rattle.cbfs_commands.specs.Refusals.{fault_or, store_refusal}
 use Rattle.cbfs_commands.proofs.RegionPlaces.{inside_lies}
 
--- what was done, step by step
+-- each step succeeded
 done : {T U E : Type 0} (tell : E → Refusal) (r : Result T E) (next : T → Result U Refusal) (x : U) → fault_or (λ fault. Err (tell fault)) r next ≡ Ok x → (value : T) × (r ≡ Ok value) × (next value ≡ Ok x)
 done tell (Err fault) next x is = absurd cc
 done tell (Ok value) next x is = (value, refl, is)
@@ -51,7 +51,7 @@ are_places n (area ∷ areas) places is =
     let same : first.0 ∷ others.0 ≡ places = cc in
     subst (λ (l : List Range). All (IsPlace n) l) same (All-cons (IsPlace n) first.0 others.0 (is_place n area first.0 first.1) (are_places n areas others.0 others.1))
 
--- ---- no two overlap
+-- ---- no overlaps
 
 pub lie_apart : (a b : Range) → overlap a b ≡ false → LieApart a b
 lie_apart a b none = go (nat_lt a.start (b.start + b.size)) (nat_lt b.start (a.start + a.size)) refl refl none
@@ -75,7 +75,6 @@ all_apart (place ∷ places) none =
 
 -- ---- the plan
 
--- a flashmap lies in its source
 table_fits : (source : List ℕ) (head : FmapHead) → map_head source ≡ Some head → map_len head ≤ length source
 unfolding is_map
 table_fits source head is =

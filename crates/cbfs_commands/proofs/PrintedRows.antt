@@ -1,4 +1,4 @@
--- Printed rows are read back.
+-- Printed rows determine their cells.
 use Rattle.std.proofs.Common.{◌≡◌, ◌≢◌, ◌⊎◌, inl, inr, ℕ, zero, suc, ◌+◌, ◌^◌, ◌<◌, ◌≤◌, length, Bool, true, false, cond, if◌then◌else◌, nat_le, eqb, List, [], ◌∷◌, ◌++◌, Option, Some, None, unwrap_or, refl, sym, ap, ◌∙◌, arith, rules}
 use Rattle.std.specs.List.{flat_map}
 use Rattle.std.specs.Option.{option_map_or}
@@ -53,7 +53,6 @@ type_field kind small = go (name_of_type kind) refl
 
 -- ---- compression
 
--- the value that a word names
 abbrev named : List ℕ → ℕ
 named text = if bytes_eq text (codes "none") then 0 else (if bytes_eq text (codes "LZMA") then 1 else 2)
 
@@ -134,7 +133,7 @@ row_shape : (at : ℕ) (h : Head) (name : Option (List ℕ)) (n : ℕ) (more : L
 unfolding row_text
 row_shape at h name n more = simp append_assoc
 
--- what the texts of two rows have in common where they are the same
+-- equal parts of two equal rows
 pub record IsSameText (at other : ℕ) (h k : Head) (name title : Option (List ℕ)) (n m : ℕ) : Type 0 where
   pub names : shown_name name ≡ shown_name title
   pub place : at ≡ other
@@ -161,7 +160,6 @@ same_text at other h k name title n m more rest sat sother skind skind2 slen sle
       parts.5,
     )
 
--- the row of a cell by whether it is free
 abbrev row_if : Bool → ℕ → List ℕ → List ℕ
 row_if free at x = if free then row_text at (head_of x) None 0 else row_text at (head_of x) (Some (cell_name x)) (packing (cell_attributes x))
 

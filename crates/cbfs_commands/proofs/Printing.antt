@@ -1,4 +1,4 @@
--- What is printed of a region from a place on, cell by cell.
+-- The output of `print` from a position on.
 use Rattle.std.proofs.Common.{◌≡◌, ℕ, ◌+◌, ◌/◌, ◌%◌, ◌-◌, ◌≤◌, ◌⊎◌, inl, inr, Bool, true, false, List, [], Option, None, Ok, Err, refl, sym, ap, ◌∙◌, arith, subst}
 use Rattle.std.specs.Prelude.{IsErrOf, if◌then◌else◌}
 use Rattle.std.specs.Result.{IsErrAnd}
@@ -24,7 +24,6 @@ use Rattle.cbfs_commands.specs.Told.{Answer, HasTold, Told, cell_of, shows, refu
 use Rattle.cbfs_commands.proofs.Telling.{ToldSoFar, so_far-ends, so_far-more, text_then, told-after, told-none, told-refusal, told-stopped}
 use Rattle.flash_device.proofs.DeviceLemmas.{length-bytes_in}
 
--- what is printed of a region from a place on
 abbrev pub print_from : Bool → List ℕ → ℕ → Told
 print_from verbose x at = reading_of (λ fault. refuses (walk_refusal fault)) (print_cut verbose) x at
 
@@ -39,7 +38,7 @@ law : (verbose : Bool) → ReadsCells (print_cut verbose) (each_row verbose)
 unfolding rows_from
 law verbose at c k = refl
 
--- what is printed where the walk gives this answer
+-- by the walk's result
 abbrev print_by : Bool → List ℕ → walks.Answer → Told
 print_by verbose x a = by_answer (λ fault. refuses (walk_refusal fault)) (print_cut verbose) (each_row verbose) x a
 
@@ -48,22 +47,21 @@ unfolding rows_from
 refused_by verbose x faults.Device = refl
 refused_by verbose x _ = refl
 
--- how many calls show so many bytes of a region
+-- the maximum number of calls for n bytes of a region
 abbrev region_reads : Bool → ℕ → ℕ
 region_reads verbose n = if verbose then n / 4 else n / 16
 
--- how many show what is before a cell, and the cell
+-- up to a cell's end
 reads_with : (verbose : Bool) (at span end : ℕ) → at % 64 ≡ 0 → span % 64 ≡ 0 → 64 ≤ span → at + span ≤ end
     → region_reads verbose at + (1 + span / 3840 + (2 + span / 3840 + (if verbose then 1 + span / 8 + span / 3840 else 0))) ≤ region_reads verbose end
 reads_with true at span end a s some inside = omega arith
 reads_with false at span end a s some inside = omega arith
 
--- and what is behind the last one
+-- after the last cell
 reads_left : (verbose : Bool) (at size : ℕ) → at ≤ size → region_reads verbose at + (1 + (size - at) / 3840) ≤ region_reads verbose size + 2
 reads_left true at size inside = omega arith
 reads_left false at size inside = omega arith
 
--- a fault of the walk blames the device or no side
 counted : (fault : WalkFault) → walks.by_device fault ≡ by_device (walk_refusal fault)
 counted faults.Device = refl
 counted _ = refl
@@ -72,9 +70,9 @@ blames_no_other : (fault : WalkFault) → (walk_refusal fault ≡ refusals.Outpu
 blames_no_other faults.Device = (λ e. cc, λ e. cc)
 blames_no_other _ = (λ e. cc, λ e. cc)
 
--- ---- the loop over a region's cells
+-- ---- the loop
 
--- a walk stands at a place of the region, and what is printed of the cells before it is told
+-- a walk at a position, and the output of the earlier cells
 pub record PrintedTo {F W : Type 0} (facts : F → Device) (contents : W → Option (List ℕ)) (sinks : W → ℕ) (verbose : Bool) (r : Range) (old now : Pages F) (before after : W) (w : Walking) : Type 0 where
   pub region : w.region ≡ r
   pub going : w.ended ≡ None
@@ -82,7 +80,6 @@ pub record PrintedTo {F W : Type 0} (facts : F → Device) (contents : W → Opt
   pub aligned : w.at % 64 ≡ 0
   pub told : ToldSoFar facts contents sinks (region_reads verbose w.at) (λ image. print_region (bytes_in r image) verbose) (λ image. print_from verbose (bytes_in r image) w.at) old now before after
 
--- and the walk answers
 module _ {F W : Type 0} {facts : F → Device} {contents : W → Option (List ℕ)} {sinks : W → ℕ} {verbose : Bool} {r : Range} {old now next : Pages F} {before after : W} {w : Walking}
     (p : PrintedTo facts contents sinks verbose r old now before after w) (lies : LiesIn r (facts old.device).content) (a : walks.Answer)
     (read : HasRead facts (reads_at w.region.size w.at a) (faults_told walks.by_device a) now next)
@@ -93,7 +90,7 @@ module _ {F W : Type 0} {facts : F → Device} {contents : W → Option (List �
   size : w.region.size ≡ r.size
   size = ap (λ (q : Range). q.size) p.region
 
-  -- what is printed from there on
+  -- the remaining output
   rest : OnHonest facts now.device (λ image. IsErrOf a faults.Device ⊎ (print_from verbose (bytes_in r image) w.at ≡ print_by verbose (bytes_in r image) a))
   rest h = elim (answer h p.going) [
     | inl device ↦ inl device
@@ -106,7 +103,6 @@ module _ {F W : Type 0} {facts : F → Device} {contents : W → Option (List �
         ∙ ap (print_by verbose x) here)
   ]
 
-  -- a step is no fault of the device
   rest-step : (s : Step) → a ≡ Ok s → OnHonest facts now.device (λ image. print_from verbose (bytes_in r image) w.at ≡ print_by verbose (bytes_in r image) (Ok s))
   rest-step s is h = elim (rw is at (rest h)) [
     | inl device ↦ absurd cc
@@ -126,7 +122,6 @@ module _ {F W : Type 0} {facts : F → Device} {contents : W → Option (List �
     others : OnHonest facts now.device (λ image. print_from verbose (bytes_in r image) w.at ≡ text_then (shown_cell verbose c.at (cell_of r c image)) (print_from verbose (bytes_in r image) (w.at + c.span)))
     others h = let image : List ℕ = (facts now.device).content in rest-step (steps.Cell c) is h ∙ ap (λ q. text_then (shown_cell verbose c.at (cell_of r c image)) (print_from verbose (bytes_in r image) (q + c.span))) given.1
 
-    -- its lines are put after the walk's reads
     lines : {new : Pages F} {out : W} {result : Answer} → Shown few next new out result → Shown (1 + c.span / 3840 + few) now new out result
     lines told = told-after told _ (rw is at read) (omega arith)
 

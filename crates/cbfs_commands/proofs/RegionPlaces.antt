@@ -1,4 +1,4 @@
--- A region of a name lies in its image, and what is written over it depends on its own bytes alone.
+-- A named region lies in its image, and writes over it depend only on its own bytes.
 use Rattle.std.proofs.Common.{◌≡◌, inl, inr, ℕ, ◌+◌, ◌≤◌, Bool, true, false, cond, List, length, take, drop, Option, Some, None, Result, Ok, Err, refl, sym, ◌∙◌, ap, arith}
 use Rattle.std.specs.Prelude.{nat_lt, slice_range}
 use Rattle.std.proofs.lemmas.Bool.{cases_lt}
@@ -37,7 +37,7 @@ region_lies image name r is = go (map_of image) is
 
 -- ---- bytes over a region
 
--- those that are longer than the region
+-- longer than the region
 longer : (r : Range) (image u : List ℕ) → LiesIn r image → r.size ≤ length u → bytes_in r (overwritten image r.start u) ≡ take r.size u
 longer r image u lies long =
     slice_range_is (overwritten image r.start u) r.start r.size ∙ sym (take-take r.size (length u) (drop r.start (overwritten image r.start u)) long)
@@ -54,6 +54,5 @@ alike_over r image other u lies lies_other same = elim (cases_lt r.size (length 
   | inr short ↦ shorter r other u lies_other short ∙ ap (λ (l : List ℕ). overwritten l 0 u) same ∙ sym (shorter r image u lies short)
 ]
 
--- those over a whole region
 pub whole_over : (r : Range) (image u : List ℕ) → LiesIn r image → length u ≡ r.size → bytes_in r (overwritten image r.start u) ≡ u
 whole_over r image u lies size = ap (λ n. slice_range (overwritten image r.start u) r.start (r.start + n)) (sym size) ∙ overwritten-range image r.start u (omega (arith, lies))

@@ -1,4 +1,4 @@
--- What a call of one command leaves is what `run` promises of its deed.
+-- The effect of a command's call is the effect promised by `run`.
 use Rattle.std.proofs.Common.{◌≡◌, ℕ, List, Option, true, refl, rules}
 use Rattle.flash_device.specs.Device.{Device}
 use Rattle.flash_device.specs.Pages.{Pages}
@@ -6,7 +6,7 @@ use Rattle.cbfs_commands.specs.Deeds.{Change, HasChanged, HasRun, changes, no_so
 use Rattle.cbfs_commands.specs.Told.{Answer, HasTold, Told}
 
 module _ {F S W : Type 0} {facts : F → Device} {sources : S → Device} {contents : W → Option (List ℕ)} {faults : W → ℕ} {n : ℕ} {old new : Pages F} {source : S} {out : W} {answer : Answer} where
-  -- it tells something
+  -- a report
   pub told_runs : {t : List ℕ → Told} {out_new : W} → HasTold facts contents faults n old new out out_new answer t → HasRun facts sources contents faults n (tells t) old new source source out out_new answer
   told_runs h = record {
     calls = h.read.device.calls;
@@ -22,7 +22,7 @@ module _ {F S W : Type 0} {facts : F → Device} {sources : S → Device} {conte
     stopped = search rules;
   }
 
-  -- it changes the image by what a source gives
+  -- a change with a source
   pub fed_runs : {c : Change} {source_new : S} → reads_source (changes c) ≡ true → HasChanged facts n c old new (sources source) (sources source_new) answer → HasRun facts sources contents faults n (changes c) old new source source_new out out answer
   fed_runs reads h = record {
     calls = h.calls;
@@ -38,7 +38,7 @@ module _ {F S W : Type 0} {facts : F → Device} {sources : S → Device} {conte
     stopped = h.stopped;
   }
 
-  -- it removes a component, which reads no source
+  -- a removal, without a source
   pub removal_runs : (region name : List ℕ) → HasChanged facts n (removes region name) old new no_source no_source answer → HasRun facts sources contents faults n (changes (removes region name)) old new source source out out answer
   removal_runs region name h = record {
     calls = h.calls;

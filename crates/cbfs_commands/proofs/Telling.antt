@@ -1,4 +1,4 @@
--- What is told piece by piece: a text that was written, and then what the rest of a call does.
+-- Output by parts: a written text, then the rest of a call.
 use Rattle.std.proofs.Common.{◌≡◌, ℕ, ◌+◌, ◌<◌, ◌≤◌, ◌⊎◌, IsTrue, inl, inr, List, [], ◌++◌, length, take, Option, Ok, Err, refl, sym, ap, ◌∙◌, subst, arith, length-append, append_assoc}
 use Rattle.std.specs.Prelude.{IsErrOf, OnErr}
 use Rattle.std.proofs.lemmas.List.{take-append-le}
@@ -18,16 +18,15 @@ use Rattle.cbfs_commands.specs.declared.refusal.Refusal.TheVariants as refusals
 use Rattle.cbfs_commands.specs.Refusals.{by_device}
 use Rattle.cbfs_commands.specs.Told.{Answer, HasTold, IsCellOf, Told, refuses, shows, Tells}
 
--- a text, and then what is told
+-- a text, then the output
 abbrev pub text_then : List ℕ → Told → Told
 text_then text t = record { written = text ++ t.written; answer = t.answer }
 
--- a text was written, and then some of the first of another
+-- a text, then a prefix of another
 first_of_both : (old mid new : Option (List ℕ)) (text rest : List ℕ) (n : ℕ) → Appends old mid text → Appends mid new (take n rest)
     → Appends old new (take (length text + n) (text ++ rest))
 first_of_both old mid new text rest n wrote more = rw (take-append-add text rest n) (Appends-trans old mid new text (take n rest) wrote more)
 
--- a text was written, and then the rest was told
 tells-then : (old mid new : Option (List ℕ)) (answer : Answer) (text : List ℕ) (t : Told) → Appends old mid text → Tells mid new answer t
     → Tells old new answer (text_then text t)
 tells-then old mid new answer text t wrote (inl done) = inl (done.0, Appends-trans old mid new text t.written wrote done.1)
@@ -40,7 +39,7 @@ tells-then old mid new answer text t wrote (inr (inr failed)) =
     let more = first_of_both old mid new text t.written n wrote failed.1.2 in
     inr (inr (failed.0, (length text + n, omega (arith, length-append text t.written, failed.1.1), more)))
 
--- some of a text that wasn't written whole is some of any text that begins with it
+-- a partial text is a prefix of any longer text
 first_of_longer : (old new : Option (List ℕ)) (text rest : List ℕ) (n : ℕ) → n ≤ length text → Appends old new (take n text) → Appends old new (take n (text ++ rest))
 first_of_longer old new text rest n short wrote = rw (take-append-le n text rest short) wrote
 
@@ -54,33 +53,31 @@ tells-stopped old new refusal text t (inr (inr failed)) =
     let some = first_of_longer old new text t.written failed.1.0 failed.1.1 failed.1.2 in
     inr (inr (failed.0, (failed.1.0, omega (arith, length-append text t.written, failed.1.1), some)))
 
--- an answer that hands a refusal on
 pub handed : (answer : Answer) (refusal : Refusal) → IsErrAnd answer (λ r. r ≡ refusal) → (let a : Answer = Err refusal in a) ≡ answer
 handed (Ok done) refusal is = absurd is
 handed (Err other) refusal is = ap (λ (r : Refusal). (let a : Answer = Err r in a)) (sym is)
 
--- a text that was told whole was written
 told-text : (old new : Option (List ℕ)) (text : List ℕ) → Tells old new (Ok tt) (shows text) → Appends old new text
 told-text old new text (inl done) = done.1
 told-text old new text (inr (inl stopped)) = absurd (let bad : (let a : Answer = Ok tt in a) ≡ Err refusals.Output = stopped.0 in cc)
 told-text old new text (inr (inr failed)) = absurd (let bad : (let a : Answer = Ok tt in a) ≡ Err refusals.Device = failed.0 in cc)
 
--- ---- what is told so far
+-- ---- the output so far
 
--- a text is written, and then the rest is what is left of the whole
+-- a written text, and the remaining output
 pub record Telling (whole rest : Told) (before after : Option (List ℕ)) : Type 0 where
   pub text : List ℕ
   pub written : Appends before after text
   pub is : whole ≡ text_then text rest
 
--- the same of what is told of a device's bytes, after at most n reads
+-- the same for a device's bytes, after at most n reads
 pub record ToldSoFar {F W : Type 0} (facts : F → Device) (contents : W → Option (List ℕ)) (faults : W → ℕ) (n : ℕ) (whole rest : List ℕ → Told) (old now : Pages F) (before after : W) : Type 0 where
   pub reads : HasRead facts n 0 old now
   pub sink : faults before ≤ faults after
   pub told : OnHonest facts old.device (λ image. Telling (whole image) (rest image) (contents before) (contents after))
 
 module _ {F W : Type 0} {facts : F → Device} {contents : W → Option (List ℕ)} {faults : W → ℕ} where
-  -- nothing yet
+  -- no output yet
   pub so_far-none : (n : ℕ) (whole rest : List ℕ → Told) (p : Pages F) (out : W) → ((image : List ℕ) → whole image ≡ rest image)
       → ToldSoFar facts contents faults n whole rest p p out out
   so_far-none n whole rest p out is = record {
@@ -91,7 +88,7 @@ module _ {F W : Type 0} {facts : F → Device} {contents : W → Option (List �
 
   module _ {n : ℕ} {whole rest : List ℕ → Told} {old mid : Pages F} {a b : W} (p : ToldSoFar facts contents faults n whole rest old mid a b) where
     module _ {k : ℕ} {new : Pages F} {c : W} where
-      -- one text more
+      -- one more text
       pub so_far-more : {text : List ℕ → List ℕ} (m : ℕ) (next : List ℕ → Told) → HasTold facts contents faults k mid new b c (Ok tt) (λ image. shows (text image))
           → OnHonest facts mid.device (λ image. rest image ≡ text_then (text image) (next image)) → n + k ≤ m → ToldSoFar facts contents faults m whole next old new a c
       so_far-more {text} m next step is few = record {
@@ -111,7 +108,7 @@ module _ {F W : Type 0} {facts : F → Device} {contents : W → Option (List �
             };
       }
 
-      -- the rest is told
+      -- the rest of the output
       pub so_far-ends : {answer : Answer} {t : List ℕ → Told} (m : ℕ) → HasTold facts contents faults k mid new b c answer t
           → OnHonest facts mid.device (λ image. rest image ≡ t image) → n + k ≤ m → HasTold facts contents faults m old new a c answer whole
       so_far-ends {answer} {t} m last is few = record {
@@ -128,7 +125,7 @@ module _ {F W : Type 0} {facts : F → Device} {contents : W → Option (List �
       }
 
   module _ {k : ℕ} {old mid new : Pages F} {a b : W} {answer : Answer} {t : List ℕ → Told} (told : HasTold facts contents faults k mid new a b answer t) where
-    -- what is told after reads
+    -- output after reads
     pub told-after : {n : ℕ} (m : ℕ) → HasRead facts n 0 old mid → n + k ≤ m → HasTold facts contents faults m old new a b answer t
     told-after {n} m first few = record {
       read = HasRead-within facts (n + k) m _ old new few (HasRead-then facts n k _ old mid new first told.read);
@@ -139,7 +136,7 @@ module _ {F W : Type 0} {facts : F → Device} {contents : W → Option (List �
     }
 
   module _ {k : ℕ} {old new : Pages F} {a b : W} {text : List ℕ → List ℕ} where
-    -- a text that wasn't written whole stands before anything
+    -- a partial text is a prefix of the output
     pub told-stopped : {refusal : Refusal} {answer : Answer} (t : List ℕ → Told) → HasTold facts contents faults k old new a b (Err refusal) (λ image. shows (text image)) → IsErrAnd answer (λ r. r ≡ refusal)
         → HasTold facts contents faults k old new a b answer (λ image. text_then (text image) (t image))
     told-stopped {refusal} {answer} t told is = subst (λ (r : Answer). HasTold facts contents faults k old new a b r (λ image. text_then (text image) (t image))) (handed answer refusal is) (record {
@@ -150,7 +147,7 @@ module _ {F W : Type 0} {facts : F → Device} {contents : W → Option (List �
       told = λ h. tells-stopped _ _ refusal (text (facts old.device).content) (t (facts old.device).content) (told.told h);
     })
 
-    -- what was told whole stands before what is told next
+    -- a complete output before the next output
     pub so_far-of : (next : List ℕ → Told) → HasTold facts contents faults k old new a b (Ok tt) (λ image. shows (text image))
         → ToldSoFar facts contents faults k (λ image. text_then (text image) (next image)) next old new a b
     so_far-of next told = record { reads = told.read; sink = told.sink; told = λ h. record { text = text (facts old.device).content; written = told-text _ _ _ (told.told h); is = refl } }
@@ -160,7 +157,7 @@ module _ {F W : Type 0} {facts : F → Device} {contents : W → Option (List �
       → HasTold facts contents faults m old new a b answer t
   told-within m few told = told-after told m (HasRead-none facts _) (omega (arith, few))
 
-  -- a row is put after reads
+  -- a row after reads
   pub told-row : {k : ℕ} {old new : Pages F} {a b : W} {answer : Answer} {text : List ℕ} → HasRead facts k 0 old new → faults a ≤ faults b → OnErr answer (faults a < faults b) → OnErr answer (answer ≡ Err refusals.Output)
       → Tells (contents a) (contents b) answer (shows text) → HasTold facts contents faults k old new a b answer (λ image. shows text)
   told-row {answer = Ok done} read sink output only told = record { read = read; sink = sink; output = λ failed. absurd cc; no_source = λ failed. absurd cc; told = λ h. told }
@@ -168,7 +165,6 @@ module _ {F W : Type 0} {facts : F → Device} {contents : W → Option (List �
       let is : refusal ≡ refusals.Output = cc in
       record { read = rw is read; sink = sink; output = λ failed. output; no_source = λ failed. absurd cc; told = λ h. told }
 
-  -- nothing more is told
   pub told-none : (p : Pages F) (out : W) → HasTold facts contents faults 0 p p out out (Ok tt) (λ image. shows [])
   told-none p out = record {
     read = HasRead-none facts p;
@@ -178,7 +174,7 @@ module _ {F W : Type 0} {facts : F → Device} {contents : W → Option (List �
     told = λ h. inl (refl, Appends-nil (contents out));
   }
 
-  -- nothing is told but a refusal: the device's, or the one that is all there is to tell
+  -- only an error: the device's, or the output's only content
   pub told-refusal : {k : ℕ} {old new : Pages F} {out : W} {refusal : Refusal} {answer : Answer} (t : List ℕ → Told) → IsErrAnd answer (λ r. r ≡ refusal) → HasRead facts k (by_device refusal) old new
       → (refusal ≡ refusals.Output → ⊥) → (refusal ≡ refusals.Source → ⊥) → OnHonest facts old.device (λ image. (refusal ≡ refusals.Device) ⊎ (t image ≡ refuses refusal)) → HasTold facts contents faults k old new out out answer t
   told-refusal {k} {old} {new} {out} {refusal} {answer} t is read no_output no_source told = subst (λ (r : Answer). HasTold facts contents faults k old new out out r t) (handed answer refusal is) (record {
@@ -192,7 +188,7 @@ module _ {F W : Type 0} {facts : F → Device} {contents : W → Option (List �
     ];
   })
 
--- a cell stands where it stood before reads
+-- reads leave a cell in its region
 pub still_cell : {F : Type 0} {facts : F → Device} {region : Range} {cell : Cell} {n refused : ℕ} {old new : Pages F} → HasRead facts n refused old new
     → IsCellOf facts region cell old.device → IsCellOf facts region cell new.device
 still_cell {region = region} {cell = cell} read is = record {
@@ -203,7 +199,7 @@ still_cell {region = region} {cell = cell} read is = record {
       subst (λ (l : List ℕ). StandsIn (bytes_in region l) cell) (sym (read.device.unchanged before)) (is.stands before);
 }
 
--- what a call leaves that only reads the device, from what it tells and the other parts
+-- a call that only reads the device, by its parts
 pub told_by_parts : {F W : Type 0} {facts : F → Device} {contents : W → Option (List ℕ)} {faults : W → ℕ} {n : ℕ} {old new : Pages F} {out_old out_new : W} {answer : Answer} {t : List ℕ → Told}
     → OnHonest facts old.device (λ image. Tells (contents out_old) (contents out_new) answer (t image))
     → HasRead facts n (faults_told by_device answer) old new

@@ -1,4 +1,4 @@
--- What was read of a region is written back.
+-- Bytes read from a region are written back.
 use Rattle.std.proofs.Common.{◌≡◌, ℕ, List, length, Result, Ok, Err, sym, ◌∙◌, ap, refl}
 use Rattle.std.proofs.lemmas.Bool.{eq-eqb}
 use Rattle.flash_device.specs.Regions.{Range, bytes_in, region_of}

@@ -1,6 +1,4 @@
--- The effect of `create`: the places of the flashmap and of the regions, by the areas of the
--- source's flashmap, and the new image. This project defines the conditions and the order of the
--- checks.
+-- The effect of `create`. This project defines the conditions and the order of the checks.
 use Rattle.std.specs.Prelude.{◌≡◌, ℕ, ◌+◌, ◌≤◌, Bool, false, ◌&&◌, ◌||◌, All, List, [], ◌∷◌, take}
 use Rattle.std.specs.Prelude.{map, drop, fold, replicate, nat_lt, Option, Result, Ok, Err, ◌==◌}
 use Rattle.std.specs.Prelude.{if◌then◌else◌}
@@ -23,48 +21,43 @@ use Rattle.cbfs_commands.specs.Refusals.{fault_or, store_refusal}
 
 -- ---- the flashmap
 
--- the header of the source's flashmap, if it states n bytes
+-- the header, for an image of n bytes
 abbrev pub head_for : ℕ → List ℕ → Result FmapHead Refusal
 head_for n source = fault_or Err (ok_or (map_head source) refusals.TableBad) (λ head.
     if head.size == n then Ok head else Err refusals.TableBad)
 
--- the first area with the name
 abbrev pub first_area : List Area → List ℕ → Option Area
 first_area areas name = find (is_area name) areas
 
 -- ---- the places
 
--- the place of the flashmap's own area in an image of n bytes, with room for a flashmap of the
--- given length
+-- with room for the flashmap, in an image of n bytes
 abbrev pub map_place : ℕ → ℕ → Option Area → Result Range Refusal
 map_place n len area = fault_or (λ fault. Err refusals.FmapArea) (region_by_area n area) (λ place.
     if nat_lt place.size len then Err refusals.FmapArea else Ok place)
 
--- the place of a region's area in an image of n bytes; its size is valid for a CBFS
+-- a valid size for a CBFS, in an image of n bytes
 abbrev pub region_place : ℕ → Option Area → Result Range Refusal
 region_place n area =
     fault_or (λ fault. Err (store_refusal fault)) (region_by_area n area) (λ place.
     if has_bad_size place.size then Err refusals.RegionShape else Ok place)
 
--- the places of all regions, or the first error
+-- all areas, or the first error
 abbrev pub region_places : ℕ → List (Option Area) → Result (List Range) Refusal
 region_places n [] = Ok []
 region_places n (area ∷ areas) = fault_or Err (region_place n area) (λ place.
     fault_or Err (region_places n areas) (λ places. Ok (place ∷ places)))
 
--- two ranges overlap
 abbrev pub overlap : Range → Range → Bool
 overlap a b = nat_lt a.start (b.start + b.size) && nat_lt b.start (a.start + a.size)
 
--- two of the ranges overlap
 abbrev pub some_overlap : List Range → Bool
 some_overlap [] = false
 some_overlap (place ∷ places) = list_any (overlap place) places || some_overlap places
 
--- ---- the plan: first the map's area, then each region, then all overlaps
+-- ---- the plan: first the map's area, then each region, then overlaps
 
--- the plan of an image of n bytes, by the length of its flashmap, the flashmap's area and the
--- regions' areas
+-- by the image's size, the flashmap's length, its own area and the regions' areas
 unfoldable pub plan_of : ℕ → ℕ → Option Area → List (Option Area) → Result Plan Refusal
 plan_of n len area areas =
     fault_or Err (map_place n len area) (λ map.
@@ -72,21 +65,20 @@ plan_of n len area areas =
     if some_overlap (map ∷ regions) then Err refusals.FmapArea
     else Ok (record { map = map; map_len = len; regions = record { items = regions } })))
 
--- the plan of an image of n bytes with the named regions, by the source's flashmap
+-- by the image's size, the names of the regions and the source
 unfoldable pub plan_for : ℕ → List (List ℕ) → List ℕ → Result Plan Refusal
 plan_for n names source =
     fault_or Err (head_for n source) (λ head.
     let areas = areas_from head.nareas (drop fmap_head_len source) in
     plan_of n (map_len head) (first_area areas (codes "FMAP")) (map (first_area areas) names))
 
--- a region of an image of n bytes, with a valid size for a CBFS
+-- in an image of n bytes, with a valid size for a CBFS
 pub record IsPlace (n : ℕ) (place : Range) : Type 0 where
   pub inside : place.start + place.size ≤ n
   pub size : has_bad_size place.size ≡ false
 
--- The properties of every plan for an image of n bytes and a source of m bytes: the flashmap lies
--- in the source and fits its area, and each region lies in the image and has a valid size for a
--- CBFS.
+-- A plan for an image of n bytes and a source of m bytes: the flashmap lies in the source and fits
+-- its area, and each region is valid.
 pub record FitsImage (n m : ℕ) (plan : Plan) : Type 0 where
   pub in_source : plan.map_len ≤ m
   pub room : plan.map_len ≤ plan.map.size
@@ -95,8 +87,7 @@ pub record FitsImage (n m : ℕ) (plan : Plan) : Type 0 where
 
 -- ---- the image
 
--- 0xff throughout, then the flashmap in its area, then each region as a single empty entry, in
--- order
+-- 0xff throughout, then the flashmap, then each region as an empty entry, in order
 abbrev pub created_image : ℕ → Plan → List ℕ → List ℕ
 created_image n plan source = fold (λ image place. with_edit place formatted image)
     (overwritten (replicate n 0xff) plan.map.start (take plan.map_len source)) plan.regions.items

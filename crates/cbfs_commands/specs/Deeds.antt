@@ -1,5 +1,4 @@
--- The request of a command, and its meaning for an image: the outcome, the allowed changes, the
--- devices used, and the effect of an interruption.
+-- The meaning of commands: outcome, allowed changes, used devices, and effect of an interruption.
 use Rattle.std.specs.Prelude.{ℕ, Bool, List, map, ◌≡◌, ◌+◌, ◌/◌, ◌<◌, ◌≤◌, ◌⊎◌, true, false, []}
 use Rattle.std.specs.Prelude.{length, Option, Some, None, is_some, MatchOption, Result, Ok, Err}
 use Rattle.std.specs.Prelude.{IsErrOf, IsTrue, ◌==◌, if◌then◌else◌}
@@ -35,7 +34,7 @@ pub data Task : Type 0 where
   read : Task
   write : Task
 
--- a request on a named region or on the whole image
+-- a request on a named region, or on the whole image
 pub data Request : Type 0 where
   on_region : List ℕ → Task → Request
   layout : Request
@@ -54,19 +53,19 @@ request_of (commands.Create regions) = create (map (λ name. name.now) regions.i
 
 -- A change of the image: its result for the image and the source, the region with allowed changes,
 -- the number of source calls by the source's length, if any, and the effect of an interruption by
--- the image, the source, the answer and the resulting image.
+-- image, source, answer and resulting image.
 pub record Change : Type 1 where
   pub made : List ℕ → List ℕ → Result (List ℕ) Refusal
   pub target : List ℕ → Option Range
   pub source_calls : Option (ℕ → ℕ)
   pub Stopped : List ℕ → List ℕ → Answer → List ℕ → Type 0
 
--- a command that reports on the image, or changes the image without output
+-- a report on the image, or a change without output
 pub data Deed : Type 1 where
   tells : (List ℕ → Told) → Deed
   changes : Change → Deed
 
--- ---- the meaning of a deed for an image
+-- ---- the meaning
 
 abbrev pub outcome : Deed → List ℕ → List ℕ → Outcome
 outcome (tells told) image source = record { told = told image; image = image }
@@ -77,7 +76,7 @@ outcome (changes c) image source =
       image = result_unwrap_or made image;
     }
 
--- the change of a deed; a report changes nothing and reads no source
+-- a report changes nothing and reads no source
 abbrev pub change_of : Deed → Change
 change_of (tells told) = record {
   made = λ image source. Ok image;
@@ -99,9 +98,8 @@ source_calls d n = option_map_or (λ calls. calls n) (change_of d).source_calls 
 
 -- ---- the commands
 
--- The change of a named region: whether the command reads the source (once), the result and the new
--- bytes by the region, the region's bytes and the source, and the effect of an interruption by the
--- region, the image, the source, the answer and the resulting image.
+-- The change of a named region: whether the command reads the source (once), the result and new
+-- bytes by region, bytes and source, and the effect of an interruption.
 abbrev pub edits : List ℕ → Bool → (Range → List ℕ → List ℕ → Result (List ℕ) Refusal)
     → (Range → List ℕ → List ℕ → Answer → List ℕ → Type 0) → Change
 edits name reads make Stops = record {
@@ -114,15 +112,14 @@ edits name reads make Stops = record {
       ForOk (region_of image name) (λ region. Stops region image source answer now);
 }
 
--- the source replaces a region of the same size
+-- a source of the region's size
 abbrev pub replaces : List ℕ → Change
 replaces name =
     edits name true
     (λ region x source. if length source == region.size then Ok source else Err refusals.SourceSize)
     StopsIn
 
--- the source becomes a component of a region, in the first free space with sufficient room, at the
--- least allowed place
+-- the least allowed place in the first free space with room
 abbrev pub adds : List ℕ → List ℕ → ℕ → HashChoice → Spot → Change
 adds region name kind hash spot =
     edits region true
@@ -132,7 +129,7 @@ adds region name kind hash spot =
     (λ found image source answer now.
     AddStopsIn found image (new_component name kind hash source) spot answer now)
 
--- a single empty entry replaces the first component with the name and its adjacent free space
+-- an empty entry replaces a component and its adjacent free space
 abbrev pub removes : List ℕ → List ℕ → Change
 removes region name =
     edits region false
@@ -141,7 +138,7 @@ removes region name =
     (λ found image source answer now.
     IsErrOf answer refusals.Device → LeavesWhole (bytes_in found image) name (bytes_in found now))
 
--- the source's flashmap determines the whole image; an interruption only preserves the size
+-- an interruption only preserves the size
 abbrev pub creates : List (List ℕ) → Change
 creates names = record {
   made = λ image source. fault_or Err (plan_for (length image) names source)
@@ -151,7 +148,6 @@ creates names = record {
   Stopped = λ image source answer now. length now ≡ length image;
 }
 
--- the deed of each command
 abbrev pub deed : Request → Deed
 deed (on_region region (print verbose)) =
     tells (λ image. told_in image region (λ x. print_region x verbose))
@@ -164,17 +160,16 @@ deed (on_region region write) = changes (replaces region)
 deed layout = tells rows.layout
 deed (create names) = changes (creates names)
 
--- the source is honest, if the command reads the source
+-- an honest source, if the command reads it
 abbrev pub Serves : Deed → Device → Type 0
 Serves d source = IsTrue (reads_source d) → IsTrue source.honest
 
--- all bytes outside the target region remain, or all bytes if there is none
+-- all bytes outside the region remain, or all bytes without a region
 abbrev pub SparesOutside : Option Range → List ℕ → List ℕ → Type 0
 SparesOutside target image now =
     MatchOption target (now ≡ image) (λ region. SameOutside region.start region.size image now)
 
--- the call has the answer, output and effect of the deed, or an interruption; a report changes
--- nothing
+-- the answer, output and effect of the deed, or an interruption
 abbrev pub Meets : Deed → Option (List ℕ) → Option (List ℕ) → List ℕ → List ℕ → List ℕ
     → Answer → Type 0
 Meets (tells told) old new image source now answer =
@@ -182,19 +177,17 @@ Meets (tells told) old new image source now answer =
 Meets (changes c) old new image source now answer =
     LeavesOr now answer (outcome (changes c) image source)
 
--- the command succeeded, or the device or the source failed; any other answer implies no change
+-- any other answer implies no change
 abbrev pub MayHaveWritten : Answer → Type 0
 MayHaveWritten answer =
     (answer ≡ Ok tt) ⊎ (answer ≡ Err refusals.Device) ⊎ (answer ≡ Err refusals.Source)
 
--- the source of a change without a source
 abbrev pub no_source : Device
 no_source = record { content = []; calls = 0; faults = 0; honest = true }
 
--- The effect of a change by at most n device calls. A fault implies a failure of the device or
--- source. An honest device keeps all bytes outside the allowed region, regardless of the source and
--- the answer, and keeps all bytes after any other error. For an honest source, if any, the result
--- is the change or an interruption.
+-- A change by at most n device calls. A fault implies a failure of the device or source. An honest
+-- device keeps all bytes outside the allowed region, and all bytes after any other error. For an
+-- honest source, the result is the change or an interruption.
 pub record HasChanged {F : Type 0} (facts : F → Device) (n : ℕ) (change : Change)
     (old new : Pages F) (source source_now : Device) (answer : Answer) : Type 0 where
   pub calls : Calls n (faults_told by_device answer) (facts old.device) (facts new.device)
@@ -210,8 +203,8 @@ pub record HasChanged {F : Type 0} (facts : F → Device) (n : ℕ) (change : Ch
   pub stopped : OnHonest facts old.device (λ image. Serves (changes change) source
       → change.Stopped image source.content answer (facts new.device).content)
 
--- The effect of a command by at most n device calls. Unused devices remain unchanged, and a fault
--- implies a failure of its device. The other fields require an honest device.
+-- A command by at most n device calls. Unused devices remain, and a fault implies a failure of its
+-- device. The other fields require an honest device.
 pub record HasRun {F S W : Type 0} (facts : F → Device) (sources : S → Device)
     (contents : W → Option (List ℕ)) (faults : W → ℕ) (n : ℕ) (d : Deed) (old new : Pages F)
     (source_old source_new : S) (out_old out_new : W) (answer : Answer) : Type 0 where

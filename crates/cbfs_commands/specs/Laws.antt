@@ -1,4 +1,4 @@
--- Laws about the outcomes of the commands.
+-- Laws of outcomes.
 use Rattle.std.specs.Prelude.{◌≡◌, ℕ, ◌+◌, ◌^◌, ◌<◌, ⊤, false, All, List, [], ◌∷◌, ◌++◌, length, Ok}
 use Rattle.std.specs.List.{AllPairs, flat_map}
 use Rattle.flash_format.specs.Head.{head_of, is_free}
@@ -22,19 +22,15 @@ use Rattle.cbfs_commands.specs.Refusals.{HasNoFault}
 use Rattle.cbfs_commands.specs.Rows.{area_row, map_row, row, rows_from}
 use Rattle.cbfs_commands.specs.Told.{shows}
 
--- An outcome never contains a fault: the outcome is a function of the image, the command and the
--- source alone.
 abbrev pub OutcomesHaveNoFault : Type 0
 OutcomesHaveNoFault = (r : Request) (image source : List ℕ)
     → HasNoFault (outcome (deed r) image source).told.answer
 
--- Writing back the reported bytes of a region leaves the image unchanged.
 abbrev pub WritingBackChangesNothing : Type 0
 WritingBackChangesNothing = (image name bytes : List ℕ) → told_in image name shows ≡ shows bytes
     → (replaces name).made image bytes ≡ Ok image
 
--- For two images with the same named region and the same bytes in it, a command has the same
--- output, and the same result in the region.
+-- A command has the same output, and the same result in the region.
 abbrev pub OutcomesAreOfTheRegion : Type 0
 OutcomesAreOfTheRegion =
     (name : List ℕ) (task : Task) (region : Range) (image other source : List ℕ)
@@ -45,25 +41,24 @@ OutcomesAreOfTheRegion =
     (of_other.told ≡ of_image.told)
     × (bytes_in region of_other.image ≡ bytes_in region of_image.image)
 
--- A plan has all properties of `FitsImage`, and the map's area and the regions do not overlap.
+-- The map's area and the regions don't overlap.
 abbrev pub PlansAreLaid : Type 0
 PlansAreLaid = (n : ℕ) (names : List (List ℕ)) (source : List ℕ) (plan : Plan)
     → plan_for n names source ≡ Ok plan
     → FitsImage n (length source) plan × AllPairs LieApart (plan.map ∷ plan.regions.items)
 
--- Each region formatted by `create` is a single free cell.
 abbrev pub CreatedRegionsAreFree : Type 0
 CreatedRegionsAreFree = (n : ℕ) (names : List (List ℕ)) (source : List ℕ) (plan : Plan) → n < 2 ^ 32
     → plan_for n names source ≡ Ok plan
     → All (λ (place : Range). IsOneFreeCell (bytes_in place (created_image n plan source)))
     plan.regions.items
 
--- `extract` reports the content of an addition to a region.
+-- `extract` reports the added content.
 abbrev pub AdditionsAreExtracted : Type 0
 AdditionsAreExtracted = (x : List ℕ) (new : NewComponent) (spot : Spot) (place : Place)
     → IsAdded x new spot place → extract_region (added x new place) new.name ≡ shows new.content
 
--- The same for an image, if its map still has the same region under the name.
+-- The same for an image, if its map keeps the region.
 abbrev pub AddedFilesAreExtracted : Type 0
 AddedFilesAreExtracted =
     (image name : List ℕ) (new : NewComponent) (spot : Spot) (region : Range) (place : Place)
@@ -74,14 +69,13 @@ AddedFilesAreExtracted =
 
 -- ---- printed rows
 
--- all printed numbers of the cell are below 2^64; numbers decoded from bytes are below 2^32
+-- no limit in practice: numbers decoded from bytes are below 2^32
 pub record HasNumbers (x : List ℕ) : Type 0 where
   pub kind : (head_of x).kind < 2 ^ 64
   pub len : (head_of x).len < 2 ^ 64
   pub compression : packing (cell_attributes x) < 2 ^ 64
 
--- Two cells with the same printed properties: offset, type and content length, and for components
--- also name and compression.
+-- offset, type, content length, and a component's name and compression
 pub record IsSameCell (at : ℕ) (x : List ℕ) (other : ℕ) (y : List ℕ) : Type 0 where
   pub place : at ≡ other
   pub kind : (head_of x).kind ≡ (head_of y).kind
@@ -90,19 +84,18 @@ pub record IsSameCell (at : ℕ) (x : List ℕ) (other : ℕ) (y : List ℕ) : T
   pub compression : is_free (head_of x) ≡ false
       → packing (cell_attributes x) ≡ packing (cell_attributes y)
 
--- the same for consecutive cells
 abbrev pub HaveNumbers : ℕ → List (List ℕ) → Type 0
 HaveNumbers at [] = ⊤
 HaveNumbers at (x ∷ cells) = (at < 2 ^ 64) × HasNumbers x × HaveNumbers (at + length x) cells
 
--- cells with pairwise equal offsets and printed properties
+-- pairwise
 abbrev pub AreSameCells : ℕ → List (List ℕ) → ℕ → List (List ℕ) → Type 0
 AreSameCells at [] other [] = ⊤
 AreSameCells at (x ∷ cells) other (y ∷ others) =
     IsSameCell at x other y × AreSameCells (at + length x) cells (other + length y) others
 AreSameCells at cells other others = ⊥
 
--- Different cells have different rows, for any following text, and hence different listings.
+-- Different cells have different rows, for any later text, and different listings.
 pub record RowsAreReadBack : Type 0 where
   pub rows : (at other : ℕ) (x y more rest : List ℕ) → at < 2 ^ 64 → other < 2 ^ 64
       → HasNumbers x → HasNumbers y → row at x ++ more ≡ row other y ++ rest
@@ -112,45 +105,40 @@ pub record RowsAreReadBack : Type 0 where
       → rows_from false at cells ≡ rows_from false other others
       → AreSameCells at cells other others
 
--- the numbers of an area are below 2^64; numbers decoded from bytes are below 2^32
 pub record HasAreaNumbers (a : Area) : Type 0 where
   pub offset : a.offset < 2 ^ 64
   pub size : a.size < 2 ^ 64
   pub flags : a.flags < 2 ^ 64
 
--- two areas with the same name up to the NUL, and the same offset, size and flags
+-- names up to the NUL
 pub record IsSameArea (a b : Area) : Type 0 where
   pub name : text_of a.name ≡ text_of b.name
   pub offset : a.offset ≡ b.offset
   pub size : a.size ≡ b.size
   pub flags : a.flags ≡ b.flags
 
--- the same for several areas
 abbrev pub HaveAreaNumbers : List Area → Type 0
 HaveAreaNumbers [] = ⊤
 HaveAreaNumbers (a ∷ areas) = HasAreaNumbers a × HaveAreaNumbers areas
 
--- areas with pairwise equal printed properties
+-- pairwise
 abbrev pub AreSameAreas : List Area → List Area → Type 0
 AreSameAreas [] [] = ⊤
 AreSameAreas (a ∷ areas) (b ∷ others) = IsSameArea a b × AreSameAreas areas others
 AreSameAreas areas others = ⊥
 
--- the numbers of a map are below 2^64; numbers decoded from bytes are below 2^32
 pub record HasMapNumbers (q : ℕ) (h : FmapHead) : Type 0 where
   pub place : q < 2 ^ 64
   pub size : h.size < 2 ^ 64
   pub nareas : h.nareas < 2 ^ 64
 
--- two maps with the same offset, name, size and number of areas
 pub record IsSameMap (q : ℕ) (h : FmapHead) (p : ℕ) (k : FmapHead) : Type 0 where
   pub place : q ≡ p
   pub name : text_of h.name ≡ text_of k.name
   pub size : h.size ≡ k.size
   pub nareas : h.nareas ≡ k.nareas
 
--- Different maps and different areas have different lines, for any following text, and hence
--- different layouts.
+-- Different maps and areas have different lines, for any later text, and different layouts.
 pub record LinesAreReadBack : Type 0 where
   pub maps : (q p : ℕ) (h k : FmapHead) (more rest : List ℕ) → HasMapNumbers q h
       → HasMapNumbers p k → map_row q h ++ more ≡ map_row p k ++ rest

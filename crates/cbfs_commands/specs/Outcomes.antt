@@ -1,4 +1,4 @@
--- The outcomes of commands on a region's bytes, and the effect of an interruption on a region.
+-- The outcomes of commands on a region, and the effect of an interruption.
 use Rattle.std.specs.Prelude.{◌≡◌, ◌≢◌, ℕ, ◌⊎◌, Bool, List, length, Ok, Err, if◌then◌else◌}
 use Rattle.std.specs.Option.{option_map_or}
 use Rattle.flash_format.specs.Components.{Component, is_packed}
@@ -16,37 +16,34 @@ use Rattle.cbfs_commands.specs.Refusals.{fault_or, store_refusal, walk_refusal}
 use Rattle.cbfs_commands.specs.Rows.{rows_from}
 use Rattle.cbfs_commands.specs.Told.{Answer, Told, shows, refuses}
 
--- the output and answer of a command, and the resulting image
 pub record Outcome : Type 0 where
   pub told : Told
   pub image : List ℕ
 
--- the report on a named region's bytes
 abbrev pub told_in : List ℕ → List ℕ → (List ℕ → Told) → Told
 told_in image name tell = fault_or (λ fault. refuses (store_refusal fault)) (region_of image name)
     (λ region. tell (bytes_in region image))
 
 -- ---- print
 
--- a row for each cell, then the answer: damage at the offset after the cells, or success
+-- a row per cell, then the damage after the cells, or success
 abbrev pub print_cut : Bool → ℕ → Cut → Told
 print_cut verbose at c =
     let found = not_found (place_after at c.cells) c.end in
     let answer = fault_or (λ fault. Err (walk_refusal fault)) found (λ none. Ok tt) in
     record { written = rows_from verbose at c.cells; answer = answer }
 
--- the rows of a region's cells, with the lines of the components if verbose
+-- if verbose, also the lines of the components
 unfoldable pub print_region : List ℕ → Bool → Told
 print_region x verbose =
     refused_or (λ fault. refuses (walk_refusal fault)) (shape_fault x) (print_cut verbose 0 (cut x))
 
 -- ---- extract
 
--- the content of a component, unless compressed
+-- the content, unless compressed
 abbrev pub told_component : Component → Told
 told_component c = if is_packed c.attributes then refuses refusals.Compressed else shows c.content
 
--- the content of the first component with the name
 abbrev pub extract_region : List ℕ → List ℕ → Told
 extract_region x name =
     fault_or (λ fault. refuses (walk_refusal fault)) (component_in x name) (λ found.
@@ -54,16 +51,16 @@ extract_region x name =
 
 -- ---- the effect of a call
 
--- A region after an interrupted write: a prefix of the source, followed by the old bytes, and after
--- a device fault by a single arbitrary piece in between. A source of another size changes nothing.
+-- A region after an interrupted write: a prefix of the source, after a device fault an arbitrary
+-- piece, then the old bytes. A source of another size changes nothing.
 pub record StopsIn (region : Range) (image source : List ℕ) (answer : Answer)
     (now : List ℕ) : Type 0 where
   pub of_other_size : length source ≢ region.size → now ≡ image
   pub by_source : answer ≡ Err refusals.Source → FirstWritten region.start source image now
   pub by_device : answer ≡ Err refusals.Device → PartWritten region.start source image now
 
--- A region after an interrupted addition: after a device fault, the components before or after the
--- whole addition; after a source fault, the components before.
+-- A region after an interrupted addition: after a source fault, the same components; after a device
+-- fault, also with the complete addition.
 pub record AddStopsIn (region : Range) (image : List ℕ) (new : NewComponent) (spot : Spot)
     (answer : Answer) (now : List ℕ) : Type 0 where
   pub by_device : answer ≡ Err refusals.Device
@@ -71,7 +68,7 @@ pub record AddStopsIn (region : Range) (image : List ℕ) (new : NewComponent) (
   pub by_source : answer ≡ Err refusals.Source
       → AddLeavesBefore (bytes_in region image) new spot (bytes_in region now)
 
--- the call has the answer and effect of the outcome, or the device or the source failed
+-- the answer and effect of the outcome, or a fault of the device or the source
 abbrev pub LeavesOr : List ℕ → Answer → Outcome → Type 0
 LeavesOr now answer o = ((answer ≡ o.told.answer) × (now ≡ o.image))
     ⊎ (answer ≡ Err refusals.Device) ⊎ (answer ≡ Err refusals.Source)

@@ -1,4 +1,4 @@
--- The errors of the lower layers as errors of a command, and answers without a fault.
+-- Errors of the lower layers as errors of a command.
 use Rattle.std.specs.Prelude.{ℕ, ◌⊎◌, Result, Ok, Err, IsErrOf}
 use Rattle.flash_device.specs.declared.fmap.StoreFault.{StoreFault}
 use Rattle.flash_device.specs.declared.fmap.StoreFault.TheVariants as store
@@ -35,16 +35,16 @@ edit_refusal edit.BadName = refusals.BadName
 edit_refusal edit.BadType = refusals.BadType
 edit_refusal edit.BadAlign = refusals.BadAlign
 
--- the error of an edit's walk
+-- the error of a walk
 abbrev pub walk_refusal : WalkFault → Refusal
 walk_refusal fault = edit_refusal (edit_fault_of fault)
 
--- the answer for a fault, or else the answer for the value
+-- the answer for the fault, or for the value
 abbrev pub fault_or : {T E A : Type 0} → (E → A) → Result T E → (T → A) → A
 fault_or refuse (Err fault) next = refuse fault
 fault_or refuse (Ok value) next = next value
 
--- the number of failed calls of the device or the source, by error
+-- the number of failed calls
 abbrev pub by_device : Refusal → ℕ
 by_device refusals.Device = 1
 by_device _ = 0
@@ -53,7 +53,7 @@ abbrev pub by_source : Refusal → ℕ
 by_source refusals.Source = 1
 by_source _ = 0
 
--- the answer is no fault of the device, the output or the source
+-- no fault of the device, the output or the source
 abbrev pub HasNoFault : {T : Type 0} → Result T Refusal → Type 0
 HasNoFault answer = IsErrOf answer refusals.Device ⊎ IsErrOf answer refusals.Output
     ⊎ IsErrOf answer refusals.Source → ⊥

@@ -1,6 +1,4 @@
--- The output of `print`: a row for each cell of a region, and with `-v` a line for each attribute
--- and for the digest. The output of `layout`: the offset of an image's map, and its areas. The
--- formats are this project's own.
+-- The output of `print` and `layout`, in this project's own formats.
 use Rattle.std.specs.Prelude.{ℕ, List, ◌++◌, ◌==◌, drop, if◌then◌else◌, Option, Some, None}
 use Rattle.std.specs.Prelude.{unwrap_or, ◌+◌, Bool, not, ◌&&◌, [], ◌∷◌, length, map}
 use Rattle.std.specs.List.{flat_map}
@@ -28,33 +26,33 @@ use Rattle.cbfs_walk.specs.declared.hashes.HashState.{HashState}
 use Rattle.cbfs_walk.specs.declared.hashes.HashState.TheVariants.{Absent, Valid, Invalid}
 use Rattle.cbfs_walk.specs.declared.hashes.HashState.TheVariants.{Unsupported}
 
--- a type by name, or else by number
+-- by name, or else by number
 unfoldable pub printed_type : ℕ → List ℕ
 printed_type kind = unwrap_or (name_of_type kind) (hexadecimal kind)
 
--- a compression by name, or else by number
+-- by name, or else by number
 unfoldable pub printed_packing : ℕ → List ℕ
 printed_packing n = if n == 0 then codes "none"
     else (if n == 1 then codes "LZMA" else (if n == 2 then codes "LZ4" else hexadecimal n))
 
--- The row of a cell: name, offset, type, content length and compression.
+-- A cell's name, offset, type, content length and compression.
 unfoldable pub row_text : ℕ → Head → Option (List ℕ) → ℕ → List ℕ
 row_text at h name n = option_map_or printed_name name (codes "(empty)") ++ tab ++ hexadecimal at
     ++ tab ++ printed_type h.kind ++ tab ++ decimal h.len ++ tab ++ printed_packing n ++ line_feed
 
--- the row of a cell; free space has no name and no compression
+-- free space has no name and no compression
 abbrev pub row : ℕ → List ℕ → List ℕ
 row at x = if is_free (head_of x) then row_text at (head_of x) None 0
     else row_text at (head_of x) (Some (cell_name x)) (packing (cell_attributes x))
 
 -- ---- layout
 
--- the row of a map: offset, name, size and number of areas
+-- offset, name, size and number of areas
 unfoldable pub map_row : ℕ → FmapHead → List ℕ
 map_row q h = codes "fmap" ++ tab ++ hexadecimal q ++ tab ++ printed_name (text_of h.name) ++ tab
     ++ decimal h.size ++ tab ++ decimal h.nareas ++ line_feed
 
--- the row of an area: name, offset, size and flags
+-- name, offset, size and flags
 unfoldable pub area_row : Area → List ℕ
 area_row a = printed_name (text_of a.name) ++ tab ++ hexadecimal a.offset ++ tab ++ decimal a.size
     ++ tab ++ hexadecimal a.flags ++ line_feed
@@ -64,24 +62,23 @@ layout image = option_map_or
     (λ q. shows (map_row q (fmap_head_of (drop q image)) ++ flat_map area_row (areas_at image q)))
     (map_of image) (refuses refusals.NoFmap)
 
--- the line of an attribute: its tag in eight digits, and its length including the header
+-- the tag in eight digits, and the length including the header
 unfoldable pub attribute_line : AttrHead → List ℕ
 attribute_line head = codes "\tattr\t0x" ++ encode_lower (big_bytes 4 head.tag) ++ tab
     ++ decimal head.len ++ line_feed
 
--- the line of a digest: algorithm, digits and validity
+-- algorithm, digits and validity
 abbrev pub digest_line : Digest → List ℕ → List ℕ
 digest_line d verdict = codes "\thash\t" ++ (algorithm_row (algorithm d)).name ++ tab
     ++ encode_lower (digest_bytes d) ++ tab ++ verdict ++ line_feed
 
--- the line of the first hash attribute, if any
+-- the first hash attribute, if any
 unfoldable pub hash_line : HashState → List ℕ
 hash_line Absent = []
 hash_line (Valid d) = digest_line d (codes "valid")
 hash_line (Invalid d) = digest_line d (codes "invalid")
 hash_line Unsupported = codes "\thash\tunsupported\n"
 
--- the line of a component's digest
 abbrev pub hash_text : List ℕ → List ℕ
 hash_text x = hash_line (hash_state (cell_attributes x) (cell_content x))
 
@@ -89,12 +86,12 @@ hash_text x = hash_line (hash_state (cell_attributes x) (cell_content x))
 abbrev pub details : List ℕ → List ℕ
 details x = flat_map attribute_line (map head_of_attribute (cell_attributes x)) ++ hash_text x
 
--- the row of a cell, followed by its lines
+-- the row, then its lines
 abbrev pub shown_cell : Bool → ℕ → List ℕ → List ℕ
 shown_cell verbose at x =
     row at x ++ (if verbose && not (is_free (head_of x)) then details x else [])
 
--- the rows of consecutive cells
+-- consecutive cells
 unfoldable pub rows_from : Bool → ℕ → List (List ℕ) → List ℕ
 rows_from verbose at [] = []
 rows_from verbose at (x ∷ cells) =

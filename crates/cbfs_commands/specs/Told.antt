@@ -1,4 +1,4 @@
--- The output and answer of a command without changes, and the effect of a call.
+-- The output and answer of a command without changes.
 use Rattle.std.specs.Prelude.{◌≡◌, ℕ, ◌<◌, ◌≤◌, ◌⊎◌, IsErrOf, List, [], false, Option, Result, Ok}
 use Rattle.std.specs.Prelude.{Err, length, take}
 use Rattle.std.specs.Io.KnownBytes.{Appends}
@@ -21,7 +21,7 @@ pub record Told : Type 0 where
   pub written : List ℕ
   pub answer : Answer
 
--- a text and success
+-- text and success
 abbrev pub shows : List ℕ → Told
 shows text = record { written = text; answer = Ok tt }
 
@@ -29,37 +29,36 @@ shows text = record { written = text; answer = Ok tt }
 abbrev pub refuses : Refusal → Told
 refuses refusal = record { written = []; answer = Err refusal }
 
--- the writer failed after a proper prefix of the text, or the device failed after a prefix
+-- the writer failed after a proper prefix of the text, or the device after a prefix
 abbrev pub StopsWriting : Option (List ℕ) → Option (List ℕ) → Answer → List ℕ → Type 0
 StopsWriting old new answer text =
     ((answer ≡ Err refusals.Output) × AppendsPart old new text) ⊎ ((answer ≡ Err refusals.Device)
     × ((n : ℕ) × (n ≤ length text) × Appends old new (take n text)))
 
--- the call has the given output and answer, or an interruption
+-- the output and answer, or an interruption
 abbrev pub Tells : Option (List ℕ) → Option (List ℕ) → Answer → Told → Type 0
 Tells old new answer t =
     ((answer ≡ t.answer) × Appends old new t.written) ⊎ StopsWriting old new answer t.written
 
--- A cell of a region of a device. Both lie within bounds, and an honest device has the cell at its
--- offset.
+-- A cell of a region within bounds. An honest device has the cell at its offset.
 pub record IsCellOf {F : Type 0} (facts : F → Device) (r : Range) (c : Cell)
     (device : F) : Type 0 where
   pub region : LiesIn r (facts device).content
   pub cell : IsCellIn r.size c
   pub stands : OnHonestIn facts device r (λ x. StandsIn x c)
 
--- a cell in use of a region of a device
+-- a cell in use
 pub record IsComponentOf {F : Type 0} (facts : F → Device) (r : Range) (c : Cell)
     (device : F) : Type 0 where
   pub cell : IsCellOf facts r c device
   pub used : is_free c.head ≡ false
 
--- the bytes of a cell, by its region and the image's bytes
+-- a cell's bytes, by its region and the image
 abbrev pub cell_of : Range → Cell → List ℕ → List ℕ
 cell_of region cell image = cell_in (bytes_in region image) cell
 
--- The effect of a call that reads the device at most n times and writes to a sink. A fault implies
--- a failure of its device. `told` requires an honest device.
+-- A call that reads the device at most n times and writes to a sink. A fault implies a failure of
+-- its device. `told` requires an honest device.
 pub record HasTold {F W : Type 0} (facts : F → Device) (contents : W → Option (List ℕ))
     (faults : W → ℕ) (n : ℕ) (old new : Pages F) (out_old out_new : W) (answer : Answer)
     (t : List ℕ → Told) : Type 0 where

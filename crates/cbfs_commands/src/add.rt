@@ -7,7 +7,7 @@ use crate::refusal::Refusal;
 use cbfs_edit::{HashChoice, Spot};
 use flash_device::{Flash, Paged, Source};
 
-/// Adds the source to the region as the content of a component.
+/// Adds the source to the region as a component's content.
 pub fn add<F: Flash, S: Source>(
     paged: &mut Paged<F>,
     region: &[u8],

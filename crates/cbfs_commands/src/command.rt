@@ -4,23 +4,22 @@ use crate::create::MOST_REGIONS;
 use arrayvec::ArrayVec;
 use cbfs_edit::{HashChoice, Spot};
 
-/// A command and its arguments. Names of regions and components are bytes.
+/// A command and its arguments. Names are bytes.
 #[derive(Drop)]
 pub enum Command<'a> {
-    /// Prints a row for each cell of the region, and if verbose a line for each attribute and for
-    /// the digest.
+    /// Prints a row per cell of the region, and if verbose also attributes and digests.
     Print {
         region: &'a [u8],
         verbose: bool,
     },
-    /// Prints the offset of the flashmap, and its areas.
+    /// Prints the flashmap's offset and areas.
     Layout,
     /// Writes the content of the first component with the name.
     Extract {
         region: &'a [u8],
         name: &'a [u8],
     },
-    /// Adds the source to the region as the content of a component.
+    /// Adds the source as a component's content.
     Add {
         region: &'a [u8],
         name: &'a [u8],
@@ -29,21 +28,20 @@ pub enum Command<'a> {
         hash: HashChoice,
         spot: Spot,
     },
-    /// Replaces the first component of this name by free space.
+    /// Replaces the first component with the name by free space.
     Remove {
         region: &'a [u8],
         name: &'a [u8],
     },
-    /// Writes the bytes of the region.
+    /// Writes the region's bytes.
     Read {
         region: &'a [u8],
     },
-    /// Replaces the region with the source, which has the same size.
+    /// Replaces the region with a source of the same size.
     Write {
         region: &'a [u8],
     },
-    /// Creates the whole image from a flashmap, the source, with each region as a single empty
-    /// entry.
+    /// Creates the image from a flashmap, the source, with each region as an empty entry.
     Create {
         regions: ArrayVec<&'a [u8], MOST_REGIONS>,
     },

@@ -1,4 +1,4 @@
-//! Runs one command.
+//! Runs a command.
 
 ghost use Rattle.std.specs.Prelude.{◌≡◌, ◌+◌, ◌*◌, ◌/◌, ◌<◌, ◌≤◌, ◌⊎◌, false, length, IsTrue};
 ghost use Rattle.std.specs.Prelude.{IsErrOf};
@@ -20,7 +20,6 @@ use crate::remove::remove;
 use crate::write::write;
 use flash_device::{Flash, Paged, Sink, Source};
 
-/// Calls the function of a command.
 fn dispatch<F: Flash, S: Source, W: Sink>(
     paged: &mut Paged<F>,
     command: &Command,
@@ -56,7 +55,7 @@ pub fn run<F: Flash, S: Source, W: Sink>(
     source: &mut S,
     out: &mut W,
 ) -> Result<(), Refusal>
-    // On any device, for any source and any sink.
+    // On any device, for any source and sink.
     ensures calls { Calls (2 * length (F.facts paged.old.device).content + 64)
         (faults_told by_device result) (F.facts paged.old.device) (F.facts paged.new.device) }
     ensures source_calls { Calls
@@ -78,14 +77,14 @@ pub fn run<F: Flash, S: Source, W: Sink>(
         → IsTrue (writes_output (deed (request_of command.now)))
         × (W.faults out.old < W.faults out.new) }
 
-    // On an honest device, for any answer and any source.
+    // For any answer and source.
     ensures spares { IsTrue (F.facts paged.old.device).honest → SparesOutside
         ((change_of (deed (request_of command.now))).target (F.facts paged.old.device).content)
         (F.facts paged.old.device).content (F.facts paged.new.device).content }
     ensures refused { IsTrue (F.facts paged.old.device).honest → MayHaveWritten result
         ⊎ ((F.facts paged.new.device).content ≡ (F.facts paged.old.device).content) }
 
-    // On an honest device, and for an honest source if the command reads the source.
+    // For an honest source, if the command reads it.
     ensures outcome { IsTrue (F.facts paged.old.device).honest
         → Serves (deed (request_of command.now)) (S.facts source.old)
         → Meets (deed (request_of command.now)) (W.contents out.old) (W.contents out.new)

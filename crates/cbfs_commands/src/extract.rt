@@ -10,7 +10,6 @@ use crate::refusal::Refusal;
 use cbfs_walk::{Cell, cells_stand_in_their_image, find, packing};
 use flash_device::{Flash, Paged, Region, Sink};
 
-/// Writes the content of an uncompressed component.
 fn extract_component<F: Flash, W: Sink>(
     paged: &mut Paged<F>,
     region: Region,
@@ -32,7 +31,7 @@ fn extract_component<F: Flash, W: Sink>(
     copy_out(paged, start, u64::from(cell.head.len), out)
 }
 
-/// Writes the content of the first component with the name. The walk ends at the component.
+/// Writes the content of the first component with the name, and reads no later cells.
 pub fn extract<F: Flash, W: Sink>(
     paged: &mut Paged<F>,
     region: &[u8],

@@ -45,7 +45,6 @@ fn set_area_row(row: &mut Row, area: &Area)
     push_text(row, b"\n");
 }
 
-/// Prints the row of an area, by its number.
 fn list_area<F: Flash, W: Sink>(
     paged: &mut Paged<F>,
     map: &FoundMap,
@@ -66,7 +65,6 @@ fn list_area<F: Flash, W: Sink>(
     put_row(out, row)
 }
 
-/// Prints the rows of all areas, in the map's order.
 fn list_areas<F: Flash, W: Sink>(
     paged: &mut Paged<F>,
     map: &FoundMap,
@@ -85,7 +83,7 @@ fn list_areas<F: Flash, W: Sink>(
     Ok(())
 }
 
-/// Prints the offset of the image's map, and its areas.
+/// Prints the offset and the areas of the image's map.
 #[tactic(auto, unfolding(crate::specs::Rows::layout))]
 pub fn layout<F: Flash, W: Sink>(paged: &mut Paged<F>, out: &mut W) -> Result<(), Refusal>
     ensures { HasTold F.facts W.contents W.faults (length (F.facts paged.old.device).content / 2

@@ -1,4 +1,4 @@
-//! The commands on an image: print, layout, extract, add, remove, read, write and create.
+//! The commands on an image.
 #![tactic(auto)]
 
 mod add;

@@ -11,7 +11,7 @@ use flash_device::{CopyFault, FlashFault, SinkFault, SourceFault, StoreFault};
 use flash_format::DamageKind;
 use thiserror::Error;
 
-/// The errors of a command, each with its number and its message.
+/// The errors of a command, with numbers and messages.
 #[derive(Clone, Copy, Debug, PartialEq, Eq, Error)]
 pub enum Refusal {
     /// 1: I/O error of the image.
@@ -83,7 +83,6 @@ pub enum Refusal {
     TooLarge,
 }
 
-/// Returns the name of a kind of damage.
 fn damage(kind: DamageKind) -> &'static str {
     match kind {
         DamageKind::Offset => "offset",
@@ -94,7 +93,6 @@ fn damage(kind: DamageKind) -> &'static str {
     }
 }
 
-/// Converts a device fault.
 impl From<FlashFault> for Refusal {
     ghost from_gives = { λ _ refusal. refusal ≡ refusals.Device };
 
@@ -103,7 +101,6 @@ impl From<FlashFault> for Refusal {
     }
 }
 
-/// Converts a read error of the source.
 impl From<SourceFault> for Refusal {
     ghost from_gives = { λ _ refusal. refusal ≡ refusals.Source };
 
@@ -112,7 +109,6 @@ impl From<SourceFault> for Refusal {
     }
 }
 
-/// Converts an output error.
 impl From<SinkFault> for Refusal {
     ghost from_gives = { λ _ refusal. refusal ≡ refusals.Output };
 
@@ -121,7 +117,6 @@ impl From<SinkFault> for Refusal {
     }
 }
 
-/// Converts the fault of a copy.
 impl From<CopyFault> for Refusal {
     ghost from_gives = { λ fault refusal. refusal ≡ copy_refusal fault };
 
@@ -134,7 +129,6 @@ impl From<CopyFault> for Refusal {
     }
 }
 
-/// Converts the error of a region's lookup.
 impl From<StoreFault> for Refusal {
     ghost from_gives = { λ fault refusal. refusal ≡ store_refusal fault };
 
@@ -148,7 +142,6 @@ impl From<StoreFault> for Refusal {
     }
 }
 
-/// Converts the error of a walk.
 impl From<WalkFault> for Refusal {
     ghost from_gives = { λ fault refusal. refusal ≡ walk_refusal fault };
 
@@ -162,7 +155,6 @@ impl From<WalkFault> for Refusal {
     }
 }
 
-/// Converts the error of an edit.
 impl From<EditFault> for Refusal {
     ghost from_gives = { λ fault refusal. refusal ≡ edit_refusal fault };
 

@@ -6,7 +6,7 @@ ghost use Rattle.cbfs_commands.specs.Deeds.{HasChanged, no_source, removes};
 use crate::refusal::Refusal;
 use flash_device::{Flash, Paged};
 
-/// Replaces the first component of this name by free space.
+/// Replaces the first component with the name by free space.
 pub fn remove<F: Flash>(paged: &mut Paged<F>, region: &[u8], name: &[u8]) -> Result<(), Refusal>
     ensures { HasChanged F.facts (2 * length (F.facts paged.old.device).content + 64)
         (removes region.now name.now) paged.old paged.new no_source no_source result }

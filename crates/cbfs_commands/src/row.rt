@@ -18,8 +18,7 @@ use itoa::Buffer;
 /// The maximum length of a row: a name of 255 escaped bytes, and the other fields.
 pub const ROW_LEN: usize = 1152;
 
-/// The buffer of a row. A listing reuses a single buffer, because creation would zero the buffer
-/// for each row.
+/// The buffer of a row. A listing reuses a single buffer, because creation would zero it.
 pub type Row = ArrayVec<u8, ROW_LEN>;
 
 pub fn push_decimal(row: &mut Row, n: u32)
@@ -54,7 +53,7 @@ fn push_packing(row: &mut Row, packing: u32)
     }
 }
 
-/// Appends the name of a component, or a placeholder.
+/// Appends a component's name, or a placeholder.
 fn push_label(row: &mut Row, name: Option<&[u8]>)
     requires room { array_vec_len row.old + 1020 ≤ ROW_LEN }
     requires short { ForSome name (λ n. length n.now ≤ 255) }
@@ -67,8 +66,7 @@ fn push_label(row: &mut Row, name: Option<&[u8]>)
     }
 }
 
-/// Formats the row of a cell with the given header, offset, optional name and compression. Replaces
-/// the previous row.
+/// Replaces the buffer's content with a cell's row.
 #[tactic(auto, unfolding(crate::specs::Rows::row_text))]
 pub fn set_row_text(row: &mut Row, at: u64, head: &Head, name: Option<&[u8]>, packing: u32)
     requires { ForSome name (λ n. length n.now ≤ 255) }

@@ -6,7 +6,7 @@ ghost use Rattle.cbfs_commands.specs.Deeds.{HasChanged, replaces};
 use crate::refusal::Refusal;
 use flash_device::{Flash, Paged, Source};
 
-/// Replaces the bytes of a region with the source, which has the same size, from front to back.
+/// Replaces a region with a source of the same size, from front to back.
 pub fn write<F: Flash, S: Source>(
     paged: &mut Paged<F>,
     name: &[u8],

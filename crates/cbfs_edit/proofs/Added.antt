@@ -1,4 +1,4 @@
--- An accepted addition: where it stands, what the region has after it, and what its calls have answered.
+-- An accepted addition: its place, its effect and its calls.
 use Rattle.std.proofs.Common.{◌≡◌, inl, inr, ℕ, ◌+◌, ◌-◌, ◌/◌, ◌%◌, ◌^◌, ◌<◌, ◌≤◌, Bool, true, false, cond, eqb, ltb, ◌||◌, List, [], ◌∷◌, ◌++◌, length, drop, Contains, Option, Some, None, Ok, sym, ◌∙◌, ap, subst, refl, arith, length-append, ◌⊎◌, ⊎_elim, Result, Err}
 use Rattle.std.specs.Prelude.{◌==◌, IsErrOf}
 use Rattle.std.specs.List.{list_any}
@@ -47,7 +47,7 @@ use Rattle.cbfs_edit.specs.declared.addition.HashChoice.TheVariants.{Plain, Sha2
 use Rattle.cbfs_edit.specs.declared.fault.EditFault.TheVariants as faults
 use Rattle.flash_device.specs.declared.paged.CopyFault.TheVariants as copies
 
--- once the caller's own faults are looked at
+-- after the caller's own checks
 pub own-is : (x : List ℕ) (new : NewComponent) (spot : Spot) (own : Option EditFault) → own ≡ own_fault new.name new.kind spot → option_map_or (λ fault. Err fault) own (placing_in x new.name (wanted_for new spot)) ≡ addition_in x new spot
 unfolding addition_in
 own-is x new spot own is = ap (λ (o : Option EditFault). option_map_or (λ fault. Err fault) o (placing_in x new.name (wanted_for new spot))) is
@@ -83,7 +83,7 @@ accepted x new spot place is = go (is_bad_name new.name) (is_bad_type new.kind) 
 pub accepted_size : (x : List ℕ) (new : NewComponent) (spot : Spot) (place : Place) → addition_in x new spot ≡ Ok place → length x % 64 ≡ 0
 accepted_size x new spot place is = (answered_place x new.name (wanted_for new spot) place (accepted x new spot place is).placed).sound.whole
 
--- the space between two places
+-- the space between two offsets
 space : (x : List ℕ) (start end : ℕ) → start ≤ end → start % 64 ≡ 0 → end % 64 ≡ 0 → 4 ≤ length x → IsSpace (end - start) (empty_between x start end)
 space x start end order start_aligned end_aligned some =
     cond_both (start == end) [] (empty_entry (end - start) (kept_at x end)) (λ (l : List ℕ). IsSpace (end - start) l)
@@ -211,7 +211,7 @@ module _ (x : List ℕ) (new : NewComponent) (spot : Spot) (place : Place) (is :
       let below = space_end-below (length x) place.run.end range.inside range.end_aligned there.sound.whole in
       (inr (place, is.placed, emptied-stopped x place.run range to y emptied (added x new place) (kept_from x new place) (omega (arith, near, range.some)) within (omega (arith, below)) (inl kept.components) kept.end), kept.components)
 
-  -- and after it
+  -- a stop after the last commit
   pub add_leaves_done : (y : List ℕ) → y ≡ added x new place → drop to y ≡ drop to x → AddLeavesWhole x new spot y
   add_leaves_done y done last =
       let u : List ℕ = before ++ (made_at x new place ++ after) in
@@ -233,7 +233,7 @@ module _ (x : List ℕ) (new : NewComponent) (spot : Spot) (place : Place) (is :
 pub additions_add_one : AdditionsAddOneComponent
 additions_add_one = adds_one
 
--- ---- the steps of an addition: its own checks, the search for a place, the writes
+-- ---- the steps: own checks, search, writes
 
 pub digest-sized : (hash : HashChoice) (content : List ℕ) → IsDigest (digest_of hash content)
 unfolding sha256_of sha512_of
@@ -241,7 +241,7 @@ digest-sized Plain content = tt
 digest-sized Sha256 content = length-sha256 content
 digest-sized Sha512 content = length-sha512 content
 
--- no fault of the caller's own
+-- no error of the caller's own checks
 pub no_fault : (o : Option EditFault) → ((fault : EditFault) → o ≡ Some fault → ⊥) → None ≡ o
 no_fault None none = refl
 no_fault (Some fault) none = absurd (none fault refl)
@@ -249,14 +249,13 @@ no_fault (Some fault) none = absurd (none fault refl)
 pub same_fault : {A : Type 0} (fault other : EditFault) → (let a : Result A EditFault = Err fault in IsErrOf a other) → fault ≡ other
 same_fault fault other is = cc
 
--- a fault is told alike, whatever the call answers besides
+-- an error is the same in results of any type
 pub told : {A B : Type 0} (fault other : EditFault) → (let a : Result A EditFault = Err fault in IsErrOf a other) → (let b : Result B EditFault = Err fault in IsErrOf b other)
 told fault other is = ap (λ e. Err e) (same_fault fault other is)
 
 pub told_as : {A : Type 0} (fault other : EditFault) → fault ≡ other → (let a : Result A EditFault = Err fault in IsErrOf a other)
 told_as fault other is = ap (λ e. Err e) is
 
--- what is told of an error holds of no success, nor of another error
 pub no_error : {A E X : Type 0} {value : A} {fault : E} → (let a : Result A E = Ok value in IsErrOf a fault) → X
 no_error is = absurd cc
 
@@ -266,11 +265,11 @@ device_for_source is = absurd cc
 pub source_for_device : {A X : Type 0} → (let a : Result A EditFault = Err faults.Source in IsErrOf a faults.Device) → X
 source_for_device is = absurd cc
 
--- the calls of the source
+-- the source's calls
 pub content_read : (n told : ℕ) (old new : Device) → Reads ((n + 4095) / 4096) told old new → Reads (n / 4096 + 1) told old new
 content_read n told old new read = record { calls = Calls-at_most ((n + 4095) / 4096) (n / 4096 + 1) told old new (omega (arith, read.calls.no_more)) read.calls; unchanged = read.unchanged }
 
--- and of the device: the search and the writes
+-- the device's calls: search and writes
 pub sought_written : {F : Type 0} (facts : F → Device) (r : Range) (told : ℕ) (old mid new : Pages F) → HasRead facts (r.size / 16 + 1) 0 old mid → HasChanged facts r (r.size / 4096 + r.size / 4096 + 6) told mid new
     → HasChanged facts r (r.size / 16 + r.size / 2048 + 7) told old new
 sought_written facts r told old mid new read changed =
@@ -283,7 +282,7 @@ sought_written facts r told old mid new read changed =
       outside = λ h. subst (λ (l : List ℕ). SameOutside r.start r.size l (facts new.device).content) (read.device.unchanged h) (changed.outside (honest_still read.device.calls.same_honesty h));
     }
 
--- what the search for a place has answered, once the caller's own checks are passed
+-- the search's result after the caller's own checks
 module _ (x : List ℕ) (new : NewComponent) (spot : Spot) (own : Option EditFault) (wanted : Wanted) (passed : (fault : EditFault) → own ≡ Some fault → ⊥) (own_is : own ≡ own_fault new.name new.kind spot) (wanted_is : wanted ≡ wanted_for new spot) where
   same : placing_in x new.name wanted ≡ addition_in x new spot
   same = ap (λ (w : Wanted). placing_in x new.name w) wanted_is ∙ own-is x new spot None (no_fault own passed ∙ own_is)
@@ -296,7 +295,7 @@ module _ (x : List ℕ) (new : NewComponent) (spot : Spot) (own : Option EditFau
   place_found place (inl failed) = absurd cc
   place_found place (inr found) = sym (found ∙ same)
 
--- what is written over a region that the search has left as it was
+-- the writes after a search
 pub written : (r : Range) (new : NewComponent) (spot : Spot) (place : Place) (old mid now : List ℕ) → mid ≡ old → addition_in (bytes_in r old) new spot ≡ Ok place → bytes_in r now ≡ added (bytes_in r mid) new place → bytes_in r now ≡ added_to (bytes_in r old) new spot
 written r new spot place old mid now same is there = there ∙ ap (λ (l : List ℕ). added (bytes_in r l) new place) same ∙ sym (ap (λ (a : Result Place EditFault). option_map_or (added (bytes_in r old) new) (result_ok a) (bytes_in r old)) is)
 
@@ -324,11 +323,11 @@ module _ (r : Range) (new : NewComponent) (spot : Spot) (place : Place) (old mid
   left_before : IsOldOrEmptied place.run (written_to (length x) (length new.content) place) x y → AddLeavesBefore x new spot y
   left_before before = add_leaves_before x new spot place added_there y before
 
-  -- after a fault of the source
+  -- after a source fault
   pub source_leaves : IsErrOf result copies.Source → AddLeavesBefore x new spot y
   source_leaves failed = ⊎_elim left_before (λ shown. absurd (shown.0.0 failed)) stop
 
-  -- after one of the device
+  -- after a device fault
   pub device_leaves : honest → AddLeavesWhole x new spot y
   device_leaves true_source =
       ⊎_elim (λ before. (left_before before).0) (λ shown. add_leaves_done x new spot place added_there y (shown.0.1 true_source) shown.1) stop

@@ -1,4 +1,4 @@
--- Changes within a range, and the last four bytes that are kept.
+-- Changes within a range, and the region's last four bytes.
 use Rattle.std.proofs.Common.{◌≡◌, ℕ, ◌-◌, ◌<◌, ◌≤◌, Bool, true, false, cond, List, length, Option, Some, None, ap, refl, arith, length-drop, ◌⊎◌, inl, inr, ◌+◌, sym, ◌∙◌, subst}
 use Rattle.std.specs.Prelude.{◌==◌, is_some, max}
 use Rattle.std.proofs.lemmas.Bool.{cond_both, ne_eqb, eqb-false, eqb-true}
@@ -9,7 +9,7 @@ use Rattle.flash_device.proofs.BytesLemmas.{SameOutside-overwritten, SameOutside
 use Rattle.cbfs_edit.specs.declared.place.Place.{Place}
 use Rattle.cbfs_edit.specs.Additions.{HasRoom, with_bound, held_back, IsUnfinished}
 
--- ---- the last four bytes of a region, where an empty entry keeps them
+-- ---- the last four bytes of a region
 
 pub length-last_four : (x : List ℕ) → 4 ≤ length x → length (last_four x) ≡ 4
 length-last_four x some = omega (arith, length-drop (length x - 4) x)
@@ -21,32 +21,31 @@ pub is_some-cond : (b : Bool) (last : List ℕ) → is_some (cond b (Some last) 
 is_some-cond true last = refl
 is_some-cond false last = refl
 
--- a cell that ends before the region's end keeps nothing
+-- a cell that ends before the region's end preserves nothing
 pub kept-none : (x : List ℕ) (end : ℕ) → end < length x → kept_at x end ≡ None
 kept-none x end below = ap (λ b. cond b (Some (last_four x)) None) (ne_eqb end (length x) (λ e. absurd (omega (arith, e, below))))
 
--- ---- changes of a run, within a range
+-- ---- changes within a range
 
 pub unchanged : (x : List ℕ) (at n : ℕ) → SameOutside at n x x
 unchanged x at n = record { before = refl; after = refl }
 
--- a write that is whole or absent
+-- a complete or absent write
 pub whole-outside : (x y : List ℕ) (at n : ℕ) (u : List ℕ) → length u ≡ n → at ≤ length x → (y ≡ x) ⊎ (y ≡ overwritten x at u) → SameOutside at n x y
 whole-outside x y at n u long inside (inl same) = subst (λ (l : List ℕ). SameOutside at n x l) (sym same) (unchanged x at n)
 whole-outside x y at n u long inside (inr is) = subst (λ (l : List ℕ). SameOutside at n x l) (sym is) (SameOutside-overwritten x at n u (omega (arith, long)) inside)
 
--- a change within a range
 pub within : (y z : List ℕ) (at n from to : ℕ) → from ≤ at → at + n ≤ to → SameOutside at n y z → SameOutside from (to - from) y z
 within y z at n from to after before same =
     let place : from + (at - from) ≡ at = omega arith in
     SameOutside-trans y y z from (to - from) (at - from) n (omega arith) (unchanged y from (to - from)) (subst (λ p. SameOutside p n y z) (sym place) same)
 
--- two changes of a range, one after the other
+-- two changes of a range
 pub again : (x y z : List ℕ) (at n : ℕ) → SameOutside at n x y → SameOutside at n y z → SameOutside at n x z
 again x y z at n first second = record { before = second.before ∙ first.before; after = second.after ∙ first.after }
 
 module _ (size : ℕ) (place : Place) (end metadata : ℕ) (room : HasRoom size place end metadata) (y z : List ℕ) where
-  -- the rest of the metadata
+  -- the other metadata
   pub metadata-within : (at n : ℕ) → at ≡ place.header + held_back place → n ≡ metadata - held_back place → SameOutside at n y z → IsUnfinished place y z
   metadata-within at n is long same =
       let held : (place.run.start + header_length ≤ place.header + held_back place) × (held_back place ≤ header_length) =
@@ -55,7 +54,7 @@ module _ (size : ℕ) (place : Place) (end metadata : ℕ) (room : HasRoom size 
       (λ e. (omega (arith, eqb-false place.header place.run.start e, room.start_below, room.run.start_aligned, room.cell.start_aligned), omega arith)) in
       within y z at n (place.run.start + header_length) (max place.content (place.run.end - 4)) (omega (arith, held, is)) (omega (arith, held, is, long, room.metadata_is, room.metadata_long)) same
 
-  -- the header of the empty entry after the component
+  -- the empty entry after the component
   pub bound-is : (header : List ℕ) (told : ℕ) → told ≡ length y → header ≡ empty_header (place.run.end - end) (place.run.end == told) → (end ≡ place.run.end → ⊥) → z ≡ overwritten y end header → z ≡ with_bound y end place.run.end
   bound-is header told is_told is_header other is =
       is

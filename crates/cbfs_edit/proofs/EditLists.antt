@@ -1,4 +1,4 @@
--- Edits' steps, and lists of them.
+-- Steps of edits, and lists of edits.
 use Rattle.std.proofs.Common.{◌≡◌, ◌≢◌, ◌⊎◌, ⊎_elim, List, ℕ, Result, Ok, Err, ap, refl, sym, ◌+◌, ◌<◌, ◌≤◌, [], ◌∷◌, ◌++◌, length, take, drop, set, get_or, IsTrue, subst, ◌∙◌, arith, rules}
 use Rattle.std.specs.Borrow.{Bor}
 use Rattle.std.specs.Prelude.{IsErrOf, IfErr, IfOk, OnOk, sum_by}
@@ -25,9 +25,8 @@ use Rattle.cbfs_edit.specs.declared.edit.Edit.TheVariants.{Add, Remove}
 use Rattle.cbfs_edit.specs.declared.edit.Reply.TheVariants as replies
 use Rattle.cbfs_edit.specs.declared.fault.EditFault.TheVariants as faults
 
--- ---- an edit's step, from what its clauses say one by one
+-- ---- the step of an edit, by its clauses
 
--- what is said of a fault
 by-fault : (fault : EditFault) (A B C : Type 0) → (fault ≡ faults.Device → A) → (fault ≡ faults.Source → B) → (fault ≢ faults.Device → fault ≢ faults.Source → C) → by_fault fault A B C
 by-fault faults.Device A B C a b c = a refl
 by-fault faults.Source A B C a b c = b refl
@@ -55,12 +54,10 @@ removal_step facts name r honest old now (Err fault) no_source answer changed re
     (λ e. no_source (told_as fault faults.Source e))
     (λ other _. (⊎_elim (λ failed. absurd (other (same_fault fault faults.Device failed))) (λ is. sym is) (answer h), ap (λ (l : List ℕ). bytes_in r l) (refused h other)))
 
--- what is no fault of the source tells none of its calls
 pub sourceless : (fault : EditFault) → (let a : Result CellRange EditFault = Err fault in IsErrOf a faults.Source → ⊥) → by_source fault ≡ 0
 sourceless faults.Source no_source = absurd (no_source (told_as faults.Source faults.Source refl))
 sourceless fault no_source = refl
 
--- an addition is refused as its place is
 placed-refused : (place : Result Place EditFault) (fault : EditFault) → Err fault ≡ placed_of place → place ≡ Err fault
 placed-refused (Ok place) fault is = absurd cc
 placed-refused (Err other) fault is = ap (λ (e : EditFault). Err e) (sym (same_fault fault other is))
@@ -84,9 +81,9 @@ addition_step facts name kind hash spot source r honest old now (Err fault) answ
       ap (λ (l : List ℕ). bytes_in r l) (refused h other not_source),
     ))
 
--- ---- lists of edits: a run goes on by one step
+-- ---- a list with one more step
 
--- what two calls leave
+-- two calls
 pub changed_more : {F : Type 0} (facts : F → Device) (region : Range) (n k r q : ℕ) (a b c : Pages F) → HasChanged facts region n r a b → HasChanged facts region k q b c → HasChanged facts region (n + k) (r + q) a c
 changed_more facts region n k r q a b c first second = search rules
 
@@ -97,7 +94,6 @@ module _ {S : Type 0} (facts : S → Device) (region : Range) where
   run-push (e ∷ olds) (f ∷ news) (r ∷ replies) before mid after old new reply run one = (run.0, run.1, run-push olds news replies run.0 mid after old new reply run.2 one)
   run-push olds news replies before mid after old new reply run one = absurd run
 
-  -- the first edits have gone by, and the next one goes by
   run_more : (olds edits : List (Edit S)) (replies : List Reply) (i : ℕ) (d f : Edit S) (reply : Reply) (before mid after : Device) → i < length olds → i < length edits → i < length replies
       → Run facts region (take i olds) (take i edits) (take i replies) before mid → Step facts region (get_or olds i d) f mid reply after
       → Run facts region (take (i + 1) olds) (take (i + 1) (set edits i f)) (take (i + 1) (set replies i reply)) before after
@@ -106,7 +102,7 @@ module _ {S : Type 0} (facts : S → Device) (region : Range) where
       (run-push (take i olds) (take i edits) (take i replies) before mid after (get_or olds i d) f reply run one)
 
 module _ {F S : Type 0} (device : F → Device) (facts : S → Device) where
-  -- the first edits have gone by, each with its reply, and the others are as they were
+  -- the first edits are applied, the others are unchanged
   pub record Applied (region : Range) (olds edits : List (Edit S)) (replies : List Reply) (i : ℕ) (old now : Pages F) : Type 0 where
     pub after : HasChanged device region (sum_by (edit_calls region.size) (take i olds)) (sum_by (faults_of by_device) (take i replies)) old now
     pub as_many : length edits ≡ length olds
@@ -147,7 +143,6 @@ module _ {F S : Type 0} (device : F → Device) (facts : S → Device) where
             (subst (λ (k : Edit S). Step facts region k f (device now.device) reply (device new.device)) was step);
       }
 
-  -- none has gone by
   pub applied_none : (region : Range) (olds : List (Edit S)) (replies : List Reply) (old : Pages F) → length olds ≡ length replies → Applied region olds olds replies 0 old old
   applied_none region olds replies old same = record {
     after = record {
@@ -160,7 +155,6 @@ module _ {F S : Type 0} (device : F → Device) (facts : S → Device) where
     run = refl;
   }
 
-  -- all have gone by
   pub applied_all : (region : Range) (olds edits : List (Edit S)) (replies : List Reply) (i : ℕ) (old now : Pages F) → Applied region olds edits replies i old now → length olds ≤ i
       → HasChanged device region (sum_by (edit_calls region.size) olds) (sum_by (faults_of by_device) replies) old now × Run facts region olds edits replies (device old.device) (device now.device)
   applied_all region olds edits replies i old now all ended =

@@ -1,4 +1,4 @@
--- The state between the first commit of an edit and its last, by the header of an empty entry over a group of cells.
+-- An edit between its first and last commit: an empty entry's header over a group.
 use Rattle.std.proofs.Common.{◌≡◌, ◌⊎◌, inl, inr, ℕ, ◌+◌, ◌-◌, ◌≤◌, List, ◌++◌, length, sym, ◌∙◌, ap, arith, refl, ◌%◌, Bool, true, false, cond, take, drop, replicate, Some, None, subst, append_assoc, length-append, length-drop, ◌^◌, ◌<◌}
 use Rattle.std.specs.Prelude.{slice_range, ◌==◌}
 use Rattle.flash_format.specs.Made.{header_length, empty_header, padding}
@@ -20,9 +20,8 @@ use Rattle.flash_format.specs.Splices.{CellsBetween, splice}
 use Rattle.flash_format.proofs.Splices.{length-concat-cells, group-whole, cells-before, cells-group}
 use Rattle.flash_format.proofs.Splices as splices
 
--- ---- lengths and places
+-- ---- lengths and offsets
 
--- the region keeps its length where the image does
 pub same_region_length : (r : Range) (x y z : List ℕ) → LiesIn r x → length y ≡ length x → length z ≡ length y → length (bytes_in r z) ≡ length (bytes_in r y)
 same_region_length r x y z lies first second =
     let lies_y : LiesIn r y = omega (arith, lies) in
@@ -32,12 +31,11 @@ same_region_length r x y z lies first second =
 pub space_end-near : (size end : ℕ) → (space_end size end ≤ end) × (end ≤ space_end size end + 4)
 space_end-near size end = cond_both (end == size) (end - 4) end (λ n. (n ≤ end) × (end ≤ n + 4)) (λ e. (omega arith, omega arith)) (λ e. (omega arith, omega arith))
 
--- that of whole cells keeps the last four bytes
 pub space_end-below : (size end : ℕ) → end ≤ size → end % 64 ≡ 0 → size % 64 ≡ 0 → space_end size end ≤ size - 4
 space_end-below size end inside aligned whole =
     cond_both (end == size) (end - 4) end (λ n. n ≤ size - 4) (λ e. omega (arith, inside)) (λ e. omega (arith, eqb-false end size e, inside, aligned, whole))
 
--- a group that isn't empty lies at multiples of 64 within the region
+-- multiples of 64 within the region
 pub group_range : (x : List ℕ) (group : CellRange) → CellsBetween x group.start group.end → group.start < group.end → IsCellRange group (length x)
 group_range x group g some =
     let before : length (concat g.before) % 64 ≡ 0 = length-concat-cells g.before (cells-before x group.start group.end g) in
@@ -50,11 +48,11 @@ group_range x group g some =
       inside = omega (arith, whole, length-append (concat g.before) (concat g.group ++ (concat g.after ++ g.rest)), length-append (concat g.group) (concat g.after ++ g.rest), g.start_is, g.end_is);
     }
 
--- bytes written over a group are a splice
+-- writes over a group as a splice
 pub as_splice : (x : List ℕ) (start end : ℕ) (u : List ℕ) → start + length u ≡ end → overwritten x start u ≡ splice x start end u
 as_splice x start end u size = ap (λ n. take start x ++ (u ++ drop n x)) size
 
--- ---- the header of an empty entry over a group, and what is behind it
+-- ---- an empty entry's header over a group, and the later bytes
 
 module _ (x : List ℕ) (group : CellRange) (range : IsCellRange group (length x)) where
   abbrev start : ℕ
@@ -87,7 +85,7 @@ module _ (x : List ℕ) (group : CellRange) (range : IsCellRange group (length x
     emptied-commit = record { same_length = bare-length; same = unchanged bare behind (to - behind) }
 
     module _ (y : List ℕ) (is : IsEmptied group to x y) where
-      -- each write after it
+      -- a later write
       pub emptied-write : (z : List ℕ) (at n : ℕ) → length z ≡ length y → behind ≤ at → at + n ≤ to → SameOutside at n y z → IsEmptied group to x z
       emptied-write z at n size after before same =
           record { same_length = size ∙ is.same_length; same = again bare y z behind (to - behind) is.same (within y z at n behind to after before same) }
@@ -95,13 +93,12 @@ module _ (x : List ℕ) (group : CellRange) (range : IsCellRange group (length x
       pub emptied-wider : (later : ℕ) → to ≤ later → IsEmptied group later x y
       emptied-wider later le = record { same_length = is.same_length; same = SameOutside-wider bare y behind (to - behind) (later - behind) (omega arith) is.same }
 
-      -- nothing else has changed
       pub emptied-outside : behind ≤ to → SameOutside start (to - start) x y
       emptied-outside order =
           SameOutside-trans x bare y start (to - start) header_length (to - behind) (omega arith)
           (SameOutside-overwritten x start (to - start) header (omega (arith, header-length)) (omega (arith, range.some, range.inside))) is.same
 
-      -- a stop of an edit, by what is known of its cells; from a place on all bytes are kept
+      -- a stop of an edit, by its cells; bytes from an offset on remain
       pub emptied-stopped : (done : List ℕ) (last : ℕ) → behind ≤ to → to ≤ end → to ≤ last → (components y ≡ components x) ⊎ (components y ≡ components done) → (cut y).end ≡ (cut x).end → IsStopped x group done last y
       emptied-stopped done last order inside later cells ends = record {
         components = cells;
@@ -115,9 +112,9 @@ module _ (x : List ℕ) (group : CellRange) (range : IsCellRange group (length x
   old_or-wider to later y le (inl same) = inl same
   old_or-wider to later y le (inr is) = inr (emptied-wider to y is later le)
 
-  -- ---- a finished removal is one
+  -- ---- a finished removal
 
-  -- the last four bytes stand where they are kept
+  -- the last four bytes remain
   kept_bytes : (n : ℕ) → n ≡ end - 4 - (behind) → end ≡ length x → overwritten x start (header ++ replicate n 0xff) ≡ overwritten x start (header ++ padding (end - start - header_length) (Some (last_four x)))
   kept_bytes n is_n at_end =
       let k = header_length + n in
@@ -145,7 +142,7 @@ module _ (x : List ℕ) (group : CellRange) (range : IsCellRange group (length x
   abbrev filler : List ℕ
   filler = replicate (to - behind) 0xff
 
-  -- the header, and the whole space filled
+  -- the header, and the filled space
   pub filled : overwritten bare behind filler ≡ removed x group
   filled =
       overwritten-more_at x start header_length header filler header-length (omega (arith, range.some, range.inside))
@@ -167,7 +164,7 @@ module _ (x : List ℕ) (group : CellRange) (range : IsCellRange group (length x
   -- ---- the cells
 
   module _ (y : List ℕ) (is : IsEmptied group end x y) where
-    -- what is behind the header
+    -- after the header
     pub emptied-bytes : (more : List ℕ) × (header_length + length more ≡ end - start) × (y ≡ overwritten x start (header ++ more))
     emptied-bytes =
         let room : ℕ = end - behind in
@@ -193,14 +190,14 @@ module _ (x : List ℕ) (group : CellRange) (range : IsCellRange group (length x
           ap (λ (l : List ℕ). (cut l).end) is_splice
           ∙ splices.emptied-end x start end g kept emptied-bytes.0 (omega (arith, range.some)) (omega (arith, range.some, range.inside, small)) (omega (arith, emptied-bytes.1, range.some))
 
-  -- after the commit the cells are those of the finished removal
+  -- the cells equal the cells of the finished removal
   pub emptied-same : (y : List ℕ) → IsEmptied group end x y → CellsBetween x start end → length x < 2 ^ 32 → SameCells y (removed x group)
   emptied-same y is g small = record {
     components = emptied-components y is g small ∙ sym (emptied-components (removed x group) removed-whole g small);
     end = emptied-end y is g small ∙ sym (emptied-end (removed x group) removed-whole g small);
   }
 
--- the same in a region of the image
+-- in a region of the image
 module _ (r : Range) (group : CellRange) (old header : List ℕ) (told : ℕ) (lies : LiesIn r old) (in_region : IsCellRange group r.size) (is_told : told ≡ r.size) (is_header : header ≡ empty_header (group.end - group.start) (group.end == told)) where
   abbrev x : List ℕ
   x = bytes_in r old
@@ -221,18 +218,17 @@ module _ (r : Range) (group : CellRange) (old header : List ℕ) (told : ℕ) (l
   committed y is =
       subst (λ (l : List ℕ). IsEmptied group upto x l) (sym (is ∙ ap (λ (h : List ℕ). overwritten x group.start h) a_header)) (emptied-commit x group range upto)
 
-  -- a commit that was refused is whole or absent
+  -- a refused commit is complete or absent
   pub commit_left : (y : List ℕ) → (y ≡ x) ⊎ (y ≡ overwritten x group.start header) → IsOldOrEmptied group upto x y
   commit_left y (inl same) = inl same
   commit_left y (inr is) = inr (committed y is)
 
   module _ (y z : List ℕ) (n : ℕ) (is : y ≡ overwritten x group.start header) (is_n : n ≡ upto - (group.start + header_length)) where
-    -- any change of the space that the empty entry describes
+    -- any change of the empty entry's space
     pub fill_left : length z ≡ length y → SameOutside (group.start + header_length) n y z → IsOldOrEmptied group upto x z
     fill_left size same =
         inr (emptied-write x group range upto y (committed y is) z (group.start + header_length) n size (omega arith) (omega (arith, is_n, (space_end-near r.size group.end).1, range.some)) same)
 
-    -- the whole space is filled
     pub fill_done : z ≡ overwritten y (group.start + header_length) (replicate n 0xff) → z ≡ removed x group
     fill_done at =
         at

@@ -1,4 +1,4 @@
--- A region that becomes one empty entry.
+-- Formatting.
 use Rattle.std.proofs.Common.{◌≡◌, ◌⊎◌, inl, inr, ℕ, ◌+◌, ◌-◌, ◌%◌, ◌^◌, ◌<◌, ◌≤◌, Bool, true, cond, Some, None, List, [], ◌∷◌, ◌++◌, length, drop, sym, ◌∙◌, ap, refl, arith, length-append}
 use Rattle.std.specs.Prelude.{◌==◌}
 use Rattle.std.proofs.lemmas.List.{append-nil, drop_all}
@@ -21,12 +21,11 @@ use Rattle.cbfs_edit.specs.declared.group.CellRange.{CellRange}
 use Rattle.cbfs_edit.proofs.Emptied.{emptied-bytes, emptied-outside, emptied-wider, space_end-below, space_end-near}
 use Rattle.cbfs_edit.proofs.Changes.{length-last_four}
 
--- bytes over a whole list
 overwritten-whole : (x u : List ℕ) → length u ≡ length x → overwritten x 0 u ≡ u
 overwritten-whole x u size =
     ap (λ (l : List ℕ). u ++ l) (drop_all (0 + length u) x (omega arith)) ∙ append-nil u
 
--- an empty entry's header at the start of a region, whatever is after it
+-- an empty entry's header at the region's start, for any later bytes
 one_free_cell : (y more : List ℕ) (size : ℕ) (kept : Bool) → 64 ≤ size → size % 64 ≡ 0 → size < 2 ^ 32 → header_length + length more ≡ size → y ≡ empty_header size kept ++ more → IsOneFreeCell y
 one_free_cell y more size kept some whole small room is =
     let made = empty_header-cell size kept more some whole small room in
@@ -41,7 +40,6 @@ one_free_cell y more size kept some whole small room is =
       free = ap (λ (l : List ℕ). is_free (head_of l)) is ∙ made.1;
     }
 
--- a region that was formatted
 pub formatted_free : FormattedIsOneFreeCell
 formatted_free x some whole small =
     one_free_cell (formatted x) (padding (length x - header_length) (Some (last_four x))) (length x) true some whole small
@@ -50,7 +48,6 @@ formatted_free x some whole small =
 abbrev pub whole_range : ℕ → CellRange
 whole_range size = record { start = 0; end = size }
 
--- a finished format
 pub format_done : (x y : List ℕ) (size : ℕ) → length x ≡ size → 64 ≤ size → y ≡ removed x (whole_range size) → y ≡ formatted x
 format_done x y size long some is =
     let space : List ℕ = padding (length x - header_length) (Some (last_four x)) in
@@ -62,7 +59,7 @@ format_done x y size long some is =
     ∙ ap (λ b. overwritten x 0 (empty_entry (length x) (cond b (Some (last_four x)) None))) (eq-eqb (length x) (length x) refl)
     ∙ overwritten-whole x (formatted x) wide
 
--- a stop at one of the writes
+-- a stop at a write
 pub format_stopped : (x y : List ℕ) (size told : ℕ) → length x ≡ size → told ≡ size → 64 ≤ size → size % 64 ≡ 0 → size < 2 ^ 32 → IsOldOrEmptied (whole_range size) (space_end told size) x y → ((y ≡ x) ⊎ IsOneFreeCell y) × (last_four y ≡ last_four x)
 format_stopped x y size told long is_told some whole small (inl same) = (inl same, ap (λ (l : List ℕ). last_four l) same)
 format_stopped x y size told long is_told some whole small (inr emptied) =

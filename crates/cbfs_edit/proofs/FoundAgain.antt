@@ -1,4 +1,4 @@
--- What was added is found by its name, can be removed, and all others are kept.
+-- A search finds an added component, a removal takes it, and all others remain.
 use Rattle.std.proofs.Common.{◌≡◌, ℕ, ◌%◌, ◌<◌, ◌≤◌, All, append_assoc, length-append, false, List, [], ◌∷◌, ◌++◌, length, None, refl, sym, ◌∙◌, ap, arith, true, Option, Some, Ok, Err, subst, Contains, inl, inr, suc}
 use Rattle.std.specs.Prelude.{ok_or}
 use Rattle.std.specs.Str.{bytes_eq}
@@ -32,7 +32,7 @@ all_left : (P : Component → Type 0) (a b : List Component) → All P (a ++ b) 
 all_left P [] b each = All-nil P
 all_left P (c ∷ a) b each = All-cons P c a (All-head P c (a ++ b) each) (all_left P a b (All-tail P c (a ++ b) each))
 
--- ---- the shape of a region that has a cell
+-- ---- the shape of a region with a cell
 
 fine_size : (n : ℕ) → 0 < n → n % 64 ≡ 0 → has_bad_size n ≡ false
 fine_size n some whole = rw (ne_eqb n 0 (λ (e : n ≡ 0). omega (arith, e, some)), eq-eqb (n % 64) 0 whole) refl
@@ -85,7 +85,7 @@ module _ (x : List ℕ) (new : NewComponent) (spot : Spot) (place : Place) (is :
   abbrev pub after : List Component
   after = components_from place.run.end one_more.cells.after
 
-  -- none of the others has the name
+  -- no other component has the name
   others_after : All (λ (c : Component). bytes_eq c.name new.name ≡ false) (before ++ after)
   others_after =
       let none : first_named new.name (components x) ≡ None = (there x new spot place is).no_other in
@@ -106,7 +106,7 @@ module _ (x : List ℕ) (new : NewComponent) (spot : Spot) (place : Place) (is :
 pub additions_found : AdditionsAreFound
 additions_found x new spot place is = first_found (added x new place) new.name (added_component x new place) (shape_after x new spot place is) (added_first x new spot place is)
 
--- ---- what was added can be removed, and then the components are those of before
+-- ---- the removal of an added component restores the previous components
 
 abbrev IsNamed : List ℕ → Component → Type 0
 IsNamed name c = bytes_eq c.name name ≡ true
@@ -118,7 +118,7 @@ removal_is : (y name : List ℕ) → shape_fault y ≡ None → unless_damaged (
 unfolding removal_in
 removal_is y name good through = ap (λ (o : Option WalkFault). refused_or (λ fault. Err (edit_fault_of fault)) o (unless_damaged (place_after 0 (cut y).cells) (cut y).end (ok_or (group_of y name) faults.NotFound))) good ∙ through
 
--- where a component has the name there is a group
+-- a component with the name has a group
 some_group : (y name : List ℕ) (c : Component) → IsFirstOf name (components y) c → (group : CellRange) × (group_of y name ≡ Some group)
 some_group y name c is = go (group_of y name) refl
   where
@@ -154,7 +154,7 @@ additions_undone x new spot place is =
       },
     )
 
--- ---- the components that an edit keeps
+-- ---- the components preserved by an edit
 
 one_between : (before after : List Component) (d c : Component) → Contains (before ++ after) c → Contains (before ++ (d ∷ after)) c
 one_between before after d c has = elim (Contains-append_cases before after c has) [

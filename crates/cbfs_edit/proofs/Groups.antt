@@ -1,4 +1,4 @@
--- The group of a name is exactly the first component of it with all free cells that touch it.
+-- A group is the first component with the name and all adjacent free cells.
 use Rattle.std.proofs.Common.{◌≡◌, ℕ, ◌+◌, ◌%◌, List, [], ◌∷◌, ◌++◌, length, sym, ◌∙◌, ap, subst, append_assoc, length-append, inl, inr, ◌<◌, refl, arith, All, Contains, Option, Some, None, true}
 use Rattle.std.specs.List.{concat, last_or, slice_get}
 use Rattle.std.specs.Prelude.{IfSome}
@@ -19,17 +19,16 @@ use Rattle.cbfs_edit.specs.Laws.{GroupsAreExact}
 abbrev pub IsFree : List ℕ → Type 0
 IsFree c = is_free (head_of c) ≡ true
 
--- the last of these cells, where there is one, is a component
+-- the last cell, if any, is a component
 abbrev pub EndsWithComponent : List (List ℕ) → Type 0
 EndsWithComponent cells = IfSome (last_or None cells) IsComponent
 
--- the first of these cells, where there is one, is a component
+-- the first cell, if any, is a component
 abbrev pub BeginsWithComponent : List (List ℕ) → Type 0
 BeginsWithComponent cells = IfSome (slice_get cells 0) IsComponent
 
--- ---- a range of cells, among the cells of its region
+-- ---- a range among the cells of its region
 
--- the cells of a range, between the others
 abbrev pub between : (x : List ℕ) (range : CellRange) → length x % 64 ≡ 0 → IsRangeAmong (cut x).cells range → CellsBetween x range.start range.end
 between x range aligned r =
     let all = cut_exists x aligned in
@@ -50,7 +49,7 @@ length-group row c more = omega (arith, ap length (concat-append row (c ∷ more
 pub length-concat-push : (row : List (List ℕ)) (c : List ℕ) → length (concat (row ++ c ∷ [])) ≡ length (concat row) + length c
 length-concat-push row c = ap length (concat-append row (c ∷ [])) ∙ length-append (concat row) (c ++ []) ∙ ap (λ (l : List ℕ). length (concat row) + length l) (append-nil c)
 
--- ---- what a removal takes is such a group
+-- ---- the result of a removal is a group
 
 pub ends_push : (cells : List (List ℕ)) (c : List ℕ) → IsComponent c → EndsWithComponent (cells ++ c ∷ [])
 ends_push [] c is = is
@@ -61,12 +60,11 @@ pub ends_after : (c : List ℕ) (cells : List (List ℕ)) → EndsWithComponent 
 ends_after c [] ends = tt
 ends_after c (d ∷ cells) ends = ends
 
--- free space isn't the last of them
 pub not_alone : (c : List ℕ) (cells : List (List ℕ)) → IsFree c → EndsWithComponent (c ∷ cells) → cells ≡ [] → ⊥
 not_alone c [] free ends none = both_ways (is_free (head_of c)) ends free
 not_alone c (d ∷ cells) free ends none = absurd cc
 
--- free cells change nothing but the place
+-- free cells change only the offset
 pub over_row : {A : Type 0} (last : ℕ → ℕ → A) (each : ℕ → ℕ → List ℕ → List (List ℕ) → A → A) (start at : ℕ) (row cells : List (List ℕ)) → All IsFree row
     → by_rows last each start at (row ++ cells) ≡ by_rows last each start (at + length (concat row)) cells
 unfolding by_rows
@@ -75,13 +73,13 @@ over_row last each start at (c ∷ row) cells free =
     let place : at + length c + length (concat row) ≡ at + length (concat (c ∷ row)) = omega (arith, length-append c (concat row)) in
     rw (All-head IsFree c row free) (over_row last each start (at + length c) row cells (All-tail IsFree c row free) ∙ ap (λ n. by_rows last each start n cells) place)
 
--- free cells that no other free cell follows
+-- free cells before a component or the end
 row_ends : (at : ℕ) (row after : List (List ℕ)) → All IsFree row → BeginsWithComponent after → row_end at (row ++ after) ≡ at + length (concat row)
 unfolding by_rows
 row_ends at row [] free begins = over_row (λ s e. e) (λ s e c cells later. e) 0 at row [] free
 row_ends at row (c ∷ after) free begins = over_row (λ s e. e) (λ s e c cells later. e) 0 at row (c ∷ after) free ∙ rw begins refl
 
--- the free cells at the begin, and the others, which begin with a component
+-- the leading free cells, then a component
 record FreeRow (cells : List (List ℕ)) : Type 0 where
   row : List (List ℕ)
   others : List (List ℕ)
@@ -104,14 +102,13 @@ free_row (c ∷ cells) =
       | inr e ↦ record { row = []; others = c ∷ cells; whole = refl; free = All-nil IsFree; no_more = e }
     ]
 
--- free cells are no component of any name
 free_is_not : (name c : List ℕ) → IsFree c → IsNot name c
 free_is_not name c free other = absurd (both_ways (is_free (head_of c)) other free)
 
 some-inj : (a b : CellRange) → Some a ≡ Some b → a ≡ b
 some-inj a b is = cc
 
--- among the cells that are left, after others and a row of free ones
+-- the remaining cells, after others and free cells
 exact : (name : List ℕ) (start at : ℕ) (done row cells : List (List ℕ)) (group : CellRange) → All (IsNot name) done → EndsWithComponent done → All IsFree row
     → length (concat done) ≡ start → start + length (concat row) ≡ at → group_from name start at cells ≡ Some group → IsGroupOf name (done ++ (row ++ cells)) group
 unfolding by_rows
@@ -159,7 +156,7 @@ exact name start at done row (c ∷ cells) group none ends free begun is found =
 pub group_exact : (x name : List ℕ) (group : CellRange) → group_of x name ≡ Some group → IsGroupOf name (cut x).cells group
 group_exact x name group found = exact name 0 0 [] [] (cut x).cells group (All-nil (IsNot name)) tt (All-nil IsFree) refl refl found
 
--- without a group no cell is a component of the name
+-- without a group, no component has the name
 none_left : (name : List ℕ) (start at : ℕ) (cells : List (List ℕ)) → group_from name start at cells ≡ None → All (IsNot name) cells
 unfolding by_rows
 none_left name start at [] none = All-nil (IsNot name)
@@ -176,14 +173,13 @@ none_left name start at (c ∷ cells) none =
 pub group_none : (x name : List ℕ) → group_of x name ≡ None → All (IsNot name) (cut x).cells
 group_none x name none = none_left name 0 0 (cut x).cells none
 
--- the cells of a group one after the other, and where it ends
+-- a group's cells, and its end
 pub whole_of : (name : List ℕ) (cells : List (List ℕ)) (group : CellRange) (g : IsGroupOf name cells group) → cells ≡ g.range.before ++ (g.row_before ++ (g.component ∷ (g.row_after ++ g.range.after)))
 whole_of name cells group g = g.range.whole ∙ ap (λ (row : List (List ℕ)). g.range.before ++ (row ++ g.range.after)) g.row_is ∙ ap (λ (l : List (List ℕ)). g.range.before ++ l) (append_assoc g.row_before (g.component ∷ g.row_after) g.range.after)
 
 pub end_of : (name : List ℕ) (cells : List (List ℕ)) (group : CellRange) (g : IsGroupOf name cells group) → group.start + length (concat g.row_before) + length g.component + length (concat g.row_after) ≡ group.end
 end_of name cells group g = omega (arith, g.range.end_is, ap (λ (row : List (List ℕ)). length (concat row)) g.row_is, length-group g.row_before g.component g.row_after)
 
--- a component has bytes
 component_some : (c : List ℕ) → IsComponent c → 0 < length c
 unfolding head_of
 component_some [] is = absurd cc
@@ -192,15 +188,15 @@ component_some (b ∷ c) is = omega arith
 pub group_some : (x name : List ℕ) (group : CellRange) → IsGroupOf name (cut x).cells group → group.start < group.end
 group_some x name group g = omega (arith, end_of name (cut x).cells group g, component_some g.component g.is_component)
 
--- ---- and each such group is what a removal takes
+-- ---- each group is the result of a removal
 
--- a component of the name ends the search
+-- a component with the name ends the search
 at_component : (name : List ℕ) (start at : ℕ) (c : List ℕ) (cells : List (List ℕ)) → IsComponent c → bytes_eq (cell_name c) name ≡ true
     → group_from name start at (c ∷ cells) ≡ Some (record { start = start; end = row_end (at + length c) cells })
 unfolding by_rows
 at_component name start at c cells used named = rw (used, named) refl
 
--- cells of which none has the name, and the last is a component
+-- cells without the name, the last a component
 over_others : (name : List ℕ) (start at : ℕ) (before cells : List (List ℕ)) → (before ≡ [] → start ≡ at) → EndsWithComponent before → All (IsNot name) before
     → group_from name start at (before ++ cells) ≡ group_from name (at + length (concat before)) (at + length (concat before)) cells
 unfolding by_rows
@@ -229,7 +225,7 @@ one_group x name group is =
     ∙ at_component name group.start (group.start + length (concat is.row_before)) is.component behind is.is_component is.named
     ∙ ap (λ n. Some (let r : CellRange = record { start = group.start; end = n } in r)) last
 
--- where no component has the name
+-- no component has the name
 no_group : (x name : List ℕ) (found : Option CellRange) → group_of x name ≡ found → All (IsNot name) (cut x).cells → None ≡ found
 no_group x name None is none = refl
 no_group x name (Some group) is none =

@@ -1,4 +1,4 @@
--- The writes of a component: what they come to, and what the region holds where they stop.
+-- The writes of a component: their result, and the region after a stop.
 use Rattle.std.proofs.Common.{◌≡◌, ⊎_elim, ℕ, ◌+◌, ◌-◌, ◌≤◌, true, false, List, [], ◌++◌, length, take, drop, replicate, Option, Some, None, sym, ◌∙◌, ap, arith, rules, append_assoc, length-append, length-drop, take-append-drop, ◌⊎◌, inl, inr, ◌^◌, ◌<◌, Result, Ok, Err, subst, refl}
 use Rattle.std.specs.Prelude.{◌==◌, is_some, max, OnErr, option_copied}
 use Rattle.std.proofs.lemmas.Bool.{cases_eq, eq-eqb, ne_eqb, cond_both, eqb-false}
@@ -26,9 +26,9 @@ use Rattle.cbfs_edit.specs.declared.group.CellRange.{CellRange}
 use Rattle.cbfs_edit.specs.declared.place.Wanted.{Wanted}
 use Rattle.cbfs_edit.proofs.Emptied.{emptied-outside, emptied-wider, emptied-write, old_or-wider, removed-emptied, same_region_length, space_end-near}
 
--- ---- what the writes of a component come to, one after the other
+-- ---- the result of consecutive writes
 
--- the begin of the run: what the last commit writes, the space of the empty entry before, and the rest of the metadata
+-- the run's start: the last commit, the empty entry before the component, and the other metadata
 pub record HasMetadata (x : List ℕ) (place : Place) (metadata : List ℕ) : Type 0 where
   pub space : ℕ
   pub rest_at : place.header + held_back place ≡ place.run.start + header_length + space
@@ -91,7 +91,7 @@ module _ (x : List ℕ) (place : Place) (end : ℕ) (metadata : List ℕ) (room 
     four : KeepsFour last
     four = keeps x e (omega (arith, room.run.some, room.run.inside))
 
-    -- the header of the empty entry after the component, where there is one
+    -- the header of the empty entry after the component, if any
     abbrev after : List ℕ
     after = padding (end - d) (kept_at x end) ++ empty_between x end e
 
@@ -131,7 +131,7 @@ module _ (x : List ℕ) (place : Place) (end : ℕ) (metadata : List ℕ) (room 
     bound : (y : List ℕ) (p : List ℕ) → length p ≡ d - s → y ≡ overwritten x s (p ++ tail) → with_bound y end e ≡ overwritten x s (p ++ after)
     bound y p long is = ⊎_elim (λ same. bound_same y p same is) (λ other. bound_other y p long other is) (cases_eq end e)
 
-    -- all writes together
+    -- all writes
     pub inserted : with_component (overwritten (removed x place.run) place.content content) place end metadata
         ≡ overwritten x s (empty_between x s h ++ ((metadata ++ content) ++ after))
     inserted =
@@ -180,20 +180,18 @@ module _ (x : List ℕ) (place : Place) (end : ℕ) (metadata : List ℕ) (room 
         ∙ ap (λ (l : List ℕ). overwritten x s (l ++ (content ++ after))) f.whole
         ∙ ap (λ (l : List ℕ). overwritten x s l) (simp append_assoc)
 
--- ---- the stages: the empty entry over the run, the content, the metadata with what shows it
+-- ---- the stages: the empty entry over the run, the content, the metadata with the last commit
 
--- the attribute of a digest
 pub hash_short : (d : Option Digest) → hash_len d ≤ 76
 hash_short None = omega arith
 hash_short (Some (digests.Sha256 bytes)) = omega arith
 hash_short (Some (digests.Sha512 bytes)) = omega arith
 
--- a description by its parts
 pub described-is : (m : Meta) (name : List ℕ) (kind : ℕ) (digest : Option Digest) (gap n : ℕ) → m.name.now ≡ name → m.kind ≡ kind → option_copied m.digest ≡ digest → m.gap ≡ gap → m.len ≡ n
     → metadata_of m ≡ made_metadata name kind digest gap n
 described-is m name kind digest gap n is_name is_kind is_digest is_gap is_len = rw (is_name, is_kind, is_digest, is_gap, is_len) refl
 
--- where a component fits there is room for its metadata
+-- room for the metadata
 pub room-for : (size : ℕ) (label : Label) (content : List ℕ) (wanted : Wanted) (place : Place) (m : Meta) (digest : Option Digest) → size < 2 ^ 32 → Fits wanted size place → length label.name.now ≤ 127
     → wanted ≡ wanted_for (component_of_label label content) wanted.spot → m.name.now ≡ label.name.now → option_copied m.digest ≡ digest → m.gap ≡ place.content - place.header - wanted.metadata_len → hash_len digest ≡ hash_len (digest_of label.hash content)
     → HasRoom size place (round64 (place.content + wanted.len)) (described_len m)
@@ -203,12 +201,13 @@ room-for size label content wanted place m digest small fits short is is_name is
     let few = hash_short (digest_of label.hash content) in
     search rules
 
--- what is left by any error
+-- after any error
 pub on_err : {A E : Type 0} (r : Result A E) (P : Type 0) → P → OnErr r P
 on_err (Ok a) P p = tt
 on_err (Err e) P p = p
 
--- what is written after the content ends at the content, at the end of the run's first header, or before the run's last four bytes
+-- the end of writes after the content: the content, the run's first header, or the run's end
+-- without four bytes
 finished-last : (z : List ℕ) (place : Place) (end to : ℕ) (metadata : List ℕ) → HasRoom (length z) place end (length metadata) → place.content ≤ to → place.run.end ≤ to + 4 → drop to (with_component z place end metadata) ≡ drop to z
 finished-last z place end to metadata room content last =
     let k = has_metadata z place end metadata room in
@@ -293,7 +292,7 @@ module _ (r : Range) (old : List ℕ) (label : Label) (content : List ℕ) (want
           abbrev w : List ℕ
           w = bytes_in r shown
 
-          -- all writes come to the component
+          -- all writes result in the component
           pub shown_added : digest ≡ digest_of label.hash content → z ≡ overwritten y place.content content → w ≡ with_component z place end metadata → w ≡ added x new place
           shown_added digest_is second third =
               let d = place.content + length content in
@@ -312,7 +311,7 @@ module _ (r : Range) (old : List ℕ) (label : Label) (content : List ℕ) (want
               ∙ ap (λ (f : List ℕ). overwritten x run.start (before ++ (((f ++ content) ++ padding (round64 (length (f ++ content)) - length (f ++ content)) (kept_at x end)) ++ empty_between x end run.end))) is_metadata
               ∙ ap (λ n. overwritten x run.start (before ++ (made new.name new.kind new.digest gap content (kept_at x n) ++ empty_between x n run.end))) (ap (λ n. round64 (place.content + n)) len)
 
-          -- the metadata with what shows it
+          -- the metadata with the last commit
           pub shown_stop : (Sound Honest : Type 0) → Sound → (Honest → digest ≡ digest_of label.hash content) → (Honest → z ≡ overwritten y place.content content) → (w ≡ with_component z place end metadata) ⊎ IsUnfinished place z w
               → IsInsertStop run to (Sound × (Honest → w ≡ added x new place)) x w
           shown_stop Sound Honest sound digest_is second (inl third) =

@@ -1,4 +1,4 @@
--- Lists in parts: about an element, and bytes and padding that are written over others.
+-- Parts of lists: an element between others, and writes of bytes and padding.
 use Rattle.std.proofs.Common.{◌≡◌, List, [], ◌∷◌, ◌++◌, All, refl, subst, inl, inr, ℕ, ◌+◌, ◌-◌, ◌≤◌, length, take, drop, replicate, Option, Some, None, sym, ◌∙◌, ap, arith, append_assoc, take-append-drop, length-append}
 use Rattle.std.proofs.lemmas.List.Elements.{All-head, All-tail}
 use Rattle.std.proofs.lemmas.Bool.{cases_lt}
@@ -9,9 +9,9 @@ use Rattle.flash_device.specs.Device.{overwritten}
 use Rattle.std.specs.Prelude.{slice_range}
 use Rattle.flash_device.proofs.BytesLemmas.{slice_range_is}
 
--- ---- two parts about an element, the first of which something holds
+-- ---- a list split at the only element with a property
 
--- both parts, and the element, are the same
+-- equal parts and elements
 pub record IsOneSplit {X : Type 0} (before after before' after' : List X) (x x' : X) : Type 0 where
   pub first : before ≡ before'
   pub same : x ≡ x'
@@ -28,7 +28,7 @@ one_split P (y ∷ before) after (y' ∷ before') after' x x' here here' none no
     let first : y ∷ before ≡ y' ∷ before' = cc in
     record { first = first; same = rest.same; last = rest.last }
 
--- ---- writes over parts of what was just written
+-- ---- writes over recent writes
 
 over_middle : (p v r w : List ℕ) (at : ℕ) → length p ≡ at → length w ≡ length v → overwritten (p ++ (v ++ r)) at w ≡ p ++ (w ++ r)
 over_middle p v r w at place same =
@@ -40,7 +40,7 @@ over_middle p v r w at place same =
 regroup : (a u v w z : List ℕ) → a ++ ((u ++ (v ++ w)) ++ z) ≡ (a ++ u) ++ (v ++ (w ++ z))
 regroup a u v w z = simp append_assoc
 
--- bytes written over the middle of others that were just written
+-- a write over the middle of a recent write
 pub over_part : (x : List ℕ) (at : ℕ) (u v w new : List ℕ) (place : ℕ) → at ≤ length x → at + length u ≡ place → length new ≡ length v
     → overwritten (overwritten x at (u ++ (v ++ w))) place new ≡ overwritten x at (u ++ (new ++ w))
 over_part x at u v w new place inside is same =
@@ -53,9 +53,8 @@ over_part x at u v w new place inside is same =
     ∙ sym (regroup a u new w z)
     ∙ ap (λ n. a ++ ((u ++ (new ++ w)) ++ drop (at + n) x)) long
 
--- ---- the padding of an empty entry, in parts
+-- ---- padding of an empty entry, in parts
 
--- what is left of one list and another behind it
 drop_over : (n : ℕ) (xs ys : List ℕ) → drop n (xs ++ ys) ≡ drop n xs ++ drop (n - length xs) ys
 drop_over n xs ys = elim (cases_lt (length xs) n) [
   | inl past ↦
@@ -66,7 +65,7 @@ drop_over n xs ys = elim (cases_lt (length xs) n) [
       drop-append-le n xs ys within ∙ ap (λ k. drop n xs ++ drop k ys) (sym none)
 ]
 
--- what is left of a padding after some of its bytes
+-- the rest of a padding
 pub drop-padding : (a b : ℕ) (last : Option (List ℕ)) → drop a (padding (a + b) last) ≡ padding b last
 drop-padding a b None = let e : a + b - a ≡ b = omega arith in drop-replicate a (a + b) 0xff ∙ ap (λ n. replicate n 0xff) e
 drop-padding a b (Some last) =
@@ -89,14 +88,13 @@ padding-begins a b (Some last) some =
     ∙ ap (λ n. (replicate a 0xff ++ replicate (b - 4) 0xff) ++ drop n last) (none ∙ sym none_left)
     ∙ append_assoc (replicate a 0xff) (replicate (b - 4) 0xff) (drop (4 - b) last)
 
--- in two parts, of which the first is the rest of a longer one
+-- two parts, the first the rest of a longer padding
 pub padding-split : (a b : ℕ) (last : Option (List ℕ)) → padding (a + b) last ≡ take a (padding (a + b) last) ++ padding b last
 padding-split a b last =
     sym (take-append-drop a (padding (a + b) last)) ∙ ap (λ (l : List ℕ). take a (padding (a + b) last) ++ l) (drop-padding a b last)
 
--- ---- where the content stands that an addition writes
+-- ---- the content of an addition
 
--- a part that stands at a place among others
 part_at : (x before part after : List ℕ) (at : ℕ) → x ≡ before ++ (part ++ after) → length before ≡ at → slice_range x at (at + length part) ≡ part
 part_at x before part after at is long =
     slice_range_is x at (length part)
@@ -104,7 +102,7 @@ part_at x before part after at is long =
     ∙ ap (λ (l : List ℕ). take (length part) l) (drop_at before (part ++ after) at long)
     ∙ take_at part after (length part) (omega arith)
 
--- content behind metadata, in bytes that are written over others
+-- content after metadata
 pub content_at : (x before metadata content pad after : List ℕ) (start at : ℕ) → start ≤ length x → start + length before + length metadata ≡ at
     → slice_range (overwritten x start (before ++ (((metadata ++ content) ++ pad) ++ after))) at (at + length content) ≡ content
 content_at x before metadata content pad after start at inside there =

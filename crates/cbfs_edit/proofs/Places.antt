@@ -1,4 +1,4 @@
--- The place of a new component is the least allowed one of the first run that has one.
+-- The place of a new component is the least allowed place in the first run with one.
 use Rattle.std.proofs.Common.{◌≡◌, ℕ, ◌+◌, ◌-◌, ◌*◌, ◌/◌, ◌%◌, ◌<◌, ◌≤◌, Bool, true, false, cond, List, [], ◌∷◌, ◌++◌, length, All, ap, subst, sym, ◌∙◌, refl, arith, rules, Option, Some, None, Ok, Err}
 use Rattle.std.specs.Prelude.{◌&&◌, nat_le, MatchOption, is_some, ok_or}
 use Rattle.std.specs.List.{cons_option, filter_map, slice_get}
@@ -32,7 +32,7 @@ next-whole from unit some =
     let same : from + (unit - from % unit) ≡ (from / unit + 1) * unit = omega (arith, less, div-add-mod from unit) in
     add-mod-mod from (unit - from % unit) unit ∙ ap (λ n. n % unit) same ∙ mul-mod_left (from / unit + 1) unit
 
--- no multiple lies between a number and the least one from it on
+-- the least multiple from a number on
 multiple_least : (unit from d : ℕ) → 0 < unit → from ≤ d → d % unit ≡ 0 → next_multiple_of from unit ≤ d
 multiple_least unit from d some below whole =
     let next = next_multiple_of from unit in
@@ -44,7 +44,7 @@ multiple_least unit from d some below whole =
     let enough : next / unit * unit ≤ d / unit * unit = mul-le-mul_right unit (omega (arith, fewer)) in
     omega (arith, enough, here, there, next-whole from unit some)
 
--- the least place from a place on that a spot allows
+-- the least allowed place from a place on
 pub least_from-least : (spot : Spot) (from d : ℕ) → is_bad_align spot ≡ false → from ≤ d → Allows spot d → least_from spot from ≤ d
 least_from-least First from d some below meets = below
 least_from-least (Aligned unit) from d some below meets = multiple_least unit from d (some_unit unit some) below meets
@@ -55,7 +55,7 @@ least_from-meets First from some = tt
 least_from-meets (Aligned unit) from some = next-whole from unit (some_unit unit some)
 least_from-meets (Fixed place) from some = refl
 
--- where that is before it, the spot allows none from it on
+-- the spot allows no later place
 least_from-none : (spot : Spot) (from d : ℕ) → is_bad_align spot ≡ false → least_from spot from < from → from ≤ d → Allows spot d → ⊥
 least_from-none First from d some less below meets = omega arith
 least_from-none other from d some less below meets = omega arith
@@ -96,11 +96,10 @@ limit_below : (spot : Spot) (size end : ℕ) → limit_of spot size end ≤ end
 limit_below (Fixed place) size end = omega arith
 limit_below other size end = (space_end-near size end).0
 
--- a component fits at a place of a run from which on there is room for it
 pub fits_there : (wanted : Wanted) (size : ℕ) (place : Place) → IsCellRange place.run size → place.run.start + wanted.metadata_len ≤ place.content → place.content + wanted.len ≤ limit_of wanted.spot size place.run.end → IsHeaderOf wanted place → Fits wanted size place
 fits_there wanted size place range after ends header = let below = limit_below wanted.spot size place.run.end in search rules
 
--- the same with the head at the last multiple of 64 that leaves room for the metadata
+-- the header at the last multiple of 64 with room for the metadata
 pub fits_at : (wanted : Wanted) (size : ℕ) (run : CellRange) (c : ℕ) → IsCellRange run size → run.start + wanted.metadata_len ≤ c → c + wanted.len ≤ limit_of wanted.spot size run.end → Fits wanted size (place_at wanted run c)
 fits_at wanted size run c range after ends = fits_there wanted size (place_at wanted run c) range after ends (header_lemma wanted run c (omega arith))
 
@@ -131,7 +130,7 @@ module _ (wanted : Wanted) (size : ℕ) where
   no_room [] later run c none allowed = All-head (HasNoRoom wanted size) run later none c allowed
   no_room (r ∷ before) later run c none allowed = no_room before later run c (All-tail (HasNoRoom wanted size) r (before ++ run ∷ later) none) allowed
 
-  -- a run in which content may begin
+  -- a start of content in the run is allowed
   abbrev HasRoom : CellRange → Type 0
   HasRoom run = (c : ℕ) × IsAllowed wanted size run c
 
@@ -164,9 +163,9 @@ places_exact x wanted found is =
     let here = first_place-right wanted (length x) (runs x) is in
     (λ place. one_place wanted (length x) (runs x) found (first_place wanted (length x) (runs x)) place here, λ same. subst (λ (o : Option Place). IsPlaceAmong wanted (length x) (runs x) o) (sym same) here)
 
--- ---- where a place is answered no component has the name
+-- ---- a place requires a new name
 
--- what an answer says: no component has the name, and the place is the region's
+-- no component has the name, and the place is the region's
 pub record IsAnsweredPlace (x name : List ℕ) (wanted : Wanted) (place : Place) : Type 0 where
   pub sound : IsSound x
   pub no_other : first_named name (components x) ≡ None

@@ -1,4 +1,4 @@
--- An accepted removal: its group, what it leaves, and the one component that it takes.
+-- An accepted removal: its group, its effect, and the component.
 use Rattle.std.proofs.Common.{◌≡◌, ◌⊎◌, inl, inr, ℕ, ◌-◌, ◌%◌, ◌^◌, ◌<◌, List, length, Result, Ok, sym, ◌∙◌, ap, subst, arith, ◌+◌, false, [], ◌∷◌, ◌++◌, refl, All}
 use Rattle.std.specs.Prelude.{IsErrOf, ok_or}
 use Rattle.flash_device.specs.Regions.{Range, LiesIn, bytes_in}
@@ -25,7 +25,7 @@ use Rattle.flash_format.proofs.CellLists.{components-append}
 use Rattle.flash_format.proofs.Splices.{components-free}
 use Rattle.cbfs_edit.specs.declared.fault.EditFault.TheVariants as faults
 
--- ---- its group, in a region of a good size
+-- ---- the group, in a region of valid size
 
 pub record IsAccepted (x name : List ℕ) (group : CellRange) : Type 0 where
   pub whole : length x % 64 ≡ 0
@@ -46,7 +46,7 @@ emptied_lacks x name group y small is emptied =
     let a = accepted x name group is in
     emptied-same x group a.range y emptied a.cells small
 
--- what a removal leaves that stops at one of its writes
+-- a stop at a write
 pub removal_leaves : (r : Range) (name : List ℕ) (group : CellRange) (old mid new : List ℕ) → LiesIn r old → length old < 2 ^ 32 → mid ≡ old
     → (let a : Result CellRange EditFault = Ok group in IsErrOf a faults.Device ⊎ (a ≡ removal_in (bytes_in r old) name))
     → IsOldOrEmptied group (space_end r.size group.end) (bytes_in r mid) (bytes_in r new) → LeavesWhole (bytes_in r old) name (bytes_in r new)
@@ -71,18 +71,18 @@ removal_leaves r name group old mid new lies small same (inr e) stop = left (rw 
               (inr (emptied-same x group is.range y whole is.cells x_small).components) (emptied-end x group is.range y whole is.cells x_small),
         )
 
--- the image after a change of its region alone
+-- the image after a change of its region
 pub image_of : (r : Range) (u old mid new : List ℕ) → LiesIn r old → mid ≡ old → length new ≡ length mid → SameOutside r.start r.size mid new → bytes_in r new ≡ u → new ≡ overwritten old r.start u
 image_of r u old mid new lies same size outside is =
     let lies_mid : LiesIn r mid = omega (arith, lies, ap length same) in
     subst (λ (l : List ℕ). new ≡ overwritten l r.start u) same (image_is r mid new u lies_mid size outside is)
 
--- ---- it takes one component, the first of its name, and leaves all others with their places and bytes
+-- ---- the first component with the name is removed, all others remain
 
 abbrev IsOther : List ℕ → Component → Type 0
 IsOther name c = bytes_eq c.name name ≡ false
 
--- none of the components among these cells has the name
+-- no component has the name
 pub others_have_not : (name : List ℕ) (at : ℕ) (cells : List (List ℕ)) → All (IsNot name) cells → All (IsOther name) (components_from at cells)
 unfolding components_from
 others_have_not name at [] none = All-nil (IsOther name)
@@ -93,12 +93,12 @@ others_have_not name at (c ∷ cells) none =
       | inr e ↦ rw e (All-cons (IsOther name) (component_at at c) (components_from (at + length c) cells) (All-head (IsNot name) c cells none e) later)
     ]
 
--- a component, and the components of the cells behind it
+-- a component, then the components of later cells
 one_then : (at : ℕ) (c : List ℕ) (cells : List (List ℕ)) → IsComponent c → components_from at (c ∷ cells) ≡ component_at at c ∷ components_from (at + length c) cells
 unfolding components_from
 one_then at c cells is = rw is refl
 
--- free cells, a component and free cells, and what is behind them
+-- a component between free cells, then later cells
 row_of_one : (at end : ℕ) (row more after : List (List ℕ)) (c : List ℕ) → AllFree row → AllFree more → IsComponent c → at + length (concat row) + length c + length (concat more) ≡ end
     → components_from at (row ++ (c ∷ (more ++ after))) ≡ component_at (at + length (concat row)) c ∷ components_from end after
 row_of_one at end row more after c free free_more is ends =

@@ -1,4 +1,5 @@
--- The runs are exactly the maximal rows of neighbouring free cells, in their order, and an empty entry over one keeps the components.
+-- The runs are the maximal sequences of free cells, in order. An empty entry over a run keeps the
+-- components.
 use Rattle.std.proofs.Common.{◌≡◌, ℕ, ◌+◌, ◌<◌, ◌⊎◌, inl, inr, zero, suc, List, [], ◌∷◌, ◌++◌, length, sym, ◌∙◌, ap, subst, refl, arith, All, Contains, append_assoc, length-append, ◌≤◌, ◌%◌}
 use Rattle.std.specs.Prelude.{nat_lt}
 use Rattle.std.specs.List.{concat, AllPairs}
@@ -20,9 +21,9 @@ use Rattle.flash_format.specs.Components.{Component, components_from}
 use Rattle.flash_format.specs.Splices.{CellsBetween}
 use Rattle.cbfs_edit.proofs.Emptied.{group_range, emptied-components, emptied-end}
 
--- ---- each run is one
+-- ---- each run is such a sequence
 
--- a run that ends here
+-- a run with its end here
 closed : (start at : ℕ) (done row others : List (List ℕ)) (run : CellRange) → EndsWithComponent done → All IsFree row → BeginsWithComponent others → length (concat done) ≡ start → start + length (concat row) ≡ at
     → start < at → record { start = start; end = at } ≡ run → IsRunOf (done ++ (row ++ others)) run
 closed start at done row others run ends free begins begun is some here = subst (λ (r : CellRange). IsRunOf (done ++ (row ++ others)) r) here (record {
@@ -68,9 +69,8 @@ maximal start at done row (c ∷ cells) run ends free begun is has =
 pub run_maximal : (x : List ℕ) (run : CellRange) → Contains (runs x) run → IsRunOf (cut x).cells run
 run_maximal x run has = maximal 0 0 [] [] _ run tt (All-nil IsFree) refl refl has
 
--- ---- and each such group is a run
+-- ---- each such sequence is a run
 
--- what is there after the first is there
 later_is : (run : CellRange) (others : List CellRange) (start end : ℕ) → Contains others run → Contains (add_run start end others) run
 later_is run others start end has = elim (cases_Bool (nat_lt start end)) [
   | inl some ↦ rw some (suc has.0, omega (arith, has.1), has.2)
@@ -80,7 +80,7 @@ later_is run others start end has = elim (cases_Bool (nat_lt start end)) [
 here_is : (start end : ℕ) (others : List CellRange) → start < end → Contains (add_run start end others) (record { start = start; end = end })
 here_is start end others some = rw (lt-ltb start end some) (0, omega arith, refl)
 
--- a run that begins at the place
+-- a run from here on
 from_here : (start : ℕ) (row after : List (List ℕ)) (end : ℕ) → All IsFree row → BeginsWithComponent after → start + length (concat row) ≡ end → start < end
     → Contains (runs_from start start (row ++ after)) (record { start = start; end = end })
 unfolding by_rows
@@ -91,7 +91,7 @@ from_here start row after end free begins is some =
     by_after [] b = here_is start end [] some
     by_after (c ∷ others) b = rw b (here_is start end (runs_from (end + length c) (end + length c) others) some)
 
--- after the cells before it
+-- after earlier cells
 there : (start at : ℕ) (before row after : List (List ℕ)) (run : CellRange) → (before ≡ [] → start ≡ at) → EndsWithComponent before → All IsFree row → BeginsWithComponent after
     → at + length (concat before) ≡ run.start → run.start + length (concat row) ≡ run.end → run.start < run.end → Contains (runs_from start at (before ++ (row ++ after))) run
 unfolding by_rows
@@ -115,7 +115,7 @@ runs_exact x run = (
       (there 0 0 is.range.before is.range.row is.range.after run (λ none. refl) is.range.no_more_before is.free is.range.no_more_after (omega (arith, is.range.start_is)) is.range.end_is is.some),
 )
 
--- ---- the runs stand in order, with a cell between each and the next
+-- ---- runs in order, with a cell between neighbours
 
 abbrev Apart : CellRange → CellRange → Type 0
 Apart a b = a.end < b.start
@@ -126,14 +126,13 @@ none_apart = λ i j d first second. absurd (omega (arith, second))
 abbrev BeginsAfter : ℕ → List CellRange → Type 0
 BeginsAfter low runs = All (λ (r : CellRange). low < r.start) runs
 
--- a range, unless it is empty, and others behind it
+-- a range, unless empty, and later ranges
 add_after : (low start end : ℕ) (others : List CellRange) → low < start → BeginsAfter low others → BeginsAfter low (add_run start end others)
 add_after low start end others here rest = cond_both (nat_lt start end) _ others (BeginsAfter low) (λ e. All-cons (λ (r : CellRange). low < r.start) _ others here rest) (λ e. rest)
 
 add_apart : (start end : ℕ) (others : List CellRange) → BeginsAfter end others → AllPairs Apart others → AllPairs Apart (add_run start end others)
 add_apart start end others later rest = cond_both (nat_lt start end) _ others (AllPairs Apart) (λ e. AllPairs-cons Apart _ others later rest) (λ e. rest)
 
--- all runs begin behind a place before the first
 begin_after : (low start at : ℕ) (cells : List (List ℕ)) → low < start → start ≤ at → BeginsAfter low (runs_from start at cells)
 unfolding by_rows
 begin_after low start at [] before order = add_after low start at [] before (All-nil (λ (r : CellRange). low < r.start))
@@ -157,7 +156,7 @@ apart start at (c ∷ cells) order each =
 pub runs_ascend : RunsAscend
 runs_ascend x aligned = apart 0 0 (cut x).cells (omega arith) (cut_exists x aligned).1.each
 
--- ---- each run is a group of free cells of its region, and an empty entry's header over it keeps the components
+-- ---- an empty entry's header over a run keeps the components
 
 pub record IsRun (x : List ℕ) (run : CellRange) : Type 0 where
   pub cells : CellsBetween x run.start run.end

@@ -1,4 +1,4 @@
--- Searches that go over the cells of a region, one after the other: for a group, and for a place.
+-- Searches over the cells of a region.
 use Rattle.std.proofs.Common.{◌≡◌, ◌≢◌, ℕ, ◌+◌, ◌-◌, ◌/◌, ◌%◌, ◌≤◌, ◌⊎◌, inl, inr, IsTrue, List, [], ◌∷◌, length, Option, Some, None, Result, Ok, Err, refl, sym, ap, subst, ◌∙◌, arith, Bool, true, false, cond}
 use Rattle.std.specs.Prelude.{IfErr, IsErrOf, ◌||◌, is_some, nat_lt, ok_or}
 use mathlib.Core.Path.{fun_ext}
@@ -38,7 +38,7 @@ use Rattle.cbfs_walk.specs.declared.walk.Step.TheVariants as steps
 use Rattle.cbfs_walk.specs.declared.walk.WalkFault.TheVariants as walk
 use Rattle.cbfs_edit.specs.declared.fault.EditFault.TheVariants as faults
 
--- ---- any search that goes over the cells of a region, one after the other: what it comes to is read of the cells
+-- ---- any search over cells, with a result by the cells
 
 abbrev Reading : Type 0 → Type 0
 Reading A = List (List ℕ) → Result A EditFault
@@ -55,7 +55,7 @@ refused fault read = Err (edit_fault_of fault)
 law : {A : Type 0} → ReadsCells (read_cut {A = A}) (each_cell {A = A})
 law {A} at c k = fun_ext (λ (read : Reading A). refl)
 
--- what it comes to from a place on
+-- the result from an offset on
 pub found_from : {A : Type 0} → List ℕ → Reading A → ℕ → Result A EditFault
 found_from x read at = reading_of refused read_cut x at read
 
@@ -70,7 +70,7 @@ found_whole {A} x read = go (shape_fault x)
     go None = refl
     go (Some fault) = refl
 
--- the same by the answer of the walk
+-- by the walk's result
 abbrev found_by : {A : Type 0} → List ℕ → Reading A → Answer → Result A EditFault
 found_by x read answer = by_answer refused read_cut each_cell x answer read
 
@@ -84,7 +84,7 @@ found_refusal x read other = refl
 
 -- ---- the loop
 
--- the search has come to the walk's place, with what is known of its state on any device
+-- a search up to the walk's offset, with its invariant on any device
 pub record Surveying {F S A : Type 0} (facts : F → Device) (r : Range) (sense : S → ℕ → Reading A) (want : Result A EditFault) (IsBefore : ℕ → S → Type 0) (w : Walking) (s : S) (old now : Pages F) : Type 0 where
   pub region : w.region ≡ r
   pub going : w.ended ≡ None
@@ -107,7 +107,6 @@ surveying_start facts r sense want IsBefore s old before is = record {
   so_far = λ h. is ∙ found_whole (bytes_in r (facts old.device).content) (sense s 0);
 }
 
--- a step is no fault of the device
 told_step : (s : Step) (b : Answer) → (let a : Answer = Ok s in IsErrOf a walk.Device ⊎ (a ≡ b)) → Ok s ≡ b
 told_step s b (inl e) = absurd cc
 told_step s b (inr e) = e
@@ -116,7 +115,6 @@ module _ {F S A : Type 0} (facts : F → Device) (r : Range) (sense : S → ℕ 
   abbrev x : List ℕ
   x = bytes_in r (facts old.device).content
 
-  -- an answer of the walk, at the place where it stands
   answered : (a : Answer) → IsTrue (facts old.device).honest → a ≡ answer_at (bytes_in w.region (facts now.device).content) w.at
       → (a ≡ answer_at x w.at) × (want ≡ found_by x (sense s w.at) a)
   answered a h is =
@@ -124,7 +122,7 @@ module _ {F S A : Type 0} (facts : F → Device) (r : Range) (sense : S → ℕ 
       let here : a ≡ answer_at x w.at = is ∙ ap (λ (k : Range). answer_at (bytes_in k (facts now.device).content) w.at) i.region ∙ ap (λ (l : List ℕ). answer_at (bytes_in r l) w.at) (i.read.device.unchanged h) in
       (here, i.so_far h ∙ found_step x (sense s w.at) w.at (omega (arith, len, i.inside)) i.aligned ∙ ap (λ (b : Answer). found_by x (sense s w.at) b) (sym here))
 
-  -- the walk gave a cell, and the search went on after it
+  -- a cell, and the search after it
   pub surveying_more : (c : Cell) (v : Walking) (t : S) (mid new : Pages F) (n : ℕ) → IsCellIn w.region.size c × (c.at ≡ w.at)
       → HasRead facts n 0 now mid → n ≡ reads_over c.span → HasRead facts 1 0 mid new
       → (IsTrue (facts now.device).honest → w.ended ≡ None → (let a : Answer = Ok (steps.Cell c) in IsErrOf a walk.Device ⊎ (a ≡ answer_at (bytes_in w.region (facts now.device).content) w.at)))
@@ -155,7 +153,7 @@ module _ {F S A : Type 0} (facts : F → Device) (r : Range) (sense : S → ℕ 
       cell_of_region : IsCellIn r.size c
       cell_of_region = rw i.region at given.0
 
-  -- ---- the walk ended
+  -- ---- an ended walk
 
   module _ (step : Step) (last : IsLast step) where
     last_found : found_by x (sense s w.at) (Ok step) ≡ sense s w.at []
@@ -182,7 +180,6 @@ module _ {F S A : Type 0} (facts : F → Device) (r : Range) (sense : S → ℕ 
       go (inl device) = let is : fault ≡ walk.Device = cc in inl (ap (λ (f : WalkFault). let a : Result A EditFault = Err (edit_fault_of f) in a) is)
       go (inr is) = inr (sym ((answered (Err fault) h is).1 ∙ found_refusal x (sense s w.at) fault))
 
--- an answer that is no fault of the device tells no refused call
 pub faultless : {A : Type 0} (r : Result A EditFault) → IfErr r (λ fault. fault ≢ faults.Device) → faults_told by_device r ≡ 0
 faultless (Ok a) other = refl
 faultless (Err faults.Device) other = absurd (other refl)
@@ -218,7 +215,7 @@ or_nothing : (p : Option Place) → option_or p None ≡ p
 or_nothing None = refl
 or_nothing (Some place) = refl
 
--- the first place so far, where the row of free cells ends
+-- the first place so far, at the end of the free cells
 abbrev closed : Wanted → ℕ → Survey → Option Place
 closed wanted size s = option_or s.place (cond (nat_lt s.row.start s.row.end) (place_in wanted size s.row) None)
 
@@ -242,7 +239,7 @@ place_step name wanted size s c cells span named place used long is_named is_pla
     (or_run wanted size s.place (nat_lt s.row.start s.row.end) s.row (runs_from next next cells))
     )
 
--- where the cells end
+-- at the end of the cells
 pub no_place_left : (name : List ℕ) (wanted : Wanted) (size : ℕ) (s : Survey) (place : Option Place) → s.exists ≡ false → place ≡ closed wanted size s → ok_or place faults.NoSpace ≡ place_by name wanted size s []
 unfolding components_from by_rows
 no_place_left name wanted size s place none is =

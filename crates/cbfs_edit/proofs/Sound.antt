@@ -1,4 +1,4 @@
--- What is known of a region that is not refused itself.
+-- A sound region.
 use Rattle.std.proofs.Common.{◌≡◌, ℕ, ◌%◌, Bool, true, false, cond, List, length, Option, Some, None, Result, Ok, Err, refl, sym}
 use Rattle.std.specs.Prelude.{ok_or}
 use Rattle.flash_format.specs.Cut.{End, damage, cut}
@@ -11,7 +11,7 @@ use Rattle.cbfs_edit.specs.declared.fault.EditFault.{EditFault}
 use Rattle.cbfs_edit.specs.declared.group.CellRange.{CellRange}
 use Rattle.cbfs_walk.specs.declared.walk.WalkFault.TheVariants as walk
 
--- its size is good, and no damage ends its cells
+-- valid size, and no damage
 pub record IsSound (x : List ℕ) : Type 0 where
   pub whole : length x % 64 ≡ 0
   pub undamaged : (at : ℕ) (r : Result CellRange EditFault) → unless_damaged at (cut x).end r ≡ r

@@ -1,4 +1,4 @@
--- The effect and the errors of adding a component.
+-- The effect and errors of an addition.
 use Rattle.std.specs.List.{list_any}
 use Rattle.std.specs.Option.{option_map_or}
 use Rattle.std.specs.Result.{result_map_both, result_ok}
@@ -27,14 +27,12 @@ use Rattle.cbfs_edit.specs.declared.place.Spot.{Spot}
 use Rattle.cbfs_edit.specs.declared.place.Wanted.{Wanted}
 use Rattle.cbfs_edit.specs.declared.place.Place.{Place}
 
--- a component to add
 pub record NewComponent : Type 0 where
   pub name : List ℕ
   pub kind : ℕ
   pub digest : Option Digest
   pub content : List ℕ
 
--- the stored digest of a content
 abbrev pub digest_of : HashChoice → List ℕ → Option Digest
 digest_of Plain content = None
 digest_of Sha256 content = Some (sha256_of content)
@@ -47,7 +45,7 @@ new_component name kind hash content =
 abbrev pub component_of_label : Label → List ℕ → NewComponent
 component_of_label label content = new_component label.name.now label.kind label.hash content
 
--- the length of the metadata before the content, without the gap
+-- the length without the gap before the content
 abbrev pub metadata_len_of : NewComponent → ℕ
 metadata_len_of new = meta_length (length new.name) (hash_len new.digest)
 
@@ -57,32 +55,28 @@ wanted_for new spot =
 
 -- ---- the effect
 
--- the end of the component's cell
 abbrev pub cell_end : NewComponent → Place → ℕ
 cell_end new place = round64 (place.content + length new.content)
 
--- the empty entry between two offsets, or nothing between equal offsets
+-- the empty entry between two offsets, if different
 abbrev pub empty_between : List ℕ → ℕ → ℕ → List ℕ
 empty_between x start end = if start == end then [] else empty_entry (end - start) (kept_at x end)
 
--- the component's cell
 abbrev pub made_at : List ℕ → NewComponent → Place → List ℕ
 made_at x new place =
     made new.name new.kind new.digest (place.content - place.header - metadata_len_of new)
     new.content (kept_at x (cell_end new place))
 
--- a region with the component in a run, between an empty entry before and after
+-- the component in a run, between empty entries
 abbrev pub added : List ℕ → NewComponent → Place → List ℕ
 added x new place = overwritten x place.run.start (empty_between x place.run.start place.header
     ++ (made_at x new place ++ empty_between x (cell_end new place) place.run.end))
 
--- the added component
 abbrev pub added_component : List ℕ → NewComponent → Place → Component
 added_component x new place =
     made_component place.header new.name new.kind new.digest new.content (made_at x new place)
 
--- The region has a further component, in place of free cells, with its content at the returned
--- offset.
+-- one more component in place of free cells, with its content at the returned offset
 pub record AddsOne (x : List ℕ) (new : NewComponent) (place : Place) : Type 0 where
   pub cells : CellsBetween x place.run.start place.run.end
   pub free : AllFree cells.group
@@ -93,13 +87,13 @@ pub record AddsOne (x : List ℕ) (new : NewComponent) (place : Place) : Type 0 
   pub content : slice_range (added x new place) place.content (place.content + length new.content)
       ≡ new.content
 
--- the region keeps all bytes from here on: of the last four bytes, only the bytes after the content
+-- the start of the preserved end: the last four bytes, unless covered by content
 abbrev pub kept_from : List ℕ → NewComponent → Place → ℕ
 kept_from x new place = max (place.content + length new.content) (length x - 4)
 
 -- ---- the errors
 
--- an empty name, a name of more than 127 bytes, or a NUL
+-- empty, more than 127 bytes, or with a NUL
 abbrev pub is_bad_name : List ℕ → Bool
 is_bad_name name = (length name == 0) || nat_lt 127 (length name) || list_any is_nul name
 
@@ -107,14 +101,14 @@ is_bad_name name = (length name == 0) || nat_lt 127 (length name) || list_any is
 abbrev pub is_bad_type : ℕ → Bool
 is_bad_type kind = kind == 0 || kind == 0xffffffff
 
--- the first error independent of the device
+-- the first error that depends on no device
 abbrev pub own_fault : List ℕ → ℕ → Spot → Option EditFault
 own_fault name kind spot =
     if is_bad_name name then Some BadName
     else (if is_bad_type kind then Some BadType
     else (if is_bad_align spot then Some BadAlign else None))
 
--- the place of the component, or the first error
+-- the place, or the first error
 unfoldable pub addition_in : List ℕ → NewComponent → Spot → Result Place EditFault
 addition_in x new spot = option_map_or (λ fault. Err fault) (own_fault new.name new.kind spot)
     (placing_in x new.name (wanted_for new spot))
@@ -124,11 +118,11 @@ abbrev pub placed_of : Result Place EditFault → Result Placed EditFault
 placed_of place =
     result_map_both (λ p. record { header = p.header; content = p.content }) (λ fault. fault) place
 
--- the region after the addition, unchanged after an error
+-- unchanged after an error
 abbrev pub added_to : List ℕ → NewComponent → Spot → List ℕ
 added_to x new spot = option_map_or (added x new) (result_ok (addition_in x new spot)) x
 
--- the place has room for metadata of the given length, and for a cell up to `end`
+-- room for the metadata, and for a cell up to `end`
 pub record HasRoom (size : ℕ) (place : Place) (end metadata : ℕ) : Type 0 where
   pub run : IsCellRange place.run size
   pub small : size < 2 ^ 32
@@ -139,21 +133,21 @@ pub record HasRoom (size : ℕ) (place : Place) (end metadata : ℕ) : Type 0 wh
   pub metadata_short : metadata ≤ 4096
   pub content_below : place.content ≤ end
 
--- The number of metadata bytes in the last commit. They lie at the run's start.
+-- the number of metadata bytes in the last commit
 abbrev pub held_back : Place → ℕ
 held_back place = if place.header == place.run.start then header_length else 0
 
--- the rest of the metadata
+-- the other metadata
 abbrev pub with_metadata : List ℕ → Place → List ℕ → List ℕ
 with_metadata y place metadata =
     overwritten y (place.header + held_back place) (drop (held_back place) metadata)
 
--- the header of the empty entry after the component, if any
+-- the empty entry after the component, if any
 abbrev pub with_bound : List ℕ → ℕ → ℕ → List ℕ
 with_bound y end run_end = if end == run_end then y
     else overwritten y end (empty_header (run_end - end) (run_end == length y))
 
--- the last commit: the first metadata bytes, or the header of the empty entry before the component
+-- the metadata's start, or the header of the empty entry before the component
 abbrev pub shown_by : Place → List ℕ → List ℕ
 shown_by place metadata = if place.header == place.run.start then take header_length metadata
     else empty_header (place.header - place.run.start) false
@@ -165,7 +159,7 @@ with_component y place end metadata =
     (shown_by place metadata)
 
 -- Before the last commit, only bytes of the run after the header of its empty entry have changed;
--- of the run's last four bytes, only bytes before the content.
+-- of the last four bytes, only bytes before the content.
 abbrev pub IsUnfinished : Place → List ℕ → List ℕ → Type 0
 IsUnfinished place y z = SameOutside (place.run.start + header_length)
     (max place.content (place.run.end - 4) - (place.run.start + header_length)) y z

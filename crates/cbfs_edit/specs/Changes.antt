@@ -1,4 +1,4 @@
--- The effect of edits on a region, the cause of an error, and the effect of an interrupted edit.
+-- The effect of edits on a region, also after a fault.
 use Rattle.std.specs.Prelude.{◌≡◌, ℕ, ◌+◌, ◌/◌, List, length, Result, IsTrue, IsErrOf, OnOk, ◌⊎◌}
 use Rattle.std.specs.Prelude.{◌-◌, max, drop, Ok, ◌==◌}
 use Rattle.flash_device.specs.Device.{overwritten, SameOutside, Device, Reads, faults_told}
@@ -19,27 +19,27 @@ use Rattle.cbfs_edit.specs.declared.group.CellRange.{CellRange}
 use Rattle.cbfs_edit.specs.declared.place.Spot.{Spot}
 use Rattle.cbfs_edit.specs.declared.place.Place.{Place}
 
--- selects by fault: device, source, or any other fault
+-- selects by the failed device, if any
 abbrev pub by_fault {ℓ} : {X : Type ℓ} → EditFault → X → X → X → X
 by_fault faults.Device device source refused = device
 by_fault faults.Source device source refused = source
 by_fault _ device source refused = refused
 
--- the number of failed calls of the device or the source, by fault
+-- the number of failed calls
 abbrev pub by_device : EditFault → ℕ
 by_device fault = by_fault fault 1 0 0
 
 abbrev pub by_source : EditFault → ℕ
 by_source fault = by_fault fault 0 1 0
 
--- P of a region's bytes before and after, on an honest device
+-- P of a region before and after, on an honest device
 abbrev pub OnHonestChange : {F : Type 0} → (F → Device) → Range → Pages F → Pages F
     → (List ℕ → List ℕ → Type 0) → Type 0
 OnHonestChange facts region old new P = IsTrue (facts old.device).honest
     → P (bytes_in region (facts old.device).content) (bytes_in region (facts new.device).content)
 
--- The effect of a write into a region by at most n calls. On an honest device, success applies
--- `done` to the region, and `Left` relates the region before and after in any case.
+-- A write into a region by at most n calls. On an honest device, success applies `done`, and `Left`
+-- holds in any case.
 pub record HasWrittenIn {F T E : Type 0} (facts : F → Device) (region : Range) (n : ℕ)
     (done : List ℕ → List ℕ) (Left : List ℕ → List ℕ → Type 0) (old new : Pages F)
     (result : Result T E) : Type 0 where
@@ -47,8 +47,8 @@ pub record HasWrittenIn {F T E : Type 0} (facts : F → Device) (region : Range)
   pub written : OnHonestChange facts region old new (λ x y. OnOk result (y ≡ done x))
   pub left : OnHonestChange facts region old new Left
 
--- The effect of copying a source into a region. `copied` requires an honest device and an honest
--- source, `torn` only an honest device.
+-- A copy of a source into a region. `copied` and `torn` require an honest device, `copied` also an
+-- honest source.
 pub record HasCopied {F T : Type 0} (facts : F → Device) (region : Range) (at : ℕ)
     (old new : Pages F) (input input_now : Device) (result : Result T CopyFault) : Type 0 where
   pub after : HasChanged facts region ((length input.content + 4095) / 4096)
@@ -60,24 +60,23 @@ pub record HasCopied {F T : Type 0} (facts : F → Device) (region : Range) (at 
       IsTrue input.honest → OnOk result (y ≡ overwritten x at input.content))
   pub torn : OnHonestChange facts region old new (SameOutside at (length input.content))
 
--- The state between the first and the last commit of an edit: an empty entry's header covers the
--- group, followed by arbitrary bytes up to `to`.
+-- between the commits of an edit: an empty entry's header over the group, then arbitrary bytes up
+-- to `to`
 pub record IsEmptied (group : CellRange) (to : ℕ) (x y : List ℕ) : Type 0 where
   pub same_length : length y ≡ length x
   pub same : SameOutside (group.start + header_length) (to - (group.start + header_length))
       (overwritten x group.start (empty_header (group.end - group.start) (group.end == length x))) y
 
--- the states during the writes of an empty entry
+-- while an empty entry is written
 abbrev pub IsOldOrEmptied : CellRange → ℕ → List ℕ → List ℕ → Type 0
 IsOldOrEmptied group to x y = (y ≡ x) ⊎ IsEmptied group to x y
 
--- the same components, with offsets and bytes, and the same end
+-- with offsets, bytes and the same end
 pub record SameCells (x y : List ℕ) : Type 0 where
   pub components : components x ≡ components y
   pub end : (cut x).end ≡ (cut y).end
 
--- The components before or after the whole edit. All bytes outside the group, and all bytes from
--- `kept` on, remain.
+-- The components before or after the edit. Bytes outside the group, and from `kept` on, remain.
 pub record IsStopped (x : List ℕ) (group : CellRange) (done : List ℕ) (kept : ℕ)
     (y : List ℕ) : Type 0 where
   pub components : (components y ≡ components x) ⊎ (components y ≡ components done)
@@ -86,27 +85,24 @@ pub record IsStopped (x : List ℕ) (group : CellRange) (done : List ℕ) (kept 
   pub outside : SameOutside group.start (group.end - group.start) x y
   pub last : drop kept y ≡ drop kept x
 
--- the region after a device fault during a removal: unchanged, or a partial removal with unchanged
--- last four bytes
+-- after a device fault of a removal
 abbrev pub LeavesWhole : List ℕ → List ℕ → List ℕ → Type 0
 LeavesWhole x name y = (y ≡ x) ⊎ ((group : CellRange) × (removal_in x name ≡ Ok group)
     × IsStopped x group (removed x group) (length x - 4) y)
 
--- the region after a device fault during an addition; of the last four bytes, the bytes after the
--- content remain
+-- after a device fault of an addition; of the last four bytes, only bytes after the content remain
 abbrev pub AddLeavesWhole : List ℕ → NewComponent → Spot → List ℕ → Type 0
 AddLeavesWhole x new spot y = (y ≡ x) ⊎ ((place : Place) × (addition_in x new spot ≡ Ok place)
     × IsStopped x place.run (added x new place) (kept_from x new place) y)
 
--- the region after a source fault, with the same components as before
+-- after a source fault: the components of before
 abbrev pub AddLeavesBefore : List ℕ → NewComponent → Spot → List ℕ → Type 0
 AddLeavesBefore x new spot y = AddLeavesWhole x new spot y × (components y ≡ components x)
 
--- the upper bound of an addition's writes; the bytes after it remain
+-- the end of an addition's writes
 abbrev pub written_to : ℕ → ℕ → Place → ℕ
 written_to size len place = max (place.content + len) (space_end size place.run.end)
 
--- the states during the writes of an addition: an empty entry over the run, or completion; all
--- bytes from `to` on remain
+-- an empty entry over the run, or the complete addition; bytes from `to` on remain
 abbrev pub IsInsertStop : CellRange → ℕ → Type 0 → List ℕ → List ℕ → Type 0
 IsInsertStop run to Done x y = IsOldOrEmptied run to x y ⊎ (Done × (drop to y ≡ drop to x))

@@ -1,4 +1,4 @@
--- The laws of the edits.
+-- The laws of edits.
 use Rattle.std.specs.Prelude.{◌≡◌, ◌↔◌, ℕ, ◌%◌, ◌^◌, ◌<◌, ◌≤◌, false, All, Contains, List, length}
 use Rattle.std.specs.Prelude.{Ok, Option, Some, MatchOption}
 use Rattle.std.specs.List.{AllPairs}
@@ -18,52 +18,47 @@ use Rattle.cbfs_edit.specs.declared.place.Wanted.{Wanted}
 use Rattle.cbfs_edit.specs.declared.place.Place.{Place}
 use Rattle.cbfs_edit.specs.declared.place.Spot.{Spot}
 
--- If the header of an empty entry covers a removal's group, the components are the same as after
--- the whole removal, for any other bytes in the group.
+-- An empty entry's header over the group removes the component, for any other bytes.
 abbrev pub EmptiedGroupsLackTheComponent : Type 0
 EmptiedGroupsLackTheComponent = (x name : List ℕ) (group : CellRange) (y : List ℕ)
     → length x < 2 ^ 32 → removal_in x name ≡ Ok group → IsEmptied group group.end x y
     → SameCells y (removed x group)
 
--- A removal takes the first component with the name. All others remain, with offsets and bytes.
 abbrev pub RemovalsTakeOneComponent : Type 0
 RemovalsTakeOneComponent = (x name : List ℕ) (group : CellRange) → length x < 2 ^ 32
     → removal_in x name ≡ Ok group → LosesOne name x (removed x group)
 
--- The group of a removal is exactly the first component with the name and all adjacent free cells.
--- No group exists exactly if no component has the name.
+-- A group is the first component with the name and all adjacent free cells.
 abbrev pub GroupsAreExact : Type 0
 GroupsAreExact = (x name : List ℕ) (found : Option CellRange)
     → MatchOption found (All (IsNot name) (cut x).cells) (IsGroupOf name (cut x).cells)
     ↔ (found ≡ group_of x name)
 
--- The components remain the same between the commits of an edit that fills a run.
+-- between the commits of an edit that fills a run
 abbrev pub EmptiedRunsKeepTheComponents : Type 0
 EmptiedRunsKeepTheComponents = (x : List ℕ) (run : CellRange) (y : List ℕ) → length x % 64 ≡ 0
     → length x < 2 ^ 32 → Contains (runs x) run → IsEmptied run run.end x y → SameCells y x
 
--- The runs are exactly the maximal sequences of adjacent free cells.
+-- the maximal sequences of adjacent free cells
 abbrev pub RunsAreExact : Type 0
 RunsAreExact = (x : List ℕ) (run : CellRange) → Contains (runs x) run ↔ IsRunOf (cut x).cells run
 
--- The runs ascend, with a cell between two runs.
+-- with a cell between two runs
 abbrev pub RunsAscend : Type 0
 RunsAscend = (x : List ℕ) → length x % 64 ≡ 0
     → AllPairs (λ (a b : CellRange). a.end < b.start) (runs x)
 
--- A formatted region is a single free cell.
 abbrev pub FormattedIsOneFreeCell : Type 0
 FormattedIsOneFreeCell = (x : List ℕ) → 64 ≤ length x → length x % 64 ≡ 0 → length x < 2 ^ 32
     → IsOneFreeCell (formatted x)
 
--- The place of a new component is exactly the least allowed place in the first run with an allowed
--- place.
+-- the least allowed place in the first run with an allowed place
 abbrev pub PlacesAreExact : Type 0
 PlacesAreExact = (x : List ℕ) (wanted : Wanted) (found : Option Place) → IsWanted wanted
     → IsPlaceAmong wanted (length x) (runs x) found
     ↔ (found ≡ first_place wanted (length x) (runs x))
 
--- an addition with 32-bit numbers, a complete digest, and the given place
+-- an addition of 32-bit numbers and a complete digest
 pub record IsAdded (x : List ℕ) (new : NewComponent) (spot : Spot) (place : Place) : Type 0 where
   pub region : length x < 2 ^ 32
   pub kind : new.kind < 2 ^ 32
@@ -71,26 +66,23 @@ pub record IsAdded (x : List ℕ) (new : NewComponent) (spot : Spot) (place : Pl
   pub digest : IsDigest new.digest
   pub placed : addition_in x new spot ≡ Ok place
 
--- An addition creates a further component with its name, type, attributes and content, and with the
--- content at the returned offset. All others remain.
+-- One more component. All others remain.
 abbrev pub AdditionsAddOneComponent : Type 0
 AdditionsAddOneComponent = (x : List ℕ) (new : NewComponent) (spot : Spot) (place : Place)
     → IsAdded x new spot place → AddsOne x new place
 
--- A search by name finds the added component with its content.
 abbrev pub AdditionsAreFound : Type 0
 AdditionsAreFound = (x : List ℕ) (new : NewComponent) (spot : Spot) (place : Place)
     → IsAdded x new spot place
     → component_in (added x new place) new.name ≡ Ok (Some (added_component x new place))
 
--- A removal of the added component restores the previous components.
+-- A removal restores the previous components.
 abbrev pub AdditionsAreUndone : Type 0
 AdditionsAreUndone = (x : List ℕ) (new : NewComponent) (spot : Spot) (place : Place)
     → IsAdded x new spot place
     → (group : CellRange) × (removal_in (added x new place) new.name ≡ Ok group)
     × SameCells (removed (added x new place) group) x
 
--- An addition keeps all previous components.
 abbrev pub AdditionsKeepAll : Type 0
 AdditionsKeepAll = (x : List ℕ) (new : NewComponent) (spot : Spot) (place : Place)
     → IsAdded x new spot place → (c : Component) → Contains (components x) c

@@ -21,7 +21,7 @@ abbrev pub is_bad_align : Spot → Bool
 is_bad_align (Aligned unit) = unit == 0
 is_bad_align spot = false
 
--- both lengths fit 32 bits, and the alignment is not 0
+-- lengths of 32 bits, and a valid alignment
 pub record IsWanted (wanted : Wanted) : Type 0 where
   pub metadata_len : wanted.metadata_len < 2 ^ 32
   pub len : wanted.len < 2 ^ 32
@@ -29,18 +29,18 @@ pub record IsWanted (wanted : Wanted) : Type 0 where
 
 -- ---- as a relation
 
--- a spot allows content to begin at a place
+-- the content may begin at a place
 abbrev pub Allows : Spot → ℕ → Type 0
 Allows First c = ⊤
 Allows (Aligned unit) c = c % unit ≡ 0
 Allows (Fixed place) c = c ≡ place
 
--- the upper bound of the content's end, in a run with the given end, for a region of the given size
+-- the upper bound of the content's end, in a run with the given end
 abbrev pub limit_of : Spot → ℕ → ℕ → ℕ
 limit_of (Fixed place) size end = end
 limit_of spot size end = space_end size end
 
--- the content may begin at `c` in the run
+-- the content may begin at `c`
 pub record IsAllowed (wanted : Wanted) (size : ℕ) (run : CellRange) (c : ℕ) : Type 0 where
   pub after_header : run.start + wanted.metadata_len ≤ c
   pub meets : Allows wanted.spot c
@@ -49,20 +49,19 @@ pub record IsAllowed (wanted : Wanted) (size : ℕ) (run : CellRange) (c : ℕ) 
 abbrev pub HasNoRoom : Wanted → ℕ → CellRange → Type 0
 HasNoRoom wanted size run = (c : ℕ) → IsAllowed wanted size run c → ⊥
 
--- the header lies at the largest multiple of 64 with room for the metadata
+-- at the largest multiple of 64 with room for the metadata
 pub record IsHeaderOf (wanted : Wanted) (place : Place) : Type 0 where
   pub aligned : place.header % 64 ≡ 0
   pub room : place.header + wanted.metadata_len ≤ place.content
   pub largest : place.content < place.header + 64 + wanted.metadata_len
 
--- a component fits at the place, in a region of the given size
 pub record Fits (wanted : Wanted) (size : ℕ) (place : Place) : Type 0 where
   pub run : IsCellRange place.run size
   pub start_below : place.run.start ≤ place.header
   pub header : IsHeaderOf wanted place
   pub inside : place.content + wanted.len ≤ place.run.end
 
--- the first run with an allowed place, and the least allowed place in the run
+-- the least allowed place in the first run with an allowed place
 pub record IsFirstPlace (wanted : Wanted) (size : ℕ) (runs : List CellRange)
     (place : Place) : Type 0 where
   pub before : List CellRange
@@ -73,20 +72,18 @@ pub record IsFirstPlace (wanted : Wanted) (size : ℕ) (runs : List CellRange)
   pub least : (d : ℕ) → IsAllowed wanted size place.run d → place.content ≤ d
   pub header : IsHeaderOf wanted place
 
--- the place among the runs, or none
 abbrev pub IsPlaceAmong : Wanted → ℕ → List CellRange → Option Place → Type 0
 IsPlaceAmong wanted size runs found =
     MatchOption found (All (HasNoRoom wanted size) runs) (IsFirstPlace wanted size runs)
 
 -- ---- as a function
 
--- the least allowed place from `from` on; a lower place if the spot allows none
+-- the least allowed place from `from` on; lower if the spot allows none
 abbrev pub least_from : Spot → ℕ → ℕ
 least_from First from = from
 least_from (Aligned unit) from = next_multiple_of from unit
 least_from (Fixed place) from = place
 
--- the least allowed place in a run, with room for header and content
 abbrev pub place_in : Wanted → ℕ → CellRange → Option Place
 place_in wanted size run =
     let c = least_from wanted.spot (run.start + wanted.metadata_len) in
@@ -95,17 +92,15 @@ place_in wanted size run =
     then Some (record { run = run; header = (c - wanted.metadata_len) / 64 * 64; content = c })
     else None
 
--- the place in the first run with an allowed place
 abbrev pub first_place : Wanted → ℕ → List CellRange → Option Place
 first_place wanted size runs = slice_get (filter_map (place_in wanted size) runs) 0
 
 -- ---- with errors
 
--- the place, or an error if the name exists
 abbrev pub unless_exists : Bool → Option Place → Result Place EditFault
 unless_exists exists place = if exists then Err Exists else ok_or place NoSpace
 
--- the place of a new component with the given name, or the first error
+-- the place, or the first error
 unfoldable pub placing_in : List ℕ → List ℕ → Wanted → Result Place EditFault
 placing_in x name wanted =
     unless_unsound x (unless_exists (is_some (first_named name (components x)))

@@ -1,5 +1,4 @@
--- Groups of adjacent cells: a component with its adjacent free cells. The effect and the errors of
--- a removal.
+-- The effect and errors of a removal. A group is a component with its adjacent free cells.
 use Rattle.std.specs.List.{concat, last_or, slice_get}
 use Rattle.std.specs.Prelude.{ℕ, ◌+◌, ◌%◌, ◌≡◌, ◌≤◌, IfSome, true, false, All, List, [], ◌∷◌, ◌++◌}
 use Rattle.std.specs.Prelude.{length, Option, Some, None, if◌then◌else◌, ◌-◌, drop, Result, Err}
@@ -22,9 +21,9 @@ use Rattle.cbfs_edit.specs.declared.fault.EditFault.{EditFault}
 use Rattle.cbfs_edit.specs.declared.fault.EditFault.TheVariants.{RegionShape, NotCbfs, Damaged}
 use Rattle.cbfs_edit.specs.declared.fault.EditFault.TheVariants.{Device, NotFound}
 
--- A fold over cells. `start` is the start of the free cells directly before the offset `at`. At a
--- component, `each` receives `start`, the offset, the component's bytes, the remaining cells and
--- their result; `last` is the result at the end of the cells.
+-- A fold over cells. `start` is the start of the free cells directly before `at`. `each` receives
+-- `start`, `at`, the component, the remaining cells and their result; `last` is the result at the
+-- end.
 unfoldable pub by_rows : {A : Type 0} → (ℕ → ℕ → A) → (ℕ → ℕ → List ℕ → List (List ℕ) → A → A) → ℕ
     → ℕ → List (List ℕ) → A
 by_rows last each start at [] = last start at
@@ -43,27 +42,26 @@ group_from name =
     by_rows (λ start at. None) (λ start at x cells later. if bytes_eq (cell_name x) name
     then Some (record { start = start; end = row_end (at + length x) cells }) else later)
 
--- the same for a region
 abbrev pub group_of : List ℕ → List ℕ → Option CellRange
 group_of x name = group_from name 0 0 (cut x).cells
 
--- a possible range of cells in a region of the given size
+-- multiples of 64 in a region of the given size
 pub record IsCellRange (group : CellRange) (size : ℕ) : Type 0 where
   pub some : group.start + 64 ≤ group.end
   pub start_aligned : group.start % 64 ≡ 0
   pub end_aligned : group.end % 64 ≡ 0
   pub inside : group.end ≤ size
 
--- ---- the same as a relation
+-- ---- as a relation
 
 abbrev pub IsComponent : List ℕ → Type 0
 IsComponent c = is_free (head_of c) ≡ false
 
--- a cell is no component with the name
+-- no component with the name
 abbrev pub IsNot : List ℕ → List ℕ → Type 0
 IsNot name c = IsComponent c → bytes_eq (cell_name c) name ≡ false
 
--- a range of adjacent cells, bounded on both ends by a component or by the end of the cells
+-- adjacent cells between components, or at an end of the cells
 pub record IsRangeAmong (cells : List (List ℕ)) (range : CellRange) : Type 0 where
   pub before : List (List ℕ)
   pub row : List (List ℕ)
@@ -74,7 +72,7 @@ pub record IsRangeAmong (cells : List (List ℕ)) (range : CellRange) : Type 0 w
   pub start_is : length (concat before) ≡ range.start
   pub end_is : range.start + length (concat row) ≡ range.end
 
--- a group: the first component with the name, and all adjacent free cells
+-- the first component with the name, and all adjacent free cells
 pub record IsGroupOf (name : List ℕ) (cells : List (List ℕ)) (group : CellRange) : Type 0 where
   pub range : IsRangeAmong cells group
   pub row_before : List (List ℕ)
@@ -94,39 +92,38 @@ last_four x = drop (length x - 4) x
 abbrev pub kept_at : List ℕ → ℕ → Option (List ℕ)
 kept_at x end = if end == length x then Some (last_four x) else None
 
--- the end of the erased space of free cells with the given end: the region's last four bytes remain
+-- the end of the erased space: the region's last four bytes remain
 abbrev pub space_end : ℕ → ℕ → ℕ
 space_end size end = if end == size then end - 4 else end
 
--- a region with a single empty entry in place of a group
+-- a single empty entry in place of a group
 abbrev pub removed : List ℕ → CellRange → List ℕ
 removed x group =
     overwritten x group.start (empty_entry (group.end - group.start) (kept_at x group.end))
 
--- the first component with the name is gone; all others and the end of the cells are the same
+-- all others and the end of the cells remain
 pub record LosesOne (name x y : List ℕ) : Type 0 where
   pub component : Component
   pub was : IsFirstOf name (components x) component
   pub is : components y ≡ was.before ++ was.after
   pub same_end : (cut y).end ≡ (cut x).end
 
--- the error for a fault of the walk
 abbrev pub edit_fault_of : WalkFault → EditFault
 edit_fault_of faults.Device = Device
 edit_fault_of faults.RegionShape = RegionShape
 edit_fault_of faults.NotCbfs = NotCbfs
 edit_fault_of (faults.Damaged at kind) = Damaged at kind
 
--- damage at the end of the cells takes precedence
+-- damage takes precedence
 abbrev pub unless_damaged : {A : Type 0} → ℕ → End → Result A EditFault → Result A EditFault
 unless_damaged at end otherwise =
     result_and (result_map_both (λ none. none) edit_fault_of (not_found at end)) otherwise
 
--- the region's errors take precedence: invalid size, no entry at the start, damage
+-- the precedence of errors
 abbrev pub unless_unsound : {A : Type 0} → List ℕ → Result A EditFault → Result A EditFault
 unless_unsound x otherwise = refused_or (λ fault. Err (edit_fault_of fault)) (shape_fault x)
     (unless_damaged (place_after 0 (cut x).cells) (cut x).end otherwise)
 
--- the group of a removal, or the first error
+-- the group, or the first error
 unfoldable pub removal_in : List ℕ → List ℕ → Result CellRange EditFault
 removal_in x name = unless_unsound x (ok_or (group_of x name) NotFound)

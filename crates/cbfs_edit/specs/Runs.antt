@@ -18,7 +18,7 @@ runs_from =
 abbrev pub runs : List ℕ → List CellRange
 runs x = runs_from 0 0 (cut x).cells
 
--- a run: free cells, bounded on both ends by a component or by the end of the cells
+-- free cells between components, or at an end of the cells
 pub record IsRunOf (cells : List (List ℕ)) (run : CellRange) : Type 0 where
   pub range : IsRangeAmong cells run
   pub free : AllFree range.row

@@ -1,5 +1,4 @@
--- The searches for a group and for a place, cell by cell: the result for the remaining cells, and
--- the invariants on any device.
+-- Searches cell by cell.
 use Rattle.std.specs.Option.{option_or}
 use Rattle.std.specs.Prelude.{◌≡◌, ℕ, ◌%◌, ◌^◌, ◌<◌, ◌≤◌, ◌||◌, is_some, List, IfSome, Result, Ok}
 use Rattle.std.specs.Prelude.{ok_or}
@@ -17,26 +16,26 @@ use Rattle.cbfs_edit.specs.declared.place.Survey.{Survey}
 use Rattle.cbfs_edit.specs.declared.place.Wanted.{Wanted}
 use Rattle.cbfs_edit.specs.declared.place.Place.{Place}
 
--- the result of a group search for the remaining cells from an offset on
+-- the result for the remaining cells
 abbrev pub group_by : List ℕ → Search → ℕ → List (List ℕ) → Result CellRange EditFault
 group_by name (Looking start) at cells = ok_or (group_from name start at cells) NotFound
 group_by name (Growing group) at cells =
     Ok (record { start = group.start; end = row_end group.end cells })
 group_by name (Whole group) at cells = Ok group
 
--- a group search covers complete cells before its offset
+-- the search covers complete cells before its offset
 abbrev pub IsBefore : ℕ → Search → Type 0
 IsBefore at (Looking start) = (start ≤ at) × (start % 64 ≡ 0)
 IsBefore at (Growing group) = IsCellRange group at
 IsBefore at (Whole group) = IsCellRange group at
 
--- the result of a place search for the remaining cells
+-- the result for the remaining cells
 abbrev pub place_by : List ℕ → Wanted → ℕ → Survey → List (List ℕ) → Result Place EditFault
 place_by name wanted size s cells =
     unless_exists (s.exists || is_some (first_named name (components_from s.row.end cells)))
     (option_or s.place (first_place wanted size (runs_from s.row.start s.row.end cells)))
 
--- the invariant of a place search, including the bounds of the component
+-- the bounds of row and place
 pub record IsSurvey (wanted : Wanted) (size at : ℕ) (s : Survey) : Type 0 where
   pub asked : IsWanted wanted
   pub small : size < 2 ^ 32

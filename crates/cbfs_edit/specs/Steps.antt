@@ -1,4 +1,4 @@
--- Edits on a device with possible faults at any call: a single edit, and a list of edits.
+-- Edits on any device.
 use Rattle.std.specs.Prelude.{◌≡◌, ℕ, ◌+◌, ◌/◌, IsTrue, List, [], ◌∷◌, length, Ok, Err}
 use Rattle.flash_device.specs.Device.{Calls, Device, Reads}
 use Rattle.flash_device.specs.Regions.{Range, bytes_in}
@@ -12,9 +12,8 @@ use Rattle.cbfs_edit.specs.declared.edit.Reply.{Reply}
 use Rattle.cbfs_edit.specs.declared.edit.Reply.TheVariants as replies
 use Rattle.cbfs_edit.specs.declared.fault.EditFault.{EditFault}
 
--- The meaning of a reply, if device and source are honest: the place of an addition, the group of a
--- removal, or an error, and the resulting bytes of the region. A source fault never refuses a
--- removal.
+-- The place of an addition, the group of a removal, or an error, and the resulting region, if
+-- device and source are honest. A source fault never refuses a removal.
 abbrev pub IsReply : {S : Type 0} → (S → Device) → Edit S → Reply → Type 0 → List ℕ
     → List ℕ → Type 0
 IsReply facts (Add name kind hash spot source) (replies.Placed placed) honest x y =
@@ -31,25 +30,24 @@ IsReply facts (Remove name) (replies.Refused fault) honest x y = honest
     → by_fault fault (LeavesWhole x name.now y) ⊥ ((removal_in x name.now ≡ Err fault) × (y ≡ x))
 IsReply facts edit reply honest x y = ⊥
 
--- the number of failed calls in a reply: at most the last call of the edit
+-- the number of failed calls: at most the last call
 abbrev pub faults_of : (EditFault → ℕ) → Reply → ℕ
 faults_of told (replies.Refused fault) = told fault
 faults_of told reply = 0
 
--- An edit keeps its arguments. Its source counts calls and faults, and keeps its content if honest.
--- A removal has no source.
+-- An edit keeps its arguments, and an honest source its content. A removal has no source.
 abbrev pub Stays : {S : Type 0} → (S → Device) → ℕ → Edit S → Edit S → Type 0
 Stays {S} facts refused (Add name kind hash spot source) new =
     (now : S) × (new ≡ Add name kind hash spot now)
     × Reads (length (facts source).content / 4096 + 1) refused (facts source) (facts now)
 Stays facts refused (Remove name) new = (new ≡ Remove name) × (refused ≡ 0)
 
--- the maximum number of device calls of an edit
+-- the maximum number of device calls
 abbrev pub edit_calls : {S : Type 0} → ℕ → Edit S → ℕ
 edit_calls size (Add name kind hash spot source) = size / 16 + size / 2048 + 7
 edit_calls size (Remove name) = size / 16 + size / 4096 + 3
 
--- a single edit of a region with its reply
+-- an edit with its reply
 pub record Step {S : Type 0} (facts : S → Device) (region : Range) (old new : Edit S)
     (before : Device) (reply : Reply) (after : Device) : Type 0 where
   pub stays : Stays facts (faults_of by_source reply) old new
@@ -57,7 +55,7 @@ pub record Step {S : Type 0} (facts : S → Device) (region : Range) (old new : 
   pub effect : IsReply facts old reply (IsTrue before.honest) (bytes_in region before.content)
       (bytes_in region after.content)
 
--- consecutive edits of a region
+-- consecutive edits
 abbrev pub Run : {S : Type 0} → (S → Device) → Range → List (Edit S) → List (Edit S) → List Reply
     → Device → Device → Type 0
 Run facts region [] [] [] before after = after ≡ before

@@ -26,27 +26,24 @@ use flash_device::{CopyFault, Flash, Nobody, Paged, Region, Source};
 use flash_format::{Algorithm, Digest, Meta, meta_len};
 use sha2::{Sha256, Sha512};
 
-/// The digest to store with a content.
+/// The digest to store.
 #[derive(Clone, Copy)]
 pub enum HashChoice {
     /// No digest.
     Plain,
-    /// SHA-256.
     Sha256,
-    /// SHA-512.
     Sha512,
 }
 
-/// The position of a new component, relative to the region's start.
+/// A component's position, relative to the region's start.
 #[derive(Clone, Copy, Debug, PartialEq, Eq)]
 pub struct Placed {
-    /// The start of the header, a multiple of 64.
+    /// A multiple of 64.
     pub header: u64,
-    /// The start of the content.
     pub content: u64,
 }
 
-/// The stored properties of a component except its content.
+/// A component's properties except its content.
 #[derive(Clone, Copy)]
 pub struct Label<'a> {
     pub name: &'a [u8],
@@ -55,8 +52,7 @@ pub struct Label<'a> {
     pub hash: HashChoice,
 }
 
-/// Copies the whole source to an offset, and returns the digest to store, computed in the same
-/// pass.
+/// Copies the source to an offset, and returns its digest, computed in the same pass.
 #[tactic(auto, unfolding(cbfs_walk::specs::Hashes::sha256_of, cbfs_walk::specs::Hashes::sha512_of))]
 fn copy_content<F: Flash, S: Source>(
     paged: &mut Paged<F>,
@@ -73,7 +69,7 @@ fn copy_content<F: Flash, S: Source>(
     ensures digest_len { IfOk result (λ digest.
         (content : List ℕ) → hash_len digest ≡ hash_len (digest_of hash content)) }
 
-    // For an honest source, on any device.
+    // For an honest source.
     ensures digest { IsTrue (S.facts source.old).honest →
         IfOk result (λ digest. digest ≡ digest_of hash (S.facts source.old).content) }
 {
@@ -95,7 +91,6 @@ fn copy_content<F: Flash, S: Source>(
     }
 }
 
-/// Returns the description of a component.
 fn meta_of<'a>(
     name: &'a [u8],
     kind: u32,
@@ -127,7 +122,6 @@ fn meta_of<'a>(
     }
 }
 
-/// Returns the requested placement for content of the given length.
 fn wanted_of(label: &Label<'_>, len: u64, spot: Spot) -> Wanted
     requires { length label.now.name.now ≤ 127 }
     ensures { (content : List ℕ) → len ≡ length content
@@ -161,7 +155,6 @@ fn insert<F: Flash, S: Source>(
         (faults_told copies.by_source result) (S.facts source.old) (S.facts source.new) }
     ensures no_output { IsErrOf result CopyFault.Output → ⊥ }
 
-    // On an honest device.
     ensures added { OnHonestChange F.facts region paged.old paged.new (λ x y.
         IsTrue (S.facts source.old).honest → OnOk result
         (y ≡ added x (component_of_label label.now (S.facts source.old).content) place)) }
@@ -196,7 +189,6 @@ fn own_fault(name: &[u8], kind: u32, spot: Spot) -> Option<EditFault>
     }
 }
 
-/// Returns whether the name is empty, exceeds 127 bytes, or contains a NUL.
 fn is_bad_name(name: &[u8]) -> bool
     ensures { result ≡ is_bad_name name.now }
 {
@@ -209,14 +201,13 @@ fn has_nul(name: &[u8]) -> bool
     name.iter().any(|byte| *byte == 0)
 }
 
-/// Returns whether the type marks free space.
 fn is_bad_type(kind: u32) -> bool
     ensures { result ≡ is_bad_type kind }
 {
     kind == 0 || kind == 0xffff_ffff
 }
 
-/// Returns the length of the digest's attribute, which is independent of the content.
+/// Returns the length of the digest's attribute.
 #[tactic(auto, unfolding(cbfs_walk::specs::Hashes::sha256_of, cbfs_walk::specs::Hashes::sha512_of))]
 fn attribute_len(hash: HashChoice) -> usize
     ensures is { (content : List ℕ) → result ≡ hash_len (digest_of hash content) }
@@ -229,17 +220,14 @@ fn attribute_len(hash: HashChoice) -> usize
     }
 }
 
-/// Adds a component with the whole source as content, and returns its position.
+/// Adds a component with the whole source as content, at the least allowed place in the first free
+/// space with room, and returns its position. The remaining free space becomes empty entries. The
+/// region's last four bytes remain after the content, unless the content is at a fixed place.
 ///
-/// The component occupies the first free space with sufficient room, at the least allowed place.
-/// The remaining free space becomes an empty entry before and after the component. The region's
-/// last four bytes remain after the content's end; only content at a fixed place reaches them.
-///
-/// The order of errors is: invalid name, invalid type, invalid alignment, invalid region size, no
-/// entry at the region's start, first damaged entry, existing name, no space. A device or source
-/// fault can occur at any call, and only such a fault can leave a change. After a source fault, the
-/// components are the same as before. After a device fault, they are the same, or include the
-/// complete new component.
+/// The errors, in this order, are: invalid name, type, alignment or region size, no entry at the
+/// region's start, first damaged entry, existing name, no space. Only a device or source fault can
+/// leave a change: after a source fault, the components are the same as before; after a device
+/// fault, they are the same, or include the complete new component.
 pub fn add<F: Flash, S: Source>(
     paged: &mut Paged<F>,
     region: Region,
@@ -251,17 +239,15 @@ pub fn add<F: Flash, S: Source>(
 ) -> Result<Placed, EditFault>
     requires { LiesIn region (F.facts paged.old.device).content }
 
-    // On any device, for any source.
     ensures after { HasChanged F.facts region (region.size / 16 + region.size / 2048 + 7)
         (faults_told by_device result) paged.old paged.new }
     ensures source { Reads (length (S.facts source.old).content / 4096 + 1)
         (faults_told by_source result) (S.facts source.old) (S.facts source.new) }
 
-    // Invalid arguments cause an error before the first call.
     ensures words { IfSome (own_fault name.now kind spot) (λ fault.
         (result ≡ Err fault) × (paged.new ≡ paged.old) × (source.new ≡ source.old)) }
 
-    // On an honest device, for any source.
+    // For any source.
     ensures answer { OnHonestIn F.facts paged.old.device region (λ x.
         IsErrOf result EditFault.Device ⊎ (IsErrOf result EditFault.Source ⊎ (result ≡ placed_of
         (addition_in x (new_component name.now kind hash (S.facts source.old).content) spot)))) }
@@ -272,7 +258,7 @@ pub fn add<F: Flash, S: Source>(
         IsErrOf result EditFault.Source → AddLeavesBefore x
         (new_component name.now kind hash (S.facts source.old).content) spot y) }
 
-    // On an honest device, for an honest source.
+    // For an honest source.
     ensures added { OnHonestChange F.facts region paged.old paged.new (λ x y.
         IsTrue (S.facts source.old).honest → OnOk result
         (y ≡ added_to x (new_component name.now kind hash (S.facts source.old).content) spot)) }

@@ -15,7 +15,7 @@ use flash_device::{Flash, Paged, Region, Source};
 /// An edit of a region.
 #[derive(Drop)]
 pub enum Edit<'a, S> {
-    /// Adds a component with the whole source as content, by `add`.
+    /// Adds a component, by `add`.
     Add {
         name: &'a [u8],
         /// The CBFS type.
@@ -24,7 +24,7 @@ pub enum Edit<'a, S> {
         spot: Spot,
         source: S,
     },
-    /// Removes the first component with the name, by `remove`.
+    /// Removes a component, by `remove`.
     Remove {
         name: &'a [u8],
     },
@@ -33,15 +33,14 @@ pub enum Edit<'a, S> {
 /// The reply to an edit.
 #[derive(Clone, Copy, Debug, PartialEq, Eq)]
 pub enum Reply {
-    /// The position of the added component.
+    /// An addition's position.
     Placed(Placed),
-    /// The range of the removed component, with the adjacent free space.
+    /// A removal's freed range.
     Freed(Freed),
     Refused(EditFault),
 }
 
-/// Applies the edits in order, and returns the replies. An error or fault of an edit does not stop
-/// the later edits.
+/// Applies the edits in order. An error does not stop the later edits.
 pub fn apply_all<F: Flash, S: Source>(
     paged: &mut Paged<F>,
     region: Region,
@@ -51,8 +50,6 @@ pub fn apply_all<F: Flash, S: Source>(
     requires region { LiesIn region (F.facts paged.old.device).content }
     requires same_length { length edits.old ≡ length replies.old }
 
-    // On any device, for any sources: at most the sum of the edits' calls, and at most one failed
-    // call per edit.
     ensures after { HasChanged F.facts region (sum_by (edit_calls region.size) edits.old)
         (sum_by (faults_of by_device) replies.new) paged.old paged.new }
     ensures run { Run S.facts region edits.old edits.new replies.new (F.facts paged.old.device)
@@ -63,11 +60,10 @@ pub fn apply_all<F: Flash, S: Source>(
     }
 }
 
-/// Applies an edit, and returns its reply.
+/// Applies an edit.
 fn apply<F: Flash, S: Source>(paged: &mut Paged<F>, region: Region, edit: &mut Edit<'_, S>) -> Reply
     requires { LiesIn region (F.facts paged.old.device).content }
 
-    // On any device, for any source.
     ensures after { HasChanged F.facts region (edit_calls region.size edit.old)
         (faults_of by_device result) paged.old paged.new }
     ensures step { Step S.facts region edit.old edit.new (F.facts paged.old.device) result

@@ -7,9 +7,8 @@ use cbfs_walk::WalkFault;
 use flash_device::FlashFault;
 use flash_format::DamageKind;
 
-/// The errors of edits, with the numbers of the printed errors. After `Device`, the components are
-/// the same as before or as after the whole edit; after `Source`, as before. Any other error leaves
-/// the device unchanged.
+/// The errors of edits, with the printed numbers. After `Device`, the components are the same as
+/// before or as after the edit; after `Source`, as before. Other errors change nothing.
 #[derive(Clone, Copy, Debug, PartialEq, Eq)]
 pub enum EditFault {
     /// Device I/O error (1).
@@ -36,7 +35,6 @@ pub enum EditFault {
     BadAlign,
 }
 
-/// Converts a device fault.
 impl From<FlashFault> for EditFault {
     ghost from_gives = { λ _ fault. fault ≡ Device };
 
@@ -45,7 +43,6 @@ impl From<FlashFault> for EditFault {
     }
 }
 
-/// Converts the error of a walk.
 impl From<WalkFault> for EditFault {
     ghost from_gives = { λ walk_fault fault. fault ≡ edit_fault_of walk_fault };
 

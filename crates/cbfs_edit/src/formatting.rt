@@ -14,21 +14,16 @@ use crate::group::CellRange;
 use crate::write::write_empty_entry;
 use flash_device::{Flash, Paged, Region};
 
-/// Formats the whole region as a single empty entry, regardless of its content. The last four bytes
-/// remain.
-///
-/// Formatting reads nothing. Its errors are an invalid region size and device faults. After a fault
-/// the region is unchanged, or a single free cell with the same last four bytes.
+/// Formats the region as a single empty entry, without reading, and keeps its last four bytes. A
+/// device fault leaves the region unchanged, or a single free cell.
 pub fn format<F: Flash>(paged: &mut Paged<F>, region: Region) -> Result<(), EditFault>
     requires { LiesIn region (F.facts paged.old.device).content }
 
-    // On any device.
     ensures after { HasChanged F.facts region (region.size / 4096 + 2)
         (faults_told by_device result) paged.old paged.new }
     ensures answer { IsErrOf result EditFault.Device
         ⊎ (result ≡ (if has_bad_size region.size then Err EditFault.RegionShape else Ok tt)) }
 
-    // On an honest device.
     ensures formatted { OnHonestChange F.facts region paged.old paged.new
         (λ x y. OnOk result (y ≡ formatted x)) }
     ensures refused { IsTrue (F.facts paged.old.device).honest

@@ -1,4 +1,4 @@
-//! The search for the group of cells of a removal.
+//! The search for a removal's cells.
 ghost use Rattle.std.specs.Prelude.{◌≡◌, ◌⊎◌, ℕ, ◌+◌, ◌/◌, ◌<◌, ◌≤◌, List, [], ◌∷◌, IfOk, IfErr};
 ghost use Rattle.std.specs.Prelude.{IsErrOf};
 ghost use Rattle.flash_device.specs.Device.{faults_told};
@@ -14,30 +14,27 @@ use crate::fault::EditFault;
 use cbfs_walk::{Cell, Step, Walk, cells_stand_in_their_image, name_is};
 use flash_device::{Flash, FlashFault, Paged, Region};
 
-/// Adjacent cells of a region. Both offsets are relative to the region's start, and multiples of
-/// 64.
+/// Adjacent cells. Both offsets are relative to the region's start, and multiples of 64.
 #[derive(Clone, Copy, Debug, PartialEq, Eq)]
 pub struct CellRange {
     pub start: u64,
     pub end: u64,
 }
 
-/// The range freed by a removal: a component, and the adjacent free cells.
+/// The range of a removed component with the adjacent free cells.
 pub type Freed = CellRange;
 
 /// The state of the search.
 #[derive(Clone, Copy)]
 pub enum Search {
-    /// No component with the name yet. `start` is the start of the free cells directly before the
-    /// walk's offset.
+    /// No component yet. `start` is the start of the free cells directly before the offset.
     Looking { start: u64 },
-    /// The component with the free cells on both ends, up to the walk's offset.
+    /// The component with its adjacent free cells, up to the offset.
     Growing(CellRange),
     Whole(CellRange),
 }
 
-/// Finds the first component with the name, and the adjacent free cells. The walk covers the whole
-/// region, and any damage is an error.
+/// Finds the first component with the name, and the adjacent free cells. Any damage is an error.
 pub fn find_group<F: Flash>(
     paged: &mut Paged<F>,
     region: Region,
@@ -45,13 +42,11 @@ pub fn find_group<F: Flash>(
 ) -> Result<CellRange, EditFault>
     requires { LiesIn region (F.facts paged.old.device).content }
 
-    // On any device.
     ensures after { HasRead F.facts (region.size / 16 + 1) (faults_told by_device result)
         paged.old paged.new }
     ensures no_source { IsErrOf result EditFault.Source → ⊥ }
     ensures group { IfOk result (λ group. IsCellRange group region.size) }
 
-    // On an honest device.
     ensures answer { OnHonestIn F.facts paged.old.device region (λ x.
         IsErrOf result EditFault.Device ⊎ (result ≡ removal_in x name.now)) }
 {
@@ -65,7 +60,7 @@ pub fn find_group<F: Flash>(
     }
 }
 
-/// Advances the search over a cell. The result for the remaining cells is the same.
+/// Advances the search over a cell.
 #[tactic(auto, unfolding(crate::specs::Removals::by_rows))]
 fn pass<F: Flash>(
     paged: &mut Paged<F>,
@@ -111,7 +106,6 @@ fn pass<F: Flash>(
     }
 }
 
-/// Returns the result of the search at the end of the cells.
 #[tactic(auto, unfolding(crate::specs::Removals::by_rows))]
 fn group_in(search: Search) -> Result<CellRange, EditFault>
     ensures is { (name : List ℕ) (at : ℕ) → result ≡ group_by name search at [] }

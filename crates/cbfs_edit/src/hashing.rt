@@ -18,7 +18,7 @@ impl<H: Digest> Hashing<H> {
         Hashing { hasher: H::new() }
     }
 
-    /// Returns the digest of the watched data.
+    /// Returns the digest.
     pub fn finish(self) -> H::Output
         ensures { (seen : List ℕ) → H.holds self.hasher seen → H.digest_of seen result }
     {

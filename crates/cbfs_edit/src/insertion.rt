@@ -1,7 +1,7 @@
 //! Writes a component into a run of free cells.
 //!
-//! The first commit writes the header of an empty entry over the whole run, and the last commit
-//! shows the component. Hence all bytes written between the two commits are free space.
+//! The first commit covers the run with the header of an empty entry, and the last commit shows the
+//! component. Bytes written between the commits are free space.
 ghost use Rattle.std.specs.Prelude.{◌≡◌, ◌⊎◌, ◌-◌, ◌%◌, ◌^◌, ◌<◌, ◌≤◌, length};
 ghost use Rattle.flash_format.specs.Made.{header_length, metadata_of, described_len};
 ghost use Rattle.flash_device.specs.Regions.{LiesIn};
@@ -25,7 +25,6 @@ fn held_back(place: Place) -> usize
     }
 }
 
-/// Writes the metadata except the bytes of the last commit.
 fn write_metadata<F: Flash>(
     paged: &mut Paged<F>,
     region: Region,
@@ -64,8 +63,7 @@ fn write_bound<F: Flash>(
     write_in(paged, region, end, &header)
 }
 
-/// Returns the bytes of the last commit: the start of the component, or the header of the empty
-/// entry before the component.
+/// Returns the component's start, or the header of the empty entry before the component.
 fn shown_by(place: Place, metadata: &[u8]) -> [u8; HEADER_LENGTH]
     requires metadata { header_length ≤ length metadata.now }
     requires start_aligned { place.run.start % 64 ≡ 0 }
@@ -82,8 +80,8 @@ fn shown_by(place: Place, metadata: &[u8]) -> [u8; HEADER_LENGTH]
     empty_header((place.header - place.run.start) as u32, false)
 }
 
-/// Writes the metadata of a component with existing content, and the header of the following empty
-/// entry. The last commit shows the component.
+/// Writes the metadata and the header of the following empty entry. The last commit shows the
+/// component.
 fn show<F: Flash>(
     paged: &mut Paged<F>,
     region: Region,
@@ -104,7 +102,7 @@ fn show<F: Flash>(
     commit_in(paged, region, place.run.start, &begin)
 }
 
-/// Writes the metadata before existing content, and shows the component.
+/// Writes the metadata of existing content, and shows the component.
 pub fn describe<F: Flash>(
     paged: &mut Paged<F>,
     region: Region,

@@ -1,9 +1,7 @@
-//! Edits of CBFS regions on a device: adds and removes components, individually or as a list of
-//! edits, and formats regions.
+//! Edits CBFS regions on a device: additions, removals, lists of both, and formatting.
 //!
-//! No call allocates memory. An edit first commits the header of a single empty entry atomically,
-//! and then fills the rest. A device fault at any call leaves the components of before or after the
-//! edit.
+//! No call allocates memory. The first commit of an edit is the header of a single empty entry. A
+//! device fault at any call leaves the components of before or after the edit.
 #![tactic(auto)]
 
 mod addition;

@@ -1,4 +1,4 @@
-//! The search for the place of a new component.
+//! The search for a new component's place.
 ghost use Rattle.std.specs.Option.{option_or};
 ghost use Rattle.std.specs.Prelude.{◌≡◌, ◌≢◌, ◌⊎◌, ℕ, ◌+◌, ◌/◌, ◌^◌, ◌<◌, ◌≤◌, List, [], ◌∷◌, None};
 ghost use Rattle.std.specs.Prelude.{false, nat_lt, if◌then◌else◌, IfOk, IfErr, IfSome, IsErrOf};
@@ -19,54 +19,47 @@ use crate::write::space_end;
 use cbfs_walk::{Cell, Step, Walk, cells_stand_in_their_image, name_is};
 use flash_device::{Flash, FlashFault, Paged, Region};
 
-/// The allowed start of a new component's content. All places are in bytes from the region's start,
-/// independent of the region's offset in the image. The search selects the first free space with
-/// sufficient room at an allowed place, and in it the least such place.
+/// The allowed start of a component's content, relative to the region's start. The search takes the
+/// first free space with room at an allowed place, and the least such place in it.
 #[derive(Clone, Copy)]
 pub enum Spot {
     /// Anywhere before the region's last four bytes.
     First,
-    /// At a multiple of a nonzero number (`-a`), before the region's last four bytes.
+    /// A multiple of a nonzero number (`-a`), before the last four bytes.
     Aligned(u32),
-    /// At a fixed place (`-b`). The content may cover the region's last four bytes.
+    /// A fixed place (`-b`). The content may cover the last four bytes.
     Fixed(u32),
 }
 
-/// The requested placement and size.
+/// The requested size and start.
 #[derive(Clone, Copy)]
 pub struct Wanted {
-    /// The length of the metadata before the content, without the gap.
+    /// The length without the gap before the content.
     pub metadata_len: u64,
-    /// The length of the content.
     pub len: u64,
-    /// The allowed start of the content.
     pub spot: Spot,
 }
 
-/// The place of a component, relative to the region's start.
+/// A component's place, relative to the region's start.
 #[derive(Clone, Copy)]
 pub struct Place {
-    /// The run of free cells for the component.
     pub run: CellRange,
-    /// The start of the header.
     pub header: u64,
-    /// The start of the content.
     pub content: u64,
 }
 
 /// The state of the search.
 #[derive(Clone, Copy)]
 pub struct Survey {
-    /// The free cells directly before the walk's offset.
+    /// The free cells directly before the offset.
     pub row: CellRange,
     /// Whether an earlier component has the name.
     pub exists: bool,
-    /// The first place in the runs before `row`.
+    /// The first place in earlier runs.
     pub place: Option<Place>,
 }
 
-/// Finds the place of a new component. The walk covers the whole region, and any damage is an
-/// error.
+/// Finds a new component's place. Any damage is an error.
 pub fn find_place<F: Flash>(
     paged: &mut Paged<F>,
     region: Region,
@@ -76,13 +69,11 @@ pub fn find_place<F: Flash>(
     requires region { LiesIn region (F.facts paged.old.device).content }
     requires wanted { IsWanted wanted }
 
-    // On any device.
     ensures after { HasRead F.facts (region.size / 16 + 1) (faults_told by_device result)
         paged.old paged.new }
     ensures no_source { IsErrOf result EditFault.Source → ⊥ }
     ensures fits { IfOk result (Fits wanted region.size) }
 
-    // On an honest device.
     ensures answer { OnHonestIn F.facts paged.old.device region (λ x.
         IsErrOf result EditFault.Device ⊎ (result ≡ placing_in x name.now wanted)) }
 {
@@ -101,7 +92,7 @@ pub fn find_place<F: Flash>(
     }
 }
 
-/// Advances the search over a cell. The result for the remaining cells is the same.
+/// Advances the search over a cell.
 #[tactic(auto, unfolding(flash_format::specs::Components::components_from, crate::specs::Removals::by_rows))]
 fn pass<F: Flash>(
     paged: &mut Paged<F>,
@@ -144,7 +135,6 @@ fn pass<F: Flash>(
     })
 }
 
-/// Returns the result of the search at the end of the cells.
 fn answer_of(wanted: Wanted, region: Region, survey: Survey) -> Result<Place, EditFault>
     requires { IsSurvey wanted region.size survey.row.end survey }
 
@@ -162,7 +152,7 @@ fn answer_of(wanted: Wanted, region: Region, survey: Survey) -> Result<Place, Ed
     }
 }
 
-/// Returns the first place at the end of a possibly empty row of free cells.
+/// Returns the first place at the end of a row of free cells.
 fn close(wanted: Wanted, region: Region, survey: Survey) -> Option<Place>
     requires { IsSurvey wanted region.size survey.row.end survey }
 
@@ -221,7 +211,7 @@ fn least_from(spot: Spot, from: u64) -> u64
     }
 }
 
-/// Returns the upper bound of the content's end, in a run with the given end.
+/// Returns the upper bound of the content's end.
 fn limit_of(spot: Spot, region: Region, end: u64) -> u64
     requires { 64 ≤ end }
     ensures { result ≡ limit_of spot region.size end }

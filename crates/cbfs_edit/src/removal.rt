@@ -12,14 +12,12 @@ use crate::write::write_empty_entry;
 use flash_device::{Flash, Paged, Region};
 
 /// Replaces the first component with the name, and all adjacent free space, with a single empty
-/// entry, and returns its range. Other components with the name remain, and so do the region's last
-/// four bytes and all bytes after the last entry.
+/// entry, and returns its range. The region's last four bytes and all bytes after the last entry
+/// remain.
 ///
-/// The walk covers all entries before the first write, and any damaged entry is an error. The order
-/// of errors is: invalid region size, no entry at the region's start, first damaged entry, no
-/// component with the name. A device fault can occur at any call, and only such a fault can leave a
-/// change: the components are then the same as before or as after the whole removal, and all bytes
-/// outside the group are unchanged.
+/// The errors, in this order, are: invalid region size, no entry at the region's start, damaged
+/// entry, no component with the name. A device fault leaves the components of before or after the
+/// removal, and keeps all bytes outside the group.
 pub fn remove<F: Flash>(
     paged: &mut Paged<F>,
     region: Region,
@@ -27,12 +25,10 @@ pub fn remove<F: Flash>(
 ) -> Result<Freed, EditFault>
     requires { LiesIn region (F.facts paged.old.device).content }
 
-    // On any device.
     ensures after { HasChanged F.facts region (region.size / 16 + region.size / 4096 + 3)
         (faults_told by_device result) paged.old paged.new }
     ensures no_source { IsErrOf result EditFault.Source → ⊥ }
 
-    // On an honest device.
     ensures answer { OnHonestIn F.facts paged.old.device region (λ x.
         IsErrOf result EditFault.Device ⊎ (result ≡ removal_in x name.now)) }
     ensures removed { OnHonestChange F.facts region paged.old paged.new (λ x y.

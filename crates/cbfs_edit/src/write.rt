@@ -1,4 +1,4 @@
-//! Writes into a region, and a single empty entry in place of a group.
+//! Writes into a region. A failed write leaves arbitrary bytes in its piece.
 ghost use Rattle.std.specs.Prelude.{◌≡◌, ◌⊎◌, ℕ, List, ◌++◌, ◌+◌, ◌/◌, ◌<◌, ◌≤◌, length, IsTrue};
 ghost use Rattle.std.specs.Prelude.{OnOk, OnErr, replicate};
 ghost use Rattle.flash_format.specs.Made.{header_length};
@@ -28,7 +28,7 @@ pub fn commit_in<F: Flash>(
     paged.commit(region.start() + at, bytes)
 }
 
-/// Writes n copies of a byte. A failed write leaves arbitrary bytes in its piece.
+/// Writes n copies of a byte.
 pub fn fill_in<F: Flash>(
     paged: &mut Paged<F>,
     region: Region,
@@ -46,8 +46,7 @@ pub fn fill_in<F: Flash>(
     paged.fill(region.start() + at, n, byte)
 }
 
-/// Copies a whole source to an offset, under a watcher. A failed write leaves arbitrary bytes in
-/// its piece.
+/// Copies a whole source to an offset.
 pub fn copy_into<F: Flash, S: Source, W: Watch>(
     paged: &mut Paged<F>,
     region: Region,
@@ -61,7 +60,7 @@ pub fn copy_into<F: Flash, S: Source, W: Watch>(
     ensures after { HasCopied F.facts region at paged.old paged.new (S.facts source.old)
         (S.facts source.new) result }
 
-    // For an honest source, on any device.
+    // For an honest source.
     ensures shown { IsTrue (S.facts source.old).honest → (seen : List ℕ) → W.saw watch.old seen →
         OnOk result (W.saw watch.new (seen ++ (S.facts source.old).content)) }
 {
@@ -70,7 +69,7 @@ pub fn copy_into<F: Flash, S: Source, W: Watch>(
     paged.copy_in_watched(region.start() + at, n, source, watch)
 }
 
-/// Writes a few bytes at an offset. A failed write leaves arbitrary bytes in its range.
+/// Writes a few bytes at an offset.
 pub fn write_in<F: Flash>(
     paged: &mut Paged<F>,
     region: Region,
@@ -91,7 +90,7 @@ pub fn write_in<F: Flash>(
     }
 }
 
-/// Writes a single empty entry in place of a group. The first commit writes its header.
+/// Writes a single empty entry in place of a group, its header first.
 pub fn write_empty_entry<F: Flash>(
     paged: &mut Paged<F>,
     region: Region,
@@ -112,8 +111,7 @@ pub fn write_empty_entry<F: Flash>(
     fill_in(paged, region, space, len, 0xff)
 }
 
-/// Returns the end of the erased space of free cells with the given end. The region's last four
-/// bytes remain.
+/// Returns the end of the erased space in free cells. The region's last four bytes remain.
 pub fn space_end(region: Region, end: u64) -> u64
     requires { 64 ≤ end }
     ensures { result ≡ space_end region.size end }

@@ -11,7 +11,7 @@ use Rattle.cbfs_line.specs.CommandLine.{Texts, with_image}
 abbrev pub pair_of : List ℕ → List Row → List ℕ × List Row
 pair_of name rows = (name, rows)
 
--- the subcommand that was met, by its name and its rows
+-- the subcommand by its name and rows
 pub met : {B : Type 0} (name : B → List ℕ) (rows : B → List Row) (o : Option B) (n : List ℕ) (r : List Row) → Some n ≡ option_map name o
     → Some r ≡ option_map (λ p. p.1) (option_map (λ b. pair_of (name b) (rows b)) o) → option_map (λ b. pair_of (name b) (rows b)) o ≡ Some (pair_of n r)
 met name rows None n r e f = absurd cc
@@ -20,12 +20,12 @@ met name rows (Some b) n r e f =
     let all : r ≡ rows b = cc in
     ap (λ (x : List ℕ). Some (pair_of x (rows b))) (sym same) ∙ ap (λ (x : List Row). Some (pair_of n x)) (sym all)
 
--- the line of an image and the subcommand that was met
+-- the line of an image and a subcommand
 pub line-is : (image n : List ℕ) (r : List Row) (o : Option (List ℕ × List Row)) → o ≡ Some (pair_of n r)
     → (let l : Texts = record { image = image; subcommand = n; options = r } in Some l) ≡ option_map (with_image image) o
 line-is image n r o e = rw e refl
 
--- the command line is one of which clap tells every fault
+-- clap reports every fault of the command line
 pub simple : is_simple_and_free command_line ≡ true
 unfolding clap_on_literals
 simple = refl
@@ -34,7 +34,7 @@ pub simple_shape : is_simple command_line ≡ true
 unfolding clap_on_literals
 simple_shape = refl
 
--- without a fault nothing but memory is wanting
+-- without a fault, only an allocation can fail
 pub faultless : (kinds : Kinds) (e : Error) → HasKind kinds e → kinds ≡ [] → kind_of e ≡ OutOfMemory
 faultless kinds e (inl memory) none = memory
 faultless kinds e (inr among) none = absurd (subst (λ (k : Kinds). IsAmong (kind_of e) k) none among)

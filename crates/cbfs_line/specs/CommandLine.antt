@@ -1,4 +1,4 @@
--- The command line by clap's definition, and the resulting command.
+-- The command line by clap's definition, and its command.
 use Rattle.std.specs.Prelude.{ℕ, Bool, true, false, List, [], ◌∷◌, length, ◌==◌, ◌||◌, nat_lt}
 use Rattle.std.specs.Prelude.{Option, Some, None, Result, Ok, Err, option_map, option_and_then}
 use Rattle.std.specs.Prelude.{unwrap_or, if◌then◌else◌}
@@ -26,12 +26,12 @@ use Rattle.cbfs_commands.specs.declared.command.Command.{Command}
 use Rattle.cbfs_commands.specs.declared.refusal.Refusal.{Refusal}
 use Rattle.cbfs_commands.specs.declared.refusal.Refusal.TheVariants as refusals
 
--- clap's allocation failure, or any other error of clap
+-- an allocation failure, or any other error
 abbrev pub refusal_by : ErrorKind → Refusal
 refusal_by OutOfMemory = refusals.Memory
 refusal_by _ = refusals.Usage
 
--- the parsed arguments: the image's path, the subcommand, and the options with their values
+-- the image's path, the subcommand, and the options
 pub record Texts : Type 0 where
   pub image : List ℕ
   pub subcommand : List ℕ
@@ -40,63 +40,60 @@ pub record Texts : Type 0 where
 abbrev pub with_image : List ℕ → List ℕ × List Row → Texts
 with_image image found = record { image = image; subcommand = found.0; options = found.1 }
 
--- the parse of the arguments after the program's name, None if clap refuses the arguments
+-- None if clap refuses the arguments
 abbrev pub texts_of : List (List ℕ) → Option Texts
 texts_of [] = None
 texts_of (image ∷ rest) = option_map (with_image image) (clap.subcommand_of command_line rest)
 
--- the value of an option
 abbrev pub option_text : List ℕ → Texts → Option (List ℕ)
 option_text id t = first_of id t.options
 
--- the region of `-r`, or the default region
+-- the value of `-r`, or the default
 abbrev pub region_named : Texts → List ℕ
 region_named t = unwrap_or (option_text (codes "region") t) (codes "COREBOOT")
 
--- whether clap reports `-v` as present
+-- if `-v` is present
 abbrev pub verbose_by : Option (List ℕ) → Bool
 verbose_by text = option_map_or (λ told. bytes_eq told (codes "true")) text false
 
--- the request if a required option is present, or else a bad command line
+-- a missing option is a bad command line
 abbrev pub unless_missing : Option (List ℕ) → Result Request Refusal → Result Request Refusal
 unless_missing None r = Err refusals.Usage
 unless_missing (Some text) r = r
 
--- the requested offset of the content, by the value of `-a` or of `-b`, if at most one is present
+-- the value of `-a` or `-b`, not both
 abbrev pub spot_by : Option (List ℕ) → Option (List ℕ) → Option Spot
 spot_by None None = Some First
 spot_by (Some alignment) None = option_map Aligned (number_of alignment)
 spot_by None (Some base) = option_map Fixed (number_of base)
 spot_by (Some alignment) (Some base) = None
 
--- the digest named by a value; no digest without `-A`
+-- None without `-A`
 abbrev pub hash_by : Option (List ℕ) → Option HashChoice
 hash_by None = Some Plain
 hash_by (Some text) =
     if bytes_eq text (algorithm_row algorithms.Sha256).name then Some Sha256
     else (if bytes_eq text (algorithm_row algorithms.Sha512).name then Some Sha512 else None)
 
--- a new component, if name and file are present and the other options are valid
+-- requires name, file and valid options
 abbrev pub addition : List ℕ → Option (List ℕ) → Option (List ℕ) → Option ℕ → Option HashChoice
     → Option Spot → Result Request Refusal
 addition region (Some name) (Some file) (Some kind) (Some hash) (Some spot) =
     Ok (requests.on_region region (requests.add name kind hash spot))
 addition region _ _ _ _ _ = Err refusals.Usage
 
--- the comma-separated names of a list
+-- between commas
 abbrev pub names_in : List ℕ → List (List ℕ)
 names_in list = slice_split (λ b. b == 44) list
 
--- the names of the rest of a list, if any
 abbrev pub names_of : Option (Bor (List ℕ)) → List (List ℕ)
 names_of rest = option_map_or (λ (list : Bor (List ℕ)). names_in list.now) rest []
 
--- a new image with the named regions: at most 16, without an empty name
+-- at most 16 names, none empty
 abbrev pub creation_of : List (List ℕ) → Result Request Refusal
 creation_of names = if nat_lt 16 (length names) || list_any (λ name. length name == 0) names
     then Err refusals.Usage else Ok (requests.create names)
 
--- the command for the parsed arguments
 abbrev pub command_of : Texts → Result Request Refusal
 command_of t =
     if bytes_eq t.subcommand (codes "print")

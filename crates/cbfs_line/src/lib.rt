@@ -1,5 +1,4 @@
-//! The command line of cbfstool: parses IMAGE, a subcommand and its options through clap, and
-//! returns the command.
+//! The command line of cbfstool, parsed by clap into a command.
 #![tactic(auto)]
 
 mod line;

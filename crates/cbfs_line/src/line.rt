@@ -19,10 +19,10 @@ use flash_format::{read_number, type_number};
 use std::alloc::Global;
 use std::marker::Model;
 
-/// The default region of commands, and of new images.
+/// The default region.
 const DEFAULT_REGION: &str = "COREBOOT";
 
-/// A parsed command line: the image's path, the subcommand and its options.
+/// A parsed command line.
 #[derive(Drop)]
 pub struct Line<'a> {
     image: &'a str,
@@ -44,7 +44,7 @@ impl<'a> Model for Line<'a> {
 }
 
 impl<'a> Line<'a> {
-    /// Returns the path of the image, the first argument.
+    /// Returns the image's path, the first argument.
     pub fn image(&self) -> &'a str
         ensures { result.now ≡ self.now.image }
     {
@@ -58,15 +58,13 @@ impl<'a> Line<'a> {
         self.option("file")
     }
 
-    /// Returns the value of an option.
     fn option(&self, id: &str) -> Option<&'a str>
         ensures { option_map (λ t. t.now) result ≡ option_text id.now self.now }
     {
         self.options.get_str(id)
     }
 
-    /// Returns the command of the command line. Refuses an unknown subcommand or a missing required
-    /// option as a bad command line.
+    /// Returns the command. Refuses an unknown subcommand or a missing option.
     pub fn command(&self) -> Result<Command<'a>, Refusal>
         ensures { request_answer result ≡ command_of self.now }
     {
@@ -100,7 +98,6 @@ impl<'a> Line<'a> {
         }
     }
 
-    /// Returns the addition of the command line.
     fn addition(&self, region: &'a [u8]) -> Result<Command<'a>, Refusal>
         ensures { request_answer result ≡ addition region.entry.now
             (option_text (codes "name") self.now) (option_text (codes "file") self.now)
@@ -124,7 +121,6 @@ impl<'a> Line<'a> {
         }
     }
 
-    /// Returns whether `-v` is present.
     fn verbose(&self) -> bool
         ensures { result ≡ verbose_by (option_text (codes "verbose") self.now) }
     {
@@ -134,7 +130,6 @@ impl<'a> Line<'a> {
         }
     }
 
-    /// Returns the type of `-t`.
     fn kind(&self) -> Option<u32>
         ensures { result ≡ option_and_then type_of_text (option_text (codes "type") self.now) }
     {
@@ -144,7 +139,6 @@ impl<'a> Line<'a> {
         }
     }
 
-    /// Returns the digest of `-A`.
     fn hash(&self) -> Option<HashChoice>
         ensures { result ≡ hash_by (option_text (codes "hash") self.now) }
     {
@@ -156,7 +150,7 @@ impl<'a> Line<'a> {
         }
     }
 
-    /// Returns the requested offset of a new component's content.
+    /// Returns the requested content offset.
     fn spot(&self) -> Option<Spot>
         ensures { result ≡ spot_by (option_text (codes "alignment") self.now)
             (option_text (codes "base") self.now) }
@@ -170,8 +164,7 @@ impl<'a> Line<'a> {
     }
 }
 
-/// Returns the creation of an image with the listed regions. Refuses an empty name, or more than 16
-/// names, as a bad command line.
+/// Returns the creation of an image. Refuses an empty name, or more than 16 names.
 fn creation<'a>(list: &'a str) -> Result<Command<'a>, Refusal>
     ensures { request_answer result ≡ creation_of (names_in list.entry.now) }
 {
@@ -199,7 +192,6 @@ fn first_name<'a>(list: &'a str) -> (&'a str, Option<&'a str>)
     }
 }
 
-/// Converts an error of clap.
 fn refusal_of(error: Error) -> Refusal
     ensures { result ≡ refusal_by (kind_of error) }
 {
@@ -209,7 +201,7 @@ fn refusal_of(error: Error) -> Refusal
     }
 }
 
-/// Converts clap's matches, which contain a subcommand.
+/// Converts matches with a subcommand.
 fn line_of<'a>(image: &'a str, mut matches: ArgMatches<'a>) -> Line<'a>
     requires { has_subcommand matches ≡ true }
     ensures { Some result
@@ -223,9 +215,8 @@ fn line_of<'a>(image: &'a str, mut matches: ArgMatches<'a>) -> Line<'a>
     }
 }
 
-/// Parses the arguments after the program's name: IMAGE, and a command line for clap. Refuses
-/// missing arguments and any error of clap, including a request for help, as a bad command line;
-/// reports allocation failures.
+/// Parses the arguments after the program's name. Refuses missing arguments and all errors of clap,
+/// including requests for help, and reports allocation failures.
 pub fn read_line<'a>(alloc: Global, words: &'a [&'a str]) -> Result<Line<'a>, Refusal>
     ensures line { IfOk result (λ line. Some line ≡ texts_of (map (λ w. w.now) words.entry.now)) }
     ensures refusals { IfErr result (λ refusal.

@@ -1,4 +1,4 @@
--- What a walk answers at a place, by what stands there.
+-- A walk's result at a position, by the entry.
 use Rattle.std.proofs.Common.{◌≡◌, ℕ, ◌-◌, ◌%◌, ◌<◌, ◌≤◌, Some, Bool, true, false, cond, not, ◌&&◌, ◌⊎◌, inl, inr, List, length, drop, Ok, Err, refl, sym, ap, ◌∙◌, arith, eqb, length-drop, true≢false, le_refl}
 use Rattle.std.specs.Prelude.{is_some, IfOk, IsErrOf}
 use Rattle.std.proofs.lemmas.Bool.{eqb-true, ne_eqb, and_right}
@@ -42,7 +42,7 @@ answer_end x at size len good end =
     let later : eqb at 0 ≡ false = ne_eqb at 0 (λ z. good_some size good (sym end ∙ z)) in
     rw (len, ← good, later, none) refl
 
--- at the region's start stands the region's first entry
+-- the region's first entry
 first_entry : (x : List ℕ) (at : ℕ) (e : Entry) → e ≡ entry (drop at x) → (eqb at 0 && is_absent (entry x)) ≡ (eqb at 0 && is_absent e)
 first_entry x at e is = go (eqb at 0) refl
   where
@@ -63,7 +63,7 @@ answer_absent x at size len good is first =
     let here : (eqb at 0 && is_absent (entry x)) ≡ true = first_entry x at absent is ∙ ap (λ n. eqb n 0 && true) first in
     rw (len, ← good, here) refl
 
--- ---- where a head passes its checks
+-- ---- checked heads
 
 cell_given : (x : List ℕ) (c : Cell) → c.head ≡ head_of x → Ok (steps.Cell c) ≡ answer_by x c.at (cell c.span)
 cell_given x c head = ap (λ (h : Head). Ok (steps.Cell (record { at = c.at; head = h; span = c.span }))) head
@@ -77,7 +77,6 @@ answer_damaged x c kind used told = ap (answer_by x c.at) (told c.span ∙ sym (
 pub answer_whole : (x : List ℕ) (c : Cell) → c.head ≡ head_of x → false ≡ is_free c.head → ((span : ℕ) → cell span ≡ component c.head x span) → Ok (steps.Cell c) ≡ answer_of x c
 answer_whole x c head used told = cell_given x c head ∙ ap (answer_by x c.at) (told c.span ∙ sym (present_by false c.head x (record { content = c.head.offset; span = c.span }) (sym used)))
 
--- an entry stands there
 present_some : (h : Head) (x : List ℕ) (e : Extent) → is_absent (present h x (Ok e)) ≡ false
 present_some h x e = go (is_free h) (has_name (name_field h x)) (is_some (attributes (attribute_field h x)))
   where
@@ -98,7 +97,6 @@ answer_cell x at size h e a len good inside head checks told = go (told (front_s
     go (inl device) = inl device
     go (inr is) = inr (is ∙ answer_entry x at size (present h (drop at x) (Ok e)) len good inside there (and_right (eqb at 0) (is_absent (present h (drop at x) (Ok e))) (present_some h (drop at x) e)))
 
--- the calls that show it
 pub cell_reads : {F : Type 0} (facts : F → Device) (r : Range) (c : Cell) (old mid new : Pages F) (a : Answer) → PassesChecks r.size c → IfOk a (λ step. step ≡ steps.Cell c)
     → Passes facts r c.at c.at 0 old mid → Passes facts r c.at (content_start c) (faults_told by_device a) mid new → HasRead facts (reads_at r.size c.at a) (faults_told by_device a) old new
 cell_reads facts r c old mid new (Ok step) is told first second =
@@ -116,9 +114,8 @@ cell_gives size c (Ok step) is good aligned inside told =
     let within = k.within (omega (arith, whole, aligned, inside)) in
     rw told (record { aligned = aligned; positive = k.positive; whole = k.whole; inside = omega (arith, within, inside); content = k.fits; checks = is }, refl)
 
--- ---- a walk that has ended
+-- ---- an ended walk
 
--- an answer with which a walk ends tells no fault of the device
 pub ends_faultless : (a : Answer) → EndsWalk a → faults_told by_device a ≡ 0
 ends_faultless (Ok (steps.Cell c)) e = absurd e
 ends_faultless (Err faults.Device) e = absurd e
@@ -133,7 +130,7 @@ ends_moved w (Ok (steps.Cell c)) e is = absurd e
 ends_moved w (Err faults.Device) e is = absurd e
 ends_moved w _ e is = ap (λ o. record w { ended = o }) is
 
--- ---- the steps with which a walk ends
+-- ---- the last steps of a walk
 
 abbrev pub IsLast : Step → Type 0
 IsLast step = ((at : ℕ) × (step ≡ steps.Tail at)) ⊎ (step ≡ steps.End)

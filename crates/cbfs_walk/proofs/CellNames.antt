@@ -1,4 +1,4 @@
--- The name of a component whose cell stands in a region.
+-- The name of a component in a region.
 use Rattle.std.proofs.Common.{◌≡◌, ℕ, ◌+◌, ◌-◌, ◌<◌, ◌≤◌, min, true, false, List, ◌++◌, length, take, drop, sym, ap, ◌∙◌, arith, ◌⊎◌, inl, inr}
 use Rattle.std.specs.Prelude.{slice_range}
 use Rattle.std.specs.List.{list_any, before_first, position_or_len}
@@ -16,7 +16,7 @@ use Rattle.cbfs_walk.proofs.Checks.{checks_give}
 use Rattle.cbfs_walk.proofs.CutLaws.{standing, cell_head, cell_part, component_whole}
 use Rattle.cbfs_walk.proofs.Texts.{text_len, text_most, text_within, text_prefix, text_is, text_is_not}
 
--- what the checks of a component's head say of its name field
+-- the name field after the checks of the head
 pub record HasField (size : ℕ) (c : Cell) : Type 0 where
   pub low : 24 ≤ name_end c.head
   pub high : name_end c.head ≤ c.head.offset
@@ -29,7 +29,6 @@ has_field size c is =
     let high = k.name_high is.used in
     record { low = low; high = high; inside = omega (arith, high, k.room, k.inside) }
 
--- the bytes of the name field
 abbrev pub field_of : List ℕ → Cell → List ℕ
 field_of x c = slice_range x (c.at + 24) (c.at + name_end c.head)
 
@@ -56,7 +55,7 @@ shows_name x size c is stands =
       within = parts.1;
     }
 
--- the first bytes of the field, as they are read
+-- the read bytes of the field
 field_prefix : (x : List ℕ) (c : Cell) (n : ℕ) → 24 + n ≤ name_end c.head → take n (field_of x c) ≡ slice_range x (c.at + 24) (c.at + 24 + n)
 field_prefix x c n room = range-take x (c.at + 24) (c.at + name_end c.head) n (omega (arith, room))
 
@@ -66,7 +65,7 @@ module _ (x : List ℕ) (size : ℕ) (c : Cell) (is : IsComponentIn size c) (len
       let f = has_field size c is in
       omega (arith, length-range x (c.at + 24) (c.at + name_end c.head) (omega (arith, f.inside, len)), f.low)
 
-  -- the text that stands first in what is read of the field
+  -- the text in the read bytes
   pub read_name : (n room : ℕ) (out : List ℕ) → room + 24 ≡ name_end c.head → n ≡ min room 255 → StandsIn x c → out ≡ slice_range x (c.at + 24) (c.at + 24 + n)
       → before_first is_nul out ≡ cell_name (cell_in x c)
   read_name n room out fits is_min stands read =
@@ -82,7 +81,7 @@ module _ (x : List ℕ) (size : ℕ) (c : Cell) (is : IsComponentIn size c) (len
       let short : k ≤ length out = omega (arith, count, text_most out) in
       take-append-le k out rest short ∙ ap (λ j. take j out) count ∙ read_name n room out fits is_min stands read
 
-  -- ---- the name is compared
+  -- ---- comparison
 
   pub name_compared : (room : ℕ) (name out : List ℕ) → room + 24 ≡ name_end c.head → length name < room → StandsIn x c → out ≡ slice_range x (c.at + 24) (c.at + 24 + (length name + 1))
       → bytes_eq (before_first is_nul out) name ≡ bytes_eq (cell_name (cell_in x c)) name

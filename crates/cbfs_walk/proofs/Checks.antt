@@ -1,4 +1,4 @@
--- What the checks of a head say, and how they make an entry.
+-- The checks of a head, and entries.
 use Rattle.std.proofs.Common.{◌≡◌, ℕ, ◌+◌, ◌-◌, ◌%◌, ◌≤◌, false, List, length, Some, None, Result, Ok, refl, sym, ap, ◌∙◌, arith}
 use Rattle.flash_format.specs.declared.head.Head.{Head}
 use Rattle.flash_format.specs.declared.head.Extent.{Extent}
@@ -40,7 +40,7 @@ checks_give left h span ok =
     rounds : (left n : ℕ) → 24 ≤ n → n ≤ left → (64 ≤ round64 n) × (round64 n % 64 ≡ 0) × (left % 64 ≡ 0 → round64 n ≤ left) × (n ≤ round64 n)
     rounds left n some le = (omega arith, omega arith, λ h. omega arith, omega arith)
 
--- the content of a cell whose head passes its checks ends in the region
+-- a checked content ends in the region
 pub content_inside : (size : ℕ) (c : Cell) → PassesChecks size c → c.at + (c.head.offset + c.head.len) ≤ size
 content_inside size c ok = let k = checks_give (size - c.at) c.head c.span ok in omega (arith, k.room, k.inside)
 
@@ -55,7 +55,7 @@ pub entry_absent : (x : List ℕ) → None ≡ front x → absent ≡ entry x
 unfolding entry
 entry_absent x f = rw (← f) refl
 
--- what stands where a head is, by its checks
+-- the entry of a head, by its checks
 pub entry_present : (x : List ℕ) (h : Head) (left : ℕ) (r : Result Extent DamageKind) → Some h ≡ front x → length x ≡ left → r ≡ extent_of h left → present h x r ≡ entry x
 unfolding entry
 entry_present x h left r f n e = rw (← f) (ap (present h x) (e ∙ ap (extent_of h) (sym n)))

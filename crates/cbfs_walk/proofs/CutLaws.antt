@@ -1,4 +1,4 @@
--- What a walk answers at a place, against the cut of the region.
+-- A walk's result, against the region's cut.
 use Rattle.std.proofs.Common.{◌≡◌, ℕ, ◌+◌, ◌<◌, ◌≤◌, Bool, true, false, cond, List, [], ◌∷◌, length, drop, Some, None, Result, Ok, Err, refl, sym, ap, subst, ◌∙◌, arith, eqb, length-take, length-drop, not, ◌&&◌}
 use Rattle.std.specs.Prelude.{slice_range, is_some}
 use Rattle.std.proofs.lemmas.List.{drop-drop}
@@ -29,7 +29,7 @@ none_first : (at : ℕ) (e : Entry) → (eqb at 0 && is_absent e) ≡ true → (
 none_first at absent z = (eqb-true at 0 (and_parts (eqb at 0) true z).0, refl)
 none_first at _ z = let never : false ≡ true = (and_parts (eqb at 0) false z).1 in absurd cc
 
--- the cut at a cell is the cell, and the cut behind it
+-- the cell, and the later cut
 pub cut_at : (x : List ℕ) (at span : ℕ) → 0 < length (drop at x) → entry (drop at x) ≡ cell span → cut (drop at x) ≡ after (slice_range x at (at + span) ∷ []) (cut (drop (at + span) x))
 cut_at x at span some is = cut_cell (drop at x) span some is ∙ ap (λ c. after (c ∷ []) (cut (drop span (drop at x)))) (sym (range_is x at span)) ∙ ap (λ l. after (slice_range x at (at + span) ∷ []) (cut l)) (drop-drop span at x)
 
@@ -51,7 +51,7 @@ walks_follow x at inside aligned = go (has_bad_size (length x)) (eqb at 0 && is_
         (omega (arith, length-drop at x, inside), cut_empty (drop at x) none)
     go false false false e z f = by_entry (entry (drop at x)) refl (grind (arith, common_steps))
 
--- ---- a cell that stands in a region
+-- ---- a cell in a region
 
 pub record Standing (x : List ℕ) (c : Cell) : Type 0 where
   pub some : 0 < length (drop c.at x)
@@ -77,15 +77,14 @@ standing x c e = go (has_bad_size (length x)) (eqb c.at 0 && is_absent (entry x)
     go false false false f p = by_entry (entry (drop c.at x)) refl (grind (arith, common_steps)) p
     go _ _ _ f p = absurd cc
 
--- the head of a cell is the one in its bytes
+-- a cell's head equals the head in its bytes
 pub cell_head : (x : List ℕ) (c : Cell) → Standing x c → 64 ≤ c.span → head_of (cell_in x c) ≡ c.head
 cell_head x c s positive = ap head_of (range_is x c.at c.span) ∙ head_of-take (drop c.at x) c.span (omega (arith, positive)) ∙ sym s.head
 
--- a cell has as many bytes as it says
 pub cell_len : (x : List ℕ) (size : ℕ) (c : Cell) → length x ≡ size → IsCellIn size c → length (cell_in x c) ≡ c.span
 cell_len x size c len is = ap length (range_is x c.at c.span) ∙ omega (arith, length-take c.span (drop c.at x), length-drop c.at x, len, is.inside)
 
--- a part of a cell is a part of its region
+-- a part of a cell is a part of the region
 pub cell_part : (x : List ℕ) (c : Cell) (a b : ℕ) → b ≤ c.span → slice_range (cell_in x c) a b ≡ slice_range x (c.at + a) (c.at + b)
 cell_part x c a b le = ap (λ l. slice_range l a b) (range_is x c.at c.span) ∙ range-take (drop c.at x) c.span a b le ∙ range-drop x c.at a b
 
@@ -106,9 +105,9 @@ cells_stand region image c lies is stands =
           ∙ (rw (there, end) at (sym (part-in image region first c.head.len (omega (arith, is.content, is.inside)))));
     }
 
--- ---- a component that stands in a region
+-- ---- a component in a region
 
--- the checks that need more than the head
+-- the checks of more than the head
 pub record IsWhole (x : List ℕ) : Type 0 where
   pub named : has_name (name_field (head_of x) x) ≡ true
   pub formed : is_some (attributes (attribute_field (head_of x) x)) ≡ true
@@ -125,7 +124,6 @@ component_whole x span e used =
     go n true true p = (refl, refl)
     go n _ _ p = absurd cc
 
--- a cell that stands in a region passes the checks of its head there
 pub standing_good : (x : List ℕ) (c : Cell) → Standing x c → IsGood (length (drop c.at x)) c.head c.span
 standing_good x c s =
     let k = cell_is (drop c.at x) c.span s.entry in

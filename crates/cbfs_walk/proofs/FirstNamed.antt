@@ -1,4 +1,4 @@
--- The first component of a name, among components and in a region.
+-- The first component with a name.
 use Rattle.std.proofs.Common.{◌≡◌, ℕ, Bool, true, false, cond, List, [], ◌∷◌, ◌++◌, Option, Some, None, Ok, Err, refl, sym, subst, ◌∙◌, ap, All}
 use Rattle.std.specs.Str.{bytes_eq}
 use Rattle.std.proofs.lemmas.List.Elements.{All-nil, All-cons, All-head, All-tail, All-contains}
@@ -16,7 +16,7 @@ IsOther name c = bytes_eq c.name name ≡ false
 
 -- ---- among components
 
--- what a search finds is the first of the name, and without one each is another
+-- a search finds the first component with the name, or none has the name
 abbrev FirstIs : List ℕ → List Component → Option Component → Type 0
 FirstIs name all None = All (IsOther name) all
 FirstIs name all (Some c) = IsFirstOf name all c
@@ -48,7 +48,6 @@ first_is name (d ∷ before) after c named none =
 is_first : (name : List ℕ) (all : List Component) (c : Component) → first_named name all ≡ Some c → IsFirstOf name all c
 is_first name all c found = subst (λ (o : Option Component). FirstIs name all o) found (named_first name all)
 
--- a name is equal to itself
 pub same_name : (name : List ℕ) → bytes_eq name name ≡ true
 same_name name = (bytes_eq-Decides name name).1 refl
 

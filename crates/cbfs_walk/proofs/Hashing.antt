@@ -1,4 +1,4 @@
--- The digest of a component's content: the pieces of which it is made, and what the first hash attribute says of it.
+-- The digest of a content, and the first hash attribute.
 use Rattle.std.proofs.Common.{◌≡◌, ℕ, ◌+◌, ◌-◌, ◌<◌, ◌≤◌, Bool, true, false, cond, IsTrue, List, ◌++◌, take, drop, length, Option, Some, None, Ok, sym, subst, ap, ◌∙◌, arith, ltb, le_refl}
 use Rattle.std.specs.Prelude.{slice_range, IfSome, option_and_then}
 use Rattle.std.specs.Str.{bytes_eq}
@@ -31,9 +31,8 @@ use Rattle.cbfs_walk.proofs.Checks.{checks_give}
 use Rattle.cbfs_walk.proofs.CutLaws.{standing, cell_head, cell_part}
 use Rattle.cbfs_walk.proofs.Scanning.{data_found, Scanning, told_before, scanning_more}
 
--- ---- a hasher that takes the bytes between two places, piece by piece
+-- ---- a hasher of adjacent pieces
 
--- neighbouring parts are one
 range-join : (x : List ℕ) (a b n : ℕ) → a ≤ b → slice_range x a b ++ slice_range x b (b + n) ≡ slice_range x a (b + n)
 range-join x a b n le =
     let there : a + (b - a) ≡ b = omega arith in
@@ -42,15 +41,13 @@ range-join x a b n le =
     let rest : drop (b - a) whole ≡ slice_range x b (b + n) = range-after x a (b + n) (b - a) (omega arith) ∙ ap (λ k. slice_range x k (b + n)) there in
     rw (← before, ← rest) (take-append-drop (b - a) whole)
 
--- the hasher holds the bytes of a region between two places
+-- the hasher holds the bytes between two positions
 abbrev pub HoldsPart : {H : Type 0} → (H → List ℕ → Type 0) → Range → List ℕ → ℕ → ℕ → H → Type 0
 HoldsPart holds r image from at hasher = holds hasher (slice_range (bytes_in r image) from at)
 
--- it has come to a place
 abbrev pub Taking : {F H : Type 0} → (F → Device) → (H → List ℕ → Type 0) → Range → ℕ → ℕ → ℕ → Pages F → Pages F → H → Type 0
 Taking facts holds r from end at old now hasher = Scanning facts r from end at old now (HoldsPart holds r (facts old.device).content from at hasher)
 
--- one piece more
 pub taking_more : {F H : Type 0} (facts : F → Device) (holds : H → List ℕ → Type 0) (r : Range) (from end at n : ℕ) (old now new : Pages F) (before hasher : H) (piece : List ℕ) → Taking facts holds r from end at old now before
     → at + n ≤ end → Passes facts r at at 0 now new → (IsTrue (facts now.device).honest → piece ≡ slice_range (bytes_in r (facts now.device).content) at (at + n)) → ((m : List ℕ) → holds before m → holds hasher (m ++ piece))
     → Taking facts holds r from end (at + n) old new hasher
@@ -61,7 +58,7 @@ taking_more facts holds r from end at n old now new before hasher piece s fits r
 
 -- ---- the digest in a hash attribute
 
--- the data of a hash attribute, of which the number is read first
+-- a hash attribute's data, its number read first
 module _ (r : Range) (image : List ℕ) (at n number : ℕ) (lies : LiesIn r image) (inside : at + n ≤ r.size) (room : 4 ≤ n) (e : number ≡ be32 at (bytes_in r image)) where
   abbrev its_data : List ℕ
   its_data = slice_range (bytes_in r image) at (at + n)
@@ -91,9 +88,9 @@ module _ (r : Range) (image : List ℕ) (at n number : ℕ) (lies : LiesIn r ima
       let too_short : ltb (length its_data) (4 + (algorithm_row a).len) ≡ true = lt-ltb (length its_data) (4 + (algorithm_row a).len) (omega (arith, length-data, short)) in
       sym (ap (λ b. cond b None (Some (digest_with a (slice_range its_data 4 (4 + (algorithm_row a).len))))) too_short) ∙ stored_by (Some a) is
 
--- ---- the digest of the content
+-- ---- the content's digest
 
--- what was taken from the content's begin to its end is the content
+-- all pieces are the content
 pub content_taken : (x : List ℕ) (c : Cell) (from at : ℕ) → from ≡ content_start c → at ≡ content_end c → slice_range x from at ≡ content_at x c
 content_taken x c from at begins ends = ap (λ k. slice_range x k at) begins ∙ ap (slice_range x (content_start c)) ends
 
@@ -107,7 +104,7 @@ like_sha512 stored old bytes content is e = ap digests.Sha512 e ∙ ap (λ d. di
 
 -- ---- the first hash attribute
 
--- what is found in a component that stands in the region
+-- in a component of the region
 pub state_found : (r : Range) (image : List ℕ) (c : Cell) (state : HashState) → LiesIn r image → IsComponentIn r.size c → StandsIn (bytes_in r image) c → state ≡ hash_state_in (bytes_in r image) c
     → state ≡ hash_state (cell_attributes (cell_in (bytes_in r image) c)) (cell_content (cell_in (bytes_in r image) c))
 state_found r image c state lies is stands told =
@@ -120,14 +117,14 @@ state_found r image c state lies is stands told =
     told ∙ ap (λ d. state_of d (content_at x c)) (data_found HASH x c inside stands is.used)
     ∙ ap (state_of (data_of HASH (cell_attributes (cell_in x c)))) (sym content)
 
--- the reads of the attributes up to the first hash attribute, and of its data, stay before the content
+-- reads of attributes and digest end before the content
 pub read_to_content : {F : Type 0} {facts : F → Device} {r : Range} {refused : ℕ} {old mid new : Pages F} (c : Cell) (tag : ℕ) (o : Option Placed) (found : Placed) → o ≡ Some found → IfSome o (IsAttrOf c tag)
     → Passes facts r (attributes_start c) (searched_to c (Ok o)) 0 old mid → Passes facts r (found.0 + 8) (found.0 + 8 + (found.1.len - 8)) refused mid new → Passes facts r (attributes_start c) (content_start c) refused old new
 read_to_content c tag o found is attribute first second =
     let there = (rw is at attribute).attribute in
     Passes-then (rw is at first) second (le_refl _) (omega arith) (omega (arith, there.inside, there.head))
 
--- a digest that is compared is not told without the content
+-- a comparison never results in an uncompared state
 pub compared_is_told : (stored computed : Digest) (state : HashState) → state ≡ comparison stored computed → IsUncompared state → ⊥
 compared_is_told stored computed state is = go (bytes_eq (digest_bytes stored) (digest_bytes computed)) is
   where

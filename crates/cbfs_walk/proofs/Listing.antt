@@ -1,4 +1,4 @@
--- What a list of attributes has at its start, and how it goes on.
+-- The start and rest of an attribute list.
 use Rattle.std.proofs.Common.{◌≡◌, ℕ, ◌+◌, ◌-◌, ◌≤◌, min, Bool, true, false, cond, List, [], ◌∷◌, length, take, drop, Option, Some, None, refl, sym, ap, subst, ◌∙◌, arith, eqb, ltb}
 use Rattle.std.specs.Prelude.{slice_range, is_some, unwrap_or}
 use Rattle.std.specs.Option.{option_map}
@@ -21,9 +21,8 @@ use Rattle.cbfs_walk.specs.declared.attribute_walk.Listed.TheVariants as listed
 use Rattle.cbfs_walk.proofs.Parts.{length-region, length-range, range-take, range-after, range-drop}
 use Rattle.cbfs_walk.proofs.CutLaws.{standing, standing_good, cell_head, cell_part, component_whole}
 
--- ---- what is read at a place
+-- ---- reads at a position
 
--- a head that is read where it stands says what the list has there
 listed_by : (x : List ℕ) (at end : ℕ) (h : AttrHead) → at + 8 ≤ end → end ≤ length x → h ≡ attr_head_of (slice_range x at (at + 8))
     → cond (is_unused h.tag) End (cond (has_bad_len h (end - at)) Malformed (listed.Attribute h)) ≡ listed_in (slice_range x at end)
 listed_by x at end h room inside e =
@@ -34,7 +33,6 @@ listed_by x at end h room inside e =
     let f = λ (k : AttrHead) (left : ℕ). let v : declared.Listed = cond (is_unused k.tag) End (cond (has_bad_len k left) Malformed (listed.Attribute k)) in v in
     ap (λ k. f k (end - at)) same ∙ ap (f (attr_head_of rest)) (sym len) ∙ rw long refl
 
--- the same by the two tests of it
 pub listed_tested : (r : Range) (image : List ℕ) (at end : ℕ) (h : AttrHead) (unused bad : Bool) → LiesIn r image → end ≤ r.size → 8 ≤ end - at → h ≡ attr_head_of (slice_range (bytes_in r image) at (at + 8))
     → unused ≡ is_unused h.tag → bad ≡ has_bad_len h (end - at) → cond unused End (cond bad Malformed (listed.Attribute h)) ≡ listed_in (slice_range (bytes_in r image) at end)
 listed_tested r image at end h unused bad lies inside room head is_unused_is is_bad =
@@ -42,7 +40,7 @@ listed_tested r image at end h unused bad lies inside room head is_unused_is is_
     ∙ ap (λ b. cond (is_unused h.tag) End (cond b Malformed (listed.Attribute h))) is_bad
     ∙ listed_by (bytes_in r image) at end h (omega (arith, room)) (omega (arith, length-region r image lies, inside)) head
 
--- ---- how the list goes on
+-- ---- the rest
 
 inverted : (a b : Bool) (k h : AttrHead) → (let v : declared.Listed = cond a End (cond b Malformed (listed.Attribute k)) in listed.Attribute h ≡ v) → (a ≡ false) × (b ≡ false) × (h ≡ k)
 inverted false false k h e = (refl, refl, cc)
@@ -57,7 +55,7 @@ inverted_malformed : (a b : Bool) (k : AttrHead) → (let v : declared.Listed = 
 inverted_malformed false true k e = (refl, refl)
 inverted_malformed _ _ k e = absurd cc
 
--- an attribute that stands first, and the others after it
+-- the first attribute, and the others
 pub record Goes (y : List ℕ) (h : AttrHead) : Type 0 where
   pub head : h ≡ attr_head_of y
   pub least : 8 ≤ h.len
@@ -84,7 +82,7 @@ goes_end y e = attributes_end y (inverted_end (ends_list y) (is_malformed y) (at
 pub goes_malformed : (y : List ℕ) → Malformed ≡ listed_in y → attributes y ≡ None
 goes_malformed y e = let v = inverted_malformed (ends_list y) (is_malformed y) (attr_head_of y) e in attributes_malformed y v.0 v.1
 
--- where all attributes are well formed
+-- well-formed attributes
 pub record GoesOn (y : List ℕ) (h : AttrHead) (all : List Attribute) : Type 0 where
   pub first : all ≡ attribute y ∷ after_first all
   pub rest : attributes (drop h.len y) ≡ Some (after_first all)
@@ -113,7 +111,7 @@ goes_head y h all g e =
 pub goes_none : (y : List ℕ) (all : List Attribute) → attributes y ≡ Some [] → attributes y ≡ Some all → all ≡ []
 goes_none y all e f = let same : (let o : Option (List Attribute) = Some [] in o) ≡ Some all = sym e ∙ f in cc
 
--- ---- a walk over the attributes of a component
+-- ---- a walk over attributes
 
 attribute_field_is : (h : Head) (x : List ℕ) → attribute_field h x ≡ slice_range x (name_end h) h.offset
 attribute_field_is h x = go (eqb h.attributes_offset 0)
@@ -126,7 +124,7 @@ some_is : {A : Type 0} (o : Option A) (other : A) → is_some o ≡ true → o �
 some_is None other e = absurd cc
 some_is (Some a) other e = refl
 
--- the attributes of a component that stands in a region are well formed, and lie between the name and the content
+-- the attributes are well formed, and lie between name and content
 pub listed_all : (x : List ℕ) (c : Cell) → StandsIn x c → is_free c.head ≡ false
     → attributes (slice_range x (c.at + name_end c.head) (c.at + c.head.offset)) ≡ Some (cell_attributes (cell_in x c))
 listed_all x c stands used =
@@ -149,7 +147,7 @@ walk_all x c stands used =
     ap (λ n. attributes (slice_range x (c.at + n) (c.at + c.head.offset))) {x = min (name_end c.head) c.head.offset} {y = name_end c.head} (omega (arith, high))
     ∙ listed_all x c stands used
 
--- what a walk that stood at a place gives, and what is left after it
+-- a walk's result at a position, and its rest
 abbrev pub GivesListed : List ℕ → Cell → ℕ → List Attribute → declared.Listed → Type 0
 GivesListed x k a all (listed.Attribute h) = (Some h ≡ first_head all) × (attributes_left x (record { cell = k; at = a + h.len }) ≡ Some (after_first all))
 GivesListed x k a all End = (None ≡ first_head all) × (attributes_left x (record { cell = k; at = k.head.offset }) ≡ Some (after_first all))
@@ -190,7 +188,6 @@ walk_step r image k a p q w l lies room view from to is all left = go l is
         (ap first_head (sym none), none_left ∙ ap (λ (l : List Attribute). Some (after_first l)) (sym none))
     go Malformed is = let e : (let o : Option (List Attribute) = None in o) ≡ Some all = sym (goes_malformed (slice_range x p q) is) ∙ here in absurd cc
 
--- without an attribute the walk ends
 pub gives_none : (x : List ℕ) (k : Cell) (a : ℕ) (all : List Attribute) (l : declared.Listed) → ((h : AttrHead) → l ≡ listed.Attribute h → ⊥) → GivesListed x k a all l
     → (None ≡ first_head all) × (attributes_left x (record { cell = k; at = k.head.offset }) ≡ Some (after_first all))
 gives_none x k a all (listed.Attribute h) other gives = absurd (other h refl)

@@ -1,4 +1,4 @@
--- Parts of the bytes of a region.
+-- Parts of a region.
 use Rattle.std.proofs.Common.{◌≡◌, ℕ, ◌+◌, ◌-◌, ◌≤◌, List, length, take, drop, sym, ap, ◌∙◌, arith, length-take, length-drop}
 use Rattle.std.specs.Prelude.{slice_range, Result, Ok, Err, OnOk}
 use Rattle.std.proofs.lemmas.List.{take-take, drop-drop, drop-take}
@@ -31,7 +31,6 @@ part-in image r at n fits =
     ∙ ap (λ l. take n (drop at l)) (sym (range_is image r.start r.size))
     ∙ sym (range_is (bytes_in r image) at n)
 
--- a part of a rest is a part of the whole
 pub range-drop : (x : List ℕ) (at a b : ℕ) → slice_range (drop at x) a b ≡ slice_range x (at + a) (at + b)
 range-drop x at a b =
     let n : b - a ≡ at + b - (at + a) = omega arith in
@@ -61,7 +60,6 @@ range-inner x a b i j le =
     ∙ sym (between_is (drop a x) i j)
     ∙ range-drop x a i j
 
--- a head that is read where it stands
 pub front_read : (x : List ℕ) (at : ℕ) (h : Option Head) (bytes : List ℕ) → h ≡ head_at bytes → bytes ≡ slice_range x at (at + 24) → at + 24 ≤ length x → h ≡ front (drop at x)
 front_read x at h bytes e read fits =
     rw (le-ltb (length (drop at x)) 24 (omega (arith, length-drop at x)))

@@ -1,4 +1,4 @@
--- Calls that read, one after the other, and what the last of them answers.
+-- Consecutive reads.
 use Rattle.std.proofs.Common.{◌≡◌, ℕ, ◌+◌, ◌-◌, ◌*◌, ◌<◌, ◌≤◌, Result, Ok, Err, ◌∙◌, refl, arith, le_refl}
 use Rattle.std.specs.Prelude.{IfOk, IsOk, length}
 use Rattle.flash_device.specs.Device.{Device, refusals}
@@ -8,14 +8,12 @@ use Rattle.flash_device.specs.Scans.{ScansTo, SpendsTo}
 use Rattle.flash_device.proofs.WindowLemmas.{ScansTo-none, ScansTo-on, SpendsTo-on, ScansTo-more, SpendsTo-more, ScansTo-then, SpendsTo-then, ScansTo-spends, SpendsTo-reads}
 use Rattle.cbfs_walk.specs.Walks.{Passes, reads_over}
 
--- an answer that equals one equals what equals it
 pub IfOk-to : {E : Type 0} (result : Result ℕ E) (v w : ℕ) → v ≡ w → IfOk result (λ x. x ≡ v) → IfOk result (λ x. x ≡ w)
 IfOk-to (Ok x) v w same told = told ∙ same
 IfOk-to (Err e) v w same told = tt
 
 -- ---- reads in order
 
--- the calls that are counted are those that the order allows
 ordered : {F : Type 0} {facts : F → Device} {r : Range} {at end refused : ℕ} {old new : Pages F} → SpendsTo facts (r.start + at) (r.start + end) refused old new
     → (refused ≡ 0 → ScansTo facts (r.start + at) (r.start + end) old new) → Passes facts r at end refused old new
 ordered {F} {facts} {r} {at} {end} {refused} {old} {new} spends scans = record {
@@ -24,11 +22,9 @@ ordered {F} {facts} {r} {at} {end} {refused} {old} {new} spends scans = record {
   read = SpendsTo-reads facts (r.start + at) (r.start + end) (reads_over (end - at)) refused old new (omega arith) spends;
 }
 
--- no read
 pub Passes-none : {F : Type 0} (facts : F → Device) (r : Range) (at : ℕ) (p : Pages F) → Passes facts r at at 0 p p
 Passes-none facts r at p = let none = ScansTo-none facts (r.start + at) p in ordered (ScansTo-spends facts (r.start + at) (r.start + at) p p none) (λ _. none)
 
--- one read
 pub Passes-seen : {F T E : Type 0} {facts : F → Device} {r : Range} {at n : ℕ} {old new : Pages F} {result : Result T E} → LiesIn r (facts old.device).content → at + n ≤ r.size → n ≤ 256
     → HasSeen facts (r.start + at) n old new result → Passes facts r at at (refusals result) old new
 Passes-seen {F} {T} {E} {facts} {r} {at} {n} {old} {new} {result} lies inside short seen =
@@ -41,7 +37,7 @@ Passes-seen {F} {T} {E} {facts} {r} {at} {n} {old} {new} {result} lies inside sh
     answered (Ok x) none = refl
     answered (Err e) none = absurd cc
 
--- reads, none of them refused, and then others, which begin where these end or later
+-- further reads, at or after the end of the previous reads
 pub Passes-then : {F : Type 0} {facts : F → Device} {r : Range} {at p q next end last refused : ℕ} {old mid new : Pages F} → Passes facts r p q 0 old mid → Passes facts r next end refused mid new
     → at ≤ p → q ≤ next → end ≤ last → Passes facts r at last refused old new
 Passes-then {F} {facts} {r} {at} {p} {q} {next} {end} {last} {refused} {old} {mid} {new} first second low order high =
@@ -52,11 +48,11 @@ Passes-then {F} {facts} {r} {at} {p} {q} {next} {end} {last} {refused} {old} {mi
     (SpendsTo-on facts (r.start + at) (r.start + end) (r.start + last) refused old new (omega (arith, high)) (SpendsTo-then facts (r.start + at) (r.start + next) (r.start + end) refused old mid new one second.spends))
     (λ none. ScansTo-on facts (r.start + at) (r.start + end) (r.start + last) old new (omega (arith, high)) (ScansTo-then facts (r.start + at) (r.start + next) (r.start + end) old mid new one (second.scans none)))
 
--- the same reads between places further apart
+-- a wider range
 pub Passes-within : {F : Type 0} {facts : F → Device} {r : Range} {at p q last refused : ℕ} {old new : Pages F} → Passes facts r p q refused old new → at ≤ p → q ≤ last → Passes facts r at last refused old new
 Passes-within {F} {facts} {r} {at} {p} {q} {last} {refused} {old} {new} passes low high = Passes-then (Passes-none facts r p old) passes low (le_refl p) high
 
--- the calls of reads in order
+-- the number of calls
 pub Passes-answers : {F T E : Type 0} {facts : F → Device} {r : Range} {at end n : ℕ} {old new : Pages F} {result : Result T E} → Passes facts r at end (refusals result) old new → end < at + 3840 * n
     → HasAnswered facts n old new result
 Passes-answers {F} {T} {E} {facts} {r} {at} {end} {n} {old} {new} {result} passes few = record { read = SpendsTo-reads facts (r.start + at) (r.start + end) n (refusals result) old new (omega (arith, few)) passes.spends }

@@ -1,4 +1,4 @@
--- A scan of attributes on a device, from place to place.
+-- A scan of attributes.
 use Rattle.std.proofs.Common.{◌≡◌, ℕ, ◌+◌, ◌≤◌, Bool, true, false, cond, IsTrue, List, [], ◌∷◌, drop, Option, Some, None, refl, sym, subst, ap, ◌∙◌, arith, eqb, zero, suc, pred, ◌<◌, le_refl, length-drop, length}
 use Rattle.std.specs.Prelude.{slice_range, is_some, IfSome}
 use Rattle.std.specs.List.{find}
@@ -24,7 +24,7 @@ use Rattle.cbfs_walk.proofs.Parts.{length-region, range-inner, range-after, leng
 use Rattle.cbfs_walk.proofs.Checks.{content_inside}
 use Rattle.cbfs_walk.proofs.Listing.{goes, goes_end, goes_malformed, goes_none, goes_on, listed_all}
 
--- the scan of a region has come to a place, and what is asked of it is so
+-- a scan up to a position, with its remaining result
 pub record Scanning {F : Type 0} (facts : F → Device) (r : Range) (from end at : ℕ) (old now : Pages F) (Asked : Type 0) : Type 0 where
   pub low : from ≤ at
   pub high : at ≤ end
@@ -35,14 +35,14 @@ pub scanning_start : {F : Type 0} (facts : F → Device) (r : Range) (from end :
 scanning_start facts r from end old Asked le asked = record { low = le_refl from; high = le; passed = Passes-none facts r from old; asked = asked }
 
 module _ {F : Type 0} {facts : F → Device} {r : Range} {from end at : ℕ} {old now : Pages F} {Asked : Type 0} (s : Scanning facts r from end at old now Asked) where
-  -- what the device has now it had before
+  -- reads leave the content unchanged
   pub told_before : (P : List ℕ → Type 0) → (IsTrue (facts now.device).honest → P (facts now.device).content) → IsTrue (facts old.device).honest → P (facts old.device).content
   told_before P told k = subst P (s.passed.read.device.unchanged k) (told (honest_still s.passed.read.device.calls.same_honesty k))
 
   pub lies_still : LiesIn r (facts old.device).content → LiesIn r (facts now.device).content
   lies_still lies = omega (arith, lies, s.passed.read.device.calls.same_length)
 
-  -- the scan goes on by a read
+  -- a further read
   pub scanning_more : (n : ℕ) (new : Pages F) (After : Type 0) → at + n ≤ end → Passes facts r at at 0 now new → (IsTrue (facts old.device).honest → Asked → After) → Scanning facts r from end (at + n) old new After
   scanning_more n new After fits step next = record {
     low = omega (arith, s.low);
@@ -51,15 +51,15 @@ module _ {F : Type 0} {facts : F → Device} {r : Range} {from end at : ℕ} {ol
     asked = λ k. next k (s.asked k);
   }
 
-  -- or comes to its end with it
+  -- the last read
   pub scanned : {new : Pages F} {refused : ℕ} → Passes facts r at at refused now new → Passes facts r from end refused old new
   scanned read = Passes-then s.passed read (le_refl from) (le_refl at) s.high
 
--- the list between two places of a region
+-- the list between two positions
 abbrev pub list_at : Range → List ℕ → ℕ → ℕ → List ℕ
 list_at r image at end = slice_range (bytes_in r image) at end
 
--- what is asked of a list is asked of its rest from a place on
+-- the result of a list is the result of its rest
 abbrev pub AsksRest : {A : Type 0} → (ℕ → List ℕ → A) → Range → List ℕ → ℕ → ℕ → ℕ → Type 0
 AsksRest ask r image from end at = ask at (list_at r image at end) ≡ ask from (list_at r image from end)
 
@@ -69,11 +69,11 @@ module _ {F A : Type 0} (facts : F → Device) (ask : ℕ → List ℕ → A) (r
   told_there : IsTrue (facts old.device).honest → l ≡ listed_in (list_at r (facts old.device).content at end)
   told_there = told_before s (λ image. l ≡ listed_in (list_at r image at end)) told
 
-  -- the answer, where what stands there gives it
+  -- the attribute gives the result
   pub asked_here : (v : A) → ((y : List ℕ) → l ≡ listed_in y → v ≡ ask at y) → IsTrue (facts old.device).honest → v ≡ ask from (list_at r (facts old.device).content from end)
   asked_here v here k = here (list_at r (facts old.device).content at end) (told_there k) ∙ s.asked k
 
-  -- an attribute that doesn't give it is passed by
+  -- the attribute is skipped
   pub asked_more : (h : AttrHead) (n : ℕ) (new : Pages F) → n ≡ h.len → IsAttrIn at end h → Passes facts r at at 0 now new → ((y : List ℕ) → l ≡ listed_in y → ask at y ≡ ask (at + h.len) (drop h.len y))
       → Scanning facts r from end (at + n) old new (AsksRest ask r (facts old.device).content from end (at + n))
   asked_more h n new e is read by = scanning_more s n new _ (omega (arith, is.inside, e)) read (λ k before.
@@ -82,7 +82,7 @@ module _ {F A : Type 0} (facts : F → Device) (ask : ℕ → List ℕ → A) (r
       range-after (bytes_in r (facts old.device).content) at end h.len (omega (arith, is.inside)) ∙ ap (λ k. slice_range (bytes_in r (facts old.device).content) (at + k) end) (sym e) in
       ap (ask (at + n)) (sym there) ∙ ap (λ k. ask (at + k) (drop h.len list)) e ∙ sym (by list (told_there k)) ∙ before)
 
--- ---- are all attributes well formed?
+-- ---- well-formed attributes
 
 abbrev pub are_formed : ℕ → List ℕ → Bool
 are_formed at y = is_some (attributes y)
@@ -102,7 +102,7 @@ formed_malformed at y told = sym (ap (λ (o : Option (List Attribute)). is_some 
 
 -- ---- the first attribute with a tag
 
--- the bytes that belong to the attribute before don't count
+-- bytes of the previous attribute don't count
 first_after-drop : (skip tag at : ℕ) (y : List ℕ) → first_after skip tag at y ≡ first_in tag (at + skip) (drop skip y)
 unfolding first_after
 first_after-drop zero tag at y = ap (λ k. first_in tag k y) {x = at} {y = at + 0} (omega arith)
@@ -113,7 +113,6 @@ first_later : (n tag at b : ℕ) (y : List ℕ) → 0 < n → first_after (pred 
 first_later zero tag at b y some = absurd (omega arith)
 first_later (suc n) tag at b y some = first_after-drop n tag (at + 1) y ∙ ap (λ k. first_in tag k (drop n y)) {x = at + 1 + n} {y = at + suc n} (omega arith)
 
--- by what the list has at its start
 pub first_by : (tag at : ℕ) (l : declared.Listed) (y : List ℕ) → l ≡ listed_in y → first_in tag at y ≡ by_tag tag at l (λ n. first_in tag (at + n) (drop n y))
 unfolding first_after
 first_by tag at l [] told = ap (λ (k : declared.Listed). by_tag tag at k (λ n. first_in tag (at + n) (drop n []))) (sym told)
@@ -135,13 +134,11 @@ first_none tag at (listed.Attribute h) y other told = absurd (other h refl)
 first_none tag at listed.End y other told = sym (first_by tag at listed.End y told)
 first_none tag at listed.Malformed y other told = sym (first_by tag at listed.Malformed y told)
 
--- the same by the component
 pub first_is : (x : List ℕ) (tag : ℕ) (c : Cell) (from end : ℕ) (found : Option Placed) → from ≡ attributes_start c → end ≡ content_start c → found ≡ first_in tag from (slice_range x from end) → found ≡ first_of x c tag
 first_is x tag c from end found begins ends is = rw (← begins, ← ends) is
 
 -- ---- the data of the first attribute with a tag
 
--- the data of an attribute, or that of the others
 by_use : (tag : ℕ) (x y : List ℕ) (at end : ℕ) (h : AttrHead) (others : List Attribute) (rest : Option Placed) (b : Bool) → y ≡ slice_range x at end → at + h.len ≤ end → h ≡ attr_head_of y
     → option_map (data_at x) rest ≡ data_of tag others → eqb h.tag tag ≡ b → option_map (data_at x) (cond b (Some (at, h)) rest) ≡ data_of tag (attribute y ∷ others)
 by_use tag x y at end h others rest b is fits head more e =
@@ -156,7 +153,7 @@ by_use tag x y at end h others rest b is fits head more e =
     go true = ap Some contents
     go false = more
 
--- among well formed attributes, the data of the first with a tag is the list's
+-- the data of the first well-formed attribute with a tag
 first_data : (tag bound : ℕ) (x : List ℕ) (at end : ℕ) (all : List Attribute) → end ≤ length x → length (slice_range x at end) < bound → attributes (slice_range x at end) ≡ Some all
     → option_map (data_at x) (first_in tag at (slice_range x at end)) ≡ data_of tag all
 first_data tag zero x at end all inside few formed = absurd (omega (arith, few))
@@ -181,7 +178,6 @@ first_data tag (suc n) x at end all inside few formed = ap (option_map (data_at 
         (ap (λ z. option_map (data_at x) (first_in tag (at + h.len) z)) there ∙ more) refl
         ∙ sym (ap (λ (l : List Attribute). data_of tag l) on.first)
 
--- the data that is found in a component that stands in the region
 pub data_found : (tag : ℕ) (x : List ℕ) (c : Cell) → c.at + c.head.offset ≤ length x → StandsIn x c → is_free c.head ≡ false → option_map (data_at x) (first_of x c tag) ≡ data_of tag (cell_attributes (cell_in x c))
 data_found tag x c inside stands used =
     first_data tag (suc (length (slice_range x (c.at + name_end c.head) (c.at + c.head.offset)))) x (c.at + name_end c.head) (c.at + c.head.offset) (cell_attributes (cell_in x c)) inside (omega arith) (listed_all x c stands used)
@@ -191,7 +187,6 @@ data_found tag x c inside stands used =
 compression_len : (h : AttrHead) → h.tag ≡ COMPRESSION → least_len h.tag ≡ 16
 compression_len h e = rw e refl
 
--- a value is read where it stands
 value_is : (x : List ℕ) (c : Cell) (found : Option Placed) → IfSome found (IsAttrOf c COMPRESSION) → value_in x found ≡ option_map_or (be32 0) (option_map (data_at x) found) 0
 value_is x c None is = refl
 value_is x c (Some found) is =
@@ -201,7 +196,7 @@ value_is x c (Some found) is =
     ∙ ap (λ k. slice_range x k (found.0 + 8 + 4)) {x = found.0 + 8 + 0} {y = found.0 + 8} (omega arith)
     ))
 
--- the value that is found in a component that stands in the region
+-- in a component of the region
 pub packing_found : (r : Range) (image : List ℕ) (c : Cell) (found : Option Placed) → LiesIn r image → IsComponentIn r.size c → StandsIn (bytes_in r image) c → IfSome found (IsAttrOf c COMPRESSION)
     → found ≡ first_of (bytes_in r image) c COMPRESSION → value_in (bytes_in r image) found ≡ packing (cell_attributes (cell_in (bytes_in r image) c))
 packing_found r image c found lies is stands attribute first =

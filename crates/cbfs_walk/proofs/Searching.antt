@@ -1,4 +1,4 @@
--- The search for a component, from cell to cell.
+-- The search for a component, cell by cell.
 use Rattle.std.proofs.Common.{◌≡◌, ℕ, ◌+◌, ◌-◌, ◌/◌, ◌%◌, ◌≤◌, Bool, true, false, cond, not, ◌&&◌, ◌⊎◌, inl, inr, IsTrue, List, ◌∷◌, length, Option, Some, None, Result, Ok, Err, refl, sym, ap, ◌∙◌, arith}
 use Rattle.std.specs.Prelude.{IsErrOf}
 use Rattle.std.specs.Str.{bytes_eq}
@@ -28,15 +28,13 @@ use Rattle.cbfs_walk.proofs.Answering.{IsLast, last_reads}
 refused : WalkFault → Found
 refused fault = Err fault
 
--- the first component of a name among the cells of a cut, of which the first stands at a place
+-- the first component with the name in a cut at a position
 find_cut : List ℕ → ℕ → Cut → Found
 find_cut name at k = found_or (first_named name (components_from at k.cells)) (not_found (place_after at k.cells) k.end)
 
--- a cell is the component, or the search goes on
 each_cell : List ℕ → List ℕ → Cell → Found → Found
 each_cell name c given later = cond (not (is_free given.head) && bytes_eq (cell_name c) name) (Ok (Some (component_at given.at c))) later
 
--- the search from a place on
 pub found_from : List ℕ → List ℕ → ℕ → Found
 found_from x name at = reading_of refused (find_cut name) x at
 
@@ -63,7 +61,7 @@ pub found_whole : (x name : List ℕ) → component_in x name ≡ found_from x n
 unfolding component_in found_from refused find_cut reading_of
 found_whole x name = refl
 
--- what the search finds, by the answer of the walk
+-- by the walk's result
 found_by : List ℕ → List ℕ → Answer → Found
 found_by x name answer = by_answer refused (find_cut name) (each_cell name) x answer
 
@@ -71,9 +69,9 @@ found_step : (x name : List ℕ) (at : ℕ) → at ≤ length x → at % 64 ≡ 
 unfolding found_from found_by
 found_step x name at inside aligned = shaped_step refused (find_cut name) (each_cell name) (law name) x at inside aligned
 
--- ---- a loop that searches
+-- ---- the loop
 
--- no cell before the walk's place is the component
+-- no earlier cell is the component
 pub record Searching {F : Type 0} (facts : F → Device) (r : Range) (name : List ℕ) (w : Walking) (old now : Pages F) : Type 0 where
   pub region : w.region ≡ r
   pub going : w.ended ≡ None
@@ -92,7 +90,6 @@ searching_start facts r name old = record {
   so_far = λ h. found_whole (bytes_in r (facts old.device).content) name;
 }
 
--- a step is no fault of the device
 told_step : (s : Step) (b : Answer) → (let a : Answer = Ok s in IsErrOf a faults.Device ⊎ (a ≡ b)) → Ok s ≡ b
 told_step s b (inl e) = absurd cc
 told_step s b (inr e) = e
@@ -101,7 +98,6 @@ cell_is : (at span : ℕ) (h k : Head) (n : ℕ) → h ≡ k → n ≡ span → 
 cell_is at span h k n e f = ap (λ (j : Head). let a : Cell = record { at = at; head = j; span = n } in a) e ∙ ap (λ m. let a : Cell = record { at = at; head = k; span = m } in a) f
 
 module _ {F : Type 0} (facts : F → Device) (r : Range) (name : List ℕ) (w : Walking) (old now : Pages F) (lies : LiesIn r (facts old.device).content) (s : Searching facts r name w old now) where
-  -- an answer of the walk, at the place where it stands
   answered : (a : Answer) → IsTrue (facts old.device).honest → a ≡ answer_at (bytes_in w.region (facts now.device).content) w.at
       → (a ≡ answer_at (bytes_in r (facts old.device).content) w.at) × (component_in (bytes_in r (facts old.device).content) name ≡ found_by (bytes_in r (facts old.device).content) name a)
   answered a h is =
@@ -110,7 +106,7 @@ module _ {F : Type 0} (facts : F → Device) (r : Range) (name : List ℕ) (w : 
       let here : a ≡ answer_at x w.at = is ∙ ap (λ (k : Range). answer_at (bytes_in k (facts now.device).content) w.at) s.region ∙ ap (λ l. answer_at (bytes_in r l) w.at) (s.read.device.unchanged h) in
       (here, s.so_far h ∙ found_step x name w.at (omega (arith, len, s.inside)) s.aligned ∙ ap (found_by x name) (sym here))
 
-  -- the walk gave a cell, and the test says whether it is the component
+  -- a cell, and the result of its test
   module _ (step : Step) (c : Cell) (mid : Pages F) (is_it : Bool) (is : step ≡ steps.Cell c) (gives : GivesCell w.region.size w.at (Ok step))
       (reading : HasRead facts (reads_at w.region.size w.at (Ok step)) (faults_told by_device (Ok step)) now mid)
       (answers : IsTrue (facts now.device).honest → w.ended ≡ None → (let a : Answer = Ok step in IsErrOf a faults.Device ⊎ (a ≡ answer_at (bytes_in w.region (facts now.device).content) w.at)))
@@ -166,7 +162,7 @@ module _ {F : Type 0} (facts : F → Device) (r : Range) (name : List ℕ) (w : 
           ∙ ap (λ q. found_from x name (q + c.span)) given.1;
     })
 
-  -- ---- the walk ended
+  -- ---- an ended walk
 
   module _ (step : Step) (last : IsLast step) where
     last_found : found_cell (found_by (bytes_in r (facts old.device).content) name (Ok step)) ≡ Ok None

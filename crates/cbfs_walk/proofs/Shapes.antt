@@ -1,4 +1,4 @@
--- One step of any reading that goes from cell to cell.
+-- A step of any cell-by-cell function.
 use Rattle.std.proofs.Common.{◌≡◌, ℕ, ◌+◌, ◌%◌, ◌<◌, ◌≤◌, Bool, true, false, cond, ◌&&◌, List, length, drop, Some, None, Ok, Err, refl, sym, ap, ◌∙◌, arith, eqb, length-take, length-drop}
 use Rattle.std.proofs.lemmas.Bool.{ne_eqb}
 use Rattle.std.proofs.lemmas.Grind.{common_steps}
@@ -20,7 +20,7 @@ use Rattle.cbfs_walk.proofs.Answering.{good_size}
 use Rattle.cbfs_walk.proofs.CutLaws.{cut_at}
 use Rattle.cbfs_walk.proofs.Parts.{range_is}
 
--- a region whose shape is good there
+-- in a region of valid shape
 past : {A : Type 0} (refuse : WalkFault → A) (read : ℕ → Cut → A) (x : List ℕ) (at : ℕ) → has_bad_size (length x) ≡ false → (eqb at 0 && is_absent (entry x)) ≡ false
     → reading_of refuse read x at ≡ read at (cut (drop at x))
 unfolding reading_of

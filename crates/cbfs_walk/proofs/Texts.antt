@@ -9,7 +9,7 @@ use Rattle.std.proofs.lemmas.Bool.{cases_lt, false_from_ne_true}
 use Rattle.std.proofs.lemmas.Slice.Eq.{bytes_eq-Decides}
 use Rattle.flash_format.specs.Entry.{is_nul}
 
--- a NUL stands after fewer bytes than there are
+-- the text before a NUL is shorter than all bytes
 any_within : (x : List ℕ) → list_any is_nul x ≡ true → position_or_len is_nul x < length x
 any_within [] e = absurd cc
 any_within (b ∷ x) e = go (is_nul b) (any_within x) e
@@ -34,7 +34,6 @@ text_len x = length-prefix_len (λ b. not (is_nul b)) x
 pub text_most : (x : List ℕ) → position_or_len is_nul x ≤ length x
 text_most x = prefix_len-le-length (λ b. not (is_nul b)) x
 
--- a NUL among the first bytes stands after fewer
 pub text_within : (k : ℕ) (x : List ℕ) → list_any is_nul (take k x) ≡ true → (position_or_len is_nul x < k) × (position_or_len is_nul x < length x)
 text_within k x e =
     let some = any_within (take k x) e in
@@ -42,17 +41,16 @@ text_within k x e =
     let m = length-take k x in
     (omega (arith, some, n, m), omega (arith, some, n, m))
 
--- the text is read alike from enough of the first bytes
+-- a prefix with enough bytes has the same text
 pub text_prefix : (k : ℕ) (x : List ℕ) → position_or_len is_nul x ≤ k → before_first is_nul (take k x) ≡ before_first is_nul x
 text_prefix k x le =
     ap (λ n. take n (take k x)) {x = position_or_len is_nul (take k x)} {y = position_or_len is_nul x} (omega (arith, len_prefix k x, le))
     ∙ take-take (position_or_len is_nul x) k x le
 
--- two texts of different lengths are no equals
 texts_differ : (x y : List ℕ) → (length x ≡ length y → ⊥) → bytes_eq x y ≡ false
 texts_differ x y ne = false_from_ne_true (bytes_eq x y) (λ e. ne (ap length ((bytes_eq-Decides x y).0 e)))
 
--- whether a text is a name shows in as many bytes as the name has, and one more
+-- a name's length and one more byte suffice for a comparison
 pub text_is : (x name : List ℕ) (k : ℕ) → length name < k → position_or_len is_nul x < length x → bytes_eq (before_first is_nul (take k x)) name ≡ bytes_eq (before_first is_nul x) name
 text_is x name k lt some = go (cases_lt k (position_or_len is_nul x))
   where
@@ -63,6 +61,6 @@ text_is x name k lt some = go (cases_lt k (position_or_len is_nul x))
         texts_differ _ name (λ e. omega (arith, e, prefix, lt)) ∙ sym (texts_differ _ name (λ e. omega (arith, e, all, more, lt)))
     go (inr less) = ap (λ t. bytes_eq t name) (text_prefix k x less)
 
--- a text is shorter than a name that has no room
+-- a text shorter than the name
 pub text_is_not : (x name : List ℕ) → position_or_len is_nul x < length name → false ≡ bytes_eq (before_first is_nul x) name
 text_is_not x name lt = let all = text_len x in sym (texts_differ _ name (λ e. omega (arith, e, all, lt)))

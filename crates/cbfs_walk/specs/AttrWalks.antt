@@ -1,4 +1,4 @@
--- Attribute lists of components.
+-- Attribute lists.
 use Rattle.std.specs.Prelude.{ℕ, ◌+◌, ◌-◌, ◌/◌, ◌≤◌, ◌≡◌, false, min, List, length, drop, slice_get, slice_range, Option, Some, None, Result, Ok, Err, option_map, zero, suc, pred, [], ◌∷◌, ⊤, ◌==◌, if◌then◌else◌}
 use Rattle.flash_format.specs.declared.attribute.AttrHead.{AttrHead}
 use Rattle.flash_format.specs.Entry.{Attribute, attributes, is_unused, least_len, attr_head_of, ends_list, is_malformed, name_end}
@@ -10,7 +10,7 @@ use Rattle.flash_format.specs.Head.{be32}
 use Rattle.cbfs_walk.specs.declared.attribute_walk.Listed.{Listed}
 use Rattle.cbfs_walk.specs.declared.attribute_walk.Listed.TheVariants as listed
 
--- the contract state of a walk: the component's cell, and the position in the cell
+-- a component's cell, and the position in the cell
 pub record AttrWalking : Type 0 where
   pub cell : Cell
   pub at : ℕ
@@ -18,32 +18,31 @@ pub record AttrWalking : Type 0 where
 abbrev pub place_in_region : AttrWalking → ℕ
 place_in_region w = w.cell.at + w.at
 
--- the attributes begin after the name, and never after the start of the content
+-- attributes begin after the name, at most at the content
 abbrev pub attr_walk_of : Cell → AttrWalking
 attr_walk_of c = record { cell = c; at = min (name_end c.head) c.head.offset }
 
--- an attribute moves the walk, a device fault doesn't, and None ends the walk at the content
+-- a fault doesn't move the walk; the end moves it to the content
 abbrev pub attr_moved : AttrWalking → Result (Option AttrHead) FlashFault → AttrWalking
 attr_moved w (Ok (Some h)) = record w { at = w.at + h.len }
 attr_moved w (Ok None) = record w { at = w.cell.head.offset }
 attr_moved w (Err fault) = w
 
--- an attribute at a position has its least length, and ends at or before `end`
 pub record IsAttrIn (at end : ℕ) (h : AttrHead) : Type 0 where
   pub used : is_unused h.tag ≡ false
   pub head : 8 ≤ h.len
   pub least : least_len h.tag ≤ h.len
   pub inside : at + h.len ≤ end
 
--- at most one call, and no call if fewer than eight bytes remain
+-- no call if fewer than eight bytes remain
 abbrev pub attr_reads : AttrWalking → ℕ
 attr_reads w = min 1 ((w.cell.head.offset - w.at) / 8)
 
--- the remaining attributes, or None if an attribute is malformed
+-- the remaining attributes, or None if malformed
 abbrev pub attributes_left : List ℕ → AttrWalking → Option (List Attribute)
 attributes_left x w = attributes (slice_range x (place_in_region w) (content_start w.cell))
 
--- the length includes the eight bytes of the head
+-- the length includes the head's eight bytes
 abbrev pub head_of_attribute : Attribute → AttrHead
 head_of_attribute a = record { tag = a.tag; len = 8 + length a.contents }
 
@@ -58,31 +57,28 @@ listed_in x =
     if ends_list x then listed.End
     else (if is_malformed x then listed.Malformed else listed.Attribute (attr_head_of x))
 
--- an attribute ends at or before `end`
 abbrev pub IsListedIn : ℕ → ℕ → Listed → Type 0
 IsListedIn at end (listed.Attribute h) = IsAttrIn at end h
 IsListedIn at end _ = ⊤
 
 -- ---- the first attribute with a tag
 
--- an attribute: its position in the region, and its head
+-- position in the region, and head
 abbrev pub Placed : Type 0
 Placed = ℕ × AttrHead
 
--- the attribute if its tag matches; otherwise the result after its length
+-- the attribute if its tag matches, otherwise the later result
 abbrev pub by_tag : ℕ → ℕ → Listed → (ℕ → Option Placed) → Option Placed
 by_tag tag at (listed.Attribute h) later = if h.tag == tag then Some (at, h) else later h.len
 by_tag tag at _ later = None
 
--- the first attribute with a tag, in bytes after the first `skip`, which belong to the previous
--- attribute
+-- the first `skip` bytes belong to the previous attribute
 unfoldable pub first_after : ℕ → ℕ → ℕ → List ℕ → Option Placed
 first_after skip tag at [] = None
 first_after (suc skip) tag at (b ∷ rest) = first_after skip tag (at + 1) rest
 first_after zero tag at (b ∷ rest) =
     by_tag tag at (listed_in (b ∷ rest)) (λ len. first_after (pred len) tag (at + 1) rest)
 
--- the first attribute with a tag before the end of the list or a malformed attribute
 abbrev pub first_in : ℕ → ℕ → List ℕ → Option Placed
 first_in tag at x = first_after 0 tag at x
 
@@ -90,17 +86,16 @@ abbrev pub first_of : List ℕ → Cell → ℕ → Option Placed
 first_of x c tag =
     first_in tag (attributes_start c) (slice_range x (attributes_start c) (content_start c))
 
--- an attribute with a tag, between a component's name and its content
 pub record IsAttrOf (c : Cell) (tag : ℕ) (found : Placed) : Type 0 where
   pub low : attributes_start c ≤ found.0
   pub attribute : IsAttrIn found.0 (content_start c) found.1
   pub has : found.1.tag ≡ tag
 
--- the end of the reads in a search for an attribute: the attribute, or the content
+-- the end of a search: the attribute, or the content
 abbrev pub searched_to : Cell → Result (Option Placed) FlashFault → ℕ
 searched_to c (Ok (Some found)) = found.0
 searched_to c _ = content_start c
 
--- the first value in an attribute's data, or 0 without an attribute
+-- an attribute's first value, or 0
 abbrev pub value_in : List ℕ → Option Placed → ℕ
 value_in x found = option_map_or (λ (it : Placed). be32 (it.0 + 8) x) found 0

@@ -1,4 +1,4 @@
--- The search for a component by name.
+-- The search by name.
 use Rattle.std.specs.Prelude.{◌≡◌, ℕ, ◌+◌, ◌/◌, true, false, All, List, ◌∷◌, ◌++◌, length, Option, Some, None, Result, Ok, Err}
 use Rattle.std.specs.List.{find}
 use Rattle.std.specs.Option.{option_map, option_map_or}
@@ -26,7 +26,7 @@ pub record IsFirstOf (name : List ℕ) (all : List Component) (c : Component) : 
   pub named : bytes_eq c.name name ≡ true
   pub none_before : All (λ (d : Component). bytes_eq d.name name ≡ false) before
 
--- without a component: the damage at the end of the cells with its position, or nothing
+-- the damage at the end of the cells, or nothing
 abbrev pub not_found : ℕ → End → Found
 not_found at (damage kind) = Err (faults.Damaged at kind)
 not_found at _ = Ok None
@@ -34,21 +34,19 @@ not_found at _ = Ok None
 abbrev pub found_or : Option Component → Found → Found
 found_or found otherwise = option_map_or (λ c. Ok (Some c)) found otherwise
 
--- the first component with the given name in a region, or otherwise the end of the cells
+-- the first component with the name, or the end of the cells
 unfoldable pub component_in : List ℕ → List ℕ → Found
 component_in x name =
     refused_or (λ fault. Err fault) (shape_fault x)
     (found_or (first_named name (components x))
     (not_found (place_after 0 (cut x).cells) (cut x).end))
 
--- the component's cell as in a walk
 abbrev pub cell_of : Component → Cell
 cell_of c = record { at = c.at; head = head_of c.bytes; span = length c.bytes }
 
 abbrev pub found_cell : Found → Result (Option Cell) WalkFault
 found_cell found = result_map_both (option_map cell_of) (λ fault. fault) found
 
--- the maximum number of calls of a search in a region of the given size, up to the component's end
 abbrev pub find_reads : ℕ → Result (Option Cell) WalkFault → ℕ
 find_reads size (Ok (Some c)) = (c.at + c.span) / 16
 find_reads size _ = size / 16 + 2

@@ -1,6 +1,6 @@
--- Digests in hash attributes (`struct cbfs_file_attr_hash`): an algorithm, big-endian, of vboot's
--- `enum vb2_hash_algorithm`, and a digest of FIPS 180-4. This project's rules: the supported
--- algorithms, and the accepted attribute lengths.
+-- Digests in hash attributes (`struct cbfs_file_attr_hash`): a big-endian `enum vb2_hash_algorithm`
+-- of vboot, and a digest of FIPS 180-4. This project's rules: supported algorithms and attribute
+-- lengths.
 use Rattle.std.specs.Prelude.{ℕ, ◌+◌, List, length, slice_range, Option, Some, None, nat_lt, if◌then◌else◌, ⊤}
 use Rattle.std.specs.Option.{option_and_then, option_map, option_map_or}
 use Rattle.std.specs.Str.{bytes_eq}
@@ -20,20 +20,19 @@ use Rattle.cbfs_walk.specs.AttrWalks.{Placed, first_of}
 
 -- ---- digests
 
--- the digests of bytes; the separate names prevent unfolding of the standard's definitions in
--- proofs
+-- separate names, so that proofs don't unfold the standard's definitions
 unfoldable pub sha256_of : List ℕ → Digest
 sha256_of bytes = Sha256 (sha256 bytes)
 
 unfoldable pub sha512_of : List ℕ → Digest
 sha512_of bytes = Sha512 (sha512 bytes)
 
--- the digest of bytes with the algorithm of another digest
+-- the digest by the algorithm of another digest
 abbrev pub digest_like : Digest → List ℕ → Digest
 digest_like (Sha256 other) bytes = sha256_of bytes
 digest_like (Sha512 other) bytes = sha512_of bytes
 
--- ---- the state of a hash attribute
+-- ---- states of a hash attribute
 
 -- the digest after the algorithm's number, if complete
 abbrev pub digest_by : List ℕ → Algorithm → Option Digest
@@ -49,14 +48,14 @@ abbrev pub comparison : Digest → Digest → HashState
 comparison stored computed =
     if bytes_eq (digest_bytes stored) (digest_bytes computed) then Valid stored else Invalid stored
 
--- the content's state, given the data of a hash attribute, if present
+-- by the data of a hash attribute, if any
 abbrev pub state_of : Option (List ℕ) → List ℕ → HashState
 state_of None content = Absent
 state_of (Some contents) content =
     option_map_or (λ stored. comparison stored (digest_like stored content))
     (stored_digest contents) Unsupported
 
--- the state of the stored content with the component's first hash attribute
+-- by the first hash attribute
 abbrev pub hash_state : List Attribute → List ℕ → HashState
 hash_state all content = state_of (data_of HASH all) content
 
@@ -71,7 +70,7 @@ content_at x c = slice_range x (content_start c) (content_end c)
 abbrev pub hash_state_in : List ℕ → Cell → HashState
 hash_state_in x c = state_of (option_map (data_at x) (first_of x c HASH)) (content_at x c)
 
--- a state without a comparison of the content
+-- a state without a comparison
 abbrev pub IsUncompared : HashState → Type 0
 IsUncompared (Valid digest) = ⊥
 IsUncompared (Invalid digest) = ⊥

@@ -1,4 +1,4 @@
--- The laws for callers of a walk.
+-- Laws of walks.
 use Rattle.std.specs.Prelude.{◌≡◌, ℕ, ◌+◌, ◌%◌, ◌≤◌, Contains, List, [], ◌∷◌, length, drop, slice_range, Some, None, Ok, Err, IsTrue}
 use Rattle.flash_format.specs.Head.{head_of}
 use Rattle.flash_format.specs.Entry.{entry, absent}
@@ -15,7 +15,7 @@ use Rattle.cbfs_walk.specs.declared.walk.Step.TheVariants as steps
 use Rattle.cbfs_walk.specs.declared.walk.WalkFault.{WalkFault}
 use Rattle.cbfs_walk.specs.declared.walk.WalkFault.TheVariants as faults
 
--- the next part of a region's cut at a position, given a walk's result
+-- a walk's result is the next part of the cut
 abbrev pub GoesOn : List ℕ → ℕ → Answer → Type 0
 GoesOn x at (Ok (steps.Cell c)) =
     (c.at ≡ at) × (cut (drop at x) ≡ after (cell_in x c ∷ []) (cut (drop (at + c.span) x)))
@@ -27,12 +27,11 @@ GoesOn x at (Err faults.RegionShape) = IsTrue (has_bad_size (length x))
 GoesOn x at (Err faults.NotCbfs) = (at ≡ 0) × (entry x ≡ absent)
 GoesOn x at (Err faults.Device) = ⊥
 
--- a walk's result is the next part of the cut
 abbrev pub WalksFollowTheCut : Type 0
 WalksFollowTheCut =
     (x : List ℕ) (at : ℕ) → at ≤ length x → at % 64 ≡ 0 → GoesOn x at (answer_at x at)
 
--- a function of a cut, defined cell by cell, follows a walk's results
+-- a function defined cell by cell follows a walk's results
 abbrev pub ReadingsTakeSteps : Type 0 → Type 0
 ReadingsTakeSteps A =
     (refuse : WalkFault → A) (read : ℕ → Cut → A) (each : List ℕ → Cell → A → A)
@@ -47,7 +46,7 @@ pub record CellBytes (region : Range) (image : List ℕ) (c : Cell) : Type 0 whe
       ≡ slice_range image (region.start + c.at + c.head.offset)
       (region.start + c.at + c.head.offset + c.head.len)
 
--- a cell of a region, its head and its content are parts of the image
+-- head, length and content of a cell equal the image's bytes
 abbrev pub CellsStandInTheirImage : Type 0
 CellsStandInTheirImage =
     (region : Range) (image : List ℕ) (c : Cell) → LiesIn region image → IsCellIn region.size c
@@ -60,13 +59,13 @@ FoundIsFirst =
     (x name : List ℕ) (c : Component) → component_in x name ≡ Ok (Some c)
     → IsFirstOf name (components x) c
 
--- in a region of valid shape, a search finds the first component with the name
+-- a search in a region of valid shape finds the first component with the name
 abbrev pub FirstIsFound : Type 0
 FirstIsFound =
     (x name : List ℕ) (c : Component) → shape_fault x ≡ None → IsFirstOf name (components x) c
     → component_in x name ≡ Ok (Some c)
 
--- for each component in the list, a search finds a component of equal name
+-- a search finds the name of each component in the list
 abbrev pub ListedIsFound : Type 0
 ListedIsFound =
     (x : List ℕ) (c : Component) → shape_fault x ≡ None → Contains (components x) c

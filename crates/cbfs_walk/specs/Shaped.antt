@@ -1,4 +1,4 @@
--- Functions of a region, computed cell by cell.
+-- Functions of a region, cell by cell.
 use Rattle.std.specs.Prelude.{◌≡◌, ℕ, ◌+◌, List, [], ◌∷◌, length, drop, Ok, Err}
 use Rattle.flash_format.specs.Head.{head_of}
 use Rattle.flash_format.specs.Cut.{Cut, complete, tail, damage, ends, after, cut}
@@ -10,17 +10,16 @@ use Rattle.cbfs_walk.specs.declared.walk.Step.TheVariants as steps
 use Rattle.cbfs_walk.specs.declared.walk.WalkFault.{WalkFault}
 use Rattle.cbfs_walk.specs.declared.walk.WalkFault.TheVariants as faults
 
--- the position after cells, given the position of the first
+-- the position after the cells
 abbrev pub place_after : ℕ → List (List ℕ) → ℕ
 place_after at [] = at
 place_after at (x ∷ cells) = place_after (at + length x) cells
 
--- a function of the cut from a position on, if the region has a valid size and an entry at its
--- start
+-- a function of the cut from a position on, or the fault of the region's shape
 unfoldable pub reading_of : {A : Type 0} → (WalkFault → A) → (ℕ → Cut → A) → List ℕ → ℕ → A
 reading_of refuse read x at = refused_or refuse (shape_fault_at x at) (read at (cut (drop at x)))
 
--- the function is defined cell by cell
+-- `read` is defined cell by cell
 abbrev pub ReadsCells : {A : Type 0} → (ℕ → Cut → A) → (List ℕ → Cell → A → A) → Type 0
 ReadsCells read each =
     (at : ℕ) (c : List ℕ) (k : Cut)

@@ -1,4 +1,4 @@
--- The required shape of a region for a walk.
+-- The shape of a region.
 use Rattle.std.specs.Prelude.{ℕ, Bool, true, false, not, ◌||◌, ◌&&◌, ◌%◌, List, length, Option, Some, None, ◌==◌, if◌then◌else◌}
 use Rattle.std.specs.Option.{option_map_or}
 use Rattle.flash_format.specs.Entry.{Entry, absent, entry}
@@ -12,8 +12,7 @@ abbrev pub is_absent : Entry → Bool
 is_absent absent = true
 is_absent _ = false
 
--- the reason for a missing cell at a position: an invalid size of the region, or no entry at the
--- region's start
+-- an invalid size, or no entry at the region's start
 abbrev pub shape_fault_at : List ℕ → ℕ → Option WalkFault
 shape_fault_at x at =
     if has_bad_size (length x) then Some faults.RegionShape
@@ -23,6 +22,5 @@ shape_fault_at x at =
 abbrev pub shape_fault : List ℕ → Option WalkFault
 shape_fault x = shape_fault_at x 0
 
--- the result for a fault, or the result without a fault
 abbrev pub refused_or : {A : Type 0} → (WalkFault → A) → Option WalkFault → A → A
 refused_or refuse fault otherwise = option_map_or refuse fault otherwise

@@ -1,4 +1,4 @@
--- A walk over the cells of a region, and the effect and the cost of ordered reads.
+-- Walks over the cells of a region, and ordered reads.
 use Rattle.std.specs.Prelude.{◌≡◌, ℕ, ◌+◌, ◌-◌, ◌/◌, List, Result, IfOk, length, drop, Option, Some, None, Ok, Err, ◌==◌, if◌then◌else◌, ⊤}
 use Rattle.flash_device.specs.Device.{Device, refusals}
 use Rattle.flash_device.specs.Pages.{Pages, HasRead, OnHonestIn}
@@ -16,24 +16,23 @@ use Rattle.cbfs_walk.specs.declared.walk.WalkFault.TheVariants as faults
 use Rattle.std.specs.Option.{option_map_or}
 use Rattle.flash_format.specs.declared.head.DamageKind.{DamageKind}
 
--- the maximum number of calls for n bytes in ordered reads of at most 256 bytes: one, and another
--- for each 3840 bytes
+-- device calls for n bytes in ordered reads of at most 256 bytes: one, and another per 3840 bytes
 abbrev pub reads_over : ℕ → ℕ
 reads_over n = 1 + n / 3840
 
--- the effect of ordered reads between two positions of a region, with the given number of faults
+-- ordered reads between two positions of a region, with the number of faults
 pub record Passes {F : Type 0} (facts : F → Device) (region : Range) (at end refused : ℕ)
     (old new : Pages F) : Type 0 where
   pub spends : SpendsTo facts (region.start + at) (region.start + end) refused old new
   pub scans : refused ≡ 0 → ScansTo facts (region.start + at) (region.start + end) old new
   pub read : HasRead facts (reads_over (end - at)) refused old new
 
--- the effect of a call which fails if a read fails
+-- such reads by a call that fails if a read fails
 abbrev pub HasPassed : {F T E : Type 0} → (F → Device) → Range → ℕ → ℕ → Pages F → Pages F
     → Result T E → Type 0
 HasPassed facts region at end old new result = Passes facts region at end (refusals result) old new
 
--- a call's result without a fault is a function of the region's bytes on an honest device
+-- on an honest device, success returns a function of the region's bytes
 abbrev pub ReadsAs : {F T E : Type 0} → (F → Device) → Pages F → Range → Result T E
     → (List ℕ → T) → Type 0
 ReadsAs facts old region result answer =
@@ -42,8 +41,7 @@ ReadsAs facts old region result answer =
 abbrev pub Answer : Type 0
 Answer = Result Step WalkFault
 
--- the contract state of a walk: its region, its position, its number of cells, and its last result
--- after its end
+-- `steps` counts the cells; `ended` is the last result after the end
 pub record Walking : Type 0 where
   pub region : Range
   pub at : ℕ
@@ -53,7 +51,7 @@ pub record Walking : Type 0 where
 abbrev pub walk_of : Range → Walking
 walk_of region = record { region = region; at = 0; steps = 0; ended = None }
 
--- ---- results of a walk
+-- ---- results
 
 abbrev pub answer_by : List ℕ → ℕ → Entry → Answer
 answer_by rest at absent = Ok (steps.Tail at)
@@ -61,7 +59,7 @@ answer_by rest at (damaged kind) = Err (faults.Damaged at kind)
 answer_by rest at (cell span) =
     Ok (steps.Cell (record { at = at; head = head_of rest; span = span }))
 
--- the result for a cell after the checks of its head, given the bytes from the cell's start on
+-- the result after the checks of the head, given the bytes from the cell on
 abbrev pub answer_of : List ℕ → Cell → Answer
 answer_of rest c =
     answer_by rest c.at
@@ -73,11 +71,11 @@ answer_at x at =
     refused_or (λ fault. Err fault) (shape_fault_at x at)
     (if length rest == 0 then Ok steps.End else answer_by rest at (entry rest))
 
--- the cell is a walk's result at its position
+-- a walk returns the cell at its position
 abbrev pub StandsIn : List ℕ → Cell → Type 0
 StandsIn x c = answer_at x c.at ≡ Ok (steps.Cell c)
 
--- a call's result without a fault is a function of the cell's bytes on an honest device
+-- on an honest device, success returns a function of the cell's bytes
 abbrev pub ReadsCellAs : {F T E : Type 0} → (F → Device) → Pages F → Range → Cell → Result T E
     → (List ℕ → T) → Type 0
 ReadsCellAs facts old region c result answer =
@@ -88,15 +86,15 @@ abbrev pub by_device : WalkFault → ℕ
 by_device faults.Device = 1
 by_device _ = 0
 
--- ---- the walk after a result
+-- ---- the state after a result
 
--- a cell moves the walk, a device fault doesn't, and every other result ends the walk
+-- a cell moves the walk, a device fault doesn't, any other result ends the walk
 abbrev pub walk_after : Walking → Answer → Walking
 walk_after w (Ok (steps.Cell c)) = record w { at = w.at + c.span; steps = w.steps + 1 }
 walk_after w (Err faults.Device) = w
 walk_after w answer = record w { ended = Some answer }
 
--- a resulting cell lies in a region of the given size, at the given position
+-- a resulting cell lies in the region, at the given position
 abbrev pub GivesCell : ℕ → ℕ → Answer → Type 0
 GivesCell size at (Ok (steps.Cell c)) = IsCellIn size c × (c.at ≡ at)
 GivesCell size at _ = ⊤
@@ -106,12 +104,11 @@ EndsWalk (Ok (steps.Cell c)) = ⊥
 EndsWalk (Err faults.Device) = ⊥
 EndsWalk _ = ⊤
 
--- ---- the maximum number of calls for a result
+-- ---- the maximum number of device calls
 
 abbrev pub reads_at : ℕ → ℕ → Answer → ℕ
 reads_at size at (Ok (steps.Cell c)) = reads_over c.span
 reads_at size at _ = reads_over (size - at)
 
--- a damaged entry, or a cell without damage
 abbrev pub entry_or : Option DamageKind → ℕ → Entry
 entry_or fault span = option_map_or damaged fault (cell span)

@@ -1,5 +1,4 @@
-//! Attributes of components. In a cell from another source than a walk, a malformed attribute ends
-//! the list.
+//! Attributes of components.
 ghost use Rattle.std.specs.Prelude.{◌≡◌, ℕ, ◌+◌, ◌-◌, ◌/◌, ◌≤◌, min, false, List, slice_range, IfOk, IfSome, Some, None, is_some};
 ghost use Rattle.flash_format.specs.Head.{is_free, be32};
 ghost use Rattle.flash_format.specs.Entry.{Attribute, attributes, COMPRESSION, name_end};
@@ -36,7 +35,7 @@ impl Model for AttrWalk {
     ghost invariant = { λ w. w.at ≤ w.cell.head.offset };
 }
 
-/// Returns a walk over the attributes of a component's cell.
+/// Returns a walk over a component's attributes.
 pub fn attributes(cell: &Cell) -> AttrWalk
     ensures start { result ≡ attr_walk_of cell.now }
     ensures all { (x : List ℕ) → StandsIn x cell.now → is_free cell.now.head ≡ false
@@ -49,8 +48,7 @@ pub fn attributes(cell: &Cell) -> AttrWalk
 }
 
 impl AttrWalk {
-    /// Returns the head of the next attribute, or `None` at the end of the list. A fault doesn't
-    /// move the walk.
+    /// Returns the next attribute's head, or `None` at the end. A fault doesn't move the walk.
     pub fn next<F: Flash>(
         &mut self,
         paged: &mut Paged<F>,
@@ -68,7 +66,6 @@ impl AttrWalk {
         ensures ended { self.old.at ≡ self.old.cell.head.offset → result ≡ Ok None }
         ensures no_call { self.old.at ≡ self.old.cell.head.offset → paged.new ≡ paged.old }
 
-        // On an honest device, among well-formed attributes.
         ensures head { OnHonestIn F.facts paged.old.device region (λ x. (all : List Attribute)
             → attributes_left x self.old ≡ Some all
             → IfOk result (λ found. found ≡ first_head all)) }
@@ -92,8 +89,7 @@ impl AttrWalk {
     }
 }
 
-/// Returns the value of a component's first compression attribute, or 0 without a compression
-/// attribute.
+/// Returns the value of a component's first compression attribute, or 0 without one.
 pub fn packing<F: Flash>(
     paged: &mut Paged<F>,
     region: Region,
@@ -105,7 +101,6 @@ pub fn packing<F: Flash>(
     ensures after { HasAnswered F.facts (reads_over cell.now.head.offset) paged.old
         paged.new result }
 
-    // On an honest device: in any cell, and in a cell of the region.
     ensures value { ReadsAs F.facts paged.old region result
         (λ x. value_in x (first_of x cell.now COMPRESSION)) }
     ensures packing { ReadsCellAs F.facts paged.old region cell.now result
@@ -119,8 +114,8 @@ pub fn packing<F: Flash>(
     }
 }
 
-/// Returns the position in the region and the head of a component's first attribute with the given
-/// tag, or `None` if the list ends or is malformed first.
+/// Returns the position and head of a component's first attribute with the tag, or `None` if the
+/// list ends or is malformed first.
 pub fn first_attribute<F: Flash>(
     paged: &mut Paged<F>,
     region: Region,
@@ -152,7 +147,7 @@ pub fn first_attribute<F: Flash>(
     }
 }
 
-/// Returns true if every attribute between two positions is well formed.
+/// Returns whether all attributes in a range are well formed.
 pub fn are_well_formed<F: Flash>(
     paged: &mut Paged<F>,
     region: Region,

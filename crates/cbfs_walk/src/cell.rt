@@ -5,7 +5,7 @@ ghost use Rattle.cbfs_walk.specs.Cells.{PassesChecks};
 use flash_device::Region;
 use flash_format::Head;
 
-/// A cell: its position in the region, its head, and its length in bytes.
+/// A cell, with its position in the region and its length in bytes.
 #[derive(Clone, Copy, Debug, PartialEq, Eq)]
 pub struct Cell {
     pub at: u64,
@@ -13,8 +13,7 @@ pub struct Cell {
     pub span: u64,
 }
 
-/// Proves to its caller that a checked cell's content ends in the cell and in the region. No effect
-/// at run time.
+/// Proves that a checked cell's content ends in the cell and the region. No effect at run time.
 pub fn content_fits(cell: &Cell, region: Region)
     requires { PassesChecks region.size cell.now }
     ensures in_cell { cell.now.head.offset + cell.now.head.len ≤ cell.now.span }

@@ -1,4 +1,4 @@
-//! Digests of component contents.
+//! Digests of contents.
 ghost use Rattle.std.specs.Prelude.{◌≡◌, ◌+◌, ◌≤◌, slice_range, IfOk};
 ghost use Rattle.flash_format.specs.declared.digest.Digest.TheVariants as digests;
 ghost use Rattle.flash_format.specs.Components.{cell_attributes, cell_content};
@@ -15,22 +15,20 @@ use flash_device::{Flash, FlashFault, Paged, Region};
 use flash_format::{Algorithm, AttrHead, Digest};
 use sha2::{Sha256, Sha512};
 
-/// The comparison of the stored content with the digest in a component's first hash attribute.
+/// The result of a digest check.
 #[derive(Clone, Copy, Debug, PartialEq, Eq)]
 pub enum HashState {
-    /// The component has no hash attribute.
+    /// No hash attribute.
     Absent,
-    /// The digest equals the content's digest.
+    /// Equal digests.
     Valid(Digest),
-    /// The digest differs from the content's digest.
+    /// Different digests.
     Invalid(Digest),
-    /// The algorithm is neither SHA-256 nor SHA-512, or the attribute is too short for the
-    /// algorithm's digest.
+    /// Neither SHA-256 nor SHA-512, or a truncated digest.
     Unsupported,
 }
 
-/// The number of content bytes in a read. Ordered reads of up to 256 bytes need one device call for
-/// each window, not for each read.
+/// Bytes per read. Ordered reads of up to 256 bytes cost one device call per window.
 const HASHED_AT_ONCE: u64 = 256;
 
 /// Compares a component's stored content with the digest in its first hash attribute.
@@ -46,7 +44,6 @@ pub fn check_hash<F: Flash>(
     ensures unread { IfOk result (λ state. IsUncompared state
         → HasRead F.facts (reads_over cell.now.head.offset) 0 paged.old paged.new) }
 
-    // On an honest device: in any cell, and in a cell of the region.
     ensures value { ReadsAs F.facts paged.old region result (λ x. hash_state_in x cell.now) }
     ensures state { ReadsCellAs F.facts paged.old region cell.now result
         (λ x. hash_state (cell_attributes x) (cell_content x)) }
@@ -65,8 +62,7 @@ pub fn check_hash<F: Flash>(
     }
 }
 
-/// Reads the digest in n data bytes of a hash attribute. Returns `None` for an unknown algorithm or
-/// a truncated digest.
+/// Returns the digest in a hash attribute, or `None` if unsupported or truncated.
 fn stored_digest<F: Flash>(
     paged: &mut Paged<F>,
     region: Region,

@@ -1,6 +1,6 @@
-//! Walks over the cells of a CBFS region on a device, and the search for components.
+//! Walks over the cells of a CBFS region, and the search for components.
 //!
-//! No function allocates memory. No device, even with false results, makes a walk leave its region.
+//! No function allocates memory. Even a device with false results keeps a walk in its region.
 #![tactic(auto)]
 
 mod attribute_walk;

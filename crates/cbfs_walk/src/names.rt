@@ -16,8 +16,8 @@ use flash_format::Head;
 
 const LONGEST: usize = 255;
 
-/// Writes a component's name without its NUL to the front of `out`, and returns its length in
-/// bytes. The rest of `out`, and all of `out` after a fault, is unspecified.
+/// Writes a component's name without its NUL to the front of `out`, and returns its length. Other
+/// bytes of `out`, and all bytes after a fault, are unspecified.
 pub fn name<F: Flash>(
     paged: &mut Paged<F>,
     region: Region,
@@ -30,7 +30,6 @@ pub fn name<F: Flash>(
     ensures after { HasAnswered F.facts 1 paged.old paged.new result }
     ensures short { IfOk result (λ n. n ≤ 255) }
 
-    // On an honest device.
     ensures name { OnHonestIn F.facts paged.old.device region (λ x. StandsIn x cell.now
         → IfOk result (λ n. take n out.new ≡ cell_name (cell_in x cell.now))) }
     ensures len { ReadsCellAs F.facts paged.old region cell.now result (λ x. length (cell_name x)) }
@@ -43,7 +42,7 @@ pub fn name<F: Flash>(
     Ok(text_len(bytes))
 }
 
-/// Returns true if a component has the given name.
+/// Returns whether a component has the name.
 pub fn name_is<F: Flash>(
     paged: &mut Paged<F>,
     region: Region,
@@ -55,7 +54,6 @@ pub fn name_is<F: Flash>(
 
     ensures after { HasAnswered F.facts 1 paged.old paged.new result }
 
-    // On an honest device.
     ensures named { ReadsCellAs F.facts paged.old region cell.now result
         (λ x. bytes_eq (cell_name x) name.now) }
 {
@@ -64,12 +62,12 @@ pub fn name_is<F: Flash>(
     if name.len() > LONGEST || name.len() >= name_room(&cell.head) {
         return Ok(false);
     }
-    // The bytes of the name, and its NUL.
+    // The name and its NUL.
     let bytes = piece_in(paged, region, cell.at + 24, name.len() + 1)?;
     Ok(shows_text(bytes, name))
 }
 
-/// Returns true if the first 256 bytes of the name field include a NUL.
+/// Returns whether the first 256 bytes of the name field include a NUL.
 pub fn has_name_end<F: Flash>(
     paged: &mut Paged<F>,
     region: Region,
@@ -120,7 +118,6 @@ fn shows_text(bytes: &[u8], text: &[u8]) -> bool
     &bytes[..text_len(bytes)] == text
 }
 
-/// Returns the number of bytes before the first NUL, or of all bytes.
 fn text_len(bytes: &[u8]) -> usize
     ensures { result ≡ length (before_first is_nul bytes.now) }
 {

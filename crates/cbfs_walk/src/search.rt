@@ -1,4 +1,4 @@
-//! The search for a component by name.
+//! The search by name.
 ghost use Rattle.std.specs.Prelude.{◌≡◌, ◌⊎◌, ◌<◌, ◌&&◌, not, false, IsTrue, IfOk, IfSome, IsErrOf, Ok, Some};
 ghost use Rattle.std.specs.Str.{bytes_eq};
 ghost use Rattle.flash_format.specs.Head.{is_free};
@@ -15,8 +15,8 @@ use crate::names::name_is;
 use crate::walk::{Step, Walk, WalkFault};
 use flash_device::{Flash, FlashFault, Paged, Region};
 
-/// Returns the first component with the given name. Without a component, returns the damage at the
-/// end of the cells, or `None`. The search doesn't read cells after the component.
+/// Returns the first component with the name. Otherwise returns the damage at the end of the cells,
+/// or `None`. Later cells are not read.
 pub fn find<F: Flash>(
     paged: &mut Paged<F>,
     region: Region,
@@ -29,7 +29,6 @@ pub fn find<F: Flash>(
     ensures cell { IfOk result (λ found. IfSome found (IsCellIn region.size)) }
     ensures component { IfOk result (λ found. IfSome found (λ cell. is_free cell.head ≡ false)) }
 
-    // On an honest device.
     ensures answer { OnHonestIn F.facts paged.old.device region (λ x.
         IsErrOf result WalkFault.Device ⊎ (result ≡ found_cell (component_in x name.now))) }
     ensures stands { OnHonestIn F.facts paged.old.device region (λ x.
@@ -51,8 +50,7 @@ pub fn find<F: Flash>(
     }
 }
 
-/// Returns true if a cell is a component with the given name, for callers with their own walk. Free
-/// space has no name, and is not read.
+/// Returns whether a cell is a component with the name. Free space is not read.
 pub fn is_component<F: Flash>(
     paged: &mut Paged<F>,
     region: Region,
@@ -66,7 +64,6 @@ pub fn is_component<F: Flash>(
     ensures component { IfOk result (λ is. IsTrue is → is_free cell.now.head ≡ false) }
     ensures no_call { IsTrue (is_free cell.now.head) → paged.new ≡ paged.old }
 
-    // On an honest device.
     ensures named { ReadsCellAs F.facts paged.old region cell.now result
         (λ x. not (is_free cell.now.head) && bytes_eq (cell_name x) name.now) }
 {

@@ -1,4 +1,4 @@
-//! A walk over cells, and the checks of entries.
+//! The walk over cells.
 ghost use Rattle.std.specs.Prelude.{◌≡◌, ◌⊎◌, ℕ, ◌+◌, ◌-◌, ◌*◌, ◌/◌, ◌%◌, ◌<◌, ◌≤◌, None, IsSome, IfOk, IfSome, IsErrOf, drop};
 ghost use Rattle.flash_format.specs.Entry.{front, component, name_end};
 ghost use Rattle.flash_format.specs.Head.{head_of};
@@ -17,29 +17,28 @@ use flash_device::{Flash, FlashFault, Paged, Region};
 use flash_format::{DamageKind, Head};
 use std::marker::Model;
 
-/// The next part of a region. Positions are in bytes from the region's start.
+/// The next part of a region. Positions are relative to the region's start.
 #[derive(Clone, Copy, Debug, PartialEq, Eq)]
 pub enum Step {
-    /// A cell: a component or free space. The walk continues after the cell.
+    /// A component or free space. The walk continues.
     Cell(Cell),
-    /// The end of the walk: the position, after the region's start, has no entry. The rest of the
-    /// region is preserved and never used.
+    /// The end: no entry at a position after the region's start. The remaining bytes are preserved
+    /// and unused.
     Tail(u64),
-    /// The end of the walk: the cells fill the region.
+    /// The end: the cells fill the region.
     End,
 }
 
-/// The reason for a missing cell, with cbfstool's number of the refusal.
+/// The reason for a missing cell, with the printed number.
 #[derive(Clone, Copy, Debug, PartialEq, Eq)]
 pub enum WalkFault {
-    /// A read of the device failed (1). The walk doesn't end: the next call tries the same position
-    /// again.
+    /// Device I/O error (1). The next call repeats the position.
     Device,
-    /// The region's size is 0 or not a multiple of 64 (7). Found without a read.
+    /// Region size 0, or not a multiple of 64 (7), found without a read.
     RegionShape,
-    /// The region's start has no entry (8).
+    /// No entry at the region's start (8).
     NotCbfs,
-    /// The entry at a position in the region fails a check (9). `kind` is the first failed check.
+    /// Damaged entry, by its first failed check (9).
     Damaged { at: u64, kind: DamageKind },
 }
 
@@ -76,8 +75,8 @@ impl Model for Walk {
 }
 
 impl Walk {
-    /// Starts a walk at the region's start, without a read. Each call of `next` borrows the device,
-    /// so a caller can read between calls.
+    /// Starts a walk without a read. `next` borrows the device per call, so a caller can read
+    /// between calls.
     pub fn new(region: Region) -> Walk
         ensures { result ≡ walk_of region }
     {
@@ -97,10 +96,9 @@ impl Walk {
         self.steps
     }
 
-    /// Returns the next cell, or the end of the cells. After a device fault, the next call tries
-    /// the same entry again; after any other end, each call returns the same result. A call makes
-    /// at most one device call, and another for each 3840 bytes of the cell, or of the remaining
-    /// region without a cell.
+    /// Returns the next cell, or the end. After a device fault, the next call repeats the entry;
+    /// after any other end, each call returns the same result. A call makes one device call, and
+    /// another for each 3840 bytes of the cell, or of the remaining region without a cell.
     pub fn next<F: Flash>(&mut self, paged: &mut Paged<F>) -> Result<Step, WalkFault>
         requires { LiesIn self.old.region (F.facts paged.old.device).content }
 
@@ -111,7 +109,6 @@ impl Walk {
         ensures ended { IfSome self.old.ended (λ answer. result ≡ answer) }
         ensures no_call { IsSome self.old.ended → paged.new ≡ paged.old }
 
-        // On an honest device.
         ensures answer { OnHonestIn F.facts paged.old.device self.old.region
             (λ x. self.old.ended ≡ None
             → IsErrOf result WalkFault.Device ⊎ (result ≡ answer_at x self.old.at)) }
@@ -213,7 +210,7 @@ fn front_at<F: Flash>(
     Ok(Head::read(&bytes))
 }
 
-/// Returns the first failed check of a component after the checks of its head.
+/// Returns the first failed check after the checks of the head.
 fn damage_in<F: Flash>(
     paged: &mut Paged<F>,
     region: Region,

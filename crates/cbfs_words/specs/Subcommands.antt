@@ -1,4 +1,4 @@
--- The subcommands of cbfstool and their options, as definitions of clap.
+-- The subcommands of cbfstool and their options.
 use Rattle.std.specs.Prelude.{ℕ, Bool, true, false, List, [], ◌∷◌, Some}
 use lib.Chars.{codes}
 use Rattle.clap.specs.Words.{App, Rule, Shape, new_rule}
@@ -6,12 +6,12 @@ use Rattle.clap.specs.Simple.{new_shape}
 use Rattle.clap.specs.declared.builder.action.ArgAction.{ArgAction}
 use Rattle.clap.specs.declared.builder.action.ArgAction.TheVariants.{Set, SetTrue}
 
--- a single-letter option
+-- a single letter
 abbrev pub rule_of : List ℕ → ℕ → ArgAction → Bool → Rule
 rule_of id letter action required =
     record (new_rule id) { short = Some letter; action = Some action; required = required }
 
--- an option with a value
+-- with a value
 abbrev pub option_of : List ℕ → ℕ → Bool → Rule
 option_of id letter required = rule_of id letter Set required
 
@@ -24,11 +24,10 @@ file_option = option_of (codes "file") 102 true
 abbrev pub name_option : Rule
 name_option = option_of (codes "name") 110 true
 
--- a subcommand with the given options
 abbrev pub subcommand_of : List ℕ → List Rule → Shape
 subcommand_of name options = record (new_shape name) { rules = options }
 
--- `-v` takes no value, and `-M` of create names a file too
+-- `-v` takes no value; `-M` of create names a file
 abbrev pub subcommands : List Shape
 subcommands =
     subcommand_of (codes "print") (region_option ∷ rule_of (codes "verbose") 118 SetTrue false ∷ [])

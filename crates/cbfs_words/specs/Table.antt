@@ -1,4 +1,4 @@
--- The clap command for a table of options and subcommands.
+-- Tables of options and subcommands as clap commands.
 use Rattle.std.specs.Prelude.{◌≡◌, ℕ, List, [], ◌∷◌, false}
 use Rattle.std.specs.Borrow.{Bor}
 use Rattle.clap.specs.Words.{App, Rule, app_of, new_app, with_rule, with_subcommand}
@@ -7,7 +7,7 @@ use Rattle.clap.specs.declared.builder.command.Command.TheViews.{out-Command as 
 use Rattle.cbfs_words.specs.Subcommands.{rule_of}
 use Rattle.cbfs_words.specs.declared.words.TableOption.{TableOption}
 
--- the command matches the definition, and has no global option
+-- as defined, without a global option
 pub record IsLocal (command : Command) (app : App) : Type 0 where
   pub local : (fields_of command).has_globals ≡ false
   pub shape : app_of command ≡ app
@@ -19,7 +19,7 @@ abbrev pub with_options : App → List TableOption → App
 with_options a [] = a
 with_options a (o ∷ os) = with_options (with_rule a (rule_by o)) os
 
--- the name of a subcommand, and its options
+-- a subcommand's name and options
 abbrev pub TableRow : Type 0
 TableRow = Bor (List ℕ) × Bor (List TableOption)
 

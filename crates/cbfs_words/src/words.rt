@@ -1,4 +1,4 @@
-//! The clap command: one level of subcommands with options.
+//! The clap command: subcommands with options.
 
 ghost use Rattle.std.specs.Prelude.{◌≡◌, IfOk, true, false};
 ghost use Rattle.clap.specs.Words.{app_of, with_rule};
@@ -32,7 +32,7 @@ const FILE: TableOption = TableOption {
     required: true,
 };
 
-/// The flashmap of a new image.
+/// The flash map of a new image.
 const MAP: TableOption = TableOption {
     id: "file",
     letter: 'M',
@@ -82,7 +82,7 @@ const VERBOSE: TableOption = TableOption {
     required: false,
 };
 
-/// The name of a subcommand, and its options.
+/// A subcommand's name and options.
 type TableRow = (&'static str, &'static [TableOption]);
 
 const SUBCOMMANDS: [TableRow; 8] = [
@@ -96,7 +96,6 @@ const SUBCOMMANDS: [TableRow; 8] = [
     ("create", &[MAP, REGION]),
 ];
 
-/// Adds an option to a command.
 fn with_option<'a>(
     alloc: Global,
     command: Command<'a>,
@@ -109,7 +108,6 @@ fn with_option<'a>(
     command.arg(arg.action(option.action).required(option.required))
 }
 
-/// Adds the options to a command.
 fn with_options<'a>(
     alloc: Global,
     mut command: Command<'a>,
@@ -125,7 +123,6 @@ fn with_options<'a>(
     Ok(command)
 }
 
-/// Adds the subcommand of a row to a command.
 fn with_row<'a>(
     alloc: Global,
     command: Command<'a>,
@@ -138,7 +135,6 @@ fn with_row<'a>(
     command.subcommand(subcommand)
 }
 
-/// Adds the subcommands of all rows to a command.
 fn with_rows<'a>(
     alloc: Global,
     mut command: Command<'a>,
@@ -154,7 +150,7 @@ fn with_rows<'a>(
     Ok(command)
 }
 
-/// Returns the command for the arguments after IMAGE: a required subcommand, and its options.
+/// Returns the command: a required subcommand with its options.
 pub fn whole_command<'a>(alloc: Global) -> Result<Command<'a>, AllocError>
     ensures needs { IfOk result (λ c. (fields_of c).subcommand_required ≡ true) }
     ensures shape { IfOk result (λ c. IsLocal c command_line) }

@@ -1,4 +1,4 @@
-//! Checks the flash map and the file systems of an image, and lists the changes of a new image.
+//! Checks the flash map and file systems of an image, and lists the changes of a new image.
 #![tactic(auto)]
 
 ghost use Rattle.std.specs.Prelude.{◌≡◌, if◌then◌else◌, option_map, unwrap_or};
@@ -7,7 +7,7 @@ mod texts;
 
 pub use check_line::{Asked, CheckLine, LineFault, read_check};
 pub use check_report::{Inspection, ReportFault, Request, inspect_change, inspect_image};
-use check_report::{Files, Form, WriteFault, Written};
+use check_report::{Files, Form, Images, WriteFault, Written};
 use flash_store::{FileFlash, OpenFault, Output, Paged, WriteSink};
 use std::alloc::AllocError;
 use std::env;
@@ -17,7 +17,6 @@ use std::process::ExitCode;
 use texts::{HELP, USAGE, VERSION};
 use thiserror::Error;
 
-/// Why an image can't be read.
 #[derive(Clone, Copy, Debug, PartialEq, Eq, Error)]
 enum ImageFault {
     #[error("No such file or directory")]
@@ -43,7 +42,7 @@ impl From<ErrorKind> for ImageFault {
     }
 }
 
-/// Why the program ends with status 2; the text is its error message.
+/// The reason for exit status 2; its text is the error message.
 #[derive(Clone, Copy, Debug, PartialEq, Eq, Error)]
 enum Refusal<'a> {
     #[error("{0} (see cbfscheck --help)")]
@@ -87,7 +86,6 @@ impl<'a> From<WriteFault> for Refusal<'a> {
 }
 
 impl<'a> Refusal<'a> {
-    /// Returns the refusal of an image that can't be opened.
     fn of_opening(path: &'a str, fault: OpenFault) -> Refusal<'a> {
         let fault = match fault {
             OpenFault::Memory => return Refusal::Memory,
@@ -97,7 +95,6 @@ impl<'a> Refusal<'a> {
         Refusal::Image { path, fault }
     }
 
-    /// Returns the refusal of an inspection of the images at these paths.
     fn of_report(old: &'a str, new: &'a str, fault: ReportFault) -> Refusal<'a> {
         let path = match fault {
             ReportFault::Memory => return Refusal::Memory,
@@ -111,7 +108,6 @@ impl<'a> Refusal<'a> {
     }
 }
 
-/// Opens an image for reading.
 fn open<'a>(rt: &HostRuntime, path: &'a str) -> Result<Paged<FileFlash>, Refusal<'a>> {
     let image = FileFlash::open_to_read(rt, path).map_err(|fault| Refusal::of_opening(
         path, fault,
@@ -119,7 +115,6 @@ fn open<'a>(rt: &HostRuntime, path: &'a str) -> Result<Paged<FileFlash>, Refusal
     Ok(Paged::new(image))
 }
 
-/// Returns the report that a line requests.
 fn request_of<'l>(line: &'l CheckLine<'_>) -> Request<'l>
     ensures areas { result.areas.now ≡ line.now.areas.items }
     ensures needs { result.needs.now ≡ line.now.needs.items }
@@ -150,7 +145,7 @@ fn request_of<'l>(line: &'l CheckLine<'_>) -> Request<'l>
     }
 }
 
-/// Inspects the images of a line, which are closed on return.
+/// Inspects the images, and closes them.
 fn inspect<'a>(
     rt: &HostRuntime,
     line: &CheckLine<'a>,
@@ -165,25 +160,28 @@ fn inspect<'a>(
             Err(fault) => Err(Refusal::of_report(old, old, fault)),
         };
     };
-    let (mut before, mut after) = (open(rt, old)?, open(rt, new)?);
-    match inspect_change(alloc, keys, &mut before, &mut after, request) {
+    let mut images = Images {
+        old_image: open(rt, old)?,
+        new_image: open(rt, new)?,
+    };
+    match inspect_change(alloc, keys, &mut images, request) {
         Ok(inspection) => Ok(inspection),
         Err(fault) => Err(Refusal::of_report(old, new, fault)),
     }
 }
 
-/// Prints the report of a line, and returns whether a finding is bad. Nothing is printed before the
-/// images are closed, since a reader of the report may wait for their locks.
+/// Prints the report, and returns whether a finding is bad. It prints after closing the images,
+/// since a reader of the report may wait for their locks.
 fn check<'a>(rt: &HostRuntime, line: &CheckLine<'a>) -> Result<bool, Refusal<'a>> {
     let request = request_of(line);
     let inspection = inspect(rt, line, request)?;
     let out = WriteSink::new(Output::new(rt.alloc(), io::writer(rt)));
-    let Written { out, is_bad } = inspection.write(rt.alloc(), request, out)?;
+    let Written { out, is_bad } = inspection.write(rt.alloc(), request, out);
+    let is_bad = is_bad?;
     out.into_inner().finish().map_err(|_| Refusal::Output)?;
     Ok(is_bad)
 }
 
-/// Prints a text of the program.
 fn print<'a>(rt: &HostRuntime, text: &str) -> Result<bool, Refusal<'a>> {
     io::writer(rt)
         .write_all(text.as_bytes())
@@ -200,7 +198,7 @@ fn read_words<'a>(rt: &HostRuntime) -> Result<Vec<String>, Refusal<'a>> {
     }
 }
 
-/// Performs the request of the arguments, and returns whether a finding is bad.
+/// Performs the request, and returns whether a finding is bad.
 fn obey<'a>(rt: &HostRuntime, words: &'a [&'a str]) -> Result<bool, Refusal<'a>> {
     match read_check(rt.alloc(), words)? {
         Asked::Help => print(rt, HELP),
@@ -215,8 +213,7 @@ fn refuse(rt: &HostRuntime, refusal: Refusal<'_>) -> ExitCode {
     ExitCode::from(2)
 }
 
-/// Performs the request of the arguments, and returns the exit status. Without arguments prints the
-/// usage.
+/// Performs the request, or prints the usage without arguments. Returns the exit status.
 fn answer_to(rt: &HostRuntime, words: &[String]) -> ExitCode {
     if words.is_empty() {
         let _told = eprint!(rt; "{USAGE}");

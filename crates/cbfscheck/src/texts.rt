@@ -7,7 +7,6 @@ usage: cbfscheck [OPTIONS] IMAGE
        cbfscheck --help | --version
 ";
 
-/// The name and the version.
 pub const VERSION: &str = "cbfscheck 2.0\n";
 
 /// The text of `--help`.

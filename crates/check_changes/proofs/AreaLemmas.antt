@@ -1,4 +1,3 @@
 pub mod BlockLemmas
 pub mod Changing
-pub mod ImageLemmas
 pub mod Reported

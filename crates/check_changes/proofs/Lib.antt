@@ -1,3 +1,4 @@
+pub mod ImageLemmas
 pub mod AreaLemmas
 pub mod ComponentLemmas
 pub mod RegionLemmas

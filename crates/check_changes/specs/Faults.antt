@@ -1,21 +1,19 @@
--- The faults of a comparison.
+-- Errors of a comparison.
 use Rattle.std.specs.Prelude.{ℕ}
 use Rattle.check_findings.specs.declared.fault.CheckFault.{CheckFault}
 use Rattle.check_findings.specs.declared.fault.CheckFault.TheVariants as check
 use Rattle.check_changes.specs.declared.fault.ChangeFault.{ChangeFault}
 use Rattle.check_changes.specs.declared.fault.ChangeFault.TheVariants as faults
 
--- the number of refused calls of the old image's device that a fault reports
+-- the number of refused calls of the old device in a fault
 abbrev pub by_old : ChangeFault → ℕ
 by_old faults.OldDevice = 1
-by_old faults.NewDevice = 0
-by_old faults.Memory = 0
+by_old _ = 0
 
--- of the new image's device
+-- of the new device
 abbrev pub by_new : ChangeFault → ℕ
-by_new faults.OldDevice = 0
 by_new faults.NewDevice = 1
-by_new faults.Memory = 0
+by_new _ = 0
 
 -- the fault of a check of the old image
 abbrev pub of_old : CheckFault → ChangeFault

@@ -1,39 +1,60 @@
--- Two images on two devices, before and after a comparison.
-use Rattle.std.specs.Prelude.{ℕ, List, Result, IsTrue}
+-- Two images on two devices.
+use Rattle.std.specs.Prelude.{ℕ, ◌+◌, ◌≤◌, ◌&&◌, List, Result, IsTrue, Option, Some, None, length, nat_le, if◌then◌else◌}
 use Rattle.flash_device.specs.Device.{Device, faults_told}
-use Rattle.flash_device.specs.Pages.{Pages, HasRead}
-use Rattle.flash_device.specs.Regions.{Range, LiesIn, bytes_in}
+use Rattle.flash_device.specs.Pages.{HasRead}
+use Rattle.flash_device.specs.Regions.{bytes_in}
+use Rattle.check_findings.specs.declared.map.finding.NumberedArea.{NumberedArea}
+use Rattle.check_findings.specs.Map.MapFindings.{area_end}
+use Rattle.check_findings.specs.Image.ImageFindings.{range_of}
 use Rattle.check_changes.specs.declared.fault.ChangeFault.{ChangeFault}
+use Rattle.check_changes.specs.declared.images.Images.{Images}
+use Rattle.check_changes.specs.declared.images.Lengths.{Lengths}
+use Rattle.check_changes.specs.declared.images.RegionPair.{RegionPair}
 use Rattle.check_changes.specs.Faults.{by_old, by_new}
 
--- P of the bytes of both images, if both devices are honest
-abbrev pub OnBoth : {F G : Type 0} → (F → Device) → F → (G → Device) → G
+abbrev pub lengths_of : List ℕ → List ℕ → Lengths
+lengths_of x y = record { old = length x; new = length y }
+
+abbrev pub lengths : {F G : Type 0} → (F → Device) → (G → Device) → Images F G → Lengths
+lengths f g images =
+    lengths_of (f images.old_image.device).content (g images.new_image.device).content
+
+pub record LieWithin (lens : Lengths) (regions : RegionPair) : Type 0 where
+  pub in_old : regions.old.start + regions.old.size ≤ lens.old
+  pub in_new : regions.new.start + regions.new.size ≤ lens.new
+
+-- two areas as regions, if both lie in their images
+abbrev pub regions_within : Lengths → NumberedArea → NumberedArea → Option RegionPair
+regions_within lens old new =
+    if nat_le (area_end old.area) lens.old && nat_le (area_end new.area) lens.new
+    then Some (record { old = range_of old; new = range_of new }) else None
+
+-- P of both images, if both devices are honest
+abbrev pub OnBoth : {F G : Type 0} → (F → Device) → (G → Device) → Images F G
     → (List ℕ → List ℕ → Type 0) → Type 0
-OnBoth facts old new_facts new P =
-    IsTrue (facts old).honest → IsTrue (new_facts new).honest
-    → P (facts old).content (new_facts new).content
+OnBoth f g images P =
+    IsTrue (f images.old_image.device).honest → IsTrue (g images.new_image.device).honest
+    → P (f images.old_image.device).content (g images.new_image.device).content
 
--- P of the bytes of a region of each image
-abbrev pub OnBothIn : {F G : Type 0} → (F → Device) → F → Range → (G → Device) → G → Range
+-- P of a region of each image
+abbrev pub OnBothIn : {F G : Type 0} → (F → Device) → (G → Device) → Images F G → RegionPair
     → (List ℕ → List ℕ → Type 0) → Type 0
-OnBothIn facts old old_region new_facts new new_region P =
-    OnBoth facts old new_facts new (λ x y. P (bytes_in old_region x) (bytes_in new_region y))
+OnBothIn f g images regions P =
+    OnBoth f g images (λ x y. P (bytes_in regions.old x) (bytes_in regions.new y))
 
--- each of two regions lies in its image
-pub record BothLieIn {F G : Type 0} (facts : F → Device) (old : F) (old_region : Range)
-    (new_facts : G → Device) (new : G) (new_region : Range) : Type 0 where
-  pub in_old : LiesIn old_region (facts old).content
-  pub in_new : LiesIn new_region (new_facts new).content
+-- the images after at most m and n reads, a and b of them refused
+pub record HasReadBoth {F G : Type 0} (f : F → Device) (g : G → Device) (m n a b : ℕ)
+    (before after : Images F G) : Type 0 where
+  pub of_old : HasRead f m a before.old_image after.old_image
+  pub of_new : HasRead g n b before.new_image after.new_image
 
--- both devices after at most n reads of each, with this number of refused reads
-pub record HasReadBoth {F G : Type 0} (facts : F → Device) (new_facts : G → Device) (n a b : ℕ)
-    (old old_left : Pages F) (new new_left : Pages G) : Type 0 where
-  pub of_old : HasRead facts n a old old_left
-  pub of_new : HasRead new_facts n b new new_left
+-- the same; the result names the device that refused a read
+abbrev pub HasReadFor : {F G T : Type 0} → (F → Device) → (G → Device) → ℕ → ℕ
+    → Images F G → Images F G → Result T ChangeFault → Type 0
+HasReadFor f g m n before after result =
+    HasReadBoth f g m n (faults_told by_old result) (faults_told by_new result) before after
 
--- the same, if the result names the device that refused a read
+-- the same with a common bound
 abbrev pub HasCompared : {F G T : Type 0} → (F → Device) → (G → Device) → ℕ
-    → Pages F → Pages F → Pages G → Pages G → Result T ChangeFault → Type 0
-HasCompared facts new_facts n old old_left new new_left result =
-    HasReadBoth facts new_facts n (faults_told by_old result) (faults_told by_new result)
-    old old_left new new_left
+    → Images F G → Images F G → Result T ChangeFault → Type 0
+HasCompared f g n before after result = HasReadFor f g n n before after result

@@ -1,3 +1,4 @@
+pub mod Lists
 pub mod Faults
 pub mod Images
 pub mod Areas

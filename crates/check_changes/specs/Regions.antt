@@ -1,2 +1,1 @@
 pub mod RegionChanges
-pub mod Sizes

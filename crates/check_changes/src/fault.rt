@@ -1,18 +1,17 @@
-//! The faults of a comparison.
+//! Errors of a comparison.
 ghost use Rattle.std.specs.Prelude.{◌≡◌};
 ghost use Rattle.check_changes.specs.declared.fault.ChangeFault.TheVariants as faults;
 
 use check_findings::CheckFault;
 use std::alloc::AllocError;
 
-/// The fault of a comparison, which then returns no changes.
+/// The error of a comparison, which then has no changes.
 #[derive(Clone, Copy, Debug, PartialEq, Eq)]
 pub enum ChangeFault {
-    /// The device with the old image refused a read.
+    /// The old image's device refused a read.
     OldDevice,
-    /// The device with the new image refused a read.
+    /// The new image's device refused a read.
     NewDevice,
-    /// An allocation failed.
     Memory,
 }
 

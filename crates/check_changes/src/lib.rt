@@ -1,15 +1,17 @@
-//! Compares two flash images: flash maps, areas, blocks, and the components of CBFS regions.
+//! Compares two flash images: flash maps, areas, blocks, and components of CBFS regions.
 #![tactic(auto)]
 
 mod areas;
 mod components;
 mod fault;
+mod images;
 mod laws;
 mod lists;
 mod regions;
 
-pub use areas::{AreaChange, ImageChanges, MapChange, image_changes, map_changes};
+pub use areas::{AreaChange, Areas, ImageChanges, MapChange, image_changes, map_changes};
 pub use components::{ComponentChange, Difference, component_changes};
 pub use fault::ChangeFault;
+pub use images::{Images, RegionPair};
 pub use laws::differences_are_reported;
 pub use regions::{ComponentChanges, RegionChange, region_changes};

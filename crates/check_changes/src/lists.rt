@@ -1,10 +1,9 @@
-//! Lists that grow by one element.
+//! Growing lists.
 ghost use Rattle.std.specs.Prelude.{◌≡◌, [], ◌∷◌, ◌++◌, OnOk};
-ghost use Rattle.check_changes.specs.Areas.AreaChanges.{told_if};
+ghost use Rattle.check_changes.specs.Lists.{only_if};
 
 use std::alloc::AllocError;
 
-/// Pushes an element.
 pub fn push<T: Drop>(list: &mut Vec<T>, element: T) -> Result<(), AllocError>
     ensures { OnOk result (list.new.items ≡ list.old.items ++ element ∷ []) }
 {
@@ -12,9 +11,8 @@ pub fn push<T: Drop>(list: &mut Vec<T>, element: T) -> Result<(), AllocError>
     Ok(())
 }
 
-/// Pushes an element if the condition holds.
 pub fn push_if<T: Drop>(list: &mut Vec<T>, condition: bool, element: T) -> Result<(), AllocError>
-    ensures { OnOk result (list.new.items ≡ list.old.items ++ told_if condition element) }
+    ensures { OnOk result (list.new.items ≡ list.old.items ++ only_if condition element) }
 {
     if condition {
         list.push(element)?;

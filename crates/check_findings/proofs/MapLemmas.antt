@@ -1,4 +1,4 @@
 pub mod MapAreas
-pub mod Telling
+pub mod Whole
 pub mod NameLemmas
 pub mod Sound

@@ -1,6 +1,6 @@
 pub mod NameLemmas
 pub mod CountLemmas
-pub mod Telling
+pub mod Reporting
 pub mod Tails
 pub mod Checking
 pub mod Unshadowed

@@ -5,10 +5,12 @@ ghost use Rattle.check_findings.specs.declared.fault.CheckFault.TheVariants as f
 use flash_device::FlashFault;
 use std::alloc::AllocError;
 
-/// The error of a check. There are no findings then.
+pub type Pushed = Result<(), AllocError>;
+
+/// The error of a check, which then has no findings.
 #[derive(Clone, Copy, Debug, PartialEq, Eq, Drop)]
 pub enum CheckFault {
-    /// A read of the device failed.
+    /// A read failed.
     Device,
     /// An allocation failed.
     Memory,

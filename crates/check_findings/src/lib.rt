@@ -10,14 +10,15 @@ mod text;
 pub use fault::CheckFault;
 pub use image::{
     CheckedImage, ImageFinding, Need, NeedFinding, NeededPlace, RegionFindings, cbfs_areas,
-    check_image, fit_images_are_whole, fit_regions_are_whole, fit_regions_lose_nothing, has_bad,
-    is_bad, is_bad_map, is_bad_region, needs_are_there, unmet,
+    check_image, fit_images_are_whole, fit_regions_are_whole, fit_regions_lose_nothing,
+    is_bad_hash, is_bad_map, needs_are_there, unmet,
 };
 pub use map::{
     AreaNames, CheckedMap, ImageMap, MapFinding, NumberedArea, check_map, image_map,
     untold_maps_are_sound,
 };
 pub use region::{
-    ComponentFinding, Content, Name, RegionFinding, blank_tails_are_known, check_region,
-    starts_with_entry, unshadowed_components_are_found,
+    Content, HashFinding, Name, RegionFinding, blank_tails_are_known, check_region,
+    unshadowed_components_are_found,
 };
+pub use text::is_text;

@@ -1,4 +1,4 @@
--- The largest content of the findings is the longest one with a first place.
+-- The largest reported content is the longest content with a first place.
 use Rattle.std.proofs.Common.{◌≡◌, ℕ, ◌+◌, ◌-◌, ◌≤◌, ◌⊎◌, inl, inr, zero, suc, Bool, true, false, cond, List, [], ◌∷◌, ◌++◌, length, Option, Some, None, Contains, refl, sym, ap, subst, ◌∙◌, arith}
 use Rattle.std.specs.Prelude.{◌&&◌, ◌||◌, ◌==◌, is_some, max, nat_le, nat_lt}
 use Rattle.std.specs.List.{cons_option, filter_map, slice_get}
@@ -21,7 +21,7 @@ use Rattle.check_findings.specs.declared.region.finding.RegionFinding.TheVariant
 use Rattle.check_findings.proofs.RegionLemmas.Parts.{IsIn, cell_part, end_part, of_cells, of_end}
 use Rattle.check_laws.specs.Laws.{LargestContentIsTaken, IsTaken, IsWithinLargest, content_of}
 
--- two comparisons that follow from each other
+-- two equivalent comparisons
 same_test : (a b c d : ℕ) → (a ≤ b → c ≤ d) → (c ≤ d → a ≤ b) → nat_le a b ≡ nat_le c d
 same_test a b c d to from = go (nat_le a b) refl (nat_le c d) refl
   where
@@ -89,7 +89,7 @@ module _ (size n : ℕ) where
       go false tp false tq true tr = absurd (omega (arith, leb-false (28 + n) a tp, leb-false (28 + n) b tq, leb-true (28 + n) (max a b) tr))
       go false tp false tq false tr = refl
 
-  -- one of the runs has a place if the content fits the most bytes of one run
+  -- a run has a place if the content fits the most usable bytes of a run
   among : (start at : ℕ) (cells : List (List ℕ)) → has_place (runs_from start at cells) ≡ enough (largest_room size start at cells)
   unfolding by_rows largest_room
   among start at [] = run_or start at [] ∙ or_false (enough (usable size start at))
@@ -133,7 +133,7 @@ module _ (x : List ℕ) (good : shape_fault x ≡ None) where
       go true t = Contains-push [] (LargestContent (room - 28))
       go false t = absurd (omega (arith, fits, leb-false 28 room t))
 
-  -- the number is that of the room
+  -- the length and 28 bytes are the room
   by_room : (m : ℕ) (b : Bool) → nat_le 28 room ≡ b → cond b (LargestContent (room - 28)) NoRoom ≡ LargestContent m → 28 + m ≡ room
   by_room m true t is = let same : room - 28 ≡ m = cc in omega (arith, same, leb-true 28 room t)
   by_room m false t is = absurd cc

@@ -1,4 +1,4 @@
--- What commands tell of regions that are whole.
+-- The output of commands on whole regions.
 use Rattle.std.proofs.Common.{◌≡◌, ◌≢◌, ℕ, Bool, List, None, Ok, refl}
 use Rattle.flash_format.specs.declared.head.DamageKind.{DamageKind}
 use Rattle.flash_format.specs.Cut.{End, complete, tail, damage, cut}

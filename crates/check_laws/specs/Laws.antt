@@ -1,4 +1,4 @@
--- Laws about commands on regions and images without bad findings, and about `add`.
+-- Laws about commands without bad findings, and about `add`.
 use Rattle.std.specs.Prelude.{◌≡◌, ◌↔◌, ◌≤◌, Bool, true, false, All, Contains, List, ℕ, None}
 use Rattle.std.specs.Prelude.{is_some, length}
 use Rattle.std.specs.List.{list_any}
@@ -20,37 +20,36 @@ use Rattle.cbfs_commands.specs.Rows.{rows_from}
 use Rattle.cbfs_commands.specs.Outcomes.{extract_region, print_region, told_component, told_in}
 use Rattle.cbfs_commands.specs.Told.{shows}
 
--- the rows of all cells of a region, with the lines of its components where verbose
+-- the rows of all cells, and verbose lines of components on request
 abbrev pub whole_listing : List ℕ → Bool → List ℕ
 whole_listing x verbose = rows_from verbose 0 (cut x).cells
 
--- a listing of a region without a bad finding has the rows of all its cells, and is done
+-- `print` of a region without bad findings lists all cells, and succeeds
 abbrev pub FitRegionsAreListed : Type 0
 FitRegionsAreListed =
     (needs : Bool) (x : List ℕ) (verbose : Bool)
     → list_any (is_bad_region needs) (region_findings x) ≡ false
     → print_region x verbose ≡ shows (whole_listing x verbose)
 
--- `print` of the area by its name has the rows of all its cells, and is done
+-- `print` of the area by name lists all cells, and succeeds
 abbrev pub IsListed : List ℕ → Bool → NumberedArea → Type 0
 IsListed image verbose a =
     told_in image (text_of a.area.name) (λ x. print_region x verbose)
     ≡ shows (whole_listing (bytes_of image a) verbose)
 
--- `extract` of each component of the area, by both names, returns its content, unless it is
--- compressed
+-- `extract` by both names returns the content of each uncompressed component
 abbrev pub IsExtracted : List ℕ → NumberedArea → Type 0
 IsExtracted image a = (c : Component) → Contains (components (bytes_of image a)) c
     → told_in image (text_of a.area.name) (λ x. extract_region x c.name) ≡ told_component c
 
--- in an image without a bad finding each area is listed that is checked as a region
+-- each checked area of an image without bad findings is listed
 abbrev pub FitImagesAreListed : Type 0
 FitImagesAreListed =
     (needs : Bool) (image : List ℕ) (names expected : List (List ℕ)) (verbose : Bool)
     → list_any (is_bad needs) (image_findings image names expected) ≡ false
     → All (IsListed image verbose) (region_areas (image_findings image names expected))
 
--- and each component of such an area is extracted
+-- each component of such an area is extracted
 abbrev pub FitImagesAreExtracted : Type 0
 FitImagesAreExtracted =
     (needs : Bool) (image : List ℕ) (names expected : List (List ℕ))
@@ -59,23 +58,22 @@ FitImagesAreExtracted =
 
 -- ---- the largest content
 
--- a content of n bytes at the first place with room; the header and a name of at most 3 bytes with
--- its NUL have 28 bytes
+-- a content of n bytes at the first place with room; 28 bytes hold the header and a name of at most
+-- 3 bytes with its NUL
 abbrev pub content_of : ℕ → Wanted
 content_of n = record { metadata_len = 28; len = n; spot = First }
 
--- `add` has a place for a content of n bytes in the region
+-- `add` has a place for n bytes
 abbrev pub IsTaken : List ℕ → ℕ → Type 0
 IsTaken x n = is_some (first_place (content_of n) (length x) (runs x)) ≡ true
 
--- the findings of the region have a largest content of at least n bytes
+-- the largest reported content has at least n bytes
 pub record IsWithinLargest (x : List ℕ) (n : ℕ) : Type 0 where
   pub largest : ℕ
   pub reported : Contains (region_findings x) (LargestContent largest)
   pub enough : n ≤ largest
 
--- in a region of a good size with an entry at its start, `add` takes exactly the contents that are
--- no longer than the largest content of the findings
+-- `add` takes exactly the contents up to the largest reported content
 abbrev pub LargestContentIsTaken : Type 0
 LargestContentIsTaken =
     (x : List ℕ) (n : ℕ) → shape_fault x ≡ None → IsTaken x n ↔ IsWithinLargest x n

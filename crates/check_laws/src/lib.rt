@@ -1,5 +1,4 @@
-//! Proves what a report without bad findings, and the largest content of a report, mean for the
-//! commands of `cbfstool`. The crate has laws only: no code runs.
+//! Proves the meaning of findings for commands of `cbfstool`. No code runs.
 #![tactic(auto)]
 
 mod laws;

@@ -1,4 +1,4 @@
--- Where the last `@` of a text is.
+-- The last `@` of a text.
 use Rattle.std.proofs.Common.{lit<, ◌≡◌, ◌≢◌, ◌<◌, ℕ, suc, List, [], ◌∷◌, ◌++◌, length, get_or, take, drop, Option, Some, None, Bor, option_map, sym, ap, refl, ◌∙◌, arith}
 use Rattle.std.specs.Prelude.{MatchOption}
 use Rattle.std.proofs.lemmas.List.{take-append-drop}
@@ -17,7 +17,7 @@ split_there : (xs ys : List ℕ) → ((i : ℕ) → i < length ys → get_or ys 
 split_there [] ys none = rw (no_split ys none) refl
 split_there (x ∷ xs) ys none = rw (split_there xs ys none) refl
 
--- what `rsplit_once` gives at `@`
+-- the result of `rsplit_once` at `@`
 pub last_split : (bs : List ℕ) (r : Option (Bor (List ℕ) × Bor (List ℕ))) → MatchOption r (RFindsChar 64 bs None) (λ x. SplitsAroundMatch (RFindsChar 64) bs x.0.now x.1.now)
     → option_map (λ (parts : Bor (List ℕ) × Bor (List ℕ)). (parts.0.now, parts.1.now)) r ≡ split_last bs
 last_split bs None h = sym (no_split bs (λ i. NoCharPasses-char 64 bs i h (lit< tt)))

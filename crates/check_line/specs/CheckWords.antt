@@ -1,4 +1,4 @@
--- The arguments of cbfscheck by clap's definitions, and what they request.
+-- The arguments of cbfscheck by clap's definitions, and their requests.
 use Rattle.std.specs.Prelude.{ℕ, Bool, true, false, not, List, [], ◌∷◌, length, map, take, ◌<◌}
 use Rattle.std.specs.Prelude.{◌≤◌, ◌==◌, ◌&&◌, ◌||◌, ◌≡◌, ◌≢◌, ◌⊎◌, ⊤, Option, Some, None, is_some}
 use Rattle.std.specs.Prelude.{is_none, option_map, Result, Ok, Err, MatchOption, if◌then◌else◌}
@@ -23,7 +23,6 @@ use Rattle.check_line.specs.declared.line.Asked.{Asked}
 use Rattle.check_line.specs.declared.line.Asked.TheVariants.{Help, Version, Check}
 use Rattle.check_line.specs.declared.line.CheckLine.{CheckLine}
 
--- the bytes of arguments
 abbrev pub texts : List (Bor (List ℕ)) → List (List ℕ)
 texts words = map (λ (word : Bor (List ℕ)). word.now) words
 
@@ -35,11 +34,11 @@ short_option c id = record (new_rule id) { short = Some c }
 abbrev pub long_option : List ℕ → Rule
 long_option name = record (new_rule name) { long = Some name }
 
--- the same without a value
+-- without a value
 abbrev pub flag : Rule → Rule
 flag rule = record rule { action = Some SetTrue }
 
--- the arguments: the paths of an image and of a new image, and the options
+-- paths of an image and of a new image, and options
 abbrev pub check_words : App
 check_words = record {
   top = record (new_shape (codes "cbfscheck")) {
@@ -55,13 +54,13 @@ check_words = record {
 
 -- ---- the options
 
--- why accepted arguments request nothing
+-- a fault of accepted arguments
 pub data Complaint : Type 0 where
   no_image : Complaint
   no_new_image : Complaint
   wrong : WordFault → List ℕ → Complaint
 
--- the parts of an option's list, between its commas (44)
+-- between commas (44)
 abbrev pub parts_of : Option (List ℕ) → List (List ℕ)
 parts_of None = []
 parts_of (Some list) = slice_split (λ b. b == 44) list
@@ -69,26 +68,24 @@ parts_of (Some list) = slice_split (λ b. b == 44) list
 abbrev pub is_empty : List ℕ → Bool
 is_empty name = length name == 0
 
--- the complaint about a list of areas with an empty name
+-- an empty name
 abbrev pub bad_areas : Option (List ℕ) → Option Complaint
 bad_areas list = if list_any is_empty (parts_of list) then option_map (wrong mistake.BadAreas) list
     else None
 
--- the complaint about the first bad part of a list of needs
+-- the first bad part
 abbrev pub bad_need : Option (List ℕ) → Option Complaint
 bad_need list = option_map (wrong mistake.BadNeed) (find is_no_need (parts_of list))
 
--- an option without a value is present
+-- an option without a value
 abbrev pub is_set : Option (List ℕ) → Bool
 is_set None = false
 is_set (Some text) = bytes_eq text (codes "true")
 
--- an option compares two images
 abbrev pub is_comparing : List Row → Bool
 is_comparing rows = is_some (first_of (codes "keep") rows)
     || is_set (first_of (codes "keep-preserved") rows)
 
--- the first complaint about clap's matches
 abbrev pub complaint_in : List Row → Option Complaint
 complaint_in rows = if is_none (first_of (codes "image") rows) then Some no_image
     else (if is_comparing rows && is_none (first_of (codes "new") rows) then Some no_new_image
@@ -96,7 +93,7 @@ complaint_in rows = if is_none (first_of (codes "image") rows) then Some no_imag
     (option_or (bad_areas (first_of (codes "keep") rows))
     (bad_need (first_of (codes "need") rows))))
 
--- the request has the images and the options of clap's matches
+-- the images and options of clap's matches
 pub record IsLineOf (rows : List Row) (line : CheckLine) : Type 0 where
   pub image : first_of (codes "image") rows ≡ Some line.image.now
   pub new_image : first_of (codes "new") rows
@@ -111,8 +108,7 @@ pub record IsLineOf (rows : List Row) (line : CheckLine) : Type 0 where
   pub needs : map wish_of line.needs.items
       ≡ filter_map need_in (parts_of (first_of (codes "need") rows))
 
--- without a complaint a value with the property is returned, and otherwise the complaint; or an
--- allocation fails
+-- a value with the property, or else the complaint; or an allocation fails
 abbrev pub Gives : {T : Type 0} → Option Complaint → (T → Type 0) → Result T LineFault → Type 0
 Gives complaint Is (Ok given) = (complaint ≡ None) × Is given
 Gives complaint Is (Err (Word fault word)) = complaint ≡ Some (wrong fault word.now)
@@ -122,26 +118,25 @@ Gives complaint Is (Err Memory) = ⊤
 
 -- ---- the wrong argument
 
--- clap accepts the arguments
 abbrev pub IsAccepted : List (Bor (List ℕ)) → Type 0
 IsAccepted words = fault_of check_words (texts words) ≡ []
 
--- clap refuses the arguments for this reason
+-- for this reason
 abbrev pub Refuses : ErrorKind → List (Bor (List ℕ)) → Type 0
 Refuses kind words = IsAmong kind (fault_of check_words (texts words))
 
--- clap accepts them, or refuses them for another reason
+-- accepted, or refused for another reason
 abbrev pub Spares : ErrorKind → List (Bor (List ℕ)) → Type 0
 Spares kind words = IsAccepted words
     ⊎ ((other : ErrorKind) × (other ≢ kind) × Refuses other words)
 
--- the kind of clap's error for the arguments, or an allocation failed
+-- clap's error for the arguments, or an allocation failure
 abbrev pub IsKindOf : Option ErrorKind → List (Bor (List ℕ)) → Type 0
 IsKindOf None words = IsAccepted words
 IsKindOf (Some kind) words = (kind ≡ reason.OutOfMemory) ⊎ Refuses kind words
 
--- The arguments before this one aren't refused for this reason. With it, and with any number of the
--- next ones, they are.
+-- Earlier arguments alone aren't refused for this reason. With this argument, and any number of
+-- later ones, they are.
 pub record IsWrong (kind : ErrorKind) (words : List (Bor (List ℕ))) (word : Bor (List ℕ))
     : Type 0 where
   pub n : ℕ
@@ -154,7 +149,6 @@ abbrev pub is_option : List ℕ → Bool
 is_option (first ∷ second ∷ rest) = first == 45
 is_option word = false
 
--- the mistake of the wrong argument
 abbrev pub word_fault : ErrorKind → List ℕ → WordFault
 word_fault reason.InvalidValue word = mistake.MissingValue
 word_fault reason.TooManyValues word = mistake.UnneededValue
@@ -167,11 +161,11 @@ abbrev pub is_request : Bor (List ℕ) → Bool
 is_request word = bytes_eq word.now (codes "-h") || bytes_eq word.now (codes "--help")
     || bytes_eq word.now (codes "--version")
 
--- it isn't the `--` that ends the options
+-- before `--`, which ends the options
 abbrev pub is_before_end : Bor (List ℕ) → Bool
 is_before_end word = not (bytes_eq word.now (codes "--"))
 
--- the first argument before `--` that requests the help or the version
+-- the first argument before `--` for the help or the version
 abbrev pub request_in : List (Bor (List ℕ)) → Option (List ℕ)
 request_in words = option_map (λ (word : Bor (List ℕ)). word.now)
     (find is_request (take_while is_before_end words))
@@ -179,12 +173,12 @@ request_in words = option_map (λ (word : Bor (List ℕ)). word.now)
 abbrev pub requested : List ℕ → Asked
 requested word = if bytes_eq word (codes "--version") then Version else Help
 
--- clap's matches of the arguments request this
+-- by clap's matches
 abbrev pub IsAsked : List Row → Asked → Type 0
 IsAsked rows (Check line) = IsLineOf rows line
 IsAsked rows asked = ⊥
 
--- the result for arguments that clap refuses, or for which it returns its help
+-- for arguments refused by clap, or with help as the result
 abbrev pub IsRefusal : List (Bor (List ℕ)) → Result Asked LineFault → Type 0
 IsRefusal words (Ok Help) = Refuses reason.DisplayHelp words
 IsRefusal words (Err (Word fault word)) = (kind : ErrorKind) × (kind ≢ reason.DisplayHelp)
@@ -192,13 +186,13 @@ IsRefusal words (Err (Word fault word)) = (kind : ErrorKind) × (kind ≢ reason
 IsRefusal words (Err Memory) = ⊤
 IsRefusal words result = ⊥
 
--- the result for arguments by clap's definitions
+-- by clap's definitions
 abbrev pub IsRead : List (Bor (List ℕ)) → Result Asked LineFault → Type 0
 IsRead words result = (IsAccepted words
     × Gives (complaint_in (matches_of check_words (texts words)))
     (IsAsked (matches_of check_words (texts words))) result) ⊎ IsRefusal words result
 
--- the result for the arguments after the program's name
+-- for the arguments after the program's name
 abbrev pub Answers : List (Bor (List ℕ)) → Result Asked LineFault → Type 0
 Answers words result = MatchOption (request_in words) (IsRead words result)
     (λ word. result ≡ Ok (requested word))

@@ -1,4 +1,4 @@
--- How `--need` states a required component: AREA:NAME, or AREA:NAME@OFFSET.
+-- The required component of `--need`: AREA:NAME, or AREA:NAME@OFFSET.
 use Rattle.std.specs.Prelude.{ℕ, Bool, ◌==◌, ◌||◌, nat_lt, List, [], ◌∷◌, length, Option, Some}
 use Rattle.std.specs.Prelude.{None, is_none, option_map, option_and_then, if◌then◌else◌}
 use Rattle.std.specs.List.{after_first, before_first, position_or_len}
@@ -15,13 +15,13 @@ abbrev pub needed_place : List ℕ → Option NeededPlace
 needed_place offset = if bytes_eq offset (codes "end") then Some End
     else option_map At (number_of offset)
 
--- the parts before and after the last `@` (64)
+-- at the last `@` (64)
 abbrev pub split_last : List ℕ → Option (List ℕ × List ℕ)
 split_last [] = None
 split_last (b ∷ bs) = option_or (option_map (λ parts. (b ∷ parts.0, parts.1)) (split_last bs))
     (if b == 64 then Some ([], bs) else None)
 
--- a name, and its place if there is an `@`
+-- a place only with an `@`
 abbrev pub place_after : List ℕ → Option (List ℕ × List ℕ) → Option (List ℕ × NeededPlace)
 place_after text None = Some (text, Any)
 place_after text (Some parts) = option_map (λ place. (parts.0, place)) (needed_place parts.1)
@@ -32,12 +32,12 @@ named_in text = place_after text (split_last text)
 abbrev pub is_colon : ℕ → Bool
 is_colon b = b == 58
 
--- the need of an area and a name, neither of which is empty
+-- with nonempty area and name
 abbrev pub wanted : List ℕ → List ℕ × NeededPlace → Option Wish
 wanted area named = if length area == 0 || length named.0 == 0 then None
     else Some (record { area = area; name = named.0; place = named.1 })
 
--- the need that a text states: the area ends at the first colon
+-- the area ends at the first colon
 abbrev pub need_in : List ℕ → Option Wish
 need_in text = if nat_lt (position_or_len is_colon text) (length text)
     then option_and_then (wanted (before_first is_colon text))

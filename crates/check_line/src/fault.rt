@@ -1,4 +1,4 @@
-//! The errors of a command line.
+//! Errors of a command line.
 
 ghost use Rattle.std.specs.Prelude.{◌≡◌};
 ghost use Rattle.check_line.specs.declared.fault.LineFault.TheVariants.{Memory};
@@ -6,45 +6,45 @@ ghost use Rattle.check_line.specs.declared.fault.LineFault.TheVariants.{Memory};
 use std::alloc::AllocError;
 use thiserror::Error;
 
-/// The mistake of an argument, or of the value of an option.
+/// The mistake of an argument or an option's value.
 #[derive(Clone, Copy, Debug, PartialEq, Eq, Error)]
 pub enum WordFault {
-    /// No option has this name.
+    /// An unknown option.
     #[error("unknown option")]
     UnknownOption,
-    /// Two paths precede it.
+    /// A third path.
     #[error("too many images:")]
     TooManyPaths,
-    /// No value follows the option.
+    /// An option without its value.
     #[error("no value for option")]
     MissingValue,
-    /// The option takes no value.
+    /// A value for an option without values.
     #[error("unexpected value in")]
     UnneededValue,
-    /// The option is given twice; the argument completes the second one.
+    /// An option given again; the argument completes the second.
     #[error("an option is given twice at")]
     GivenTwice,
-    /// A list of areas has an empty name.
+    /// An empty name in a list of areas.
     #[error("bad list of areas")]
     BadAreas,
-    /// A need is neither `AREA:NAME` nor `AREA:NAME@OFFSET`.
+    /// A need other than `AREA:NAME` or `AREA:NAME@OFFSET`.
     #[error("bad need")]
     BadNeed,
 }
 
-/// An error of the command line; its text is the error message.
+/// An error of the command line, with its text.
 #[derive(Clone, Copy, Debug, PartialEq, Eq, Error)]
 pub enum LineFault<'a> {
-    /// An argument, or the value of an option, is wrong.
+    /// A wrong argument or value.
     #[error("{fault} '{word}'")]
     Word { fault: WordFault, word: &'a str },
-    /// No path is given.
+    /// No path.
     #[error("no image")]
     NoImage,
-    /// An option compares two images, and one path is given.
+    /// One path for an option which compares two images.
     #[error("--keep and --keep-preserved need two images")]
     NoNewImage,
-    /// An allocation failed.
+    /// An allocation failure.
     #[error("out of memory")]
     Memory,
 }

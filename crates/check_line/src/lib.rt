@@ -1,4 +1,4 @@
-//! The command line of cbfscheck: IMAGE, or OLD and NEW, and the options, parsed by clap.
+//! The command line of cbfscheck, parsed by clap.
 #![tactic(auto)]
 
 mod fault;

@@ -1,4 +1,4 @@
-//! The request of a command line: the images, and the options of their check.
+//! Requests of a command line.
 
 ghost use Rattle.std.specs.Prelude.{◌≡◌, ◌<◌, ◌∷◌, IfOk, IfSome, Some, filter_map, length, map};
 ghost use Rattle.std.specs.Prelude.{option_map};
@@ -15,7 +15,7 @@ use check_findings::Need;
 use clap::ArgMatches;
 use std::alloc::{AllocError, Global};
 
-/// The request of a command line.
+/// A request.
 #[derive(Drop)]
 pub enum Asked<'a> {
     Help,
@@ -23,45 +23,44 @@ pub enum Asked<'a> {
     Check(CheckLine<'a>),
 }
 
-/// A check of an image, or of a new image against an old image.
+/// A check of an image, or of a new image against an old.
 #[derive(Drop)]
 pub struct CheckLine<'a> {
-    /// The path of the only image, or of the old image.
+    /// The path of the only or old image.
     pub image: &'a str,
     pub new_image: Option<&'a str>,
-    /// The areas to check as a CBFS even without an entry at their start (`-r`).
+    /// The areas to check even without an entry at their start (`-r`).
     pub areas: Vec<&'a [u8]>,
-    /// Reports all rows, and components without a digest (`-v`).
+    /// Reports all rows, and missing digests (`-v`).
     pub is_verbose: bool,
     /// Prints one JSON document (`--json`).
     pub is_json: bool,
     /// Lists the components of the checked areas (`--list`).
     pub lists: bool,
-    /// The areas that the new image must not change (`--keep`).
+    /// The areas which must not change (`--keep`).
     pub kept: Vec<&'a [u8]>,
-    /// Adds the areas with the flag PRESERVE to `kept` (`--keep-preserved`).
+    /// Adds the areas with the flag PRESERVE (`--keep-preserved`).
     pub keeps_preserved: bool,
-    /// Requires a digest for each component (`--all-hashed`).
+    /// Requires all digests (`--all-hashed`).
     pub needs_hashes: bool,
     /// The required components (`--need`).
     pub needs: Vec<Need<'a>>,
 }
 
-/// Returns the names between the commas of a list.
+/// Splits a list at its commas.
 fn names_of<'a>(alloc: Global, list: &'a str) -> Result<Vec<&'a [u8]>, AllocError>
     ensures { IfOk result (λ names. texts names.items ≡ parts_of (Some list.entry.now)) }
 {
     list.as_bytes().split(|byte| *byte == b',').collect(alloc)
 }
 
-/// Returns whether a name is empty.
 fn has_empty(names: &[&[u8]]) -> bool
     ensures { result ≡ list_any is_empty (texts names.now) }
 {
     names.iter().any(|name| name.is_empty())
 }
 
-/// Returns the names in the list of an option, none of which may be empty.
+/// Returns the names in an option's list. Refuses an empty name.
 fn names_given<'a>(alloc: Global, list: Option<&'a str>) -> Result<Vec<&'a [u8]>, LineFault<'a>>
     ensures { Gives (bad_areas (option_map (λ t. t.now) list.entry))
         (λ names. texts names.items ≡ parts_of (option_map (λ t. t.now) list.entry)) result }
@@ -79,7 +78,7 @@ fn names_given<'a>(alloc: Global, list: Option<&'a str>) -> Result<Vec<&'a [u8]>
     Ok(names)
 }
 
-/// Splits a list at its first comma, if any.
+/// Splits a list at the first comma, if any.
 fn first_part<'a>(list: &'a str) -> (&'a str, Option<&'a str>)
     ensures parts { parts_of (Some list.entry.now)
         ≡ result.0.now ∷ parts_of (option_map (λ t. t.now) result.1) }
@@ -91,7 +90,7 @@ fn first_part<'a>(list: &'a str) -> (&'a str, Option<&'a str>)
     }
 }
 
-/// Returns the needs in the list of an option. Refuses the first bad part.
+/// Returns the needs in an option's list. Refuses the first bad part.
 fn needs_given<'a>(alloc: Global, list: Option<&'a str>) -> Result<Vec<Need<'a>>, LineFault<'a>>
     ensures { Gives (bad_need (option_map (λ t. t.now) list.entry))
         (λ needs. map wish_of needs.items
@@ -115,14 +114,13 @@ fn needs_given<'a>(alloc: Global, list: Option<&'a str>) -> Result<Vec<Need<'a>>
     Ok(needs)
 }
 
-/// Returns the value of an option or a path.
+/// Returns an option's value or a path.
 fn text<'a>(matches: &ArgMatches<'a>, id: &str) -> Option<&'a str>
     ensures { option_map (λ t. t.now) result ≡ first_of id.now (rows_of (found_of matches.now)) }
 {
     matches.get_str(id)
 }
 
-/// Returns whether an option without a value is present.
 fn is_set(matches: &ArgMatches<'_>, id: &str) -> bool
     ensures { result ≡ is_set (first_of id.now (rows_of (found_of matches.now))) }
 {
@@ -132,8 +130,7 @@ fn is_set(matches: &ArgMatches<'_>, id: &str) -> bool
     }
 }
 
-/// Returns the request of clap's matches. Refuses a missing image, a missing new image if an option
-/// compares two, and a bad list.
+/// Returns the request of clap's matches. Refuses missing images and bad lists.
 pub fn line_of<'a>(alloc: Global, matches: &ArgMatches<'a>) -> Result<Asked<'a>, LineFault<'a>>
     ensures { Gives (complaint_in (rows_of (found_of matches.now)))
         (IsAsked (rows_of (found_of matches.now))) result }

@@ -7,7 +7,7 @@ ghost use Rattle.check_line.specs.Needs.{named_in, need_in, needed_place, split_
 use check_findings::{Need, NeededPlace};
 use flash_format::read_number;
 
-/// Returns the place that an offset states: a number of bytes, or `end`.
+/// Parses a number of bytes, or `end`.
 #[tactic(auto, unfolding(flash_format::specs::Numbers::number_of))]
 fn place_of(offset: &str) -> Option<NeededPlace>
     ensures { result ≡ needed_place offset.now }
@@ -21,7 +21,7 @@ fn place_of(offset: &str) -> Option<NeededPlace>
     }
 }
 
-/// Returns the parts before and after the last `@`.
+/// Splits at the last `@`.
 fn split_at_last<'a>(text: &'a str) -> Option<(&'a str, &'a str)>
     ensures { option_map (λ parts. (parts.0.now, parts.1.now)) result
         ≡ split_last text.entry.now }
@@ -29,7 +29,6 @@ fn split_at_last<'a>(text: &'a str) -> Option<(&'a str, &'a str)>
     text.rsplit_once('@')
 }
 
-/// Returns the name of a component, and its required place.
 fn named_place<'a>(text: &'a str) -> Option<(&'a str, NeededPlace)>
     ensures { option_map (λ named. (named.0.now, named.1)) result ≡ named_in text.entry.now }
 {
@@ -39,7 +38,7 @@ fn named_place<'a>(text: &'a str) -> Option<(&'a str, NeededPlace)>
     }
 }
 
-/// Returns the need that `AREA:NAME` or `AREA:NAME@OFFSET` states.
+/// Parses `AREA:NAME` or `AREA:NAME@OFFSET`.
 pub fn need_of<'a>(text: &'a str) -> Option<Need<'a>>
     ensures { option_map wish_of result ≡ need_in text.entry.now }
 {

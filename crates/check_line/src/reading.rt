@@ -1,4 +1,4 @@
-//! Reads the arguments after the program's name, and finds the wrong one.
+//! Parses the arguments, and finds the wrong argument.
 
 ghost use Rattle.std.specs.Prelude.{◌≡◌, IfOk, MatchBool, Some, option_map};
 ghost use Rattle.check_line.specs.CheckWords.{Answers, IsKindOf, IsRead, IsRefusal, IsWrong};
@@ -11,7 +11,7 @@ use crate::words::whole_command;
 use clap::error::ErrorKind;
 use std::alloc::{AllocError, Global};
 
-/// Returns the first argument before `--` that requests the help or the version.
+/// Returns the first argument before `--` for the help or the version.
 fn request_in<'a>(words: &'a [&'a str]) -> Option<&'a str>
     ensures { option_map (λ w. w.now) result ≡ request_in words.entry.now }
 {
@@ -22,7 +22,6 @@ fn request_in<'a>(words: &'a [&'a str]) -> Option<&'a str>
         .find(|word| matches!(*word, "-h" | "--help" | "--version"))
 }
 
-/// Returns the request of such an argument.
 fn requested<'a>(word: &str) -> Asked<'a>
     ensures { result ≡ requested word.now }
 {
@@ -33,7 +32,7 @@ fn requested<'a>(word: &str) -> Asked<'a>
     }
 }
 
-/// Returns the kind of clap's error for the arguments, or `None` if clap accepts them.
+/// Returns the kind of clap's error, if any.
 fn refused_kind<'a>(alloc: Global, words: &'a [&'a str]) -> Result<Option<ErrorKind>, AllocError>
     ensures { IfOk result (λ kind. IsKindOf kind words.entry.now) }
 {
@@ -43,7 +42,7 @@ fn refused_kind<'a>(alloc: Global, words: &'a [&'a str]) -> Result<Option<ErrorK
     }
 }
 
-/// Returns whether clap refuses the arguments with an error of this kind.
+/// Returns true if clap refuses the arguments with the kind.
 fn refuses<'a>(alloc: Global, words: &'a [&'a str], kind: ErrorKind) -> Result<bool, AllocError>
     ensures { IfOk result (λ answer. MatchBool answer (Refuses kind words.entry.now)
         (Spares kind words.entry.now)) }
@@ -55,7 +54,7 @@ fn refuses<'a>(alloc: Global, words: &'a [&'a str], kind: ErrorKind) -> Result<b
     }
 }
 
-/// Returns the first argument from which on clap refuses the arguments with an error of this kind.
+/// Returns the first argument from which on clap refuses with the kind.
 fn wrong_word<'a>(
     alloc: Global,
     words: &'a [&'a str],
@@ -71,7 +70,6 @@ fn wrong_word<'a>(
     Ok(words[n])
 }
 
-/// Returns the mistake of the wrong argument.
 fn word_fault(kind: ErrorKind, word: &str) -> WordFault
     ensures { result ≡ word_fault kind word.now }
 {
@@ -84,7 +82,7 @@ fn word_fault(kind: ErrorKind, word: &str) -> WordFault
     }
 }
 
-/// Returns the result for an error of clap, which its help is too.
+/// Converts clap's error or help.
 fn refusal_of<'a>(
     alloc: Global,
     words: &'a [&'a str],
@@ -104,7 +102,6 @@ fn refusal_of<'a>(
     }
 }
 
-/// Parses the arguments by clap.
 fn read_options<'a>(alloc: Global, words: &'a [&'a str]) -> Result<Asked<'a>, LineFault<'a>>
     ensures { IsRead words.entry.now result }
 {
@@ -114,8 +111,8 @@ fn read_options<'a>(alloc: Global, words: &'a [&'a str]) -> Result<Asked<'a>, Li
     }
 }
 
-/// Reads the arguments after the program's name: IMAGE, or OLD and NEW, and the options, in any
-/// order. The first `-h`, `--help` or `--version` before `--` decides, whatever else is given.
+/// Parses the arguments after the program's name: IMAGE, or OLD and NEW, and options, in any order.
+/// The first `-h`, `--help` or `--version` before `--` decides.
 pub fn read_check<'a>(alloc: Global, words: &'a [&'a str]) -> Result<Asked<'a>, LineFault<'a>>
     ensures { Answers words.entry.now result }
 {

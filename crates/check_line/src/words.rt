@@ -1,4 +1,4 @@
-//! The clap command for the arguments after the program's name: the paths and the options.
+//! The clap command: paths and options.
 
 ghost use Rattle.std.specs.Prelude.{◌≡◌, IfOk, false};
 ghost use Rattle.clap.specs.Words.{app_of, rule_of};
@@ -23,7 +23,7 @@ fn long<'a>(alloc: Global, name: &'a str) -> Arg<'a>
     Arg::new(alloc, name).long(name)
 }
 
-/// Returns the option without a value.
+/// Removes the value.
 fn flag<'a>(option: Arg<'a>) -> Arg<'a>
     ensures rule { rule_of result ≡ flag (rule_of option.entry) }
     ensures local { result.global ≡ option.entry.global }
@@ -31,7 +31,7 @@ fn flag<'a>(option: Arg<'a>) -> Arg<'a>
     option.action(ArgAction::SetTrue)
 }
 
-/// Returns the command.
+/// Returns clap's command for the arguments after the program's name.
 pub fn whole_command<'a>(alloc: Global) -> Result<Command<'a>, AllocError>
     ensures { IfOk result (λ c. app_of c ≡ check_words) }
 {

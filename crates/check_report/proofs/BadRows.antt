@@ -1,17 +1,18 @@
--- A row is bad where its finding is.
-use Rattle.std.proofs.Common.{◌≡◌, ℕ, List, [], ◌∷◌, refl}
-use Rattle.std.specs.Prelude.{Bool, true, false, not, ◌||◌}
+-- A row is bad if its finding is bad.
+use Rattle.std.proofs.Common.{◌≡◌, ◌∙◌, ℕ, List, [], ◌∷◌, ◌++◌, refl}
+use Rattle.std.specs.Prelude.{Bool, true, false, is_none, not}
 use Rattle.std.specs.List.{flat_map, list_any}
+use Rattle.std.specs.Str.{is_utf8}
 use lib.Chars.{codes}
+use Rattle.flash_format.specs.TypeNames.{name_of_type}
 use Rattle.std.proofs.lemmas.List.Concat.{flat_map-cons}
 use Rattle.std.proofs.lemmas.List.Folds.{list_any-append}
-use Rattle.cbfs_walk.specs.declared.hashes.HashState.TheVariants.{Absent, Valid, Invalid, Unsupported}
-use Rattle.check_findings.specs.declared.region.finding.ComponentFinding.TheVariants as finding
 use Rattle.check_findings.specs.declared.region.finding.Content.{Content}
 use Rattle.check_findings.specs.declared.map.finding.NumberedArea.{NumberedArea}
-use Rattle.cbfs_walk.specs.declared.hashes.HashState.{HashState}
 use Rattle.check_report.specs.declared.request.Asked.{Asked}
 use Rattle.check_report.specs.declared.rows.row.Detail.TheVariants as details
+use Rattle.check_findings.specs.declared.region.finding.HashFinding.{HashFinding}
+use Rattle.check_findings.specs.declared.region.finding.HashFinding.TheVariants as hashes
 use Rattle.check_findings.specs.declared.region.finding.RegionFinding.{RegionFinding}
 use Rattle.check_findings.specs.declared.region.finding.RegionFinding.TheVariants as of_region
 use Rattle.check_findings.specs.declared.map.finding.MapFinding.{MapFinding}
@@ -19,11 +20,12 @@ use Rattle.check_findings.specs.declared.map.finding.MapFinding.TheVariants as o
 use Rattle.check_findings.specs.declared.image.finding.ImageFinding.{ImageFinding}
 use Rattle.check_findings.specs.declared.image.finding.ImageFinding.TheVariants.{Map, Region, NotChecked, NoArea}
 use Rattle.check_findings.specs.Image.Verdicts.{is_bad, is_bad_hash, is_bad_map, is_bad_region}
-use Rattle.check_report.specs.Rows.Rows.{SeenRow, row_if, map_area_row}
-use Rattle.check_report.specs.FindingRows.{map_row, region_rows, rows_of, finding_rows, is_absent, of_component, verdict_of}
+use Rattle.check_report.specs.declared.rows.row.Verdict.TheVariants.{Remark}
+use Rattle.check_report.specs.Rows.Rows.{SeenRow, component_row, map_area_row, row_if}
+use Rattle.check_report.specs.FindingRows.{component_rows, finding_rows, has_hash_row, hash_row, map_row, region_rows, rows_of, verdict_of}
 use Rattle.check_report.specs.Rows.Rows.{area_name, is_bad_row}
 
--- where that holds of each finding, it holds of all
+-- the same for all findings
 bad_rows : {X : Type 0} (rows : X → List SeenRow) (bad : X → Bool) → ((x : X) → list_any is_bad_row (rows x) ≡ bad x) → (xs : List X) → list_any is_bad_row (flat_map rows xs) ≡ list_any bad xs
 bad_rows rows bad each [] = refl
 bad_rows rows bad each (x ∷ xs) = rw (flat_map-cons rows x xs, list_any-append is_bad_row (rows x) (flat_map rows xs), each x, bad_rows rows bad each xs) refl
@@ -42,30 +44,35 @@ bad_map of_map.TooManyAreas = refl
 bad_map of_map.NoMapArea = refl
 bad_map (of_map.MapAreaMisses a) = refl
 
-bad_content : (asked : Asked) (region : List ℕ) (at : ℕ) (name : List ℕ) (c : Content) (s : HashState) (verbose needs : Bool)
-    → list_any is_bad_row (row_if (verbose || (needs || not (is_absent s))) (of_component (verdict_of (is_bad_hash needs s)) region at name (finding.Content c))) ≡ is_bad_hash needs s
-bad_content asked region at name c Absent true true = refl
-bad_content asked region at name c Absent true false = refl
-bad_content asked region at name c Absent false true = refl
-bad_content asked region at name c Absent false false = refl
-bad_content asked region at name c (Valid digest) true needs = refl
-bad_content asked region at name c (Valid digest) false true = refl
-bad_content asked region at name c (Valid digest) false false = refl
-bad_content asked region at name c (Invalid digest) true needs = refl
-bad_content asked region at name c (Invalid digest) false true = refl
-bad_content asked region at name c (Invalid digest) false false = refl
-bad_content asked region at name c Unsupported true true = refl
-bad_content asked region at name c Unsupported true false = refl
-bad_content asked region at name c Unsupported false true = refl
-bad_content asked region at name c Unsupported false false = refl
+bad_hash : (asked : Asked) (region : List ℕ) (at : ℕ) (name : List ℕ) (hash : HashFinding) (verbose needs : Bool)
+    → list_any is_bad_row (row_if (has_hash_row (record asked { is_verbose = verbose; needs_hashes = needs }) hash) (hash_row (record asked { is_verbose = verbose; needs_hashes = needs }) region at name hash))
+    ≡ is_bad_hash needs hash
+bad_hash asked region at name hashes.Missing true true = refl
+bad_hash asked region at name hashes.Missing true false = refl
+bad_hash asked region at name hashes.Missing false true = refl
+bad_hash asked region at name hashes.Missing false false = refl
+bad_hash asked region at name (hashes.Valid algorithm) verbose needs = refl
+bad_hash asked region at name (hashes.Invalid algorithm) verbose needs = refl
+bad_hash asked region at name hashes.Unsupported verbose true = refl
+bad_hash asked region at name hashes.Unsupported verbose false = refl
+
+-- a remark or none before other rows
+no_bad : (b : Bool) (row : SeenRow) (rest : List SeenRow) → is_bad_row row ≡ false → list_any is_bad_row (row_if b row ++ rest) ≡ list_any is_bad_row rest
+no_bad true row rest is = rw is refl
+no_bad false row rest is = refl
+
+bad_component : (asked : Asked) (region : List ℕ) (at : ℕ) (name : List ℕ) (shadowed : Bool) (content : Content)
+    → list_any is_bad_row (component_rows asked region at name shadowed content) ≡ is_bad_region asked.needs_hashes (of_region.Component at name shadowed content)
+bad_component asked region at name true content = refl
+bad_component asked region at name false content =
+    no_bad (not (is_utf8 name)) (component_row Remark region at name (codes "component-name") (codes "name isn't UTF-8") details.None) _ refl
+    ∙ no_bad (is_none (name_of_type content.kind)) (component_row Remark region at name (codes "component-type") (codes "type without a name") (details.Number content.kind)) _ refl
+    ∙ bad_hash asked region at name content.hash asked.is_verbose asked.needs_hashes
 
 bad_region : (asked : Asked) (region : List ℕ) (f : RegionFinding) → list_any is_bad_row (region_rows asked region f) ≡ is_bad_region asked.needs_hashes f
 bad_region asked region of_region.BadSize = refl
 bad_region asked region of_region.NotCbfs = refl
-bad_region asked region (of_region.Component at name finding.Shadowed) = refl
-bad_region asked region (of_region.Component at name finding.NameNotText) = refl
-bad_region asked region (of_region.Component at name (finding.UnknownType kind)) = refl
-bad_region asked region (of_region.Component at name (finding.Content c)) = bad_content asked region at name c c.hash asked.is_verbose asked.needs_hashes
+bad_region asked region (of_region.Component at name shadowed content) = bad_component asked region at name shadowed content
 bad_region asked region (of_region.Deleted at) = refl
 bad_region asked region of_region.Complete = refl
 bad_region asked region (of_region.Tail at) = refl
@@ -86,7 +93,7 @@ bad_finding : (asked : Asked) (names : List (List ℕ)) (f : ImageFinding) → l
 bad_finding asked names (Map f) = bad_map f
 bad_finding asked names (Region a findings) = bad_rows (region_rows asked (area_name a)) (is_bad_region asked.needs_hashes) (bad_region asked (area_name a)) findings
 bad_finding asked names (NotChecked a named) =
-    bad_named named a (codes "area-not-checked") (codes "isn't checked: the areas before it are eight times the image")
+    bad_named named a (codes "area-not-checked") (codes "isn't checked: the areas before it are twice the image")
 bad_finding asked names (NoArea number) = refl
 
 pub bad_findings : (asked : Asked) (names : List (List ℕ)) (findings : List ImageFinding) → list_any is_bad_row (finding_rows asked names findings) ≡ list_any (is_bad asked.needs_hashes) findings

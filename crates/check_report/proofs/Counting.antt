@@ -1,4 +1,4 @@
--- The kinds of rows after one more row.
+-- The kinds of rows after another row.
 use Rattle.std.proofs.Common.{◌≡◌, ◌∙◌, ℕ, ◌+◌, ◌<◌, suc, length, take, drop, nat_lt, List, [], ◌∷◌, ◌++◌, map, append-nil, length-append, length-drop, zero, Bool, true, false, refl, ap, ap₂, sym, arith, append_assoc}
 use Rattle.std.specs.Prelude.{◌||◌, ◌&&◌, ◌==◌, count_by, fold, if◌then◌else◌}
 use Rattle.std.specs.List.{list_any}
@@ -18,7 +18,7 @@ use Rattle.check_report.specs.Rows.Rows.{SeenRow, count_of, counts_of, is_verdic
 use Rattle.check_report.specs.Rows.Limits.{SeenKind, first_rows, is_like, is_of, kind_in, kinds_of, row_within, seen_kind}
 use Rattle.check_report.specs.Rows.Writing.{count_in, count_once, counted, earlier, new_kind, tallied}
 
--- ---- rows of one kind
+-- ---- rows of a kind
 
 same_verdict : (v w : Verdict) → is_verdict v w ≡ true → v ≡ w
 same_verdict Bad Bad is = refl
@@ -39,7 +39,7 @@ itself Change = refl
 like_parts : (v w : Verdict) (xs ys : List ℕ) → (is_verdict v w && bytes_eq xs ys) ≡ true → (v ≡ w) × (xs ≡ ys)
 like_parts v w xs ys is = (same_verdict v w (grind (arith, is)), grind (arith, is, bytes_eq-Decides xs ys))
 
--- rows that are alike are like the same rows
+-- alike rows are like the same rows
 pub alike : (r s t : SeenRow) → is_like r s ≡ true → is_like r t ≡ is_like s t
 alike r s t is = let parts = like_parts r.verdict s.verdict r.code s.code is in
     ap₂ (λ v c. is_verdict v t.verdict && bytes_eq c t.code) parts.0 parts.1
@@ -60,7 +60,7 @@ pub count_alike : (r s : SeenRow) (rows : List SeenRow) → is_like r s ≡ true
 count_alike r s [] is = refl
 count_alike r s (t ∷ ts) is = rw (sum_by-cons (λ x. if is_like r x then 1 else 0) t ts, sum_by-cons (λ x. if is_like s x then 1 else 0) t ts, alike r s t is, count_alike r s ts is) refl
 
--- one more row
+-- another row
 pub count_push : (r : SeenRow) (rows : List SeenRow) (s : SeenRow) → count_by (is_like r) (rows ++ s ∷ []) ≡ count_by (is_like r) rows + (if is_like r s then 1 else 0)
 count_push r rows s = sum_by-append (λ t. if is_like r t then 1 else 0) rows (s ∷ []) ∙ omega arith
 
@@ -84,7 +84,7 @@ any_step before rs r row later = go (nat_lt (count_by (is_like r) before) 1) (is
     go false true few like = grind (arith, like, later, count_push row before r, count_alike row r before like, few)
     go false false few like = grind (arith, like, later, count_push row before r)
 
--- the kinds of first rows include that of each row
+-- the kinds of first rows include each row's kind
 any_first : (before rows : List SeenRow) (row : SeenRow)
     → (list_any (λ f. is_like f row) (first_rows 1 before rows) || nat_lt 0 (count_by (is_like row) before)) ≡ nat_lt 0 (count_by (is_like row) (before ++ rows))
 unfolding first_rows
@@ -148,7 +148,7 @@ seen_earlier : (row : SeenRow) (ks : List Kind) (n : ℕ) → fold (earlier row)
 seen_earlier row [] n = refl
 seen_earlier row (k ∷ ks) n = seen_earlier row ks (earlier row n k)
 
--- the table has the number of rows of a row's kind
+-- the table has the number of rows of each kind
 pub count_fits : (rows : List SeenRow) (row : SeenRow) (ks : List Kind) → map seen_kind ks ≡ kinds_of rows → count_in ks row ≡ count_by (is_like row) rows
 count_fits rows row ks is =
     seen_earlier row ks 0 ∙ ap (fold (λ n k. if is_of k row then k.count else n) 0) is ∙ fold_first rows row (first_rows 1 [] rows) 0
@@ -190,7 +190,7 @@ some_more n = grind arith
 not_none : (n : ℕ) → (suc n == 0) ≡ false
 not_none n = grind arith
 
--- the table after one more row
+-- the table after another row
 pub kinds_push : (rows : List SeenRow) (row : Row) (ks : List Kind) → map seen_kind ks ≡ kinds_of rows
     → map seen_kind (counted ks row) ≡ kinds_of (rows ++ seen_row row ∷ [])
 kinds_push rows row ks is =
@@ -217,7 +217,7 @@ same x y z = cc
 tally : (v w : Verdict) (rows : List SeenRow) (row : SeenRow) → row.verdict ≡ w → count_of v (rows ++ row ∷ []) ≡ count_of v rows + (if is_verdict v w then 1 else 0)
 tally v w rows row is = sum_by-append (λ t. if is_verdict v t.verdict then 1 else 0) rows (row ∷ []) ∙ rw is (omega arith)
 
--- the counts after one more row
+-- the counts after another row
 pub counts_push : (rows : List SeenRow) (row : SeenRow) → counts_of (rows ++ row ∷ []) ≡ tallied (counts_of rows) row.verdict
 counts_push rows row = go row.verdict refl
   where

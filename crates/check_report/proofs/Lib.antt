@@ -4,7 +4,7 @@ mod TellingChanges
 mod Counting
 mod ReportParts
 mod SoundRows
-mod ListedParts
+mod Printed
 mod Texts
 pub mod BadRows
 mod ShownRows

@@ -1,144 +1,117 @@
 -- The text of a report, part by part.
 use Rattle.std.proofs.Common.{◌≡◌, ◌∙◌, ℕ, List, [], ◌∷◌, ◌++◌, map, Bool, true, false, refl, ap, ap₂, sym, append_assoc, append-nil}
-use Rattle.std.specs.Prelude.{fold, Option, Some, None}
+use Rattle.std.specs.Prelude.{fold, Option, Some, None, if◌then◌else◌}
 use Rattle.std.specs.List.{flat_map}
 use Rattle.std.specs.Option.{option_map_or}
 use lib.Chars.{codes}
 use Rattle.std.proofs.lemmas.List.{map-append}
-use Rattle.std.proofs.lemmas.List.Folds.{flat_map-map}
 use Rattle.std.proofs.lemmas.List.Sums.{fold-append}
 use Rattle.std.proofs.lemmas.Grind.{flat_map-append}
-use Rattle.json.specs.Json.{Json, Members, no_members, member, object}
-use Rattle.json.specs.Token.{Token}
+use Rattle.json.specs.Json.{Members, no_members, member}
+use Rattle.json.specs.Token.{Token, begin_object, end_array, end_object}
 use Rattle.json.specs.Tree.{json_tokens, members_tokens}
 use Rattle.json.specs.Print.{ends, print, print_from}
 use Rattle.json.proofs.Printed.Tokens.{print_from-append}
+use Rattle.flash_format.specs.Printed.{line_feed}
 use Rattle.check_report.specs.declared.rows.kinds.Counts.{Counts}
 use Rattle.check_report.specs.declared.rows.form.Form.{Form}
 use Rattle.check_report.specs.declared.rows.form.Form.TheVariants as forms
-use Rattle.check_report.specs.Rows.Rows.{SeenRow, row_text}
-use Rattle.check_report.specs.Rows.Components.{SeenComponent, component_text}
-use Rattle.check_report.specs.Rows.Documents.{SeenFiles, between_tokens, closing_tokens, comma_if, component_json, follows_after, member_tokens, objects, row_json, row_tokens, start_tokens}
-use Rattle.check_report.specs.Rows.Reports.{ending, heading, list_parts, report_with, row_parts}
-use Rattle.check_report.proofs.RowLemmas.Tokens.{document-tokens, opening_tokens}
+use Rattle.check_report.specs.Rows.Fields.{Line, SeenField, array_value, line_json, line_text, members}
+use Rattle.check_report.specs.Rows.Reports.{SeenFiles, begin_tokens, count_fields, document, ending, file_fields, follows_after, heading, list_fields, member_tokens, objects, parts, report_with}
+use Rattle.check_report.proofs.RowLemmas.Tokens.{fields_tokens, object_tokens}
 
--- whether a value just ended after these tokens
+-- a value just ended after these tokens
 abbrev pub ended : Bool → List Token → Bool
 ended b ts = fold (λ _ t. ends t) b ts
 
 ended_members : (b : Bool) (ms : Members) → ended b (members_tokens ms) ≡ true
 ended_members b no_members = refl
-ended_members b (member k j ms) =
-    fold-append (λ _ t. ends t) false (json_tokens j) (members_tokens ms) ∙ ended_members _ ms
+ended_members b (member k j ms) = fold-append (λ _ t. ends t) false (json_tokens j) (members_tokens ms) ∙ ended_members _ ms
 
-abbrev IsObject : Json → Type 0
-IsObject j = (ms : Members) × (j ≡ object ms)
+abbrev lines_tokens : List Line → List Token
+lines_tokens lines = flat_map json_tokens (map line_json lines)
 
-row_is_object : (row : SeenRow) → IsObject (row_json row)
-unfolding row_json
-row_is_object row = (_, refl)
+follows_true : (lines : List Line) → follows_after true lines ≡ true
+follows_true [] = refl
+follows_true (line ∷ lines) = refl
 
-component_is_object : (c : SeenComponent) → IsObject (component_json c)
-unfolding component_json
-component_is_object c = (_, refl)
+-- the flag after lines
+ended_lines : (b : Bool) (lines : List Line) → ended b (lines_tokens lines) ≡ follows_after b lines
+ended_lines b [] = refl
+ended_lines b (line ∷ lines) = fold-append (λ _ t. ends t) b (json_tokens (line_json line)) (lines_tokens lines)
+    ∙ ap (λ c. ended c (lines_tokens lines)) (ended_members false (members line.fields)) ∙ ended_lines true lines ∙ follows_true lines
 
-ended_object : (b : Bool) (j : Json) → IsObject j → ended b (json_tokens j) ≡ true
-ended_object b j is = ap (λ k. ended b (json_tokens k)) is.1 ∙ ended_members false is.0
+-- lines after lines
+pub parts_append : (form : Form) (b : Bool) (xs ys : List Line) → parts form b (xs ++ ys) ≡ parts form b xs ++ parts form (follows_after b xs) ys
+parts_append forms.Text b xs ys = flat_map-append line_text xs ys
+parts_append forms.Json b xs ys =
+    ap (λ js. print_from b (flat_map json_tokens js)) (map-append line_json xs ys)
+    ∙ ap (print_from b) (flat_map-append json_tokens (map line_json xs) (map line_json ys))
+    ∙ print_from-append b (lines_tokens xs) (lines_tokens ys)
+    ∙ ap (λ c. print_from b (lines_tokens xs) ++ print_from c (lines_tokens ys)) (ended_lines b xs)
 
--- the flag after objects
-ended_objects : {X : Type 0} (f : X → Json) → ((x : X) → IsObject (f x)) → (b : Bool) (xs : List X) → ended b (flat_map json_tokens (map f xs)) ≡ follows_after b xs
-ended_objects {X} f are b [] = refl
-ended_objects {X} f are b (x ∷ xs) = fold-append (λ _ t. ends t) b (json_tokens (f x)) (flat_map json_tokens (map f xs))
-    ∙ ap (λ c. ended c (flat_map json_tokens (map f xs))) (ended_object b (f x) (are x)) ∙ ended_objects f are true xs ∙ always xs
-  where
-    always : (xs : List X) → follows_after true xs ≡ true
-    always [] = refl
-    always (y ∷ ys) = refl
-
--- objects after objects
-objects_append : {X : Type 0} (f : X → Json) → ((x : X) → IsObject (f x)) → (b : Bool) (xs ys : List X)
-    → objects b (map f (xs ++ ys)) ≡ objects b (map f xs) ++ objects (follows_after b xs) (map f ys)
-objects_append f are b xs ys =
-    ap (λ js. print_from b (flat_map json_tokens js)) (map-append f xs ys)
-    ∙ ap (print_from b) (flat_map-append json_tokens (map f xs) (map f ys))
-    ∙ print_from-append b (flat_map json_tokens (map f xs)) (flat_map json_tokens (map f ys))
-    ∙ ap (λ c. print_from b (flat_map json_tokens (map f xs)) ++ print_from c (flat_map json_tokens (map f ys))) (ended_objects f are b xs)
-
--- rows after rows
-pub parts_append : (form : Form) (b : Bool) (xs ys : List SeenRow) → row_parts form b (xs ++ ys) ≡ row_parts form b xs ++ row_parts form (follows_after b xs) ys
-parts_append forms.Text b xs ys = flat_map-append row_text xs ys
-parts_append forms.Json b xs ys = objects_append row_json row_is_object b xs ys
-
--- components after components
-pub list_append : (form : Form) (b : Bool) (xs ys : List SeenComponent) → list_parts form b (xs ++ ys) ≡ list_parts form b xs ++ list_parts form (follows_after b xs) ys
-list_append forms.Text b xs ys = flat_map-append component_text xs ys
-list_append forms.Json b xs ys = objects_append component_json component_is_object b xs ys
+pub no_parts : (form : Form) (b : Bool) → parts form b [] ≡ []
+unfolding print_from
+no_parts forms.Text b = refl
+no_parts forms.Json b = refl
 
 -- an object after a value
-object_after : (b : Bool) (ms : Members) → comma_if b ++ print (json_tokens (object ms)) ≡ print_from b (json_tokens (object ms))
+pub line_after : (b : Bool) (line : Line) → (if b then codes "," else []) ++ print (json_tokens (line_json line)) ≡ objects b (line_json line ∷ [])
 unfolding print_from
-object_after true ms = refl
-object_after false ms = refl
+line_after true line = ap (λ ts. print_from true ts) (sym (append-nil (json_tokens (line_json line))))
+line_after false line = ap (λ ts. print_from false ts) (sym (append-nil (json_tokens (line_json line))))
 
-one_after : (b : Bool) (j : Json) → IsObject j → comma_if b ++ print (json_tokens j) ≡ objects b (j ∷ [])
-one_after b j is =
-    ap (λ k. comma_if b ++ print (json_tokens k)) is.1 ∙ object_after b is.0
-    ∙ ap (print_from b) (ap json_tokens (sym is.1) ∙ sym (append-nil (json_tokens j)))
+-- ---- the parts make the report
 
-pub row_after : (b : Bool) (row : SeenRow) → comma_if b ++ print (row_tokens row) ≡ objects b (row_json row ∷ [])
-row_after b row = one_after b (row_json row) (row_is_object row)
+abbrev opening_tokens : SeenFiles → Option (List Line) → List Token
+opening_tokens files list = (begin_object ∷ flat_map member_tokens (file_fields files ++ list_fields list)) ++ begin_tokens (codes "rows")
 
-pub component_after : (b : Bool) (c : SeenComponent) → comma_if b ++ print (json_tokens (component_json c)) ≡ objects b (component_json c ∷ [])
-component_after b c = one_after b (component_json c) (component_is_object c)
+begun : (ts : List Token) (name : List ℕ) → ended false (ts ++ begin_tokens name) ≡ false
+begun ts name = fold-append (λ _ t. ends t) false ts (begin_tokens name)
 
-started : (image : List ℕ) (old : Option (List ℕ)) (name : List ℕ) → ended false (start_tokens (record { image = image; old = old }) name) ≡ false
-unfolding start_tokens member_tokens
-started image None name = refl
-started image (Some old) name = refl
-
-opened : (files : SeenFiles) (list : Option (List SeenComponent)) → ended false (opening_tokens files list) ≡ false
-opened files None = started files.image files.old (codes "rows")
-opened files (Some cs) = fold-append (λ _ t. ends t) false (start_tokens files (codes "components") ++ flat_map json_tokens (map component_json cs)) between_tokens
-
-between_after : (b : Bool) → print_from b between_tokens ≡ print between_tokens
+-- an end after any tokens
+after : (b : Bool) (ts : List Token) → print_from b (end_array ∷ ts) ≡ print (end_array ∷ ts)
 unfolding print_from
-between_after true = refl
-between_after false = refl
+after true ts = refl
+after false ts = refl
 
--- the heading is that of the opening tokens
-opening_text : (files : SeenFiles) (list : Option (List SeenComponent)) → heading forms.Json files list ≡ print (opening_tokens files list)
+-- an array after its start, and the tokens after the array
+array_text : (start : List Token) (name : List ℕ) (lines : List Line) (rest : List Token)
+    → print ((((start ++ begin_tokens name) ++ lines_tokens lines)) ++ (end_array ∷ rest))
+    ≡ (print (start ++ begin_tokens name) ++ parts forms.Json false lines) ++ print (end_array ∷ rest)
+array_text start name lines rest =
+    print_from-append false ((start ++ begin_tokens name) ++ lines_tokens lines) (end_array ∷ rest)
+    ∙ ap₂ (λ x y. x ++ y)
+    (print_from-append false (start ++ begin_tokens name) (lines_tokens lines)
+    ∙ ap (λ c. print (start ++ begin_tokens name) ++ print_from c (lines_tokens lines)) (begun start name))
+    (after _ rest)
+
+-- the heading has the opening tokens
+opening_text : (files : SeenFiles) (list : Option (List Line)) → heading forms.Json files list ≡ print (opening_tokens files list)
 opening_text files None = refl
-opening_text files (Some cs) =
-    let start = start_tokens files (codes "components") in
-    let middle = flat_map json_tokens (map component_json cs) in
-    let starts : print (start ++ middle) ≡ print start ++ print_from false middle =
-    print_from-append false start middle ∙ ap (λ c. print start ++ print_from c middle) (started files.image files.old (codes "components")) in
-    let all : print ((start ++ middle) ++ between_tokens) ≡ (print start ++ print_from false middle) ++ print between_tokens =
-    print_from-append false (start ++ middle) between_tokens ∙ ap₂ (λ x y. x ++ y) starts (between_after _) in
-    sym all
+opening_text files (Some lines) =
+    sym (array_text (begin_object ∷ flat_map member_tokens (file_fields files)) (codes "components") lines (begin_tokens (codes "rows")))
+    ∙ sym (ap print (fields_tokens (file_fields files) [] (codes "components") (map line_json lines) (begin_tokens (codes "rows"))))
 
-opening_lines : (files : SeenFiles) (list : Option (List SeenComponent)) → heading forms.Text files list ≡ option_map_or (flat_map component_text) list []
+opening_lines : (files : SeenFiles) (list : Option (List Line)) → heading forms.Text files list ≡ option_map_or (flat_map line_text) list []
 opening_lines files None = refl
-opening_lines files (Some cs) = append-nil (flat_map component_text cs)
+opening_lines files (Some lines) = append-nil (flat_map line_text lines)
 
-closing : (b : Bool) (counts : Counts) → print_from b (closing_tokens counts) ≡ print (closing_tokens counts)
-unfolding print_from closing_tokens
-closing true counts = refl
-closing false counts = refl
-
--- the parts make the report
-pub whole : (form : Form) (files : SeenFiles) (list : Option (List SeenComponent)) (rows : List SeenRow) (counts : Counts)
-    → heading form files list ++ (row_parts form false rows ++ ending form counts) ≡ report_with form files list rows counts
-unfolding report_with
+pub whole : (form : Form) (files : SeenFiles) (list : Option (List Line)) (rows : List Line) (counts : Counts)
+    → heading form files list ++ (parts form false rows ++ ending form counts) ≡ report_with form files list rows counts
+unfolding report_with document
 whole forms.Text files list rows counts =
-    ap (λ l. l ++ (row_parts forms.Text false rows ++ ending forms.Text counts)) (opening_lines files list)
-    ∙ sym (append_assoc (option_map_or (flat_map component_text) list []) (flat_map row_text rows) (ending forms.Text counts))
+    ap (λ l. l ++ (parts forms.Text false rows ++ ending forms.Text counts)) (opening_lines files list)
+    ∙ sym (append_assoc (option_map_or (flat_map line_text) list []) (flat_map line_text rows) (ending forms.Text counts))
 whole forms.Json files list rows counts =
-    let opening = opening_tokens files list in
-    let middle = flat_map row_tokens rows in
-    let tokens : flat_map json_tokens (map row_json rows) ≡ middle = flat_map-map json_tokens row_json rows in
-    let starts : print_from false (opening ++ middle) ≡ print opening ++ print_from false middle =
-    print_from-append false opening middle ∙ ap (λ c. print opening ++ print_from c middle) (opened files list) in
-    let all : print ((opening ++ middle) ++ closing_tokens counts) ≡ (print opening ++ print_from false middle) ++ print (closing_tokens counts) =
-    print_from-append false (opening ++ middle) (closing_tokens counts) ∙ ap₂ (λ x y. x ++ y) starts (closing _ counts) in
-    rw (opening_text files list, tokens, document-tokens files list rows counts, all) (simp append_assoc)
+    let first : List SeenField = file_fields files ++ list_fields list in
+    let last : List SeenField = count_fields counts in
+    let start : List Token = begin_object ∷ flat_map member_tokens first in
+    let rest : List Token = flat_map member_tokens last ++ end_object ∷ [] in
+    let heads : heading forms.Json files list ≡ print (start ++ begin_tokens (codes "rows")) = opening_text files list in
+    let tokens : json_tokens (document files list rows counts) ≡ ((start ++ begin_tokens (codes "rows")) ++ lines_tokens rows) ++ (end_array ∷ rest) =
+    object_tokens (first ++ (codes "rows", array_value (map line_json rows)) ∷ last) ∙ fields_tokens first last (codes "rows") (map line_json rows) (end_object ∷ []) in
+    ap (λ l. l ++ (parts forms.Json false rows ++ (print (end_array ∷ rest) ++ line_feed))) heads
+    ∙ sym (append_assoc (print (start ++ begin_tokens (codes "rows"))) (parts forms.Json false rows) (print (end_array ∷ rest) ++ line_feed))
+    ∙ sym (append_assoc (print (start ++ begin_tokens (codes "rows")) ++ parts forms.Json false rows) (print (end_array ∷ rest)) line_feed)
+    ∙ ap (λ l. l ++ line_feed) (sym (array_text start (codes "rows") rows rest) ∙ sym (ap print tokens))

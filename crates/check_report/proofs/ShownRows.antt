@@ -1,4 +1,4 @@
--- A row that is not shown is like one that is.
+-- A hidden row is like a shown row.
 use Rattle.std.proofs.Common.{◌≡◌, ℕ, ◌<◌, nat_lt, List, [], ◌∷◌, ◌++◌, Bool, true, false, refl, arith}
 use Rattle.std.specs.Prelude.{◌||◌, count_by}
 use Rattle.std.specs.List.{list_any}
@@ -19,7 +19,7 @@ same Remark Change is = refl
 same Change Bad is = grind arith
 same Change Remark is = refl
 
--- where rows like a bad one are there, one is bad
+-- if rows are like a bad row, a row is bad
 like_bad : (row : SeenRow) (rows : List SeenRow) → 0 < count_by (is_like row) rows → is_bad_row row ≡ true → list_any is_bad_row rows ≡ true
 like_bad row [] some bad = grind arith
 like_bad row (r ∷ rs) some bad = go (is_like row r) refl (like_bad row rs)

@@ -1,150 +1,74 @@
--- A writer after one more row, and at the end.
-use Rattle.std.proofs.Common.{◌≡◌, ◌∙◌, ℕ, ◌<◌, ◌+◌, ◌≤◌, arith, length, take, get_or, nat_lt, List, [], ◌∷◌, ◌++◌, map, Bool, true, false, refl, ap, ap₂, sym, append-nil, append_assoc}
-use Rattle.std.specs.Prelude.{◌||◌, if◌then◌else◌, is_some, slice_get, count_by, Option, Result, Ok, Err, IfOk}
+-- A writer after another row, and at the end.
+use Rattle.std.proofs.Common.{◌≡◌, ◌∙◌, ℕ, arith, nat_lt, List, [], ◌∷◌, ◌++◌, map, Bool, true, false, refl, ap, sym, append-nil, append_assoc}
+use Rattle.std.specs.Prelude.{◌||◌, if◌then◌else◌, count_by, Option, Result, Ok, Err, OnOk}
 use Rattle.std.specs.List.{flat_map, list_any}
-use Rattle.std.proofs.lemmas.List.{map-append, take_more}
-use Rattle.std.proofs.lemmas.List.Concat.{flat_map-cons}
-use Rattle.std.proofs.lemmas.List.Sums.{sum_by-cons}
-use Rattle.std.proofs.lemmas.Grind.{flat_map-append}
-use Rattle.check_report.specs.declared.rows.row.Verdict.TheVariants.{Bad}
 use Rattle.std.specs.Io.KnownBytes.{Appends}
+use Rattle.std.proofs.lemmas.List.{map-append}
+use Rattle.std.proofs.lemmas.List.Sums.{sum_by-cons}
 use Rattle.std.proofs.KnownBytes.{Appends-nil, Appends-trans}
-use Rattle.json.specs.Print.{print_from}
-use Rattle.check_report.specs.declared.rows.form.Form.{Form}
-use Rattle.check_report.specs.declared.rows.form.Form.TheVariants as forms
+use Rattle.check_report.specs.declared.fault.WriteFault.{WriteFault}
 use Rattle.check_report.specs.declared.rows.kinds.Kind.{Kind}
 use Rattle.check_report.specs.declared.rows.kinds.Counts.{Counts}
+use Rattle.check_report.specs.declared.rows.printer.Printer.{Printer}
 use Rattle.check_report.specs.declared.rows.row.Row.{Row}
-use Rattle.check_report.specs.declared.fault.WriteFault.{WriteFault}
+use Rattle.check_report.specs.declared.rows.row.Verdict.TheVariants.{Bad}
 use Rattle.check_report.specs.declared.rows.writer.RowWriter.{RowWriter}
-use Rattle.check_report.specs.declared.rows.writer.Setup.{Setup}
-use Rattle.check_report.specs.declared.rows.writer.Written.{Written}
-use Rattle.check_report.specs.Rows.Components.{SeenComponent}
-use Rattle.check_report.specs.Rows.Documents.{SeenFiles, follows_after}
-use Rattle.check_report.specs.Rows.Rows.{SeenRow, count_of, counts_of, is_bad_row, is_verdict, row_if, seen_row}
-use Rattle.check_report.specs.Rows.Limits.{SeenKind, first_rows, is_like, kinds_of, limited_rows, more_of, more_row, more_rows, row_within, seen_kind, shown_rows}
-use Rattle.check_report.specs.Rows.Reports.{ending, heading, report, row_parts, rows_text}
-use Rattle.check_report.specs.Rows.Writing.{Adds, HasAdded, IsSound, count_in, counted, rows_in, tallied}
+use Rattle.check_report.specs.Rows.Fields.{Line}
+use Rattle.check_report.specs.Rows.Rows.{SeenRow, count_of, counts_of, is_bad_row, is_verdict, row_if, row_line, seen_row}
+use Rattle.check_report.specs.Rows.Limits.{first_rows, is_like, kinds_of, limited_rows, more_of, more_rows, row_within, seen_kind, shown_rows}
+use Rattle.check_report.specs.Rows.Reports.{SeenFiles, ending, follows_after, heading, parts, report}
+use Rattle.check_report.specs.Rows.Writing.{Adds, Ends, HasAdded, HasPrinted, IsSound, count_in, counted, rows_in, shown_lines, tallied}
 use Rattle.check_report.proofs.Counting.{count_fits, counts_push, first_push, kinds_push}
-use Rattle.check_report.proofs.ReportParts.{parts_append, whole}
+use Rattle.check_report.proofs.Printed.{printed_both}
+use Rattle.check_report.proofs.ReportParts.{no_parts, whole}
 
-pub no_parts : (form : Form) (b : Bool) → row_parts form b [] ≡ []
-unfolding print_from
-no_parts forms.Text b = refl
-no_parts forms.Json b = refl
-
--- the rows that are shown
-abbrev pub chosen : Bool → List SeenRow → List SeenRow
-chosen verbose rows = if verbose then rows else shown_rows rows
-
-no_rows : (verbose : Bool) → chosen verbose [] ≡ []
+no_lines : (verbose : Bool) → shown_lines verbose [] ≡ []
 unfolding first_rows
-no_rows true = refl
-no_rows false = refl
+no_lines true = refl
+no_lines false = refl
 
 no_kinds : kinds_of [] ≡ []
 unfolding first_rows
 no_kinds = refl
 
 pub sound_empty : {W : Type 0} (contents : W → Option (List ℕ)) (w : RowWriter W) → rows_in w ≡ [] → w.kinds.items ≡ [] → w.counts ≡ counts_of []
-    → w.setup.begun.value ≡ w.out → IsSound contents w
-sound_empty contents w rows kinds counts begun = record {
+    → w.begun.value ≡ w.printer → w.printer.follows ≡ false → IsSound contents w
+sound_empty contents w rows kinds counts begun follows = record {
   kinds = ap (map seen_kind) kinds ∙ sym (ap kinds_of rows ∙ no_kinds);
   counts = counts ∙ sym (ap counts_of rows);
-  text = rw (begun, rows, no_rows w.setup.is_verbose, no_parts w.setup.form false) (Appends-nil (contents w.out));
+  printed = rw (begun, rows, no_lines w.is_verbose, no_parts w.printer.form false) (record { text = Appends-nil (contents w.printer.out); form = refl; follows = follows });
 }
 
--- a row follows if the table has a kind
-table_follows : (ks : List Kind) (rows : List SeenRow) → map seen_kind ks ≡ kinds_of rows → is_some (slice_get ks 0) ≡ follows_after false rows
-unfolding first_rows
-table_follows [] [] is = refl
-table_follows [] (r ∷ rs) is = absurd (cc)
-table_follows (k ∷ ks) [] is = absurd (cc)
-table_follows (k ∷ ks) (r ∷ rs) is = refl
+-- another row is shown within the limit
+shown_push : (verbose : Bool) (rows : List SeenRow) (row : SeenRow) (n : ℕ) → n ≡ count_by (is_like row) rows
+    → shown_lines verbose (rows ++ row ∷ []) ≡ shown_lines verbose rows ++ map row_line (row_if (verbose || nat_lt n 16) row)
+shown_push true rows row n is = map-append row_line rows (row ∷ [])
+shown_push false rows row n is =
+    ap (map row_line) (first_push 16 [] rows row) ∙ map-append row_line (shown_rows rows) (row_within 16 rows row)
+    ∙ ap (λ m. shown_lines false rows ++ map row_line (row_if (nat_lt m 16) row)) (sym is)
 
-shown_follows : (rows : List SeenRow) → follows_after false (shown_rows rows) ≡ follows_after false rows
-unfolding first_rows
-shown_follows [] = refl
-shown_follows (r ∷ rs) = refl
-
-part_if : (form : Form) (b follows : Bool) (row : SeenRow) → row_parts form follows (row_if b row) ≡ (if b then row_parts form follows (row ∷ []) else [])
-part_if form true follows row = refl
-part_if form false follows row = no_parts form follows
-
-parts_push : (form : Form) (verbose follows : Bool) (rows : List SeenRow) (row : SeenRow) (n : ℕ) → n ≡ count_by (is_like row) rows → follows ≡ follows_after false rows
-    → row_parts form false (chosen verbose (rows ++ row ∷ []))
-    ≡ row_parts form false (chosen verbose rows) ++ (if (verbose || nat_lt n 16) then row_parts form follows (row ∷ []) else [])
-parts_push form true follows rows row n is after =
-    parts_append form false rows (row ∷ []) ∙ ap (λ b. row_parts form false rows ++ row_parts form b (row ∷ [])) (sym after)
-parts_push form false follows rows row n is after =
-    ap (row_parts form false) (first_push 16 [] rows row) ∙ parts_append form false (shown_rows rows) (row_within 16 rows row)
-    ∙ ap (λ b. row_parts form false (shown_rows rows) ++ row_parts form b (row_within 16 rows row)) (shown_follows rows ∙ sym after)
-    ∙ ap (λ l. row_parts form false (shown_rows rows) ++ l) (part_if form _ follows row)
-    ∙ ap (λ m. row_parts form false (shown_rows rows) ++ (if nat_lt m 16 then row_parts form follows (row ∷ []) else [])) (sym is)
-
--- one more row
+-- another row
 pub sound_then : {W : Type 0} (contents : W → Option (List ℕ)) (old new : RowWriter W) (row : Row) → rows_in new ≡ rows_in old ++ seen_row row ∷ []
-    → new.setup ≡ old.setup → new.kinds.items ≡ counted old.kinds.items row → new.counts ≡ tallied old.counts row.verdict
-    → Appends (contents old.out) (contents new.out) (if (old.setup.is_verbose || nat_lt (count_in old.kinds.items (seen_row row)) 16)
-    then row_parts old.setup.form (is_some (slice_get old.kinds.items 0)) (seen_row row ∷ []) else [])
+    → new.begun ≡ old.begun → new.is_verbose ≡ old.is_verbose → new.kinds.items ≡ counted old.kinds.items row → new.counts ≡ tallied old.counts row.verdict
+    → let more = map row_line (row_if (old.is_verbose || nat_lt (count_in old.kinds.items (seen_row row)) 16) (seen_row row)) in
+    HasPrinted contents old.printer new.printer (parts old.printer.form old.printer.follows more) (follows_after old.printer.follows more)
     → HasAdded contents old new (seen_row row ∷ [])
-sound_then contents old new row rows setup kinds counts text = record {
+sound_then contents old new row rows begun verbose kinds counts printed = record {
   rows = rows;
-  setup = setup;
+  begun = begun;
+  is_verbose = verbose;
   sound = λ (s : IsSound contents old). record {
     kinds = ap (map seen_kind) kinds ∙ kinds_push (rows_in old) row old.kinds.items s.kinds ∙ sym (ap kinds_of rows);
     counts = counts ∙ ap (λ c. tallied c row.verdict) s.counts ∙ sym (counts_push (rows_in old) (seen_row row)) ∙ sym (ap counts_of rows);
-    text = rw (
-      setup,
+    printed = rw (
+      begun,
+      verbose,
       rows,
-      parts_push old.setup.form old.setup.is_verbose (is_some (slice_get old.kinds.items 0)) (rows_in old) (seen_row row)
-          (count_in old.kinds.items (seen_row row)) (count_fits (rows_in old) (seen_row row) old.kinds.items s.kinds) (table_follows old.kinds.items (rows_in old) s.kinds),
+      shown_push old.is_verbose (rows_in old) (seen_row row) (count_in old.kinds.items (seen_row row)) (count_fits (rows_in old) (seen_row row) old.kinds.items s.kinds),
     )
-        (Appends-trans _ _ _ _ _ s.text text);
+        (printed_both contents _ old.printer new.printer false (shown_lines old.is_verbose (rows_in old)) _ s.printed printed);
   };
 }
-
--- the rows for kinds of which some are not shown follow the shown rows
-no_more : (form : Form) (rows : List SeenRow) → row_parts form false (shown_rows rows) ++ row_parts form true (more_rows rows) ≡ row_parts form false (shown_rows rows ++ more_rows rows)
-unfolding first_rows
-no_more form [] = ap₂ (λ x y. x ++ y) (no_parts form false) (no_parts form true) ∙ sym (no_parts form false)
-no_more form (r ∷ rs) = sym (parts_append form false (shown_rows (r ∷ rs)) (more_rows (r ∷ rs)))
-
-pub shown_and_more : (form : Form) (rows : List SeenRow) (ks : List Kind) → map seen_kind ks ≡ kinds_of rows
-    → row_parts form false (shown_rows rows) ++ row_parts form true (flat_map more_of (map seen_kind ks)) ≡ row_parts form false (shown_rows rows ++ more_rows rows)
-shown_and_more form rows ks is = ap (λ l. row_parts form false (shown_rows rows) ++ row_parts form true (flat_map more_of l)) is ∙ no_more form rows
-
-follows_true : (xs : List SeenRow) → follows_after true xs ≡ true
-follows_true [] = refl
-follows_true (x ∷ xs) = refl
-
-more_push : (form : Form) (ks : List Kind) (i : ℕ) (d : Kind) → i < length ks
-    → row_parts form true (flat_map more_of (map seen_kind (take (i + 1) ks)))
-    ≡ row_parts form true (flat_map more_of (map seen_kind (take i ks))) ++ row_parts form true (more_of (seen_kind (get_or ks i d)))
-more_push form ks i d lt =
-    ap (λ l. row_parts form true (flat_map more_of (map seen_kind l))) (take_more ks i d lt)
-    ∙ ap (λ l. row_parts form true (flat_map more_of l)) (map-append seen_kind (take i ks) (get_or ks i d ∷ []))
-    ∙ ap (row_parts form true) (flat_map-append more_of (map seen_kind (take i ks)) (seen_kind (get_or ks i d) ∷ []))
-    ∙ parts_append form true (flat_map more_of (map seen_kind (take i ks))) (flat_map more_of (seen_kind (get_or ks i d) ∷ []))
-    ∙ ap₂ (λ b l. row_parts form true (flat_map more_of (map seen_kind (take i ks))) ++ row_parts form b l) (follows_true _) (flat_map-one (seen_kind (get_or ks i d)))
-  where
-    flat_map-one : (k : SeenKind) → flat_map more_of (k ∷ []) ≡ more_of k
-    flat_map-one k = flat_map-cons more_of k [] ∙ append-nil (more_of k)
-
--- the row for one more kind
-pub more_then : {W : Type 0} (contents : W → Option (List ℕ)) (first old new : W) (form : Form) (ks : List Kind) (i : ℕ) (d : Kind) → i < length ks
-    → Appends (contents first) (contents old) (row_parts form true (flat_map more_of (map seen_kind (take i ks))))
-    → Appends (contents old) (contents new) (row_parts form true (more_of (seen_kind (get_or ks i d))))
-    → Appends (contents first) (contents new) (row_parts form true (flat_map more_of (map seen_kind (take (i + 1) ks))))
-more_then contents first old new form ks i d lt so_far more =
-    rw (more_push form ks i d lt) (Appends-trans (contents first) (contents old) (contents new) _ _ so_far more)
-
--- no row for a kind of which all rows are shown
-pub few_rows : (form : Form) (k : SeenKind) → k.count ≤ 16 → row_parts form true (more_of k) ≡ []
-few_rows form k few = ap (λ b. row_parts form true (row_if b (more_row k))) none ∙ no_parts form true
-  where
-    none : nat_lt 16 k.count ≡ false
-    none = grind (arith, few)
 
 some_bad : (rows : List SeenRow) → nat_lt 0 (count_of Bad rows) ≡ list_any is_bad_row rows
 some_bad [] = refl
@@ -155,65 +79,57 @@ some_bad (r ∷ rs) = bad_then r rs (is_bad_row r) refl (some_bad rs)
     bad_then r rs true is later = rw (sum_by-cons (λ t. if is_verdict Bad t.verdict then 1 else 0) r rs, is) (grind arith)
     bad_then r rs false is later = rw (sum_by-cons (λ t. if is_verdict Bad t.verdict then 1 else 0) r rs, is) (grind (arith, later))
 
-parts_end : (form : Form) (verbose : Bool) (rows : List SeenRow) (ks : List Kind) → map seen_kind ks ≡ kinds_of rows
-    → row_parts form false (chosen verbose rows) ++ (if verbose then [] else row_parts form true (flat_map more_of (map seen_kind ks)))
-    ≡ row_parts form false (if verbose then rows else limited_rows rows)
-parts_end form true rows ks is = append-nil (row_parts form false rows)
-parts_end form false rows ks is = shown_and_more form rows ks is
+pub sound_bad : {W : Type 0} (contents : W → Option (List ℕ)) (w : RowWriter W) → IsSound contents w → nat_lt 0 w.counts.bad ≡ list_any is_bad_row (rows_in w)
+sound_bad contents w s = ap (λ (c : Counts). nat_lt 0 c.bad) s.counts ∙ some_bad (rows_in w)
+
+more_lines : (ks : List Kind) → flat_map (λ k. map row_line (more_of (seen_kind k))) ks ≡ map row_line (flat_map more_of (map seen_kind ks))
+more_lines [] = refl
+more_lines (k ∷ ks) = ap (λ l. map row_line (more_of (seen_kind k)) ++ l) (more_lines ks) ∙ sym (map-append row_line (more_of (seen_kind k)) (flat_map more_of (map seen_kind ks)))
+
+-- the rows for hidden rows follow the shown rows
+limited : (verbose : Bool) (rows : List SeenRow) (ks : List Kind) → map seen_kind ks ≡ kinds_of rows
+    → shown_lines verbose rows ++ flat_map (λ k. map row_line (more_of (seen_kind k))) (if verbose then [] else ks)
+    ≡ map row_line (if verbose then rows else limited_rows rows)
+limited true rows ks is = append-nil (map row_line rows)
+limited false rows ks is =
+    ap (λ l. shown_lines false rows ++ l) (more_lines ks ∙ ap (λ l. map row_line (flat_map more_of l)) is) ∙ sym (map-append row_line (shown_rows rows) (more_rows rows))
 
 -- the end of a report
-pub sound_end : {W : Type 0} (contents : W → Option (List ℕ)) (w : RowWriter W) (mid out : W) → IsSound contents w
-    → Appends (contents w.out) (contents mid) (if w.setup.is_verbose then [] else row_parts w.setup.form true (flat_map more_of (map seen_kind w.kinds.items)))
-    → Appends (contents mid) (contents out) (ending w.setup.form w.counts)
-    → (nat_lt 0 w.counts.bad ≡ list_any is_bad_row (rows_in w)) × Appends (contents w.setup.begun.value) (contents out) (rows_text w.setup.form w.setup.is_verbose (rows_in w))
-sound_end contents w mid out s more end = (
-  ap (λ (c : Counts). nat_lt 0 c.bad) s.counts ∙ some_bad (rows_in w),
-  rw (← parts_end w.setup.form w.setup.is_verbose (rows_in w) w.kinds.items s.kinds, ← s.counts)
-      (Appends-trans _ _ _ _ _ (Appends-trans _ _ _ _ _ s.text more) end),
-)
+pub sound_end : {W : Type 0} (contents : W → Option (List ℕ)) (w : RowWriter W) (mid out : Printer W) → IsSound contents w
+    → let more = flat_map (λ k. map row_line (more_of (seen_kind k))) (if w.is_verbose then [] else w.kinds.items) in
+    HasPrinted contents w.printer mid (parts w.printer.form w.printer.follows more) (follows_after w.printer.follows more)
+    → Appends (contents mid.out) (contents out.out) (ending mid.form w.counts) → Ends contents w [] out
+sound_end contents w mid out s more end =
+    let all = printed_both contents _ w.printer mid false (shown_lines w.is_verbose (rows_in w)) _ s.printed more in
+    rw (append-nil (rows_in w), ← limited w.is_verbose (rows_in w) w.kinds.items s.kinds, ← s.counts)
+    (Appends-trans _ _ _ _ _ all.text (rw all.form at end))
+
+-- the heading, the rows and the end are the report
+pub report_text : {W : Type 0} (contents : W → Option (List ℕ)) (result : Result Bool WriteFault) (first begun last : Printer W) (made : RowWriter W)
+    (verbose : Bool) (files : SeenFiles) (list : Option (List Line)) (rows : List SeenRow)
+    → HasPrinted contents first begun (heading first.form files list) false → rows_in made ≡ [] → made.begun.value ≡ begun → made.is_verbose ≡ verbose
+    → OnOk result (Ends contents made rows last) → OnOk result (Appends (contents first.out) (contents last.out) (report first.form verbose files list rows))
+report_text contents (Err e) first begun last made verbose files list rows before none start verbose_is end = end
+report_text contents (Ok b) first begun last made verbose files list rows before none start verbose_is end =
+    rw (← whole first.form files list (map row_line (if verbose then rows else limited_rows rows)) (counts_of rows))
+    (Appends-trans (contents first.out) (contents begun.out) (contents last.out) _ _ before.text (rw (none, start, verbose_is, before.form) at end))
 
 -- ---- rows after rows
 
-pub added_both : {W : Type 0} {contents : W → Option (List ℕ)} {old mid new : RowWriter W} {xs ys : List SeenRow} → HasAdded contents old mid xs → HasAdded contents mid new ys
+added_both : {W : Type 0} {contents : W → Option (List ℕ)} {old mid new : RowWriter W} {xs ys : List SeenRow} → HasAdded contents old mid xs → HasAdded contents mid new ys
     → HasAdded contents old new (xs ++ ys)
 added_both {W} {contents} {old} {mid} {new} {xs} {ys} a b = record {
   rows = b.rows ∙ ap (λ l. l ++ ys) a.rows ∙ append_assoc (rows_in old) xs ys;
-  setup = b.setup ∙ a.setup;
+  begun = b.begun ∙ a.begun;
+  is_verbose = b.is_verbose ∙ a.is_verbose;
   sound = λ (s : IsSound contents old). b.sound (a.sound s);
 }
 
-pub adds_after : {W : Type 0} (contents : W → Option (List ℕ)) (result : Result (Unit {0}) WriteFault) (old mid new : RowWriter W) (xs ys : List SeenRow)
-    → HasAdded contents old mid xs → Adds contents result mid new ys → Adds contents result old new (xs ++ ys)
-adds_after contents (Ok u) old mid new xs ys a b = added_both a b
-adds_after contents (Err e) old mid new xs ys a b = b
+pub adds_after : {W : Type 0} (contents : W → Option (List ℕ)) (faults : W → ℕ) (result : Result (Unit {0}) WriteFault) (old mid new : RowWriter W) (xs ys : List SeenRow)
+    → Adds contents faults (Ok tt) old mid xs → Adds contents faults result mid new ys → Adds contents faults result old new (xs ++ ys)
+adds_after contents faults (Ok u) old mid new xs ys a b = record { added = added_both a.added b.added; cause = omega (arith, a.cause, b.cause) }
+adds_after contents faults (Err e) old mid new xs ys a b = record { added = b.added; cause = omega (arith, a.cause, b.cause) }
 
--- the heading, the rows and the end make the report
-pub report_text : {W : Type 0} (contents : W → Option (List ℕ)) (result : Result (Written W) WriteFault) (out first : W) (made last : RowWriter W)
-    (form : Form) (verbose : Bool) (files : SeenFiles) (list : Option (List SeenComponent)) (rows : List SeenRow)
-    → Appends (contents out) (contents first) (heading form files list)
-    → IsSound contents made → rows_in made ≡ [] → made.setup.begun.value ≡ first → made.setup.form ≡ form → made.setup.is_verbose ≡ verbose
-    → HasAdded contents made last rows
-    → (IsSound contents last → IfOk result (λ w. (w.is_bad ≡ list_any is_bad_row (rows_in last))
-    × Appends (contents last.setup.begun.value) (contents w.out) (rows_text last.setup.form last.setup.is_verbose (rows_in last))))
-    → IfOk result (λ w. Appends (contents out) (contents w.out) (report form verbose files list rows))
-report_text {W} contents result out first made last form verbose files list rows before sound none begun form_is verbose_is added end =
-    go result (end (added.sound sound))
-  where
-    start : last.setup.begun.value ≡ first
-    start = ap (λ (s : Setup W). s.begun.value) added.setup ∙ begun
-
-    same_form : last.setup.form ≡ form
-    same_form = ap (λ (s : Setup W). s.form) added.setup ∙ form_is
-
-    same_verbose : last.setup.is_verbose ≡ verbose
-    same_verbose = ap (λ (s : Setup W). s.is_verbose) added.setup ∙ verbose_is
-
-    all : rows_in last ≡ rows
-    all = added.rows ∙ ap (λ l. l ++ rows) none
-
-    go : (r : Result (Written W) WriteFault) → IfOk r (λ w. (w.is_bad ≡ list_any is_bad_row (rows_in last))
-        × Appends (contents last.setup.begun.value) (contents w.out) (rows_text last.setup.form last.setup.is_verbose (rows_in last)))
-        → IfOk r (λ w. Appends (contents out) (contents w.out) (report form verbose files list rows))
-    go (Ok w) h = rw (← whole form files list (if verbose then rows else limited_rows rows) (counts_of rows))
-        (Appends-trans (contents out) (contents first) (contents w.out) _ _ before (rw (start, same_form, same_verbose, all) at h.1))
-    go (Err e) h = h
+pub adds_both : {W : Type 0} {contents : W → Option (List ℕ)} {faults : W → ℕ} {old mid new : RowWriter W} {xs ys : List SeenRow}
+    → Adds contents faults (Ok tt) old mid xs → Adds contents faults (Ok tt) mid new ys → Adds contents faults (Ok tt) old new (xs ++ ys)
+adds_both {W} {contents} {faults} {old} {mid} {new} {xs} {ys} a b = adds_after contents faults (Ok tt) old mid new xs ys a b

@@ -1,4 +1,4 @@
--- Lists of what is taken from other elements.
+-- Lists from other elements.
 use Rattle.std.proofs.Common.{◌≡◌, ◌∙◌, ℕ, suc, ◌<◌, ◌≤◌, List, [], ◌∷◌, length, map, take, drop, get_or, Bool, true, refl, ap, sym}
 use Rattle.std.specs.Prelude.{◌||◌}
 use Rattle.std.specs.List.{flat_map, list_any}
@@ -11,7 +11,7 @@ pub list_any-map : {X Y : Type 0} (p : Y → Bool) (f : X → Y) (xs : List X) �
 list_any-map p f [] = refl
 list_any-map p f (x ∷ xs) = ap (λ b. p (f x) || b) (list_any-map p f xs)
 
--- one that passes a test
+-- an element that passes a test
 pub any_here : {X : Type 0} (p : X → Bool) (xs : List X) (i : ℕ) (d : X) (b all : Bool) → i < length xs → b ≡ p (get_or xs i d) → b ≡ true → list_any p (drop i xs) ≡ all → true ≡ all
 any_here p xs i d b all lt is passes so_far =
     sym (ap (list_any p) (drop-cons xs i d lt) ∙ ap (λ (c : Bool). c || list_any p (drop (suc i) xs)) (sym is ∙ passes)) ∙ so_far

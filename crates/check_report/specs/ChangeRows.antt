@@ -1,4 +1,4 @@
--- Changes as rows. The codes and texts are this project's own.
+-- Rows of changes. This project defines their codes and texts.
 use Rattle.std.specs.Prelude.{ℕ, Bool, true, not, ◌||◌, ◌%◌, nat_le, List, [], ◌∷◌, ◌++◌, map, nat_lt}
 use Rattle.std.specs.Prelude.{None, ◌==◌, if◌then◌else◌}
 use Rattle.std.specs.List.{flat_map, list_any}
@@ -26,22 +26,20 @@ use Rattle.check_report.specs.declared.rows.row.Detail.TheVariants as details
 use Rattle.check_report.specs.Rows.Rows.{SeenRow, row_if, image_row, area_name, area_row}
 use Rattle.check_report.specs.Rows.Rows.{map_area_row, component_row}
 
--- what differs in an area is bad where its name is kept, and else a mere change
+-- a difference is bad in a kept area
 abbrev pub verdict_of : List (List ℕ) → NumberedArea → Verdict
 verdict_of kept a = if has_one_of kept a then verdicts.Bad else verdicts.Change
 
 -- ---- areas
 
--- a row of an area, at its place in the image
 abbrev pub changed_row : List (List ℕ) → NumberedArea → List ℕ → List ℕ → Detail → SeenRow
 changed_row kept a code what detail = map_area_row (verdict_of kept a) a code what detail
 
--- the number of blocks that is reported of an area: all that differ if its name is kept, and else
--- those that no smaller area holds
+-- all blocks of a kept area, otherwise the blocks outside smaller areas
 abbrev pub reported_blocks : List (List ℕ) → NumberedArea → ℕ → ℕ → ℕ
 reported_blocks kept a blocks own = if has_one_of kept a then blocks else own
 
--- the row of a change; an area with a vital name must not be gone
+-- the row of a change; the removal of a vital area is bad
 abbrev pub area_change_row : List (List ℕ) → List (List ℕ) → AreaChange → SeenRow
 area_change_row kept vital (areas.Added a) =
     changed_row kept a (codes "area-added") (codes "area added") details.None
@@ -61,7 +59,7 @@ area_change_row kept vital (areas.Differs a blocks own) = changed_row kept a (co
 area_change_row kept vital (areas.NotCompared a) =
     changed_row kept a (codes "area-not-compared") (codes "not compared") details.None
 
--- a change has a row; one of blocks only if some are reported
+-- different blocks need a positive number
 abbrev pub has_change_row : List (List ℕ) → AreaChange → Bool
 has_change_row kept (areas.Differs a blocks own) = nat_lt 0 (reported_blocks kept a blocks own)
 has_change_row kept _ = true
@@ -81,11 +79,11 @@ difference_code Length = codes "component-length-changed"
 difference_code Content = codes "component-content-changed"
 difference_code Attributes = codes "component-attributes-changed"
 
-abbrev pub difference_words : Difference → List ℕ
-difference_words «Type» = codes "type changed"
-difference_words Length = codes "length changed"
-difference_words Content = codes "content changed"
-difference_words Attributes = codes "attributes changed"
+abbrev pub difference_text : Difference → List ℕ
+difference_text «Type» = codes "type changed"
+difference_text Length = codes "length changed"
+difference_text Content = codes "content changed"
+difference_text Attributes = codes "attributes changed"
 
 abbrev pub component_change_row : Verdict → List ℕ → ComponentChange → SeenRow
 component_change_row v area (components.Added at name) =
@@ -94,22 +92,20 @@ component_change_row v area (components.Removed at name) =
     component_row v area at name (codes "component-removed")
     (codes "component removed") details.None
 component_change_row v area (components.Changed old new name what) =
-    component_row v area new name (difference_code what) (difference_words what) details.None
+    component_row v area new name (difference_code what) (difference_text what) details.None
 component_change_row v area (components.Moved old new name) =
     component_row v area new name (codes "component-moved") (codes "component moved from")
     (details.Number old)
 
--- a row of each change, all with the area's verdict
 abbrev pub component_rows : List (List ℕ) → NumberedArea → List ComponentChange → List SeenRow
 component_rows kept a changes = map (component_change_row (verdict_of kept a) (area_name a)) changes
 
--- that the components of an area are not compared
+-- the row of an area without a comparison of components
 abbrev pub not_compared_row : List (List ℕ) → NumberedArea → SeenRow
 not_compared_row kept a =
     changed_row kept a (codes "components-not-compared")
     (codes "components not compared") details.None
 
--- of what becomes of the components of a region
 abbrev pub region_rows : List (List ℕ) → RegionChange → List SeenRow
 region_rows kept (Compared a changes) = component_rows kept a changes
 region_rows kept (NotCompared a) = not_compared_row kept a ∷ []
@@ -128,7 +124,7 @@ abbrev pub blocks_row : ℕ → SeenRow
 blocks_row n =
     image_row verdicts.Change None (codes "blocks") (codes "erase blocks differ") (details.Count n)
 
--- of images of these lengths, which differ in so many blocks
+-- rows of the lengths, and of the number of different blocks
 abbrev pub image_rows : ℕ → ℕ → ℕ → List SeenRow
 image_rows old new blocks =
     row_if (not (old == new)) (size_row old) ++ row_if (nat_lt 0 blocks) (blocks_row blocks)
@@ -154,7 +150,7 @@ map_rows changes = map map_change_row changes
 
 -- ---- kept names
 
--- the area has the flag PRESERVE, which is bit 3
+-- the flag PRESERVE, bit 3
 abbrev pub is_preserved : NumberedArea → Bool
 is_preserved a = nat_le 8 (a.area.flags % 16)
 
@@ -164,17 +160,15 @@ name_if is_there name = if is_there then name ∷ [] else []
 abbrev pub preserved_names : List NumberedArea → List (List ℕ)
 preserved_names areas = flat_map (λ a. name_if (is_preserved a) (area_name a)) areas
 
--- the given names, and those of the areas that have the flag in one of two maps, if these are
--- kept too
+-- the given names and, on request, names of areas with the flag in either map
 abbrev pub kept_by : List (List ℕ) → Bool → List NumberedArea → List NumberedArea → List (List ℕ)
 kept_by kept keeps olds news =
     if keeps then (kept ++ preserved_names olds) ++ preserved_names news else kept
 
--- one of these areas has the name
+-- an area has the name
 abbrev pub is_there : List NumberedArea → List ℕ → Bool
 is_there all name = list_any (has_name name) all
 
--- that no area has the name
 abbrev pub missing_row : List ℕ → SeenRow
 missing_row name =
     area_row verdicts.Bad name None (codes "no-area") (codes "no such area") details.None
@@ -183,6 +177,6 @@ abbrev pub missing_if : List NumberedArea → List NumberedArea → List ℕ →
 missing_if olds news name =
     row_if (not (is_there olds name || is_there news name)) (missing_row name)
 
--- of each kept name that no area of either image has
+-- rows of kept names without an area
 abbrev pub missing_rows : List (List ℕ) → List NumberedArea → List NumberedArea → List SeenRow
 missing_rows kept olds news = flat_map (missing_if olds news) kept

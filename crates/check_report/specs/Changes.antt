@@ -1,5 +1,6 @@
 -- Two images before their report.
-use Rattle.std.specs.Prelude.{◌≡◌, ℕ, List, Some, length}
+use Rattle.std.specs.Prelude.{◌≡◌, ℕ, List, Some, Result, length}
+use Rattle.flash_device.specs.Device.{Device, faults_told}
 use Rattle.flash_device.specs.Fmap.{found_in}
 use Rattle.check_findings.specs.declared.map.finding.NumberedArea.{NumberedArea}
 use Rattle.check_findings.specs.declared.image.finding.ImageFinding.{ImageFinding}
@@ -9,12 +10,22 @@ use Rattle.check_changes.specs.Areas.MapChanges.{map_changes}
 use Rattle.check_changes.specs.Regions.RegionChanges.{region_changes}
 use Rattle.check_findings.specs.Map.MapFindings.{image_areas}
 use Rattle.check_findings.specs.Image.ImageFindings.{cbfs_areas}
+use Rattle.check_changes.specs.declared.images.Images.{Images}
+use Rattle.check_changes.specs.Images.{HasReadBoth}
+use Rattle.check_report.specs.Faults.{by_old, by_new}
+use Rattle.check_report.specs.declared.fault.ReportFault.{ReportFault}
 use Rattle.check_report.specs.declared.change.NewImage.{NewImage}
 use Rattle.check_report.specs.declared.inspection.Comparison.{Comparison}
 use Rattle.check_report.specs.declared.change.OldImage.{OldImage}
 use Rattle.check_report.specs.Reports.{SeenInspection, seen_comparison}
 
--- these are the changes from an image x to an image y with these areas and findings
+-- the images after at most m and n reads; the result reports a refused read
+abbrev pub HasInspected : {F G T : Type 0} → (F → Device) → (G → Device) → ℕ → ℕ
+    → Images F G → Images F G → Result T ReportFault → Type 0
+HasInspected f g m n before after result =
+    HasReadBoth f g m n (faults_told by_old result) (faults_told by_new result) before after
+
+-- the changes from image x to image y, by the areas and the findings of y
 pub record AreChanges (x y : List ℕ) (olds news : List NumberedArea) (findings : List ImageFinding)
     (c : Comparison) : Type 0 where
   pub old_len : c.old_len ≡ length x
@@ -24,13 +35,11 @@ pub record AreChanges (x y : List ℕ) (olds news : List NumberedArea) (findings
   pub areas : c.areas.items ≡ area_changes x olds y news
   pub regions : c.regions.items ≡ region_changes x olds y findings
 
--- the map and the regions of an image x
 pub record IsOldImage (x : List ℕ) (image : OldImage) : Type 0 where
   pub found : image.map.found ≡ found_in x
   pub areas : image.map.areas.items ≡ image_areas x
   pub regions : image.regions.items ≡ cbfs_areas x (image_areas x)
 
--- the result of a check of a new image that replaces this old one
 abbrev pub seen_new : OldImage → NewImage → SeenInspection
 seen_new image n = record {
   findings = n.findings.items;

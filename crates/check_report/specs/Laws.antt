@@ -1,4 +1,4 @@
--- What the verdicts of the rows say of the findings.
+-- Laws about verdicts.
 use Rattle.std.specs.Prelude.{◌≡◌, ℕ, List}
 use Rattle.std.specs.List.{list_any}
 use Rattle.check_findings.specs.declared.image.finding.ImageFinding.{ImageFinding}
@@ -8,14 +8,14 @@ use Rattle.check_report.specs.Rows.Rows.{SeenRow, is_bad_row}
 use Rattle.check_report.specs.Rows.Limits.{shown_rows}
 use Rattle.check_report.specs.FindingRows.{finding_rows}
 
--- some row is bad exactly where some finding is
+-- a row is bad exactly if a finding is bad
 abbrev pub RowsTellWhatIsBad : Type 0
 RowsTellWhatIsBad =
     (asked : Asked) (names : List (List ℕ)) (findings : List ImageFinding)
     → list_any is_bad_row (finding_rows asked names findings)
     ≡ list_any (is_bad asked.needs_hashes) findings
 
--- some row that is shown is bad exactly where some row is
+-- a shown row is bad exactly if a row is bad
 abbrev pub LimitsLoseNoBadRow : Type 0
 LimitsLoseNoBadRow =
     (rows : List SeenRow) → list_any is_bad_row (shown_rows rows) ≡ list_any is_bad_row rows

@@ -1,37 +1,41 @@
 -- The components of the checked areas.
 use Rattle.std.specs.Prelude.{ℕ, Bool, List, [], ◌∷◌, Option, Some, None, if◌then◌else◌}
 use Rattle.std.specs.List.{flat_map}
-use Rattle.check_findings.specs.declared.region.finding.ComponentFinding.TheVariants.{Content}
+use lib.Chars.{codes}
+use Rattle.check_findings.specs.declared.region.finding.Content.{Content}
 use Rattle.check_findings.specs.declared.region.finding.RegionFinding.{RegionFinding}
 use Rattle.check_findings.specs.declared.region.finding.RegionFinding.TheVariants.{Component}
 use Rattle.check_findings.specs.declared.image.finding.ImageFinding.{ImageFinding}
 use Rattle.check_findings.specs.declared.image.finding.ImageFinding.TheVariants.{Region}
-use Rattle.check_report.specs.Rows.Components.{SeenComponent}
+use Rattle.check_report.specs.Rows.Fields.{Line, count_value, name_value, offset_value}
+use Rattle.check_report.specs.Rows.Fields.{printed_compression, printed_type, text_value}
 use Rattle.check_report.specs.Rows.Rows.{area_name}
 use Rattle.check_report.specs.FindingRows.{hash_text}
 
--- the component with this content, in the area of this name; the findings of each component have
--- its content once
-abbrev pub component_in : List ℕ → RegionFinding → List SeenComponent
-component_in area (Component at name (Content content)) = record {
-  area = area;
-  name = name;
-  position = at;
-  kind = content.kind;
-  len = content.len;
-  compression = content.compression;
-  hash = hash_text content.hash;
-} ∷ []
+abbrev pub component_line : List ℕ → ℕ → List ℕ → Content → Line
+component_line area at name content = record {
+  head = codes "component";
+  fields = (codes "area", name_value area)
+      ∷ (codes "component", name_value name)
+      ∷ (codes "position", offset_value at)
+      ∷ (codes "type", text_value (printed_type content.kind))
+      ∷ (codes "length", count_value content.len)
+      ∷ (codes "compression", text_value (printed_compression content.compression))
+      ∷ (codes "hash", text_value (hash_text content.hash))
+      ∷ [];
+}
+
+abbrev pub component_in : List ℕ → RegionFinding → List Line
+component_in area (Component at name shadowed content) = component_line area at name content ∷ []
 component_in area _ = []
 
-abbrev pub components_in : ImageFinding → List SeenComponent
+abbrev pub components_in : ImageFinding → List Line
 components_in (Region a findings) = flat_map (component_in (area_name a)) findings
 components_in _ = []
 
--- the components of the checked areas, in their order
-abbrev pub listed : List ImageFinding → List SeenComponent
+-- the components of the checked areas, in order
+abbrev pub listed : List ImageFinding → List Line
 listed findings = flat_map components_in findings
 
--- the list, if it is asked for
-abbrev pub list_if : Bool → List ImageFinding → Option (List SeenComponent)
-list_if is_asked findings = if is_asked then Some (listed findings) else None
+abbrev pub list_if : Bool → List ImageFinding → Option (List Line)
+list_if is_requested findings = if is_requested then Some (listed findings) else None

@@ -1,4 +1,4 @@
--- The rows of a report. Which rows there are, and in which order, is this project's own.
+-- Rows of a report. This project defines their choice and order.
 use Rattle.std.specs.Prelude.{ℕ, Bool, List, [], ◌++◌, Option, Some, None, length, map}
 use Rattle.std.specs.Prelude.{option_map, is_none, if◌then◌else◌}
 use Rattle.std.specs.List.{flat_map}
@@ -26,7 +26,7 @@ use Rattle.check_report.specs.declared.inspection.Changes.{Changes}
 use Rattle.check_report.specs.declared.inspection.Comparison.{Comparison}
 use Rattle.check_report.specs.declared.inspection.Inspection.{Inspection}
 
--- what is asked of the rows
+-- the requested rows
 pub record Wish : Type 0 where
   pub areas : List (List ℕ)
   pub needs : List needs.Wish
@@ -43,16 +43,14 @@ wish_of request = record {
   asked = request.asked;
 }
 
--- the rows of what was found in an image, and of the needs that this doesn't meet
+-- rows of findings and unmet needs
 abbrev pub found_rows : Wish → List ImageFinding → List SeenRow
 found_rows wish findings =
     finding_rows wish.asked wish.areas findings ++ flat_map (need_rows findings) wish.needs
 
--- the names of the areas of the needs
 abbrev pub need_areas : Wish → List (List ℕ)
 need_areas wish = map (λ n. n.area) wish.needs
 
--- the changes from one image to another
 pub record SeenChanges : Type 0 where
   pub old_len : ℕ
   pub new_len : ℕ
@@ -64,13 +62,11 @@ pub record SeenChanges : Type 0 where
   pub old_regions : List NumberedArea
   pub new_areas : List NumberedArea
 
--- the result of a check
 pub record SeenInspection : Type 0 where
   pub findings : List ImageFinding
   pub changes : Option SeenChanges
 
--- the areas by which a new image is compared with an old one: its own ones if the old one has no
--- map
+-- the areas for a comparison: the new areas if the old image has no map
 abbrev pub compared : {M : Type 0} → Option M → List NumberedArea → List NumberedArea
     → List NumberedArea
 compared old_map olds news = if is_none old_map then news else olds
@@ -97,12 +93,11 @@ abbrev pub seen_inspection : Inspection → SeenInspection
 seen_inspection i =
     record { findings = i.findings.items; changes = option_map seen_changes i.changes }
 
--- the result for an image
 abbrev pub inspected_image : Wish → List ℕ → SeenInspection
 inspected_image wish image =
     record { findings = image_findings image wish.areas (need_areas wish); changes = None }
 
--- the findings of a new image y that replaces an old image x, whose regions are expected in y too
+-- the findings of a new image y; the regions of x are expected in y
 abbrev pub new_findings : Wish → List ℕ → List ℕ → List ImageFinding
 new_findings wish x y =
     image_findings y wish.areas (need_areas wish ++ map area_name (cbfs_areas x (image_areas x)))
@@ -122,13 +117,12 @@ changes_between wish x y =
       new_areas = image_areas y;
     }
 
--- the result for a new image y that replaces an old image x
+-- the result for image y after image x
 abbrev pub inspected_change : Wish → List ℕ → List ℕ → SeenInspection
 inspected_change wish x y =
     record { findings = new_findings wish x y; changes = Some (changes_between wish x y) }
 
--- the rows of changes: of the images as wholes, of their maps, areas and components, and of kept
--- names that no area has
+-- rows of the images, their maps, areas and components, and of kept names without an area
 abbrev pub change_rows : Wish → SeenChanges → List SeenRow
 change_rows wish c =
     let kept = rows.kept_by wish.kept wish.keeps_preserved c.old_areas c.new_areas in
@@ -137,7 +131,7 @@ change_rows wish c =
     ++ rows.area_rows kept vital c.areas) ++ rows.regions_rows kept c.regions)
     ++ rows.missing_rows wish.kept c.old_areas c.new_areas
 
--- the rows of a report: those of the findings, and those of the changes
+-- rows of findings, then of changes
 abbrev pub inspection_rows : Wish → SeenInspection → List SeenRow
 inspection_rows wish i =
     found_rows wish i.findings ++ option_map_or (change_rows wish) i.changes []

@@ -1,6 +1,5 @@
+pub mod Fields
 pub mod Rows
-pub mod Components
 pub mod Limits
-pub mod Documents
 pub mod Reports
 pub mod Writing

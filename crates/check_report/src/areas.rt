@@ -1,4 +1,4 @@
-//! Rows of changes of areas.
+//! Rows of changed areas.
 ghost use Rattle.std.specs.Prelude.{◌≡◌, map};
 ghost use Rattle.check_report.specs.Rows.Rows.{seen_row};
 ghost use Rattle.check_report.specs.ChangeRows as of;
@@ -28,16 +28,11 @@ fn changed_row<'a>(
 pub fn map_change_row<'a>(change: &MapChange) -> Row<'a>
     ensures { seen_row result ≡ of.map_change_row change.now }
 {
+    let base = "base address changed from";
     let (code, what, detail) = match change {
         MapChange::NoOldMap => ("no-old-map", "the old image has no flashmap", Detail::None),
         MapChange::MovedFrom(at) => ("map-moved", "flashmap moved from", Detail::Number(*at)),
-        MapChange::BaseChanged { old, new: _ } => {
-            (
-                "map-base",
-                "base address changed from",
-                Detail::Number(*old),
-            )
-        }
+        MapChange::BaseChanged { old, .. } => ("map-base", base, Detail::Number(*old)),
         MapChange::NameChanged => ("map-name", "name of the flashmap changed", Detail::None),
     };
     Row {
@@ -46,15 +41,14 @@ pub fn map_change_row<'a>(change: &MapChange) -> Row<'a>
     }
 }
 
-/// Returns the number of different blocks that is reported of an area: all of them if its name is
-/// kept, and else those that no smaller area holds.
+/// Counts all blocks of a kept area, otherwise the blocks outside smaller areas.
 fn reported_blocks(kept: &[&[u8]], area: NumberedArea, blocks: u32, own: u32) -> u32
     ensures { result ≡ of.reported_blocks (map (λ n. n.now) kept.now) area blocks own }
 {
     if is_kept(kept, area) { blocks } else { own }
 }
 
-/// Returns whether a change has a row. Different blocks have none if smaller areas hold them all.
+/// Returns whether a change has a row. Different blocks need a positive number.
 pub fn has_change_row(kept: &[&[u8]], change: &AreaChange) -> bool
     ensures { result ≡ of.has_change_row (map (λ n. n.now) kept.now) change.now }
 {
@@ -66,19 +60,15 @@ pub fn has_change_row(kept: &[&[u8]], change: &AreaChange) -> bool
     }
 }
 
-/// Returns the row of a change. It is bad if its area has a kept name, or is gone and has a vital
-/// name.
+/// Returns the row of a change. Changes of kept areas are bad, and removals of vital areas.
 pub fn area_change_row<'a>(kept: &[&[u8]], vital: &[&[u8]], change: &'a AreaChange) -> Row<'a>
     ensures { seen_row result ≡ of.area_change_row
         (map (λ n. n.now) kept.now) (map (λ n. n.now) vital.now) change.now }
 {
+    let none = Detail::None;
     match change {
-        AreaChange::Added(area) => {
-            changed_row(kept, area, "area-added", "area added", Detail::None)
-        }
-        AreaChange::Gone(area) => {
-            changed_row(vital, area, "area-gone", "area gone", Detail::None)
-        }
+        AreaChange::Added(area) => changed_row(kept, area, "area-added", "area added", none),
+        AreaChange::Gone(area) => changed_row(vital, area, "area-gone", "area gone", none),
         AreaChange::Moved { old, new } => {
             let offset = Detail::Number(u64::from(old.area.offset));
             changed_row(kept, new, "area-moved", "area moved from", offset)
@@ -97,13 +87,12 @@ pub fn area_change_row<'a>(kept: &[&[u8]], vital: &[&[u8]], change: &'a AreaChan
             changed_row(kept, area, "area-changed", "erase blocks differ", blocks)
         }
         AreaChange::NotCompared(area) => {
-            let what = "not compared";
-            changed_row(kept, area, "area-not-compared", what, Detail::None)
+            changed_row(kept, area, "area-not-compared", "not compared", none)
         }
     }
 }
 
-/// Returns the row that says that the components of an area are not compared.
+/// Returns the row of an area without a comparison of components.
 pub fn not_compared_row<'a>(kept: &[&[u8]], area: &'a NumberedArea) -> Row<'a>
     ensures { seen_row result ≡ of.not_compared_row (map (λ n. n.now) kept.now) area.now }
 {

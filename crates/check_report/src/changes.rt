@@ -1,4 +1,4 @@
-//! The rows of what changes.
+//! The rows of changes.
 ghost use Rattle.std.specs.Prelude.{◌≡◌, map};
 ghost use Rattle.check_report.specs.Rows.Rows.{seen_row};
 ghost use Rattle.check_report.specs.Rows.Writing.{Adds};
@@ -16,14 +16,10 @@ use flash_device::Sink;
 fn size_row<'a>(old: u64) -> Row<'a>
     ensures { seen_row result ≡ of.size_row old }
 {
+    let what = "image size changed from";
     Row {
         detail: Detail::Number(old),
-        ..image_row(
-            Verdict::Change,
-            None,
-            "image-size",
-            "image size changed from",
-        )
+        ..image_row(Verdict::Change, None, "image-size", what)
     }
 }
 
@@ -36,27 +32,26 @@ fn blocks_row<'a>(blocks: u64) -> Row<'a>
     }
 }
 
-/// Adds what changes between two images as wholes: their lengths, and in how many blocks of 4096
-/// bytes they differ.
+/// Adds rows for the image lengths, and for the number of different blocks of 4096 bytes.
 pub fn add_image_changes<W: Sink + Drop>(
     rows: &mut RowWriter<'_, W>,
     old_len: u64,
     new_len: u64,
     blocks: u32,
 ) -> Result<(), WriteFault>
-    ensures { Adds W.contents result rows.old rows.new (of.image_rows old_len new_len blocks) }
+    ensures { Adds W.contents W.faults result rows.old rows.new (of.image_rows old_len new_len blocks) }
 {
     rows.add_if(old_len != new_len, size_row(old_len))?;
     let blocks = u64::from(blocks);
     rows.add_if(blocks > 0, blocks_row(blocks))
 }
 
-/// Adds a row of each change of the flash map itself.
+/// Adds a row for each change of the flash map itself.
 pub fn add_map_changes<W: Sink + Drop>(
     rows: &mut RowWriter<'_, W>,
     changes: &[MapChange],
 ) -> Result<(), WriteFault>
-    ensures { Adds W.contents result rows.old rows.new (of.map_rows changes.now) }
+    ensures { Adds W.contents W.faults result rows.old rows.new (of.map_rows changes.now) }
 {
     for change in changes {
         rows.add(map_change_row(change))?;
@@ -64,34 +59,30 @@ pub fn add_map_changes<W: Sink + Drop>(
     Ok(())
 }
 
-/// Adds the rows of the changes of areas.
 pub fn add_area_changes<'a, W: Sink + Drop>(
     rows: &mut RowWriter<'a, W>,
     kept: &[&[u8]],
     vital: &[&[u8]],
     changes: &'a [AreaChange],
 ) -> Result<(), WriteFault>
-    ensures { Adds W.contents result rows.old rows.new
+    ensures { Adds W.contents W.faults result rows.old rows.new
         (of.area_rows (map (λ n. n.now) kept.now) (map (λ n. n.now) vital.now) changes.now) }
 {
     for change in changes {
-        rows.add_if(
-            has_change_row(kept, change),
-            area_change_row(kept, vital, change),
-        )?;
+        let row = area_change_row(kept, vital, change);
+        rows.add_if(has_change_row(kept, change), row)?;
     }
     Ok(())
 }
 
-/// Adds a row of each change of a component of the area, all bad where the area has one of the
-/// kept names.
+/// Adds the rows of changed components, all bad in a kept area.
 fn add_component_changes<'a, W: Sink + Drop>(
     rows: &mut RowWriter<'a, W>,
     kept: &[&[u8]],
     area: &'a NumberedArea,
     changes: &'a [ComponentChange],
 ) -> Result<(), WriteFault>
-    ensures { Adds W.contents result rows.old rows.new (of.component_rows (map
+    ensures { Adds W.contents W.faults result rows.old rows.new (of.component_rows (map
         (λ n. n.now) kept.now) area.now changes.now) }
 {
     let verdict = verdict_of(kept, *area);
@@ -106,7 +97,7 @@ fn add_region_change<'a, W: Sink + Drop>(
     kept: &[&[u8]],
     change: &'a RegionChange,
 ) -> Result<(), WriteFault>
-    ensures { Adds W.contents result rows.old rows.new (of.region_rows (map
+    ensures { Adds W.contents W.faults result rows.old rows.new (of.region_rows (map
         (λ n. n.now) kept.now) change.now) }
 {
     match change {
@@ -117,13 +108,12 @@ fn add_region_change<'a, W: Sink + Drop>(
     }
 }
 
-/// Adds what becomes of the components of the new image's regions.
 pub fn add_region_changes<'a, W: Sink + Drop>(
     rows: &mut RowWriter<'a, W>,
     kept: &[&[u8]],
     changes: &'a [RegionChange],
 ) -> Result<(), WriteFault>
-    ensures { Adds W.contents result rows.old rows.new (of.regions_rows (map
+    ensures { Adds W.contents W.faults result rows.old rows.new (of.regions_rows (map
         (λ n. n.now) kept.now) changes.now) }
 {
     for change in changes {

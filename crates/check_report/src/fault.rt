@@ -1,4 +1,4 @@
-//! Why there is no report.
+//! Errors of a check and of its report.
 ghost use Rattle.std.specs.Prelude.{◌≡◌};
 ghost use Rattle.check_report.specs.Faults.{of_changes, of_image};
 ghost use Rattle.check_report.specs.declared.fault.ReportFault.TheVariants as faults;
@@ -9,14 +9,13 @@ use check_findings::CheckFault;
 use flash_device::SinkFault;
 use std::alloc::AllocError;
 
-/// The cause of a report that isn't made.
+/// The error of a check, which then has no report.
 #[derive(Clone, Copy, Debug, PartialEq, Eq)]
 pub enum ReportFault {
-    /// The device with the old image refused a read.
+    /// The old image's device refused a read.
     OldDevice,
-    /// The device with the new image, or with the only one, refused a read.
+    /// The device of the new or only image refused a read.
     NewDevice,
-    /// An allocation failed.
     Memory,
 }
 
@@ -28,7 +27,7 @@ impl From<AllocError> for ReportFault {
     }
 }
 
-/// The check of the new image, or of the only one, failed.
+/// A fault of the new or only image.
 impl From<CheckFault> for ReportFault {
     ghost from_gives = { λ why fault. fault ≡ of_image why };
 
@@ -40,7 +39,6 @@ impl From<CheckFault> for ReportFault {
     }
 }
 
-/// The images couldn't be compared.
 impl From<ChangeFault> for ReportFault {
     ghost from_gives = { λ why fault. fault ≡ of_changes why };
 
@@ -53,12 +51,10 @@ impl From<ChangeFault> for ReportFault {
     }
 }
 
-/// The cause of a report that isn't whole.
+/// The error of an incomplete report.
 #[derive(Clone, Copy, Debug, PartialEq, Eq)]
 pub enum WriteFault {
-    /// An allocation failed.
     Memory,
-    /// The sink failed.
     Output,
 }
 

@@ -1,6 +1,5 @@
-//! The rows of an image's findings.
+//! Rows of an image's findings.
 ghost use Rattle.std.specs.Prelude.{◌≡◌, map};
-ghost use Rattle.std.specs.Option.{option_copied};
 ghost use Rattle.check_report.specs.Rows.Rows.{seen_row};
 ghost use Rattle.check_report.specs.Rows.Writing.{Adds};
 ghost use Rattle.check_report.specs.FindingRows as of;
@@ -25,18 +24,17 @@ fn missing_row<'a>(names: &[&'a [u8]], number: usize) -> Row<'a>
 fn not_checked_row<'a>(area: &'a NumberedArea, is_named: bool) -> Row<'a>
     ensures { seen_row result ≡ of.not_checked_row area.now is_named }
 {
-    let what = "isn't checked: the areas before it are eight times the image";
+    let what = "isn't checked: the areas before it are twice the image";
     map_area_row(verdict_of(is_named), area, "area-not-checked", what)
 }
 
-/// Adds the rows of a finding.
 fn add_finding<'a, W: Sink + Drop>(
     rows: &mut RowWriter<'a, W>,
     asked: Asked,
     finding: &'a ImageFinding,
     names: &[&'a [u8]],
 ) -> Result<(), WriteFault>
-    ensures { Adds W.contents result rows.old rows.new (of.rows_of asked (map
+    ensures { Adds W.contents W.faults result rows.old rows.new (of.rows_of asked (map
         (λ n. n.now) names.now) finding.now) }
 {
     match finding {
@@ -49,14 +47,14 @@ fn add_finding<'a, W: Sink + Drop>(
     }
 }
 
-/// Adds the rows of these findings, in their order, which were made with these names of areas.
+/// Adds the rows of findings in order. `names` are the given area names.
 pub fn add_findings<'a, W: Sink + Drop>(
     rows: &mut RowWriter<'a, W>,
     asked: Asked,
     findings: &'a [ImageFinding],
     names: &[&'a [u8]],
 ) -> Result<(), WriteFault>
-    ensures { Adds W.contents result rows.old rows.new
+    ensures { Adds W.contents W.faults result rows.old rows.new
         (of.finding_rows asked (map (λ n. n.now) names.now) findings.now) }
 {
     for finding in findings {

@@ -14,8 +14,8 @@ use flash_device::{Flash, Paged};
 use std::alloc::Global;
 use std::hash::RandomState;
 
-/// Checks an image. The findings are the same with any keys for the hasher of names. Returns
-/// `NewDevice` exactly if the device refused a read.
+/// Checks an image. The hash keys don't change the findings. Returns `NewDevice` exactly if the
+/// device refused a read.
 pub fn inspect_image<F: Flash>(
     alloc: Global,
     keys: RandomState,

@@ -1,4 +1,4 @@
-//! The areas that are to stay as they are.
+//! Areas that must not change.
 ghost use Rattle.std.specs.Prelude.{◌≡◌, map};
 ghost use Rattle.check_findings.specs.Image.ImageFindings.{has_one_of};
 ghost use Rattle.check_report.specs.Rows.Writing.{Adds};
@@ -9,7 +9,7 @@ use crate::rows::{RowWriter, Verdict, area_row};
 use check_findings::NumberedArea;
 use flash_device::Sink;
 
-/// Returns whether the area has one of the kept names.
+/// Returns whether the area has a kept name.
 pub fn is_kept(kept: &[&[u8]], area: NumberedArea) -> bool
     ensures { result ≡ has_one_of (map (λ n. n.now) kept.now) area }
 {
@@ -21,7 +21,6 @@ pub fn is_kept(kept: &[&[u8]], area: NumberedArea) -> bool
     false
 }
 
-/// Returns the verdict of a difference in the area.
 pub fn verdict_of(kept: &[&[u8]], area: NumberedArea) -> Verdict
     ensures { result ≡ of.verdict_of (map (λ n. n.now) kept.now) area }
 {
@@ -38,14 +37,13 @@ fn is_there(areas: &[NumberedArea], name: &[u8]) -> bool
     areas.iter().any(|a| a.area.name_is(name))
 }
 
-/// Adds a row if no area of either image has the name.
 fn add_if_missing<'a, W: Sink + Drop>(
     rows: &mut RowWriter<'a, W>,
     name: &'a [u8],
     old_areas: &[NumberedArea],
     new_areas: &[NumberedArea],
 ) -> Result<(), WriteFault>
-    ensures { Adds W.contents result rows.old rows.new
+    ensures { Adds W.contents W.faults result rows.old rows.new
         (of.missing_if old_areas.now new_areas.now name.now) }
 {
     let is_missing = !(is_there(old_areas, name) || is_there(new_areas, name));
@@ -53,14 +51,14 @@ fn add_if_missing<'a, W: Sink + Drop>(
     rows.add_if(is_missing, row)
 }
 
-/// Adds a row for each kept name that no area of either image has.
+/// Adds a row for each kept name that neither image has.
 pub fn add_missing<'a, W: Sink + Drop>(
     rows: &mut RowWriter<'a, W>,
     kept: &[&'a [u8]],
     old_areas: &[NumberedArea],
     new_areas: &[NumberedArea],
 ) -> Result<(), WriteFault>
-    ensures { Adds W.contents result rows.old rows.new
+    ensures { Adds W.contents W.faults result rows.old rows.new
         (of.missing_rows (map (λ n. n.now) kept.now) old_areas.now new_areas.now) }
 {
     for name in kept {

@@ -1,12 +1,12 @@
-//! What the verdicts of the rows say. Nothing runs here: a call gives its caller the law.
+//! Laws about verdicts, as contracts of functions without effect.
 ghost use Rattle.check_report.specs.Laws.{LimitsLoseNoBadRow, RowsTellWhatIsBad};
 
-/// Some row of the findings is bad exactly where some finding is.
+/// A row of the findings is bad exactly if a finding is bad.
 pub fn rows_tell_what_is_bad()
     ensures { RowsTellWhatIsBad }
 {}
 
-/// Some row that is shown is bad exactly where some row is.
+/// A shown row is bad exactly if a row is bad.
 pub fn limits_lose_no_bad_row()
     ensures { LimitsLoseNoBadRow }
 {}

@@ -1,7 +1,7 @@
-//! Reports what is wrong in a flash image, and what a new image changes.
+//! Reports the problems of a flash image, and the changes of a new image.
 //!
-//! A check allocates memory for its findings, and leaves the bytes of honest devices as they are.
-//! Its report is written row by row, and allocates memory for one row at a time.
+//! A check allocates memory for its findings, and never changes an honest device. The report needs
+//! memory for a single row.
 #![tactic(auto)]
 
 mod areas;
@@ -23,10 +23,11 @@ mod request;
 mod rows;
 
 pub use change::inspect_change;
+pub use check_changes::Images;
 pub use check_findings::{Need, NeededPlace};
 pub use fault::{ReportFault, WriteFault};
 pub use image::inspect_image;
-pub use inspection::{Changes, Comparison, Inspection};
+pub use inspection::{Changes, Comparison, Inspection, Written};
 pub use laws::{limits_lose_no_bad_row, rows_tell_what_is_bad};
 pub use request::{Asked, Files, Request};
-pub use rows::{Detail, Form, Row, RowWriter, Verdict, Written};
+pub use rows::Form;

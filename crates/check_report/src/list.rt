@@ -1,80 +1,91 @@
-//! The list of the components of the checked areas.
-ghost use Rattle.std.specs.Prelude.{◌≡◌};
+//! The list of components.
+ghost use Rattle.std.specs.Prelude.{◌≡◌, map};
 ghost use Rattle.std.specs.List.{flat_map};
-ghost use Rattle.check_report.specs.Lists.{component_in, components_in, listed};
-ghost use Rattle.check_report.specs.Rows.Writing.{Lists};
+ghost use Rattle.check_report.specs.Lists.{component_in, component_line, components_in};
+ghost use Rattle.check_report.specs.Lists.{listed};
+ghost use Rattle.check_report.specs.Rows.Fields.{seen_field};
+ghost use Rattle.check_report.specs.Rows.Writing.{PrintsLines};
 
 use crate::fault::WriteFault;
 use crate::region::hash_text;
-use crate::rows::{ListWriter, Listed};
-use check_findings::{ComponentFinding, ImageFinding, RegionFinding};
+use crate::rows::{Field, Printer, Value};
+use check_findings::{Content, ImageFinding, RegionFinding};
 use flash_device::Sink;
 
-/// Writes the component of a finding, if the finding has its content.
-fn list_component<W: Sink + Drop>(
-    list: &mut ListWriter<W>,
-    area: &[u8],
-    finding: &RegionFinding,
+fn component_fields<'a>(area: &'a [u8], at: u64, name: &'a [u8], content: Content) -> [Field<'a>; 7]
+    ensures { map seen_field result ≡ (component_line area.now at name.now content).fields }
+{
+    [
+        Field::new("area", Value::Name(area)),
+        Field::new("component", Value::Name(name)),
+        Field::new("position", Value::Offset(at)),
+        Field::new("type", Value::of_type(content.kind)),
+        Field::new("length", Value::Count(u64::from(content.len))),
+        Field::new("compression", Value::of_compression(content.compression)),
+        Field::new("hash", Value::Text(hash_text(content.hash))),
+    ]
+}
+
+fn list_component<'a, W: Sink + Drop>(
+    printer: &mut Printer<W>,
+    area: &'a [u8],
+    finding: &'a RegionFinding,
 ) -> Result<(), WriteFault>
-    ensures { Lists W.contents result list.old list.new (component_in area.now finding.now) }
+    ensures { PrintsLines W.contents W.faults result printer.old printer.new
+        (component_in area.now finding.now) }
 {
     match finding {
         RegionFinding::Component {
             at,
             name,
-            what: ComponentFinding::Content(content),
-        } => list.add(&Listed {
-            area,
-            name: name.as_slice(),
-            position: *at,
-            kind: content.kind,
-            len: content.len,
-            compression: content.compression,
-            hash: hash_text(content.hash),
-        }),
-        _ => Ok(()),
-    }
-}
-
-/// Writes the components of the area of this name.
-fn list_area<W: Sink + Drop>(
-    list: &mut ListWriter<W>,
-    area: &[u8],
-    findings: &[RegionFinding],
-) -> Result<(), WriteFault>
-    ensures { Lists W.contents result list.old list.new
-        (flat_map (component_in area.now) findings.now) }
-{
-    for finding in findings {
-        list_component(list, area, finding)?;
-    }
-    Ok(())
-}
-
-/// Writes the components of a finding of the image.
-fn list_finding<W: Sink + Drop>(
-    list: &mut ListWriter<W>,
-    finding: &ImageFinding,
-) -> Result<(), WriteFault>
-    ensures { Lists W.contents result list.old list.new (components_in finding.now) }
-{
-    match finding {
-        ImageFinding::Region { area, findings } => {
-            list_area(list, area.area.text(), findings.as_slice())
+            content,
+            ..
+        } => {
+            let fields = component_fields(area, *at, name.as_slice(), *content);
+            printer.line("component", &fields)
         }
         _ => Ok(()),
     }
 }
 
-/// Writes the components of the checked areas, in the order of the findings.
-pub fn list_components<W: Sink + Drop>(
-    list: &mut ListWriter<W>,
-    findings: &[ImageFinding],
+fn list_area<'a, W: Sink + Drop>(
+    printer: &mut Printer<W>,
+    area: &'a [u8],
+    findings: &'a [RegionFinding],
 ) -> Result<(), WriteFault>
-    ensures { Lists W.contents result list.old list.new (listed findings.now) }
+    ensures { PrintsLines W.contents W.faults result printer.old printer.new
+        (flat_map (component_in area.now) findings.now) }
 {
     for finding in findings {
-        list_finding(list, finding)?;
+        list_component(printer, area, finding)?;
+    }
+    Ok(())
+}
+
+fn list_finding<W: Sink + Drop>(
+    printer: &mut Printer<W>,
+    finding: &ImageFinding,
+) -> Result<(), WriteFault>
+    ensures { PrintsLines W.contents W.faults result printer.old printer.new
+        (components_in finding.now) }
+{
+    match finding {
+        ImageFinding::Region { area, findings } => {
+            list_area(printer, area.area.text(), findings.as_slice())
+        }
+        _ => Ok(()),
+    }
+}
+
+/// Prints the components of the checked areas, in the order of findings.
+pub fn list_components<W: Sink + Drop>(
+    printer: &mut Printer<W>,
+    findings: &[ImageFinding],
+) -> Result<(), WriteFault>
+    ensures { PrintsLines W.contents W.faults result printer.old printer.new (listed findings.now) }
+{
+    for finding in findings {
+        list_finding(printer, finding)?;
     }
     Ok(())
 }

@@ -1,4 +1,4 @@
-//! The rows of a flashmap's findings.
+//! Rows of a flash map's findings.
 ghost use Rattle.std.specs.Prelude.{◌≡◌};
 ghost use Rattle.check_report.specs.Rows.Rows.{seen_row};
 ghost use Rattle.check_report.specs.FindingRows as rows;
@@ -54,7 +54,6 @@ fn map_row_with(v: Verdict, finding: &MapFinding) -> Row<'_>
     }
 }
 
-/// Returns the row of a finding of the flashmap.
 pub fn map_row(finding: &MapFinding) -> Row<'_>
     ensures { seen_row result ≡ rows.map_row finding.now }
 {

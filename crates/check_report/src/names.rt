@@ -1,5 +1,5 @@
-//! Lists of names of areas.
-ghost use Rattle.std.specs.Prelude.{◌≡◌, ◌++◌, ◌∷◌, [], map, IfOk, OnOk};
+//! Lists of area names.
+ghost use Rattle.std.specs.Prelude.{◌≡◌, ◌++◌, ◌∷◌, [], map, IfOk};
 ghost use Rattle.check_findings.specs.Image.Needs.{wish_of};
 ghost use Rattle.check_report.specs.ChangeRows as of;
 ghost use Rattle.check_report.specs.Rows.Rows.{area_name};
@@ -38,7 +38,6 @@ fn push_names<'a>(names: &mut Vec<&'a [u8]>, more: &[&'a [u8]]) -> Result<(), Al
     Ok(())
 }
 
-/// Returns the names of the areas of these needs.
 pub fn need_areas<'a>(alloc: Global, needs: &[Need<'a>]) -> Result<Vec<&'a [u8]>, AllocError>
     ensures { IfOk result (λ names. names_in names.items
         ≡ map (λ n. n.area) (map wish_of needs.now)) }
@@ -59,7 +58,6 @@ fn push_areas<'a>(names: &mut Vec<&'a [u8]>, areas: &'a [NumberedArea]) -> Resul
     Ok(())
 }
 
-/// The bit of an area's flags that asks to preserve the area.
 const PRESERVE: u16 = 8;
 
 fn push_preserved<'a>(
@@ -75,7 +73,7 @@ fn push_preserved<'a>(
     Ok(())
 }
 
-/// Returns these names and those of these areas.
+/// Returns these names, and the names of these areas.
 pub fn with_areas<'a>(
     alloc: Global,
     more: &[&'a [u8]],
@@ -90,9 +88,8 @@ pub fn with_areas<'a>(
     Ok(names)
 }
 
-/// Returns the names of the areas that must not change: the given ones and, if these are kept
-/// too, those of the areas that
-/// have the flag PRESERVE in one of the maps.
+/// Returns the names of areas that must not change: the given names and, on request, of areas with
+/// the flag PRESERVE in either map.
 pub fn kept_names<'a>(
     alloc: Global,
     kept: &[&'a [u8]],

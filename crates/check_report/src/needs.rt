@@ -1,5 +1,5 @@
-//! The rows of the components that an image must have.
-ghost use Rattle.std.specs.Prelude.{◌≡◌, map, IfOk, OnOk};
+//! Rows of unmet needs.
+ghost use Rattle.std.specs.Prelude.{◌≡◌, map};
 ghost use Rattle.std.specs.List.{flat_map};
 ghost use Rattle.check_findings.specs.Image.Needs.{wish_of};
 ghost use Rattle.check_report.specs.Rows.Rows.{seen_row};
@@ -27,13 +27,12 @@ fn need_row<'a>(need: &Need<'a>, finding: NeedFinding) -> Row<'a>
     }
 }
 
-/// Adds a row if the findings don't meet the need.
 fn add_need<'a, W: Sink + Drop>(
     rows: &mut RowWriter<'a, W>,
     findings: &[ImageFinding],
     need: &Need<'a>,
 ) -> Result<(), WriteFault>
-    ensures { Adds W.contents result rows.old rows.new (of.need_rows findings.now
+    ensures { Adds W.contents W.faults result rows.old rows.new (of.need_rows findings.now
         (wish_of need.now)) }
 {
     match unmet(findings, *need) {
@@ -42,13 +41,13 @@ fn add_need<'a, W: Sink + Drop>(
     }
 }
 
-/// Adds a row for each need that the findings don't meet.
+/// Adds a row for each unmet need.
 pub fn add_needs<'a, W: Sink + Drop>(
     rows: &mut RowWriter<'a, W>,
     findings: &[ImageFinding],
     needs: &[Need<'a>],
 ) -> Result<(), WriteFault>
-    ensures { Adds W.contents result rows.old rows.new
+    ensures { Adds W.contents W.faults result rows.old rows.new
         (flat_map (of.need_rows findings.now) (map wish_of needs.now)) }
 {
     for need in needs {

@@ -1,4 +1,4 @@
-//! The rows of a region's findings.
+//! Rows of a region's findings.
 ghost use Rattle.std.specs.Prelude.{◌≡◌};
 ghost use Rattle.std.specs.List.{flat_map};
 ghost use Rattle.check_report.specs.Rows.Rows.{seen_row};
@@ -9,61 +9,75 @@ use crate::fault::WriteFault;
 use crate::map::verdict_of;
 use crate::request::Asked;
 use crate::rows::{Detail, Row, RowWriter, Verdict, area_row, component_row};
-use cbfs_walk::HashState;
-use check_findings::{ComponentFinding, RegionFinding, is_bad_region};
+use check_findings::{Content, HashFinding, RegionFinding, is_bad_hash, is_text};
 use flash_device::Sink;
-use flash_format::{DamageKind, Digest};
+use flash_format::{Algorithm, DamageKind, type_name};
 
-fn hash_code(state: HashState) -> &'static str
-    ensures { result.now ≡ of.hash_code state }
+fn hash_code(hash: HashFinding) -> &'static str
+    ensures { result.now ≡ of.hash_code hash }
 {
-    match state {
-        HashState::Absent => "hash-missing",
-        HashState::Valid(_) => "hash-valid",
-        HashState::Invalid(_) => "hash-invalid",
-        HashState::Unsupported => "hash-unsupported",
+    match hash {
+        HashFinding::Missing => "hash-missing",
+        HashFinding::Valid(_) => "hash-valid",
+        HashFinding::Invalid(_) => "hash-invalid",
+        HashFinding::Unsupported => "hash-unsupported",
     }
 }
 
-pub fn hash_text(state: HashState) -> &'static str
-    ensures { result.now ≡ of.hash_text state }
+pub fn hash_text(hash: HashFinding) -> &'static str
+    ensures { result.now ≡ of.hash_text hash }
 {
-    match state {
-        HashState::Absent => "no hash",
-        HashState::Valid(Digest::Sha256(_)) => "sha256 valid",
-        HashState::Valid(Digest::Sha512(_)) => "sha512 valid",
-        HashState::Invalid(Digest::Sha256(_)) => "sha256 invalid",
-        HashState::Invalid(Digest::Sha512(_)) => "sha512 invalid",
-        HashState::Unsupported => "hash unsupported",
+    match hash {
+        HashFinding::Missing => "no hash",
+        HashFinding::Valid(Algorithm::Sha256) => "sha256 valid",
+        HashFinding::Valid(Algorithm::Sha512) => "sha512 valid",
+        HashFinding::Invalid(Algorithm::Sha256) => "sha256 invalid",
+        HashFinding::Invalid(Algorithm::Sha512) => "sha512 invalid",
+        HashFinding::Unsupported => "hash unsupported",
     }
 }
 
-fn of_component<'a>(
-    v: Verdict,
+impl Asked {
+    /// Returns whether a digest has a row. A missing digest has a row only on request.
+    fn has_hash_row(self, hash: HashFinding) -> bool
+        ensures { result ≡ of.has_hash_row self hash }
+    {
+        match hash {
+            HashFinding::Missing => self.is_verbose || self.needs_hashes,
+            _ => true,
+        }
+    }
+}
+
+/// Adds up to three remarks on the name and type, and the state of the digest.
+fn add_component<'a, W: Sink + Drop>(
+    rows: &mut RowWriter<'a, W>,
+    asked: Asked,
     region: &'a [u8],
     at: u64,
     name: &'a [u8],
-    finding: ComponentFinding,
-) -> Row<'a>
-    ensures { seen_row result ≡ of.of_component v region.now at name.now finding }
+    is_shadowed: bool,
+    content: Content,
+) -> Result<(), WriteFault>
+    ensures { Adds W.contents W.faults result rows.old rows.new
+        (of.component_rows asked region.now at name.now is_shadowed content) }
 {
-    match finding {
-        ComponentFinding::Shadowed => {
-            let what = "has the name of an earlier component";
-            component_row(v, region, at, name, "component-shadowed", what)
-        }
-        ComponentFinding::UnknownType(kind) => Row {
-            detail: Detail::Number(u64::from(kind)),
-            ..component_row(v, region, at, name, "component-type", "type without a name")
-        },
-        ComponentFinding::NameNotText => {
-            component_row(v, region, at, name, "component-name", "name isn't UTF-8")
-        }
-        ComponentFinding::Content(content) => {
-            let (code, what) = (hash_code(content.hash), hash_text(content.hash));
-            component_row(v, region, at, name, code, what)
-        }
-    }
+    let what = "has the name of an earlier component";
+    let shadowed = component_row(Verdict::Bad, region, at, name, "component-shadowed", what);
+    rows.add_if(is_shadowed, shadowed)?;
+    let what = "name isn't UTF-8";
+    let unnamed = component_row(Verdict::Remark, region, at, name, "component-name", what);
+    rows.add_if(!is_text(name), unnamed)?;
+    let what = "type without a name";
+    let untyped = Row {
+        detail: Detail::Number(u64::from(content.kind)),
+        ..component_row(Verdict::Remark, region, at, name, "component-type", what)
+    };
+    rows.add_if(type_name(content.kind).is_none(), untyped)?;
+    let verdict = verdict_of(is_bad_hash(content.hash, asked.needs_hashes));
+    let (code, what) = (hash_code(content.hash), hash_text(content.hash));
+    let hashed = component_row(verdict, region, at, name, code, what);
+    rows.add_if(asked.has_hash_row(content.hash), hashed)
 }
 
 fn damage_text(kind: DamageKind) -> &'static str
@@ -78,114 +92,86 @@ fn damage_text(kind: DamageKind) -> &'static str
     }
 }
 
-fn count_row<'a>(
-    v: Verdict,
-    region: &'a [u8],
-    code: &'static str,
-    what: &'static str,
-    count: u64,
-) -> Row<'a>
-    ensures { seen_row result ≡ of.count_row v region.now code.now what.now count }
+fn count_row<'a>(region: &'a [u8], code: &'static str, what: &'static str, count: u64) -> Row<'a>
+    ensures { seen_row result ≡ of.count_row region.now code.now what.now count }
 {
     Row {
         detail: Detail::Count(count),
-        ..area_row(v, region, None, code, what)
+        ..area_row(Verdict::Remark, region, None, code, what)
     }
 }
 
-fn region_row_with<'a>(v: Verdict, region: &'a [u8], finding: &'a RegionFinding) -> Row<'a>
-    ensures { seen_row result ≡ of.region_row_with v region.now finding.now }
+fn add_finding<'a, W: Sink + Drop>(
+    rows: &mut RowWriter<'a, W>,
+    asked: Asked,
+    region: &'a [u8],
+    finding: &'a RegionFinding,
+) -> Result<(), WriteFault>
+    ensures { Adds W.contents W.faults result rows.old rows.new
+        (of.region_rows asked region.now finding.now) }
 {
+    let (bad, remark) = (Verdict::Bad, Verdict::Remark);
     match finding {
+        RegionFinding::Component {
+            at,
+            name,
+            is_shadowed,
+            content,
+        } => {
+            let name = name.as_slice();
+            add_component(rows, asked, region, *at, name, *is_shadowed, *content)
+        }
         RegionFinding::BadSize => {
-            area_row(
-                v,
-                region,
-                None,
-                "region-size",
-                "size is 0 or no multiple of 64",
-            )
+            let what = "size is 0 or no multiple of 64";
+            rows.add(area_row(bad, region, None, "region-size", what))
         }
-        RegionFinding::NotCbfs => area_row(v, region, None, "no-cbfs", "no CBFS"),
-        RegionFinding::Component { at, name, what } => {
-            of_component(v, region, *at, name.as_slice(), *what)
-        }
+        RegionFinding::NotCbfs => rows.add(area_row(bad, region, None, "no-cbfs", "no CBFS")),
         RegionFinding::Deleted { at } => {
-            area_row(
-                v,
-                region,
-                Some(*at),
-                "component-deleted",
-                "deleted component",
-            )
+            let what = "deleted component";
+            rows.add(area_row(remark, region, Some(*at), "component-deleted", what))
         }
-        RegionFinding::Complete => area_row(v, region, None, "complete", "complete"),
-        RegionFinding::Tail { at } => area_row(v, region, Some(*at), "tail", "unused tail"),
+        RegionFinding::Complete => rows.add(area_row(remark, region, None, "complete", "complete")),
+        RegionFinding::Tail { at } => {
+            let what = "unused tail";
+            rows.add(area_row(remark, region, Some(*at), "tail", what))
+        }
         RegionFinding::TailFilled { at } => {
             let what = "unused tail has other bytes than 0xff and 0x00";
-            area_row(v, region, Some(*at), "tail-bytes", what)
+            rows.add(area_row(bad, region, Some(*at), "tail-bytes", what))
         }
         RegionFinding::TailEntry { at } => {
-            area_row(
-                v,
-                region,
-                Some(*at),
-                "tail-entry",
-                "entry in the unused tail",
-            )
+            let what = "entry in the unused tail";
+            rows.add(area_row(bad, region, Some(*at), "tail-entry", what))
         }
         RegionFinding::Damaged { at, kind } => {
-            area_row(v, region, Some(*at), "entry-damaged", damage_text(*kind))
+            rows.add(area_row(bad, region, Some(*at), "entry-damaged", damage_text(*kind)))
         }
         RegionFinding::NoComponents => {
-            area_row(v, region, None, "no-components", "no components")
+            rows.add(area_row(remark, region, None, "no-components", "no components"))
         }
-        RegionFinding::Components(n) => count_row(v, region, "components", "components", *n),
-        RegionFinding::FreeBytes(n) => count_row(v, region, "free-bytes", "free bytes", *n),
+        RegionFinding::Components(n) => rows.add(count_row(region, "components", "components", *n)),
+        RegionFinding::FreeBytes(n) => rows.add(count_row(region, "free-bytes", "free bytes", *n)),
         RegionFinding::LargestContent(n) => {
             let what = "largest content that add takes";
-            count_row(v, region, "largest-content", what, *n)
+            rows.add(count_row(region, "largest-content", what, *n))
         }
-        RegionFinding::NoRoom => { area_row(v, region, None, "no-room", "no room for a component") }
-    }
-}
-
-impl Asked {
-    /// Returns whether a finding has a row. That a component has no digest only has one if it is
-    /// asked for.
-    fn has_row(self, finding: &RegionFinding) -> bool
-        ensures { result ≡ of.has_row self finding.now }
-    {
-        match finding {
-            RegionFinding::Component {
-                what: ComponentFinding::Content(content),
-                ..
-            } => { self.is_verbose || self.needs_hashes || content.hash != HashState::Absent }
-            _ => true,
+        RegionFinding::NoRoom => {
+            rows.add(area_row(remark, region, None, "no-room", "no room for a component"))
         }
     }
 }
 
-/// Returns the row of a finding of the region of this name.
-fn region_row<'a>(asked: Asked, region: &'a [u8], finding: &'a RegionFinding) -> Row<'a>
-    ensures { seen_row result ≡ of.region_row asked region.now finding.now }
-{
-    let verdict = verdict_of(is_bad_region(finding, asked.needs_hashes));
-    region_row_with(verdict, region, finding)
-}
-
-/// Adds the rows of the findings of the region of this name.
 pub fn add_region<'a, W: Sink + Drop>(
     rows: &mut RowWriter<'a, W>,
     asked: Asked,
     region: &'a [u8],
     findings: &'a [RegionFinding],
 ) -> Result<(), WriteFault>
-    ensures { Adds W.contents result rows.old rows.new
+    ensures { Adds W.contents W.faults result rows.old rows.new
         (flat_map (of.region_rows asked region.now) findings.now) }
 {
     for finding in findings {
-        rows.add_if(asked.has_row(finding), region_row(asked, region, finding))?;
+        add_finding(rows, asked, region, finding)?;
     }
     Ok(())
 }

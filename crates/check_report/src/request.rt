@@ -5,18 +5,18 @@ use check_findings::Need;
 /// The optional parts of a report.
 #[derive(Clone, Copy)]
 pub struct Asked {
-    /// All rows, and a row for each component without a digest.
+    /// Show all rows, also for components without a digest.
     pub is_verbose: bool,
-    /// A digest in each component.
+    /// Require a digest for each component.
     pub needs_hashes: bool,
-    /// A list of all components.
+    /// List all components.
     pub lists: bool,
 }
 
-/// The paths of the images, which the JSON document names.
+/// The paths of the images.
 #[derive(Clone, Copy)]
 pub struct Files<'a> {
-    /// The image that is checked: the new one if there are two.
+    /// The new or only image.
     pub image: &'a str,
     pub old: Option<&'a str>,
 }
@@ -24,13 +24,13 @@ pub struct Files<'a> {
 /// The arguments of a check.
 #[derive(Clone, Copy)]
 pub struct Request<'a> {
-    /// The names of areas that are checked as a CBFS region in any case.
+    /// The names of areas to check in any case.
     pub areas: &'a [&'a [u8]],
     /// The required components.
     pub needs: &'a [Need<'a>],
-    /// The names of the areas that a new image must not change.
+    /// The names of areas that must not change.
     pub kept: &'a [&'a [u8]],
-    /// A new image must not change an area with the flag PRESERVE in one of the maps.
+    /// Areas with the flag PRESERVE in either map must not change.
     pub keeps_preserved: bool,
     pub asked: Asked,
     pub form: Form,

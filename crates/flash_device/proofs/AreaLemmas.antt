@@ -1,4 +1,4 @@
--- The areas of a map, one by one.
+-- Areas of a map, one by one.
 use Rattle.std.proofs.Common.{◌≡◌, ℕ, ◌+◌, ◌-◌, ◌<◌, ◌≤◌, true, false, List, drop, Option, Some, None, suc, sym, ap, ◌∙◌, arith}
 use Rattle.std.specs.List.{find}
 use Rattle.std.proofs.lemmas.List.{drop-drop}
@@ -6,7 +6,7 @@ use Rattle.flash_format.specs.declared.flashmap.Area.{Area}
 use Rattle.flash_format.specs.Flashmap.{area_of, areas_from, is_area}
 use Rattle.flash_format.proofs.MapSteps.{area_step, area_end}
 
--- the first area of the name among n areas from a place on
+-- among n areas from an index on
 abbrev pub named_from : List ℕ → List ℕ → ℕ → ℕ → Option Area
 named_from image name n at = find (is_area name) (areas_from n (drop at image))
 

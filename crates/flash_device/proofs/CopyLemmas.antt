@@ -1,4 +1,4 @@
--- Copies that go on piece by piece: their calls so far, and what was put, filled or copied.
+-- Copies, piece by piece: calls, and bytes put, filled or copied.
 use Rattle.std.proofs.Common.{replicate, ◌≡◌, ℕ, ◌+◌, ◌-◌, ◌/◌, ◌%◌, ◌<◌, ◌≤◌, ◌++◌, List, Option, None, Some, length, take, drop, sym, ap, subst, ◌∙◌, arith, append_assoc}
 use Rattle.std.specs.Prelude.{slice_range, Result, Ok, Err, OnErr}
 use Rattle.std.specs.Io.KnownBytes.{Appends, Keeps}
@@ -12,7 +12,7 @@ use Rattle.flash_device.specs.Pages.{Pages, HasRead}
 use Rattle.flash_device.proofs.WindowLemmas.{HasRead-then, HasRead-within}
 use Rattle.flash_device.specs.Output.{AppendsPart, AppendsPieces}
 
--- pieces of 4096 bytes take a call each, and so does a shorter last one
+-- a call for each piece of 4096 bytes, or a shorter last piece
 pub Calls-piece : (done n refused : ℕ) (old mid new : Device) → done < n → done % 4096 ≡ 0 → Calls ((done + 4095) / 4096) 0 old mid → Calls 1 refused mid new → Calls ((n + 4095) / 4096) refused old new
 Calls-piece done n refused old mid new more whole so_far call =
     Calls-at_most ((done + 4095) / 4096 + 1) ((n + 4095) / 4096) refused old new (omega (arith, so_far.no_more, call.no_more)) (Calls-then ((done + 4095) / 4096) 1 refused old mid new so_far call)
@@ -22,7 +22,6 @@ pub HasRead-piece : {F : Type 0} (facts : F → Device) (done n refused : ℕ) (
 HasRead-piece facts done n refused old mid new more whole so_far piece =
     HasRead-within facts ((done + 4095) / 4096 + 1) ((n + 4095) / 4096) refused old new (omega (arith, more, whole)) (HasRead-then facts ((done + 4095) / 4096) 1 refused old mid new so_far piece)
 
--- two neighbouring parts are one
 pub slice_range-join : (xs : List ℕ) (at m k : ℕ) → slice_range xs at (at + m) ++ slice_range xs (at + m) (at + m + k) ≡ slice_range xs at (at + (m + k))
 slice_range-join xs at m k =
     rw (slice_range_is xs at m, slice_range_is xs (at + m) k, slice_range_is xs at (m + k))
@@ -44,14 +43,13 @@ AppendsPart-more a b c xs at m k n short within first part =
       rw all at (Appends-more a b c xs at m j first (rw second at part.2)),
     )
 
--- what was appended stays where nothing more is
 pub Appends-keeps : (a b c : Option (List ℕ)) (xs : List ℕ) → Appends a b xs → Keeps b c → Appends a c xs
 Appends-keeps None b c xs so_far kept = tt
 Appends-keeps (Some x) None c xs so_far kept = absurd so_far
 Appends-keeps (Some x) (Some y) None xs so_far kept = absurd kept
 Appends-keeps (Some x) (Some y) (Some z) xs so_far kept = kept ∙ so_far
 
--- whole pieces that were put stay a prefix of what was to be put
+-- whole pieces are a prefix
 pub AppendsPieces-kept : (a b c : Option (List ℕ)) (xs : List ℕ) (at done n : ℕ) → done < n → at + n ≤ length xs → done % 4096 ≡ 0 → Appends a b (slice_range xs at (at + done)) → Keeps b c → AppendsPieces a c (slice_range xs at (at + n))
 AppendsPieces-kept a b c xs at done n left within whole so_far kept =
     let front : slice_range xs at (at + done) ≡ take done (slice_range xs at (at + n)) =
@@ -62,26 +60,25 @@ AppendsPieces-kept a b c xs at done n left within whole so_far kept =
       rw front at (Appends-keeps a b c _ so_far kept),
     )
 
--- what holds anyway holds of an error
 pub OnErr-from : {T E P : Type 0} (result : Result T E) → P → OnErr result P
 OnErr-from (Ok x) p = tt
 OnErr-from (Err e) p = p
 
--- a piece of a row of copies
+-- a piece of repeated bytes
 pub copies-part : (copies : List ℕ) (done size n byte : ℕ) → copies ≡ replicate 4096 byte → size ≤ 4096 → done + size ≤ n → take size copies ≡ take size (drop done (replicate n byte))
 copies-part copies done size n byte all short within =
     ap (take size) all ∙ take-replicate size 4096 byte short ∙ sym (take-replicate size (n - done) byte (omega (arith, within))) ∙ ap (take size) (sym (drop-replicate done n byte))
 
--- the first of the input, as a prefix of more of it
+-- a prefix of a longer input
 pub Copied-front : (old mid input : List ℕ) (at done n : ℕ) → done ≤ n → mid ≡ overwritten old at (take done input) → mid ≡ overwritten old at (take done (take n input))
 Copied-front old mid input at done n below so_far = so_far ∙ ap (overwritten old at) (sym (take-take done n input below))
 
--- or the input stops it
+-- stopped by the input
 pub Copied-stopped : {H G : Type 0} (old mid input : List ℕ) (at done n : ℕ) → done < n → n ≤ length input → (H → G → mid ≡ overwritten old at (take done input)) → H → G → FirstWritten at (take n input) old mid
 Copied-stopped old mid input at done n left has so_far h s =
     (done, rw (length-take-le n input has) left, Copied-front old mid input at done n (omega (arith, left)) (so_far h s))
 
--- what a watcher was shown: the first bytes of a source, and the next piece
+-- a watcher's first bytes and the next piece
 pub shown-more : (Saw : List ℕ → Type 0) (seen content piece : List ℕ) (done size : ℕ) → piece ≡ take size (drop done content) → Saw ((seen ++ take done content) ++ piece) → Saw (seen ++ take (done + size) content)
 shown-more Saw seen content piece done size is saw =
     let joined : (seen ++ take done content) ++ piece ≡ seen ++ take (done + size) content =

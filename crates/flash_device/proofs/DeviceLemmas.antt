@@ -1,4 +1,4 @@
--- Calls of a device, one after the other: what holds of each holds of all. For every crate that reads a device.
+-- Consecutive calls of a device, for all crates which read devices.
 use Rattle.std.proofs.Common.{◌≡◌, ℕ, ◌+◌, ◌≤◌, Bool, IsTrue, refl, sym, ◌∙◌, subst, arith, ◌-◌, ◌++◌, take, drop}
 use Rattle.std.specs.Prelude.{List, length, Result, Ok, Err, IsOk}
 use Rattle.std.proofs.Common.{length-take, length-drop}
@@ -6,16 +6,14 @@ use Rattle.flash_device.specs.Regions.{Range, LiesIn, bytes_in}
 use Rattle.std.proofs.lemmas.List.{length-take-le, take_at}
 use Rattle.flash_device.specs.Device.{Device, Calls, Reads, OneRead, refusals}
 
--- a device stays honest
 pub honest_still : {old new : Bool} → new ≡ old → IsTrue old → IsTrue new
 honest_still {old} {new} e h = subst (λ b. IsTrue b) (sym e) h
 
--- what is no refusal tells none
 pub refusals-ok : {T E : Type 0} (result : Result T E) → IsOk result → refusals result ≡ 0
 refusals-ok (Ok value) ok = refl
 refusals-ok (Err fault) ok = absurd cc
 
--- more calls, of which the last may have been refused
+-- more calls, of which the last may fail
 pub Calls-then : (n k refused : ℕ) (old mid new : Device) → Calls n 0 old mid → Calls k refused mid new → Calls (n + k) refused old new
 Calls-then n k refused old mid new first second = record {
   no_fewer = omega (arith, first.no_fewer, second.no_fewer);
@@ -25,7 +23,7 @@ Calls-then n k refused old mid new first second = record {
   same_length = second.same_length ∙ first.same_length;
 }
 
--- the same calls by another bound that they keep
+-- with a larger bound
 pub Calls-at_most : (k n refused : ℕ) (old new : Device) → new.calls ≤ old.calls + n → Calls k refused old new → Calls n refused old new
 Calls-at_most k n refused old new few calls = record {
   no_fewer = calls.no_fewer;
@@ -47,7 +45,6 @@ Reads-then n k refused old mid new first second = record {
   unchanged = λ h. second.unchanged (honest_still first.calls.same_honesty h) ∙ first.unchanged h;
 }
 
--- a region inside an image has its size
 pub length-bytes_in : (r : Range) (image : List ℕ) → LiesIn r image → length (bytes_in r image) ≡ r.size
 length-bytes_in r image lies = omega (arith, lies, length-take (r.start + r.size - r.start) (drop r.start image), length-drop r.start image)
 

@@ -23,11 +23,11 @@ use Rattle.flash_device.proofs.BytesLemmas.{slice_range_is, length-slice_range}
 use Rattle.flash_device.proofs.DeviceLemmas.{honest_still}
 use Rattle.flash_device.proofs.WindowLemmas.{HasRead-then, HasRead-within}
 
--- the bytes that a map begins with
+-- a map's first bytes
 abbrev pub signature : List ℕ
 signature = codes "__FMAP__"
 
--- a valid map stands at q
+-- a valid map begins at q
 abbrev pub IsTableAt : List ℕ → ℕ → Type 0
 IsTableAt image q = is_map (drop q image) ≡ true
 
@@ -37,7 +37,7 @@ index-slice_range xs at n i below =
     let size : at + n - at ≡ n = omega arith in
     get_or-take (at + n - at) (drop at xs) i 0 (omega arith) ∙ get_or-drop at xs i 0
 
--- what occurs in a part occurs in the whole
+-- an occurrence in a part is an occurrence in the whole
 pub OccursAt-whole : (xs needle : List ℕ) (at n k : ℕ) → at + n ≤ length xs → OccursAt (slice_range xs at (at + n)) needle k → OccursAt xs needle (at + k)
 OccursAt-whole xs needle at n k within occurs =
     let fits : k + length needle ≤ n = rw (length-slice_range xs at n within) at occurs.fits in
@@ -46,7 +46,7 @@ OccursAt-whole xs needle at n k within occurs =
       reads = λ j below. ap (slice_index xs) {x = at + k + j} {y = at + (k + j)} (omega arith) ∙ sym (index-slice_range xs at n (k + j) (omega (arith, fits, below))) ∙ occurs.reads j below;
     }
 
--- and the other way round, where the part holds all of it
+-- conversely, if the part contains the occurrence
 pub OccursAt-part : (xs needle : List ℕ) (at n k : ℕ) → at + n ≤ length xs → k + length needle ≤ n → OccursAt xs needle (at + k) → OccursAt (slice_range xs at (at + n)) needle k
 OccursAt-part xs needle at n k within fits occurs = record {
   fits = rw (length-slice_range xs at n within) fits;
@@ -64,11 +64,10 @@ IsTableAt-parts image q table =
 pub IsTableAt-signature : (image : List ℕ) (q : ℕ) → IsTableAt image q → HasSignatureAt image q
 IsTableAt-signature image q table = (IsTableAt-parts image q table).1
 
--- what has a prefix of n bytes has as many itself
 long_enough : (front x : List ℕ) (n : ℕ) → front ≡ take n x → length front ≡ n → n ≤ length x
 long_enough front x n same size = grind (arith, ap length same, length-take)
 
--- the signature as a needle that occurs
+-- the signature as an occurrence
 pub HasSignatureAt-occurs : (image : List ℕ) (q : ℕ) → HasSignatureAt image q → OccursAt image signature q
 unfolding has_signature
 HasSignatureAt-occurs image q here =
@@ -82,7 +81,7 @@ pub OccursAt-signature : (image : List ℕ) (q : ℕ) → OccursAt image signatu
 unfolding has_signature
 OccursAt-signature image q occurs = rw (at_from_reads 0 image signature q occurs.fits occurs.reads) refl
 
--- two signatures don't lie over each other where a byte and the one d places on differ
+-- two signatures don't overlap if a byte and the byte d later differ
 clash : (image : List ℕ) (q d j : ℕ) → OccursAt image signature q → OccursAt image signature (q + d) → j + d < 8 → eqb (slice_index signature (j + d)) (slice_index signature j) ≡ false → ⊥
 clash image q d j first second below differ =
     let there : q + (j + d) ≡ q + d + j = omega arith in
@@ -97,7 +96,7 @@ apart image q (suc (suc (suc (suc zero)))) first second above below = clash imag
 apart image q (suc (suc (suc (suc (suc zero))))) first second above below = clash image q 5 0 first second (omega arith) refl
 apart image q (suc (suc (suc (suc (suc (suc d)))))) first second above below = absurd (omega (arith, below))
 
--- a signature excludes one at the next five places
+-- a signature excludes signatures at the next five offsets
 pub signature-apart : (image : List ℕ) (q k : ℕ) → HasSignatureAt image q → q < k → k < q + 6 → HasSignatureAt image k → ⊥
 signature-apart image q k first above below second =
     let k_is : k ≡ q + (k - q) = omega (arith, above) in
@@ -121,26 +120,26 @@ finds_in_whole image at n (Some p) within found =
       OccursAt-signature image (at + p) (OccursAt-whole image signature at n p within found.1),
     )
 
--- where no signature stands, no map does
+-- no signature, no map
 pub no_tables : (image : List ℕ) (from place end : ℕ) → Nowhere (IsTableAt image) from place → Nowhere (HasSignatureAt image) place end → Nowhere (IsTableAt image) from end
 no_tables image from place end before none k above below table =
     ⊎_elim (λ earlier. before k above earlier table) (λ later. none k later below (IsTableAt-signature image k table)) (cases_lt k place)
 
--- nor just after the begin of a signature that begins no map
+-- no map directly after a signature without a map
 pub no_tables_behind : (image : List ℕ) (from q : ℕ) → Nowhere (IsTableAt image) from q → HasSignatureAt image q → ¬ IsTableAt image q → Nowhere (IsTableAt image) from (q + 6)
 no_tables_behind image from q before occurs no_table k above below table =
     ⊎_elim (λ earlier. before k above earlier table)
     (λ later. ⊎_elim (λ same. no_table (subst (IsTableAt image) same table)) (λ other. signature-apart image q k occurs (omega (arith, later, other)) below (IsTableAt-signature image k table)) (cases_eq k q))
     (cases_lt k q)
 
--- no map stands from one place up to another, and at most two calls were made for each six bytes before the second, none of them refused
+-- no map begins between two offsets, after at most two successful calls for each six bytes
 pub record SearchedTo {F : Type 0} (facts : F → Device) (from place : ℕ) (old new : Pages F) : Type 0 where
   pub above : from ≤ place
   pub within : place ≤ length (facts old.device).content
   pub read : HasRead facts (place / 3) 0 old new
   pub none : IsTrue (facts old.device).honest → Nowhere (IsTableAt (facts old.device).content) from place
 
--- the search goes on after a part with no signature
+-- after a part without a signature
 pub SearchedTo-part : {F : Type 0} (facts : F → Device) (old mid new : Pages F) (from place size : ℕ) → place + size ≤ length (facts old.device).content → 56 ≤ size
     → SearchedTo facts from place old mid → HasRead facts 1 0 mid new → (IsTrue (facts mid.device).honest → IsFirst (HasSignatureAt (facts mid.device).content) place (place + size - 7) None)
     → SearchedTo facts from (place + (size - 7)) old new
@@ -154,7 +153,7 @@ SearchedTo-part facts old mid new from place size within long so_far call none =
       rw end (no_tables (facts old.device).content from place (place + size - 7) (so_far.none h) here);
 }
 
--- and after a signature that begins no map
+-- after a signature without a map
 pub SearchedTo-signature : {F : Type 0} (facts : F → Device) (old mid new last : Pages F) (from place q e : ℕ) → q + 8 ≤ length (facts old.device).content → place ≤ q
     → SearchedTo facts from place old mid → HasRead facts 1 0 mid new → HasRead facts 1 0 new last
     → (IsTrue (facts mid.device).honest → IsFirst (HasSignatureAt (facts mid.device).content) place e (Some q)) → (IsTrue (facts new.device).honest → ¬ IsTableAt (facts new.device).content q)
@@ -171,7 +170,7 @@ SearchedTo-signature facts old mid new last from place q e within above so_far c
           no_tables_behind (facts old.device).content from q (no_tables (facts old.device).content from place q (so_far.none h) found.0.before) found.1 none_here;
     }
 
--- no map from one place up to another: the lowest is sought from there on
+-- no map between two offsets: the search continues at the second
 pub map_from-skip : (image : List ℕ) (from d : ℕ) → from + d ≤ length image → Nowhere (IsTableAt image) from (from + d) → map_from from (drop from image) ≡ map_from (from + d) (drop (from + d) image)
 map_from-skip image from zero le none = let same : from ≡ from + 0 = omega arith in ap (λ k. map_from k (drop k image)) same
 map_from-skip image from (suc d) le none =
@@ -184,7 +183,7 @@ map_from-skip image from (suc d) le none =
     no_table true none = absurd (none refl)
     no_table false none = refl
 
--- the same by the second place
+-- the same by the second offset
 skipped : (image : List ℕ) (from k : ℕ) → from ≤ k → k ≤ length image → Nowhere (IsTableAt image) from k → map_from from (drop from image) ≡ map_from k (drop k image)
 skipped image from k above le none =
     let same : from + (k - from) ≡ k = omega (arith, above) in
@@ -216,7 +215,7 @@ head_some x h e = go (is_map x) refl e
     go true m p = (m, cc)
     go false m p = absurd cc
 
--- a head that is read from its own bytes
+-- from the head's own bytes
 pub map_head-take : (x : List ℕ) → 56 ≤ length x → map_head_in (take 56 x) (length x) ≡ map_head x
 unfolding is_map
 map_head-take x long = rw (has_signature-take x 56 (omega arith), fmap_head_of-take x 56 (omega arith), le-leb 56 (length x) long) refl
@@ -236,7 +235,7 @@ pub valid_fits : (h : FmapHead) (left : ℕ) → is_valid_head h left ≡ true �
 unfolding is_valid_head
 valid_fits h left e = leb-true _ _ (and_parts _ _ (and_parts _ _ e).1).1
 
--- or ends at the map that a signature begins
+-- the search ends at a signature's map
 pub SearchedTo-table : {F : Type 0} (facts : F → Device) (old mid new : Pages F) (from place q e : ℕ) (h : FmapHead) → SearchedTo facts from place old mid → HasRead facts 1 0 mid new
     → (IsTrue (facts mid.device).honest → IsFirst (HasSignatureAt (facts mid.device).content) place e (Some q)) → (IsTrue (facts new.device).honest → Some h ≡ map_head (drop q (facts new.device).content))
     → IsTrue (facts old.device).honest → Some (record { at = q; head = h }) ≡ found_from from (facts old.device).content

@@ -1,4 +1,4 @@
--- The bytes of a region under writes to the image.
+-- A region's bytes after writes to the image.
 use Rattle.std.proofs.Common.{◌≡◌, ◌⊎◌, inl, inr, ℕ, ◌+◌, ◌-◌, ◌≤◌, List, length, take, drop, refl, sym, ◌∙◌, ap, arith}
 use Rattle.std.specs.Prelude.{slice_range, Result, Ok, Err, OnOk}
 use Rattle.std.proofs.lemmas.List.{take-take, drop-drop, drop-take}
@@ -30,7 +30,7 @@ rest r x to below =
     ∙ drop-take to (r.size - to) (drop r.start x)
     ∙ ap (λ (l : List ℕ). take (r.size - to) l) (drop-drop to r.start x)
 
--- a change of the image in a range of the region
+-- a change in the region
 pub changed_in : (r : Range) (x y : List ℕ) (at n : ℕ) → at + n ≤ r.size → SameOutside (r.start + at) n x y → SameOutside at n (bytes_in r x) (bytes_in r y)
 changed_in r x y at n fits same =
     let end : r.start + at + n ≡ r.start + (at + n) = omega arith in
@@ -40,7 +40,7 @@ changed_in r x y at n fits same =
       after = rest r y (at + n) fits ∙ ap (λ (l : List ℕ). take (r.size - (at + n)) l) after ∙ sym (rest r x (at + n) fits);
     }
 
--- bytes written over the image in a range of the region
+-- a write in the region
 pub written_in : (r : Range) (x : List ℕ) (at : ℕ) (u : List ℕ) → LiesIn r x → at + length u ≤ r.size → bytes_in r (overwritten x (r.start + at) u) ≡ overwritten (bytes_in r x) at u
 written_in r x at u lies fits =
     let y : List ℕ = overwritten x (r.start + at) u in
@@ -51,14 +51,13 @@ written_in r x at u lies fits =
     changed-overwritten (bytes_in r x) (bytes_in r y) at (length u) (omega arith) (length-bytes_in r y lies_y ∙ sym size) (changed_in r x y at (length u) fits same)
     ∙ ap (λ (l : List ℕ). overwritten (bytes_in r x) at l) (sym (part-bytes_in y r at (length u) fits) ∙ overwritten-range x (r.start + at) u (omega (arith, lies)))
 
--- or before or after the region
+-- a write before or after the region
 pub written_beside : (r : Range) (x : List ℕ) (at : ℕ) (u : List ℕ) → at ≤ length x → (at + length u ≤ r.start) ⊎ (r.start + r.size ≤ at) → bytes_in r (overwritten x at u) ≡ bytes_in r x
 written_beside r x at u inside (inl before) = overwritten-later x at u r.start r.size before inside
 written_beside r x at u inside (inr after) = overwritten-earlier x at u r.start r.size after inside
 
--- ---- the same with the place in the image as a number
+-- ---- with the image offset as a number
 
--- nothing outside the region changes
 pub outside_of : (r : Range) (x y : List ℕ) (p at n : ℕ) → p ≡ r.start + at → at + n ≤ r.size → SameOutside p n x y → SameOutside r.start r.size x y
 outside_of r x y p at n place fits same = SameOutside-trans x x y r.start r.size at n fits (record { before = refl; after = refl }) (rw place at same)
 
@@ -79,6 +78,6 @@ pub written_whole : (r : Range) (x y : List ℕ) (p at n : ℕ) (u : List ℕ) �
 written_whole r x y p at n u lies place size fits (inl same) = inl (ap (λ (l : List ℕ). bytes_in r l) same)
 written_whole r x y p at n u lies place size fits (inr is) = inr (written_to r x y p at n u lies place size fits is)
 
--- the image by what its region holds, where nothing else has changed
+-- the image by its region, without other changes
 pub image_is : (r : Range) (x y u : List ℕ) → LiesIn r x → length y ≡ length x → SameOutside r.start r.size x y → bytes_in r y ≡ u → y ≡ overwritten x r.start u
 image_is r x y u lies size same is = changed-overwritten x y r.start r.size lies size same ∙ ap (λ (l : List ℕ). overwritten x r.start l) is

@@ -1,5 +1,4 @@
--- Reads through the window: what they leave, one after the other, and how many calls they make. For every crate that
--- reads a device.
+-- Reads through the window: effects and numbers of calls, for all crates which read devices.
 use Rattle.std.proofs.Common.{◌≡◌, ◌∙◌, ℕ, ◌+◌, ◌-◌, ◌*◌, ◌/◌, ◌<◌, ◌≤◌, IsTrue, List, length, take, min, sym, subst, arith, le_refl, ⊎_elim}
 use Rattle.std.proofs.Common.{length-take}
 use Rattle.std.specs.Prelude.{slice_range, Result, Ok, Err, IsOk}
@@ -14,7 +13,7 @@ use Rattle.flash_device.specs.declared.paged.Buffered.TheVariants as code
 use Rattle.flash_device.proofs.BytesLemmas.{part_of_window}
 use Rattle.flash_device.proofs.DeviceLemmas.{refusals-ok, Calls-at_most, Reads-none, Reads-then}
 
--- a part of a buffer whose window covers it
+-- a part of a buffer with a window over the part
 pub part_read : (device : Device) (buffer : List ℕ) (held : Buffered) (from size at n : ℕ) → held ≡ code.Window from size → IsTrueTo device (held_in buffer held) → Covers (held_in buffer held) at n → IsTrue device.honest
     → slice_range buffer (at - from) (at - from + n) ≡ slice_range device.content at (at + n)
 part_read device buffer held from size at n is true_to covers h =
@@ -24,7 +23,6 @@ part_read device buffer held from size at n is true_to covers h =
     let short : k ≤ size = omega (arith, length-take size buffer) in
     part_of_window buffer device.content from k at n (sym (take-take k size buffer short) ∙ take-length (take size buffer) ∙ window.1 h) there.0 there.1
 
--- what covers a range covers its parts
 pub Covers-part : (held : Held) (at n done size : ℕ) → done + size ≤ n → Covers held at n → Covers held (at + done) size
 Covers-part (Window from bytes) at n done size within covers = (omega (arith, covers.0), omega (arith, covers.1, within))
 Covers-part Nothing at n done size within covers = covers
@@ -39,7 +37,7 @@ HasRead-then facts n k refused old mid new first second = record {
   window = λ h. second.window (first.window h);
 }
 
--- the same reads by another bound that they keep
+-- with a larger bound
 pub HasRead-at_most : {F : Type 0} (facts : F → Device) (k n refused : ℕ) (old new : Pages F) → (facts new.device).calls ≤ (facts old.device).calls + n → HasRead facts k refused old new → HasRead facts n refused old new
 HasRead-at_most facts k n refused old new few read = record {
   device = record { calls = Calls-at_most k n refused _ _ few read.device.calls; unchanged = read.device.unchanged };
@@ -49,7 +47,7 @@ HasRead-at_most facts k n refused old new few read = record {
 pub HasRead-within : {F : Type 0} (facts : F → Device) (n k refused : ℕ) (old new : Pages F) → n ≤ k → HasRead facts n refused old new → HasRead facts k refused old new
 HasRead-within facts n k refused old new le read = HasRead-at_most facts n k refused old new (omega (arith, read.device.calls.no_more, le)) read
 
--- a window covers a range or doesn't
+-- by whether a window covers a range
 pub covered : (held : Held) (at n : ℕ) (P : Type 0) → (Covers held at n → P) → ((Covers held at n → ⊥) → P) → P
 covered Nothing at n P inside outside = outside (λ c. c)
 covered (Window from bytes) at n P inside outside =
@@ -64,21 +62,21 @@ HasScanned-none facts start p = record {
   paid = λ q n above short within none. omega arith;
 }
 
--- the window that a read loaded has what lies within 4096 bytes of it
+-- a loaded window contains the next 4096 bytes
 pub ahead_covers : (held : Held) (at q n size : ℕ) → at ≤ q → n ≤ 256 → q + n ≤ size → Covers held at (min (size - at) 4096) → (Covers held q n → ⊥) → at + 3840 ≤ q
 ahead_covers Nothing at q n size above short within covers none = absurd covers
 ahead_covers (Piece bytes) at q n size above short within covers none = absurd covers
 ahead_covers (Window from bytes) at q n size above short within covers none =
     ⊎_elim (λ near. absurd (none (omega (arith, covers.0, above), omega (arith, covers.1, above, near, short, within)))) (λ far. far) (cases_lt q (at + 3840))
 
--- what was read so far, as far as a later place
+-- earlier reads, up to a later offset
 HasSpent-on : {F : Type 0} (facts : F → Device) (start at end refused : ℕ) (old new : Pages F) → at ≤ end → HasSpent facts start at refused old new → HasSpent facts start end refused old new
 HasSpent-on facts start at end refused old new above spent = record {
   above = omega (arith, spent.above, above);
   read = HasRead-within facts ((at - start) / 3840 + 1) ((end - start) / 3840 + 1) refused old new (omega (arith, spent.above, above)) spent.read;
 }
 
--- one read more, whatever it answers
+-- one more read, with any result
 pub HasSpent-more : {F T E : Type 0} (facts : F → Device) (start at q n : ℕ) (old mid new : Pages F) (result : Result T E) → at ≤ q → n ≤ 256 → q + n ≤ length (facts old.device).content
     → HasScanned facts start at old mid → HasSeen facts q n mid new result → HasSpent facts start q (refusals result) old new
 HasSpent-more facts start at q n old mid new result above short within so_far seen =
@@ -93,7 +91,7 @@ HasSpent-more facts start at q n old mid new result above short within so_far se
           (HasRead-then facts ((at - start) / 3840 + 1) 1 (refusals result) old mid new so_far.spent.read seen.read);
     })
 
--- one read more, which was not refused
+-- one more successful read
 pub HasScanned-more : {F T E : Type 0} (facts : F → Device) (start at q n : ℕ) (old mid new : Pages F) (x : T) → at ≤ q → n ≤ 256 → q + n ≤ length (facts old.device).content
     → HasScanned facts start at old mid → HasSeen {E = E} facts q n mid new (Ok x) → HasScanned facts start q old new
 HasScanned-more {F} {T} {E} facts start at q n old mid new x above short within so_far seen =
@@ -125,7 +123,7 @@ SpendsTo-on facts at end later refused old new above spends = record { on = λ s
 pub ScansTo-spends : {F : Type 0} (facts : F → Device) (at end : ℕ) (old new : Pages F) → ScansTo facts at end old new → SpendsTo facts at end 0 old new
 ScansTo-spends facts at end old new scans = record { on = λ start first so_far. (scans.on start first so_far).spent }
 
--- one read more, whatever it answers
+-- one more read, with any result
 pub SpendsTo-more : {F T E : Type 0} (facts : F → Device) (at end q n : ℕ) (old mid new : Pages F) (result : Result T E) → end ≤ q → n ≤ 256 → q + n ≤ length (facts mid.device).content
     → ScansTo facts at end old mid → HasSeen facts q n mid new result → SpendsTo facts at q (refusals result) old new
 SpendsTo-more facts at end q n old mid new result above short within scans seen = record {
@@ -134,7 +132,7 @@ SpendsTo-more facts at end q n old mid new result above short within scans seen 
       HasSpent-more facts start end q n first mid new result above short (omega (arith, within, before.spent.read.device.calls.same_length)) before seen;
 }
 
--- one read more, which was not refused
+-- one more successful read
 pub ScansTo-more : {F T E : Type 0} (facts : F → Device) (at end q n : ℕ) (old mid new : Pages F) (result : Result T E) → IsOk result → end ≤ q → n ≤ 256 → q + n ≤ length (facts mid.device).content
     → ScansTo facts at end old mid → HasSeen facts q n mid new result → ScansTo facts at q old new
 ScansTo-more facts at end q n old mid new (Err e) ok above short within scans seen = absurd cc
@@ -151,7 +149,7 @@ ScansTo-then facts at place end old mid new one two = record { on = λ start fir
 pub SpendsTo-then : {F : Type 0} (facts : F → Device) (at place end refused : ℕ) (old mid new : Pages F) → ScansTo facts at place old mid → SpendsTo facts place end refused mid new → SpendsTo facts at end refused old new
 SpendsTo-then facts at place end refused old mid new one two = record { on = λ start first so_far. two.on start first (one.on start first so_far) }
 
--- the calls of reads in order, as a number of reads
+-- the calls as a number of reads
 pub SpendsTo-reads : {F : Type 0} (facts : F → Device) (at end n refused : ℕ) (old new : Pages F) → end < at + 3840 * n → SpendsTo facts at end refused old new → HasRead facts n refused old new
 SpendsTo-reads facts at end n refused old new few spends =
     let spent : HasSpent facts at end refused old new = spends.on at old (HasScanned-none facts at old) in

@@ -1,4 +1,4 @@
--- A map that was written into an image is found there.
+-- A search finds a written map.
 use Rattle.std.proofs.Common.{◌≡◌, ℕ, ◌+◌, List, ◌++◌, length, take, drop, Option, Some, sym, ◌∙◌, ap}
 use Rattle.std.specs.Option.{option_map}
 use Rattle.std.proofs.lemmas.List.{drop_at, drop-drop, length-take-le}

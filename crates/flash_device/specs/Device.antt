@@ -1,21 +1,20 @@
--- The contract state of devices and sources, and the effects of calls.
+-- Devices and sources, and the effects of calls.
 use Rattle.std.specs.Prelude.{◌≡◌, ℕ, ◌+◌, ◌<◌, ◌≤◌, List, ◌++◌, length, take, drop, ◌⊎◌, Bool, slice_range, IsTrue, OnOk, Result, Ok, Err}
 
 abbrev pub overwritten : List ℕ → ℕ → List ℕ → List ℕ
 overwritten old at bytes = take at old ++ (bytes ++ drop (at + length bytes) old)
 
--- the lists are equal outside n bytes from `at` on
+-- equal outside n bytes from `at` on
 pub record SameOutside (at n : ℕ) (old new : List ℕ) : Type 0 where
   pub before : take at new ≡ take at old
   pub after : drop (at + n) new ≡ drop (at + n) old
 
--- a proper prefix of the bytes is written at `at`, and the rest is unchanged
+-- a proper prefix is written at `at`
 abbrev pub FirstWritten : ℕ → List ℕ → List ℕ → List ℕ → Type 0
 FirstWritten at bytes old new =
     (done : ℕ) × (done < length bytes) × (new ≡ overwritten old at (take done bytes))
 
--- a prefix of the bytes is written at `at`, then at most 4096 bytes are arbitrary, and the rest is
--- unchanged
+-- a prefix is written at `at`, then at most 4096 bytes are arbitrary
 pub record PartWritten (at : ℕ) (bytes old new : List ℕ) : Type 0 where
   pub done : ℕ
   pub torn : ℕ
@@ -23,15 +22,15 @@ pub record PartWritten (at : ℕ) (bytes old new : List ℕ) : Type 0 where
   pub within : done + torn ≤ length bytes
   pub same : SameOutside (at + done) torn (overwritten old at (take done bytes)) new
 
--- The contract state of a device or a source: its content, its number of calls except `len`, and
--- its number of faults. An honest device returns the content in reads, and performs each write.
+-- A device or source. Calls exclude `len`. If honest, reads return the content, and each write is
+-- performed.
 pub record Device : Type 0 where
   pub content : List ℕ
   pub calls : ℕ
   pub faults : ℕ
   pub honest : Bool
 
--- the number of faults in a result, given the number for each error
+-- the faults in a result, by error
 abbrev pub faults_told : {T E : Type 0} → (E → ℕ) → Result T E → ℕ
 faults_told told (Ok value) = 0
 faults_told told (Err fault) = told fault
@@ -39,7 +38,7 @@ faults_told told (Err fault) = told fault
 abbrev pub refusals : {T E : Type 0} → Result T E → ℕ
 refusals = faults_told (λ fault. 1)
 
--- The effect of at most n calls, with the given number of faults, on any device.
+-- at most n calls of any device
 pub record Calls (n refused : ℕ) (old new : Device) : Type 0 where
   pub no_fewer : old.calls ≤ new.calls
   pub no_more : new.calls ≤ old.calls + n
@@ -51,16 +50,14 @@ pub record OneCall (refused : ℕ) (old new : Device) : Type 0 where
   pub counted : new.calls ≡ old.calls + 1
   pub within : Calls 1 refused old new
 
--- The effect of a read of n bytes into `out`. The clauses `read` and `unchanged` are for honest
--- devices.
+-- A read; `read` and `unchanged` are for honest devices.
 pub record OneRead {T E : Type 0} (at n : ℕ) (old new : Device) (result : Result T E)
     (out : List ℕ) : Type 0 where
   pub call : OneCall (refusals result) old new
   pub read : IsTrue old.honest → OnOk result (out ≡ slice_range old.content at (at + n))
   pub unchanged : IsTrue old.honest → new.content ≡ old.content
 
--- The effect of a write. The clauses `written` and `torn` are for honest devices; `torn` holds for
--- any result.
+-- A write; `written` and `torn` are for honest devices, `torn` for any result.
 pub record OneWrite {T E : Type 0} (at : ℕ) (bytes : List ℕ) (old new : Device)
     (result : Result T E) : Type 0 where
   pub call : OneCall (refusals result) old new
@@ -74,7 +71,7 @@ pub record OneCommit {T E : Type 0} (at : ℕ) (bytes : List ℕ) (old new : Dev
   pub whole : IsTrue old.honest
       → (new.content ≡ old.content) ⊎ (new.content ≡ overwritten old.content at bytes)
 
--- the effect of at most n reads, with any results
+-- at most n reads, with any results
 pub record Reads (n refused : ℕ) (old new : Device) : Type 0 where
   pub calls : Calls n refused old new
   pub unchanged : IsTrue old.honest → new.content ≡ old.content

@@ -2,9 +2,8 @@
 use Rattle.std.specs.Prelude.{◌≡◌, ℕ, ◌+◌, ◌-◌, ◌<◌, Bool, false, List, take, Result, IsTrue, IsErr}
 use Rattle.flash_device.specs.Device.{overwritten, Device, refusals}
 
--- The contract state of a failing device: the other device, the remaining number of successful
--- calls, the length of the torn part of the first failed write, a flag before the torn write, and
--- the device's own calls and faults. A source has no writes.
+-- A failing device or source over another: the remaining successful calls, the length of a torn
+-- write, a flag before the torn write, and the own calls and faults.
 pub record Failing (F : Type 0) : Type 0 where
   pub device : F
   pub left : ℕ
@@ -17,12 +16,12 @@ abbrev pub facts_over : {F : Type 0} → (F → Device) → Failing F → Device
 facts_over facts f =
     record (facts f.device) { calls = f.calls; faults = (facts f.device).faults + f.faults }
 
--- after a failed call without effect
+-- no effect
 abbrev pub refused_once : {F : Type 0} → Failing F → Failing F
 refused_once f = record f { calls = f.calls + 1; faults = f.faults + 1 }
 
--- After a failed write. The first failed write reaches the other device in part, unless the other
--- device fails, and is one fault, of the other device or this device. Later writes have no effect.
+-- A failed write. The first is torn, unless the other device fails, and is one fault, of either
+-- device. Later writes have no effect.
 pub record RefusedWrite {F : Type 0} (facts : F → Device) (at : ℕ) (bytes : List ℕ)
     (old new : Failing F) : Type 0 where
   pub first : IsTrue old.tears
@@ -33,8 +32,7 @@ pub record RefusedWrite {F : Type 0} (facts : F → Device) (at : ℕ) (bytes : 
       → (facts new.device).content ≡ overwritten (facts old.device).content at (take old.part bytes)
   pub later : old.tears ≡ false → new ≡ refused_once old
 
--- After a call: a passed call has the other device's result; any other call fails with the given
--- effect.
+-- A passed call has the other device's result; any other fails with the given effect.
 pub record PassedOrRefused {F T E : Type 0} (facts : F → Device) (old new : Failing F)
     (result : Result T E) (Refused : Type 0) : Type 0 where
   pub counted : 0 < old.left

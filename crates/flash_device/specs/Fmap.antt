@@ -1,4 +1,4 @@
--- The search for an image's flash map.
+-- Searches for an image's flash map.
 use Rattle.std.specs.Prelude.{◌≡◌, ℕ, true, ◌&&◌, List, Option, Some, None, drop, if◌then◌else◌}
 use Rattle.std.specs.Option.{option_map}
 use Rattle.flash_format.specs.declared.flashmap.FmapHead.{FmapHead}
@@ -8,17 +8,17 @@ use Rattle.flash_device.specs.declared.fmap.FoundMap.{FoundMap}
 abbrev pub HasSignatureAt : List ℕ → ℕ → Type 0
 HasSignatureAt image q = has_signature (drop q image) ≡ true
 
--- the head of a valid map at the front of the bytes
+-- the head of a valid map at the front
 abbrev pub map_head : List ℕ → Option FmapHead
 map_head x = if is_map x then Some (fmap_head_of x) else None
 
--- the head from the first 56 bytes, with `left` bytes up to the image's end
+-- from the first 56 bytes, with `left` bytes up to the image's end
 abbrev pub map_head_in : List ℕ → ℕ → Option FmapHead
 map_head_in bytes left =
     if has_signature bytes && is_valid_head (fmap_head_of bytes) left
     then Some (fmap_head_of bytes) else None
 
--- the lowest valid map from an offset on
+-- the lowest from an offset on
 abbrev pub found_from : ℕ → List ℕ → Option FoundMap
 found_from place image =
     option_map (λ q. record { at = q; head = fmap_head_of (drop q image) })

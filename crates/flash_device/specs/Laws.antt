@@ -1,4 +1,4 @@
--- The laws of writes and of written maps.
+-- Laws of writes and of written maps.
 use Rattle.std.specs.Prelude.{◌≡◌, ◌⊎◌, ℕ, ◌+◌, ◌≤◌, List, ◌++◌, length, Some}
 use Rattle.flash_format.specs.Flashmap.{areas_at}
 use Rattle.flash_format.specs.Laws.{IsReadAsMap}
@@ -10,18 +10,17 @@ use Rattle.flash_device.specs.Fmap.{found_in}
 use Rattle.flash_device.specs.Regions.{Range, LiesIn, bytes_in}
 
 pub record WritesInRegions : Type 0 where
-  -- a write inside the region overwrites the region's bytes
+  -- a write inside the region overwrites its bytes
   pub inside : (r : Range) (x : List ℕ) (at : ℕ) (u : List ℕ) → LiesIn r x → at + length u ≤ r.size
       → bytes_in r (overwritten x (r.start + at) u) ≡ overwritten (bytes_in r x) at u
-  -- a write before or after the region doesn't change the region
+  -- a write beside the region has no effect
   pub beside : (r : Range) (x : List ℕ) (at : ℕ) (u : List ℕ) → at ≤ length x
       → (at + length u ≤ r.start) ⊎ (r.start + r.size ≤ at)
       → bytes_in r (overwritten x at u) ≡ bytes_in r x
-  -- a change inside the region's range is a change of the region's bytes in the same range
+  -- a change in the range changes the region's bytes
   pub changed : (r : Range) (x y : List ℕ) (at n : ℕ) → at + n ≤ r.size
       → SameOutside (r.start + at) n x y → SameOutside at n (bytes_in r x) (bytes_in r y)
-  -- an image without changes outside the region is the old image, overwritten with the region's
-  -- bytes
+  -- an image changed only inside is overwritten with the region
   pub whole : (r : Range) (x y : List ℕ) → LiesIn r x → length y ≡ length x
       → SameOutside r.start r.size x y → y ≡ overwritten x r.start (bytes_in r y)
 
@@ -35,8 +34,7 @@ pub record FindsMap (h : FmapHead) (areas : List Area) (image : List ℕ) (q : �
   pub found : found_in image ≡ Some (record { at = q; head = h })
   pub all : areas_at image q ≡ areas
 
--- a search finds a written map with its areas, if no valid map begins at a lower offset after the
--- write
+-- if no valid map begins lower after the write
 abbrev pub WrittenMapsAreFound : Type 0
 WrittenMapsAreFound =
     (h : FmapHead) (areas : List Area) (bytes image : List ℕ) (q : ℕ)

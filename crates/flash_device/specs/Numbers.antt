@@ -1,4 +1,4 @@
--- The number of a counter of size 0.
+-- A counter of size 0.
 use Rattle.std.specs.Prelude.{ℕ, ◌+◌}
 use Rattle.flash_device.specs.declared.counter.Number.{Number, Zero, More'}
 

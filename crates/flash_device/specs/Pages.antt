@@ -1,4 +1,4 @@
--- The contract state of a buffered device, and the effects of its calls.
+-- Buffered devices, and the effects of their calls.
 use Rattle.std.specs.Prelude.{◌≡◌, ◌+◌, ◌-◌, ◌≤◌, ℕ, List, length, take, min, Result, IsTrue, IsOk, OnOk, OnErr, IfOk, slice_range, ◌/◌, ◌<◌, Option, replicate, IsErrOf}
 use Rattle.std.specs.Borrow.{Bor}
 use Rattle.flash_device.specs.Device.{SameOutside, Device, Calls, Reads, refusals, overwritten, FirstWritten, PartWritten, faults_told}
@@ -10,17 +10,16 @@ use Rattle.flash_device.specs.Output.{AppendsPart}
 use Rattle.flash_device.specs.declared.paged.CopyFault.{CopyFault}
 use Rattle.flash_device.specs.declared.paged.CopyFault.TheVariants as causes
 
--- P holds for the content of an honest device
+-- P holds for an honest device's content
 abbrev pub OnHonest : {F : Type 0} → (F → Device) → F → (List ℕ → Type 0) → Type 0
 OnHonest facts device P = IsTrue (facts device).honest → P (facts device).content
 
--- P holds for a region's bytes on an honest device
+-- P holds for a region on an honest device
 abbrev pub OnHonestIn : {F : Type 0} → (F → Device) → F → Range → (List ℕ → Type 0) → Type 0
 OnHonestIn facts device region P =
     IsTrue (facts device).honest → P (bytes_in region (facts device).content)
 
--- the content of the buffer: empty, device bytes from an offset on after a read, or the last pulled
--- piece
+-- empty, device bytes from an offset on, or the last pulled piece
 pub data Held : Type 0 where
   Nothing : Held
   Window : ℕ → List ℕ → Held
@@ -35,7 +34,7 @@ held_in buffer code.Nothing = Nothing
 held_in buffer (code.Window at size) = Window at (take size buffer)
 held_in buffer (code.Piece size) = Piece (take size buffer)
 
--- a window lies inside the device, and equals the bytes of an honest device
+-- a window lies inside the device, and equals an honest device's bytes
 abbrev pub IsTrueTo : Device → Held → Type 0
 IsTrueTo device (Window at bytes) =
     (at + length bytes ≤ length device.content)
@@ -59,19 +58,19 @@ abbrev pub without_piece : Held → Held
 without_piece (Piece bytes) = Nothing
 without_piece held = held
 
--- the effect of at most n reads, with the given number of faults
+-- at most n reads, with the given faults
 pub record HasRead {F : Type 0} (facts : F → Device) (n refused : ℕ)
     (old new : Pages F) : Type 0 where
   pub device : Reads n refused (facts old.device) (facts new.device)
   pub window : IsTrueTo (facts old.device) old.held → IsTrueTo (facts new.device) new.held
 
--- the effect of a call of at most n reads, which fails exactly if a read fails
+-- at most n reads, failed exactly if a read fails
 pub record HasAnswered {F T E : Type 0} (facts : F → Device) (n : ℕ) (old new : Pages F)
     (result : Result T E) : Type 0 where
   pub read : HasRead facts n (refusals result) old new
 
--- the effect of a read of n bytes from `at` on: no call if a window covers the range; otherwise a
--- window from `at` on of up to 4096 bytes, or an empty buffer after a fault
+-- a read of n bytes: no call inside the window; otherwise a window from `at` on, or an empty buffer
+-- after a fault
 pub record HasSeen {F T E : Type 0} (facts : F → Device) (at n : ℕ) (old new : Pages F)
     (result : Result T E) : Type 0 where
   pub read : HasRead facts 1 (refusals result) old new
@@ -81,8 +80,7 @@ pub record HasSeen {F T E : Type 0} (facts : F → Device) (at n : ℕ) (old new
   pub ahead : (Covers old.held at n → ⊥)
       → OnOk result (Covers new.held at (min (length (facts old.device).content - at) 4096))
 
--- the effect of writes to a region, with at most n calls and the given number of faults: an honest
--- device is unchanged outside the region
+-- writes to a region, at most n calls: an honest device is unchanged outside
 pub record HasChanged {F : Type 0} (facts : F → Device) (region : Range) (n refused : ℕ)
     (old new : Pages F) : Type 0 where
   pub calls : Calls n refused (facts old.device) (facts new.device)
@@ -95,7 +93,7 @@ pub record HasPulled {F E : Type 0} (old new : Pages F)
   pub held : IfOk result (λ bytes. new.held ≡ Piece bytes.now)
   pub dropped : OnErr result (new.held ≡ Nothing)
 
--- the number of device faults, or of source faults, in a copy's fault
+-- device faults, or source faults, in a copy's fault
 abbrev pub by_device : CopyFault → ℕ
 by_device causes.Device = 1
 by_device _ = 0
@@ -104,7 +102,7 @@ abbrev pub by_source : CopyFault → ℕ
 by_source causes.Source = 1
 by_source _ = 0
 
--- the effect of a fill of n bytes from `at` on; all clauses except `calls` are for honest devices
+-- a fill of n bytes; all clauses except `calls` are for honest devices
 pub record HasFilled {T E : Type 0} (at n byte : ℕ) (old new : Device)
     (result : Result T E) : Type 0 where
   pub calls : Calls ((n + 4095) / 4096) (refusals result) old new
@@ -114,9 +112,8 @@ pub record HasFilled {T E : Type 0} (at n byte : ℕ) (old new : Device)
       → OnErr result (PartWritten at (replicate n byte) old.content new.content)
   pub outside : IsTrue old.honest → SameOutside at n old.content new.content
 
--- The effect of a copy of a source's first n bytes to `at`. The clauses `copied`, `stopped` and
--- `part` are for an honest device and an honest source, and `outside` is for an honest device and
--- any source.
+-- A copy of a source's first n bytes. `copied`, `stopped` and `part` are for an honest device and
+-- source, `outside` for an honest device.
 pub record HasCopiedIn {F S T : Type 0} (facts : F → Device) (source_facts : S → Device) (at n : ℕ)
     (device device_now : F) (source source_now : S) (result : Result T CopyFault) : Type 0 where
   pub calls : Calls ((n + 4095) / 4096) (faults_told by_device result)
@@ -140,8 +137,7 @@ pub record HasCopiedIn {F S T : Type 0} (facts : F → Device) (source_facts : S
   pub outside : IsTrue (facts device).honest
       → SameOutside at n (facts device).content (facts device_now).content
 
--- The effect of a copy of n bytes from `at` on into a sink, with an upper bound of device calls.
--- The clauses `copied` and `part` are for honest devices.
+-- A copy of n bytes into a sink. `copied` and `part` are for honest devices.
 pub record HasCopiedOut {F W T : Type 0} (facts : F → Device) (contents : W → Option (List ℕ))
     (failures : W → ℕ) (most at n : ℕ) (old new : Pages F) (out out_now : W)
     (result : Result T CopyFault) : Type 0 where

@@ -15,7 +15,7 @@ bytes_in region image = slice_range image region.start (region.start + region.si
 abbrev pub LiesIn : Range → List ℕ → Type 0
 LiesIn region image = region.start + region.size ≤ length image
 
--- the number of device faults in an error
+-- device faults in an error
 abbrev pub by_device : StoreFault → ℕ
 by_device faults.Device = 1
 by_device _ = 0
@@ -26,11 +26,11 @@ region_by_area image_len (Some a) =
     if nat_lt image_len (a.offset + a.size) then Err faults.RegionOutside
     else Ok (record { start = a.offset; size = a.size })
 
--- the first area with the given name in the map at an offset, as a region
+-- the first area with the name, in the map at an offset
 abbrev pub region_under : List ℕ → List ℕ → Option ℕ → Result Range StoreFault
 region_under image name None = Err faults.NoFmap
 region_under image name (Some q) = region_by_area (length image) (area_in image q name)
 
--- the region of the first area with the given name in the image's flash map
+-- the first area with the name, in the image's map
 unfoldable pub region_of : List ℕ → List ℕ → Result Range StoreFault
 region_of image name = region_under image name (map_of image)

@@ -1,10 +1,10 @@
--- The number of calls for ordered reads through the window.
+-- Calls of ordered reads through the window.
 use Rattle.std.specs.Prelude.{ℕ, ◌+◌, ◌-◌, ◌/◌, ◌≤◌, length}
 use Rattle.flash_device.specs.Device.{Device}
 use Rattle.flash_device.specs.Pages.{Pages, Covers, HasRead}
 
--- The effect of ordered reads of at most 256 bytes each, at offsets between `start` and `at`: at
--- most one call for each 3840 bytes and another call, with the given number of faults.
+-- Ordered reads of at most 256 bytes between `start` and `at`: at most one call for each 3840
+-- bytes, and another.
 pub record HasSpent {F : Type 0} (facts : F → Device) (start at refused : ℕ)
     (old new : Pages F) : Type 0 where
   pub above : start ≤ at
@@ -18,12 +18,12 @@ pub record HasScanned {F : Type 0} (facts : F → Device) (start at : ℕ)
       → (Covers new.held q n → ⊥)
       → (facts new.device).calls ≤ (facts old.device).calls + (q - start) / 3840
 
--- reads without faults from `at` to `end`, after any earlier reads
+-- from `at` to `end` without faults, after any earlier reads
 pub record ScansTo {F : Type 0} (facts : F → Device) (at end : ℕ) (old new : Pages F) : Type 0 where
   pub on : (start : ℕ) → (first : Pages F) → HasScanned facts start at first old
       → HasScanned facts start end first new
 
--- reads from `at` to `end`; only the last can fail
+-- from `at` to `end`; only the last can fail
 pub record SpendsTo {F : Type 0} (facts : F → Device) (at end refused : ℕ)
     (old new : Pages F) : Type 0 where
   pub on : (start : ℕ) → (first : Pages F) → HasScanned facts start at first old

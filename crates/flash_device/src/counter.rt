@@ -11,7 +11,7 @@ enum Number {
     More(usize, Snapshot<Number>),
 }
 
-/// An unbounded counter of size 0, for contracts only.
+/// An unbounded counter of size 0.
 #[derive(Drop)]
 pub struct Counter {
     number: Snapshot<Number>,

@@ -8,11 +8,10 @@ use crate::flash::{Flash, FlashFault};
 use flash_format::HEADER_LENGTH;
 use std::marker::Model;
 
-/// A test device over another device: the first calls pass, and all later calls fail.
+/// A test device over another: the first calls pass, and all later calls fail.
 ///
-/// A failed read or commit has no effect. A part of the first failed write still reaches the other
-/// device, like a power failure during the write; later writes have no effect. Each failed call is
-/// one fault, of this device or the other.
+/// The first failed write still writes a part, like a power failure; other failed calls have no
+/// effect. Each is one fault, of either device.
 #[derive(Drop)]
 pub struct FailAt<F: Flash> {
     device: F,
@@ -39,8 +38,7 @@ impl<F: Flash> Model for FailAt<F> {
 }
 
 impl<F: Flash> FailAt<F> {
-    /// Makes a device with `k` successful calls. The first failed write still writes up to `part`
-    /// bytes.
+    /// Makes a device with `k` successful calls and a torn write of up to `part` bytes.
     pub fn new(device: F, k: u64, part: usize) -> FailAt<F>
         ensures { result ≡ record {
           device = device;
@@ -68,7 +66,7 @@ impl<F: Flash> FailAt<F> {
         device
     }
 
-    /// Counts a call, and returns true if the call passes.
+    /// Counts a call, passed or failed.
     fn admits(&mut self) -> bool
         ensures passed { IsTrue result → (0 < self.old.left)
             × (self.new

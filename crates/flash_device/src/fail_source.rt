@@ -7,8 +7,7 @@ use crate::counter::Counter;
 use crate::source::{Source, SourceFault};
 use std::marker::Model;
 
-/// A test source over another source: the first reads pass, and all later reads fail without
-/// effect. The faults of both sources count.
+/// A test source over another: the first reads pass, and all later reads fail without effect.
 #[derive(Drop)]
 pub struct FailSource<S: Source> {
     source: S,

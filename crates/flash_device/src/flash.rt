@@ -4,24 +4,23 @@ ghost use Rattle.flash_device.specs.Device.{Device, OneRead, OneWrite, OneCommit
 
 use flash_format::HEADER_LENGTH;
 
-/// The maximum number of bytes in a call.
+/// The maximum length of a call in bytes.
 pub const PIECE: usize = 4096;
 
-/// A failed call of a device.
+/// A failed call.
 #[derive(Clone, Copy, Debug, PartialEq, Eq, Drop)]
 pub struct FlashFault;
 
-/// A chip, a file or memory with random access. Offsets count bytes from 0.
+/// A chip, a file or memory, with byte offsets.
 pub trait Flash: Drop {
-    /// The content, the number of calls except `len`, the number of faults, and the honesty.
     ghost facts: { Self → Device };
 
-    /// Returns the length in bytes. `len` isn't counted as a call, and no call changes the length.
+    /// Returns the constant length in bytes; not a counted call.
     fn len(&self) -> u64
         ensures length { result ≡ length (facts self.now).content }
         ensures below { result < 2 ^ 32 };
 
-    /// Reads bytes at an offset. After a fault, `out` is unspecified.
+    /// Reads bytes. After a fault, `out` is unspecified.
     fn read_at(&mut self, at: u64, out: &mut [u8]) -> Result<(), FlashFault>
         requires inside { at + length out.old ≤ length (facts self.old).content }
         requires short { length out.old ≤ 4096 }
@@ -29,14 +28,14 @@ pub trait Flash: Drop {
         ensures after { OneRead at (length out.old) (facts self.old) (facts self.new)
             result out.new };
 
-    /// Writes bytes at an offset. After a fault, the range is unspecified.
+    /// Writes bytes. After a fault, the range is unspecified.
     fn write_at(&mut self, at: u64, bytes: &[u8]) -> Result<(), FlashFault>
         requires inside { at + length bytes.now ≤ length (facts self.old).content }
         requires short { length bytes.now ≤ 4096 }
 
         ensures after { OneWrite at bytes.now (facts self.old) (facts self.new) result };
 
-    /// Writes the first bytes of a cell atomically.
+    /// Writes a cell's first bytes atomically.
     fn commit_at(&mut self, at: u64, bytes: &[u8; HEADER_LENGTH]) -> Result<(), FlashFault>
         requires { at + length bytes.now ≤ length (facts self.old).content }
 

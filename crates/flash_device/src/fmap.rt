@@ -1,4 +1,4 @@
-//! The search for a flash map and for a region.
+//! Searches for a flash map and for a region.
 ghost use Rattle.std.specs.Prelude.{◌≡◌, ◌+◌, ◌-◌, ◌*◌, ◌/◌, ◌<◌, ◌≤◌, ◌↔◌, ◌⊎◌, length, drop, OnErr, IfOk, IfSome, IsErrOf};
 ghost use Rattle.std.specs.List.{find};
 ghost use Rattle.flash_format.specs.Flashmap.{fmap_head_len, area_len, map_len, area_of, areas_from, is_area};
@@ -21,27 +21,27 @@ const AREA_LENGTH: u64 = Area::LENGTH as u64;
 
 const SIGNATURE_LENGTH: u64 = FmapHead::SIGNATURE.len() as u64;
 
-/// The minimum distance of two signatures, which begin and end with the same two bytes.
+/// The minimum distance of signatures, which begin and end with the same two bytes.
 const SIGNATURE_STEP: u64 = 6;
 
-/// A valid flash map in an image.
+/// A valid flash map.
 #[derive(Clone, Copy, Drop)]
 pub struct FoundMap {
-    /// The map's offset in the image.
+    /// The offset in the image.
     pub at: u64,
     pub head: FmapHead,
 }
 
-/// The reason for a missing region, with cbfstool's number of the refusal.
+/// The reason for a missing region, with cbfstool's number.
 #[derive(Clone, Copy, Debug, PartialEq, Eq, Drop)]
 pub enum StoreFault {
-    /// A read of the device failed.
+    /// A failed read.
     Device = 1,
-    /// The image has no valid flash map.
+    /// No valid flash map.
     NoFmap = 4,
-    /// The map has no area with the name.
+    /// No area with the name.
     NoRegion = 5,
-    /// The area ends after the image's end.
+    /// An area outside the image.
     RegionOutside = 6,
 }
 
@@ -55,7 +55,7 @@ impl From<FlashFault> for StoreFault {
     }
 }
 
-/// Returns the image's flash map: the lowest valid map.
+/// Returns the lowest valid flash map.
 pub fn find_fmap<F: Flash>(paged: &mut Paged<F>) -> Result<Option<FoundMap>, FlashFault>
     ensures after { HasAnswered F.facts (length (F.facts paged.old.device).content / 2 + 8)
         paged.old paged.new result }
@@ -152,7 +152,7 @@ fn head_in(bytes: &[u8; FmapHead::LENGTH], left: u64) -> Option<FmapHead>
     Some(head)
 }
 
-/// Reads the area with an index, from 0, in a map.
+/// Reads an area by its index from 0.
 pub fn area<F: Flash>(paged: &mut Paged<F>, map: &FoundMap, i: u16) -> Result<Area, FlashFault>
     requires inside { map.now.at + map_len map.now.head
         ≤ length (F.facts paged.old.device).content }
@@ -192,8 +192,7 @@ fn area_named<F: Flash>(
     Ok(None)
 }
 
-/// Returns an area as a region of an image of `image_len` bytes. Errors: no area (5), or an area
-/// outside the image (6).
+/// Converts an area to a region. Errors: no area (5), or outside the image (6).
 pub fn region_of_area(area: Option<Area>, image_len: u64) -> Result<Region, StoreFault>
     ensures answer { result ≡ region_by_area image_len area }
     ensures lies_in { IfOk result (λ region. region.start + region.size ≤ image_len) }
@@ -208,9 +207,8 @@ pub fn region_of_area(area: Option<Area>, image_len: u64) -> Result<Region, Stor
     }
 }
 
-/// Returns the region of the first area with the given name in the image's flash map. Errors, in
-/// order: no map (4), no area with the name (5), an area outside the image (6); a device fault (1)
-/// at any read.
+/// Returns the region of the first area with the name. Errors, in order: no map (4), no area (5),
+/// outside the image (6); a device fault (1) at any read.
 #[tactic(auto, unfolding(crate::specs::Regions::region_of))]
 pub fn region<F: Flash>(paged: &mut Paged<F>, name: &[u8]) -> Result<Region, StoreFault>
     ensures after { HasRead F.facts (length (F.facts paged.old.device).content / 2
@@ -227,7 +225,7 @@ pub fn region<F: Flash>(paged: &mut Paged<F>, name: &[u8]) -> Result<Region, Sto
     region_of_area(area, paged.len())
 }
 
-/// Returns the head of the valid map at the front of a source.
+/// Returns the head of a valid map at the front.
 pub fn map_in_source<S: Source>(source: &mut S) -> Result<Option<FmapHead>, SourceFault>
     ensures calls { Reads 1 (refusals result) (S.facts source.old) (S.facts source.new) }
     ensures fits { IfOk result
@@ -244,7 +242,7 @@ pub fn map_in_source<S: Source>(source: &mut S) -> Result<Option<FmapHead>, Sour
     Ok(head_in(&bytes, len))
 }
 
-/// Reads the area with an index, from 0, in a map at the front of a source.
+/// Reads an area by its index in a map at the front.
 pub fn area_in_source<S: Source>(
     source: &mut S,
     head: &FmapHead,

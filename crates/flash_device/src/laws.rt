@@ -1,11 +1,11 @@
-//! Laws of writes. The functions have no code: their contracts are the laws.
+//! Laws of writes: contracts without code.
 
 ghost use Rattle.std.specs.Prelude.{◌≡◌, ℕ, ◌+◌, ◌≤◌, List, length};
 ghost use Rattle.flash_device.specs.Device.{overwritten};
 ghost use Rattle.flash_device.specs.Regions.{Range, LiesIn, bytes_in};
 ghost use Rattle.flash_device.specs.Laws.{WritesInRegions, WrittenMapsAreFound, LieApart, with_edit};
 
-/// Proves the effect of image writes on a region's bytes.
+/// Proves the effect of image writes on a region.
 pub fn writes_are_seen_by_regions()
     ensures { WritesInRegions }
 {}
@@ -17,8 +17,7 @@ pub fn separate_writes_swap()
         → overwritten (overwritten x a u) b v ≡ overwritten (overwritten x b v) a u }
 {}
 
-/// Proves that edits of two separate regions of an image commute, if each edit preserves the
-/// region's size.
+/// Proves that size-preserving edits of separate regions commute.
 pub fn separate_edits_swap()
     ensures { (image : List ℕ) (r s : Range) (first last : List ℕ → List ℕ) → LiesIn r image
         → LiesIn s image → LieApart r s
@@ -26,8 +25,7 @@ pub fn separate_edits_swap()
         → with_edit s last (with_edit r first image) ≡ with_edit r first (with_edit s last image) }
 {}
 
-/// Proves that a search finds a written map with its areas, if no valid map begins at a lower
-/// offset after the write. A lower map, as in a nested image, would be found first.
+/// Proves that a search finds a written map, if no valid map begins lower.
 pub fn written_maps_are_found()
     ensures { WrittenMapsAreFound }
 {}

@@ -1,5 +1,4 @@
-//! Devices, sources and sinks, a buffered device, and the search for a region in an image's flash
-//! map.
+//! Devices, sources, sinks, a buffered device, and the region search.
 #![tactic(auto)]
 
 mod counter;

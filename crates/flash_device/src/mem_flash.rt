@@ -7,7 +7,7 @@ use crate::flash::{Flash, FlashFault};
 use flash_format::HEADER_LENGTH;
 use std::marker::Model;
 
-/// An honest device over owned bytes, fewer than 2^32. No call fails.
+/// An honest device without faults, over fewer than 2^32 bytes.
 #[derive(Drop)]
 pub struct MemFlash {
     bytes: Vec<u8>,
@@ -26,7 +26,7 @@ impl Model for MemFlash {
 }
 
 impl MemFlash {
-    /// Makes a device, or returns the bytes if their length is 2^32 or more.
+    /// Makes a device, or returns 2^32 bytes or more.
     pub fn new(bytes: Vec<u8>) -> Result<MemFlash, Vec<u8>>
         ensures { MatchResult result
             (λ device. device ≡ record { content = bytes.items; calls = 0 })
@@ -41,7 +41,7 @@ impl MemFlash {
         })
     }
 
-    /// Returns the present content.
+    /// Returns the content.
     pub fn bytes(&self) -> &[u8]
         ensures { result.now ≡ self.now.content }
     {

@@ -5,7 +5,7 @@ use crate::counter::Counter;
 use crate::source::{Source, SourceFault};
 use std::marker::Model;
 
-/// An honest source over borrowed bytes, fewer than 2^32. No call fails.
+/// An honest source without faults, over fewer than 2^32 bytes.
 #[derive(Drop)]
 pub struct MemSource<'a> {
     bytes: &'a [u8],

@@ -1,4 +1,4 @@
-//! A device with a buffer for reads and copies.
+//! Buffered devices.
 ghost use Rattle.std.specs.Prelude.{◌≡◌, ℕ, List, ◌++◌, ◌+◌, ◌/◌, ◌^◌, ◌<◌, ◌≤◌, ◌↔◌, length, take, IsTrue, OnOk, IfOk, IsErrOf, slice_range, replicate};
 ghost use Rattle.flash_device.specs.Device.{OneCall, OneRead, OneWrite, OneCommit, refusals};
 ghost use Rattle.flash_device.specs.Pages.{HasFilled, HasCopiedIn, HasCopiedOut};
@@ -12,14 +12,14 @@ use crate::watch::{Nobody, Watch};
 use flash_format::HEADER_LENGTH;
 use std::marker::Model;
 
-/// The reason for a stopped copy, with cbfstool's number of the refusal.
+/// The reason for a stopped copy, with cbfstool's number.
 #[derive(Clone, Copy, Debug, PartialEq, Eq, Drop)]
 pub enum CopyFault {
-    /// A call of the device failed.
+    /// A failed device call.
     Device = 1,
-    /// The sink failed.
+    /// A failed sink call.
     Output = 2,
-    /// A read of the source failed.
+    /// A failed source read.
     Source = 3,
 }
 
@@ -56,24 +56,20 @@ impl From<SourceFault> for CopyFault {
 #[derive(Clone, Copy, Drop)]
 enum Buffered {
     Nothing,
-    /// Device bytes from an offset on, after a read.
+    /// Device bytes from an offset on.
     Window { at: u64, size: usize },
-    /// The source's last pulled piece.
     Piece { size: usize },
 }
 
-/// A device with a buffer of 4096 bytes. All bytes pass through the buffer, except commits.
+/// A device with a buffer of 4096 bytes, which only commits bypass.
 ///
-/// The buffer is empty, or holds a window or a piece.
-/// - A window is up to 4096 bytes of the device, after a read. `read_small`, `piece` and `copy_out`
-///   need no call for a range inside the window; otherwise they load a window from the range's
-///   start on. Writes (`commit`, `fill`, `copy_in`), `pull` and failed reads drop the window.
-/// - A piece is bytes of a source: `pull` loads a piece, and `push` writes the piece to the device,
-///   any number of times. All other reads and writes and a failed `pull` drop the piece. `push`
-///   requires a piece.
+/// The buffer is empty, or holds:
+/// - a window of device bytes for `read_small`, `piece` and `copy_out`, which otherwise load
+///   another from the range's start on. Writes, `pull` and failed reads drop the window.
+/// - a piece of a source, which `pull` loads, and `push` writes and preserves. All other reads and
+///   writes and a failed `pull` drop the piece.
 ///
-/// `piece` and `pull` return a borrowed part of the buffer. Their `sem` clauses describe the state
-/// after the borrow.
+/// The `sem` clauses of `piece` and `pull` describe the state after the borrow.
 #[derive(Drop)]
 pub struct Paged<F: Flash> {
     device: F,
@@ -106,7 +102,7 @@ impl<F: Flash> Paged<F> {
     };
     ghost use Rattle.flash_device.specs.contracts.paged.Paged.{the_row};
 
-    /// Makes an empty buffer, without a call.
+    /// Makes an empty buffer.
     pub fn new(device: F) -> Paged<F>
         ensures { result ≡ record { device = device; held = Nothing } }
     {
@@ -117,7 +113,7 @@ impl<F: Flash> Paged<F> {
         }
     }
 
-    /// Returns the length of the device in bytes.
+    /// Returns the length in bytes.
     pub fn len(&self) -> u64
         ensures length { result ≡ length (F.facts self.now.device).content }
         ensures below { result < 2 ^ 32 }
@@ -125,8 +121,7 @@ impl<F: Flash> Paged<F> {
         self.device.len()
     }
 
-    /// Proves to its caller that every offset on the device fits in 32 bits, so sums of offsets
-    /// don't overflow. No effect at run time.
+    /// Proves that offsets fit in 32 bits, so sums don't overflow. No effect at run time.
     pub fn places_fit(&self)
         ensures { length (F.facts self.now.device).content < 2 ^ 32 }
     {
@@ -140,7 +135,7 @@ impl<F: Flash> Paged<F> {
         &self.device
     }
 
-    /// Returns the device. The buffer has no pending writes.
+    /// Returns the device. No write is pending.
     pub fn into_flash(self) -> F
         ensures { result ≡ self.device }
     {
@@ -156,7 +151,7 @@ impl<F: Flash> Paged<F> {
         }
     }
 
-    /// Reads at most 4096 bytes into `out`, from the window if possible.
+    /// Reads up to 4096 bytes.
     pub fn read_small(&mut self, at: u64, out: &mut [u8]) -> Result<(), FlashFault>
         requires inside { at + length out.old ≤ length (F.facts self.old.device).content }
         requires short { length out.old ≤ 4096 }
@@ -172,7 +167,7 @@ impl<F: Flash> Paged<F> {
         Ok(())
     }
 
-    /// Returns n bytes at an offset, from the window if possible.
+    /// Returns n bytes at an offset.
     pub fn piece(&mut self, at: u64, n: usize) -> Result<&[u8], FlashFault>
         requires inside { at + n ≤ length (F.facts self.old.device).content }
         requires short { n ≤ 4096 }
@@ -195,7 +190,7 @@ impl<F: Flash> Paged<F> {
         let Buffered::Window { at: from, size } = self.held else {
             return false;
         };
-        // The contract uses the length of the buffered bytes.
+        // The contract uses the buffered length.
         let held = self.buffer[..size].len();
         from <= at && n <= held && at - from <= (held - n) as u64
     }
@@ -231,7 +226,7 @@ impl<F: Flash> Paged<F> {
         }
     }
 
-    /// Loads n bytes of a source, from `from` on, as the piece for `push`.
+    /// Loads n bytes of a source as the piece.
     pub fn pull<S: Source>(
         &mut self,
         source: &mut S,
@@ -246,7 +241,7 @@ impl<F: Flash> Paged<F> {
             HasPulled self.old new result)) }
         ensures size { IfOk result (λ bytes. length bytes.now ≡ n) }
 
-        // From an honest source.
+        // If the source is honest.
         ensures read { IsTrue (S.facts source.old).honest
             → IfOk result
             (λ bytes. bytes.now ≡ slice_range (S.facts source.old).content from (from + n)) }
@@ -259,8 +254,7 @@ impl<F: Flash> Paged<F> {
         Ok(&self.buffer[..n])
     }
 
-    /// Writes the piece to an offset, without dropping the piece. After a fault, the range is
-    /// unspecified.
+    /// Writes the piece. After a fault, the range is unspecified.
     pub fn push(&mut self, at: u64) -> Result<(), FlashFault>
         requires { HasPiece self.old.held
             (λ bytes. at + length bytes ≤ length (F.facts self.old.device).content) }
@@ -276,7 +270,7 @@ impl<F: Flash> Paged<F> {
         self.device.write_at(at, &self.buffer[..size])
     }
 
-    /// Writes the first bytes of a cell atomically.
+    /// Writes a cell's first bytes atomically.
     pub fn commit(&mut self, at: u64, bytes: &[u8; HEADER_LENGTH]) -> Result<(), FlashFault>
         requires { at + length bytes.now ≤ length (F.facts self.old.device).content }
 
@@ -288,7 +282,7 @@ impl<F: Flash> Paged<F> {
         self.device.commit_at(at, bytes)
     }
 
-    /// Writes a byte n times. After a fault, up to 4096 bytes of the range are unspecified.
+    /// Writes a byte n times. After a fault, up to 4096 bytes are unspecified.
     pub fn fill(&mut self, at: u64, n: u64, byte: u8) -> Result<(), FlashFault>
         requires { at + n ≤ length (F.facts self.old.device).content }
 
@@ -301,8 +295,7 @@ impl<F: Flash> Paged<F> {
         write_copies(&mut self.device, at, n, &self.buffer, byte)
     }
 
-    /// Writes the first n bytes of a source. After a device fault, up to 4096 bytes of the range
-    /// are unspecified.
+    /// Writes a source's first n bytes. After a device fault, up to 4096 bytes are unspecified.
     pub fn copy_in<S: Source>(&mut self, at: u64, n: u64, source: &mut S) -> Result<(), CopyFault>
         requires inside { at + n ≤ length (F.facts self.old.device).content }
         requires in_source { n ≤ length (S.facts source.old).content }
@@ -314,7 +307,7 @@ impl<F: Flash> Paged<F> {
         self.copy_in_watched(at, n, source, &mut Nobody)
     }
 
-    /// Copies like `copy_in`. The watcher sees each piece before its write.
+    /// Copies like `copy_in`, and first shows each piece to the watcher.
     pub fn copy_in_watched<S: Source, W: Watch>(
         &mut self,
         at: u64,
@@ -328,7 +321,7 @@ impl<F: Flash> Paged<F> {
         ensures after { HasCopiedIn F.facts S.facts at n self.old.device self.new.device source.old
             source.new result }
         ensures dropped { self.new.held ≡ Nothing }
-        // From an honest source, on any device.
+        // If the source is honest, on any device.
         ensures shown { IsTrue (S.facts source.old).honest → (seen : List ℕ)
             → W.saw watch.old seen
             → OnOk result (W.saw watch.new (seen ++ take n (S.facts source.old).content)) }
@@ -337,8 +330,7 @@ impl<F: Flash> Paged<F> {
         copy_pieces(&mut self.device, &mut self.buffer, at, n, source, watch)
     }
 
-    /// Writes n bytes at an offset into a sink. After a fault, the sink has a proper prefix of the
-    /// bytes.
+    /// Writes n bytes into a sink. After a fault, the sink has a proper prefix.
     pub fn copy_out<W: Sink>(&mut self, at: u64, n: u64, out: &mut W) -> Result<(), CopyFault>
         requires { at + n ≤ length (F.facts self.old.device).content }
 

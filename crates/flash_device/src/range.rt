@@ -3,7 +3,7 @@ ghost use Rattle.std.specs.Prelude.{◌≡◌, ◌+◌, ◌<◌, ◌≤◌, Some
 
 use std::marker::Model;
 
-/// A range of an image, in bytes.
+/// A range in bytes.
 #[derive(Clone, Copy, Debug, Default, PartialEq, Eq, Drop)]
 pub struct Region {
     start: u64,
@@ -21,7 +21,7 @@ impl Model for Region {
 }
 
 impl Region {
-    /// Returns a range, or `None` if the range ends after `image_len`.
+    /// Returns a range, or `None` past `image_len`.
     pub fn within(start: u64, size: u64, image_len: u64) -> Option<Region>
         ensures { MatchOption result (image_len < start + size)
             (λ region. (region ≡ record { start = start; size = size })
@@ -33,7 +33,7 @@ impl Region {
         Some(Region { start, size })
     }
 
-    /// Returns the offset of the range in the image.
+    /// Returns the offset in the image.
     pub fn start(&self) -> u64
         ensures { result ≡ self.now.start }
     {

@@ -7,19 +7,18 @@ use crate::counter::Counter;
 use std::io::Write;
 use std::marker::Model;
 
-/// A failed call of a sink.
+/// A failed call.
 #[derive(Clone, Copy, Debug, PartialEq, Eq, Drop)]
 pub struct SinkFault;
 
 /// A writer with possibly partial writes.
 pub trait Sink {
-    /// The bytes in the sink, if known.
+    /// The bytes, if known.
     ghost contents: { Self → Option (List ℕ) };
 
-    /// The number of failed calls.
     ghost faults: { Self → ℕ };
 
-    /// Writes a prefix of the bytes, at least the first byte, and returns its length.
+    /// Writes a nonempty prefix, and returns its length.
     fn put(&mut self, bytes: &[u8]) -> Result<usize, SinkFault>
         requires { 0 < length bytes.now }
 
@@ -79,7 +78,7 @@ impl<W: Write> Sink for WriteSink<W> {
     }
 }
 
-/// Writes all bytes. After a fault, the sink has a proper prefix of the bytes.
+/// Writes all bytes. After a fault, the sink has a proper prefix.
 pub fn put_all<W: Sink>(out: &mut W, bytes: &[u8]) -> Result<(), SinkFault>
     ensures put { OnOk result (Appends (W.contents out.old) (W.contents out.new) bytes.now) }
     ensures part { OnErr result (AppendsPart (W.contents out.old) (W.contents out.new) bytes.now) }

@@ -1,12 +1,12 @@
 //! Observers of copied bytes.
 ghost use Rattle.std.specs.Prelude.{◌≡◌, ℕ, List, ◌++◌};
 
-/// An observer of bytes, in pieces and in order, such as a hasher.
+/// An observer of bytes in order, such as a hasher.
 pub trait Watch: Drop {
-    /// The bytes that the observer may have seen.
+    /// The bytes possibly seen.
     ghost saw: { Self → List ℕ → Type 0 };
 
-    /// Passes the next bytes to the observer.
+    /// Passes the next bytes.
     fn see(&mut self, bytes: &[u8])
         ensures { (seen : List ℕ) → saw self.old seen → saw self.new (seen ++ bytes.now) };
 }

@@ -1,11 +1,11 @@
--- How a list of attributes goes on from one to the next.
+-- The steps of an attribute list.
 use Rattle.std.proofs.Common.{◌≡◌, ℕ, zero, suc, pred, ◌≤◌, true, false, List, [], ◌∷◌, length, drop, Option, Some, None, refl, ap, ◌∙◌, arith}
 use Rattle.std.specs.Option.{option_map}
 use Rattle.std.proofs.lemmas.Bool.Decides.{nat_tests}
 use Rattle.flash_format.proofs.Fronts.{drop-pred}
 use Rattle.flash_format.specs.Entry.{Attribute, attr_head_of, attribute, attributes, attributes_after, ends_list, is_malformed, least_len}
 
--- what is known of the length of an attribute that is no fault
+-- the length of a valid attribute
 pub record IsAttributeLen (x : List ℕ) (len : ℕ) : Type 0 where
   pub head : 8 ≤ len
   pub least : least_len (attr_head_of x).tag ≤ len
@@ -14,7 +14,7 @@ pub record IsAttributeLen (x : List ℕ) (len : ℕ) : Type 0 where
 pub attribute_len : (x : List ℕ) → is_malformed x ≡ false → IsAttributeLen x (attr_head_of x).len
 attribute_len x e = record { head = grind (arith, nat_tests); least = grind (arith, nat_tests); inside = grind (arith, nat_tests) }
 
--- the bytes that belong to the attribute before don't count
+-- the previous attribute's bytes don't count
 pub attributes_after-drop : (k : ℕ) (x : List ℕ) → attributes_after k x ≡ attributes (drop k x)
 unfolding attributes_after
 attributes_after-drop zero x = refl

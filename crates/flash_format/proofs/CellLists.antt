@@ -1,4 +1,4 @@
--- Lists of cells that follow each other: their cut, their components and their places.
+-- Neighbouring cells: their cut, components and positions.
 use Rattle.std.proofs.Common.{◌≡◌, ℕ, ◌+◌, ◌≤◌, Bool, cond, List, [], ◌∷◌, ◌++◌, length, take, drop, sym, ◌∙◌, ap, refl, arith, All, length-append, take-append-drop}
 use Rattle.std.specs.List.{concat, sum_by}
 use Rattle.std.proofs.lemmas.Bool.Decides.{nat_tests}
@@ -12,7 +12,6 @@ use Rattle.flash_format.proofs.CutLaws.{cut_joined}
 pub cut_goes_on : (x : List ℕ) (at : ℕ) (cells : List (List ℕ)) → All IsCell cells → take at x ≡ concat cells → cut x ≡ after cells (cut (drop at x))
 cut_goes_on x at cells each e = ap (λ (l : List ℕ). cut l) (sym (take-append-drop at x) ∙ ap (λ (l : List ℕ). l ++ drop at x) e) ∙ cut_joined cells (drop at x) each
 
--- how far cells reach
 joined_length : (x : List ℕ) (at : ℕ) (cells : List (List ℕ)) → take at x ≡ concat cells → at ≤ length x → length (concat cells) ≡ at
 joined_length x at cells e inside = sym (ap length e) ∙ length-take-le at x inside
 
@@ -38,7 +37,6 @@ components-append at (c ∷ a) b =
 move_one : (b : Bool) (n : ℕ) (c : Component) (later : List Component) → cond b (shifted_by n later) (record c { at = n + c.at } ∷ shifted_by n later) ≡ shifted_by n (cond b later (c ∷ later))
 move_one b n c later = grind (arith, nat_tests)
 
--- the same cells further on
 pub components-moved : (n at : ℕ) (cells : List (List ℕ)) → components_from (n + at) cells ≡ shifted_by n (components_from at cells)
 unfolding components_from
 components-moved n at [] = refl

@@ -1,4 +1,4 @@
--- A region is its cells joined, and a rest, in one way.
+-- A region has one division into cells and a rest.
 use Rattle.std.proofs.Common.{◌≡◌, ℕ, zero, suc, ◌%◌, ◌<◌, ◌≤◌, List, [], ◌∷◌, ◌++◌, length, take, drop, sym, ◌∙◌, ap, subst, refl, arith, All, append_assoc, length-append, length-drop, take-append-drop}
 use Rattle.std.specs.List.{concat}
 use Rattle.std.proofs.lemmas.List.{take_at, drop_at, append-nil, take-take, take_all, length-take-le}
@@ -8,12 +8,11 @@ use Rattle.flash_format.specs.Cut.{Cut, End, complete, tail, damage, ends, after
 use Rattle.flash_format.proofs.CutSteps.{cell_span, cut_empty, cut_step, cut_cell}
 use Rattle.flash_format.proofs.EntryLaws.{entry_alike}
 
--- a cell before anything
 cell_before : (c z : List ℕ) → IsCell c → entry (c ++ z) ≡ cell (length c)
 cell_before c z is =
     entry_alike c (c ++ z) (length c) is (omega arith) (omega (arith, length-append c z)) (take_all (length c) c (omega arith) ∙ sym (take_at c z (length c) refl))
 
--- the prefix that a cell takes of some bytes is that cell
+-- the prefix of a cell's length is the cell
 front_cell : (x : List ℕ) (span : ℕ) → entry x ≡ cell span → span ≤ length x → IsCell (take span x)
 front_cell x span is fits =
     let len : length (take span x) ≡ span = length-take-le span x fits in
@@ -27,13 +26,13 @@ cut_before c z is =
     ∙ ap (λ (l : List ℕ). after (l ∷ []) (cut (drop (length c) (c ++ z)))) (take_at c z (length c) refl)
     ∙ ap (λ (l : List ℕ). after (c ∷ []) (cut l)) (drop_at c z (length c) refl)
 
--- what ends the cells is the cut of the rest
+-- the end is the cut of the rest
 cut_rest : (rest : List ℕ) (e : End) → EndsAt rest e → cut rest ≡ ends e
 cut_rest rest complete at = cut_empty rest (ap (λ (l : List ℕ). length l) at)
 cut_rest rest tail at = cut_step rest absent at.0 at.1
 cut_rest rest (damage kind) at = cut_step rest (damaged kind) at.0 at.1
 
--- cells before anything
+-- cells before any bytes
 pub cut_joined : (cells : List (List ℕ)) (rest : List ℕ) → All IsCell cells → cut (concat cells ++ rest) ≡ after cells (cut rest)
 cut_joined [] rest each = refl
 cut_joined (c ∷ cells) rest each =
@@ -61,7 +60,7 @@ behind_cell x span k is fits behind = (
   },
 )
 
--- by what the bytes begin with, given a cut of what follows a cell
+-- by the front, given a cut of the bytes after a cell
 by_front : (x : List ℕ) → 0 < length x → length x % 64 ≡ 0 → ((span : ℕ) → 64 ≤ span → span % 64 ≡ 0 → span ≤ length x → HasCut (drop span x) (cut (drop span x))) → (e : Entry) → entry x ≡ e → HasCut x (cut x)
 by_front x some whole behind absent is = rw (cut_step x absent some is) (x, record { whole = refl; each = All-nil IsCell; last = (some, is) })
 by_front x some whole behind (damaged kind) is = rw (cut_step x (damaged kind) some is) (x, record { whole = refl; each = All-nil IsCell; last = (some, is) })

@@ -1,4 +1,4 @@
--- How a cut goes on from cell to cell, whatever bounded its recursion.
+-- The steps of a cut, for any bound of its recursion.
 use Rattle.std.proofs.Common.{◌≡◌, ℕ, zero, suc, pred, ◌+◌, ◌%◌, ◌<◌, ◌≤◌, false, List, [], ◌∷◌, length, take, drop, Option, Some, None, Result, Ok, Err, refl, sym, ap, ◌∙◌, arith}
 use Rattle.std.specs.Option.{option_map_or}
 use Rattle.std.proofs.lemmas.Bool.{le-ltb}
@@ -11,7 +11,7 @@ use Rattle.flash_format.specs.Entry.{Entry, absent, cell, entry, present, front}
 use Rattle.flash_format.proofs.Fronts.{drop-pred}
 use Rattle.flash_format.specs.Cut.{Cut, complete, ends, after, by_entry, cut, cut_after, IsSpan}
 
--- what the checks of a head say where all of them pass
+-- the results of passed checks of a head
 pub record IsChecked (h : Head) (left : ℕ) (e : Extent) : Type 0 where
   pub front : 24 ≤ h.offset
   pub placed : is_free h ≡ false → attributes_misplaced h ≡ false
@@ -30,7 +30,7 @@ checked_ok h left e ok =
       span = grind (arith, nat_tests);
     }
 
--- what stands where there is a cell
+-- the properties of a cell
 pub record IsCell (x : List ℕ) (span : ℕ) : Type 0 where
   pub long : 24 ≤ length x
   pub head : head_at x ≡ Some (head_of x)
@@ -42,7 +42,6 @@ present_cell : (h : Head) (x : List ℕ) (r : Result Extent DamageKind) (span : 
 present_cell h x (Err k) span p = absurd cc
 present_cell h x (Ok e) span p = (e, refl, grind (arith, nat_tests))
 
--- a head that is read is the one that stands there
 pub head_is : (x : List ℕ) (h : Head) → head_at x ≡ Some h → head_of x ≡ h
 head_is x h e = grind (arith, nat_tests)
 
@@ -77,14 +76,14 @@ cell_span x span e =
 
 -- ---- the equations of `cut`
 
--- the bytes that belong to the cell before don't count
+-- the previous cell's bytes don't count
 pub cut_after-drop : (k : ℕ) (x : List ℕ) → cut_after k x ≡ cut (drop k x)
 unfolding cut_after
 cut_after-drop zero x = refl
 cut_after-drop (suc k) [] = refl
 cut_after-drop (suc k) (b ∷ x) = cut_after-drop k x
 
--- by what the bytes begin with
+-- by the first entry
 pub cut_step : (x : List ℕ) (e : Entry) → 0 < length x → entry x ≡ e → cut x ≡ by_entry e x (λ span. cut_after (pred span) (drop 1 x))
 unfolding cut_after
 cut_step [] e some is = absurd (omega arith)

@@ -1,11 +1,11 @@
--- Hexadecimal digits that are written from the last to the first.
+-- Hexadecimal digits, written from the last to the first.
 use Rattle.std.proofs.Common.{◌≡◌, ℕ, zero, suc, ◌+◌, ◌-◌, ◌/◌, ◌%◌, ◌^◌, ◌<◌, ◌≤◌, false, List, [], ◌∷◌, length, drop, set, refl, sym, ap, ◌∙◌, arith, eqb, add-one}
 use Rattle.std.proofs.Math.Nat.{pow-suc}
 use Rattle.std.proofs.lemmas.List.{drop-set, drop-set-lt, length-set, nil_from_length, length-drop}
 use Rattle.std.proofs.lemmas.Grind.{common_steps}
 use Rattle.std.specs.Fmt.{digits, digits_onto, digit_glyph}
 
--- the digits from a place on are written, and those of rest / 16 are not
+-- the digits from `at` on are written; the digits of rest / 16 remain
 pub record Writing (n rest at : ℕ) (text : List ℕ) : Type 0 where
   pub in_text : at < 16
   pub len : length text ≡ 16

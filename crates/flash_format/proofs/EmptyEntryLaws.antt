@@ -1,4 +1,4 @@
--- An empty entry's header in front of anything is a free cell.
+-- An empty entry's header before any bytes is a free cell.
 use Rattle.std.proofs.Common.{◌≡◌, ℕ, ◌+◌, ◌-◌, ◌%◌, ◌^◌, ◌<◌, ◌≤◌, Bool, true, false, cond, List, ◌++◌, length, replicate, Some, Result, Ok, refl, sym, ap, ◌∙◌, arith, append_assoc, length-append, lit<, ltb, not, ◌&&◌}
 use Rattle.std.proofs.lemmas.Bool.{le-ltb}
 use Rattle.std.proofs.lemmas.Bool.Decides.{nat_tests}
@@ -18,20 +18,20 @@ pub length-head_bytes : (h : Head) → length (head_bytes h) ≡ 24
 unfolding head_bytes
 length-head_bytes h = refl
 
--- a head in front of anything is read back
+-- a head before any bytes decodes
 pub head_in_front : (h : Head) (more : List ℕ) → h.len < 256 ^ 4 → h.kind < 256 ^ 4 → h.attributes_offset < 256 ^ 4 → h.offset < 256 ^ 4 → head_at (head_bytes h ++ more) ≡ Some h
 head_in_front h more len_fits kind_fits attributes_fit offset_fits =
     sym (head_at-take (head_bytes h ++ more) 24 (omega arith))
     ∙ ap (λ (l : List ℕ). head_at l) (take_at (head_bytes h) more 24 (length-head_bytes h))
     ∙ head_is_read_back (head_bytes h) h refl len_fits kind_fits attributes_fit offset_fits
 
--- what is checked of a head where the content has room
+-- the checks of a head with room for the content
 pub checked_passes : (h : Head) (left : ℕ) → ltb h.offset (cond (is_free h) 24 25) ≡ false → (not (is_free h) && attributes_misplaced h) ≡ false → h.offset + h.len ≤ left
     → extent_of h left ≡ Ok (record { content = h.offset; span = round64 (h.offset + h.len) })
 unfolding extent_of
 checked_passes h left offset placed fits = rw (offset, placed, le-ltb left (h.offset + h.len) fits) refl
 
--- a head of free space that fills so many bytes
+-- a head of free space of the given size
 free_entry : (h : Head) (more : List ℕ) (size : ℕ) → is_free h ≡ true → 24 ≤ h.offset → h.offset + h.len ≤ size → size < h.offset + h.len + 64 → size % 64 ≡ 0 → size < 2 ^ 32
     → h.kind < 256 ^ 4 → h.attributes_offset < 256 ^ 4 → 24 + length more ≡ size
     → (entry (head_bytes h ++ more) ≡ cell size) × (is_free (head_of (head_bytes h ++ more)) ≡ true)

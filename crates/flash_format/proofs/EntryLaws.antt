@@ -1,4 +1,4 @@
--- The laws of `entry`: which bytes bear on what it is.
+-- The laws of `entry`: the bytes which affect an entry.
 use Rattle.std.proofs.Common.{◌≡◌, ℕ, ◌+◌, ◌≤◌, Bool, true, false, cond, List, [], length, take, Some, Result, Ok, refl, sym, ap, ◌∙◌, arith, eqb, inl, inr}
 use Rattle.std.specs.Prelude.{slice_range}
 use Rattle.std.proofs.lemmas.Bool.{le-ltb, cases_Bool}
@@ -16,7 +16,7 @@ use Rattle.flash_format.proofs.CutSteps.{IsCell, cell_is, checked_ok, cell_span}
 same_head_at : (x y : List ℕ) (n : ℕ) → 24 ≤ n → take n x ≡ take n y → head_at x ≡ head_at y
 same_head_at x y n long same = sym (head_at-take x n long) ∙ ap (λ (l : List ℕ). head_at l) same ∙ head_at-take y n long
 
--- of what is left only counts that the content fits
+-- the rest matters only if the content doesn't fit
 checked_alike : (h : Head) (left other : ℕ) → h.offset + h.len ≤ left → h.offset + h.len ≤ other → extent_of h other ≡ extent_of h left
 unfolding extent_of
 checked_alike h left other fits here = rw (le-ltb left (h.offset + h.len) fits, le-ltb other (h.offset + h.len) here) refl
@@ -26,7 +26,7 @@ checked_alike h left other fits here = rw (le-ltb left (h.offset + h.len) fits, 
 range_alike : (x y : List ℕ) (n a b : ℕ) → b ≤ n → take n x ≡ take n y → slice_range x a b ≡ slice_range y a b
 range_alike x y n a b le same = sym (range-take x n a b le) ∙ ap (λ (l : List ℕ). slice_range l a b) same ∙ range-take y n a b le
 
--- the name field begins in a head that passes its checks, and ends before the content
+-- after the checks of the head, the name field begins after the head, and ends before the content
 pub name_between : (h : Head) → attributes_misplaced h ≡ false → 24 ≤ h.offset → (24 ≤ name_end h) × (name_end h ≤ h.offset)
 name_between h placed room = (grind (arith, nat_tests), grind (arith, nat_tests))
 
@@ -37,13 +37,12 @@ component_alike h x y n span named placed same =
     ap (λ (l : List ℕ). cond (eqb h.attributes_offset 0) [] l) (range_alike x y n h.attributes_offset h.offset placed same) in
     rw (name, list) refl
 
--- ---- the entry
--- what stands where the head is there
+-- ---- the entry of a head
 pub from_head : (x : List ℕ) (h : Head) → 24 ≤ length x → head_at x ≡ Some h → entry x ≡ present h x (extent_of h (length x))
 unfolding entry
 from_head x h long e = rw (le-ltb (length x) 24 long, e) refl
 
--- what stands where the head of a cell of other bytes is there, and the content has room
+-- the head of a cell of other bytes, if the content fits
 as_under : (x y : List ℕ) (span : ℕ) → (c : IsCell x span) → 24 ≤ length y → head_at y ≡ head_at x → (head_of x).offset + (head_of x).len ≤ length y
     → entry y ≡ present (head_of x) y (Ok c.extent)
 as_under x y span c long head fits =
@@ -55,13 +54,12 @@ as_under x y span c long head fits =
 pub up : (n : ℕ) → n ≤ round64 n
 up n = omega arith
 
--- the content ends inside the cell
 content_within : (x : List ℕ) (span : ℕ) → IsCell x span → (head_of x).offset + (head_of x).len ≤ span
 content_within x span c =
     let k = checked_ok (head_of x) (length x) c.extent c.checks in
     omega (arith, up ((head_of x).offset + (head_of x).len), k.span, c.spans)
 
--- a cell whose head passes its checks, by whether it is free
+-- a cell with a checked head, free or not
 pub present_by : (free : Bool) (h : Head) (x : List ℕ) (e : Extent) → is_free h ≡ free → present h x (Ok e) ≡ cond free (cell e.span) (component h x e.span)
 present_by free h x e is = ap (λ (b : Bool). cond b (cell e.span) (component h x e.span)) is
 

@@ -1,4 +1,4 @@
--- A head is read alike from its own bytes and from any list of which they are a prefix.
+-- A head decodes alike from its own bytes and from a longer list.
 use Rattle.std.proofs.Common.{◌≡◌, ℕ, zero, suc, pred, ◌+◌, ◌<◌, ◌≤◌, List, ◌∷◌, take, drop, refl, sym, ap, ◌∙◌, arith}
 use Rattle.std.specs.Prelude.{slice_range}
 use Rattle.std.proofs.lemmas.List.{take-take}
@@ -12,7 +12,6 @@ use Rattle.flash_format.specs.Entry.{attr_head_of}
 pub range-take : (x : List ℕ) (n a b : ℕ) → b ≤ n → slice_range (take n x) a b ≡ slice_range x a b
 range-take x n a b le = between_is (take n x) a b ∙ ap (drop a) (take-take b n x le) ∙ sym (between_is x a b)
 
--- without its first byte a list is dropped by one less
 pub drop-pred : (b : ℕ) (x : List ℕ) (n : ℕ) → 0 < n → drop (pred n) x ≡ drop n (b ∷ x)
 drop-pred b x zero some = absurd (omega arith)
 drop-pred b x (suc n) some = refl

@@ -1,4 +1,4 @@
--- A made cell is read as the component that it was made of.
+-- Made cells decode to their components.
 use Rattle.std.proofs.Common.{◌≡◌, ℕ, zero, suc, ◌+◌, ◌-◌, ◌%◌, ◌^◌, ◌<◌, ◌≤◌, Bool, true, false, cond, List, [], ◌∷◌, ◌++◌, length, take, drop, replicate, Option, Some, None, Result, refl, sym, ap, ◌∙◌, subst, arith, ltb, not, append_assoc, length-append, length-drop, lit<}
 use Rattle.std.specs.Prelude.{slice_range, is_some}
 use Rattle.std.specs.List.{list_any, before_first, prefix_len}
@@ -63,7 +63,6 @@ some_nul name z m short room =
 
 -- ---- the attributes
 
--- 0xff ends a list of attributes
 gap_ends : (gap : ℕ) → ends_list (replicate gap 255) ≡ true
 unfolding attr_head_of
 gap_ends (suc (suc (suc (suc gap)))) =
@@ -156,7 +155,7 @@ component_whole h x span list name read =
     ap (λ (b : Bool). cond (not b) (damaged kinds.Name) (cond (not (is_some (attributes (attribute_field h x)))) (damaged kinds.AttrLength) (cell span))) name
     ∙ ap (λ (o : Option (List Attribute)). cond (not (is_some o)) (damaged kinds.AttrLength) (cell span)) read
 
--- a component whose head is this
+-- a component with the made head
 component_made : (at : ℕ) (name : List ℕ) (digest : Option Digest) (content x : List ℕ) (h : Head) → head_of x ≡ h → before_first is_nul (name_field h x) ≡ name → attributes (attribute_field h x) ≡ Some (made_attributes digest)
     → slice_range x h.offset (h.offset + h.len) ≡ content → component_at at x ≡ made_component at name h.kind digest content x
 component_made at name digest content x h head named formed is = rw (head, named, formed, is) refl

@@ -1,9 +1,9 @@
--- An image's map is the lowest valid one.
+-- An image's map is the lowest valid map.
 use Rattle.std.proofs.Common.{◌≡◌, ℕ, zero, suc, ◌+◌, Bool, true, false, cond, List, [], ◌∷◌, length, drop, Option, Some, None, refl, sym, subst, ◌∙◌, arith}
 use Rattle.flash_format.specs.Flashmap.{is_map, map_from, map_of}
 use Rattle.flash_format.specs.Laws.{NoMapBelow, IsMapOf}
 
--- the lowest map of bytes whose first stands at a place: so many bytes further on, and none before
+-- the lowest map of bytes with the first at `at`
 record IsLowest (at : ℕ) (x : List ℕ) (q : ℕ) : Type 0 where
   behind : ℕ
   place : q ≡ at + behind

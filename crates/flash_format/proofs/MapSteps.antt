@@ -1,11 +1,11 @@
--- The search for a flashmap and for an area, step by step.
+-- The search for a flash map and for an area, step by step.
 use Rattle.std.proofs.Common.{◌≡◌, ℕ, suc, ◌+◌, ◌<◌, ◌≤◌, Bool, true, false, cond, List, ◌∷◌, length, drop, get_or, Some, None, refl, sym, ap, ◌∙◌, arith, length-drop, add-one, drop-cons}
 use Rattle.std.proofs.lemmas.Bool.{le-leb, lt-leb}
 use Rattle.std.proofs.lemmas.List.{nil_from_length}
 use Rattle.std.specs.List.{find}
 use Rattle.flash_format.specs.Flashmap.{has_signature, fmap_head_of, is_valid_head, is_map, map_from, areas_from, area_of, is_area}
 
--- ---- is there a map?
+-- ---- a map
 
 pub not_map_short : (x : List ℕ) → length x < 56 → is_map x ≡ false
 unfolding is_map
@@ -15,7 +15,7 @@ pub map_where : (x : List ℕ) (b : Bool) → 56 ≤ length x → has_signature 
 unfolding is_map
 map_where x b le s v = rw (le-leb 56 (length x) le, s) v
 
--- ---- the lowest place
+-- ---- the lowest position
 
 step : (at b : ℕ) (x whole : List ℕ) (here : Bool) → whole ≡ b ∷ x → is_map whole ≡ here → map_from at whole ≡ cond here (Some at) (map_from (at + 1) x)
 unfolding map_from

@@ -1,4 +1,4 @@
--- A component in place of free cells: one more, and all others stay.
+-- A component in place of free cells: one more, and no other change.
 use Rattle.std.proofs.Common.{◌≡◌, ℕ, ◌+◌, ◌-◌, ◌%◌, ◌≤◌, false, cond, List, [], ◌∷◌, ◌++◌, length, Option, sym, ◌∙◌, ap, subst, refl, arith, All, append_assoc, length-append}
 use Rattle.std.specs.Prelude.{is_some}
 use Rattle.std.specs.List.{concat}
@@ -29,12 +29,11 @@ empty_is_space size last some four =
 
 -- ---- the component
 
--- a cell that isn't free has its component
 component_alone : (at : ℕ) (x : List ℕ) → is_free (head_of x) ≡ false → components_from at (x ∷ []) ≡ component_at at x ∷ []
 unfolding components_from
 component_alone at x used = ap (λ b. cond b [] (component_at at x ∷ [])) used
 
--- among free cells it is the only one
+-- the only component among free cells
 component_among : (start at : ℕ) (a b : List (List ℕ)) (x : List ℕ) → AllFree a → AllFree b → is_free (head_of x) ≡ false → start + length (concat a) ≡ at
     → components_from start (a ++ (x ∷ []) ++ b) ≡ component_at at x ∷ []
 component_among start at a b x free_before free_after used place =

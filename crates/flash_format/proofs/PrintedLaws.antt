@@ -1,4 +1,4 @@
--- Printed names and numbers are read back.
+-- Printed names and numbers decode.
 use Rattle.std.proofs.Common.{◌≡◌, ◌≢◌, ℕ, ◌+◌, ◌*◌, ◌/◌, ◌%◌, ◌^◌, ◌<◌, ◌≤◌, Bool, true, false, not, ◌&&◌, cond, nat_le, eqb, List, [], ◌∷◌, ◌++◌, refl, sym, ap, ◌∙◌, arith, rules}
 use Rattle.std.specs.List.{flat_map, list_all}
 use Rattle.std.specs.Char.{digit_value}
@@ -13,7 +13,7 @@ use Rattle.flash_format.specs.Printed.{hexadecimal, is_field, printed_byte, prin
 
 -- ---- fields
 
--- two fields that end at the same byte, which stands in no field, are the same, and so is what follows
+-- two fields which end at the same byte, in neither field, are equal, and so is the rest
 pub split : (c : ℕ) (a b s t : List ℕ) → c < 32 → is_field a ≡ true → is_field b ≡ true → a ++ c ∷ s ≡ b ++ c ∷ t → (a ≡ b) × (s ≡ t)
 split c [] [] s t low fa fb e = (refl, cc)
 split c [] (y ∷ b) s t low fa fb e = let same : c ≡ y = cc in absurd (grind (arith, nat_tests))

@@ -1,4 +1,4 @@
--- Writes that follow each other.
+-- Consecutive writes.
 use Rattle.std.proofs.Common.{◌≡◌, ℕ, ◌+◌, ◌-◌, ◌≤◌, List, ◌++◌, length, take, drop, sym, ap, ◌∙◌, arith, append_assoc, length-append, drop-drop, take-append-drop}
 use Rattle.std.proofs.lemmas.List.{take_at, drop_at, length-take-le}
 use Rattle.std.proofs.lemmas.Slice.{take-put_mid, drop-put_mid}
@@ -18,7 +18,7 @@ then x y z a b p q r to_q to_r room first second =
     let back : drop r y ≡ drop r x = further q r y x (omega arith) (ap (λ (l : List ℕ). drop q l) whole ∙ drop_at (take p x ++ a) (drop q x) q long) in
     second ∙ ap (λ (l : List ℕ). l ++ (b ++ drop r y)) front ∙ ap (λ (l : List ℕ). (take p x ++ a) ++ (b ++ l)) back ∙ simp append_assoc
 
--- one write into a part of a slice
+-- one write into a part
 pub put_part : (x piece bytes : List ℕ) (at size : ℕ) → piece ≡ bytes → length bytes ≡ size → at + size ≤ length x → put_mid at (at + size - at) x piece ≡ splice x at (at + size) bytes
 put_part x piece bytes at size is long room =
     let y = put_mid at (at + size - at) x piece in

@@ -1,4 +1,4 @@
--- The cells and components of a region when a group of its cells is replaced.
+-- The cells and components of a region after the replacement of a group of cells.
 use Rattle.std.proofs.Common.{◌≡◌, ℕ, ◌+◌, ◌-◌, ◌%◌, ◌^◌, ◌<◌, Bool, true, cond, List, [], ◌∷◌, ◌++◌, length, take, drop, sym, ◌∙◌, ap, refl, arith, All, append_assoc, length-append}
 use Rattle.std.specs.List.{concat}
 use Rattle.std.proofs.lemmas.List.{take_at, drop_at, append-nil}
@@ -25,7 +25,7 @@ pub All-right : (P : List ℕ → Type 0) (a b : List (List ℕ)) → All P (a +
 All-right P [] b each = each
 All-right P (c ∷ a) b each = All-right P a b (All-tail P c (a ++ b) each)
 
--- cells have whole multiples of 64 bytes
+-- lengths are multiples of 64
 pub length-concat-cells : (cs : List (List ℕ)) → All IsCell cs → length (concat cs) % 64 ≡ 0
 length-concat-cells [] each = refl
 length-concat-cells (c ∷ cs) each =
@@ -35,7 +35,6 @@ length-concat-cells (c ∷ cs) each =
 concat-three : (a b c : List (List ℕ)) (rest : List ℕ) → concat (a ++ b ++ c) ++ rest ≡ concat a ++ (concat b ++ (concat c ++ rest))
 concat-three a b c rest = simp (concat-append, append_assoc)
 
--- free cells have no component
 pub components-free : (at : ℕ) (cs : List (List ℕ)) → AllFree cs → components_from at cs ≡ []
 unfolding components_from
 components-free at [] free = refl
@@ -43,7 +42,7 @@ components-free at (c ∷ cs) free =
     ap (λ b. cond b (components_from (at + length c) cs) (component_at at c ∷ components_from (at + length c) cs)) (All-head (λ x. is_free (head_of x) ≡ true) c cs free)
     ∙ components-free (at + length c) cs (All-tail (λ x. is_free (head_of x) ≡ true) c cs free)
 
--- the components around a group and in it
+-- the components around and in a group
 components-three : (a b c : List (List ℕ)) → components_from 0 (a ++ b ++ c) ≡ components_from 0 a ++ components_from (length (concat a)) b ++ components_from (length (concat a) + length (concat b)) c
 components-three a b c =
     let at_b : 0 + length (concat a) ≡ length (concat a) = omega arith in
@@ -55,7 +54,6 @@ components-three a b c =
 
 -- ---- free space
 
--- free space that isn't empty is a free cell
 space_cell : (size : ℕ) (bytes : List ℕ) → IsSpace size bytes → 0 < size → size % 64 ≡ 0 → size < 2 ^ 32 → IsCell bytes × (is_free (head_of bytes) ≡ true)
 space_cell size bytes is some whole small =
     let (kept, more, shape) = is.header some in
@@ -95,7 +93,7 @@ module _ (x : List ℕ) (start end : ℕ) (g : CellsBetween x start end) where
   pub cells-group : All IsCell g.group
   cells-group = All-right IsCell g.before g.group (All-left IsCell (g.before ++ g.group) g.after g.is.each)
 
-  -- the cut with other cells of as many bytes in the group's place
+  -- the cut with other cells in the group's place
   pub splice-cut : (new : List (List ℕ)) → All IsCell new → start + length (concat new) ≡ end → IsCut (splice x start end (concat new)) (g.before ++ new ++ g.after) g.rest g.ending
   splice-cut new each size = record {
     whole =

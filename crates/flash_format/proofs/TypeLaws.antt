@@ -1,4 +1,4 @@
--- The names of types are read back.
+-- Type names decode.
 use Rattle.std.proofs.Common.{◌≡◌, ℕ, Bool, true, false, nat_le, List, [], ◌∷◌, Option, Some, None, refl, sym, ap, arith, eqb, ◌&&◌}
 use Rattle.std.specs.List.{find}
 use Rattle.std.specs.Option.{option_map}
@@ -11,11 +11,11 @@ abbrev is_some_of : ℕ → Option ℕ → Bool
 is_some_of n None = false
 is_some_of n (Some m) = eqb n m
 
--- the name of the first row of a type
+-- the name in a type's first row
 abbrev name_in : List (ℕ × List ℕ) → ℕ → Option (List ℕ)
 name_in rows kind = option_map (λ (row : ℕ × List ℕ). row.1) (find (λ (row : ℕ × List ℕ). eqb row.0 kind) rows)
 
--- each row's name is read as its type
+-- each row's name decodes to its type
 abbrev reads_back : List (ℕ × List ℕ) → Bool
 reads_back [] = true
 reads_back (row ∷ rows) = is_some_of row.0 (type_of_text row.1) && reads_back rows
@@ -42,9 +42,9 @@ pub read_back : (kind : ℕ) (name : List ℕ) → name_of_type kind ≡ Some na
 unfolding name_of_type
 read_back kind name is = among type_table kind name every_row is
 
--- ---- the names are words
+-- ---- the names as fields
 
--- a text that begins with a letter, as no number does, and that can stand between tabs
+-- a field which begins with a letter, unlike numbers
 abbrev pub is_word : List ℕ → Bool
 is_word [] = false
 is_word (b ∷ text) = nat_le 65 b && is_field (b ∷ text)

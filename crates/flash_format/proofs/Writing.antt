@@ -1,4 +1,4 @@
--- The writers fill bytes of zero field by field, and what they write is read back, where each number fits its field.
+-- The writers fill zeros field by field; the result decodes if each number fits its field.
 use Rattle.std.proofs.Common.{◌≡◌, ℕ, ◌<◌, ◌^◌, List, [], ◌∷◌, ◌++◌, ◌+◌, take, drop, replicate, length, Some, true, refl, arith, rules, append_assoc, length-append}
 use Rattle.std.proofs.lemmas.List.{take_at, drop_at, drop_all}
 use borrow.Rule.Slice.PartMut.{put_mid}
@@ -10,7 +10,7 @@ use Rattle.flash_format.specs.declared.flashmap.Area.{Area}
 use Rattle.flash_format.specs.Head.{head_at, head_of, has_magic, head_bytes}
 use Rattle.flash_format.specs.Flashmap.{fmap_head_of, fmap_head_bytes, has_signature, area_of, area_bytes}
 
--- a name and a number of two bytes, written over the zeros that are left
+-- written over the remaining zeros
 pub put_name_and_number : (bytes front field number name written more : List ℕ) (at : ℕ) → bytes ≡ front ++ replicate 34 0 → field ≡ name → number ≡ written ++ drop 2 (take 2 more)
     → length front ≡ at → length name ≡ 32 → put_mid (at + 32) 2 (put_mid at 32 bytes field) number ≡ front ++ name ++ written
 put_name_and_number bytes front field number name written more at begun named numbered front_long name_long =

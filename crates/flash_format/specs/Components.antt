@@ -1,4 +1,4 @@
--- The components of a region: all cells except free cells.
+-- Components: all cells of a region except free cells.
 use Rattle.std.specs.Prelude.{ℕ, ◌+◌, Bool, not, List, [], ◌∷◌, length, slice_range, map, unwrap_or, ◌==◌, if◌then◌else◌}
 use Rattle.std.specs.List.{before_first}
 use Rattle.std.specs.Option.{option_map_or}
@@ -6,7 +6,7 @@ use Rattle.flash_format.specs.Head.{be32, head_of, is_free}
 use Rattle.flash_format.specs.Entry.{Attribute, attributes, data_of, COMPRESSION, is_nul, name_field, attribute_field}
 use Rattle.flash_format.specs.Cut.{cut}
 
--- a component: its position in the region, its decoded parts, and all bytes of its cell
+-- a position in the region, the decoded parts, and the cell
 pub record Component : Type 0 where
   pub at : ℕ
   pub name : List ℕ
@@ -15,18 +15,18 @@ pub record Component : Type 0 where
   pub content : List ℕ
   pub bytes : List ℕ
 
--- the bytes of the name field before the first NUL
+-- up to the first NUL
 abbrev pub cell_name : List ℕ → List ℕ
 cell_name x = before_first is_nul (name_field (head_of x) x)
 
--- every component's cell of a cut has well-formed attributes
+-- well-formed in every component of a cut
 abbrev pub cell_attributes : List ℕ → List Attribute
 cell_attributes x = unwrap_or (attributes (attribute_field (head_of x) x)) []
 
 abbrev pub cell_content : List ℕ → List ℕ
 cell_content x = let h = head_of x in slice_range x h.offset (h.offset + h.len)
 
--- the first value of the first compression attribute, or 0 without a compression attribute
+-- the compression of the first compression attribute, or 0
 abbrev pub packing : List Attribute → ℕ
 packing all = option_map_or (be32 0) (data_of COMPRESSION all) 0
 
@@ -43,14 +43,14 @@ component_at at x = record {
   bytes = x;
 }
 
--- the components among neighbouring cells, with the position of the first cell
+-- the components of neighbouring cells from a position on
 unfoldable pub components_from : ℕ → List (List ℕ) → List Component
 components_from at [] = []
 components_from at (x ∷ cells) =
     let others = components_from (at + length x) cells in
     if is_free (head_of x) then others else component_at at x ∷ others
 
--- the components at positions larger by n
+-- positions increased by n
 abbrev pub shifted_by : ℕ → List Component → List Component
 shifted_by n all = map (λ (c : Component). record c { at = n + c.at }) all
 

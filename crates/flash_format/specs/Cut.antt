@@ -1,5 +1,5 @@
 -- The division of a region into neighbouring cells. CBFS entries begin at multiples of 64. This
--- project's rule: the rest after the last cell is a tail, which is preserved and never used.
+-- project's rule: the rest is an unused, preserved tail.
 use Rattle.std.specs.Prelude.{◌≡◌, ℕ, zero, suc, pred, ◌%◌, ◌<◌, ◌≤◌, List, [], ◌∷◌, ◌++◌, length, take, All}
 use Rattle.std.specs.List.{concat}
 use Rattle.flash_format.specs.declared.head.DamageKind.{DamageKind}
@@ -8,9 +8,9 @@ use Rattle.flash_format.specs.Entry.{Entry, absent, damaged, cell, entry}
 pub data End : Type 0 where
   -- at the region's end
   complete : End
-  -- at a position without an entry
+  -- at bytes without an entry
   tail : End
-  -- at an entry with a failed check
+  -- at a failed check
   damage : DamageKind → End
 
 pub record Cut : Type 0 where
@@ -23,13 +23,13 @@ ends e = record { cells = []; end = e }
 abbrev pub after : List (List ℕ) → Cut → Cut
 after cells rest = record { cells = cells ++ rest.cells; end = rest.end }
 
--- the cut from an entry on, given the cut after a cell of each length
+-- the cut from an entry on, with `later` after a cell
 abbrev pub by_entry : Entry → List ℕ → (ℕ → Cut) → Cut
 by_entry absent x later = ends tail
 by_entry (damaged kind) x later = ends (damage kind)
 by_entry (cell span) x later = after (take span x ∷ []) (later span)
 
--- The cut of bytes after the first `skip`, which belong to the previous cell.
+-- after the first `skip` bytes, part of the previous cell
 unfoldable pub cut_after : ℕ → List ℕ → Cut
 cut_after skip [] = ends complete
 cut_after (suc skip) (b ∷ rest) = cut_after skip rest
@@ -41,7 +41,7 @@ cut x = cut_after 0 x
 
 -- ---- as a relation
 
--- a multiple of 64, and at most the length of the bytes if the latter is a multiple of 64
+-- a multiple of 64, inside bytes of such a length
 pub record IsSpan (x : List ℕ) (span : ℕ) : Type 0 where
   pub positive : 64 ≤ span
   pub whole : span % 64 ≡ 0
@@ -56,7 +56,6 @@ EndsAt rest complete = rest ≡ []
 EndsAt rest tail = (0 < length rest) × (entry rest ≡ absent)
 EndsAt rest (damage kind) = (0 < length rest) × (entry rest ≡ damaged kind)
 
--- x is the cells and the remainder
 pub record IsCut (x : List ℕ) (cells : List (List ℕ)) (rest : List ℕ) (e : End) : Type 0 where
   pub whole : x ≡ concat cells ++ rest
   pub each : All IsCell cells

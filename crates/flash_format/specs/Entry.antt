@@ -1,7 +1,6 @@
--- CBFS entries and attributes. An entry depends on all bytes up to the region's end. The formats
--- are coreboot's CBFS file header with its name, and `struct cbfs_file_attribute`, whose length
--- includes tag and length. This project's rules: the five checks of an entry and their order, the
--- end of an attribute list, and the valid attribute lengths.
+-- CBFS entries (coreboot's CBFS file header, and bytes up to the region's end) and attributes
+-- (`struct cbfs_file_attribute`, with the head in its length). This project's rules: the five
+-- checks and their order, the end of an attribute list, and valid attribute lengths.
 use Rattle.std.specs.Prelude.{ℕ, zero, suc, pred, Bool, ◌||◌, List, [], ◌∷◌, length, slice_range, Option, Some, None, nat_lt, ◌==◌, if◌then◌else◌, not, take, Result, Ok, Err, is_some}
 use Rattle.std.specs.List.{find, list_any}
 use Rattle.std.specs.Option.{option_map, option_map_or}
@@ -19,11 +18,11 @@ pub record Attribute : Type 0 where
   pub tag : ℕ
   pub contents : List ℕ
 
--- the tag of a compression attribute: the compression, and the decompressed size
+-- attribute: compression, decompressed size
 abbrev pub COMPRESSION : ℕ
 COMPRESSION = 0x42435a4c
 
--- the tag of a hash attribute: an algorithm, then the digest
+-- attribute: algorithm, digest
 abbrev pub HASH : ℕ
 HASH = 0x68736148
 
@@ -33,11 +32,11 @@ is_unused tag = tag == 0 || tag == 0xffffffff
 abbrev pub least_len : ℕ → ℕ
 least_len tag = if tag == COMPRESSION then 16 else (if tag == HASH then 12 else 8)
 
--- the list ends: fewer than eight bytes remain, or the tag is unused
+-- fewer than eight bytes, or an unused tag
 abbrev pub ends_list : List ℕ → Bool
 ends_list x = nat_lt (length x) 8 || is_unused (attr_head_of x).tag
 
--- the attribute is too short for its tag, or longer than the remaining bytes
+-- below the tag's minimum, or above the remaining bytes
 abbrev pub has_bad_len : AttrHead → ℕ → Bool
 has_bad_len h left = nat_lt h.len (least_len h.tag) || nat_lt left h.len
 
@@ -47,7 +46,7 @@ is_malformed x = has_bad_len (attr_head_of x) (length x)
 abbrev pub attribute : List ℕ → Attribute
 attribute x = let h = attr_head_of x in record { tag = h.tag; contents = slice_range x 8 h.len }
 
--- The attributes in bytes after the first `skip`, which belong to the previous attribute.
+-- after the first `skip` bytes, part of the previous attribute
 unfoldable pub attributes_after : ℕ → List ℕ → Option (List Attribute)
 attributes_after skip [] = Some []
 attributes_after (suc skip) (b ∷ rest) = attributes_after skip rest
@@ -58,16 +57,16 @@ attributes_after zero (b ∷ rest) =
     else option_map (λ others. attribute x ∷ others)
     (attributes_after (pred (attr_head_of x).len) rest))
 
--- the attributes, or None if an attribute is malformed
+-- None for a malformed attribute
 abbrev pub attributes : List ℕ → Option (List Attribute)
 attributes x = attributes_after 0 x
 
--- the data of the first attribute with a tag
+-- the first attribute with the tag
 abbrev pub data_of : ℕ → List Attribute → Option (List ℕ)
 data_of tag all =
     option_map (λ (a : Attribute). a.contents) (find (λ (a : Attribute). a.tag == tag) all)
 
--- the end of the name field: the start of the attributes, or of the content without attributes
+-- the start of the attributes, if any, or of the content
 abbrev pub name_end : Head → ℕ
 name_end h = if h.attributes_offset == 0 then h.offset else h.attributes_offset
 
@@ -77,11 +76,11 @@ name_field h x = slice_range x 24 (name_end h)
 abbrev pub is_nul : ℕ → Bool
 is_nul b = b == 0
 
--- the first 256 bytes of the field include a NUL
+-- a NUL in the first 256 bytes
 abbrev pub has_name : List ℕ → Bool
 has_name field = list_any is_nul (take 256 field)
 
--- the bytes between the name field and the content
+-- up to the content
 abbrev pub attribute_field : Head → List ℕ → List ℕ
 attribute_field h x =
     if h.attributes_offset == 0 then [] else slice_range x h.attributes_offset h.offset
@@ -92,7 +91,7 @@ pub data Entry : Type 0 where
   damaged : DamageKind → Entry
   cell : ℕ → Entry
 
--- the checks of a component after the checks of its head
+-- the checks after the head
 abbrev pub component : Head → List ℕ → ℕ → Entry
 component h x span =
     if not (has_name (name_field h x)) then damaged kinds.Name

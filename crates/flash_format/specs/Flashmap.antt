@@ -1,6 +1,5 @@
--- The flash map: a head, and areas, which name ranges of an image. The fields are those of `struct
--- fmap` and `struct fmap_area` of FMAP 1.1, little-endian. This project's rules: the conditions of
--- a valid map, and the choice of the lowest valid map.
+-- Flash maps: a head and areas (`struct fmap` and `struct fmap_area` of FMAP 1.1), little-endian.
+-- This project's rules: the conditions of a valid map, and the choice of the lowest.
 use Rattle.std.specs.Prelude.{ℕ, zero, suc, ◌+◌, ◌*◌, Bool, ◌&&◌, List, [], ◌∷◌, ◌++◌, length, drop, slice_index, slice_range, Option, Some, None, nat_eq, nat_le, ◌==◌, if◌then◌else◌}
 use Rattle.std.specs.List.{starts_with, list_any, list_all, before_first, find}
 use Rattle.byteorder.specs.Endian.{little_number, little_bytes}
@@ -10,7 +9,7 @@ use Rattle.flash_format.specs.declared.flashmap.FmapHead.{FmapHead}
 use Rattle.flash_format.specs.declared.flashmap.Area.{Area}
 use Rattle.flash_format.specs.Entry.{is_nul}
 
--- the little-endian number in n bytes at an offset
+-- little-endian, n bytes at an offset
 abbrev pub le : ℕ → ℕ → List ℕ → ℕ
 le n at x = little_number n (slice_range x at (at + n))
 
@@ -23,7 +22,7 @@ area_len = 42
 unfoldable pub has_signature : List ℕ → Bool
 has_signature x = starts_with nat_eq x (codes "__FMAP__")
 
--- the fields after the signature
+-- after the signature
 unfoldable pub fmap_head_of : List ℕ → FmapHead
 fmap_head_of x = record {
   major = slice_index x 8;
@@ -34,7 +33,7 @@ fmap_head_of x = record {
   nareas = le 2 54 x;
 }
 
--- the bytes of `struct fmap`
+-- `struct fmap`
 unfoldable pub fmap_head_bytes : FmapHead → List ℕ
 fmap_head_bytes h =
     codes "__FMAP__" ++ (h.major ∷ h.minor ∷ []) ++ little_bytes 8 h.base ++ little_bytes 4 h.size
@@ -44,15 +43,15 @@ unfoldable pub area_of : List ℕ → Area
 area_of x =
     record { offset = le 4 0 x; size = le 4 4 x; name = slice_range x 8 40; flags = le 2 40 x }
 
--- the bytes of `struct fmap_area`
+-- `struct fmap_area`
 unfoldable pub area_bytes : Area → List ℕ
 area_bytes a = little_bytes 4 a.offset ++ little_bytes 4 a.size ++ a.name ++ little_bytes 2 a.flags
 
--- the bytes before the first NUL, or all bytes
+-- up to the first NUL, if any
 abbrev pub text_of : List ℕ → List ℕ
 text_of name = before_first is_nul name
 
--- a printing ASCII byte except the blank
+-- printing ASCII except the blank
 abbrev pub is_printing : ℕ → Bool
 is_printing b = nat_le 0x21 b && nat_le b 0x7e
 
@@ -62,7 +61,7 @@ is_named name = list_any is_nul name && list_all is_printing (text_of name)
 abbrev pub map_len : FmapHead → ℕ
 map_len h = fmap_head_len + area_len * h.nareas
 
--- the conditions of a valid head besides its signature, with `left` bytes up to the image's end
+-- besides the signature, with `left` bytes up to the image's end
 unfoldable pub is_valid_head : FmapHead → ℕ → Bool
 is_valid_head h left = h.major == 1 && (is_named h.name && nat_le (map_len h) left)
 
@@ -71,7 +70,7 @@ is_map x =
     nat_le fmap_head_len (length x)
     && (has_signature x && is_valid_head (fmap_head_of x) (length x))
 
--- the lowest position of a valid map; `at` is the position of the first byte
+-- the lowest valid map; `at` is the first byte's position
 unfoldable pub map_from : ℕ → List ℕ → Option ℕ
 map_from at [] = None
 map_from at (b ∷ x) = if is_map (b ∷ x) then Some at else map_from (at + 1) x
@@ -89,6 +88,6 @@ areas_at image q = areas_from (fmap_head_of (drop q image)).nareas (drop (q + fm
 abbrev pub is_area : List ℕ → Area → Bool
 is_area name a = bytes_eq name (text_of a.name)
 
--- the first area with the given name in the map at position q
+-- the first area with the name, in the map at q
 abbrev pub area_in : List ℕ → ℕ → List ℕ → Option Area
 area_in image q name = find (is_area name) (areas_at image q)

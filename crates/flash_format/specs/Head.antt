@@ -1,6 +1,5 @@
--- The first 24 bytes of a CBFS entry, and the checks of a head alone. The fields are those of
--- `struct cbfs_file` in coreboot's CBFS documentation, big-endian. This project's rules: the order
--- of the checks and their limits.
+-- The first 24 bytes of a CBFS entry (`struct cbfs_file`, big-endian), and the checks of a head
+-- alone. This project's rules: the order and limits of the checks.
 use Rattle.std.specs.Prelude.{ℕ, ◌+◌, ◌*◌, ◌/◌, Bool, not, ◌&&◌, ◌||◌, List, ◌++◌, slice_range, Option, Some, None, Result, Ok, Err, nat_eq, nat_lt, ◌==◌, if◌then◌else◌}
 use Rattle.std.specs.List.{starts_with}
 use Rattle.byteorder.specs.Endian.{big_number, big_bytes}
@@ -10,11 +9,11 @@ use Rattle.flash_format.specs.declared.head.Extent.{Extent}
 use Rattle.flash_format.specs.declared.head.DamageKind.{DamageKind}
 use Rattle.flash_format.specs.declared.head.DamageKind.TheVariants as kinds
 
--- the smallest multiple of 64 from n on
+-- rounded up to a multiple of 64
 abbrev pub round64 : ℕ → ℕ
 round64 n = (n + 63) / 64 * 64
 
--- the big-endian number in four bytes at an offset
+-- big-endian, four bytes at an offset
 abbrev pub be32 : ℕ → List ℕ → ℕ
 be32 at x = big_number 4 (slice_range x at (at + 4))
 
@@ -28,24 +27,23 @@ has_magic x = starts_with nat_eq x (codes "LARCHIVE")
 abbrev pub head_at : List ℕ → Option Head
 head_at x = if has_magic x then Some (head_of x) else None
 
--- the bytes of `struct cbfs_file`
+-- `struct cbfs_file`
 unfoldable pub head_bytes : Head → List ℕ
 head_bytes h =
     codes "LARCHIVE" ++ big_bytes 4 h.len ++ big_bytes 4 h.kind ++ big_bytes 4 h.attributes_offset
     ++ big_bytes 4 h.offset
 
--- the types deleted and null are free space
+-- deleted or null
 abbrev pub is_free : Head → Bool
 is_free h = h.kind == 0 || h.kind == 0xffffffff
 
--- attributes begin before the least end of the name with its NUL, or after the start of the content
+-- before the name's least end, or after the content's start
 abbrev pub attributes_misplaced : Head → Bool
 attributes_misplaced h =
     not (h.attributes_offset == 0)
     && (nat_lt h.attributes_offset 25 || nat_lt h.offset h.attributes_offset)
 
--- The first failed check of a head with `left` bytes up to the region's end; otherwise the
--- content's start and the cell's length.
+-- The first failed check with `left` bytes up to the region's end, or the extent.
 unfoldable pub extent_of : Head → ℕ → Result Extent DamageKind
 extent_of h left =
     if nat_lt h.offset (if is_free h then 24 else 25) then Err kinds.Offset

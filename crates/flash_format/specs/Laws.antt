@@ -1,4 +1,4 @@
--- The laws of the definitions.
+-- Laws of the definitions.
 use Rattle.std.specs.Prelude.{◌≡◌, ◌≢◌, ℕ, ◌+◌, ◌-◌, ◌%◌, ◌^◌, ◌<◌, ◌≤◌, Bool, true, List, [], ◌∷◌, ◌++◌, length, take, drop, All, MatchOption, Some, Option}
 use Rattle.std.specs.List.{concat, flat_map, sum_by}
 use Rattle.flash_format.specs.declared.digest.Digest.{Digest}
@@ -16,32 +16,32 @@ use Rattle.flash_format.specs.Printed.{hexadecimal, is_field, printed_name}
 use Rattle.flash_format.specs.TypeNames.{name_of_type, type_of_text}
 
 pub record EntriesAreReadAlike : Type 0 where
-  -- the length is a multiple of 64, and at most the size of a region whose size is a multiple of 64
+  -- a multiple of 64, inside the region
   pub size : (x : List ℕ) (span : ℕ) → entry x ≡ cell span → IsSpan x span
   -- later bytes don't affect a cell
   pub alike : (x y : List ℕ) (span : ℕ) → entry x ≡ cell span → span ≤ length x → span ≤ length y
       → take span x ≡ take span y → entry y ≡ cell span
-  -- only the first 24 bytes affect a free cell
+  -- a free cell depends only on 24 bytes
   pub free : (x y : List ℕ) (span : ℕ) → entry x ≡ cell span → is_free (head_of x) ≡ true
       → take 24 x ≡ take 24 y → span ≤ length y → entry y ≡ cell span
 
 pub record CutsGoOn : Type 0 where
-  -- the cells before a position and the cells of the cut from the position on are the whole cut
+  -- the cut resumes after whole cells
   pub cells : (x : List ℕ) (at : ℕ) (cells : List (List ℕ)) → All IsCell cells
       → take at x ≡ concat cells → cut x ≡ after cells (cut (drop at x))
-  -- likewise for the components
+  -- likewise for components
   pub listed : (x : List ℕ) (at : ℕ) (cells : List (List ℕ)) → All IsCell cells
       → take at x ≡ concat cells → at ≤ length x
       → components x ≡ components_from 0 cells ++ shifted_by at (components (drop at x))
-  -- the components of two lists of cells
+  -- two lists of cells
   pub joined : (at : ℕ) (cells more : List (List ℕ))
       → components_from at (cells ++ more)
       ≡ components_from at cells ++ components_from (at + length (concat cells)) more
-  -- a position after cells is the sum of their lengths
+  -- a position is the sum of cell lengths
   pub places : (x : List ℕ) (at : ℕ) (cells : List (List ℕ)) → take at x ≡ concat cells
       → at ≤ length x → at ≡ sum_by length cells
 
--- an empty entry's header is a free cell, whatever bytes follow
+-- whatever follows the header
 abbrev pub EmptyHeadersAreFreeCells : Type 0
 EmptyHeadersAreFreeCells =
     (size : ℕ) (kept : Bool) (more : List ℕ) → 64 ≤ size → size % 64 ≡ 0 → size < 2 ^ 32
@@ -51,14 +51,14 @@ EmptyHeadersAreFreeCells =
 
 pub record GroupsAreReplaced (x : List ℕ) (start end : ℕ)
     (g : CellsBetween x start end) : Type 0 where
-  -- the cells outside the group and the remainder are unchanged
+  -- unchanged outside the group
   pub cells : (new : List (List ℕ)) → All IsCell new → start + length (concat new) ≡ end
       → IsCut (splice x start end (concat new)) (g.before ++ new ++ g.after) g.rest g.ending
-  -- the components outside the group keep their position and bytes
+  -- components outside the group are unchanged
   pub listed : (new : List (List ℕ)) → All IsCell new → start + length (concat new) ≡ end
       → components (splice x start end (concat new))
       ≡ components_from 0 g.before ++ components_from start new ++ components_from end g.after
-  -- an empty entry's header with any bytes up to the group's end: only the other components
+  -- an empty entry adds no component
   pub emptied : (kept : Bool) (more : List ℕ) → start < end → end - start < 2 ^ 32
       → start + header_length + length more ≡ end
       → components (splice x start end (empty_header (end - start) kept ++ more))
@@ -66,11 +66,11 @@ pub record GroupsAreReplaced (x : List ℕ) (start end : ℕ)
 
 pub record MadeCellsAreReadAsMade (name : List ℕ) (kind : ℕ) (digest : Option Digest) (gap : ℕ)
     (content : List ℕ) : Type 0 where
-  -- metadata and content are a cell of the component, whatever bytes follow
+  -- metadata and content decode as a cell, whatever follows
   pub metadata : (more : List ℕ) → IsMade name kind digest gap content
       → let component = made_metadata name kind digest gap (length content) ++ content in
       IsReadAs name kind digest content (component ++ more) (round64 (length component))
-  -- a made cell is a cell of its own length, whatever bytes follow
+  -- a cell of its own length, whatever follows
   pub whole : (last : Option (List ℕ)) (more : List ℕ) → IsMade name kind digest gap content
       → KeepsFour last
       → let x = made name kind digest gap content last in
@@ -79,8 +79,7 @@ pub record MadeCellsAreReadAsMade (name : List ℕ) (kind : ℕ) (digest : Optio
       → length (made name kind digest gap content last)
       ≡ round64 (meta_length (length name) (hash_len digest) + gap + length content)
 
--- a component's cell with free space before and after, in place of free cells: one more component,
--- and all others unchanged
+-- a cell between free space, in place of free cells, adds exactly one component
 abbrev pub ComponentsArePlaced : Type 0
 ComponentsArePlaced =
     (x : List ℕ) (start end : ℕ) (g : CellsBetween x start end) (at : ℕ)
@@ -92,26 +91,24 @@ ComponentsArePlaced =
     (made_component at name kind digest content whole)
     (splice x start end (before ++ (whole ++ after)))
 
--- no valid map begins below position q
+-- no valid map begins below q
 abbrev pub NoMapBelow : List ℕ → ℕ → Type 0
 NoMapBelow image q = (k : ℕ) → k < q → is_map (drop k image) ≢ true
 
--- the image's map is at its position, and no other is lower; without a position, the image has no
--- map
+-- the lowest valid map; without a position, no map
 abbrev pub IsMapOf : List ℕ → Option ℕ → Type 0
 IsMapOf image found =
     MatchOption found (NoMapBelow image (length image))
     (λ q. (is_map (drop q image) ≡ true) × NoMapBelow image q)
 
--- each field of an area fits its bytes
+-- the fields fit their bytes
 pub record IsAreaInBytes (a : Area) : Type 0 where
   pub offset : a.offset < 2 ^ 32
   pub size : a.size < 2 ^ 32
   pub name : length a.name ≡ 32
   pub flags : a.flags < 2 ^ 16
 
--- each field of a version 1 head fits its bytes, the name is valid, and the head has the number of
--- areas
+-- a version 1 head with a valid name, the number of areas and fitting fields
 pub record IsMapInBytes (h : FmapHead) (areas : List Area) : Type 0 where
   pub major : h.major ≡ 1
   pub base : h.base < 2 ^ 64
@@ -139,8 +136,7 @@ abbrev pub NamesAreReadBack : Type 0
 NamesAreReadBack =
     (kind : ℕ) (name : List ℕ) → name_of_type kind ≡ Some name → type_of_text name ≡ Some kind
 
--- different names have different texts, as have different numbers of 64 bits; each text is a valid
--- field
+-- different names, and different numbers of 64 bits, have different, valid texts
 pub record PrintedTextsAreReadBack : Type 0 where
   pub names : (a b : List ℕ) → printed_name a ≡ printed_name b → a ≡ b
   pub name_fields : (name : List ℕ) → is_field (printed_name name) ≡ true

@@ -1,8 +1,7 @@
--- The results of an edit: empty entries, which describe free space, and cells of components. The
--- fields are those of coreboot's `struct cbfs_file` and `struct cbfs_file_attr_hash`. This
--- project's rules: the padding of a name field, so an empty entry's field is four NULs; an empty
--- entry at a region's end excludes the last four bytes, because older images have a pointer there;
--- a gap and the rest of a cell are 0xff.
+-- The results of an edit: empty entries and components (`struct cbfs_file` and `struct
+-- cbfs_file_attr_hash`). This project's rules: the padding of a name field; an empty entry at a
+-- region's end excludes the last four bytes, because older images have a pointer there; a gap and
+-- the rest of a cell are 0xff.
 use Rattle.std.specs.Prelude.{ℕ, ◌-◌, Bool, List, ◌++◌, drop, replicate, Option, Some, None, is_some, if◌then◌else◌, ◌≡◌, ◌+◌, ◌*◌, ◌/◌, ◌^◌, ◌<◌, ◌≤◌, ◌==◌, ◌||◌, false, [], ◌∷◌, length, IfSome}
 use Rattle.flash_format.specs.Head.{head_bytes, round64}
 use Rattle.std.specs.List.{find, list_any}
@@ -17,16 +16,15 @@ use Rattle.flash_format.specs.declared.digest.Digest.TheVariants as digests
 use Rattle.flash_format.specs.declared.meta.Meta.{Meta}
 use Rattle.flash_format.specs.Entry.{Attribute, HASH, is_nul}
 
--- the length of a name field is a multiple of this padding
+-- the unit of a name field's length
 abbrev pub name_padding : ℕ
 name_padding = 4
 
--- the length of an empty entry's header: the head, and the field of an empty name
+-- the head and an empty name
 abbrev pub header_length : ℕ
 header_length = 24 + name_padding
 
--- The header of an empty entry of the given size: its head and an empty name. With `kept`, the
--- described space excludes the cell's last four bytes.
+-- For a cell of the given size. With `kept`, the free space excludes the last four bytes.
 unfoldable pub empty_header : ℕ → Bool → List ℕ
 empty_header size kept =
     head_bytes (record {
@@ -37,25 +35,24 @@ empty_header size kept =
     })
     ++ replicate (header_length - 24) 0
 
--- n bytes 0xff up to a cell's end; up to four of the last bytes may be preserved
+-- n bytes 0xff, except preserved last bytes
 abbrev pub padding : ℕ → Option (List ℕ) → List ℕ
 padding n None = replicate n 0xff
 padding n (Some last) = replicate (n - 4) 0xff ++ drop (4 - n) last
 
--- an empty entry of the given size, which may preserve its last four bytes
+-- may preserve its last four bytes
 abbrev pub empty_entry : ℕ → Option (List ℕ) → List ℕ
 empty_entry size last = empty_header size (is_some last) ++ padding (size - header_length) last
 
--- the length of the field for a name of k bytes: the smallest multiple of the padding with room for
--- the name and a NUL
+-- the padded field of k bytes and a NUL
 abbrev pub name_room : ℕ → ℕ
 name_room k = (k / name_padding + 1) * name_padding
 
--- the length of a component's metadata without its gap
+-- without the gap
 abbrev pub meta_length : ℕ → ℕ → ℕ
 meta_length name_len attr_len = 24 + name_room name_len + attr_len
 
--- an algorithm's number in vboot's `enum vb2_hash_algorithm`, digest length and name
+-- vboot's number (`enum vb2_hash_algorithm`), digest length, name
 pub record AlgorithmRow : Type 0 where
   pub number : ℕ
   pub len : ℕ
@@ -84,7 +81,7 @@ digest_bytes (digests.Sha512 bytes) = bytes
 abbrev pub digest_len : Digest → ℕ
 digest_len digest = (algorithm_row (algorithm digest)).len
 
--- the bytes of `struct cbfs_file_attr_hash`
+-- `struct cbfs_file_attr_hash`
 unfoldable pub hash_attribute : ℕ → List ℕ → List ℕ
 hash_attribute number bytes =
     big_bytes 4 HASH ++ big_bytes 4 (12 + length bytes) ++ big_bytes 4 number ++ bytes
@@ -94,7 +91,7 @@ hash_bytes digest =
     option_map_or (λ d. hash_attribute (algorithm_row (algorithm d)).number (digest_bytes d))
     digest []
 
--- the length of the hash attribute: 44 with SHA-256 and 76 with SHA-512
+-- 44 with SHA-256, 76 with SHA-512
 abbrev pub hash_len : Option Digest → ℕ
 hash_len digest = option_map_or (λ d. 12 + digest_len d) digest 0
 
@@ -114,7 +111,7 @@ made_metadata name kind digest gap n =
     head_bytes (made_head name kind digest gap n) ++ padded_name name ++ hash_bytes digest
     ++ replicate gap 0xff
 
--- the cell of a component, up to a multiple of 64; may preserve the given last four bytes
+-- a component's cell, up to a multiple of 64; may preserve its last four bytes
 abbrev pub made : List ℕ → ℕ → Option Digest → ℕ → List ℕ → Option (List ℕ) → List ℕ
 made name kind digest gap content last =
     let component = made_metadata name kind digest gap (length content) ++ content in
@@ -132,7 +129,7 @@ made_attributes digest =
 abbrev pub IsDigest : Option Digest → Type 0
 IsDigest digest = IfSome digest (λ d. length (digest_bytes d) ≡ digest_len d)
 
--- if bytes are preserved, exactly four
+-- four bytes, if any
 abbrev pub KeepsFour : Option (List ℕ) → Type 0
 KeepsFour last = IfSome last (λ bytes. length bytes ≡ 4)
 

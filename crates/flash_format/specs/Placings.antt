@@ -8,7 +8,7 @@ use Rattle.flash_format.specs.Cut.{cut, IsCut}
 use Rattle.flash_format.specs.Components.{Component, component_at, components_from, components}
 use Rattle.flash_format.specs.Splices.{CellsBetween}
 
--- free space of the given size: empty, or an empty entry's header and any bytes
+-- empty, or an empty entry's header and any bytes
 pub record IsSpace (size : ℕ) (bytes : List ℕ) : Type 0 where
   pub long : length bytes ≡ size
   pub header : 0 < size → (kept : Bool) × (more : List ℕ) × (bytes ≡ empty_header size kept ++ more)
@@ -17,7 +17,7 @@ abbrev pub space_cells : List ℕ → List (List ℕ)
 space_cells [] = []
 space_cells (b ∷ bytes) = (b ∷ bytes) ∷ []
 
--- A cell lies between start and end, with free space before and after up to both ends.
+-- a cell between start and end, with free space up to both
 pub record IsPlacing (start end at : ℕ) (before cell after : List ℕ) : Type 0 where
   pub aligned : at % 64 ≡ 0
   pub from_start : start ≤ at
@@ -36,15 +36,14 @@ made_component at name kind digest content bytes = record {
   bytes = bytes;
 }
 
--- the bytes begin with a cell of the given length, which decodes to the component
+-- a cell of the given length, which decodes to the component
 pub record IsReadAs (name : List ℕ) (kind : ℕ) (digest : Option Digest) (content : List ℕ)
     (x : List ℕ) (span : ℕ) : Type 0 where
   pub is_cell : entry x ≡ cell span
   pub is_used : is_free (head_of x) ≡ false
   pub component : (at : ℕ) → component_at at x ≡ made_component at name kind digest content x
 
--- The region y has the given cells in place of a group of free cells of x, and exactly one more
--- component than x. All other cells, the end and the remainder are unchanged.
+-- y has the cells in place of free cells of x, and exactly one more component
 pub record HasOneMore (x : List ℕ) (start end : ℕ) (g : CellsBetween x start end)
     (cells : List (List ℕ)) (component : Component) (y : List ℕ) : Type 0 where
   pub is_cut : IsCut y (g.before ++ cells ++ g.after) g.rest g.ending

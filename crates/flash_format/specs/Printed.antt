@@ -1,4 +1,4 @@
--- Names and numbers as printed. The texts are this project's own.
+-- Names and numbers as printed: this project's own texts.
 use Rattle.std.specs.Prelude.{◌≡◌, ℕ, ◌+◌, ◌≤◌, ◌/◌, ◌%◌, Bool, false, not, nat_le, ◌&&◌, List, [], ◌∷◌, ◌++◌, ◌==◌, if◌then◌else◌}
 use Rattle.std.specs.List.{flat_map, list_all}
 use Rattle.std.specs.Fmt.{digits, digit_glyph}
@@ -6,12 +6,11 @@ use lib.Chars.{codes}
 use Rattle.arrayvec.specs.ArrayVec.{ArrayVec, array_vec_len}
 use Rattle.flash_format.specs.Flashmap.{is_printing}
 
--- `0x` and lower-case digits without leading zeros
+-- lower-case, without leading zeros
 unfoldable pub hexadecimal : ℕ → List ℕ
 hexadecimal n = codes "0x" ++ digits 16 false n
 
--- the text of a name's byte: the byte itself, or `\x` and two digits for the backslash and
--- non-printing bytes
+-- the byte, or `\x` and two digits for the backslash and non-printing bytes
 unfoldable pub printed_byte : ℕ → List ℕ
 printed_byte b =
     if is_printing b && not (b == 0x5c) then b ∷ []
@@ -26,11 +25,11 @@ tab = codes "\t"
 abbrev pub line_feed : List ℕ
 line_feed = codes "\n"
 
--- a text between tabs: no byte is below the blank, so the text has no tab and no line feed
+-- a text between tabs: no byte below the blank
 abbrev pub is_field : List ℕ → Bool
 is_field text = list_all (nat_le 32) text
 
--- a text appended to a buffer, with an upper bound of the added length
+-- appended, with an upper bound of the added length
 pub record Pushes (old : ArrayVec ℕ) (text : List ℕ) (most : ℕ) (new : ArrayVec ℕ) : Type 0 where
   pub items : new.items ≡ old.items ++ text
   pub len : array_vec_len new ≤ array_vec_len old + most

@@ -1,4 +1,4 @@
--- The replacement of neighbouring cells of a region.
+-- Replacement of neighbouring cells.
 use Rattle.std.specs.List.{concat}
 use Rattle.std.specs.Prelude.{◌≡◌, ℕ, ◌+◌, true, List, ◌++◌, length, take, drop, All}
 use Rattle.flash_format.specs.Head.{head_of, is_free}
@@ -7,7 +7,7 @@ use Rattle.flash_format.specs.Cut.{End, IsCut}
 abbrev pub AllFree : List (List ℕ) → Type 0
 AllFree cells = All (λ c. is_free (head_of c) ≡ true) cells
 
--- a group of neighbouring cells of a region, from start to end
+-- neighbouring cells from start to end
 pub record CellsBetween (x : List ℕ) (start end : ℕ) : Type 0 where
   pub before : List (List ℕ)
   pub group : List (List ℕ)
@@ -18,6 +18,6 @@ pub record CellsBetween (x : List ℕ) (start end : ℕ) : Type 0 where
   pub start_is : length (concat before) ≡ start
   pub end_is : start + length (concat group) ≡ end
 
--- the bytes from start to end replaced by others
+-- start to end replaced
 abbrev pub splice : List ℕ → ℕ → ℕ → List ℕ → List ℕ
 splice x start end new = take start x ++ (new ++ drop end x)

@@ -1,16 +1,16 @@
-//! Heads of component attributes.
+//! Attribute heads.
 
 ghost use Rattle.std.specs.Prelude.{◌≡◌};
 ghost use Rattle.flash_format.specs.Entry.{attr_head_of, is_unused, least_len, has_bad_len};
 
 use byteorder::{BigEndian, ByteOrder};
 
-/// The first eight bytes of an attribute (`struct cbfs_file_attribute`), big-endian.
+/// An attribute's first eight bytes (`struct cbfs_file_attribute`), big-endian.
 #[derive(Clone, Copy, Debug, PartialEq, Eq)]
 pub struct AttrHead {
-    /// The kind of attribute. 0 and 0xffffffff end the list.
+    /// The kind; 0 and 0xffffffff end the list.
     pub tag: u32,
-    /// The attribute's length in bytes, including the head.
+    /// The length in bytes, including the head.
     pub len: u32,
 }
 
@@ -37,8 +37,7 @@ impl AttrHead {
         self.tag == 0 || self.tag == 0xffff_ffff
     }
 
-    /// Returns true if the attribute is too short for its tag, or longer than the `left` bytes
-    /// before the content.
+    /// Returns true for a length below the tag's minimum or above `left`.
     pub fn has_bad_len(&self, left: u64) -> bool
         ensures { result ≡ has_bad_len self.now left }
     {

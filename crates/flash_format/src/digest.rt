@@ -4,7 +4,7 @@ ghost use Rattle.std.specs.Prelude.{◌≡◌, ◌≤◌, ◌*◌, length, take,
 ghost use Rattle.hex.specs.Hex.{encode_lower};
 ghost use Rattle.flash_format.specs.Made.{algorithm_row, algorithm_numbered, digest_with, algorithm, digest_bytes, digest_len};
 
-/// A digest algorithm of FIPS 180-4. `row` holds all its properties.
+/// A digest algorithm of FIPS 180-4.
 #[derive(Clone, Copy)]
 pub enum Algorithm {
     Sha256,
@@ -14,21 +14,21 @@ pub enum Algorithm {
 impl Algorithm {
     const ALL: [Algorithm; 2] = [Algorithm::Sha256, Algorithm::Sha512];
 
-    /// Returns the supported algorithm with a number of vboot's `enum vb2_hash_algorithm`.
+    /// Returns the algorithm with a number of vboot's `enum vb2_hash_algorithm`.
     pub fn numbered(number: u32) -> Option<Algorithm>
         ensures { result ≡ algorithm_numbered number }
     {
         Self::ALL.into_iter().find(|it| it.number() == number)
     }
 
-    /// Returns the number of vboot's `enum vb2_hash_algorithm`.
+    /// Returns vboot's number.
     pub fn number(self) -> u32
         ensures { result ≡ (algorithm_row self).number }
     {
         self.row().0
     }
 
-    /// Returns the length of a digest in bytes.
+    /// Returns the digest length in bytes.
     pub fn digest_len(self) -> usize
         ensures { result ≡ (algorithm_row self).len }
     {
@@ -43,7 +43,6 @@ impl Algorithm {
         self.row().2
     }
 
-    /// Returns the number, the digest length in bytes, and the name.
     fn row(self) -> (u32, usize, &'static str)
         ensures number { result.0 ≡ (algorithm_row self).number }
         ensures len { result.1 ≡ (algorithm_row self).len }
@@ -56,7 +55,7 @@ impl Algorithm {
     }
 }
 
-/// A digest of a component's content (FIPS 180-4).
+/// A content digest (FIPS 180-4).
 #[derive(Clone, Copy, Debug, PartialEq, Eq)]
 pub enum Digest {
     Sha256([u8; 32]),
@@ -92,7 +91,7 @@ impl Digest {
         }
     }
 
-    /// Returns the digest's bytes, in the order of FIPS 180-4.
+    /// Returns the bytes in FIPS 180-4's order.
     pub fn bytes(&self) -> &[u8]
         ensures value { result.now ≡ digest_bytes self.now }
         ensures len { length result.now ≡ digest_len self.now }
@@ -104,8 +103,7 @@ impl Digest {
     }
 }
 
-/// Writes the digest in lower-case hexadecimal to the front of `out`, and returns the number of
-/// digits.
+/// Writes lower-case digits to the front of `out`, and returns their number.
 pub fn digest_text(digest: &Digest, out: &mut [u8; 128]) -> usize
     ensures count { result ≡ 2 * digest_len digest.now }
     ensures text { take result out.new ≡ encode_lower (digest_bytes digest.now) }
@@ -113,7 +111,7 @@ pub fn digest_text(digest: &Digest, out: &mut [u8; 128]) -> usize
 {
     let bytes = digest.bytes();
     let end = 2 * bytes.len();
-    // The slice has the exact length, so encoding never fails.
+    // The slice has the exact length.
     let _fits = hex::encode_to_slice(bytes, &mut out[..end]);
     end
 }

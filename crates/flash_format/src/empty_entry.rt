@@ -1,14 +1,13 @@
-//! Empty entries, which describe free space.
+//! Empty entries: free space.
 
 ghost use Rattle.std.specs.Prelude.{◌≡◌, ◌≤◌};
 ghost use Rattle.flash_format.specs.Made.{empty_header};
 
 use crate::head::{HEADER_LENGTH, Head, NULL};
 
-/// Returns the header of an empty entry whose cell has `cell_len` bytes.
+/// Returns an empty entry's header for a cell of `cell_len` bytes.
 ///
-/// With `kept`, as at a region's end, the described space ends four bytes before the cell. The
-/// caller writes the bytes after the header.
+/// With `kept`, as at a region's end, the free space excludes the cell's last four bytes.
 #[tactic(auto, unfolding(crate::specs::Made::empty_header, crate::specs::Head::head_bytes))]
 pub fn empty_header(cell_len: u32, kept: bool) -> [u8; HEADER_LENGTH]
     requires { 64 ≤ cell_len }

@@ -1,4 +1,4 @@
-//! The head and the areas of a flash map (FMAP 1.1). All numbers are little-endian.
+//! Flash maps (FMAP 1.1), little-endian.
 
 ghost use Rattle.std.specs.Prelude.{◌≡◌, ◌≤◌, length, true, Some, None, if◌then◌else◌};
 ghost use Rattle.std.specs.List.{list_any, list_all, position};
@@ -7,28 +7,28 @@ ghost use Rattle.flash_format.specs.Flashmap.{fmap_head_of, fmap_head_bytes, has
 
 use byteorder::{ByteOrder, LittleEndian};
 
-/// The head of a flash map (`struct fmap`), without its signature.
+/// The head (`struct fmap`) without its signature.
 #[derive(Clone, Copy)]
 pub struct FmapHead {
-    /// The major version: 1 in every valid map.
+    /// 1 in every valid map.
     pub major: u8,
-    /// The minor version, which is ignored.
+    /// Ignored.
     pub minor: u8,
-    /// The address of the flash in the computer's memory.
+    /// The flash's address in memory.
     pub base: u64,
-    /// The size of the flash in bytes.
+    /// The flash size in bytes.
     pub size: u32,
-    /// The name of the flash, padded with NULs.
+    /// The flash's name, padded with NULs.
     pub name: [u8; 32],
-    /// The number of areas after the head.
+    /// The number of areas.
     pub nareas: u16,
 }
 
 impl FmapHead {
-    /// The first bytes of a map.
+    /// A map's first bytes.
     pub const SIGNATURE: [u8; 8] = *b"__FMAP__";
 
-    /// The length of the head in bytes, including the signature.
+    /// The length in bytes, including the signature.
     pub const LENGTH: usize = 56;
 
     /// Decodes a head, or returns `None` without the signature.
@@ -50,7 +50,7 @@ impl FmapHead {
         })
     }
 
-    /// Encodes the head as `struct fmap`.
+    /// Encodes the head.
     pub fn write(&self) -> [u8; Self::LENGTH]
         ensures bytes { result ≡ fmap_head_bytes self.now }
         ensures signature { has_signature result ≡ true }
@@ -83,14 +83,14 @@ impl FmapHead {
         text_of(&self.name)
     }
 
-    /// Returns the length in bytes of the map with all areas.
+    /// Returns the length in bytes with all areas.
     pub fn map_len(&self) -> u64
         ensures { result ≡ map_len self.now }
     {
         Self::LENGTH as u64 + Area::LENGTH as u64 * u64::from(self.nareas)
     }
 
-    /// Returns true if a map with the head is valid at `left` bytes before the image's end.
+    /// Returns true if the map is valid with `left` bytes up to the image's end.
     #[tactic(auto, unfolding(crate::specs::Flashmap::is_valid_head))]
     pub fn is_valid(&self, left: u64) -> bool
         ensures { result ≡ is_valid_head self.now left }
@@ -99,22 +99,21 @@ impl FmapHead {
     }
 }
 
-/// An area of a flash map (`struct fmap_area`).
+/// An area (`struct fmap_area`).
 #[derive(Clone, Copy)]
 pub struct Area {
-    /// The start in the image.
+    /// The offset in the image.
     pub offset: u32,
     /// The size in bytes.
     pub size: u32,
-    /// The name, padded with NULs.
+    /// Padded with NULs.
     pub name: [u8; 32],
-    /// The sum of 1 for static, 2 for compressed, 4 for read-only and 8 for preserve. The flags are
-    /// stored, but not interpreted.
+    /// 1 static, 2 compressed, 4 read-only, 8 preserve; not interpreted.
     pub flags: u16,
 }
 
 impl Area {
-    /// The length of an encoded area in bytes.
+    /// The encoded length in bytes.
     pub const LENGTH: usize = 42;
 
     /// Decodes an area.
@@ -130,7 +129,7 @@ impl Area {
         }
     }
 
-    /// Encodes the area as `struct fmap_area`.
+    /// Encodes the area.
     pub fn write(&self) -> [u8; Self::LENGTH]
         ensures bytes { result ≡ area_bytes self.now }
         ensures read_back { area_of result ≡ self.now }
@@ -149,7 +148,7 @@ impl Area {
         out
     }
 
-    /// Returns the name up to its first NUL, or all 32 bytes.
+    /// Returns the name without padding.
     pub fn text(&self) -> &[u8]
         ensures value { result.now ≡ text_of self.now.name }
         ensures short { length result.now ≤ 32 }
@@ -157,7 +156,7 @@ impl Area {
         text_of(self.name.as_slice())
     }
 
-    /// Returns true if the area has the given name.
+    /// Returns true if the area has the name.
     pub fn name_is(&self, name: &[u8]) -> bool
         ensures { result ≡ is_area name.now self.now }
     {

@@ -1,4 +1,4 @@
-//! The head of a CBFS entry, and the checks of a head alone.
+//! Heads of CBFS entries, and their checks.
 
 ghost use Rattle.std.specs.Prelude.{◌≡◌, Some};
 ghost use Rattle.flash_format.specs.Head.{head_at, head_bytes, is_free, attributes_misplaced, extent_of};
@@ -9,58 +9,57 @@ const MAGIC: [u8; 8] = *b"LARCHIVE";
 
 const DELETED: u32 = 0;
 
-/// The type of free space, as on an erased chip.
+/// The type of free space on an erased chip.
 pub const NULL: u32 = 0xffff_ffff;
 
-/// The unit of a name field's length. The field ends with at least one NUL.
+/// The unit of a name field's length.
 pub const NAME_PADDING: usize = 4;
 
-/// The length in bytes of an empty entry's header: the head and an empty name.
+/// An empty entry's header length.
 pub const HEADER_LENGTH: usize = Head::LENGTH + NAME_PADDING;
 
-/// The least end of a component's name field, with room for a NUL.
+/// The least end of a name field with a NUL.
 const LEAST_NAME_END: u32 = Head::LENGTH as u32 + 1;
 
-/// The first failed check of a damaged entry.
+/// The first failed check of an entry.
 #[derive(Clone, Copy, Debug, PartialEq, Eq)]
 pub enum DamageKind {
-    /// The content begins inside the head, or leaves no room for a component's name.
+    /// The content begins inside the head, or leaves no room for a name.
     Offset = 1,
-    /// The attributes begin inside the head or the name's first byte, or after the start of the
-    /// content.
+    /// The attributes begin inside the head or the name's first byte, or after the content's start.
     AttrOffset = 2,
     /// The content ends after the region's end.
     Extent = 3,
-    /// The name has no NUL within the first 256 bytes of its field.
+    /// The name field's first 256 bytes have no NUL.
     Name = 4,
-    /// An attribute is too short for its tag, or ends after the start of the content.
+    /// An attribute is too short for its tag, or ends after the content's start.
     AttrLength = 5,
 }
 
-/// The position of an entry's content after the checks of the head.
+/// An entry's content and cell.
 #[derive(Clone, Copy, Debug, PartialEq, Eq)]
 pub struct Extent {
-    /// The content's start, relative to the entry.
+    /// The content's offset in the entry.
     pub content: u64,
-    /// The length in bytes of the entry's cell, up to the next entry: a multiple of 64.
+    /// The cell's length in bytes: a multiple of 64.
     pub span: u64,
 }
 
-/// The numbers of an entry after its magic (`struct cbfs_file`), big-endian.
+/// An entry's numbers after the magic (`struct cbfs_file`), big-endian.
 #[derive(Clone, Copy, Debug, PartialEq, Eq)]
 pub struct Head {
-    /// The length of the content in bytes.
+    /// The content's length in bytes.
     pub len: u32,
-    /// The type. 0 and 0xffffffff are free space.
+    /// The type; 0 and 0xffffffff are free space.
     pub kind: u32,
-    /// The start of the attributes, relative to the entry. 0 means no attributes.
+    /// The attributes' offset in the entry; 0 without attributes.
     pub attributes_offset: u32,
-    /// The content's start, relative to the entry.
+    /// The content's offset in the entry.
     pub offset: u32,
 }
 
 impl Head {
-    /// The length of the head in bytes, including the magic.
+    /// The length in bytes, including the magic.
     pub const LENGTH: usize = 24;
 
     /// Decodes a head, or returns `None` without the magic.
@@ -79,7 +78,7 @@ impl Head {
         })
     }
 
-    /// Encodes the head as `struct cbfs_file`.
+    /// Encodes the head.
     #[tactic(auto, unfolding(crate::specs::Head::head_bytes))]
     pub fn write(&self) -> [u8; Self::LENGTH]
         ensures bytes { result ≡ head_bytes self.now }
@@ -107,8 +106,7 @@ impl Head {
         self.kind == DELETED || self.kind == NULL
     }
 
-    /// Returns the position of the content, or the first failed check of the head, with `left`
-    /// bytes from the entry to the region's end. Ignores the name and the attributes.
+    /// Returns the extent, or the head's first failed check, `left` bytes before the region's end.
     #[tactic(auto, unfolding(crate::specs::Head::extent_of))]
     pub fn check(&self, left: u64) -> Result<Extent, DamageKind>
         ensures { result ≡ extent_of self.now left }

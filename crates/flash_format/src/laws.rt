@@ -1,4 +1,4 @@
-//! Laws of the definitions. The functions have no code: their contracts are the laws.
+//! Laws of the definitions: contracts without code.
 
 ghost use Rattle.std.specs.Prelude.{◌≡◌, ℕ, ◌+◌, ◌%◌, ◌<◌, ◌≤◌, true, List, length, drop, Option, Some};
 ghost use Rattle.flash_format.specs.declared.digest.Digest.{Digest};
@@ -12,20 +12,20 @@ ghost use Rattle.flash_format.specs.Laws.{EntriesAreReadAlike, CutsGoOn, EmptyHe
 use crate::flashmap::{Area, FmapHead};
 use crate::head::HEADER_LENGTH;
 
-/// Proves that the code's lengths equal the definitions.
+/// Equates the code's lengths and the definitions.
 pub fn lengths_are_defined()
     ensures header { HEADER_LENGTH ≡ header_length }
     ensures map_head { FmapHead.LENGTH ≡ fmap_head_len }
     ensures area { Area.LENGTH ≡ area_len }
 {}
 
-/// Proves that a cell has a multiple of 64 bytes, fits in a region of such a size, and doesn't
-/// depend on later bytes. A free cell depends only on its first 24 bytes.
+/// Proves that a cell's length is valid, and that later bytes don't affect a cell. Only the head
+/// affects a free cell.
 pub fn entries_are_read_alike()
     ensures { EntriesAreReadAlike }
 {}
 
-/// Proves that a region is its cells and a remainder, in exactly one division.
+/// Proves that every region has a unique division into cells and a remainder.
 pub fn cuts_are_made_of_cells()
     ensures every { (x : List ℕ) → length x % 64 ≡ 0
         → (rest : List ℕ) × IsCut x (cut x).cells rest (cut x).end }
@@ -33,26 +33,23 @@ pub fn cuts_are_made_of_cells()
         → IsCut x cells rest e → cut x ≡ record { cells = cells; end = e } }
 {}
 
-/// Proves that the cells before a position and the cut from the position on form the whole cut, and
-/// likewise the components.
+/// Proves that a cut, or a list of components, can resume after any cell.
 pub fn cuts_go_on()
     ensures { CutsGoOn }
 {}
 
-/// Proves that an empty entry is one free cell, whatever bytes follow the header within its size.
+/// Proves that an empty entry is a free cell, whatever follows its header.
 pub fn empty_headers_are_free_cells()
     ensures { EmptyHeadersAreFreeCells }
 {}
 
-/// Proves that a replacement of neighbouring cells preserves all other components, the end and the
-/// remainder. An empty entry's header as the replacement adds no component.
+/// Proves that replaced cells change no other component, and that an empty entry adds no component.
 pub fn groups_are_replaced()
     ensures { (x : List ℕ) (start end : ℕ) (g : CellsBetween x start end)
         → GroupsAreReplaced x start end g }
 {}
 
-/// Proves that a written cell decodes to the given name, type, attributes and content. Only the
-/// bytes up to the content's end matter.
+/// Proves that a written cell decodes to its component, whatever follows.
 pub fn made_cells_are_read_as_made()
     ensures made { (name : List ℕ) (kind : ℕ) (digest : Option Digest) (gap : ℕ) (content : List ℕ)
         → MadeCellsAreReadAsMade name kind digest gap content }
@@ -60,23 +57,21 @@ pub fn made_cells_are_read_as_made()
         → (k < name_room k) × (name_room k % name_padding ≡ 0) × (name_room k ≤ k + name_padding) }
 {}
 
-/// Proves that a component's cell between free space, in place of free cells, adds exactly one
-/// component, and preserves all others, the end and the remainder.
+/// Proves that placing a component adds exactly one component, and changes no other.
 pub fn components_are_placed()
     ensures placed { ComponentsArePlaced }
     ensures empty_entries { (size : ℕ) (last : Option (List ℕ)) → 64 ≤ size → KeepsFour last
         → IsSpace size (empty_entry size last) }
 {}
 
-/// Proves that an image's map is exactly the lowest valid map.
+/// Proves that an image's map is the lowest valid map.
 pub fn maps_are_the_lowest()
     ensures lowest { (image : List ℕ) → IsMapOf image (map_of image) }
     ensures found { (image : List ℕ) (q : ℕ) → is_map (drop q image) ≡ true → NoMapBelow image q
         → map_of image ≡ Some q }
 {}
 
-/// Proves that an encoded map decodes to its head and areas, whatever bytes follow, if the fields
-/// fit their bytes, and version, name and number of areas are valid.
+/// Proves that a valid encoded map decodes to its head and areas, whatever follows.
 pub fn maps_are_read_back()
     ensures { MapsAreReadBack }
 {}
@@ -86,8 +81,7 @@ pub fn type_names_are_read_back()
     ensures { NamesAreReadBack }
 {}
 
-/// Proves that different names, and different numbers below 2^64, have different texts. A tab can
-/// end a text, because no byte of a text is below the blank.
+/// Proves that different names and numbers have different texts without tabs.
 pub fn printed_texts_are_read_back()
     ensures { PrintedTextsAreReadBack }
 {}

@@ -1,6 +1,6 @@
-//! Encoders and decoders of CBFS entries, flash maps, and printed types, names and numbers.
+//! Encoders and decoders of CBFS entries, flash maps, types, names and numbers, without allocation.
 //!
-//! No function allocates memory. `specs/` defines the formats; docs/FORMAT.md describes them.
+//! docs/FORMAT.md describes the formats.
 #![tactic(auto)]
 
 mod attribute;

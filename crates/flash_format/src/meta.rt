@@ -1,5 +1,4 @@
-//! The metadata of a component, before its content: the head, the name, the hash attribute and a
-//! gap.
+//! A component's metadata: the head, the name, the hash attribute and a gap.
 
 ghost use Rattle.std.specs.Prelude.{◌≡◌, ◌≤◌, ◌<◌, ◌+◌, ◌++◌, length, take, drop, replicate};
 ghost use Rattle.std.specs.Option.{option_copied};
@@ -13,26 +12,25 @@ use crate::digest::Digest;
 use crate::head::{Head, NAME_PADDING};
 use byteorder::{BigEndian, ByteOrder};
 
-/// The maximum length of metadata in bytes: a head, the field of a name with 127 bytes, a hash
-/// attribute with SHA-512, and a gap of 63 bytes.
+/// The maximum length in bytes: name 127, SHA-512, gap 63.
 pub const LONGEST_METADATA: usize = Head::LENGTH + 128 + 76 + 63;
 
-/// The properties of a component except its content.
+/// A component's properties except its content.
 #[derive(Clone, Copy)]
 pub struct Meta<'a> {
-    /// The name, without a NUL.
+    /// Without a NUL.
     pub name: &'a [u8],
-    /// The type, as in `type_number`. 0 and 0xffffffff would make free space.
+    /// The type; 0 and 0xffffffff would make free space.
     pub kind: u32,
-    /// The length of the content in bytes.
+    /// The content's length in bytes.
     pub len: u32,
-    /// The number of unused 0xff bytes between metadata and content.
+    /// The number of 0xff bytes before the content.
     pub gap: u32,
-    /// The digest in the hash attribute. Without a digest, the component has no hash attribute.
+    /// The hash attribute's digest.
     pub digest: Option<&'a Digest>,
 }
 
-/// Returns the length in bytes of the hash attribute: 0 without a digest.
+/// Returns the hash attribute's length in bytes, or 0.
 #[tactic(auto, unfolding(crate::specs::Made::hash_attribute))]
 pub fn attr_len(digest: Option<&Digest>) -> usize
     ensures len { result ≡ hash_len (option_copied digest.entry) }
@@ -46,8 +44,7 @@ pub fn attr_len(digest: Option<&Digest>) -> usize
     }
 }
 
-/// Returns the length in bytes of a component's metadata without the gap. `attr_len` is 0 without a
-/// digest, 44 with SHA-256, and 76 with SHA-512.
+/// Returns the length in bytes without the gap. `attr_len` is 0, 44 (SHA-256) or 76 (SHA-512).
 pub fn meta_len(name_len: usize, attr_len: usize) -> usize
     requires name { name_len ≤ 127 }
     requires attribute { attr_len ≤ 76 }
@@ -56,8 +53,7 @@ pub fn meta_len(name_len: usize, attr_len: usize) -> usize
     Head::LENGTH + name_room(name_len) + attr_len
 }
 
-/// Writes a component's metadata to the front of `out`, and returns its length in bytes:
-/// `struct cbfs_file`, the name, `struct cbfs_file_attr_hash` if a digest is given, and the gap.
+/// Writes the metadata to the front of `out`, and returns its length in bytes.
 pub fn write_meta(meta: &Meta<'_>, out: &mut [u8]) -> usize
     requires name { length meta.now.name.now ≤ 127 }
     requires gap { meta.now.gap < 64 }
@@ -67,7 +63,7 @@ pub fn write_meta(meta: &Meta<'_>, out: &mut [u8]) -> usize
     ensures written { take result out.new ≡ metadata_of meta.now }
     ensures after { drop result out.new ≡ drop result out.old }
 
-    // `made_cells_are_read_as_made` requires a digest of its algorithm's length.
+    // Required by `made_cells_are_read_as_made`.
     ensures digest { IsDigest (option_copied meta.now.digest) }
 {
     let head = head_of(meta);
@@ -98,7 +94,7 @@ fn head_of(meta: &Meta<'_>) -> Head
     }
 }
 
-/// Returns the length in bytes of a name field: the name and one to four NULs.
+/// Counts the name and one to four NULs, in bytes.
 fn name_room(name_len: usize) -> usize
     requires { name_len ≤ 127 }
     ensures { result ≡ name_room name_len }
@@ -106,7 +102,6 @@ fn name_room(name_len: usize) -> usize
     (name_len / NAME_PADDING + 1) * NAME_PADDING
 }
 
-/// Returns the end of the written bytes.
 fn put(out: &mut [u8], at: usize, bytes: &[u8]) -> usize
     requires { at + length bytes.now ≤ length out.old }
     ensures end { result ≡ at + length bytes.now }
@@ -117,7 +112,6 @@ fn put(out: &mut [u8], at: usize, bytes: &[u8]) -> usize
     end
 }
 
-/// Returns the end of the written bytes.
 fn fill(out: &mut [u8], at: usize, count: usize, byte: u8) -> usize
     requires { at + count ≤ length out.old }
     ensures end { result ≡ at + count }

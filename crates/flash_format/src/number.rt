@@ -3,10 +3,10 @@
 ghost use Rattle.std.specs.Prelude.{◌≡◌, ◌≤◌, ◌^◌, ℕ, Option, min, option_map, option_and_then};
 ghost use Rattle.flash_format.specs.Numbers as spec;
 
-/// The upper limit of parsed values.
+/// The limit of parsed values.
 const LIMIT: u64 = 1 << 32;
 
-/// Parses a number below 2^32: decimal digits, or `0x` and hexadecimal digits of either case.
+/// Parses a number below 2^32: decimal, or `0x` and hexadecimal digits of either case.
 #[tactic(auto, unfolding(crate::specs::Numbers::number_of))]
 pub fn read_number(text: &str) -> Option<u32>
     ensures { result ≡ spec.number_of text.now }
@@ -24,8 +24,7 @@ fn number_value(bytes: &[u8]) -> Option<u64>
     }
 }
 
-/// Returns the value of digits in a base, limited to 2^32. Returns `None` without a digit, or if a
-/// byte isn't a digit of the base.
+/// Returns the value, at most 2^32, or `None` without digits or with another byte.
 pub fn digits_value(base: u64, digits: &[u8]) -> Option<u64>
     requires low { 1 ≤ base }
     requires high { base ≤ 16 }
@@ -45,7 +44,7 @@ pub fn digits_value(base: u64, digits: &[u8]) -> Option<u64>
     Some(value)
 }
 
-/// Returns the value of a digit, and 16 for any other byte.
+/// Returns 16 for any byte except a digit.
 fn digit_value(byte: u8) -> u64
     ensures { result ≡ spec.digit_value byte }
 {
@@ -57,7 +56,7 @@ fn digit_value(byte: u8) -> u64
     }
 }
 
-/// Returns the value below `LIMIT`, the greatest argument.
+/// Refuses `LIMIT`, the value of every larger number.
 fn in_32_bits(value: Option<u64>) -> Option<u32>
     ensures { (exact : Option ℕ) → value ≡ option_map (min (2 ^ 32)) exact
         → result ≡ option_and_then spec.in_32_bits exact }

@@ -1,4 +1,4 @@
-//! Names as printed.
+//! Printed names.
 
 ghost use Rattle.std.specs.Prelude.{◌≡◌, ◌+◌, ◌*◌, ◌≤◌, length};
 ghost use Rattle.arrayvec.specs.ArrayVec.{array_vec_len};
@@ -8,7 +8,6 @@ use crate::buffer::push_text;
 use crate::printed_number::digit;
 use arrayvec::ArrayVec;
 
-/// Appends a byte of a name.
 #[inline]
 #[tactic(auto, unfolding(crate::specs::Printed::printed_byte))]
 fn push_byte<const N: usize>(buffer: &mut ArrayVec<u8, N>, byte: u8)
@@ -22,8 +21,7 @@ fn push_byte<const N: usize>(buffer: &mut ArrayVec<u8, N>, byte: u8)
     }
 }
 
-/// Returns the text of a name's byte: the byte itself, or `\x` and two digits for the backslash and
-/// non-printing bytes.
+/// Returns the byte, or `\x` and two digits for the backslash and non-printing bytes.
 pub fn printed_byte(byte: u8) -> ArrayVec<u8, 4>
     ensures { result.items ≡ printed_byte byte }
 {
@@ -32,7 +30,7 @@ pub fn printed_byte(byte: u8) -> ArrayVec<u8, 4>
     text
 }
 
-/// Appends a name, each byte as in `printed_byte`.
+/// Appends a name by `printed_byte`.
 pub fn push_name<const N: usize>(buffer: &mut ArrayVec<u8, N>, name: &[u8])
     requires { array_vec_len buffer.old + 4 * length name.now ≤ N }
     ensures { Pushes buffer.old (printed_name name.now) (4 * length name.now) buffer.new }

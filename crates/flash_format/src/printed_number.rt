@@ -1,4 +1,4 @@
-//! Hexadecimal numbers as printed.
+//! Printed hexadecimal numbers.
 
 ghost use Rattle.std.specs.Prelude.{◌≡◌, ◌+◌, ◌<◌, ◌≤◌, false, drop};
 ghost use Rattle.std.specs.Fmt.{digit_glyph, digits};
@@ -19,7 +19,7 @@ pub fn digit(value: u8) -> u8
     }
 }
 
-/// Writes the hexadecimal digits of a number at the end of the text, and returns their start.
+/// Writes the digits at the text's end, and returns their start.
 fn write_digits(n: u64, text: &mut [u8; 16]) -> usize
     ensures start { result < 16 }
     ensures digits { drop result text.new ≡ digits 16 false n }
@@ -35,7 +35,7 @@ fn write_digits(n: u64, text: &mut [u8; 16]) -> usize
     at
 }
 
-/// Appends `0x` and the number's lower-case hexadecimal digits, without leading zeros.
+/// Appends `0x` and lower-case digits without leading zeros.
 #[tactic(auto, unfolding(crate::specs::Printed::hexadecimal))]
 pub fn push_hexadecimal<const N: usize>(buffer: &mut ArrayVec<u8, N>, n: u64)
     requires { array_vec_len buffer.old + 18 ≤ N }

@@ -1,4 +1,4 @@
--- Bytes that are moved some at a time.
+-- Partial transfers.
 use Rattle.std.proofs.Common.{◌≡◌, ◌⊎◌, ◌∙◌, sym, ap, subst, take-add, IsTrue, Bool, ℕ, ◌+◌, ◌-◌, ◌≤◌, List, length, take, drop, arith, ◌++◌, length-append, length-take, length-drop, replicate, refl, inl, inr}
 use Rattle.std.proofs.lemmas.List.{length-take-le, take_rest, drop-drop, length-replicate, take-replicate, replicate-append-replicate, drop-replicate, take-take, drop-take, take-append-le}
 use Rattle.std.proofs.lemmas.Slice.{take-put_mid}
@@ -10,22 +10,20 @@ use Rattle.flash_store.specs.Storing.{Stored, SameFile, SameBytes, HasRoom, HasR
 use Rattle.std.specs.Prelude.{slice_range, Result, Ok, Err}
 use Rattle.flash_device.proofs.BytesLemmas.{nearer, further, slice_range_is, part_of_window, overwritten_is, length-overwritten, overwritten-range, overwritten-same, SameOutside-overwritten}
 
--- a file is as faithful as it was
 pub faithful_still : {old new : Bool} → new ≡ old → IsTrue old → IsTrue new
 faithful_still same h = subst IsTrue (sym same) h
 
--- calls after calls
 pub SameFile-trans : {a b c : Stored} → SameFile a b → SameFile b c → SameFile a c
 SameFile-trans first second = record {
   same_faith = second.same_faith ∙ first.same_faith;
   same_length = second.same_length ∙ first.same_length;
 }
 
--- what is left of the bytes
+-- the length of the remaining bytes
 pub length-rest : (bytes : List ℕ) (done : ℕ) → length (take (length bytes - done) (drop done bytes)) ≡ length bytes - done
 length-rest bytes done = ap length (take_rest bytes done) ∙ length-drop done bytes
 
--- a list whose end was replaced
+-- a list with a replaced end
 pub length-ended : (out tail : List ℕ) (done : ℕ) → done ≤ length out → length tail ≡ length out - done → length (put_mid done (length out - done) out tail) ≡ length out
 length-ended out tail done within size = grind (arith, length-append, length-take, length-drop)
 
@@ -34,7 +32,7 @@ ended out tail done within size =
     sym (take-length (put_mid done (length out - done) out tail))
     ∙ take-put_mid done (length out - done) out tail (length (put_mid done (length out - done) out tail)) (length-ended out tail done within size ∙ omega (arith, within, size)) within
 
--- behind a part of them, some more are read
+-- one more partial read
 pub Read-more : (out tail x : List ℕ) (at done n : ℕ) → done ≤ length out → length tail ≡ length out - done
     → take done out ≡ take done (drop at x) → take n tail ≡ take n (drop (at + done) x)
     → take (done + n) (put_mid done (length out - done) out tail) ≡ take (done + n) (drop at x)
@@ -46,14 +44,13 @@ Read-more out tail x at done n within size had now =
     ∙ ap (λ rest. take done (drop at x) ++ rest) (now ∙ ap (take n) (sym (drop-drop done at x)))
     ∙ sym (take-add done n (drop at x))
 
--- reads after reads
 pub SameBytes-trans : {a b c : Stored} → SameBytes a b → SameBytes b c → SameBytes a c
 SameBytes-trans first second = record {
   same = SameFile-trans first.same second.same;
   unchanged = λ h. second.unchanged (faithful_still first.same.same_faith h) ∙ first.unchanged h;
 }
 
--- 0xff behind 0xff
+-- 0xff after 0xff
 pub Erased-more : (mid new : List ℕ) (at n m : ℕ) → n ≤ m → at + n ≤ length mid → take at mid ≡ replicate at 255
     → new ≡ overwritten mid at (take n (replicate m 255)) → take (at + n) new ≡ replicate (at + n) 255
 Erased-more mid new at n m short inside so_far now =
@@ -66,9 +63,8 @@ Erased-more mid new at n m short inside so_far now =
     ∙ ap (λ front. front ++ xs) so_far
     ∙ replicate-append-replicate at n 255
 
--- ---- erased stretches
+-- ---- erased ranges
 
--- a part of one
 pub IsErased-part : (x : List ℕ) (from to at n : ℕ) → from ≤ at → at + n ≤ to → IsErased from to x → slice_range x at (at + n) ≡ replicate n 255
 IsErased-part x from to at n low high all =
     let m : ℕ = to - from in
@@ -76,13 +72,12 @@ IsErased-part x from to at n low high all =
     sym (part_of_window (replicate m 255) x from m at n same low (omega (arith, low, high)))
     ∙ slice_range_is (replicate m 255) (at - from) n ∙ ap (take n) (drop-replicate (at - from) m 255) ∙ take-replicate n (m - (at - from)) 255 (omega (arith, low, high))
 
--- the same as a stretch
 pub IsErased-inside : (x : List ℕ) (from to a b : ℕ) → from ≤ a → a ≤ b → b ≤ to → IsErased from to x → IsErased a b x
 IsErased-inside x from to a b low order high all =
     let whole : a + (b - a) ≡ b = omega (arith, order) in
     subst (λ k. slice_range x a k ≡ replicate (b - a) 255) whole (IsErased-part x from to a (b - a) low (omega (arith, order, high)) all)
 
--- one that a change doesn't touch
+-- a range outside a change
 pub IsErased-apart : (x y : List ℕ) (at n from to : ℕ) → from ≤ to → (from ≡ to) ⊎ (to ≤ at) ⊎ (at + n ≤ from) → SameOutside at n x y → IsErased from to x → IsErased from to y
 IsErased-apart x y at n from to order (inl none) same all = let zero : to - from ≡ 0 = omega (arith, none) in rw zero refl
 IsErased-apart x y at n from to order (inr (inl before)) same all =
@@ -94,7 +89,7 @@ IsErased-apart x y at n from to order (inr (inl before)) same all =
 IsErased-apart x y at n from to order (inr (inr behind)) same all =
     ap (take (to - from)) (further x y (at + n) from behind same.after) ∙ all
 
--- a part of what was read ahead
+-- a part of the window
 pub Held-part : (window x : List ℕ) (from held at n : ℕ) → from ≤ at → at - from ≤ held → n ≤ held - (at - from) → take held window ≡ take held (drop from x)
     → take n (take (held - (at - from)) (drop (at - from) window)) ≡ take n (drop at x)
 Held-part window x from held at n before within short had =
@@ -113,7 +108,7 @@ front_read at n old new (Ok k) part rest room r = record {
 }
 front_read at n old new (Err fault) part rest room r = record { after = r.after; short = r.short; read = r.read }
 
--- bytes that are there already are there if only some of them are written
+-- a partial write of present bytes
 pub same-first : (x : List ℕ) (at k : ℕ) (bytes : List ℕ) → at + length bytes ≤ length x → k ≤ length bytes
     → overwritten x at bytes ≡ x → overwritten x at (take k bytes) ≡ x
 same-first x at k bytes inside short same =
@@ -123,19 +118,19 @@ same-first x at k bytes inside short same =
     ap (take k) (sym there ∙ slice_range_is x at n) ∙ take-take k n (drop at x) short ∙ sym (slice_range_is x at k) in
     ap (overwritten x at) first ∙ overwritten-same x at k (omega (arith, inside, short))
 
--- what contracts see of a file whose parts are alike
+-- the contract state of an equal file
 pub stored_alike : {x y : List ℕ} {faith : Bool} {a b m n : ℕ} → x ≡ y → a ≡ b → m ≡ n →
     ◌≡◌ {A = Stored} (record { content = x; faithful = faith; written_at = a; written_len = m })
     (record { content = y; faithful = faith; written_at = b; written_len = n })
 stored_alike same place count = rw (same, place, count) refl
 
--- bytes that were read are there
+-- bytes after a read are present
 pub there-again : (old mid out : List ℕ) (at n : ℕ) → at + n ≤ length old → out ≡ slice_range old at (at + n) → mid ≡ old
     → overwritten mid at out ≡ mid
 there-again old mid out at n inside read same =
     ap (λ x. overwritten x at out) same ∙ ap (overwritten old at) read ∙ overwritten-same old at n inside ∙ sym same
 
--- what a write of the first k bytes leaves of a faithful file, behind a call that left them as they were
+-- a partial write to a faithful file, after a call without effect
 pub written_some : {E : Type 0} (old new : Stored) (mid : List ℕ) (at : ℕ) (bytes : List ℕ) (k : ℕ)
     → at + length bytes ≤ length old.content → k ≤ length bytes
     → (length bytes ≤ header_length → HasRoom at (length bytes) old → k ≡ length bytes)

@@ -4,7 +4,7 @@ use Rattle.std.specs.declared.io.ErrorKind.TheVariants.{OutOfMemory}
 use Rattle.flash_store.specs.declared.open_fault.OpenFault.{OpenFault}
 use Rattle.flash_store.specs.declared.open_fault.OpenFault.TheVariants.{Failed, Memory}
 
--- the error of a failed opening, by the system's error kind
+-- by the system's error kind
 abbrev pub open_fault_of : ErrorKind → OpenFault
 open_fault_of OutOfMemory = Memory
 open_fault_of kind = Failed kind

@@ -1,42 +1,39 @@
--- Files at the level of single system calls.
+-- Files, by single system calls.
 use Rattle.std.specs.Prelude.{◌≡◌, ◌⊎◌, ℕ, ◌-◌, ◌≤◌, Bool, true, List, length, take, drop, replicate, Result, IsTrue, IfOk, OnOk, ⊤, slice_range}
 use Rattle.flash_format.specs.Made.{header_length}
 use Rattle.flash_device.specs.Device.{overwritten, SameOutside, Device}
 
--- The contract state of a file: its content, its faithfulness, and the range of the last complete
--- write of at most a header's length.
+-- A file, and the range of the last complete write of at most a header's length.
 pub record Stored : Type 0 where
   pub content : List ℕ
   pub faithful : Bool
   pub written_at : ℕ
   pub written_len : ℕ
 
--- n bytes from `at` on have reserved space: the last write of the range was complete, so no limit,
--- full disk or hole refuses a part of the next write of the range.
+-- Reserved space: the last write was complete, so no limit, full disk or hole refuses the next.
 pub record HasRoom (at n : ℕ) (file : Stored) : Type 0 where
   pub place : file.written_at ≡ at
   pub count : file.written_len ≡ n
 
--- the effect of any call
+-- any call
 pub record SameFile (old new : Stored) : Type 0 where
   pub same_faith : new.faithful ≡ old.faithful
   pub same_length : length new.content ≡ length old.content
 
--- the effect of any read
+-- any read
 pub record SameBytes (old new : Stored) : Type 0 where
   pub same : SameFile old new
   pub unchanged : IsTrue old.faithful → new ≡ old
 
--- the effect of a read of n bytes from `at` on, with a count as its result
+-- a read of n bytes from `at` on, with a count as result
 pub record HasReadSome {E : Type 0} (at n : ℕ) (old new : Stored) (result : Result ℕ E)
     (out : List ℕ) : Type 0 where
   pub after : SameBytes old new
   pub short : IfOk result (λ k. k ≤ n)
   pub read : IsTrue old.faithful → IfOk result (λ k. take k out ≡ take k (drop at old.content))
 
--- The effect of a write, with a count as its result. A faithful file is unchanged outside the
--- range, and unchanged everywhere if the bytes are already present; a write of at most a header's
--- length is atomic in reserved space.
+-- A write, with a count as result. A faithful file is unchanged outside the range, and everywhere
+-- if the bytes are present; a header's write is atomic in reserved space.
 pub record HasWrittenSome {E : Type 0} (at : ℕ) (bytes : List ℕ) (old new : Stored)
     (result : Result ℕ E) : Type 0 where
   pub after : SameFile old new
@@ -52,7 +49,7 @@ pub record HasWrittenSome {E : Type 0} (at : ℕ) (bytes : List ℕ) (old new : 
   pub room : IsTrue old.faithful → length bytes ≤ header_length
       → IfOk result (λ k. k ≡ length bytes → HasRoom at (length bytes) new)
 
--- The effect of a write in one call, which fails if short.
+-- A write in one call, which fails if short.
 pub record HasWrittenOnce {E : Type 0} (at : ℕ) (bytes : List ℕ) (old new : Stored)
     (result : Result ⊤ E) : Type 0 where
   pub after : SameFile old new
@@ -63,14 +60,13 @@ pub record HasWrittenOnce {E : Type 0} (at : ℕ) (bytes : List ℕ) (old new : 
       → (new.content ≡ old.content) ⊎ (new.content ≡ overwritten old.content at bytes)
   pub room : IsTrue old.faithful → OnOk result (HasRoom at (length bytes) new)
 
--- the contract state of a device or a source over a file
+-- a device or a source over a file
 abbrev pub stored_device : Stored → ℕ → ℕ → Device
 stored_device file calls faults =
     record { content = file.content; calls = calls; faults = faults; honest = file.faithful }
 
--- The contract state of the test file: its content, the maximum length of a transfer, the number of
--- calls between two interruptions and before the next, the remaining number of calls before
--- failure, and the range of the last write.
+-- The test file: content, maximum transfer, calls between interruptions and before the next, calls
+-- before failure, last write's range.
 pub record Flaky : Type 0 where
   pub content : List ℕ
   pub most : ℕ
@@ -80,7 +76,7 @@ pub record Flaky : Type 0 where
   pub written_at : ℕ
   pub written_len : ℕ
 
--- the contract state as a faithful file
+-- as a faithful file
 abbrev pub stored : Flaky → Stored
 stored file = record {
   content = file.content;

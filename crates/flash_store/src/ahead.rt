@@ -6,15 +6,14 @@ use crate::storage::{Storage, StorageFault};
 use crate::transfer::read_front;
 use std::marker::Model;
 
-/// The size of the window in bytes.
+/// The window size in bytes.
 const AHEAD: usize = 16384;
 
-/// The maximum distance of a sequential read from the end of the last read: before the end, because
-/// bytes across the end are read again; after the end, because readers skip contents.
+/// The maximum distance from the last read's end: back for bytes across the end, ahead for skipped
+/// contents.
 const NEAR: u64 = 4096;
 
-/// A file with a window for sequential reads. A read near the end of the last read fills the
-/// window; any other read outside the window requests only its own bytes.
+/// A file with a window for sequential reads; other reads request only their own bytes.
 #[derive(Drop)]
 pub struct Ahead<S: Storage> {
     storage: S,

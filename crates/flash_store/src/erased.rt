@@ -8,20 +8,22 @@ use flash_device::PIECE;
 use flash_format::HEADER_LENGTH;
 use std::marker::Model;
 
-/// The number of bytes in a write to a new file.
+/// The length of a write to a new file.
 const MANY: usize = 65536;
 
-/// The maximum number of bytes in a look: a read before a write of 0xff.
+/// The maximum length of a look: a read before a write of 0xff.
 const LOOK: usize = 16384;
 
-/// The number of writes without a look, after a look with any byte except 0xff.
+/// The number of writes without a look, after an unsuccessful look.
 const UNSEEN: u32 = 15;
 
 const ERASED: [u8; MANY] = [0xff; MANY];
 
-/// A file with a known range of 0xff. A write of 0xff inside the range, longer than a header, needs
-/// no call. Before another long write of 0xff, the file is read there, except after an unsuccessful
-/// look. A shorter write is always performed: it may reserve a header's space in each block.
+/// A file with a known range of 0xff.
+///
+/// A write of 0xff in the range needs no call; elsewhere, a look precedes the write, except after
+/// an unsuccessful look. A write of at most a header's length is always performed, to reserve
+/// space.
 #[derive(Drop)]
 pub struct Erased<S: Storage> {
     storage: S,
@@ -90,9 +92,8 @@ impl<S: Storage> Erased<S> {
         &self.storage
     }
 
-    /// Returns true if a look finds 0xff in the range of a write of 0xff, and makes the look the
-    /// known range. Successful looks become longer; after an unsuccessful look, the next writes
-    /// have no look.
+    /// Returns true after a look with only 0xff, which becomes the known range. Successful looks
+    /// become longer; after an unsuccessful look, the next writes have no look.
     fn looks_erased(&mut self, at: u64, bytes: &[u8]) -> bool
         requires { at + length bytes.now ≤ length self.old.content }
 
@@ -133,8 +134,7 @@ impl<S: Storage> Erased<S> {
     }
 }
 
-/// Returns the end of the known 0xff bytes from `at` on: the whole result of a read of up to `look`
-/// bytes, or nothing.
+/// Reads up to `look` bytes, and returns their end if all are 0xff.
 fn erased_up_to<S: Storage>(storage: &mut S, at: u64, look: usize) -> u64
     requires { at ≤ length (S.facts storage.old).content }
 
@@ -160,7 +160,7 @@ fn is_erased(bytes: &[u8]) -> bool
     bytes == &ERASED[..bytes.len()]
 }
 
-/// Returns the longer part of a range outside a removed range.
+/// Returns the longer part outside a removed range.
 fn longer_rest(from: u64, to: u64, at: u64, end: u64) -> (u64, u64)
     requires stretch { from ≤ to }
     requires range { at ≤ end }

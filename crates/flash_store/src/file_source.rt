@@ -7,12 +7,12 @@ use crate::stored_source::StoredSource;
 use std::fs::File;
 use std::rt::Files;
 
-/// A source in a file open for reading. Its honesty is an assumption, as for a device in a file.
+/// A source in a file open for reading, assumed to be honest.
 pub type FileSource = StoredSource<OsFile>;
 
 impl StoredSource<OsFile> {
-    /// Opens a regular file for reading. Errors: `Failed` for a missing or unreadable file, and for
-    /// a pipe, a device or a directory, whose length is unknown; `TooLarge` from 2^32 bytes on.
+    /// Opens a regular file for reading. Errors: `Failed` for a missing, unreadable or other file;
+    /// `TooLarge` from 2^32 bytes on.
     pub fn open<R: Files<File = File>>(rt: &R, path: &str) -> Result<FileSource, OpenFault>
         ensures { IfOk result (λ source. (source.calls ≡ 0) × (source.faults ≡ 0)) }
     {

@@ -1,4 +1,4 @@
-//! A test file in memory with short, interrupted and failed calls.
+//! A test file with short, interrupted and failed calls.
 ghost use Rattle.std.specs.Prelude.{◌≡◌, ◌+◌, ◌-◌, ◌^◌, ◌<◌, ◌≤◌, Err, length, true, IsOk};
 ghost use Rattle.flash_device.specs.Device.{overwritten};
 ghost use Rattle.flash_store.specs.Storing.{HasRoom, stored};
@@ -9,10 +9,8 @@ use std::marker::Model;
 
 const BLOCK: u64 = 4096;
 
-/// A faithful file over owned bytes, fewer than 2^32. A call moves at most `most` bytes. Exception:
-/// a write of at most a header's length is complete if the range lies in a block, or is the range
-/// of the last write. After every `between` calls, a call is interrupted; after `left` calls, every
-/// call fails.
+/// A faithful test file. A call moves at most `most` bytes, except a header's write in one block or
+/// in the last write's range. Calls are interrupted after every `between`, and fail after `left`.
 #[derive(Drop)]
 pub struct FlakyFile {
     bytes: Vec<u8>,
@@ -44,7 +42,7 @@ impl Model for FlakyFile {
 }
 
 impl FlakyFile {
-    /// Makes a file. If `between` is 0, every call is interrupted.
+    /// Makes a file of fewer than 2^32 bytes. 0 for `between` interrupts every call.
     pub fn new(bytes: Vec<u8>, most: usize, between: u64, left: u64) -> FlakyFile
         requires { length bytes.items < 2 ^ 32 }
         ensures { result ≡ record {
@@ -68,7 +66,7 @@ impl FlakyFile {
         }
     }
 
-    /// Returns the present content.
+    /// Returns the content.
     pub fn bytes(&self) -> &[u8]
         ensures { result.now ≡ self.now.content }
     {

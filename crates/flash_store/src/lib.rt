@@ -1,4 +1,4 @@
-//! Devices and sources in files, proved over single file calls, and all names of flash_device.
+//! Devices and sources in files, and all names of flash_device.
 #![tactic(auto)]
 
 mod ahead;

@@ -4,15 +4,14 @@ ghost use Rattle.std.specs.Prelude.{◌≡◌, ◌^◌, ◌<◌, ◌≤◌};
 use crate::storage::StorageFault;
 use std::io::{self, ErrorKind};
 
-/// The reason for a file not opened as a device or a source, before any read or write.
+/// The reason for a file not opened.
 #[derive(Clone, Copy, Debug, PartialEq, Eq, Drop)]
 pub enum OpenFault {
-    /// The file is missing, or not usable in the requested way. The value is the kind of the
-    /// system's error.
+    /// A missing or unusable file, by the system's error kind.
     Failed(ErrorKind),
-    /// The file has 2^32 bytes or more.
+    /// 2^32 bytes or more.
     TooLarge,
-    /// An allocation failed.
+    /// An allocation failure.
     Memory,
 }
 
@@ -41,7 +40,7 @@ impl From<StorageFault> for OpenFault {
     }
 }
 
-/// Returns the length if below 2^32, or `TooLarge`.
+/// Returns a length below 2^32, or `TooLarge`.
 pub fn checked_length(length: u64) -> Result<u32, OpenFault>
     ensures below { length < 2 ^ 32 → result ≡ Ok length }
     ensures too_large { 2 ^ 32 ≤ length → result ≡ Err OpenFault.TooLarge }

@@ -1,5 +1,4 @@
-//! System files: each call of the trait is one system call. The faithfulness of a file is an
-//! assumption; no contract states or denies it.
+//! System files, by single system calls.
 ghost use Rattle.std.specs.Prelude.{◌≡◌, ◌≢◌, Ok, Err, IfOk, IfErr, length};
 ghost use Rattle.std.specs.IoError.{error_kind};
 
@@ -13,10 +12,7 @@ use std::os::unix::fs::{FileExt, FileTypeExt, MetadataExt};
 use std::rt::Files;
 use std::snapshot::Snapshot;
 
-/// A system file with a fixed length.
-///
-/// The length is the length on opening. Later additions are invisible, and a read of truncated
-/// bytes returns no bytes.
+/// A system file with its length on opening. Truncated bytes read as no bytes.
 #[derive(Drop)]
 pub struct OsFile {
     file: File,
@@ -30,8 +26,9 @@ impl Model for OsFile {
 
     ghost Value = { Stored };
 
-    // No clause relates a system file to a list of bytes, so the contract state says nothing about
-    // content.
+    // No clause of the kit relates a system file to a list of bytes. So the contract state has zeros
+    // as content, and the file is unfaithful, which no contract tells a caller: clauses about
+    // faithful files hold for it by the assumption that a call does what it returns.
     ghost view = { λ f. record {
       content = replicate f.len 0;
       faithful = f.faithful.value;
@@ -42,17 +39,17 @@ impl Model for OsFile {
     ghost invariant = { λ f. f.faithful.value ≡ false };
 }
 
-/// The lock of an open file: shared for commands which only read, or exclusive.
+/// The lock of an open file.
 #[derive(Clone, Copy, Debug, PartialEq, Eq, Drop)]
 pub enum Lock {
-    /// Other shared locks are possible.
+    /// For commands which only read.
     Shared,
-    /// No other lock is possible.
+    /// Excludes all other locks.
     Exclusive,
 }
 
 impl Lock {
-    /// Waits for a lock. On a file system without locks, no lock is taken.
+    /// Waits for the lock, if the file system has locks.
     fn take(self, file: &File) -> io::Result<()> {
         let answer = match self {
             Lock::Shared => file.lock_shared(),
@@ -66,7 +63,7 @@ impl Lock {
 }
 
 impl OsFile {
-    /// Opens a file for reading and writing, and waits for its lock.
+    /// Opens a file for reading and writing with a lock.
     pub fn open<R: Files<File = File>>(
         rt: &R,
         path: &str,
@@ -75,7 +72,7 @@ impl OsFile {
         open_locked(rt, Access::Change, path, lock)?.with_all()
     }
 
-    /// Creates a file for `size` bytes, or truncates an existing file after waiting for its lock.
+    /// Creates or truncates a file for `size` bytes, after waiting for the lock.
     pub fn create<R: Files<File = File>>(rt: &R, path: &str, size: u32) -> Result<OsFile, OpenFault>
         ensures { IfOk result (λ file. length file.content ≡ size) }
     {
@@ -88,13 +85,12 @@ impl OsFile {
         Ok(Self::with_length(opened.file, size))
     }
 
-    /// Opens a file for reading, and waits for a shared lock. A pipe or a directory is an error.
+    /// Opens a file for reading with a shared lock. Refuses a pipe or a directory.
     pub fn open_shared<R: Files<File = File>>(rt: &R, path: &str) -> Result<OsFile, OpenFault> {
         open_locked(rt, Access::Read, path, Lock::Shared)?.with_all()
     }
 
-    /// Opens a regular file for reading. Any other file is an error, because opening a pipe would
-    /// wait for a writer.
+    /// Opens a regular file for reading. Refuses others: a pipe would wait for a writer.
     pub fn open_to_read<R: Files<File = File>>(rt: &R, path: &str) -> Result<OsFile, OpenFault> {
         if !rt.metadata(path)?.is_file() {
             return Err(OpenFault::Failed(ErrorKind::Unsupported));
@@ -108,7 +104,7 @@ impl OsFile {
         Ok(Self::with_length(file, len))
     }
 
-    /// Releases the lock before the file is closed.
+    /// Releases the lock.
     pub fn unlock(&self) {
         let _given_back = self.file.unlock();
     }
@@ -155,8 +151,8 @@ impl Access {
     }
 }
 
-/// Returns an error for a pipe, because opening a pipe for reading waits for a writer, and for a
-/// directory, because its length depends on the file system.
+/// Refuses a pipe, which waits for a writer, and a directory, whose length depends on the file
+/// system.
 fn refuse_pipes<R: Files<File = File>>(rt: &R, path: &str) -> Result<(), OpenFault> {
     let kind = rt.metadata(path)?.file_type();
     if kind.is_dir() {
@@ -168,11 +164,11 @@ fn refuse_pipes<R: Files<File = File>>(rt: &R, path: &str) -> Result<(), OpenFau
     Ok(())
 }
 
-/// The maximum number of attempts to open a replaced file.
+/// The maximum number of attempts.
 const OPENINGS: u32 = 1000;
 
-/// Opens a file by its path, and waits for its lock. If another file was moved to the path
-/// meanwhile, releases the lock and opens the new file: a change of the old file would be lost.
+/// Opens a file and waits for the lock, again if another file was moved to the path: a change of
+/// the old file would be lost.
 fn open_locked<R: Files<File = File>>(
     rt: &R,
     access: Access,
@@ -213,8 +209,8 @@ impl Opened {
         Ok(self.metadata.dev() == there.dev() && self.metadata.ino() == there.ino())
     }
 
-    /// Returns the file's length: from its metadata, or for a block device from a seek to its end.
-    /// A pipe, a socket or a terminal has no length.
+    /// Returns the length from the metadata, or a block device's from a seek. Refuses files without
+    /// a length.
     fn len(&mut self) -> Result<u32, OpenFault> {
         if self.metadata.is_file() {
             return checked_length(self.metadata.len());

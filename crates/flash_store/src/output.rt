@@ -1,4 +1,4 @@
-//! A buffered writer for a program's output.
+//! A program's buffered output.
 ghost use Rattle.std.specs.Prelude.{◌≡◌, ◌+◌, ◌≤◌, ◌++◌, length};
 ghost use Rattle.std.specs.Io.{WritesAtMost};
 ghost use Rattle.std.specs.Vec.{vec_capacity, vec_len};
@@ -7,15 +7,14 @@ use std::alloc::Global;
 use std::io::{self, Write};
 use std::mem;
 
-/// The size of a block in bytes.
+/// The block size in bytes.
 const BLOCK: usize = 65536;
 
-/// A writer with a buffer of blocks.
+/// A writer with blocks of buffer.
 ///
-/// The writer forwards each full block, or holds all blocks until `finish`. A command which lists
-/// an image holds its output, releases the image's lock, and only then writes, because a reader at
-/// the end of a pipe may wait for the lock. After an allocation failure, all bytes are forwarded
-/// directly.
+/// Full blocks are forwarded, or held until `finish`: a listing first releases the image's lock,
+/// because a reader of a pipe may wait for the lock. After an allocation failure, bytes are
+/// forwarded directly.
 #[derive(Drop)]
 pub struct Output<W: Write + Drop> {
     out: W,
@@ -26,7 +25,7 @@ pub struct Output<W: Write + Drop> {
 }
 
 impl<W: Write + Drop> Output<W> {
-    /// Makes a writer with immediate forwarding of full blocks.
+    /// Makes a writer which forwards full blocks.
     pub fn new(alloc: Global, out: W) -> Output<W> {
         Output {
             out,
@@ -37,20 +36,19 @@ impl<W: Write + Drop> Output<W> {
         }
     }
 
-    /// Makes a writer with blocks held until `finish`, unless an allocation fails.
+    /// Makes a writer which holds blocks until `finish`.
     pub fn keeping(alloc: Global, out: W) -> Output<W> {
         let mut output = Output::new(alloc, out);
         output.is_keeping = true;
         output
     }
 
-    /// Writes all buffered bytes. An error is the writer's.
+    /// Writes all buffered bytes.
     pub fn finish(mut self) -> io::Result<()> {
         self.pass_on()
     }
 
-    /// Returns the free space of the block, or 0 after an allocation failure, which also ends
-    /// holding.
+    /// Returns the block's free space. An allocation failure returns 0, and ends holding.
     fn room(&mut self) -> io::Result<usize> {
         if self.block.len() >= BLOCK {
             self.end_block()?;
@@ -66,7 +64,6 @@ impl<W: Write + Drop> Output<W> {
         Ok(BLOCK.saturating_sub(self.block.len()))
     }
 
-    /// Holds or forwards the full block.
     fn end_block(&mut self) -> io::Result<()> {
         if self.is_keeping {
             let block = mem::replace(&mut self.block, Vec::new(self.alloc));
@@ -79,7 +76,7 @@ impl<W: Write + Drop> Output<W> {
         self.pass_on()
     }
 
-    /// Writes bytes without enough space in the block: a prefix of up to the free space of a block.
+    /// Writes a prefix, up to a block's free space.
     #[cold]
     #[inline(never)]
     fn write_at_border(&mut self, bytes: &[u8]) -> io::Result<usize>
@@ -92,7 +89,7 @@ impl<W: Write + Drop> Output<W> {
         Ok(n)
     }
 
-    /// Writes the held blocks and the last block, and removes them even if the writer fails.
+    /// Writes and removes all buffered bytes, even if the writer fails.
     fn pass_on(&mut self) -> io::Result<()> {
         let kept = mem::replace(&mut self.kept, Vec::new(self.alloc));
         let mut written = write_blocks(&mut self.out, &kept);
@@ -112,7 +109,7 @@ fn write_blocks<W: Write>(out: &mut W, blocks: &[Vec<u8>]) -> io::Result<()> {
 }
 
 impl<W: Write + Drop> Write for Output<W> {
-    /// Buffers the bytes if the block has enough space, the most frequent case.
+    /// Buffers bytes with enough space, the most frequent case.
     #[inline(always)]
     fn write(&mut self, bytes: &[u8]) -> io::Result<usize> {
         if bytes.len() < self.block.capacity() - self.block.len() {

@@ -1,19 +1,17 @@
-//! Files besides a program's standard input, output and error.
+//! Files besides a program's standard descriptors.
 use std::fs::{File, OpenOptions};
 use std::io;
 use std::os::fd::{AsRawFd, IntoRawFd};
 use std::rt::Files;
 
-/// The first descriptor after standard input, output and error.
+/// The first descriptor after the standard descriptors.
 const STANDARD: i32 = 3;
 
-/// Opens a file with a descriptor above the standard descriptors.
+/// Opens a file above the standard descriptors.
 ///
-/// The system assigns the lowest free descriptor. If a standard descriptor is closed, a file could
-/// receive its number, and the program's output or messages would enter the file. In this case, the
-/// function closes the file, opens the root directory for each closed standard descriptor, and
-/// opens the file again. Nothing can be read from or written to the root directory, so output to a
-/// closed descriptor is an output error.
+/// If a standard descriptor is closed, the file could receive its number, and the program's output.
+/// The function then opens the root directory in its place, and the file again. Output to the
+/// directory is an error.
 pub fn open_beside_standard<R: Files<File = File>>(
     rt: &R,
     how: &OpenOptions,
@@ -28,7 +26,6 @@ pub fn open_beside_standard<R: Files<File = File>>(
     how.open(rt, path)
 }
 
-/// Opens the root directory for each closed standard descriptor.
 fn open_standard<R: Files<File = File>>(rt: &R) -> io::Result<()> {
     for _ in 0..STANDARD {
         let file = open_for_nothing(rt)?;
@@ -40,7 +37,7 @@ fn open_standard<R: Files<File = File>>(rt: &R) -> io::Result<()> {
     Ok(())
 }
 
-/// Opens the root directory for reading, or the null device if the system refuses.
+/// Opens the root directory, or the null device if the system refuses.
 fn open_for_nothing<R: Files<File = File>>(rt: &R) -> io::Result<File> {
     match OpenOptions::new().read(true).open(rt, "/") {
         Ok(file) => Ok(file),

@@ -7,32 +7,30 @@ use flash_format::HEADER_LENGTH;
 /// The reason for a failed call.
 #[derive(Clone, Copy, Debug, PartialEq, Eq, Drop)]
 pub enum StorageFault {
-    /// The call was interrupted, and can be repeated.
+    /// Interrupted, and repeatable.
     Interrupted,
-    /// The call failed.
+    /// Any other error.
     Failed,
 }
 
-/// A file with random access; each call is one system call, and may move fewer bytes than
-/// requested. Offsets count bytes from 0.
+/// A file with byte offsets. Each call is one system call, and may move fewer bytes.
 pub trait Storage: Drop {
-    /// The content, and the faithfulness: each call has the effect of its result.
+    /// Content and faithfulness: each call has the effect of its result.
     ghost facts: { Self → Stored };
 
-    /// Returns the length in bytes, which no call changes.
+    /// Returns the constant length in bytes.
     fn len(&self) -> u64
         ensures length { result ≡ length (facts self.now).content }
         ensures below { result < 2 ^ 32 };
 
-    /// Reads a prefix of the bytes at an offset, and returns its length. The rest of `out`, and all
-    /// of `out` after a fault, is unspecified.
+    /// Reads a prefix, and returns its length. Other bytes of `out` are unspecified.
     fn read_some(&mut self, at: u64, out: &mut [u8]) -> Result<usize, StorageFault>
         requires inside { at + length out.old ≤ length (facts self.old).content }
 
         ensures { HasReadSome at (length out.old) (facts self.old) (facts self.new)
             result out.new };
 
-    /// Writes a prefix of the bytes at an offset, and returns its length.
+    /// Writes a prefix, and returns its length.
     fn write_some(&mut self, at: u64, bytes: &[u8]) -> Result<usize, StorageFault>
         requires inside { at + length bytes.now ≤ length (facts self.old).content }
 

@@ -14,7 +14,7 @@ use std::fs::File;
 use std::marker::Model;
 use std::rt::Files;
 
-/// A device in a file: honest exactly if the file is faithful.
+/// A device in a file, honest exactly if the file is faithful.
 #[derive(Drop)]
 pub struct StoredFlash<S: Storage> {
     storage: S,
@@ -92,24 +92,22 @@ impl<S: Storage> Flash for StoredFlash<S> {
     }
 }
 
-/// A device in an open and locked file. Dropping the device releases the lock.
+/// A device in a locked file. Dropping the device releases the lock.
 ///
-/// The faithfulness of system files is unknown. Every contract clause for an honest device
-/// therefore assumes faithful system calls.
+/// The contract clauses for an honest device assume faithful system calls.
 pub type FileFlash = StoredFlash<Ahead<Erased<OsFile>>>;
 
 impl StoredFlash<Ahead<Erased<OsFile>>> {
-    /// Opens a file for reading and writing, and waits while another command holds a lock. Errors:
-    /// `Failed` for a missing file, a file without read or write access, a directory, or a file
-    /// without a length, such as a pipe; `TooLarge` from 2^32 bytes on.
+    /// Opens a file for reading and writing, with an exclusive lock. Errors: `Failed` for a missing
+    /// or inaccessible file, a directory, or a file without a length; `TooLarge` from 2^32 bytes
+    /// on.
     pub fn open<R: Files<File = File>>(rt: &R, path: &str) -> Result<FileFlash, OpenFault>
         ensures { IfOk result (λ device. (device.calls ≡ 0) × (device.faults ≡ 0)) }
     {
         Self::open_with(rt, path, Lock::Exclusive)
     }
 
-    /// Opens a file like `open`, with the given lock. A command without changes takes a shared
-    /// lock, and waits only for commands which may change the file.
+    /// Opens a file like `open`, with the given lock. A shared lock waits only for exclusive locks.
     pub fn open_with<R: Files<File = File>>(
         rt: &R,
         path: &str,
@@ -120,17 +118,15 @@ impl StoredFlash<Ahead<Erased<OsFile>>> {
         Ok(device_in(Erased::new(OsFile::open(rt, path, lock)?)))
     }
 
-    /// Opens a file only for reading, with a shared lock. Each write to the device fails. The
-    /// errors are those of `open`.
+    /// Opens a file only for reading, with a shared lock. Writes fail. Errors are as in `open`.
     pub fn open_to_read<R: Files<File = File>>(rt: &R, path: &str) -> Result<FileFlash, OpenFault>
         ensures { IfOk result (λ device. (device.calls ≡ 0) × (device.faults ≡ 0)) }
     {
         Ok(device_in(Erased::new(OsFile::open_shared(rt, path)?)))
     }
 
-    /// Creates a file of `size` bytes, or truncates an existing file after waiting for its lock,
-    /// and writes 0xff everywhere. Errors: `Failed` for a file which can't be created, opened or
-    /// written, and for a block device with less space.
+    /// Creates or truncates a file, waiting for its lock, and fills `size` bytes with 0xff. Errors:
+    /// `Failed` if a call fails, or a block device has less space.
     pub fn create<R: Files<File = File>>(
         rt: &R,
         path: &str,
@@ -145,7 +141,7 @@ impl StoredFlash<Ahead<Erased<OsFile>>> {
         Ok(device_in(file))
     }
 
-    /// Releases the file's lock before the device is dropped. The caller makes no further calls.
+    /// Releases the lock. The caller makes no further calls.
     pub fn unlock(&self) {
         self.storage.storage().storage().unlock();
     }

@@ -7,7 +7,7 @@ use crate::transfer::read_whole;
 use flash_device::{Counter, Source, SourceFault};
 use std::marker::Model;
 
-/// A source in a file: honest exactly if the file is faithful.
+/// A source in a file, honest exactly if the file is faithful.
 #[derive(Drop)]
 pub struct StoredSource<S: Storage> {
     storage: S,

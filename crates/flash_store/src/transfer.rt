@@ -1,5 +1,4 @@
-//! Complete transfers by repeated file calls. The contracts describe each function as one device
-//! call.
+//! Complete transfers by repeated file calls, with device contracts.
 ghost use Rattle.std.specs.Prelude.{◌≡◌, ◌+◌, ◌<◌, ◌≤◌, length, IfOk, OnOk, IsTrue};
 ghost use Rattle.flash_device.specs.Device.{OneRead, OneWrite, OneCommit, refusals};
 ghost use Rattle.flash_store.specs.Storing.{
@@ -31,7 +30,7 @@ pub fn read_front<S: Storage>(
     storage.read_some(at, &mut out[..n])
 }
 
-/// Reads a nonempty prefix of the bytes at an offset. Repeats interrupted calls.
+/// Reads a nonempty prefix, and repeats interrupted calls.
 fn read_again<S: Storage>(storage: &mut S, at: u64, out: &mut [u8]) -> Result<usize, StorageFault>
     requires { at + length out.old ≤ length (S.facts storage.old).content }
 
@@ -49,7 +48,7 @@ fn read_again<S: Storage>(storage: &mut S, at: u64, out: &mut [u8]) -> Result<us
     Err(StorageFault::Interrupted)
 }
 
-/// Writes a nonempty prefix of the bytes at an offset. Repeats interrupted calls.
+/// Writes a nonempty prefix, and repeats interrupted calls.
 fn write_again<S: Storage>(storage: &mut S, at: u64, bytes: &[u8]) -> Result<usize, StorageFault>
     requires { at + length bytes.now ≤ length (S.facts storage.old).content }
 
@@ -66,7 +65,7 @@ fn write_again<S: Storage>(storage: &mut S, at: u64, bytes: &[u8]) -> Result<usi
     Err(StorageFault::Interrupted)
 }
 
-/// Reads all bytes at an offset. After a fault, `out` is unspecified.
+/// Reads all bytes. After a fault, `out` is unspecified.
 pub fn read_whole<S: Storage>(storage: &mut S, at: u64, out: &mut [u8]) -> Result<(), StorageFault>
     requires { at + length out.old ≤ length (S.facts storage.old).content }
 
@@ -81,7 +80,7 @@ pub fn read_whole<S: Storage>(storage: &mut S, at: u64, out: &mut [u8]) -> Resul
     Ok(())
 }
 
-/// Writes all bytes at an offset. After a fault, the range is unspecified.
+/// Writes all bytes. After a fault, the range is unspecified.
 pub fn write_whole<S: Storage>(storage: &mut S, at: u64, bytes: &[u8]) -> Result<(), StorageFault>
     requires { at + length bytes.now ≤ length (S.facts storage.old).content }
 
@@ -112,9 +111,8 @@ fn write_in_one<S: Storage>(
     Ok(())
 }
 
-/// Reserves space for a header by writing the present bytes again, so the next header write at the
-/// same offset is atomic. If a full disk, a file size limit or a hole refuses some of the bytes,
-/// the first write fails without a change of content.
+/// Writes the present bytes again, so the next header write is atomic. If a full disk, a limit or a
+/// hole refuses bytes, the write fails without a change.
 fn make_room<S: Storage>(storage: &mut S, at: u64) -> Result<(), StorageFault>
     requires { at + HEADER_LENGTH ≤ length (S.facts storage.old).content }
 

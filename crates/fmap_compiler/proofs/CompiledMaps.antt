@@ -1,4 +1,4 @@
--- The table of a text is found where it is written.
+-- A search finds a written table.
 use Rattle.std.proofs.Common.{List, ℕ, sym, subst}
 use Rattle.flash_device.specs.Device.{overwritten}
 use Rattle.flash_device.specs.Laws.{FindsMap, NoMapBelow}

@@ -1,4 +1,4 @@
--- The table of a text, and its refusal: from those of the three steps, and from the bytes that a run reads.
+-- The table or the fault of a text, from the three steps and the bytes read.
 use Rattle.std.proofs.Common.{◌≡◌, ℕ, ◌<◌, ◌≤◌, nat_lt, false, ◌⊎◌, List, length, take, Option, Some, None, Result, Ok, Err, Vec, Global, refl, sym, ap, ◌∙◌, subst, arith, inl, inr, IfErr, IfSome}
 use Rattle.std.proofs.lemmas.Bool.{cases_lt, le-ltb, lt-ltb}
 use Rattle.std.proofs.lemmas.List.{length-take-le, take_all}
@@ -10,7 +10,7 @@ use Rattle.fmd_lang.specs.declared.fault.FmdFault.{FmdFault}
 use Rattle.fmd_lang.specs.declared.fault.FmdFault.TheVariants as faults
 use Rattle.fmap_compiler.specs.Outcome.{reading_limit, Compiles, HasTable, IsPrefixOf, Refuses}
 
--- few areas are never too many
+-- a table within the limit has no fault
 pub Refuses-encoded : (text : List ℕ) (areas : ℕ) (r : Result (Vec ℕ Global) FmdFault) → areas ≤ area_limit →
     fmd.Refuses (count_fault areas) r → IfErr r (λ fault. (fault ≡ faults.Memory) ⊎ Refuses text fault)
 Refuses-encoded text areas (Ok b) few h = tt
@@ -22,7 +22,7 @@ too_long : (text : List ℕ) → text_limit < length text → first_fault text �
 unfolding first_fault
 too_long text h = rw (lt-ltb text_limit (length text) h) refl
 
--- The bytes that a run reads are the whole text, or that is too long, and so are they.
+-- The bytes read are the whole text, or both are too long.
 whole_or_long : (text read : List ℕ) → read ≡ take reading_limit text →
     (read ≡ text) ⊎ ((first_fault read ≡ Some faults.TextTooLong) × (first_fault text ≡ Some faults.TextTooLong))
 whole_or_long text read prefix = elim (cases_lt reading_limit (length text)) [
@@ -47,7 +47,7 @@ Refuses-prefix text read fault prefix refuses = elim (whole_or_long text read pr
   ]
 ]
 
--- What is said of the bytes that were read holds of what the reader had left, where it tells it.
+-- A property of the bytes read holds for the reader's known bytes.
 pub HasTable-prefix : (P : List ℕ → Type 0) (known : Option (List ℕ)) (read shown made put : List ℕ) → IsPrefixOf known read →
     shown ≡ read → put ≡ made → Compiles shown made → P put → HasTable known P
 HasTable-prefix P None read shown made put prefix same whole compiles written = tt

@@ -1,10 +1,10 @@
--- What was read, against what the reader had left.
+-- The bytes read, and the reader's known bytes.
 use Rattle.std.proofs.Common.{◌≡◌, ℕ, ◌≤◌, List, [], ◌++◌, length, take, Option, Some, None, sym, ap, ◌∙◌}
 use Rattle.std.proofs.lemmas.List.{append-nil, take_all, take_at}
 use Rattle.std.specs.Io.KnownBytes.{Consumes, IsAtEnd}
 use Rattle.fmap_compiler.specs.Outcome.{reading_limit, IsPrefixOf}
 
--- a reader that is at its end gave its whole text
+-- at the end, the bytes are the whole text
 pub IsPrefixOf-end : (old before new : Option (List ℕ)) (read more : List ℕ) → Consumes old before read →
     Consumes before new more → more ≡ [] → IsAtEnd new → length read ≤ reading_limit → IsPrefixOf old read
 IsPrefixOf-end None before new read more h k none end within = tt
@@ -15,7 +15,7 @@ IsPrefixOf-end (Some text) (Some rest) (Some left) read more h k none end within
     let whole : text ≡ read = h ∙ ap (λ r. read ++ r) nothing ∙ append-nil read in
     sym (ap (take reading_limit) whole ∙ take_all reading_limit read within)
 
--- as much as a run reads was read
+-- the run has read up to the limit
 pub IsPrefixOf-full : (old new : Option (List ℕ)) (read : List ℕ) → Consumes old new read → length read ≡ reading_limit →
     IsPrefixOf old read
 IsPrefixOf-full None new read h full = tt

@@ -9,7 +9,7 @@ use Rattle.fmd_lang.specs.Table.{IsTable, table_head}
 use Rattle.fmd_lang.specs.declared.table.Table.{Table}
 use Rattle.fmap_compiler.specs.Outcome.{Compiles}
 
--- a search identifies the table of a text as the flash map at the given offset
+-- a search finds the table of the text at `q`
 pub record IsMapOfText (text image : List ℕ) (q : ℕ) : Type 0 where
   pub tree : Tree
   pub table : Table
@@ -17,7 +17,7 @@ pub record IsMapOfText (text image : List ℕ) (q : ℕ) : Type 0 where
   pub is_table : IsTable tree table
   pub found : FindsMap (table_head table) table.areas.items image q
 
--- the compiled table, written into an image, is found if no valid map lies below
+-- a compiled table in an image is found, if no valid map lies below
 abbrev pub CompiledMapsAreFound : Type 0
 CompiledMapsAreFound = (text bytes image : List ℕ) (q : ℕ) → Compiles text bytes → q ≤ length image
     → let now = overwritten image q bytes in

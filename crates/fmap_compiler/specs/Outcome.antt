@@ -14,7 +14,7 @@ use Rattle.fmd_lang.specs.declared.fault.FmdFault.TheVariants as faults
 use Rattle.fmap_compiler.specs.declared.refusal.Refusal.{Refusal}
 use Rattle.fmap_compiler.specs.declared.refusal.Refusal.TheVariants as refusal
 
--- the maximum number of bytes to read: the maximum length of a descriptor, plus 1
+-- the maximum number of bytes read
 abbrev pub reading_limit : ℕ
 reading_limit = text_limit + 1
 
@@ -24,28 +24,28 @@ Compiles text bytes = (first_fault text ≡ None)
     × ((tree : Tree) × IsSection tree (words text) × (layout_fault tree ≡ None)
     × ((table : Table) × IsTable tree table × (bytes ≡ table_bytes table)))
 
--- the first fault of a text, or else the first fault of the layout
+-- the first fault of the text, or else of the layout
 abbrev pub Refuses : List ℕ → FmdFault → Type 0
 Refuses text fault = (first_fault text ≡ Some fault) ⊎ ((first_fault text ≡ None)
     × ((tree : Tree) × IsSection tree (words text) × (layout_fault tree ≡ Some fault)))
 
--- ---- the same for a reader with known remaining bytes and a writer with known contents
+-- ---- readers and writers with known bytes
 
--- the property P of the encoded table of the text
+-- the property P of the table
 abbrev pub HasTable : Option (List ℕ) → (List ℕ → Type 0) → Type 0
 HasTable text P = IfSome text (λ t. (bytes : List ℕ) × Compiles t bytes × P bytes)
 
--- the error of a run, and the output: nothing, or a proper prefix of the table
+-- the error and the output: nothing, or a proper prefix of the table
 abbrev pub IsRefused : Refusal → Option (List ℕ) → Option (List ℕ) → Option (List ℕ) → Type 0
 IsRefused (refusal.Descriptor fault) text old new =
     ((fault ≡ faults.Memory) ⊎ IfSome text (λ t. Refuses t fault)) × Keeps old new
 IsRefused refusal.Read text old new = Keeps old new
 IsRefused refusal.Output text old new = HasTable text (AppendsPart old new)
 
--- the consumed bytes are a prefix of the text, up to the reading limit
+-- the text up to the reading limit
 abbrev pub IsPrefixOf : Option (List ℕ) → List ℕ → Type 0
 IsPrefixOf text read = IfSome text (λ t. read ≡ take reading_limit t)
 
--- the reader advances by a prefix of the text, up to the reading limit
+-- the reader advances by at most the reading limit
 abbrev pub ReadsPrefix : Option (List ℕ) → Option (List ℕ) → Type 0
 ReadsPrefix old new = (read : List ℕ) × Consumes old new read × (length read ≤ reading_limit)

@@ -1,7 +1,6 @@
 -- The ghost state of a text reader.
 use Rattle.std.specs.Prelude.{ℕ}
 
--- the reader, the number of bytes read, and the number of faults
 pub record Reader (R : Type 0) : Type 0 where
   pub reader : R
   pub given : ℕ

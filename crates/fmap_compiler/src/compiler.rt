@@ -11,10 +11,10 @@ use flash_device::{Sink, put_all};
 use fmd_lang::{FmdFault, TEXT_LIMIT, encode, lay_out, parse};
 use std::alloc::Global;
 
-/// The maximum number of bytes to read: the maximum length of a descriptor, plus 1.
+/// The maximum number of bytes read: a descriptor's maximum length, plus 1.
 const READING_LIMIT: usize = TEXT_LIMIT + 1;
 
-/// Reads the text up to the reader's end or up to the limit.
+/// Reads up to the reader's end or the limit.
 fn read_text<R: TextReader>(alloc: Global, reader: &mut R) -> Result<Vec<u8>, Refusal>
     ensures text { IfOk result (λ text. IsPrefixOf (R.remaining reader.old) text.items) }
     ensures cause { IfErr result (λ refusal.
@@ -38,7 +38,6 @@ fn read_text<R: TextReader>(alloc: Global, reader: &mut R) -> Result<Vec<u8>, Re
     Ok(text)
 }
 
-/// Returns the encoded table of a text.
 fn compile(alloc: Global, text: &[u8]) -> Result<Vec<u8>, FmdFault>
     ensures compiled { IfOk result (λ bytes. Compiles text.now bytes.items) }
     ensures refused { IfErr result (λ fault. (fault ≡ FmdFault.Memory) ⊎ Refuses text.now fault) }
@@ -48,28 +47,23 @@ fn compile(alloc: Global, text: &[u8]) -> Result<Vec<u8>, FmdFault>
     encode(alloc, &table)
 }
 
-/// Reads a descriptor, up to the reader's end or `READING_LIMIT`, and writes the table. Writes
-/// nothing before the table is complete.
+/// Reads a descriptor, at most 1,048,577 bytes, and writes the complete table.
 pub fn run<R: TextReader, W: Sink>(
     alloc: Global,
     reader: &mut R,
     writer: &mut W,
 ) -> Result<(), Refusal>
-    // Success writes the table of the text, and nothing else.
+    // Success writes the table, and nothing else.
     ensures ok { OnOk result (HasTable (R.remaining reader.old)
         (Appends (W.contents writer.old) (W.contents writer.new))) }
-    // A read or output error implies a failure of the reader or writer.
     ensures read_cause { IfErr result (λ refusal.
         refusal ≡ Refusal.Read → R.faults reader.old < R.faults reader.new) }
     ensures output_cause { IfErr result (λ refusal.
         refusal ≡ Refusal.Output → W.faults writer.old < W.faults writer.new) }
-    // An error of the descriptor is the first, without output; an output error leaves a part of the
-    // table.
+    // An output error leaves a part of the table, any other error no output.
     ensures refused { IfErr result (λ refusal. IsRefused refusal (R.remaining reader.old)
         (W.contents writer.old) (W.contents writer.new)) }
-    // The run reads no more bytes than necessary to detect an excessive length.
     ensures stops { R.given reader.new ≤ R.given reader.old + reading_limit }
-    // The run reads a prefix of a reader with known contents.
     ensures read { ReadsPrefix (R.remaining reader.old) (R.remaining reader.new) }
     ensures reader_faults { R.faults reader.old ≤ R.faults reader.new }
     ensures writer_faults { W.faults writer.old ≤ W.faults writer.new }

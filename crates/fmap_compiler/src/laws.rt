@@ -1,8 +1,8 @@
-//! A law about compiled tables. The function does nothing: its contract is the law.
+//! A law about compiled tables, as a contract.
 ghost use Rattle.fmap_compiler.specs.Laws.{CompiledMapsAreFound};
 
-/// If the table of a text is written into an image, and no valid map lies below, a search finds the
-/// table, with its areas. A lower map, for example in a nested image, takes precedence.
+/// A search finds a compiled table in an image, with the areas, unless a valid map has a lower
+/// offset, for example in a nested image.
 pub fn compiled_maps_are_found()
     ensures { CompiledMapsAreFound }
 {}

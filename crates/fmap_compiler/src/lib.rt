@@ -1,4 +1,4 @@
-//! The compiler of flashmap descriptors, for any reader and any writer.
+//! The compiler of flashmap descriptors.
 #![tactic(auto)]
 
 mod compiler;

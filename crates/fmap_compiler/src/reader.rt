@@ -8,7 +8,7 @@ use flash_device::Counter;
 use std::io::{ErrorKind, Read};
 use std::marker::Model;
 
-/// A failed read, as opposed to the end of the text.
+/// A failed read.
 #[derive(Clone, Copy, Debug, PartialEq, Eq, Drop)]
 pub struct ReadFault;
 
@@ -23,8 +23,8 @@ pub trait TextReader {
     /// The number of failed reads.
     ghost faults: { Self → ℕ };
 
-    /// Reads the next bytes into the front of `room`, and returns their number: 0 only at the end,
-    /// or for empty `room`. A fault loses no byte, but leaves arbitrary bytes in `room`.
+    /// Reads into the front of `room`, and returns the number of bytes: 0 only at the end, or for
+    /// empty `room`. A fault loses no byte, but leaves arbitrary bytes in `room`.
     fn read_some(&mut self, room: &mut [u8]) -> Result<usize, ReadFault>
         ensures bound { ReadsAtMost result room.new }
         ensures bytes { ReadConsumes (remaining self.old) (remaining self.new) result room.new }
@@ -62,7 +62,7 @@ impl<R: Read> ReadText<R> {
         }
     }
 
-    /// Returns the reader with its remaining bytes.
+    /// Returns the reader.
     pub fn into_inner(self) -> R
         ensures { result ≡ self.reader }
     {
@@ -78,7 +78,7 @@ impl<R: Read> ReadText<R> {
 /// The maximum number of consecutive interruptions of a read.
 const TRIES: u32 = 1000;
 
-/// Reads the next bytes by one call, repeated after an interruption.
+/// Repeats an interrupted read.
 fn read_again<R: Read>(reader: &mut R, room: &mut [u8]) -> Result<usize, ReadFault>
     ensures bound { ReadsAtMost result room.new }
     ensures bytes { ReadConsumes (R.remaining reader.old) (R.remaining reader.new) result room.new }

@@ -10,13 +10,13 @@ use fmd_lang::FmdFault;
 use std::alloc::AllocError;
 use thiserror::Error;
 
-/// The errors of a run, each with its number and its message.
+/// The errors of a run, by number.
 #[derive(Clone, Copy, Debug, PartialEq, Eq, Error)]
 pub enum Refusal {
     /// 1 to 16, the number of the fault: invalid descriptor, or allocation failure.
     #[error("{0}")]
     Descriptor(FmdFault),
-    /// 17: read error. The run writes nothing.
+    /// 17: read error, without output.
     #[error("read fault")]
     Read,
     /// 18: output error, or a writer without progress. The output is a proper prefix of the table.
@@ -24,7 +24,6 @@ pub enum Refusal {
     Output,
 }
 
-/// Converts an error of the descriptor.
 impl From<FmdFault> for Refusal {
     ghost from_gives = { λ fault refusal. refusal ≡ refusals.Descriptor fault };
 
@@ -33,7 +32,6 @@ impl From<FmdFault> for Refusal {
     }
 }
 
-/// Converts an allocation failure.
 impl From<AllocError> for Refusal {
     ghost from_gives = { λ _ refusal. refusal ≡ refusals.Descriptor faults.Memory };
 
@@ -42,7 +40,6 @@ impl From<AllocError> for Refusal {
     }
 }
 
-/// Converts a read error.
 impl From<ReadFault> for Refusal {
     ghost from_gives = { λ _ refusal. refusal ≡ refusals.Read };
 
@@ -51,7 +48,6 @@ impl From<ReadFault> for Refusal {
     }
 }
 
-/// Converts an output error.
 impl From<SinkFault> for Refusal {
     ghost from_gives = { λ _ refusal. refusal ≡ refusals.Output };
 

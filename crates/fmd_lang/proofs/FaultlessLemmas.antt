@@ -1,4 +1,4 @@
--- Words without a fault are those of a tree.
+-- Tokens without a fault form a tree.
 use Rattle.std.proofs.Common.{◌≡◌, ◌≢◌, ℕ, zero, suc, ◌+◌, ◌-◌, ◌≤◌, nat_lt, true, false, cond, List, [], ◌∷◌, ◌++◌, length, Option, Some, None, refl, sym, ◌∙◌, ap, arith, inl, inr, append_assoc, subst, All}
 use Rattle.std.specs.Int.Bits.{bit_or}
 use Rattle.std.specs.Result.{result_err}
@@ -19,7 +19,7 @@ use Rattle.fmd_lang.proofs.NameFields.{IsWhole, words_whole}
 use Rattle.fmd_lang.proofs.OptionLemmas.{cond-none, map_or-none, or-none}
 use Rattle.fmd_lang.proofs.FormLemmas.{annotation-name, flags-cons, name-short}
 
--- ---- what is left of a text
+-- ---- the rest of a text
 
 abbrev FromBody : List Word → Type 0
 FromBody ws = (parts : Forest) × IsBody parts ws
@@ -30,7 +30,7 @@ FromSize ws = (size : Option ℕ) × Then (IsSize size) FromBody ws
 abbrev FromOffset : List Word → Type 0
 FromOffset ws = (offset : Option ℕ) × Then (IsOffset offset) FromSize ws
 
--- the last so many of the parts that may follow a section's name
+-- the last n optional parts of a section
 abbrev Ahead : ℕ → List Word → Type 0
 Ahead zero ws = ws ≡ []
 Ahead (suc zero) ws = FromBody ws
@@ -38,7 +38,7 @@ Ahead (suc (suc zero)) ws = FromSize ws
 Ahead (suc (suc (suc zero))) ws = FromOffset ws
 Ahead (suc (suc (suc (suc n)))) ws = (flags : ℕ) × Then (AreAnnotations flags) FromOffset ws
 
--- what is left after a section in so many open braces
+-- the tokens after a section in `depth` open braces
 abbrev Behind : ℕ → List Word → Type 0
 Behind zero ws = ws ≡ []
 Behind (suc depth) ws = (ts : Forest) × Then (Until CloseBrace (AreSections ts)) (Behind depth) ws
@@ -58,7 +58,7 @@ joined : (P Q R : List Word → Type 0) (ws : List Word) → Then P (Then Q R) w
 joined P Q R ws (a, r, split, p, (b, c, inner, q, behind)) =
     (a ++ b, c, split ∙ ap (λ v. a ++ v) inner ∙ sym (append_assoc a b c), (a, b, refl, p, q), behind)
 
--- A part that isn't there is passed.
+-- An optional part can be absent.
 wider : (n : ℕ) (ws : List Word) → Ahead n ws → Ahead (suc n) ws
 wider zero ws h = (none, inl (h, refl))
 wider (suc zero) ws h = (None, ([], ws, refl, refl, h))
@@ -73,7 +73,6 @@ raise (suc more) n m ws e h = raise more (suc n) m ws (omega arith) (wider n ws 
 up : (k n : ℕ) (ws : List Word) → k ≤ 4 - n → Ahead k ws → Ahead (4 - n) ws
 up k n ws few h = raise (4 - n - k) k (4 - n) ws (omega arith) h
 
--- what is behind a section past all of its parts
 over : (Q : List Word → Type 0) (ws : List Word) → Then (Ahead 0) Q ws → Q ws
 over Q ws (front, behind, split, empty, q) = subst Q (sym (split ∙ ap (λ v. v ++ behind) empty)) q
 
@@ -82,9 +81,8 @@ section-is w ws named (flags, (a, b, split, marked, (offset, (c, d, inner, place
     let (size, (e, f, last, sized, (parts, body))) = rest in
     (section w.bytes flags offset size parts, (w ∷ [], ws, refl, (w, refl, named), (a, b, split, marked, (c, d, inner, placed, (e, f, last, sized, body)))))
 
--- ---- one word
+-- ---- a token
 
--- A number without a fault has a value.
 has-value : (at : ℕ) (value : Option ℕ) → result_err (number_at at value) ≡ None → (n : ℕ) × (value ≡ Some n)
 has-value at None h = cc
 has-value at (Some n) h = (n, refl)
@@ -92,19 +90,18 @@ has-value at (Some n) h = (n, refl)
 number-is : (depth : ℕ) (w : Word) → IsA Number w → own_fault (kind_of w.bytes) depth w ≡ None → (n : ℕ) × HasValue n w
 number-is depth w is own = let (n, value) = has-value w.place (number_value w.bytes) (rw is at own) in (n, (is, value))
 
--- what is left after a word that may stand
+-- the rest after an expected token
 abbrev Rest : Option Standing → List Word → Type 0
 Rest None ws = ⊥
 Rest (Some (t, depth)) ws = Left t depth ws
 
--- The first word of a part may stand where the part may still come.
 room : (n m : ℕ) (t : Stage) (depth : ℕ) (ws : List Word) → m ≤ 4 → Rest (cond (nat_lt n m) (Some (t, depth)) None) ws →
     (5 - m ≤ 4 - n) × Left t depth ws
 room n m t depth ws small =
     cond_both (nat_lt n m) (Some (t, depth)) None (λ o. Rest o ws → (5 - m ≤ 4 - n) × Left t depth ws)
     (λ fits rest. (let few : suc n ≤ m = grind (arith, nat_tests) in omega arith, rest)) (λ over none_left. absurd none_left)
 
--- one word more
+-- an expected token before the rest
 step : (s : Stage) (k : Kind) (flag : Option ℕ) (depth : ℕ) (w : Word) (ws : List Word) → IsA k w → k ≢ End →
     annotation_flag w.bytes ≡ flag → own_fault (kind_of w.bytes) depth w ≡ None → Rest (next_standing s depth k flag) ws →
     Left s depth (w ∷ ws)

@@ -1,4 +1,4 @@
--- The numbers and the areas of the table of a text without a fault fit into its bytes.
+-- The numbers and areas of a text without a fault fit into the fields of the table.
 use Rattle.std.proofs.Common.{◌≡◌, ℕ, ◌^◌, ◌<◌, All, List, [], ◌∷◌, ◌++◌, length, Option, Some, None, sym, ◌∙◌, ap, subst, arith}
 use Rattle.std.specs.Prelude.{nat_lt, unwrap_or}
 use Rattle.std.specs.Result.{result_err}

@@ -1,4 +1,4 @@
--- Annotations and sections, one word or one section at a time.
+-- Annotations and sections, by token and by section.
 use Rattle.std.proofs.Common.{◌≡◌, ℕ, ◌<◌, Bool, true, false, List, [], ◌∷◌, ◌++◌, length, map, Some, None, option_map, refl, sym, ◌∙◌, ap, subst, arith, append_assoc}
 use Rattle.std.proofs.lemmas.List.{append-nil, map-append}
 use Rattle.std.proofs.lemmas.List.Elements.{All-contains}
@@ -16,11 +16,9 @@ use Rattle.fmd_lang.specs.declared.section.Section.{Section}
 use Rattle.fmd_lang.specs.declared.word.Kind.{Kind}
 use Rattle.fmd_lang.specs.declared.word.Kind.TheVariants.{Name, CloseParen}
 
--- a word that is an annotation of this flag
 abbrev pub IsAnnotation : ℕ → Word → Type 0
 IsAnnotation flag w = annotation_flag w.bytes ≡ Some flag
 
--- one more annotation in front
 pub flags-cons : (before flag flags : ℕ) (v : List Word) →
     Then (One (IsAnnotation flag)) (Then (λ ws. flags_with (bit_or before flag) ws ≡ Some flags) (One (IsA CloseParen))) v →
     Then (λ ws. (0 < length ws) × (flags_with before ws ≡ Some flags)) (One (IsA CloseParen)) v
@@ -34,20 +32,18 @@ flags-push (v ∷ ws) before flags flag w h is =
     let (f, known, rest) = and-then-some (annotation_flag v.bytes) (λ n. flags_with (bit_or before n) ws) flags h in
     rw known (flags-push ws (bit_or before f) flags flag w rest is)
 
--- one more annotation at the end
 pub flags-snoc : (before flags flag : ℕ) (v : List Word) →
     Then (λ ws. flags_with before ws ≡ Some flags) (One (IsAnnotation flag)) v → flags_with before v ≡ Some (bit_or flags flag)
 flags-snoc before flags flag v (front, back, split, all, (w, one, is)) =
     rw (split, one) (flags-push front before flags flag w all is)
 
--- what a test finds of each annotation
+-- A test of all annotations holds for each annotation.
 pub each-annotation : (test : List ℕ × ℕ → Bool) → list_all test annotations ≡ true → (bytes : List ℕ) (flag : ℕ) →
     annotation_flag bytes ≡ Some flag → test (bytes, flag) ≡ true
 each-annotation test all bytes flag known =
     let listed = Contains-from_lookup (λ a b. (bytes_eq-Decides a b).0) bytes flag annotations known in
     All-contains (λ row. test row ≡ true) annotations (bytes, flag) (AllPass-from_list_all test annotations all) listed
 
--- whether it is the kind of a name
 abbrev is_name : Kind → Bool
 is_name Name = true
 is_name k = false
@@ -56,12 +52,10 @@ name-is : (k : Kind) → is_name k ≡ true → k ≡ Name
 name-is Name is = refl
 name-is k is = cc
 
--- An annotation is a name.
 pub annotation-name : (bytes : List ℕ) (flag : ℕ) → annotation_flag bytes ≡ Some flag → kind_of bytes ≡ Name
 annotation-name bytes flag known =
     name-is (kind_of bytes) (each-annotation (λ row. is_name (kind_of row.0)) refl bytes flag known)
 
--- a section from its first word on
 pub section-opens : (w : Word) (t : Tree) (v : List Word) → Then (One (λ x. x ≡ w)) (λ ws. IsSection t (w ∷ ws)) v → IsSection t v
 section-opens w t v (front, back, split, (x, one, same), is) =
     subst (IsSection t) (sym (split ∙ ap (λ f. f ++ back) one ∙ ap (λ y. y ∷ back) same)) is
@@ -72,7 +66,6 @@ sections-push [] t ws more none one = (more, [], rw (none) (sym (append-nil more
 sections-push (u ∷ ts) t ws more (first, rest, split, head, tail) one =
     (first, rest ++ more, rw split (append_assoc first rest more), head, sections-push ts t rest more tail one)
 
--- one more section at the end
 pub sections-snoc : (parts : List Section) (part : Section) (v : List Word) →
     Then (AreSections (views parts)) (IsSection (view part)) v → AreSections (views (parts ++ part ∷ [])) v
 sections-snoc parts part v (front, back, split, all, one) =

@@ -1,4 +1,4 @@
--- The layout of a tree, one section at a time.
+-- The layout of a tree, by section.
 use Rattle.std.proofs.Common.{◌≡◌, ℕ, suc, ◌+◌, ◌<◌, ◌≤◌, not, false, List, [], ◌∷◌, ◌++◌, codes, length, drop, take, min, replicate, get_or, IsTrue, true, nat_le, rules, Some, None, option_map, unwrap_or, length-append, refl, sym, subst, ◌∙◌, ap, arith, add-one, append_assoc}
 use Rattle.std.specs.Bool.{then_some}
 use Rattle.std.specs.Option.{option_or}
@@ -51,9 +51,9 @@ field-is name =
     let front : take (min (length name) 32) name ≡ take 32 name = rw (min_comm) (take_min 32 name) in
     rw (front, drop-replicate) (ap (λ k. take 32 name ++ replicate k 0) (omega arith))
 
--- ---- the areas and the faults, one part at a time
+-- ---- areas and faults, by part
 
--- The areas below a section are pushed behind others, but for those of the parts that are left, at the places left.
+-- The areas below a section are pushed after `old`, except for the parts `left`.
 pub record IsPushed (old areas : List Area) (at size : ℕ) (whole : Tree) (places : List Place) (left : Forest) : Type 0 where
   pub count : length areas + 1 + length (names_of left) ≡ length old + section_count whole
   pub items : areas ++ areas_of (suc (length areas)) at left places ≡ old ++ areas_below (length old) at size whole
@@ -66,18 +66,15 @@ pub area-is : (at : ℕ) (q : Place) (s : Section) → section_area at q (view s
     record { offset = at + q.start; size = q.size; name = field_of (out-Section s).name.items; flags = (out-Section s).flags }
 area-is at q s = rw (view-is s) refl
 
--- the names of the parts from an index on
 pub names-from : (ss : List Section) (k : ℕ) (s : Section) → k < length ss → s ≡ get_or ss k s →
     names_of (views (drop k ss)) ≡ names (view s) ++ names_of (views (drop (k + 1) ss))
 names-from ss k s there is = rw (next ss k s there is) refl
 
--- how many sections those are
 pub count-from : (ss : List Section) (k : ℕ) (s : Section) → k < length ss → s ≡ get_or ss k s →
     length (names_of (views (drop k ss))) ≡ section_count (view s) + length (names_of (views (drop (k + 1) ss)))
 count-from ss k s there is =
     ap length (names-from ss k s there is) ∙ length-append (names (view s)) (names_of (views (drop (k + 1) ss)))
 
--- one more sibling of a row
 pub sibling-pushed : {whole : List Sibling} {count : ℕ} (row : List Sibling) (n k : ℕ) (ss : List Section) (s : Section) →
     (row ++ siblings n (views (drop k ss)) ≡ whole) × (n + length (names_of (views (drop k ss))) ≡ count) → k < length ss → s ≡ get_or ss k s →
     ((row ++ record { number = n; offset = (out-Section s).offset; size = (out-Section s).size } ∷ [])
@@ -94,7 +91,6 @@ joined areas below rest a = simp append_assoc
 length-push : (areas : List Area) (a : Area) → length (areas ++ a ∷ []) ≡ suc (length areas)
 length-push areas a = omega (arith, length-append areas (a ∷ []))
 
--- the part at an index, and its place
 pub part-at : {old areas : List Area} {at size : ℕ} {whole : Tree} (qs : List Place) (ss shown : List Section) (k : ℕ) (q : Place)
     (s : Section) → IsPushed old areas at size whole (drop k qs) (views (drop k ss)) → shown ≡ ss → k < length shown →
     s ≡ get_or shown k s → length qs ≡ length ss → q ≡ get_or qs k q →
@@ -103,7 +99,6 @@ part-at qs ss shown k q s pushed same left part len place =
     let room : k < length qs = omega (arith, ap length same, left, len) in
     rw (next qs k q room place, next ss k s (rw same at left) (rw same at part)) at pushed
 
--- all parts
 pub all-pushed : {old areas : List Area} {at size : ℕ} {whole : Tree} {places : List Place} (ss shown : List Section) (k : ℕ) →
     IsPushed old areas at size whole places (views (drop k ss)) → shown ≡ ss → length shown ≤ k →
     (areas ≡ old ++ areas_below (length old) at size whole) × (length areas + 1 ≡ length old + section_count whole)
@@ -112,7 +107,6 @@ all-pushed {areas = areas} ss shown k pushed same over =
     let last = rw (drop_all k ss (rw same at over)) at pushed in
     (sym (append-nil areas) ∙ last.items, omega (arith, last.count), last.faults)
 
--- Each place of a row lies in the parent.
 pub place-inside : (size : ℕ) (qs : List Place) (k : ℕ) (q : Place) → IsTrue (list_all (λ p. nat_le (end_of p) size) qs) →
     k < length qs → q ≡ get_or qs k q → end_of q ≤ size
 place-inside size qs k q inside there is =
@@ -121,7 +115,6 @@ place-inside size qs k q inside there is =
     let fits : nat_le (end_of q) size ≡ true = rw (← is) at here in
     grind arith
 
--- a part that is laid
 pub part-pushed : {old before areas : List Area} {at size : ℕ} {whole t : Tree} {q : Place} {qs : List Place}
     {ts : Forest} (pushed : List Area) → IsPushed old before at size whole (q ∷ qs) (some t ts) → pushed ≡ before ++ section_area at q t ∷ [] →
     areas ≡ pushed ++ areas_below (length pushed) (at + q.start) q.size t →
@@ -142,7 +135,6 @@ part-pushed {before = before} {areas = areas} {at = at} {t = t} {q = q} {qs = qs
       faults = so_far.faults ∙ rw (fine, behind) refl;
     }
 
--- the refusal of a part, or of what is below it
 pub part-refused : {old before : List Area} {at size : ℕ} {whole t : Tree} {q : Place} {qs : List Place} {ts : Forest}
     (pushed : List Area) (fault : FmdFault) → IsPushed old before at size whole (q ∷ qs) (some t ts) → pushed ≡ before ++ section_area at q t ∷ [] →
     parent_fault (length pushed) q.size t ≡ Some fault → parent_fault (length old) size whole ≡ Some fault
@@ -199,7 +191,6 @@ pub layout_fault-sized : (t : Tree) (n : ℕ) → names_fault (names t) ≡ None
 unfolding layout_fault
 layout_fault-sized t n named given size = rw (named, given, size) refl
 
--- The areas below a root are pushed to none.
 pub root-laid : (t : Tree) (n : ℕ) (old areas shown : List Area) → names_fault (names t) ≡ None → size_fault (size_of t) ≡ None →
     size_of t ≡ Some n → old ≡ [] → areas ≡ old ++ areas_below (length old) 0 n t → parent_fault (length old) n t ≡ None →
     shown ≡ areas → AreasBelow 0 0 n t areas × (layout_fault t ≡ table_fault shown)

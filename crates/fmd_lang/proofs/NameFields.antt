@@ -1,4 +1,4 @@
--- The field of a name that a descriptor gives is a good name of a map.
+-- The name field of a section is a valid name of a map.
 use Rattle.std.proofs.Common.{◌≡◌, ◌≢◌, ℕ, suc, ◌+◌, ◌-◌, ◌<◌, not, Bool, true, false, cond, All, List, [], ◌∷◌, ◌++◌, length, take, replicate, refl, sym, ◌∙◌, ap, subst, arith, length-append}
 use Rattle.std.proofs.Math.Bool.{or-true}
 use Rattle.std.proofs.lemmas.Bool.{cond_both}
@@ -15,9 +15,9 @@ use Rattle.fmd_lang.specs.Table.{field_of}
 use Rattle.fmd_lang.specs.Grammar.{IsA}
 use Rattle.fmd_lang.specs.declared.word.Kind.TheVariants.{End, Name}
 
--- ---- the bytes of a word
+-- ---- the bytes of a token
 
--- A word has a byte, and a name has plain ones alone.
+-- A token has a byte, and a name only plain bytes.
 abbrev pub IsWhole : Word → Type 0
 IsWhole w = (kind_of w.bytes ≢ End) × (kind_of w.bytes ≡ Name → list_all is_plain w.bytes ≡ true)
 
@@ -60,7 +60,6 @@ pub all-behind : (P : Word → Type 0) (front behind : List Word) → All P (fro
 all-behind P [] behind each = each
 all-behind P (w ∷ front) behind each = all-behind P front behind (All-tail P w (front ++ behind) each)
 
--- the first word of a text, where it is a name
 pub first_name : (text : List ℕ) (first : Word) (rest : List Word) → words text ≡ first ∷ rest → IsA Name first →
     list_all is_plain first.bytes ≡ true
 unfolding words
@@ -74,7 +73,6 @@ first_name text first rest is named =
 plain_no_nul : (b : ℕ) → is_plain b ≡ true → is_nul b ≡ false
 plain_no_nul b plain = grind arith
 
--- a name, and so many NULs
 some_nul : (name : List ℕ) (k : ℕ) → list_any is_nul (name ++ replicate (suc k) 0) ≡ true
 some_nul [] k = refl
 some_nul (b ∷ name) k = rw (some_nul name k) (or-true (is_nul b))

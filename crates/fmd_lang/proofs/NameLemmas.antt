@@ -11,7 +11,6 @@ use Rattle.std.specs.Ordering.{is_eq, nat_cmp}
 use Rattle.std.specs.Cmp.Lexicographic.{slice_cmp, nat_list_eq_equiv}
 use Rattle.fmd_lang.specs.LayoutFaults.{duplicate}
 
--- whether the keys have a name
 abbrev pub has : List ℕ → List (Bor (List ℕ)) → Bool
 has q ks = list_any (λ k. is_eq (slice_cmp nat_cmp q k.now)) ks
 
@@ -25,14 +24,13 @@ take-more : (names : List (Bor (List ℕ))) (n : ℕ) → n < length names →
     texts (take (n + 1) names) ≡ texts (take n names) ++ (get_or names n no_name).now ∷ []
 take-more names n h = rw (add-one, take-suc names n no_name h) (map-append (λ r. r.now) (take n names) (get_or names n no_name ∷ []))
 
--- one name, which an earlier one equals or not
+-- a step of the search for a duplicate
 pub duplicate-at : (names : List (Bor (List ℕ))) (n : ℕ) (known : Bool) → n < length names →
     list_any (bytes_eq (get_or names n no_name).now) (texts (take n names)) ≡ known →
     duplicate n (texts (take n names)) (texts (drop n names))
     ≡ cond known (Some n) (duplicate (n + 1) (texts (take (n + 1) names)) (texts (drop (n + 1) names)))
 duplicate-at names n known h is = rw (take-more names n h, drop-cons names n no_name h, is, add-one) refl
 
--- one name, which passes a test or not
 pub any-from : (test : List ℕ → Bool) (names : List (Bor (List ℕ))) (n : ℕ) (known : Bool) → n < length names →
     test (get_or names n no_name).now ≡ known →
     list_any test (texts (drop n names)) ≡ (known || list_any test (texts (drop (n + 1) names)))
@@ -42,7 +40,6 @@ either : (a b : Bool) → cond a true b ≡ (b || (a || false))
 either true b = sym (or-true b)
 either false b = sym (or-false b)
 
--- the set with one more name
 pub has-more : (names : List (Bor (List ℕ))) (n : ℕ) (q : List ℕ) (before after : Bool) → n < length names →
     after ≡ cond (is_eq (slice_cmp nat_cmp (get_or names n no_name).now q)) true before →
     before ≡ list_any (bytes_eq q) (texts (take n names)) → after ≡ list_any (bytes_eq q) (texts (take (n + 1) names))

@@ -1,4 +1,4 @@
--- Refusals that aren't there.
+-- Lemmas about options.
 use Rattle.std.proofs.Common.{◌≡◌, ◌≢◌, Option, Some, None, option_map, refl, Bool, true, false, cond}
 use Rattle.std.specs.Option.{option_or, option_and_then, option_map_or}
 

@@ -1,4 +1,4 @@
--- The places of a row that is laid are the filled ones, and a tree that is laid has no fault.
+-- A valid layout has the computed places, and no fault.
 use Rattle.std.proofs.Common.{◌≡◌, ℕ, suc, ◌+◌, List, [], ◌∷◌, ◌++◌, length, length-append, None, refl, sym, ◌∙◌, ap, arith}
 use Rattle.fmd_lang.specs.Tree.{Tree, section, Forest, none, some, section_count, names, names_of}
 use Rattle.fmd_lang.specs.Layout.{places_of, end_of, sibling, siblings, first_misfit}
@@ -10,7 +10,7 @@ use Rattle.flash_format.specs.declared.flashmap.Area.{Area}
 use Rattle.fmd_lang.specs.declared.table.Table.{Table}
 
 mutual
-  -- The areas of a tree that is laid are those of its filled rows, one for each section below the root; it has no fault.
+  -- The areas of a valid layout are the computed areas, as many as the sections below the root.
   pub areas-filled : (t : Tree) (n at size : ℕ) (areas : List Area) → AreasBelow n at size t areas →
       (areas ≡ areas_below n at size t) × (suc (length areas) ≡ section_count t) × (parent_fault n size t ≡ None)
   areas-filled (section name flags offset given parts) n at size areas (clear, are) =
@@ -34,12 +34,10 @@ mutual
       let all : length areas ≡ length (names t ++ names_of ts) = omega (arith, ap length shape, length-append below after, length-append (names t) (names_of ts), count, rest) in
       (q ∷ qs, filled, are, all, rw (placed.fits) fitting, rw clear fine)
 
--- Sections that have a table have no fault of their places.
 pub table-faultless : (t : Tree) (table : Table) → IsTable t table → parent_fault 0 table.size t ≡ None
 table-faultless (section name flags offset size parts) table h =
     (areas-filled (section name flags offset size parts) 0 0 table.size table.areas.items h.3).2
 
--- Two tables of a tree have the same head and areas.
 pub one-table : (t : Tree) (one other : Table) → IsTable t one → IsTable t other →
     (table_head one ≡ table_head other) × (one.areas.items ≡ other.areas.items)
 one-table (section name flags offset size parts) one other h k =

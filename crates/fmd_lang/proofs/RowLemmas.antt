@@ -1,4 +1,4 @@
--- Filled places obey the equations, where none is refused, and no others do.
+-- The computed places are the only solution of the equations, unless a place is refused.
 use Rattle.std.proofs.Common.{◌≡◌, ℕ, ◌+◌, ◌-◌, ◌<◌, ◌≤◌, nat_le, true, false, IsTrue, List, [], ◌∷◌, ◌++◌, length, take, drop, get_or, add-one, Option, Some, None, option_map, Result, Ok, Err, IfOk, Vec, Global, refl, ◌∙◌, ap, arith, rules}
 use Rattle.std.specs.List.{list_all}
 use Rattle.std.proofs.lemmas.Bool.{le-leb}
@@ -18,7 +18,6 @@ make n o z = record { number = n; offset = o; size = z }
 pub fits : (parent from : ℕ) (p : Sibling) (q : Place) → misfit_of parent from p q ≡ None → (0 < q.size) × (end_of q ≤ parent)
 fits parent from p q h = (grind arith, grind arith)
 
--- A filled place obeys the equations, where it isn't refused.
 pub placed_one : (parent from n : ℕ) (o z : Option ℕ) (ps : List Sibling) →
     misfit_of parent from (make n o z) (place_of parent from (make n o z) ps) ≡ None →
     IsPlaced parent from (make n o z) ps (place_of parent from (make n o z) ps)
@@ -33,7 +32,6 @@ place start size = record { start = start; size = size }
 same_place : (q r : Place) → q.start ≡ r.start → q.size ≡ r.size → q ≡ r
 same_place q r start size = ap (λ n. place n q.size) start ∙ ap (place r.start) size
 
--- No other place obeys them.
 pub place-is : (parent from n : ℕ) (o z : Option ℕ) (q : Place) (ps : List Sibling) →
     IsPlaced parent from (make n o z) ps q → q ≡ place_of parent from (make n o z) ps
 place-is parent from n o None q ps placed =
@@ -41,7 +39,6 @@ place-is parent from n o None q ps placed =
 place-is parent from n o (Some s) q ps placed =
     same_place q (place_of parent from (make n o (Some s)) ps) placed.offset placed.size
 
--- every place that is filled lies in the parent, where none is refused
 pub filled-inside : (ps : List Sibling) (parent from : ℕ) → first_misfit parent from ps (places_of parent from ps) ≡ None →
     list_all (λ q. nat_le (end_of q) parent) (places_of parent from ps) ≡ true
 filled-inside [] parent from h = refl
@@ -51,7 +48,6 @@ filled-inside (p ∷ ps) parent from h =
     let here : nat_le (end_of q) parent ≡ true = le-leb _ _ (fits parent from p q fine).1 in
     rw here (filled-inside ps parent (end_of q) others)
 
--- so does every place of a row that is laid
 pub laid-inside : (parent : ℕ) (row : List Sibling) (r : Result (Vec Place Global) FmdFault) →
     IfOk r (λ v. v.items ≡ places_of parent 0 row) → Refuses (row_fault parent row) r →
     IfOk r (λ v. IsTrue (list_all (λ q. nat_le (end_of q) parent) v.items))
@@ -61,18 +57,17 @@ laid-inside parent row (Ok v) filled none =
     rw filled (search (rules, all))
 laid-inside parent row (Err fault) filled refused = tt
 
--- The siblings left are laid behind these places, of which none is refused.
+-- the siblings `left` follow the accepted places `made`
 pub record IsLaid (parent from : ℕ) (row left : List Sibling) (made : List Place) : Type 0 where
   pub fine : first_misfit parent 0 row (places_of parent 0 row) ≡ first_misfit parent from left (places_of parent from left)
   pub places : places_of parent 0 row ≡ made ++ places_of parent from left
   pub inside : from ≤ parent
 
--- the siblings from an index on, of which the code sees those behind the first as a part of the row
+-- The code sees the later siblings as a slice of the row.
 left-from : (row : List Sibling) (k : ℕ) (d : Sibling) → k < length row →
     drop k row ≡ get_or row k d ∷ take (length row - (k + 1)) (drop (k + 1) row)
 left-from row k d there = rw (take_rest row (k + 1), drop-cons row k d there, add-one) refl
 
--- the refusal of the first sibling left
 pub one-refused : {parent from : ℕ} {row : List Sibling} {made : List Place} {fault : FmdFault} (k : ℕ) (d : Sibling) →
     IsLaid parent from row (drop k row) made → k < length row →
     misfit_of parent from (get_or row k d) (place_of parent from (get_or row k d) (take (length row - (k + 1)) (drop (k + 1) row))) ≡ Some fault →

@@ -1,4 +1,4 @@
--- Words one at a time: those in their place, and those that aren't.
+-- Single tokens, expected and unexpected.
 use Rattle.std.proofs.Common.{◌≡◌, ◌≢◌, ℕ, ◌<◌, ◌≤◌, List, [], ◌∷◌, ◌++◌, length, Some, None, Result, Ok, Err, refl, sym, ◌∙◌, ap, subst, arith, inl, inr, append_assoc}
 use Rattle.std.proofs.lemmas.List.{append-nil}
 use Rattle.fmd_lang.specs.Words.{Word, words_after, kind_of}
@@ -14,14 +14,13 @@ use Rattle.fmd_lang.specs.declared.fault.FmdFault.TheVariants as faults
 
 -- ---- forms
 
--- a word in its place
+-- an expected token
 pub reads-word : (F : Word → Type 0) (s : Stage) (after : Standing) (depth end : ℕ) (w : Word) (ws : List Word) (k : Kind) →
     IsA k w → own_fault (kind_of w.bytes) depth w ≡ None → next_standing s depth k (annotation_flag w.bytes) ≡ Some after →
     F w → Reads (One F) (s, depth) after end (w ∷ ws) ws
 reads-word F s after depth end w ws k is own stands form =
     record { front = w ∷ []; split = refl; form = (w, refl, form); same = rw (own, is, stands) refl }
 
--- words of one form, and then words of another
 pub reads-then : {P Q : List Word → Type 0} {before middle after : Standing} {end : ℕ} {ws between behind : List Word} →
     Reads P before middle end ws between → Reads Q middle after end between behind → Reads (Then P Q) before after end ws behind
 reads-then {behind = behind} p q = record {
@@ -42,7 +41,7 @@ reads-all {P = P} p none = subst P (sym (p.split ∙ ap (λ v. p.front ++ v) non
 
 -- ---- tokens
 
--- a token in its place: one word, up to a place
+-- an expected token between two offsets
 pub record Takes (F : Word → Type 0) (before after : Standing) (text : List ℕ) (from to : ℕ) : Type 0 where
   pub ahead : from < to
   pub inside : to ≤ length text
@@ -78,7 +77,7 @@ token-number {token = token} {n = n} s after next end number stands =
     let value : HasValue n (word_of token.word) = rw number at next.value in
     token-takes (HasValue n) s after Number next end (sym next.kind ∙ value.0) (λ e. cc) stands value
 
--- a token in a wrong place
+-- an unexpected token
 pub token-refuses : {text : List ℕ} {from depth : ℕ} {token : Token} (s : Stage) → IsNext text from depth token →
     next_standing s depth token.kind (annotation_flag token.word.bytes.now) ≡ None →
     fault_from (s, depth) (length text) (words_after text from) ≡ Some (faults.Expected token.word.place (wanted_at s depth token.kind))
@@ -100,7 +99,7 @@ token-over {token = token} next end = elim next.first [
     kind-some [] h = refl
     kind-some (b ∷ bs) h = absurd (grind arith)
 
--- a word before what a part of the parser takes
+-- a token before a parsed part
 pub parses-after : {X : Type 0} {F : Word → Type 0} {before middle : Standing} {text : List ℕ} {from mid : ℕ}
     (P Q : X → List Word → Type 0) (after : Standing) (r : Result (X × ℕ) FmdFault) →
     ((x : X) (v : List Word) → Then (One F) (P x) v → Q x v) → Takes F before middle text from mid →

@@ -1,4 +1,4 @@
--- The bytes of a table are read as a valid map.
+-- The bytes of a table parse as a valid map.
 use Rattle.std.proofs.Common.{suc, ◌≡◌, inl, inr, ℕ, ◌+◌, ◌^◌, ◌<◌, ◌≤◌, nat_lt, true, All, List, [], ◌∷◌, ◌++◌, length, refl, sym, ◌∙◌, ap, subst, arith}
 use Rattle.std.specs.Prelude.{Option, Some, None, unwrap_or}
 use Rattle.std.specs.Int.Bits.{bit_or}
@@ -60,7 +60,7 @@ parts-are name flags offset given parts ws (a, b, split, named, (c, d, more, ann
     ]
 
 mutual
-  -- where a section ends below 2^32, each area below it fits into its bytes
+  -- if a section ends below 2^32, each area below fits into the fields
   areas_fit : (t : Tree) (ws : List Word) (n at size : ℕ) (areas : List Area) → IsSection t ws → at + size < 2 ^ 32 →
       AreasBelow n at size t areas → All IsAreaInBytes areas
   areas_fit (section name flags offset given parts) ws n at size areas is small (clear, are) =

@@ -1,4 +1,4 @@
--- The words of a tree: no word is misplaced, and they make no other tree.
+-- The tokens of a tree are all expected, and form no other tree.
 use Rattle.std.proofs.Common.{◌≡◌, ◌≢◌, ℕ, suc, ◌<◌, nat_lt, Bool, true, false, List, [], ◌∷◌, ◌++◌, length, Option, Some, None, unwrap_or, if◌then◌else◌, refl, sym, subst, ◌∙◌, ap, arith, inl, inr, append_assoc}
 use Rattle.std.proofs.lemmas.Bool.{cond_both, lt-ltb}
 use Rattle.std.proofs.lemmas.List.{append-nil}
@@ -16,19 +16,19 @@ use Rattle.fmd_lang.specs.declared.word.Kind.TheVariants.{Name, Number, OpenPare
 use Rattle.fmd_lang.proofs.FormLemmas.{annotation-name}
 use Rattle.fmd_lang.proofs.OptionLemmas.{and-then-some, or-other}
 
--- What the words of a text make, from the last to the first: what the name before them has, or the annotations of an
--- open list; and the sections in each list of braces.
+-- The parts and sections built from the tokens, last to first: the parts of the next name, or an
+-- open list of annotations; and the sections at each depth of braces.
 record Built : Type 0 where
   inside : Bool
   marks : List Word
   flags : ℕ
   offset : Option ℕ
   size : Option ℕ
-  number : Option ℕ  -- the one after the size
+  number : Option ℕ  -- the number after the size
   parts : Forest
   levels : List Forest
 
--- what a name has, and the sections behind
+-- the parts of a name, and the sections after
 abbrev has : ℕ → Option ℕ → Option ℕ → Forest → List Forest → Built
 has flags o z parts ls =
     record { inside = false; marks = []; flags = flags; offset = o; size = z; number = None; parts = parts; levels = ls }
@@ -59,16 +59,16 @@ abbrev build : List Word → Built
 build [] = nothing (none ∷ [])
 build (w ∷ ws) = put_word (kind_of w.bytes) w (build ws)
 
--- No word of these is misplaced, and this is what they make.
+-- All tokens are expected, and build `b`.
 record Makes (there : Standing) (end : ℕ) (ws : List Word) (b : Built) : Type 0 where
   placed : (at : ℕ) (what : Expected) → fault_from there end ws ≢ Some (faults.Expected at what)
   made : build ws ≡ b
 
--- the same, past so few of what may follow a name
+-- the same after fewer than `most` optional parts
 abbrev MakesPast : ℕ → ℕ → ℕ → List Word → Built → Type 0
 MakesPast most depth end ws b = (n : ℕ) → n < most → Makes (past n, depth) end ws b
 
--- Words of this form before others that make the first make the second.
+-- Tokens of the form P extend `behind` to `all`.
 abbrev Adds : (List Word → Type 0) → ℕ → ℕ → ℕ → ℕ → Built → Built → Type 0
 Adds P most most_behind depth end behind all = (ws r : List Word) → P ws →
     MakesPast most_behind depth end r behind → MakesPast most depth end (ws ++ r) all
@@ -78,14 +78,14 @@ adds-then : {P Q : List Word → Type 0} {l m n depth end : ℕ} {a b c : Built}
 adds-then p q ws r (front, back, split, first, second) more k few =
     rw (split, append_assoc front back r) (p front (back ++ r) first (q back r second more) k few)
 
--- The refusal of a word by itself isn't that of a word in a wrong place.
+-- A token's own fault is never an unexpected token.
 own-placed : (k : Kind) (depth : ℕ) (w : Word) (at : ℕ) (what : Expected) → own_fault k depth w ≢ Some (faults.Expected at what)
 own-placed Number depth w at what h = grind arith
 own-placed Name depth w at what h = grind arith
 own-placed OpenBrace depth w at what h = grind arith
 own-placed k depth w at what h = cc
 
--- a word in its place
+-- an expected token
 makes : {s : Stage} {after : Standing} {depth end : ℕ} {w : Word} {ws : List Word} {b c : Built} (k : Kind) → IsA k w →
     next_standing s depth k (annotation_flag w.bytes) ≡ Some after → Makes after end ws b → put_word k w b ≡ c →
     Makes (s, depth) end (w ∷ ws) c
@@ -136,7 +136,6 @@ annotations-add flags o z parts ls depth end ws r (inr (a, b, split, marked, (w 
     rw (split, first, inner, second, append_assoc v (c ∷ []) r)
     (makes OpenParen opens (rw (lt-ltb n 1 few) refl) all (ap (λ o'. has (unwrap_or o' 0) o z parts ls) flagged.1))
 
--- sections before others
 abbrev join : Forest → Forest → Forest
 join none l = l
 join (some t ts) l = some t (join ts l)
@@ -158,7 +157,7 @@ body-adds parts ls depth end sections ws r (inr (a, b, split, (m, first, opens),
     (ap (λ ts. has 0 None None ts ls) (join-none parts)))
 
 mutual
-  -- a section, where a name may stand
+  -- a section in place of an expected name
   section-makes : (t : Tree) (s : Stage) (depth end : ℕ) (ws r : List Word) (l : Forest) (ls : List Forest) →
       IsSection t ws → ((flag : Option ℕ) → next_standing s depth Name flag ≡ Some (past 0, depth)) →
       MakesPast 5 depth end r (nothing (l ∷ ls)) → Makes (s, depth) end (ws ++ r) (nothing (some t l ∷ ls))
@@ -193,7 +192,6 @@ text-placed t text is at what =
     cond_both (nat_lt text_limit (length text)) (Some faults.TextTooLong) (fault_from (start, 0) (length text) (words text))
     (λ o. o ≢ Some (faults.Expected at what)) (λ long h. cc) (λ short. (root-makes t (length text) (words text) is).placed at what)
 
--- two trees of the same words
 pub one-tree : (t u : Tree) (ws : List Word) → IsSection t ws → IsSection u ws → t ≡ u
 one-tree t u ws one other =
     let same : some t none ≡ some u none =

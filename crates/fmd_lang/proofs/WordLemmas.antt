@@ -1,4 +1,4 @@
--- The words of a text, one byte at a time.
+-- The tokens of a text, by byte.
 use Rattle.std.proofs.Common.{◌≡◌, ℕ, suc, ◌+◌, ◌-◌, ◌<◌, ◌≤◌, nat_eq, Bool, true, false, cond, List, [], ◌∷◌, length, drop, refl, sym, ◌∙◌, ap, arith, slice_index, slice_range, add-one}
 use Rattle.std.proofs.Math.Seq.{drop-cons}
 use Rattle.std.proofs.lemmas.List.{drop_all, drop-drop, length-drop, take_all}
@@ -8,14 +8,13 @@ use Rattle.std.specs.List.{position_or_len, prefix_len, take_while}
 use Rattle.fmd_lang.specs.Lexing.{begins_word}
 use Rattle.fmd_lang.specs.Words.{words_from, without_comments, words_after, word, is_blank, is_plain}
 
--- the text at a place: its byte, and the rest
 pub here : (text : List ℕ) (at : ℕ) → at < length text → drop at text ≡ slice_index text at ∷ drop (at + 1) text
 here text at h = rw add-one (drop-cons text at 0 h)
 
 pub tail : (text : List ℕ) (at : ℕ) → slice_range text at (length text) ≡ drop at text
 tail text at = take_all (length text - at) (drop at text) (omega (arith, length-drop at text))
 
--- A blank, a plain byte and a `#` are three.
+-- Blanks, plain bytes and `#` are disjoint.
 blank-alone : (b : ℕ) → is_blank b ≡ true → (nat_eq b 35 ≡ false) × (is_plain b ≡ false)
 blank-alone b h = (grind arith, grind arith)
 
@@ -29,7 +28,7 @@ words_after-blank text at h blank =
     let (no_comment, no_plain) = blank-alone (slice_index text at) blank in
     rw (here text at h, no_comment, blank, no_plain, add-one) refl
 
--- A comment goes on up to its line feed.
+-- A comment ends at the line feed.
 comment-rest : (s : List ℕ) (at : ℕ) →
     let n = position_or_len (λ b. nat_eq b 10) s in
     words_from at false (without_comments true s) ≡ words_from (n + at) false (without_comments false (drop n s))
@@ -66,7 +65,7 @@ pub words_after-over : (text : List ℕ) (at : ℕ) → length text ≤ at → w
 unfolding words_after
 words_after-over text at h = rw (drop_all at text h) refl
 
--- A row of plain bytes has no comment, and ends before the first byte that isn't one.
+-- A sequence of plain bytes has no comment, and ends before the first other byte.
 abbrev Row : List ℕ → ℕ → Type 0
 Row s at = (take_while is_plain (without_comments false s) ≡ take_while is_plain s)
     × (words_from at true (without_comments false s)
@@ -99,7 +98,7 @@ row (b ∷ s) at = go (is_plain b) refl (row s (suc at))
         let none : 0 + at ≡ at = omega arith in
         rw (e, none) ends
 
--- a word of plain bytes
+-- a token of plain bytes
 begins : (b : ℕ) (s : List ℕ) (at : ℕ) → is_plain b ≡ true → words_from at false (without_comments false (b ∷ s))
     ≡ word at (b ∷ take_while is_plain s) ∷ words_from (at + 1) true (without_comments false s)
 begins b s at plain =
@@ -120,7 +119,6 @@ words_after-plain text at h plain =
     ap (λ l. words_from at false (without_comments false l)) (here text at h) ∙ begins (slice_index text at) rest at plain
     ∙ rw (len, here text at h, (row rest (at + 1)).1, place, drop-drop n (at + 1) text) refl
 
--- a word of a single byte
 pub words_after-single : (text : List ℕ) (at : ℕ) → at < length text → is_plain (slice_index text at) ≡ false →
     begins_word (slice_index text at) ≡ true →
     words_after text at ≡ word at (slice_range text at (at + 1)) ∷ words_after text (at + 1)
@@ -131,7 +129,6 @@ words_after-single text at h plain begins =
     let one : at + 1 - at ≡ 1 = omega arith in
     rw (one, here text at h, comment, add-one, blank, plain) refl
 
--- the end of a text, as a word
 pub over-word : (text : List ℕ) (at : ℕ) → at ≡ length text → word at (slice_range text at (length text)) ≡ word (length text) []
 over-word text at e =
     let none : slice_range text (length text) (length text) ≡ [] = grind (arith, common_steps) in

@@ -1,6 +1,5 @@
--- The fault of a descriptor's text: excessive length, or else the fault at the lowest offset. At
--- the same offset, a malformed token precedes an unexpected token. This project defines the order,
--- the messages and the limits.
+-- The first fault of a text: excessive length, or the lowest offset; at the same offset, a
+-- malformed token precedes an unexpected token. Order, messages and limits are this project's own.
 use Rattle.std.specs.Prelude.{◌≡◌, ◌⊎◌, Result, Ok, Err, ℕ, suc, zero, nat_lt, Bool, true, false}
 use Rattle.std.specs.Prelude.{if◌then◌else◌, List, [], ◌∷◌, length, Option, Some, None}
 use Rattle.std.specs.Option.{option_map_or, option_or}
@@ -16,21 +15,19 @@ use Rattle.fmd_lang.specs.declared.fault.FmdFault.TheVariants as faults
 use Rattle.fmd_lang.specs.declared.fault.Expected.{Expected}
 use Rattle.fmd_lang.specs.declared.fault.Expected.TheVariants as wanted
 
--- the parser's state after a prefix of the tokens
+-- the parser's state between tokens
 pub data Stage : Type 0 where
   start : Stage  -- before the first token
   in_annotations : Bool → Stage  -- after `(`; the flag is set after an annotation
   at_sign : Stage  -- after `@`
   past : ℕ → Stage  -- in or after a section; counts the optional parts already passed
 
--- the parser's state, and the number of open braces
+-- the state, and the number of open braces
 abbrev pub Standing : Type 0
 Standing = Stage × ℕ
 
--- The state after a token of a given kind, with its flag if the token is an annotation, at a given
--- depth of open braces; None if the grammar allows no such token. After a section's name follow, in
--- order: annotations, offset, size, braces. Inside braces follows another section or the closing
--- brace, after the root only the end.
+-- The state after a token, None after an unexpected token. A name is followed by annotations,
+-- offset, size and braces, in this order.
 abbrev pub next_standing : Stage → ℕ → Kind → Option ℕ → Option Standing
 next_standing start depth Name flag = Some (past 0, depth)
 next_standing (in_annotations true) depth CloseParen flag = Some (past 1, depth)
@@ -46,7 +43,7 @@ next_standing (past n) (suc depth) CloseBrace flag = Some (past 4, depth)
 next_standing (past n) zero End flag = Some (past 4, zero)
 next_standing s depth k flag = None
 
--- the expected token, in place of an unexpected token of a given kind
+-- the expected token
 abbrev pub wanted_at : Stage → ℕ → Kind → Expected
 wanted_at start depth k = wanted.Section
 wanted_at (in_annotations false) depth k = wanted.Annotation
@@ -60,7 +57,7 @@ wanted_at (past n) (suc depth) k = wanted.SectionOrClose
 abbrev pub depth_limit : ℕ
 depth_limit = 32
 
--- the fault of a token of a given kind, regardless of the grammar, at a given depth of open braces
+-- the fault of a token, regardless of the grammar
 abbrev pub own_fault : Kind → ℕ → Word → Option FmdFault
 own_fault Bad depth w = Some (faults.BadByte w.place)
 own_fault Number depth w = result_err (number_at w.place (number_value w.bytes))
@@ -69,13 +66,13 @@ own_fault Name depth w =
 own_fault OpenBrace depth w = if nat_lt depth depth_limit then None else Some faults.TooDeep
 own_fault k depth w = None
 
--- the fault of a token or of the end, or else the fault of the following tokens
+-- the fault of a token, or else of the following tokens
 abbrev pub fault_after : Standing → Word → (Standing → Option FmdFault) → Option FmdFault
 fault_after (s, depth) w further = option_or (own_fault (kind_of w.bytes) depth w)
     (option_map_or further (next_standing s depth (kind_of w.bytes) (annotation_flag w.bytes))
     (Some (faults.Expected w.place (wanted_at s depth (kind_of w.bytes)))))
 
--- the first fault of the remaining tokens, for a text of length `end`
+-- the first fault of the tokens, for a text of length `end`
 abbrev pub fault_from : Standing → ℕ → List Word → Option FmdFault
 fault_from there end [] = fault_after there (word end []) (λ t. None)
 fault_from there end (w ∷ ws) = fault_after there w (λ t. fault_from t end ws)
@@ -84,7 +81,6 @@ fault_from there end (w ∷ ws) = fault_after there w (λ t. fault_from t end ws
 abbrev pub text_limit : ℕ
 text_limit = 1048576
 
--- the first fault of a text
 unfoldable pub first_fault : List ℕ → Option FmdFault
 first_fault text = if nat_lt text_limit (length text) then Some faults.TextTooLong
     else fault_from (start, 0) (length text) (words text)

@@ -1,8 +1,7 @@
--- The grammar of a descriptor: a relation between a tree and a list of tokens, by recursion on the
--- tree:
+-- The grammar of a descriptor:
 --   section = name [ "(" annotation+ ")" ] [ "@" number ] [ number ] [ "{" section* "}" ]
--- Source: coreboot's Documentation/lib/flashmap.md. Empty braces, and the same grammar for the root
--- as for any other section, are this project's own.
+-- Source: coreboot's Documentation/lib/flashmap.md. Empty braces, and the same grammar for the
+-- root, are this project's own.
 use Rattle.std.specs.Prelude.{◌≡◌, ℕ, ◌<◌, ◌⊎◌, List, [], ◌∷◌, ◌++◌, length, Option, Some}
 use Rattle.std.specs.Prelude.{MatchOption, codes}
 use Rattle.std.specs.Int.Bits.{bit_or}
@@ -16,41 +15,39 @@ use Rattle.fmd_lang.specs.declared.word.Kind.{Kind}
 use Rattle.fmd_lang.specs.declared.word.Kind.TheVariants.{Name, Number, OpenParen, CloseParen, At}
 use Rattle.fmd_lang.specs.declared.word.Kind.TheVariants.{OpenBrace, CloseBrace}
 
--- a single token of the given form
+-- a single token
 abbrev pub One : (Word → Type 0) → List Word → Type 0
 One P ws = (w : Word) × (ws ≡ w ∷ []) × P w
 
--- a sequence of the first form, followed by a sequence of the second
+-- a sequence of two forms
 abbrev pub Then : (List Word → Type 0) → (List Word → Type 0) → List Word → Type 0
 Then P Q ws = (front back : List Word) × (ws ≡ front ++ back) × P front × Q back
 
--- a token of the given kind
 abbrev pub IsA : Kind → Word → Type 0
 IsA k w = kind_of w.bytes ≡ k
 
--- a sequence of the given form, followed by a token of the given kind
+-- a sequence before a last token
 abbrev pub Until : Kind → (List Word → Type 0) → List Word → Type 0
 Until last P = Then P (One (IsA last))
 
--- a sequence between delimiters of two kinds; or no token, if the fact holds
+-- a sequence between delimiters; or no token, if Q holds
 abbrev pub Enclosed : Kind → Kind → (List Word → Type 0) → Type 0 → List Word → Type 0
 Enclosed first last P Q ws = ((ws ≡ []) × Q) ⊎ Then (One (IsA first)) (Until last P) ws
 
--- the annotations, each with the area flags that it sets
+-- the annotations, and the area flags of each
 abbrev pub annotations : List (List ℕ × ℕ)
 annotations = (codes "CBFS", 0) ∷ (codes "PRESERVE", 8) ∷ []
 
--- the flags of an annotation, None for any other token
 abbrev pub annotation_flag : List ℕ → Option ℕ
 annotation_flag bytes = lookup (bytes_eq bytes) annotations
 
--- the flags combined with the flags of all annotations; None after any other token
+-- the flags of all annotations, added to `flags`
 abbrev pub flags_with : ℕ → List Word → Option ℕ
 flags_with flags [] = Some flags
 flags_with flags (w ∷ ws) =
     option_and_then (λ flag. flags_with (bit_or flags flag) ws) (annotation_flag w.bytes)
 
--- one or more annotations
+-- a nonempty list of annotations
 abbrev pub HaveFlags : ℕ → List Word → Type 0
 HaveFlags flags ws = (0 < length ws) × (flags_with 0 ws ≡ Some flags)
 
@@ -58,7 +55,7 @@ HaveFlags flags ws = (0 < length ws) × (flags_with 0 ws ≡ Some flags)
 abbrev pub AreAnnotations : ℕ → List Word → Type 0
 AreAnnotations flags = Enclosed OpenParen CloseParen (HaveFlags flags) (flags ≡ 0)
 
--- a number with the given value
+-- a number with the value `n`
 abbrev pub HasValue : ℕ → Word → Type 0
 HasValue n w = IsA Number w × (number_value w.bytes ≡ Some n)
 
@@ -70,18 +67,15 @@ IsOffset offset ws = MatchOption offset (ws ≡ []) (λ n. Then (One (IsA At)) (
 abbrev pub IsSize : Option ℕ → List Word → Type 0
 IsSize size ws = MatchOption size (ws ≡ []) (λ n. One (HasValue n) ws)
 
--- a section's name
 abbrev pub IsName : List ℕ → Word → Type 0
 IsName name w = IsA Name w × (w.bytes ≡ name) × (length name < 32)
 
 abbrev mutual
-  -- the tokens are the section
   pub IsSection : Tree → List Word → Type 0
   IsSection (section name flags offset size parts) ws =
       Then (One (IsName name)) (Then (AreAnnotations flags) (Then (IsOffset offset)
       (Then (IsSize size) (Enclosed OpenBrace CloseBrace (AreSections parts) (parts ≡ none))))) ws
 
-  -- the tokens are the sections in order
   pub AreSections : Forest → List Word → Type 0
   AreSections none ws = ws ≡ []
   AreSections (some t ts) ws = Then (IsSection t) (AreSections ts) ws

@@ -1,6 +1,5 @@
--- The layout of a descriptor's sections: each sibling by equations over its place. Relative offsets
--- and omitted sizes are coreboot's rules (Documentation/lib/flashmap.md). Conditions on omitted
--- sizes, and the resulting sizes, are this project's own.
+-- The places of sections. Relative offsets and omitted sizes are coreboot's rules
+-- (Documentation/lib/flashmap.md); conditions and results of omitted sizes are this project's own.
 use Rattle.std.specs.Prelude.{◌≡◌, ℕ, ◌+◌, ◌-◌, nat_eq, nat_lt, Bool, false, ◌&&◌, ◌||◌, not}
 use Rattle.std.specs.Prelude.{if◌then◌else◌, List, [], ◌∷◌, Option, Some, None, option_map}
 use Rattle.std.specs.Prelude.{unwrap_or, is_some, MatchOption}
@@ -14,13 +13,13 @@ use Rattle.fmd_lang.specs.declared.fault.FmdFault.TheVariants as faults
 abbrev pub end_of : Place → ℕ
 end_of q = q.start + q.size
 
--- A run consists of the first sibling, or a sibling with an offset, and all following siblings
--- without an offset. Its bound is the start of the next run, or the parent's size.
+-- A run begins at the first sibling, or at a sibling with an offset. The bound is the start of the
+-- next run, or the parent's size.
 abbrev pub bound : ℕ → List Sibling → ℕ
 bound parent [] = parent
 bound parent (p ∷ ps) = unwrap_or p.offset (bound parent ps)
 
--- the sum of the explicit sizes in the rest of a run
+-- the sum of the explicit sizes ahead in the run
 abbrev pub sizes_ahead : List Sibling → ℕ
 sizes_ahead [] = 0
 sizes_ahead (p ∷ ps) = if is_some p.offset then 0 else unwrap_or p.size 0 + sizes_ahead ps
@@ -32,15 +31,14 @@ misfit_of parent from p q =
     else (if nat_lt q.start from then Some (faults.Overlap p.number)
     else (if nat_lt parent (end_of q) then Some (faults.Outside p.number) else None))
 
--- The conditions on a place, if the previous sibling ends at `from` and `ps` are the following
--- siblings. An omitted size extends the run to its bound.
+-- The place of a sibling after `from` and before `ps`. An omitted size extends the run to the
+-- bound.
 pub record IsPlaced (parent from : ℕ) (p : Sibling) (ps : List Sibling) (q : Place) : Type 0 where
   pub offset : q.start ≡ unwrap_or p.offset from
   pub size : MatchOption p.size (end_of q + sizes_ahead ps ≡ bound parent ps) (λ n. q.size ≡ n)
   pub fits : misfit_of parent from p q ≡ None
 
--- the number of the first sibling with the second omitted size of a run; the flag is set after the
--- first omitted size
+-- the first sibling with the second omitted size of a run; the flag records an omitted size
 abbrev pub ambiguous_sibling : Bool → List Sibling → Option ℕ
 ambiguous_sibling omitted [] = None
 ambiguous_sibling omitted (p ∷ ps) =
@@ -48,8 +46,7 @@ ambiguous_sibling omitted (p ∷ ps) =
     if before && not (is_some p.size) then Some p.number
     else ambiguous_sibling (before || not (is_some p.size)) ps
 
--- The place of a sibling, also in a row without a valid layout. An omitted size is the rest up to
--- the bound, or 0 if the bound is exceeded.
+-- The computed place: an omitted size is the rest up to the bound, or 0.
 abbrev pub place_of : ℕ → ℕ → Sibling → List Sibling → Place
 place_of parent from p ps =
     let start = unwrap_or p.offset from in
@@ -60,19 +57,17 @@ places_of parent from [] = []
 places_of parent from (p ∷ ps) =
     place_of parent from p ps ∷ places_of parent (end_of (place_of parent from p ps)) ps
 
--- the first fault of the places
 abbrev pub first_misfit : ℕ → ℕ → List Sibling → List Place → Option FmdFault
 first_misfit parent from (p ∷ ps) (q ∷ qs) =
     option_or (misfit_of parent from p q) (first_misfit parent (end_of q) ps qs)
 first_misfit parent from ps qs = None
 
--- the first fault of a row
+-- the first fault of a row: omitted sizes precede places
 abbrev pub row_fault : ℕ → List Sibling → Option FmdFault
 row_fault parent ps = option_or (option_map faults.Ambiguous (ambiguous_sibling false ps))
     (first_misfit parent 0 ps (places_of parent 0 ps))
 
--- a section as a sibling with the given number, and a list of sections as a row with consecutive
--- preorder numbers
+-- sections as siblings, with preorder numbers from `n`
 abbrev pub sibling : ℕ → Tree → Sibling
 sibling n (section name flags offset size parts) =
     record { number = n; offset = offset; size = size }

@@ -13,7 +13,7 @@ plain_value (b ∷ x ∷ digits) =
     else digits_value 10 (b ∷ x ∷ digits)
 plain_value bytes = digits_value 10 bytes
 
--- the unit of K, M and G; 1 for any other byte
+-- the factor of a unit, or 1
 abbrev pub unit_value : ℕ → ℕ
 unit_value b = if nat_eq b 75 then 1024
     else (if nat_eq b 77 then 1048576 else (if nat_eq b 71 then 1073741824 else 1))
@@ -26,12 +26,12 @@ abbrev pub front_of : List ℕ → List ℕ
 front_of bytes =
     if nat_eq (unit_value (last_byte bytes)) 1 then bytes else take (length bytes - 1) bytes
 
--- The value of a number with at most one unit, None for any other bytes.
+-- the value of a number with at most a single unit
 unfoldable pub number_value : List ℕ → Option ℕ
 number_value bytes =
     option_map (λ n. n * unit_value (last_byte bytes)) (plain_value (front_of bytes))
 
--- the value of a number below 2^32, or the fault at its offset
+-- the value below 2^32, or the fault
 abbrev pub number_at : ℕ → Option ℕ → Result ℕ FmdFault
 number_at at None = Err (faults.BadNumber at)
 number_at at (Some n) = if nat_lt n (2 ^ 32) then Ok n else Err (faults.NumberTooLarge at)

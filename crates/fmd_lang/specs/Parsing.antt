@@ -11,8 +11,8 @@ use Rattle.fmd_lang.specs.declared.word.Kind.TheVariants.{Number, OpenBrace, Clo
 use Rattle.fmd_lang.specs.declared.fault.FmdFault.{FmdFault}
 use Rattle.fmd_lang.specs.declared.fault.FmdFault.TheVariants as faults
 
--- The tokens before `behind` have the given form and no fault. They take the parser from the state
--- `before` to the state `after`.
+-- The tokens before `behind` have the form P and no fault, and take the parser from `before` to
+-- `after`.
 pub record Reads (P : List Word → Type 0) (before after : Standing) (end : ℕ)
     (ws behind : List Word) : Type 0 where
   pub front : List Word
@@ -20,8 +20,8 @@ pub record Reads (P : List Word → Type 0) (before after : Standing) (end : ℕ
   pub form : P front
   pub same : fault_from before end ws ≡ fault_from after end behind
 
--- Success consumes the tokens up to an offset, which have the form P of the value, without a fault.
--- An error is the first fault of the text, or an allocation failure.
+-- Success consumes faultless tokens of the form P of the value. An error is the first fault, or an
+-- allocation failure.
 abbrev pub Parses : {X : Type 0} → (X → List Word → Type 0) → Standing → Standing → List ℕ → ℕ
     → Result (X × ℕ) FmdFault → Type 0
 Parses P before after text from (Ok (x, to)) = (from ≤ to)
@@ -29,7 +29,7 @@ Parses P before after text from (Ok (x, to)) = (from ≤ to)
 Parses P before after text from (Err fault) =
     (fault ≡ faults.Memory) ⊎ (fault_from before (length text) (words_after text from) ≡ Some fault)
 
--- the properties of the token at an offset, at a given depth of open braces
+-- the token at an offset
 pub record IsNext (text : List ℕ) (from depth : ℕ) (token : Token) : Type 0 where
   pub first : IsFirst text from token.word
   pub kind : kind_of token.word.bytes.now ≡ token.kind

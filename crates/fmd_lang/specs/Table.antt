@@ -1,5 +1,4 @@
--- The table of a descriptor: all sections except the root in preorder, with offsets relative to the
--- root's start.
+-- The table of a descriptor: the sections below the root, in preorder.
 use Rattle.std.specs.Prelude.{◌≡◌, ℕ, suc, ◌+◌, ◌-◌, List, [], ◌∷◌, ◌++◌, codes, length, take}
 use Rattle.std.specs.Prelude.{replicate, Some, None, false, unwrap_or}
 use Rattle.std.specs.List.{find, flat_map}
@@ -12,27 +11,27 @@ use Rattle.flash_format.specs.declared.flashmap.Area.{Area}
 use Rattle.flash_format.specs.declared.flashmap.FmapHead.{FmapHead}
 use Rattle.fmd_lang.specs.declared.table.Table.{Table}
 
--- the maximum number of areas in a flash map's header
+-- the maximum number of areas
 abbrev pub area_limit : ℕ
 area_limit = 65535
 
--- a name of the table, padded with NULs to 32 bytes
+-- a name, padded with NULs to 32 bytes
 abbrev pub field_of : List ℕ → List ℕ
 field_of name = take 32 name ++ replicate (32 - length name) 0
 
--- the area of a section with a given place in a parent at the offset `at`
+-- the area of a section, for a parent at `at`
 abbrev pub section_area : ℕ → Place → Tree → Area
 section_area at q (section name flags offset size parts) =
     record { offset = at + q.start; size = q.size; name = field_of name; flags = flags }
 
 abbrev mutual
-  -- the areas below a section, in preorder, for the section's number, offset `at` and size
+  -- the areas below the section with the number `n`, the offset `at` and the size `size`
   pub AreasBelow : ℕ → ℕ → ℕ → Tree → List Area → Type 0
   AreasBelow n at size (section name flags offset given parts) areas =
       (ambiguous_sibling false (siblings (suc n) parts) ≡ None)
       × AreasOf (suc n) at size 0 parts areas
 
-  -- the areas of the remaining parts and below them, if the previous part ends at `from`
+  -- the areas of the remaining parts and below, if the previous part ends at `from`
   pub AreasOf : ℕ → ℕ → ℕ → ℕ → Forest → List Area → Type 0
   AreasOf n at size from none areas = areas ≡ []
   AreasOf n at size from (some t ts) areas =
@@ -41,8 +40,7 @@ abbrev mutual
       × AreasBelow n (at + q.start) q.size t below
       × AreasOf (n + section_count t) at size (end_of q) ts after
 
--- The faults also cover descriptors without a valid layout: the same areas, over the places of
--- `places_of`.
+-- The same areas by `places_of`, also without a valid layout.
 abbrev mutual
   pub areas_below : ℕ → ℕ → ℕ → Tree → List Area
   areas_below n at size (section name flags offset given parts) =
@@ -53,17 +51,16 @@ abbrev mutual
       ++ areas_of (n + section_count t) at ts qs
   areas_of n at ts qs = []
 
--- the size of the area FMAP, or 0 if there is none
+-- the size of the area FMAP, or 0
 abbrev pub fmap_size : List Area → ℕ
 fmap_size areas = option_map_or (λ a. a.size) (find (is_area (codes "FMAP")) areas) 0
 
--- the table of a descriptor
 abbrev pub IsTable : Tree → Table → Type 0
 IsTable (section name flags offset size parts) table =
     (table.base ≡ unwrap_or offset 0) × (size ≡ Some table.size) × (table.name ≡ field_of name)
     × AreasBelow 0 0 table.size (section name flags offset size parts) table.areas.items
 
--- ---- the bytes: the header of FMAP 1.1, followed by the areas
+-- ---- the bytes of a table
 
 abbrev pub table_head : Table → FmapHead
 table_head t =

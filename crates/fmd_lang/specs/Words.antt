@@ -1,6 +1,5 @@
--- The tokens of a descriptor's text, with their offsets. The language is coreboot's
--- (Documentation/lib/flashmap.md). The exact bytes of tokens, blanks and comments are this
--- project's own.
+-- The tokens of a text. The language is coreboot's (Documentation/lib/flashmap.md), the exact bytes
+-- are this project's own.
 use Rattle.std.specs.Prelude.{ℕ, suc, nat_le, nat_eq, Bool, true, false, ◌&&◌, not, if◌then◌else◌}
 use Rattle.std.specs.Prelude.{drop, List, [], ◌∷◌, codes}
 use Rattle.std.specs.List.{list_any, take_while}
@@ -16,8 +15,8 @@ is_blank b = list_any (nat_eq b) (32 ∷ 9 ∷ 10 ∷ 13 ∷ [])
 abbrev pub is_plain : ℕ → Bool
 is_plain b = (nat_le 0x21 b && nat_le b 0x7e) && not (list_any (nat_eq b) (codes "#@{}()"))
 
--- The text with each comment replaced by spaces. A comment extends from `#` to the end of the line.
--- The flag is set inside a comment.
+-- The text with spaces for comments, from `#` to the end of the line. The flag is set inside a
+-- comment.
 abbrev pub without_comments : Bool → List ℕ → List ℕ
 without_comments inside [] = []
 without_comments false (b ∷ bs) =
@@ -25,7 +24,7 @@ without_comments false (b ∷ bs) =
 without_comments true (b ∷ bs) =
     if nat_eq b 10 then 10 ∷ without_comments false bs else 32 ∷ without_comments true bs
 
--- a token, and the offset of its first byte
+-- a token, and the offset
 pub record Word : Type 0 where
   pub place : ℕ
   pub bytes : List ℕ
@@ -33,8 +32,8 @@ pub record Word : Type 0 where
 abbrev pub word : ℕ → List ℕ → Word
 word place bytes = record { place = place; bytes = bytes }
 
--- The tokens that begin in the given bytes. A token is a punctuation mark, a maximal sequence of
--- plain bytes, or a single invalid byte. The flag is set inside a sequence of plain bytes.
+-- The tokens: a punctuation mark, a maximal sequence of plain bytes, or a single invalid byte. The
+-- flag is set inside a sequence.
 abbrev pub words_from : ℕ → Bool → List ℕ → List Word
 words_from place inside [] = []
 words_from place inside (b ∷ bs) =
@@ -43,11 +42,10 @@ words_from place inside (b ∷ bs) =
     else (if not (is_plain b) then word place (b ∷ []) ∷ others
     else (if inside then others else word place (take_while is_plain (b ∷ bs)) ∷ others))
 
--- the tokens of a text
 unfoldable pub words : List ℕ → List Word
 words text = words_from 0 false (without_comments false text)
 
--- The kind of a token, by its first byte. The end of a text counts as an empty token.
+-- the kind of a token, by the first byte; the end is empty
 abbrev pub kind_of : List ℕ → Kind
 kind_of [] = End
 kind_of (b ∷ bs) =

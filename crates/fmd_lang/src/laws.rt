@@ -1,4 +1,4 @@
-//! Laws about the definitions. The functions do nothing: their contracts are the laws.
+//! Laws of the definitions: each contract is a law.
 
 ghost use Rattle.std.specs.Prelude.{◌≡◌, ◌≢◌, ℕ, List, ◌++◌, Some, None};
 ghost use Rattle.flash_format.specs.Laws.{IsReadAsMap};
@@ -18,7 +18,7 @@ pub fn one_tree(text: &[u8])
     ensures { (t u : Tree) → IsSection t (words text.now) → IsSection u (words text.now) → t ≡ u }
 {}
 
-/// A text with a tree has no unexpected token: its first fault, if any, is of another kind.
+/// A text with a tree has no unexpected token.
 pub fn trees_have_no_misplaced_word(text: &[u8])
     ensures { (t : Tree) (at : ℕ) (what : Expected) → IsSection t (words text.now)
         → first_fault text.now ≢ Some (FmdFault.Expected at what) }
@@ -30,8 +30,7 @@ pub fn faultless_texts_have_a_tree(text: &[u8])
     ensures { (t : Tree) × IsSection t (words text.now) }
 {}
 
-/// Sections with a valid layout have no fault below any parent: no second omitted size, no empty
-/// section, no overlap and no section outside its parent.
+/// A valid layout has no fault below any parent.
 pub fn laid_sections_have_no_fault(table: &Table)
     ensures { (t : Tree) → IsTable t table.now → parent_fault 0 table.now.size t ≡ None }
 {}
@@ -43,8 +42,7 @@ pub fn one_table(one: &Table, other: &Table)
         × (one.now.areas.items ≡ other.now.areas.items) }
 {}
 
-/// For a text and a layout without faults, the bytes of the table parse as a valid map with the
-/// table's header and areas, regardless of the following bytes of an image.
+/// The table of a text and layout without faults, followed by any bytes, parses as a valid map.
 pub fn tables_are_maps(text: &[u8], table: &Table)
     requires { first_fault text.now ≡ None }
     ensures { (t : Tree) (more : List ℕ) → IsSection t (words text.now) → layout_fault t ≡ None

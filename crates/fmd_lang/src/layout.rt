@@ -23,14 +23,12 @@ use crate::table::Table;
 use flash_format::{Area, FmapHead};
 use std::alloc::Global;
 
-/// Computes the table of a tree. The order of errors is: names (duplicate, no FMAP, too many),
-/// places of each parent in preorder, size of FMAP. The recursion is as deep as the tree; a tree
-/// from `parse` has at most 33 levels.
+/// Returns the table of a tree, or the first fault. The recursion has the tree's depth: at most 33
+/// levels from `parse`.
 #[tactic(auto, unfolding(crate::specs::LayoutFaults::layout_fault))]
 pub fn lay_out(alloc: Global, root: &Section) -> Result<Table, FmdFault>
     ensures table { IfOk result (λ table. IsTable (view root.now) table) }
     ensures few { IfOk result (λ table. length table.areas.items ≤ area_limit) }
-    // A successful layout has no fault. An error is the first fault, or an allocation failure.
     ensures refused { Refuses (layout_fault (view root.now)) result }
 {
     check_names_of(alloc, root)?;
@@ -46,7 +44,6 @@ pub fn lay_out(alloc: Global, root: &Section) -> Result<Table, FmdFault>
     })
 }
 
-/// Returns the root's size.
 fn root_size(root: &Section) -> Result<u32, FmdFault>
     ensures size { IfOk result (λ size. size_of (view root.now) ≡ Some size) }
     ensures fault { faults.size_fault (size_of (view root.now)) ≡ result_err result }
@@ -58,7 +55,7 @@ fn root_size(root: &Section) -> Result<u32, FmdFault>
     }
 }
 
-/// Pushes the areas below the section, which begins at `at` and has the number `areas.len()`.
+/// Pushes the areas below section number `areas.len()`, which begins at `at`.
 fn push_areas(
     alloc: Global,
     section: &Section,
@@ -91,7 +88,6 @@ fn push_areas(
     Ok(())
 }
 
-/// Returns the places of the section's parts.
 fn places(
     alloc: Global,
     section: &Section,
@@ -112,7 +108,7 @@ fn places(
     lay_row(alloc, size, &row)
 }
 
-/// Returns the parts as a row of siblings, numbered from `first` in preorder.
+/// Returns siblings, numbered from `first` in preorder.
 fn siblings(alloc: Global, first: usize, parts: &[Section]) -> Result<Vec<Sibling>, FmdFault>
     requires { first + length (names_of (views parts.now)) < 2 ^ 64 }
     ensures ok { IfOk result (λ row. row.items ≡ spec.siblings first (views parts.now)) }
@@ -132,7 +128,6 @@ fn siblings(alloc: Global, first: usize, parts: &[Section]) -> Result<Vec<Siblin
     Ok(row)
 }
 
-/// Counts the sections, including the root.
 fn count(section: &Section) -> usize
     requires { section_count (view section.now) < 2 ^ 64 }
     ensures { result ≡ section_count (view section.now) }
@@ -144,7 +139,6 @@ fn count(section: &Section) -> usize
     all
 }
 
-/// Refuses an area FMAP smaller than the table.
 fn check_fmap(areas: &[Area]) -> Result<(), FmdFault>
     requires { length areas.now ≤ area_limit }
     ensures { faults.table_fault areas.now ≡ result_err result }
@@ -155,7 +149,7 @@ fn check_fmap(areas: &[Area]) -> Result<(), FmdFault>
     Ok(())
 }
 
-/// Returns the size of the area FMAP, or 0 if there is none.
+/// Returns the size of the area FMAP, or 0.
 fn fmap_size(areas: &[Area]) -> u32
     ensures { result ≡ spec_table.fmap_size areas.now }
 {

@@ -1,4 +1,4 @@
-//! The language of flashmap descriptors (`.fmd`): lexer, parser, layout, and the compiled table.
+//! The language of flashmap descriptors (`.fmd`).
 #![tactic(auto)]
 
 mod fault;

@@ -1,5 +1,3 @@
-//! The names of a descriptor's sections.
-
 ghost use Rattle.std.specs.Prelude.{◌≡◌, ◌≤◌, ◌+◌, ◌⊎◌, ◌++◌, [], None, Some, codes, map, length};
 ghost use Rattle.std.specs.Prelude.{OnOk, IfOk, IfErr};
 ghost use Rattle.std.specs.List.{list_any};
@@ -16,7 +14,7 @@ use crate::table::AREA_LIMIT;
 use std::alloc::Global;
 use std::collections::BTreeSet;
 
-/// Refuses a duplicate name, a tree without FMAP, or an excessive number of names.
+/// Refuses a duplicate name, a missing FMAP, or too many names.
 pub fn check_names_of(alloc: Global, root: &Section) -> Result<(), FmdFault>
     ensures { Refuses (names_fault (names (view root.now))) result }
 {
@@ -25,7 +23,7 @@ pub fn check_names_of(alloc: Global, root: &Section) -> Result<(), FmdFault>
     check_names(alloc, &all)
 }
 
-/// Pushes the names of a section and of its descendants, in preorder.
+/// Pushes all names in preorder.
 fn push_names<'s>(section: &'s Section, all: &mut Vec<&'s [u8]>) -> Result<(), FmdFault>
     ensures ok { OnOk result (map (λ r. r.now) all.new.items
         ≡ map (λ r. r.now) all.old.items ++ names (view section.now)) }
@@ -38,7 +36,6 @@ fn push_names<'s>(section: &'s Section, all: &mut Vec<&'s [u8]>) -> Result<(), F
     Ok(())
 }
 
-/// Refuses a duplicate name, and returns the errors of `check_parts`.
 fn check_names(alloc: Global, names: &[&[u8]]) -> Result<(), FmdFault>
     ensures { Refuses (names_fault (map (λ r. r.now) names.now)) result }
 {
@@ -51,7 +48,7 @@ fn check_names(alloc: Global, names: &[&[u8]]) -> Result<(), FmdFault>
     }
 }
 
-/// Returns the number of the first name that occurred earlier.
+/// Returns the number of the first duplicate.
 fn first_duplicate(alloc: Global, names: &[&[u8]]) -> Result<Option<usize>, FmdFault>
     ensures ok { IfOk result (λ found. found ≡ duplicate 0 [] (map (λ r. r.now) names.now)) }
     ensures err { IfErr result (λ fault. fault ≡ FmdFault.Memory) }
@@ -65,7 +62,6 @@ fn first_duplicate(alloc: Global, names: &[&[u8]]) -> Result<Option<usize>, FmdF
     Ok(None)
 }
 
-/// Refuses parts without FMAP, and an excessive number of parts.
 fn check_parts(parts: &[&[u8]]) -> Result<(), FmdFault>
     ensures { areas_fault (map (λ r. r.now) parts.now) ≡ result_err result }
 {
@@ -78,7 +74,6 @@ fn check_parts(parts: &[&[u8]]) -> Result<(), FmdFault>
     Ok(())
 }
 
-/// Returns whether a name is FMAP.
 fn has_fmap(names: &[&[u8]]) -> bool
     ensures { result ≡ list_any (bytes_eq (codes "FMAP")) (map (λ r. r.now) names.now) }
 {
@@ -90,7 +85,7 @@ fn has_fmap(names: &[&[u8]]) -> bool
     false
 }
 
-/// Returns a name padded with NULs, as in the table.
+/// Returns the name, padded with NULs or truncated.
 pub fn field_of(name: &[u8]) -> [u8; 32]
     ensures { result ≡ field_of name.now }
 {

@@ -1,4 +1,4 @@
-//! The parser. Each function reads from an offset and returns a value and the offset after it.
+//! The parser. Each function returns a value and the next offset.
 
 ghost use Rattle.std.specs.Prelude.{◌≡◌, ◌≢◌, ◌≤◌, ◌<◌, ◌+◌, ◌⊎◌, ◌∷◌, ℕ, suc, length, true, false};
 ghost use Rattle.std.specs.Prelude.{Some, None, Err, IfOk, IfErr, MatchOption, MatchResult};
@@ -30,7 +30,7 @@ const DEPTH_LIMIT: u32 = 32;
 /// The maximum length of a name, in bytes.
 const NAME_LIMIT: usize = 31;
 
-/// The next token without a lexical fault, and its value if it is a number.
+/// A token without a lexical fault.
 #[derive(Clone, Copy)]
 struct Token<'t> {
     word: Word<'t>,
@@ -38,12 +38,10 @@ struct Token<'t> {
     value: Option<u32>,
 }
 
-/// Parses a descriptor.
+/// Returns the tree of a text, or the first fault.
 #[tactic(auto, unfolding(crate::specs::Faults::first_fault, crate::specs::Words::words, crate::specs::Words::words_after))]
 pub fn parse(alloc: Global, text: &[u8]) -> Result<Section, FmdFault>
-    // The tree matches the text by the grammar.
     ensures tree { IfOk result (λ t. IsSection (view t) (words text.now)) }
-    // A text with a tree has no fault. An error is the first fault, or an allocation failure.
     ensures refused { Refuses (first_fault text.now) result }
 {
     if text.len() > TEXT_LIMIT {
@@ -52,7 +50,6 @@ pub fn parse(alloc: Global, text: &[u8]) -> Result<Section, FmdFault>
     tree(alloc, text)
 }
 
-/// Parses a text regardless of its length.
 fn tree(alloc: Global, text: &[u8]) -> Result<Section, FmdFault>
     ensures tree { IfOk result (λ t. IsSection (view t) (words_after text.now 0)) }
     ensures refused { Refuses
@@ -66,7 +63,6 @@ fn tree(alloc: Global, text: &[u8]) -> Result<Section, FmdFault>
     }
 }
 
-/// Parses the root, at the start of the text.
 fn root(alloc: Global, text: &[u8]) -> Result<(Section, usize), FmdFault>
     ensures { Parses (λ t ws. IsSection (view t) ws) (start, 0) (past 4, 0) text.now 0 result }
 {
@@ -77,7 +73,7 @@ fn root(alloc: Global, text: &[u8]) -> Result<(Section, usize), FmdFault>
     }
 }
 
-/// Parses the rest of a section, after its name.
+/// Parses a section after the name.
 #[cycle(section)]
 fn section(
     alloc: Global,
@@ -105,7 +101,7 @@ fn section(
     Ok((section, to))
 }
 
-/// Parses the optional sections in braces.
+/// Parses optional sections in braces.
 #[cycle(section)]
 fn body(
     alloc: Global,
@@ -124,7 +120,7 @@ fn body(
     }
 }
 
-/// Parses the sections up to `}`, at a depth of `depth + 1` open braces.
+/// Parses sections up to `}`, at the depth `depth + 1`.
 #[cycle(section)]
 fn sections(
     alloc: Global,
@@ -152,7 +148,7 @@ fn sections(
     }
 }
 
-/// Parses the optional annotations.
+/// Parses optional annotations.
 fn annotations(text: &[u8], from: usize, depth: u32) -> Result<(u16, usize), FmdFault>
     ensures { Parses AreAnnotations (past 0, depth) (past 1, depth) text.now from result }
 {
@@ -163,7 +159,7 @@ fn annotations(text: &[u8], from: usize, depth: u32) -> Result<(u16, usize), Fmd
     }
 }
 
-/// Parses at least one annotation.
+/// Parses the annotations after `(`.
 fn first_annotation(text: &[u8], from: usize, depth: u32) -> Result<(u16, usize), FmdFault>
     ensures { Parses (λ flags. Until CloseParen (HaveFlags flags)) (in_annotations false, depth)
         (past 1, depth) text.now from result }
@@ -175,7 +171,7 @@ fn first_annotation(text: &[u8], from: usize, depth: u32) -> Result<(u16, usize)
     }
 }
 
-/// Parses the annotations after the first, up to `)`.
+/// Parses further annotations, up to `)`.
 fn more_annotations(
     text: &[u8],
     from: usize,
@@ -200,7 +196,6 @@ fn more_annotations(
     }
 }
 
-/// Returns the expected token after an annotation, in place of a token of the given kind.
 fn after_annotation(kind: Kind) -> Expected
     ensures { (depth : ℕ) → result ≡ wanted_at (in_annotations true) depth kind }
 {
@@ -210,7 +205,6 @@ fn after_annotation(kind: Kind) -> Expected
     }
 }
 
-/// Returns the flags of an annotation.
 fn annotation_flag(bytes: &[u8]) -> Option<u16>
     ensures { result ≡ grammar.annotation_flag bytes.now }
 {
@@ -223,7 +217,7 @@ fn annotation_flag(bytes: &[u8]) -> Option<u16>
     }
 }
 
-/// Parses the optional offset.
+/// Parses an optional offset.
 fn offset(text: &[u8], from: usize, depth: u32) -> Result<(Option<u32>, usize), FmdFault>
     ensures { Parses IsOffset (past 1, depth) (past 2, depth) text.now from result }
 {
@@ -248,7 +242,7 @@ fn number(text: &[u8], from: usize, depth: u32) -> Result<(u32, usize), FmdFault
     }
 }
 
-/// Parses the optional size.
+/// Parses an optional size.
 fn size(text: &[u8], from: usize, depth: u32) -> Result<(Option<u32>, usize), FmdFault>
     ensures { Parses IsSize (past 2, depth) (past 3, depth) text.now from result }
 {
@@ -259,7 +253,6 @@ fn size(text: &[u8], from: usize, depth: u32) -> Result<(Option<u32>, usize), Fm
     }
 }
 
-/// Reads the next token.
 fn peek<'t>(text: &'t [u8], from: usize, depth: u32) -> Result<Token<'t>, FmdFault>
     ensures next { IfOk result (λ token. IsNext text.now from depth token) }
     ensures refused { IfErr result (λ fault. (s : Stage)
@@ -271,7 +264,7 @@ fn peek<'t>(text: &'t [u8], from: usize, depth: u32) -> Result<Token<'t>, FmdFau
     Ok(Token { word, kind, value })
 }
 
-/// Returns the value of a number, None for another token, or the lexical fault of the token.
+/// Returns the value of a number, or the lexical fault.
 fn value_of(word: &Word<'_>, kind: Kind, depth: u32) -> Result<Option<u32>, FmdFault>
     requires { IsA kind (word_of word.now) }
     ensures value { IfOk result (λ value.
@@ -288,14 +281,12 @@ fn value_of(word: &Word<'_>, kind: Kind, depth: u32) -> Result<Option<u32>, FmdF
     }
 }
 
-/// Returns an error about an unexpected token.
 fn expected<T>(at: usize, what: Expected) -> Result<T, FmdFault>
     ensures { result ≡ Err (FmdFault.Expected at what) }
 {
     Err(FmdFault::Expected { at, what })
 }
 
-/// Copies bytes.
 fn copied(alloc: Global, bytes: &[u8]) -> Result<Vec<u8>, FmdFault>
     ensures { MatchResult result (λ v. v.items ≡ bytes.now) (λ fault. fault ≡ FmdFault.Memory) }
 {

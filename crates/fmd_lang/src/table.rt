@@ -1,5 +1,3 @@
-//! The table of a descriptor, and its encoding.
-
 ghost use Rattle.std.specs.Prelude.{◌≡◌, ◌≤◌, ◌<◌, ◌⊎◌, length, OnOk, IfOk, IfErr};
 ghost use Rattle.fmd_lang.specs.Faults.{Refuses};
 ghost use Rattle.fmd_lang.specs.LayoutFaults.{count_fault};
@@ -14,21 +12,20 @@ pub const AREA_LIMIT: usize = 65_535;
 
 const _: () = prove!(AREA_LIMIT == u16::MAX as usize);
 
-/// The compiled table of a descriptor: the header's fields and the areas.
+/// The compiled table of a descriptor.
 #[derive(Drop)]
 pub struct Table {
     /// The flash's base address: the root's offset, or 0.
     pub base: u64,
     /// The root's size, in bytes.
     pub size: u32,
-    /// The root's name, padded with NULs and truncated to 32 bytes.
+    /// The root's name, padded with NULs or truncated.
     pub name: [u8; 32],
-    /// All sections except the root, in preorder, with offsets relative to the root's start.
+    /// The sections below the root, in preorder, with offsets from the root's start.
     pub areas: Vec<Area>,
 }
 
-/// Encodes a table: the header of FMAP 1.1, followed by the areas. Refuses more areas than the
-/// header can count.
+/// Encodes the header of FMAP 1.1, and the areas. Refuses more than 65,535 areas.
 pub fn encode(alloc: Global, table: &Table) -> Result<Vec<u8>, FmdFault>
     ensures bytes { IfOk result (λ bytes. bytes.items ≡ table_bytes table.now) }
     ensures refused { Refuses (count_fault (length table.now.areas.items)) result }

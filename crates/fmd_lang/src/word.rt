@@ -7,12 +7,12 @@ ghost use Rattle.fmd_lang.specs.Words.{words_after, word};
 ghost use Rattle.fmd_lang.specs.Words as spec;
 ghost use Rattle.fmd_lang.specs.Lexing.{begins_word, IsFirst, end_of};
 
-/// The kind of a token, by its first byte.
+/// The kind of a token, by the first byte.
 #[derive(Clone, Copy)]
 pub enum Kind {
-    /// Plain bytes that begin with no digit.
+    /// Plain bytes without a leading digit.
     Name,
-    /// Plain bytes that begin with a digit.
+    /// Plain bytes with a leading digit.
     Number,
     OpenParen,
     CloseParen,
@@ -21,19 +21,18 @@ pub enum Kind {
     CloseBrace,
     /// An invalid byte.
     Bad,
-    /// The end of the text, as an empty token.
+    /// The end of the text.
     End,
 }
 
-/// A token, and the offset of its first byte.
+/// A token, and the offset.
 #[derive(Clone, Copy)]
 pub struct Word<'t> {
     pub place: usize,
     pub bytes: &'t [u8],
 }
 
-/// Returns the first token from `from` on, which lies outside any token or comment; at the end of
-/// the text, an empty token.
+/// Returns the next token, empty at the end. `from` is outside tokens and comments.
 pub fn next_word<'t>(text: &'t [u8], from: usize) -> Word<'t>
     ensures { IsFirst text.now from result }
 {
@@ -51,7 +50,7 @@ pub fn next_word<'t>(text: &'t [u8], from: usize) -> Word<'t>
     }
 }
 
-/// Returns the start of the next token, or the end of the text.
+/// Returns the start of the next token, or the length.
 fn skip_blanks(text: &[u8], from: usize) -> usize
     ensures inside { result ≤ length text.now }
     ensures same { words_after text.now from ≡ words_after text.now result }
@@ -72,7 +71,7 @@ fn skip_blanks(text: &[u8], from: usize) -> usize
     text.len()
 }
 
-/// Returns the number of bytes before the first line feed, or of all bytes.
+/// Counts the bytes before the first line feed.
 fn comment_len(bytes: &[u8]) -> usize
     ensures short { result ≤ length bytes.now }
     ensures len { result ≡ position_or_len (λ b. nat_eq b 10) bytes.now }
@@ -80,7 +79,6 @@ fn comment_len(bytes: &[u8]) -> usize
     bytes.iter().take_while(|byte| **byte != b'\n').count()
 }
 
-/// Returns the end of the token that begins at `place`.
 fn word_end(text: &[u8], place: usize) -> usize
     requires { (place < length text.now) × IsTrue (begins_word (slice_index text.now place)) }
     ensures inside { (place < result) × (result ≤ length text.now) }
@@ -94,7 +92,6 @@ fn word_end(text: &[u8], place: usize) -> usize
     }
 }
 
-/// Returns the number of leading plain bytes.
 fn plain_len(bytes: &[u8]) -> usize
     ensures short { result ≤ length bytes.now }
     ensures len { result ≡ prefix_len spec.is_plain bytes.now }
@@ -115,7 +112,7 @@ fn is_plain(byte: u8) -> bool
 }
 
 impl Word<'_> {
-    /// Returns the kind of the token, by its first byte.
+    /// Returns the kind of the token.
     pub fn kind(&self) -> Kind
         ensures { result ≡ spec.kind_of self.now.bytes.now }
     {

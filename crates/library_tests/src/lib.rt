@@ -1,6 +1,5 @@
-//! Tests of the libraries over their public functions: faults at a chosen call, short or
-//! interrupted file calls, and dishonest devices. The tests are a separate crate, so no library is
-//! proved again with its tests, and the dependencies of all tests are linked once.
+//! Tests of the libraries' public functions. A separate crate avoids a second proof of each
+//! library.
 #![tactic(auto)]
 
 #[cfg(test)]

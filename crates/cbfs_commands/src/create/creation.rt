@@ -15,7 +15,6 @@ use crate::refusal::Refusal;
 use cbfs_edit::{EditFault, format};
 use flash_device::{Flash, Paged, Region, Source};
 
-/// Formats a region as a single empty entry.
 fn format_place<F: Flash>(paged: &mut Paged<F>, place: Region) -> Result<(), Refusal>
     requires { IsPlace (length (F.facts paged.old.device).content) place }
 
@@ -31,7 +30,7 @@ fn format_place<F: Flash>(paged: &mut Paged<F>, place: Region) -> Result<(), Ref
     }
 }
 
-/// Formats each region as a single empty entry, in order.
+/// Formats each region as an empty entry, in order.
 fn format_all<F: Flash>(paged: &mut Paged<F>, mut places: &[Region]) -> Result<(), Refusal>
     requires { All (IsPlace (length (F.facts paged.old.device).content)) places.now }
 
@@ -50,8 +49,8 @@ fn format_all<F: Flash>(paged: &mut Paged<F>, mut places: &[Region]) -> Result<(
     Ok(())
 }
 
-/// Creates the whole image from the source's flashmap: 0xff throughout, the flashmap in the area
-/// FMAP, and each named region as a single empty entry. Performs all checks before the first write.
+/// Creates the image from the source's flashmap: 0xff throughout, the flashmap in the area FMAP,
+/// and each named region as an empty entry. All checks precede the first write.
 pub fn create<F: Flash, S: Source>(
     paged: &mut Paged<F>,
     names: &[&[u8]],

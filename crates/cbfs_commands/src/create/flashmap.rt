@@ -1,4 +1,4 @@
-//! The source's flashmap, as the basis of a new image.
+//! The source's flashmap.
 
 ghost use Rattle.std.specs.Prelude.{◌≡◌, ◌⊎◌, ◌<◌, ◌≤◌, ◌++◌, ◌∷◌, [], List, Option, length, map};
 ghost use Rattle.std.specs.Prelude.{take, drop, IsTrue, IsErrOf, IfOk, IfErr};
@@ -18,11 +18,10 @@ use flash_format::{Area, FmapHead};
 /// The maximum number of regions of a new image.
 pub const MOST_REGIONS: usize = 16;
 
-/// The name of the flashmap's own area.
 const MAP_AREA: &[u8] = b"FMAP";
 
-/// Returns the size of the image of a flashmap, according to the header. Errors: a source without a
-/// valid flashmap at its start, or with areas beyond its end (18), and read errors (3).
+/// Returns the image's size according to the flashmap's header. Errors: an invalid or truncated
+/// flashmap (18), and read errors (3).
 pub fn create_size<S: Source>(source: &mut S) -> Result<u32, Refusal>
     ensures calls { Reads 1 (faults_told by_source result) (S.facts source.old)
         (S.facts source.new) }
@@ -54,15 +53,15 @@ pub fn head_for<S: Source>(source: &mut S, image_len: u64) -> Result<FmapHead, R
     }
 }
 
-/// The first area with the map's own name, and the first area with each region's name.
+/// The first areas with the names of the map and of each region.
 #[derive(Drop)]
 pub struct FoundAreas {
     pub map: Option<Area>,
-    /// An entry for each name, followed by `None`.
+    /// An entry per name, then `None`.
     pub regions: [Option<Area>; MOST_REGIONS],
 }
 
-/// Returns the previous area for a name, or the current area if it is the first with the name.
+/// Returns the first area with the name so far.
 fn noted(before: Option<Area>, name: &[u8], area: &Area) -> Option<Area>
     ensures { (seen : List Area) → before ≡ first_area seen name.now
         → result ≡ first_area (seen ++ area.now ∷ []) name.now }
@@ -74,7 +73,6 @@ fn noted(before: Option<Area>, name: &[u8], area: &Area) -> Option<Area>
     }
 }
 
-/// Updates the first area of each name.
 fn note_each(found: &mut [Option<Area>; MOST_REGIONS], names: &[&[u8]], area: &Area)
     requires { length names.now ≤ MOST_REGIONS }
     ensures { (seen : List Area) (rest : List (Option Area)) →
@@ -86,7 +84,7 @@ fn note_each(found: &mut [Option<Area>; MOST_REGIONS], names: &[&[u8]], area: &A
     }
 }
 
-/// Finds the first area of the flashmap with each name, in one pass.
+/// Finds the first area with each name, in one pass.
 pub fn first_areas<S: Source>(
     source: &mut S,
     head: &FmapHead,
@@ -98,7 +96,6 @@ pub fn first_areas<S: Source>(
     ensures calls { Reads head.now.nareas (refusals result) (S.facts source.old)
         (S.facts source.new) }
 
-    // For an honest source.
     ensures map { IsTrue (S.facts source.old).honest
         → IfOk result (λ found. found.map ≡ first_area (areas_from head.now.nareas
         (drop fmap_head_len (S.facts source.old).content)) (codes "FMAP")) }

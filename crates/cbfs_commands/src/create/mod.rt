@@ -1,4 +1,4 @@
-//! The command `create`: the flash map is read, the regions are planned, and the image is written.
+//! The command `create`.
 
 mod creation;
 mod flashmap;

@@ -1,4 +1,4 @@
-//! The plan of a new image: the places of its flashmap and of the formatted regions.
+//! The plan of a new image.
 
 ghost use Rattle.std.specs.Prelude.{◌≡◌, ◌⊎◌, ◌+◌, ◌/◌, ◌≤◌, length, map, nat_lt, IsTrue, IsErrOf};
 ghost use Rattle.std.specs.Prelude.{IfOk};
@@ -16,18 +16,18 @@ use arrayvec::ArrayVec;
 use flash_device::{Region, Source, region_of_area};
 use flash_format::{Area, FmapHead};
 
-/// The layout of a new image.
+/// The ranges of a new image.
 #[derive(Drop)]
 pub struct Plan {
-    /// The area of the flashmap.
+    /// The flashmap's area.
     pub map: Region,
-    /// The length of the flashmap, in bytes.
+    /// The flashmap's length in bytes.
     pub map_len: u64,
-    /// The regions to format, in the order of the command line.
+    /// In the order of the command line.
     pub regions: ArrayVec<Region, MOST_REGIONS>,
 }
 
-/// Returns the place of the flashmap's own area, with room for the flashmap.
+/// Returns the flashmap's own area, with room for the flashmap.
 fn map_place(area: Option<Area>, map_len: u64, image_len: u64) -> Result<Region, Refusal>
     ensures { result ≡ map_place image_len map_len area }
 {
@@ -37,7 +37,7 @@ fn map_place(area: Option<Area>, map_len: u64, image_len: u64) -> Result<Region,
     }
 }
 
-/// Returns the place of a region's area with a valid size for a CBFS.
+/// Returns a region's area with a valid size for a CBFS.
 fn region_place(area: Option<Area>, image_len: u64) -> Result<Region, Refusal>
     ensures { result ≡ region_place image_len area }
 {
@@ -48,7 +48,6 @@ fn region_place(area: Option<Area>, image_len: u64) -> Result<Region, Refusal>
     Ok(place)
 }
 
-/// Returns the places of all regions.
 fn region_places(
     areas: &[Option<Area>],
     image_len: u64,
@@ -64,7 +63,6 @@ fn region_places(
     Ok(places)
 }
 
-/// Returns whether two ranges overlap.
 fn overlap(a: &Region, b: &Region) -> bool
     ensures { result ≡ overlap a.now b.now }
 {
@@ -83,7 +81,6 @@ fn overlaps_any(place: &Region, others: &[Region]) -> bool
     others.iter().any(|other| overlap(place, other))
 }
 
-/// Returns whether any two of the ranges overlap.
 fn some_overlap(mut places: &[Region]) -> bool
     ensures { result ≡ some_overlap places.entry.now }
 {
@@ -96,7 +93,6 @@ fn some_overlap(mut places: &[Region]) -> bool
     false
 }
 
-/// Returns the plan for the given areas.
 #[tactic(auto, unfolding(crate::specs::Creations::plan_of))]
 fn plan_of(
     head: &FmapHead,
@@ -120,8 +116,7 @@ fn plan_of(
     })
 }
 
-/// Returns the plan of an image of `image_len` bytes with the named regions, by the source's
-/// flashmap.
+/// Returns the plan of an image of `image_len` bytes with the named regions.
 #[tactic(auto, unfolding(crate::specs::Creations::plan_for))]
 pub fn read_plan<S: Source>(
     names: &[&[u8]],

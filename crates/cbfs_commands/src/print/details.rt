@@ -1,4 +1,4 @@
-//! The lines of a component in a verbose listing, after its row.
+//! The lines after a component's row.
 
 ghost use Rattle.std.specs.Prelude.{◌≡◌, ◌+◌, ◌/◌, ◌≤◌, ◌++◌, length, map};
 ghost use Rattle.std.specs.List.{flat_map};
@@ -21,7 +21,7 @@ use cbfs_walk::{Cell, HashState, attributes, cells_stand_in_their_image, check_h
 use flash_device::{Flash, Paged, Region, Sink};
 use flash_format::{AttrHead, Digest, digest_text, push_text};
 
-/// Appends the eight digits of a tag.
+/// Appends a tag's eight digits.
 fn push_tag(row: &mut Row, tag: u32)
     requires { array_vec_len row.old + 8 ≤ ROW_LEN }
     ensures { Pushes row.old (encode_lower (big_bytes 4 tag)) 8 row.new }
@@ -33,7 +33,6 @@ fn push_tag(row: &mut Row, tag: u32)
     push_text(row, &digits);
 }
 
-/// Formats the line of an attribute.
 #[tactic(auto, unfolding(crate::specs::Rows::attribute_line))]
 fn set_attribute_row(row: &mut Row, head: &AttrHead)
     ensures { row.new.items ≡ attribute_line head.now }
@@ -46,7 +45,6 @@ fn set_attribute_row(row: &mut Row, head: &AttrHead)
     push_text(row, b"\n");
 }
 
-/// Appends the digits of a digest.
 fn push_digest(row: &mut Row, digest: &Digest)
     requires { array_vec_len row.old + 128 ≤ ROW_LEN }
     ensures { Pushes row.old (encode_lower (digest_bytes digest.now)) 128 row.new }
@@ -56,7 +54,6 @@ fn push_digest(row: &mut Row, digest: &Digest)
     push_text(row, &digits[..n]);
 }
 
-/// Formats the line of a digest.
 fn set_digest_row(row: &mut Row, digest: &Digest, verdict: &[u8])
     requires { length verdict.now ≤ 7 }
     ensures { row.new.items ≡ digest_line digest.now verdict.now }
@@ -71,7 +68,7 @@ fn set_digest_row(row: &mut Row, digest: &Digest, verdict: &[u8])
     push_text(row, b"\n");
 }
 
-/// Formats the line of the first hash attribute, or nothing without such an attribute.
+/// Formats the line of the first hash attribute, if any.
 #[tactic(auto, unfolding(crate::specs::Rows::hash_line))]
 fn set_hash_row(row: &mut Row, state: &HashState)
     ensures { row.new.items ≡ hash_line state.now }
@@ -87,7 +84,6 @@ fn set_hash_row(row: &mut Row, state: &HashState)
     }
 }
 
-/// Prints a line for each attribute of a component.
 fn print_attributes<F: Flash, W: Sink>(
     paged: &mut Paged<F>,
     region: Region,
@@ -109,7 +105,6 @@ fn print_attributes<F: Flash, W: Sink>(
     Ok(())
 }
 
-/// Prints the line of a component's digest.
 fn print_hash<F: Flash, W: Sink>(
     paged: &mut Paged<F>,
     region: Region,
@@ -128,7 +123,7 @@ fn print_hash<F: Flash, W: Sink>(
     put_row(out, row)
 }
 
-/// Prints the lines of a component.
+/// Prints a component's attributes and digest.
 pub fn print_details<F: Flash, W: Sink>(
     paged: &mut Paged<F>,
     region: Region,

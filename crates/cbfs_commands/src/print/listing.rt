@@ -14,7 +14,7 @@ use arrayvec::ArrayVec;
 use cbfs_walk::{Cell, Step, Walk, cells_stand_in_their_image, name, packing};
 use flash_device::{Flash, FlashFault, Paged, Region, Sink};
 
-/// Formats the row of a cell. A fault leaves arbitrary bytes in the buffer.
+/// Formats a cell's row. A fault leaves arbitrary bytes in the buffer.
 fn set_cell_row<F: Flash>(
     paged: &mut Paged<F>,
     region: Region,
@@ -39,7 +39,6 @@ fn set_cell_row<F: Flash>(
     Ok(())
 }
 
-/// Prints the row of a cell.
 fn print_row<F: Flash, W: Sink>(
     paged: &mut Paged<F>,
     region: Region,
@@ -57,7 +56,7 @@ fn print_row<F: Flash, W: Sink>(
     put_row(out, buffer)
 }
 
-/// Prints the row of a cell, and if verbose the lines of a component.
+/// Prints a cell's row, and if verbose a component's lines.
 fn print_cell<F: Flash, W: Sink>(
     paged: &mut Paged<F>,
     region: Region,
@@ -82,7 +81,6 @@ fn print_cell<F: Flash, W: Sink>(
     Ok(())
 }
 
-/// Prints the rows of a region's cells.
 fn print_region<F: Flash, W: Sink>(
     paged: &mut Paged<F>,
     region: Region,

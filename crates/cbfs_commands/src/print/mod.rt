@@ -1,4 +1,4 @@
-//! The command `print`: a row for each cell, and with `-v` the lines of its attributes and digest.
+//! The command `print`.
 
 mod details;
 mod listing;

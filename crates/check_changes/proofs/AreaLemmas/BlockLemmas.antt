@@ -1,5 +1,5 @@
--- The blocks of a region's bytes, and how many differ.
-use Rattle.std.proofs.Common.{◌≡◌, ◌∙◌, ℕ, zero, suc, ◌+◌, ◌-◌, ◌*◌, ◌<◌, ◌≤◌, Bool, true, false, List, [], length, take, drop, min, max, refl, sym, ap, arith, ⊎_elim, length-take, length-drop, slice_range}
+-- Different blocks of a region.
+use Rattle.std.proofs.Common.{◌≡◌, ◌∙◌, ℕ, zero, suc, ◌+◌, ◌-◌, ◌*◌, ◌<◌, ◌≤◌, Bool, true, false, List, length, take, drop, min, max, refl, sym, ap, arith, ⊎_elim, length-take, length-drop, slice_range}
 use Rattle.std.specs.Prelude.{not, if◌then◌else◌}
 use Rattle.std.specs.Int.{from_bool}
 use Rattle.std.specs.Str.{bytes_eq}
@@ -8,9 +8,11 @@ use Rattle.std.proofs.lemmas.List.{drop-drop, drop-take, take-take, take_all}
 use Rattle.std.proofs.lemmas.Slice.Eq.{bytes_eq-Decides}
 use Rattle.flash_device.specs.Regions.{Range, bytes_in}
 use Rattle.flash_device.proofs.BytesLemmas.{slice_range_is}
+use Rattle.check_changes.specs.declared.images.Lengths.{Lengths}
+use Rattle.check_changes.specs.declared.images.RegionPair.{RegionPair}
 use Rattle.check_changes.specs.Areas.Blocks.{blocks_of, block, differs, count_below, different_blocks}
 
--- two limits on a length are the lower one
+-- two limits on a length are the lower limit
 take-both : (m n : ℕ) (x : List ℕ) → take m (take n x) ≡ take (min n m) x
 take-both m n x = ⊎_elim
     (λ lt. let lower : min n m ≡ n = omega arith in take_all m (take n x) (omega (arith, length-take n x)) ∙ ap (λ k. take k x) (sym lower))
@@ -30,7 +32,7 @@ block-bytes_in r image number start n begins is within =
     ∙ ap (λ (x : List ℕ). take 4096 (drop start x)) (sym (slice_range_is image r.start r.size))
     ∙ ap (λ k. take 4096 (drop k (bytes_in r image))) begins
 
--- what was read of two blocks tells whether they differ
+-- two read blocks decide the difference
 pub differs-bytes_in : (r s : Range) (x y u v : List ℕ) (number start from at m n : ℕ) (different : Bool) → start ≡ 4096 * number → from ≡ r.start + start → at ≡ s.start + start → m ≡ min (r.size - start) 4096 → n ≡ min (s.size - start) 4096 → start ≤ r.size → start ≤ s.size
     → u ≡ slice_range x from (from + m) → v ≡ slice_range y at (at + n) → different ≡ not (bytes_eq u v) → different ≡ differs (bytes_in r x) (bytes_in s y) number
 differs-bytes_in r s x y u v number start from at m n different begins old_at new_at first second in_old in_new u_is v_is is =
@@ -38,7 +40,7 @@ differs-bytes_in r s x y u v number start from at m n different begins old_at ne
     ∙ ap (λ (l : List ℕ). not (bytes_eq l v)) (u_is ∙ ap (λ k. slice_range x k (k + m)) old_at ∙ block-bytes_in r x number start m begins first in_old)
     ∙ ap (λ (l : List ℕ). not (bytes_eq (block number (bytes_in r x)) l)) (v_is ∙ ap (λ k. slice_range y k (k + n)) new_at ∙ block-bytes_in s y number start n begins second in_new)
 
--- bytes of two lengths are not the same
+-- blocks of different lengths differ
 differs-lengths : (x y : List ℕ) (number : ℕ) → (length (block number x) ≡ length (block number y) → ⊥) → differs x y number ≡ true
 differs-lengths x y number other =
     ap not (false_from_ne_true (bytes_eq (block number x) (block number y)) (λ same. absurd (other (ap length ((bytes_eq-Decides (block number x) (block number y)).0 same)))))
@@ -46,11 +48,11 @@ differs-lengths x y number other =
 length-block : (x : List ℕ) (number : ℕ) → length (block number x) ≡ min 4096 (length x - 4096 * number)
 length-block x number = length-take 4096 (drop (4096 * number) x) ∙ ap (min 4096) (length-drop (4096 * number) x)
 
--- behind the end of one each block of the other differs
+-- each block of the longer list differs after the end of the shorter
 differs-behind : (x y : List ℕ) (number : ℕ) → blocks_of (min (length x) (length y)) ≤ number → number < blocks_of (max (length x) (length y)) → differs x y number ≡ true
 differs-behind x y number behind before = differs-lengths x y number (λ same. absurd (omega (arith, behind, before, same, length-block x number, length-block y number)))
 
--- the count up to the end of the longer one, by the count up to the end of the shorter one
+-- the count in the longer list, by the count in the shorter
 more-behind : (x y : List ℕ) (k : ℕ) → blocks_of (min (length x) (length y)) + k ≤ blocks_of (max (length x) (length y)) → count_below (differs x y) (blocks_of (min (length x) (length y)) + k) ≡ count_below (differs x y) (blocks_of (min (length x) (length y))) + k
 more-behind x y zero within = let same = λ (n : ℕ). count_below (differs x y) n in ap same {x = blocks_of (min (length x) (length y)) + 0} {y = blocks_of (min (length x) (length y))} (omega arith) ∙ omega arith
 more-behind x y (suc k) within =
@@ -63,20 +65,22 @@ more-behind x y (suc k) within =
 bytes_in-whole : (r : Range) (x : List ℕ) (n : ℕ) → r ≡ record { start = 0; size = n } → n ≡ length x → bytes_in r x ≡ x
 bytes_in-whole r x n is long = ap (λ (r : Range). bytes_in r x) is ∙ slice_range_is x 0 n ∙ take_all n x (omega (arith, long))
 
--- all blocks of two images that differ, by the blocks up to the end of the shorter one
-pub different_blocks-all : (x y : List ℕ) (r s : Range) (m n shorter longer common count : ℕ) → r ≡ record { start = 0; size = m } → s ≡ record { start = 0; size = n } → m ≡ length x → n ≡ length y → shorter ≡ blocks_of (min m n) → longer ≡ blocks_of (max m n)
-    → common ≡ count_below (differs (bytes_in r x) (bytes_in s y)) shorter → count ≡ longer - shorter + common → count ≡ different_blocks x y
+-- all different blocks of two images, by the blocks of the shorter
+pub different_blocks-all : (x y : List ℕ) (r : RegionPair) (lens : Lengths) (shorter longer common count : ℕ)
+    → r ≡ record { old = record { start = 0; size = lens.old }; new = record { start = 0; size = lens.new } } → lens.old ≡ length x → lens.new ≡ length y
+    → shorter ≡ blocks_of (min lens.old lens.new) → longer ≡ blocks_of (max lens.old lens.new)
+    → common ≡ count_below (differs (bytes_in r.old x) (bytes_in r.new y)) shorter → count ≡ longer - shorter + common → count ≡ different_blocks x y
 unfolding different_blocks
-different_blocks-all x y r s m n shorter longer common count whole new_whole old_len new_len few many is sum =
+different_blocks-all x y r lens shorter longer common count whole old_len new_len few many is sum =
     let short : shorter ≡ blocks_of (min (length x) (length y)) = omega (arith, old_len, new_len, few) in
     let long : blocks_of (min (length x) (length y)) + (longer - shorter) ≡ blocks_of (max (length x) (length y)) = omega (arith, old_len, new_len, few, many) in
     let own : common ≡ count_below (differs x y) shorter =
-    is ∙ ap (λ u. count_below (λ k. differs u (bytes_in s y) k) shorter) (bytes_in-whole r x m whole old_len)
-    ∙ ap (λ v. count_below (λ k. differs x v k) shorter) (bytes_in-whole s y n new_whole new_len) in
+    is ∙ ap (λ u. count_below (λ k. differs u (bytes_in r.new y) k) shorter) (bytes_in-whole r.old x lens.old (ap (λ (r : RegionPair). r.old) whole) old_len)
+    ∙ ap (λ v. count_below (λ k. differs x v k) shorter) (bytes_in-whole r.new y lens.new (ap (λ (r : RegionPair). r.new) whole) new_len) in
     let all = sym (more-behind x y (longer - shorter) (omega (arith, long))) ∙ ap (count_below (differs x y)) long in
     omega (arith, sum, own, all, ap (count_below (differs x y)) short)
 
--- one block more was counted
+-- another block is counted
 one_if : (b : Bool) → from_bool b ≡ (if b then 1 else 0)
 one_if true = refl
 one_if false = refl

@@ -1,13 +1,14 @@
--- What is told of areas, one after the other.
-use Rattle.std.proofs.Common.{◌≡◌, ◌∙◌, ℕ, ◌+◌, ◌*◌, ◌<◌, List, [], ◌++◌, length, drop, get_or, refl, sym, ap, add-one, append_assoc}
+-- The changes of areas, in order.
+use Rattle.std.proofs.Common.{◌≡◌, ◌∙◌, ℕ, ◌+◌, ◌*◌, ◌<◌, ◌≤◌, Bool, true, false, Option, List, [], ◌∷◌, ◌++◌, length, drop, get_or, refl, sym, ap, add-one, append_assoc, length-append, arith}
+use Rattle.check_changes.specs.Lists.{only_if}
 use Rattle.std.specs.List.{flat_map}
 use Rattle.std.proofs.Math.Seq.{drop-cons}
 use Rattle.check_findings.specs.declared.map.finding.NumberedArea.{NumberedArea}
 use Rattle.check_changes.specs.declared.areas.change.AreaChange.{AreaChange}
 use Rattle.check_changes.specs.declared.areas.pairs.AreaPair.{AreaPair}
-use Rattle.check_changes.specs.Areas.AreaChanges.{pairs, changes_in, gone_of, area_changes}
+use Rattle.check_changes.specs.Areas.AreaChanges.{is_reached, namesake, pair_of, pairs, changes_in, gone_of, area_changes}
 
--- one element more
+-- another element
 pub flat_map-more : {X Y : Type 0} (f : X → List Y) (xs : List X) (i : ℕ) (d : X) (before after all : List Y) → i < length xs → after ≡ before ++ f (get_or xs i d) → before ++ flat_map f (drop i xs) ≡ all → after ++ flat_map f (drop (i + 1) xs) ≡ all
 flat_map-more f xs i d before after all lt pushed so_far =
     let here = get_or xs i d in
@@ -15,7 +16,17 @@ flat_map-more f xs i d before after all lt pushed so_far =
     let left : flat_map f (drop i xs) ≡ f here ++ rest = rw (add-one, drop-cons xs i d lt) refl in
     ap (λ l. l ++ rest) pushed ∙ append_assoc before (f here) rest ∙ ap (λ l. before ++ l) (sym left) ∙ so_far
 
--- what is told of the new map, and then of the old one
+-- at most one more element
+pub length-only_if : {X : Type 0} (before after : List X) (condition : Bool) (x : X) → after ≡ before ++ only_if condition x → length after ≤ length before + 1
+length-only_if before after true x is = omega (arith, ap length is, length-append before (x ∷ []))
+length-only_if before after false x is = omega (arith, ap length is, length-append before [])
+
+-- a pair is pushed if its area is the first of its name
+pub pair-pushed : (olds news : List NumberedArea) (a : NumberedArea) (old : Option NumberedArea) (reached : Bool) (before after : List AreaPair) → reached ≡ is_reached news a → old ≡ namesake a olds
+    → after ≡ before ++ only_if reached (record { old = old; new = a }) → after ≡ before ++ pair_of olds news a
+pair-pushed olds news a old reached before after first found is = rw (first, found) at is
+
+-- the changes of the new map, then of the old map
 pub area_changes-parts : (x y : List ℕ) (olds news : List NumberedArea) (found read : List AreaPair) (first second all : List AreaChange) → first ≡ [] → read ≡ found → found ≡ pairs olds news
     → second ≡ first ++ changes_in (8 * length y) x y read read → all ≡ second ++ flat_map (gone_of olds news) olds → all ≡ area_changes x olds y news
 unfolding area_changes

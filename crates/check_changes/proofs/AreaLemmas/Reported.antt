@@ -1,4 +1,4 @@
--- An area with a byte that differs is reported: it, or a smaller area that holds the byte's block.
+-- An area with a different byte, or a smaller area with the byte's block, is reported.
 use Rattle.std.proofs.Common.{◌≡◌, ◌∙◌, ℕ, zero, suc, ◌+◌, ◌-◌, ◌*◌, ◌/◌, ◌%◌, ◌<◌, ◌≤◌, Bool, true, false, List, [], ◌∷◌, ◌++◌, length, drop, get_or, min, Option, Some, None, refl, sym, ap, subst, arith, ⊎_elim}
 use Rattle.std.specs.Prelude.{not, ◌&&◌, Contains, ◌==◌, nat_le, nat_lt, if◌then◌else◌}
 use Rattle.std.specs.Str.{bytes_eq}
@@ -12,12 +12,15 @@ use Rattle.flash_device.specs.Regions.{Range, bytes_in}
 use Rattle.flash_device.proofs.FmapLemmas.{index-slice_range}
 use Rattle.check_findings.specs.declared.map.finding.NumberedArea.{NumberedArea}
 use Rattle.check_findings.specs.Map.MapFindings.{area_end}
+use Rattle.check_findings.specs.Image.ImageFindings.{range_of}
+use Rattle.check_changes.specs.Images.{lengths_of}
 use Rattle.check_changes.specs.declared.areas.change.AreaChange.{AreaChange}
 use Rattle.check_changes.specs.declared.areas.change.AreaChange.TheVariants.{Differs, NotCompared}
 use Rattle.check_changes.specs.declared.areas.pairs.AreaPair.{AreaPair}
-use Rattle.check_changes.specs.declared.areas.pairs.RegionPair.{RegionPair}
+use Rattle.check_changes.specs.declared.images.Lengths.{Lengths}
+use Rattle.check_changes.specs.declared.images.RegionPair.{RegionPair}
 use Rattle.check_changes.specs.Areas.Blocks.{blocks_of, block, differs, count_below}
-use Rattle.check_changes.specs.Areas.AreaChanges.{pairs, range_of, regions_between, regions_of, has_block, holds, is_held, is_own_difference, all_blocks, own_blocks, is_same_size, compared, change_in, content_changes, left_after, entry_changes, changes_in, gone_of, area_changes}
+use Rattle.check_changes.specs.Areas.AreaChanges.{pairs, regions_between, regions_of, has_block, holds, is_held, is_difference, is_own_difference, all_blocks, own_blocks, is_same_size, compared, change_in, content_changes, left_after, entry_changes, changes_in, gone_of, area_changes}
 use Rattle.check_changes.specs.Areas.Laws.{has_byte, reports, DifferencesAreReported}
 
 -- ---- one block
@@ -53,20 +56,21 @@ record AreRegionsOf (old : Option NumberedArea) (new : NumberedArea) (r : Region
   size : r.old.size ≡ r.new.size
   is_new : r.new ≡ range_of new
 
-regions_between-parts : (a b : NumberedArea) (r : RegionPair) (t inside : Bool) → t ≡ ((a.area.size == b.area.size) && inside) → ◌≡◌ {A = Option RegionPair} (if t then Some (record { old = range_of a; new = range_of b }) else None) (Some r) → AreRegionsOf (Some a) b r
-regions_between-parts a b r true inside test is =
-    let same = (and_parts (a.area.size == b.area.size) inside (sym test)).0 in
+regions_between-parts : (a b : NumberedArea) (r : RegionPair) (same inside : Bool) → same ≡ (a.area.size == b.area.size)
+    → ◌≡◌ {A = Option RegionPair} (if same then (if inside then Some (record { old = range_of a; new = range_of b }) else None) else None) (Some r) → AreRegionsOf (Some a) b r
+regions_between-parts a b r true true same is =
     let e : ◌≡◌ {A = RegionPair} (record { old = range_of a; new = range_of b }) r = cc in
     record {
-      same_size = same;
-      size = sym (ap (λ (r : RegionPair). r.old.size) e) ∙ eqb-true a.area.size b.area.size same ∙ ap (λ (r : RegionPair). r.new.size) e;
+      same_size = sym same;
+      size = sym (ap (λ (r : RegionPair). r.old.size) e) ∙ eqb-true a.area.size b.area.size (sym same) ∙ ap (λ (r : RegionPair). r.new.size) e;
       is_new = sym (ap (λ (r : RegionPair). r.new) e);
     }
-regions_between-parts a b r false inside test is = absurd cc
+regions_between-parts a b r true false same is = absurd cc
+regions_between-parts a b r false inside same is = absurd cc
 
-regions_of-parts : (m n : ℕ) (b : NumberedArea) (old : Option NumberedArea) (r : RegionPair) → option_and_then (regions_between m n b) old ≡ Some r → AreRegionsOf old b r
-regions_of-parts m n b None r is = absurd cc
-regions_of-parts m n b (Some a) r is = regions_between-parts a b r ((a.area.size == b.area.size) && (nat_le (area_end a.area) m && nat_le (area_end b.area) n)) (nat_le (area_end a.area) m && nat_le (area_end b.area) n) refl is
+regions_of-parts : (lens : Lengths) (b : NumberedArea) (old : Option NumberedArea) (r : RegionPair) → option_and_then (regions_between lens b) old ≡ Some r → AreRegionsOf old b r
+regions_of-parts lens b None r is = absurd cc
+regions_of-parts lens b (Some a) r is = regions_between-parts a b r (a.area.size == b.area.size) (nat_le (area_end a.area) lens.old && nat_le (area_end b.area) lens.new) refl is
 
 has_byte-inside : (a : NumberedArea) (r : RegionPair) (i : ℕ) → r.new ≡ range_of a → i < r.new.size → has_byte a (r.new.start + i) ≡ true
 has_byte-inside a r i is inside =
@@ -79,7 +83,7 @@ has_byte-inside a r i is inside =
 told-reports : (at : ℕ) (change : AreaChange) (told : Bool) → told ≡ true → reports at change ≡ true → list_any (reports at) (if told then change ∷ [] else []) ≡ true
 told-reports at change told is has = rw is (or_left (reports at change) false has)
 
--- fewer blocks pass a further test
+-- a further test admits fewer blocks
 one-fewer : (a b : Bool) → (if a && b then 1 else 0) ≤ (if b then 1 else 0)
 one-fewer true true = omega arith
 one-fewer true false = omega arith
@@ -93,9 +97,9 @@ count_below-fewer test first (suc n) =
     omega (arith, fewer, one-fewer (first n) (test n))
 
 own-all : (x y : List ℕ) (all : List AreaPair) (r : RegionPair) → own_blocks x y all r ≤ all_blocks x y r
-own-all x y all r = count_below-fewer (differs (bytes_in r.old x) (bytes_in r.new y)) (λ k. not (is_held (length x) (length y) all r k)) (blocks_of r.new.size)
+own-all x y all r = count_below-fewer (is_difference x y r) (λ k. not (is_held (lengths_of x y) all r k)) (blocks_of r.old.size)
 
-change_in-reports : (x y : List ℕ) (all : List AreaPair) (p : AreaPair) (r : RegionPair) (at left : ℕ) → is_same_size p ≡ true → has_byte p.new at ≡ true → 0 < own_blocks x y all r → (fits : Bool) → fits ≡ nat_le r.new.size left → list_any (reports at) (change_in x y all p (if fits then Some r else None)) ≡ true
+change_in-reports : (x y : List ℕ) (all : List AreaPair) (p : AreaPair) (r : RegionPair) (at left : ℕ) → is_same_size p ≡ true → has_byte p.new at ≡ true → 0 < own_blocks x y all r → (fits : Bool) → fits ≡ nat_le r.old.size left → list_any (reports at) (change_in x y all p (if fits then Some r else None)) ≡ true
 change_in-reports x y all p r at left same has some true fits =
     let all_some : 0 < all_blocks x y r = omega (arith, some, own-all x y all r) in
     told-reports at (Differs p.new (all_blocks x y r) (own_blocks x y all r)) (nat_lt 0 (all_blocks x y r)) (lt-ltb 0 (all_blocks x y r) all_some) (and_from _ _ has (lt-ltb 0 (own_blocks x y all r) some))
@@ -110,28 +114,28 @@ any-right test xs ys is = list_any-append test xs ys ∙ or_right (list_any test
 changes_in-reports : (x y : List ℕ) (all : List AreaPair) (at left : ℕ) (ps : List AreaPair) (k : ℕ) (d : AreaPair) → k < length ps → ((left : ℕ) → list_any (reports at) (content_changes left x y all (get_or ps k d)) ≡ true) → list_any (reports at) (changes_in left x y all ps) ≡ true
 changes_in-reports x y all at left [] k d lt here = absurd (omega (arith, lt))
 changes_in-reports x y all at left (p ∷ ps) zero d lt here =
-    any-left (reports at) (entry_changes p.old p.new ++ content_changes left x y all p) (changes_in (left_after left (length x) (length y) p) x y all ps)
+    any-left (reports at) (entry_changes p.old p.new ++ content_changes left x y all p) (changes_in (left_after left (regions_of (lengths_of x y) p)) x y all ps)
     (any-right (reports at) (entry_changes p.old p.new) (content_changes left x y all p) (here left))
 changes_in-reports x y all at left (p ∷ ps) (suc k) d lt here =
-    let next = left_after left (length x) (length y) p in
+    let next = left_after left (regions_of (lengths_of x y) p) in
     any-right (reports at) (entry_changes p.old p.new ++ content_changes left x y all p) (changes_in next x y all ps)
     (changes_in-reports x y all at next ps k d (omega (arith, lt)) here)
 
 -- ---- the pair that holds a block
 
-record Holder (m n : ℕ) (all : List AreaPair) (outer : RegionPair) (number : ℕ) : Type 0 where
+record Holder (lens : Lengths) (all : List AreaPair) (outer : RegionPair) (number : ℕ) : Type 0 where
   pair : AreaPair
   inner : RegionPair
   one : Contains all pair
-  are : regions_of m n pair ≡ Some inner
+  are : regions_of lens pair ≡ Some inner
   smaller : inner.new.size < outer.new.size
   shift : inner.old.start + outer.new.start ≡ outer.old.start + inner.new.start
   begins : inner.new.start ≤ outer.new.start + 4096 * number
   ends : outer.new.start + min (4096 * number + 4096) outer.new.size ≤ inner.new.start + inner.new.size
 
-holder-of : (m n : ℕ) (all : List AreaPair) (outer : RegionPair) (number : ℕ) (p : AreaPair) (found : Option RegionPair) → Contains all p → regions_of m n p ≡ found → option_map_or (has_block outer number) found false ≡ true → Holder m n all outer number
-holder-of m n all outer number p None one is test = absurd cc
-holder-of m n all outer number p (Some inner) one is test =
+holder-of : (lens : Lengths) (all : List AreaPair) (outer : RegionPair) (number : ℕ) (p : AreaPair) (found : Option RegionPair) → Contains all p → regions_of lens p ≡ found → option_map_or (has_block outer number) found false ≡ true → Holder lens all outer number
+holder-of lens all outer number p None one is test = absurd cc
+holder-of lens all outer number p (Some inner) one is test =
     let first = and_parts _ _ test in
     let second = and_parts _ _ first.1 in
     let third = and_parts _ _ second.1 in
@@ -146,10 +150,10 @@ holder-of m n all outer number p (Some inner) one is test =
       ends = leb-true _ _ third.1;
     }
 
-holder : (m n : ℕ) (all : List AreaPair) (outer : RegionPair) (number : ℕ) → is_held m n all outer number ≡ true → Holder m n all outer number
-holder m n all outer number held =
-    let any = Any-from_list_any (holds m n outer number) all held in
-    holder-of m n all outer number any.1 (regions_of m n any.1) (any.0, any.2, any.3) refl any.4
+holder : (lens : Lengths) (all : List AreaPair) (outer : RegionPair) (number : ℕ) → is_held lens all outer number ≡ true → Holder lens all outer number
+holder lens all outer number held =
+    let any = Any-from_list_any (holds lens outer number) all held in
+    holder-of lens all outer number any.1 (regions_of lens any.1) (any.0, any.2, any.3) refl any.4
 
 -- ---- the innermost area is reported
 
@@ -157,13 +161,13 @@ module _ (x y : List ℕ) (all : List AreaPair) where
   abbrev IsReported : ℕ → Type 0
   IsReported at = list_any (reports at) (changes_in (8 * length y) x y all all) ≡ true
 
-  -- a byte that differs in regions of a size below this one is in a reported area
+  -- a different byte in smaller regions is in a reported area
   abbrev AreReportedBelow : ℕ → Type 0
   AreReportedBelow size =
-      (p : AreaPair) (r : RegionPair) (i : ℕ) → Contains all p → regions_of (length x) (length y) p ≡ Some r → r.new.size < size → i < r.new.size
+      (p : AreaPair) (r : RegionPair) (i : ℕ) → Contains all p → regions_of (lengths_of x y) p ≡ Some r → r.new.size < size → i < r.new.size
       → (get_or x (r.old.start + i) 0 ≡ get_or y (r.new.start + i) 0 → ⊥) → IsReported (r.new.start + i)
 
-  by_holder : (size : ℕ) → AreReportedBelow size → (r : RegionPair) (i : ℕ) → Holder (length x) (length y) all r (i / 4096) → r.new.size < suc size → i < r.new.size
+  by_holder : (size : ℕ) → AreReportedBelow size → (r : RegionPair) (i : ℕ) → Holder (lengths_of x y) all r (i / 4096) → r.new.size < suc size → i < r.new.size
       → (get_or x (r.old.start + i) 0 ≡ get_or y (r.new.start + i) 0 → ⊥) → IsReported (r.new.start + i)
   by_holder size below r i h small inside other =
       let k = r.new.start + i - h.inner.new.start in
@@ -174,16 +178,16 @@ module _ (x y : List ℕ) (all : List AreaPair) where
       subst IsReported same_new (below h.pair h.inner k h.one h.are (omega (arith, h.smaller, small)) has
       (λ same. other (ap (λ j. get_or x j 0) (sym same_old) ∙ same ∙ ap (λ j. get_or y j 0) same_new)))
 
-  by_itself : (p : AreaPair) (r : RegionPair) (i : ℕ) → Contains all p → regions_of (length x) (length y) p ≡ Some r → is_held (length x) (length y) all r (i / 4096) ≡ false → i < r.new.size
+  by_itself : (p : AreaPair) (r : RegionPair) (i : ℕ) → Contains all p → regions_of (lengths_of x y) p ≡ Some r → is_held (lengths_of x y) all r (i / 4096) ≡ false → i < r.new.size
       → (get_or x (r.old.start + i) 0 ≡ get_or y (r.new.start + i) 0 → ⊥) → IsReported (r.new.start + i)
   by_itself p r i one are free inside other =
-      let parts = regions_of-parts (length x) (length y) p.new p.old r are in
+      let parts = regions_of-parts (lengths_of x y) p.new p.old r are in
       let byte = λ (z : List ℕ) (s : Range) (in' : i < s.size). index-slice_range z s.start s.size i in' in
       let differ = differs-byte (bytes_in r.old x) (bytes_in r.new y) i (λ same. other (sym (byte x r.old (omega (arith, parts.size, inside))) ∙ same ∙ byte y r.new inside)) in
       let own : is_own_difference x y all r (i / 4096) ≡ true = and_from _ _ (ap not free) differ in
-      let some = count_below-positive (is_own_difference x y all r) (blocks_of r.new.size) (i / 4096) (omega (arith, inside)) own in
+      let some = count_below-positive (is_own_difference x y all r) (blocks_of r.old.size) (i / 4096) (omega (arith, parts.size, inside)) own in
       let at = r.new.start + i in
-      let by_regions = λ (left : ℕ). change_in-reports x y all p r at left parts.same_size (has_byte-inside p.new r i parts.is_new inside) some (nat_le r.new.size left) refl in
+      let by_regions = λ (left : ℕ). change_in-reports x y all p r at left parts.same_size (has_byte-inside p.new r i parts.is_new inside) some (nat_le r.old.size left) refl in
       let by_pair : (left : ℕ) → list_any (reports at) (content_changes left x y all p) ≡ true =
       λ left. subst (λ (o : Option RegionPair). list_any (reports at) (change_in x y all p (compared left o)) ≡ true) (sym are) (by_regions left) in
       changes_in-reports x y all at (8 * length y) all one.0 p one.1 (λ left. subst (λ (q : AreaPair). list_any (reports at) (content_changes left x y all q) ≡ true) (sym one.2) (by_pair left))
@@ -192,19 +196,19 @@ module _ (x y : List ℕ) (all : List AreaPair) where
   reported_below zero p r i one are small inside other = absurd (omega (arith, small))
   reported_below (suc size) p r i one are small inside other =
       ⊎_elim
-      (λ (held : is_held (length x) (length y) all r (i / 4096) ≡ true). by_holder size (reported_below size) r i (holder (length x) (length y) all r (i / 4096) held) small inside other)
-      (λ (free : is_held (length x) (length y) all r (i / 4096) ≡ false). by_itself p r i one are free inside other)
-      (cases_Bool (is_held (length x) (length y) all r (i / 4096)))
+      (λ (held : is_held (lengths_of x y) all r (i / 4096) ≡ true). by_holder size (reported_below size) r i (holder (lengths_of x y) all r (i / 4096) held) small inside other)
+      (λ (free : is_held (lengths_of x y) all r (i / 4096) ≡ false). by_itself p r i one are free inside other)
+      (cases_Bool (is_held (lengths_of x y) all r (i / 4096)))
 
-regions_of-same : (m n : ℕ) (a b : NumberedArea) → a.area.size ≡ b.area.size → area_end a.area ≤ m → area_end b.area ≤ n → regions_between m n b a ≡ Some (record { old = range_of a; new = range_of b })
-regions_of-same m n a b same old new =
-    let test = and_from _ _ (eq-eqb a.area.size b.area.size same) (and_from _ _ (le-leb (area_end a.area) m old) (le-leb (area_end b.area) n new)) in
-    rw test refl
+regions_of-same : (lens : Lengths) (a b : NumberedArea) → a.area.size ≡ b.area.size → area_end a.area ≤ lens.old → area_end b.area ≤ lens.new → regions_between lens b a ≡ Some (record { old = range_of a; new = range_of b })
+regions_of-same lens a b same old new =
+    let inside = and_from _ _ (le-leb (area_end a.area) lens.old old) (le-leb (area_end b.area) lens.new new) in
+    rw (eq-eqb a.area.size b.area.size same, inside) refl
 
 pub reported : DifferencesAreReported
 unfolding area_changes
 reported x y olds news old new i one d =
     let all = pairs olds news in
     let r : RegionPair = record { old = range_of old; new = range_of new } in
-    let here = reported_below x y all (suc new.area.size) (record { old = Some old; new = new }) r i one (regions_of-same (length x) (length y) old new d.same_size d.in_old d.in_new) (omega arith) d.within d.differ in
+    let here = reported_below x y all (suc new.area.size) (record { old = Some old; new = new }) r i one (regions_of-same (lengths_of x y) old new d.same_size d.in_old d.in_new) (omega arith) d.within d.differ in
     any-left (reports (new.area.offset + i)) (changes_in (8 * length y) x y all all) (flat_map (gone_of olds news) olds) here

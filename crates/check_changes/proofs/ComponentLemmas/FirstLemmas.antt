@@ -16,7 +16,7 @@ front true l o = refl
 front false l o = refl
 
 module _ {S : Type 0} (old new : HashMap (Bor (List ℕ)) Cell S) where
-  -- a map in which a name has got this cell
+  -- the map after a new cell of a name
   abbrev pub Puts : Cell → List ℕ → Type 0
   Puts cell text = UpdatesBy (λ x y. bytes_eq x.now y.now) (λ k. bytes_eq text k.now) old new (Some cell)
 
@@ -27,13 +27,13 @@ module _ {S : Type 0} (old new : HashMap (Bor (List ℕ)) Cell S) where
       ∙ ap (λ (o : Option Cell). cond (bytes_eq name l.name) (Some l.cell) o) (notes name)
       ∙ front (bytes_eq name l.name) l (find (is_named name) behind)
 
-  -- one component more, in front of those that are noted
+  -- another component, before the noted components
   pub notes-more : (all : List Listed) (left i : ℕ) (l : Listed) → left ≡ i + 1 → left ≤ length all → l ≡ get_or all i l → ((behind : List Listed) → Notes old behind → Notes new (l ∷ behind))
       → Notes old (drop left all) → Notes new (drop i all)
   notes-more all left i l one inside is more notes =
       let lt : i < length all = omega (arith, one, inside) in
       rw (drop-cons all i l lt, sym is) (more (drop (suc i) all) (rw (one, add-one) at notes))
 
--- a map that keeps nothing
+-- an empty map
 pub notes-none : {S : Type 0} (first : HashMap (Bor (List ℕ)) Cell S) (all : List Listed) → IsEmpty first → Notes first (drop (length all) all)
 notes-none first all empty = λ name. rw (drop-length all, empty) refl

@@ -1,6 +1,7 @@
 -- The components of a region, cell by cell.
 use Rattle.std.proofs.Common.{◌≡◌, ℕ, ◌+◌, ◌/◌, ◌%◌, ◌≤◌, ◌⊎◌, inl, inr, IsTrue, Bool, true, false, cond, List, [], ◌∷◌, ◌++◌, length, map, None, Ok, Err, refl, sym, ap, ◌∙◌, arith, append_assoc}
-use Rattle.std.specs.Prelude.{All, IsErrOf, slice_range}
+use Rattle.std.specs.Prelude.{All, IsErrOf, Vec, slice_range}
+use Rattle.std.specs.declared.alloc.Global.{Global}
 use Rattle.std.proofs.lemmas.List.{map-append, append-nil}
 use Rattle.std.proofs.lemmas.List.Elements.{All-nil, All-push}
 use Rattle.std.proofs.lemmas.List.Sums.{sum_by-append}
@@ -25,12 +26,12 @@ use Rattle.cbfs_walk.specs.declared.walk.WalkFault.TheVariants as walk
 use Rattle.cbfs_walk.proofs.Parts.{range-inner}
 use Rattle.cbfs_walk.proofs.Shapes.{shaped_step}
 use Rattle.check_changes.specs.Components.ComponentChanges.{ComponentState, state_of, states}
-use Rattle.check_changes.specs.Components.Listings.{IsListedIn, AddsAtMost, cell_states, spans, state_at, state_in}
+use Rattle.check_changes.specs.Components.Listings.{IsListedIn, AddsAtMost, Lists, cell_states, spans, state_at, state_in}
 use Rattle.check_changes.specs.declared.components.listing.Listed.{Listed}
 
 -- ---- one cell
 
--- what is compared of a component's cell is what its bytes show
+-- the compared parts of a cell are in its bytes
 pub state_shown : (x : List ℕ) (c : Cell) (name : List ℕ) → is_free c.head ≡ false → name ≡ cell_name (cell_in x c) → head_of (cell_in x c) ≡ c.head → c.head.offset + c.head.len ≤ c.span
     → state_at x name c ∷ [] ≡ cell_states x c
 state_shown x c name used is_name is_head fits = rw used (ap (λ (s : ComponentState). s ∷ []) same)
@@ -48,11 +49,11 @@ state_shown x c name used is_name is_head fits = rw used (ap (λ (s : ComponentS
         ∙ ap (λ (l : List ℕ). record (state_at x (cell_name (cell_in x c)) c) { content = slice_range (cell_in x c) c.head.offset (c.head.offset + c.head.len); attributes = l }) attributes
         ∙ ap (λ (h : Head). record { at = c.at; name = cell_name (cell_in x c); kind = h.kind; content = slice_range (cell_in x c) h.offset (h.offset + h.len); attributes = slice_range (cell_in x c) (name_end h) h.offset }) (sym is_head)
 
--- a component more
+-- another component
 pub listed_more : (x : List ℕ) (old new : List Listed) (l : Listed) → state_in x l ∷ [] ≡ cell_states x l.cell → new ≡ old ++ l ∷ [] → map (state_in x) new ≡ map (state_in x) old ++ cell_states x l.cell
 listed_more x old new l shown added = ap (map (state_in x)) added ∙ map-append (state_in x) old (l ∷ []) ∙ ap (λ (s : List ComponentState). map (state_in x) old ++ s) shown
 
--- ---- what a region has from a place on
+-- ---- the components from an offset on
 
 rest_read : ℕ → Cut → List ComponentState
 rest_read at k = map state_of (components_from at k.cells)
@@ -75,7 +76,7 @@ states_whole : (x : List ℕ) → states x ≡ states_from x 0
 unfolding states states_from reading_of rest_read
 states_whole x = refl
 
--- the same by the answer of a walk
+-- the same by the result of a walk
 states_by : List ℕ → Answer → List ComponentState
 states_by x answer = by_answer (λ fault. []) rest_read rest_cell x answer
 
@@ -96,13 +97,13 @@ states_end x (Err walk.RegionShape) none = refl
 states_end x (Err walk.NotCbfs) none = refl
 states_end x (Err (walk.Damaged at kind)) none = refl
 
--- the error of an answer
+-- the error of a result
 pub error_of : (fault : WalkFault) → (let a : Answer = Err fault in IsErrOf a walk.Device) → fault ≡ walk.Device
 error_of fault e = cc
 
 -- ---- the loop
 
--- the listing has come to the walk's place
+-- the listing has reached the walk's offset
 pub record ListedSoFar {F : Type 0} (facts : F → Device) (r : Range) (w : Walking) (all : List Listed) (old now : Pages F) : Type 0 where
   pub region : w.region ≡ r
   pub going : w.ended ≡ None
@@ -125,7 +126,7 @@ listing_start facts r all old none = rw none (record {
   so_far = λ h. sym (states_whole (bytes_in r (facts old.device).content));
 })
 
--- the cells of one more
+-- the cells after another cell
 cells_more : (size : ℕ) (c : Cell) (old new : List Listed) → IsCellIn size c → AddsAtMost c old new → All (IsListedIn size) old → All (IsListedIn size) new
 cells_more size c old new cell (inl same) all = rw same all
 cells_more size c old new cell (inr more) all = rw more.added (All-push (IsListedIn size) old (record { name = more.name; cell = c }) all (record { cell = cell; used = more.used }))
@@ -138,7 +139,7 @@ module _ {F : Type 0} (facts : F → Device) (r : Range) (w : Walking) (all : Li
   abbrev x : List ℕ
   x = bytes_in r (facts old.device).content
 
-  -- what the walk answers on an honest device
+  -- the results of the walk on an honest device
   abbrev pub Answers : Answer → Type 0
   Answers a = IsTrue (facts now.device).honest → w.ended ≡ None → IsErrOf a walk.Device ⊎ (a ≡ answer_at (bytes_in w.region (facts now.device).content) w.at)
 
@@ -186,5 +187,13 @@ module _ {F : Type 0} (facts : F → Device) (r : Range) (w : Walking) (all : Li
       cell_of_region = rw i.region at given.0
 
   -- the walk ended
-  pub listing_end : (a : Answer) → IsNoCell a → (IsErrOf a walk.Device → ⊥) → Answers a → IsTrue (facts old.device).honest → map (state_in x) all ≡ states x
+  listing_end : (a : Answer) → IsNoCell a → (IsErrOf a walk.Device → ⊥) → Answers a → IsTrue (facts old.device).honest → map (state_in x) all ≡ states x
   listing_end a none other answer h = sym (append-nil (map (state_in x) all)) ∙ ap (λ (l : List ComponentState). map (state_in x) all ++ l) (sym (states_end x a none)) ∙ (answered a other answer h).1
+
+pub listing_lists : {F : Type 0} (facts : F → Device) (r : Range) (w : Walking) (all : Vec Listed Global) (old now : Pages F) (lies : LiesIn r (facts old.device).content) (i : ListedSoFar facts r w all.items old now) (a : Answer)
+    → IsNoCell a → (IsErrOf a walk.Device → ⊥) → Answers facts r w all.items old now lies i a → Lists facts r old all
+listing_lists facts r w all old now lies i a none other answer = record {
+  cells = i.cells;
+  room = omega (arith, i.room, i.inside);
+  shown = listing_end facts r w all.items old now lies i a none other answer;
+}

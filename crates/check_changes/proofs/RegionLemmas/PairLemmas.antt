@@ -1,21 +1,17 @@
--- Pairs of areas, by the findings that they come from.
+-- Pairs of areas, by their findings.
 use Rattle.std.proofs.Common.{◌≡◌, ◌∙◌, ℕ, ◌+◌, ◌<◌, ◌≤◌, List, [], ◌∷◌, ◌++◌, Option, Some, None, length, get_or, drop, refl, sym, ap, add-one, append_assoc, arith}
-use Rattle.std.specs.Prelude.{All}
 use Rattle.std.specs.List.{flat_map}
 use Rattle.std.proofs.Math.Seq.{drop-cons}
 use Rattle.std.proofs.lemmas.Grind.{flat_map-append}
-use Rattle.std.proofs.lemmas.List.Elements.{All-nil, All-cons, All-head, All-tail}
 use Rattle.std.proofs.lemmas.List.Sums.{sum_by-cons}
 use Rattle.check_findings.specs.declared.map.finding.NumberedArea.{NumberedArea}
-use Rattle.check_findings.specs.Map.MapFindings.{area_end}
 use Rattle.check_changes.specs.Areas.AreaChanges.{namesake}
 use Rattle.check_findings.specs.declared.image.finding.ImageFinding.{ImageFinding}
 use Rattle.check_findings.specs.Image.RegionAreas.{region_area, region_areas, sum_sizes}
 use Rattle.check_changes.specs.declared.regions.pairs.Pair.{Pair}
-use Rattle.check_changes.specs.Regions.RegionChanges.{pair_with, pair_of, pairs}
-use Rattle.check_changes.specs.Regions.Sizes.{EndsInside, new_sizes}
+use Rattle.check_changes.specs.Regions.RegionChanges.{new_sizes, pair_with, pair_of, pairs}
 
--- one finding more
+-- another finding
 pub pairs-more : (olds : List NumberedArea) (findings : List ImageFinding) (i : ℕ) (f : ImageFinding) (before after all : List Pair) → i < length findings → f ≡ get_or findings i f
     → after ≡ before ++ flat_map (pair_of olds) (region_area f) → before ++ pairs olds (drop i findings) ≡ all → after ++ pairs olds (drop (i + 1) findings) ≡ all
 pairs-more olds findings i f before after all lt is pushed so_far =
@@ -25,16 +21,7 @@ pairs-more olds findings i f before after all lt is pushed so_far =
     let left : pairs olds (drop i findings) ≡ here ++ rest = ap (λ (l : List ImageFinding). pairs olds l) split ∙ flat_map-append (pair_of olds) (region_area f) (region_areas (drop (i + 1) findings)) in
     ap (λ (l : List Pair). l ++ rest) pushed ∙ append_assoc before here rest ∙ ap (λ (l : List Pair). before ++ l) (sym left) ∙ so_far
 
--- the areas of the pairs end inside where all areas do
-pub pairs-inside : (olds areas : List NumberedArea) (n : ℕ) → All (λ a. area_end a.area ≤ n) areas → All (EndsInside n) (flat_map (pair_of olds) areas)
-pairs-inside olds [] n inside = All-nil (EndsInside n)
-pairs-inside olds (a ∷ areas) n inside = go (namesake a olds) (pairs-inside olds areas n (All-tail (λ (a : NumberedArea). area_end a.area ≤ n) a areas inside))
-  where
-    go : (o : Option NumberedArea) → All (EndsInside n) (flat_map (pair_of olds) areas) → All (EndsInside n) (pair_with a o ++ flat_map (pair_of olds) areas)
-    go None later = later
-    go (Some old) later = All-cons (EndsInside n) (record { old = old; new = a }) (flat_map (pair_of olds) areas) (All-head (λ (a : NumberedArea). area_end a.area ≤ n) a areas inside) later
-
--- and have no more bytes than they
+-- the pairs have at most the bytes of all areas
 pub new_sizes-pairs : (olds areas : List NumberedArea) → new_sizes (flat_map (pair_of olds) areas) ≤ sum_sizes areas
 new_sizes-pairs olds [] = omega arith
 new_sizes-pairs olds (a ∷ areas) = go (namesake a olds) (new_sizes-pairs olds areas)

@@ -1,4 +1,4 @@
--- A property of the changes of areas.
+-- A law about changes of areas.
 use Rattle.std.specs.Prelude.{◌≡◌, ◌≢◌, ℕ, ◌+◌, ◌<◌, ◌≤◌, Bool, false, ◌&&◌, List, Contains, IsTrue, length, slice_index, nat_lt, nat_le, Some}
 use Rattle.std.specs.List.{list_any}
 use Rattle.check_findings.specs.declared.map.finding.NumberedArea.{NumberedArea}
@@ -7,18 +7,17 @@ use Rattle.check_changes.specs.declared.areas.change.AreaChange.{AreaChange}
 use Rattle.check_changes.specs.declared.areas.change.AreaChange.TheVariants.{Differs, NotCompared}
 use Rattle.check_changes.specs.Areas.AreaChanges.{pairs, area_changes}
 
--- the area has the byte at this offset of its image
+-- the area has the byte at this offset
 abbrev pub has_byte : NumberedArea → ℕ → Bool
 has_byte a at = nat_le a.area.offset at && nat_lt at (area_end a.area)
 
--- the change reports that an area with this byte of the new image differs in a block that no
--- smaller area holds, or isn't compared
+-- the change reports the byte's area as different outside smaller areas, or as not compared
 abbrev pub reports : ℕ → AreaChange → Bool
 reports at (Differs a blocks own) = has_byte a at && nat_lt 0 own
 reports at (NotCompared a) = has_byte a at
 reports at _ = false
 
--- The areas have one size and lie in their images, x and y, and their bytes at an offset differ.
+-- Both areas have equal sizes, lie in their images and differ in byte i.
 pub record DifferAt (x y : List ℕ) (old new : NumberedArea) (i : ℕ) : Type 0 where
   pub same_size : old.area.size ≡ new.area.size
   pub in_old : area_end old.area ≤ length x
@@ -26,7 +25,7 @@ pub record DifferAt (x y : List ℕ) (old new : NumberedArea) (i : ℕ) : Type 0
   pub within : i < new.area.size
   pub differ : slice_index x (old.area.offset + i) ≢ slice_index y (new.area.offset + i)
 
--- If an area and the old area of its name differ in a byte, an area with this byte is reported.
+-- If namesakes differ in a byte, an area with the byte is reported.
 abbrev pub DifferencesAreReported : Type 0
 DifferencesAreReported =
     (x y : List ℕ) (olds news : List NumberedArea) (old new : NumberedArea) (i : ℕ)

@@ -1,18 +1,19 @@
--- The changes between the components of two regions.
-use Rattle.std.specs.Prelude.{ℕ, Bool, not, false, ◌&&◌, List, [], ◌∷◌, ◌++◌, length, slice_range, map, is_some, Option, Some, None, ◌==◌, if◌then◌else◌}
+-- Changes of components.
+use Rattle.std.specs.Prelude.{ℕ, Bool, not, false, ◌&&◌, List, [], ◌∷◌, ◌++◌, length, slice_range, map, is_none, Option, Some, None, ◌==◌, if◌then◌else◌}
 use Rattle.std.specs.List.{find, flat_map}
+use Rattle.std.specs.Option.{option_map_or}
 use Rattle.std.specs.Str.{bytes_eq}
 use Rattle.flash_format.specs.Head.{head_of}
 use Rattle.flash_format.specs.Entry.{name_end}
 use Rattle.flash_format.specs.Components.{Component, components}
 use Rattle.cbfs_walk.specs.Shapes.{shape_fault, refused_or}
+use Rattle.check_changes.specs.Lists.{only_if}
 use Rattle.check_changes.specs.declared.components.change.Difference.{Difference}
 use Rattle.check_changes.specs.declared.components.change.Difference.TheVariants.{«Type», Length, Content, Attributes}
 use Rattle.check_changes.specs.declared.components.change.ComponentChange.{ComponentChange}
 use Rattle.check_changes.specs.declared.components.change.ComponentChange.TheVariants.{Added, Removed, Changed, Moved}
 
--- the compared parts of a component: its offset, name, type, stored content, and attributes, which
--- are the bytes between the name and the content
+-- the compared parts of a component; attributes are the bytes between name and content
 pub record ComponentState : Type 0 where
   pub at : ℕ
   pub name : List ℕ
@@ -29,26 +30,21 @@ state_of c = let h = head_of c.bytes in record {
   attributes = slice_range c.bytes (name_end h) h.offset;
 }
 
--- the components of a region, up to a damage; none if the region has no valid shape
+-- the components of a region, up to a damage; none without a valid shape
 unfoldable pub states : List ℕ → List ComponentState
 states x = refused_or (λ fault. []) (shape_fault x) (map state_of (components x))
 
 abbrev pub has_name : List ℕ → ComponentState → Bool
 has_name name c = bytes_eq name c.name
 
--- the first component of a name
 abbrev pub first_of : List ℕ → List ComponentState → Option ComponentState
 first_of name all = find (has_name name) all
 
-abbrev pub stands_at : ℕ → Option ComponentState → Bool
-stands_at at None = false
-stands_at at (Some c) = c.at == at
-
--- the component is the first component of its name
+-- the component is the first of its name
 abbrev pub is_first_of : List ComponentState → ComponentState → Bool
-is_first_of all c = stands_at c.at (first_of c.name all)
+is_first_of all c =
+    option_map_or (λ (first : ComponentState). first.at == c.at) (first_of c.name all) false
 
--- the first difference between two components of one name
 abbrev pub difference : ComponentState → ComponentState → Option Difference
 difference old new =
     if not (old.kind == new.kind) then Some «Type»
@@ -57,8 +53,7 @@ difference old new =
     else (if not (bytes_eq old.attributes new.attributes) then Some Attributes
     else None)))
 
--- the changes of a component at these offsets of the old and the new region: the difference, then
--- the move
+-- the difference and the move, by both offsets
 abbrev pub content_change : Option Difference → ℕ → ℕ → List ℕ → List ComponentChange
 content_change None old new name = []
 content_change (Some what) old new name = Changed old new name what ∷ []
@@ -67,28 +62,26 @@ abbrev pub pair_change : Option Difference → ℕ → ℕ → List ℕ → List
 pair_change what old new name =
     content_change what old new name ++ (if old == new then [] else Moved old new name ∷ [])
 
--- the changes of a new component, by the old component of its name
+-- the changes of a new component, by the first old namesake
 abbrev pub change_by : Option ComponentState → ComponentState → List ComponentChange
 change_by None new = Added new.at new.name ∷ []
 change_by (Some old) new = pair_change (difference old new) old.at new.at new.name
 
--- the changes of a component of the new region, if it is the first component of its name
+-- the changes of a new component, if no namesake precedes it
 abbrev pub change_of : List ComponentState → List ComponentState → ComponentState
     → List ComponentChange
 change_of old new c = if is_first_of new c then change_by (first_of c.name old) c else []
 
--- the removal of a component of the old region, if the new region lacks its name
+-- the removal of an old component without a new namesake
 abbrev pub removal_of : List ComponentState → List ComponentState → ComponentState
     → List ComponentChange
 removal_of old new c =
-    if is_first_of old c && not (is_some (first_of c.name new)) then Removed c.at c.name ∷ []
-    else []
+    only_if (is_first_of old c && is_none (first_of c.name new)) (Removed c.at c.name)
 
--- added, changed and moved components in the order of the new region, then removed components in
--- the order of the old region
+-- changes in the order of the new region, then removals in the order of the old region
 unfoldable pub changes_between : List ComponentState → List ComponentState → List ComponentChange
 changes_between old new = flat_map (change_of old new) new ++ flat_map (removal_of old new) old
 
--- the changes from a region of the bytes x to a region of the bytes y
+-- the changes from region x to region y
 abbrev pub component_changes : List ℕ → List ℕ → List ComponentChange
 component_changes x y = changes_between (states x) (states y)

@@ -1,4 +1,4 @@
--- The components that a walk returned.
+-- Components from a walk.
 use Rattle.std.specs.Prelude.{◌≡◌, ◌⊎◌, ℕ, ◌+◌, ◌≤◌, false, List, [], ◌∷◌, ◌++◌, Vec, All, map, slice_range, Option, if◌then◌else◌}
 use Rattle.std.specs.List.{sum_by}
 use Rattle.std.specs.declared.alloc.Global.{Global}
@@ -11,8 +11,7 @@ use Rattle.flash_device.specs.Regions.{Range}
 use Rattle.cbfs_walk.specs.Cells.{IsCellIn, cell_in}
 use Rattle.cbfs_walk.specs.Hashes.{content_at}
 use Rattle.cbfs_walk.specs.declared.cell.Cell.{Cell}
-use Rattle.check_changes.specs.Components.ComponentChanges.{ComponentState, state_of, states, difference, change_of, removal_of}
-use Rattle.check_changes.specs.declared.components.change.ComponentChange.{ComponentChange}
+use Rattle.check_changes.specs.Components.ComponentChanges.{ComponentState, state_of, states, difference}
 use Rattle.check_changes.specs.declared.components.change.Difference.{Difference}
 use Rattle.check_changes.specs.declared.components.listing.Listed.{Listed}
 
@@ -24,11 +23,11 @@ pub record IsUsedIn (size : ℕ) (c : Cell) : Type 0 where
 abbrev pub IsListedIn : ℕ → Listed → Type 0
 IsListedIn size l = IsUsedIn size l.cell
 
--- the bytes of all these cells
+-- the bytes of all cells
 abbrev pub spans : List Listed → ℕ
 spans all = sum_by (λ (l : Listed). l.cell.span) all
 
--- the compared parts of a cell, in a region of these bytes
+-- the compared parts of a cell, in regions of these bytes
 abbrev pub state_at : List ℕ → List ℕ → Cell → ComponentState
 state_at x name c = record {
   at = c.at;
@@ -44,24 +43,15 @@ state_in x l = state_at x l.name l.cell
 abbrev pub states_in : List ℕ → List Listed → List ComponentState
 states_in x all = map (state_in x) all
 
--- the first difference between two cells, in regions of these bytes, under any names
+-- the first difference between two cells, under any names
 abbrev pub cell_difference : List ℕ → Cell → List ℕ → Cell → Option Difference
 cell_difference x old y new = difference (state_at x [] old) (state_at y [] new)
 
--- the changes of a component of the new list, then of the old list, in regions of these bytes
-abbrev pub listed_change : List ℕ → List Listed → List ℕ → List Listed → Listed
-    → List ComponentChange
-listed_change x old y new l = change_of (states_in x old) (states_in y new) (state_in y l)
-
-abbrev pub listed_removal : List ℕ → List Listed → List ℕ → List Listed → Listed
-    → List ComponentChange
-listed_removal x old y new l = removal_of (states_in x old) (states_in y new) (state_in x l)
-
--- the component of a cell in a region of these bytes; an empty entry has no component
+-- the component of a cell; none for an empty entry
 abbrev pub cell_states : List ℕ → Cell → List ComponentState
 cell_states x c = if is_free c.head then [] else state_of (component_at c.at (cell_in x c)) ∷ []
 
--- a list with this cell under some name, if the cell is no empty entry
+-- a list with this cell, unless the entry is empty
 pub record AddsCell (c : Cell) (old new : List Listed) : Type 0 where
   pub name : List ℕ
   pub used : is_free c.head ≡ false
@@ -70,8 +60,8 @@ pub record AddsCell (c : Cell) (old new : List Listed) : Type 0 where
 abbrev pub AddsAtMost : Cell → List Listed → List Listed → Type 0
 AddsAtMost c old new = (new ≡ old) ⊎ AddsCell c old new
 
--- These are the components of a region: each lies in the region, the sum of their sizes is at most
--- the region's size, and on an honest device they equal the definition.
+-- The components lie in the region, their sizes add up to at most the region's size, and on an
+-- honest device they equal the definition.
 pub record Lists {F : Type 0} (facts : F → Device) (region : Range) (pages : Pages F)
     (all : Vec Listed Global) : Type 0 where
   pub cells : All (IsListedIn region.size) all.items

@@ -1,4 +1,4 @@
-//! The changes between the flash maps of two images.
+//! The changes between two flash maps.
 ghost use Rattle.std.specs.Prelude.{◌≡◌, IfOk};
 ghost use Rattle.check_changes.specs.Areas.MapChanges as maps;
 
@@ -7,8 +7,8 @@ use crate::lists::push_if;
 use flash_device::FoundMap;
 use std::alloc::{AllocError, Global};
 
-/// Returns the changes of the flash map itself: its offset, its base address, then its name. If the
-/// new image has no map, there are no changes.
+/// Returns the changes of offset, base address and name of the map; none if the new image has no
+/// map.
 pub fn map_changes(
     alloc: Global,
     old: Option<FoundMap>,

@@ -1,4 +1,4 @@
-//! Compares the flash maps, the areas and the blocks of two images.
+//! Compares flash maps, areas and blocks.
 
 mod areas;
 mod blocks;
@@ -6,6 +6,7 @@ mod change;
 mod map;
 mod pairs;
 
-pub use areas::{ImageChanges, image_changes};
+pub use areas::{Areas, ImageChanges, image_changes};
+pub use blocks::blocks_of;
 pub use change::{AreaChange, MapChange};
 pub use map::map_changes;

@@ -1,49 +1,39 @@
-//! The pairs of areas of two flash maps that are compared.
+//! Pairs of areas.
 ghost use Rattle.std.specs.Prelude.{◌≡◌, ◌+◌, ◌*◌, ◌<◌, ◌≤◌, ◌++◌, ◌^◌, List, length, IfSome, IfOk, OnOk};
 ghost use Rattle.std.specs.List.{flat_map};
 ghost use Rattle.check_findings.specs.declared.map.finding.NumberedArea.{NumberedArea};
 ghost use Rattle.check_findings.specs.Map.Names.{Notes};
-ghost use Rattle.check_changes.specs.Areas.AreaChanges.{is_reached, pair_of, pairs, gone_of, regions_of, is_same_size, holds, is_held};
+ghost use Rattle.check_changes.specs.Areas.AreaChanges.{is_reached, pairs, gone_of, regions_of, is_same_size, holds, is_held};
+ghost use Rattle.check_changes.specs.Images.{LieWithin};
 
 use crate::areas::change::AreaChange;
+use crate::images::{Lengths, RegionPair};
 use crate::lists::push_if;
 use check_findings::{AreaNames, NumberedArea};
-use flash_device::{PIECE, Region};
+use flash_device::PIECE;
 use std::alloc::{AllocError, Global};
 
-/// An area of the new map, and the first area of the old map with its name.
+/// An area of the new map, and the first old area with its name.
 #[derive(Clone, Copy, Drop)]
 pub struct AreaPair {
     pub old: Option<NumberedArea>,
     pub new: NumberedArea,
 }
 
-/// A region of the old image, and the region of the new image that is compared with it.
-#[derive(Clone, Copy, Drop)]
-pub struct RegionPair {
-    pub old: Region,
-    pub new: Region,
-}
-
 impl AreaPair {
     /// Returns the areas as regions, if they have one size and lie in images of these lengths.
-    pub fn regions(&self, old_len: u64, new_len: u64) -> Option<RegionPair>
-        ensures regions { result ≡ regions_of old_len new_len self.now }
-        ensures old { IfSome result (λ r. r.old.start + r.old.size ≤ old_len) }
-        ensures new { IfSome result (λ r. r.new.start + r.new.size ≤ new_len) }
+    pub fn regions(&self, lens: Lengths) -> Option<RegionPair>
+        ensures regions { result ≡ regions_of lens self.now }
+        ensures inside { IfSome result (LieWithin lens) }
+        ensures same_size { IfSome result (λ r. r.old.size ≡ r.new.size) }
     {
-        let old = self.old?.area;
-        let new = self.new.area;
-        if old.size != new.size {
+        let old = self.old?;
+        if old.area.size != self.new.area.size {
             return None;
         }
-        let size = u64::from(new.size);
-        let old = Region::within(u64::from(old.offset), size, old_len)?;
-        let new = Region::within(u64::from(new.offset), size, new_len)?;
-        Some(RegionPair { old, new })
+        lens.regions(old, self.new)
     }
 
-    /// Returns whether the areas have one size.
     pub fn is_same_size(&self) -> bool
         ensures { result ≡ is_same_size self.now }
     {
@@ -51,16 +41,14 @@ impl AreaPair {
             .is_some_and(|old| old.area.size == self.new.area.size)
     }
 
-    /// Returns whether the areas hold a block of these regions.
-    fn holds(&self, old_len: u64, new_len: u64, outer: &RegionPair, number: u64) -> bool
-        requires old_len { old_len < 2 ^ 32 }
-        requires new_len { new_len < 2 ^ 32 }
-        requires in_old { outer.now.old.start + outer.now.old.size ≤ old_len }
-        requires in_new { outer.now.new.start + outer.now.new.size ≤ new_len }
-        requires begins { 4096 * number ≤ outer.now.new.size }
-        ensures { result ≡ holds old_len new_len outer.now number self.now }
+    /// Returns whether the pair contains this block of `outer`.
+    fn holds(&self, lens: Lengths, outer: RegionPair, number: u64) -> bool
+        requires fit { (lens.old < 2 ^ 32) × (lens.new < 2 ^ 32) }
+        requires inside { LieWithin lens outer }
+        requires begins { 4096 * number ≤ outer.new.size }
+        ensures { result ≡ holds lens outer number self.now }
     {
-        let Some(inner) = self.regions(old_len, new_len) else {
+        let Some(inner) = self.regions(lens) else {
             return false;
         };
         let start = number * PIECE as u64;
@@ -72,27 +60,17 @@ impl AreaPair {
     }
 }
 
-/// Returns whether a pair of areas holds a block of these regions.
-pub fn is_held(
-    pairs: &[AreaPair],
-    old_len: u64,
-    new_len: u64,
-    outer: &RegionPair,
-    number: u64,
-) -> bool
-    requires old_len { old_len < 2 ^ 32 }
-    requires new_len { new_len < 2 ^ 32 }
-    requires in_old { outer.now.old.start + outer.now.old.size ≤ old_len }
-    requires in_new { outer.now.new.start + outer.now.new.size ≤ new_len }
-    requires begins { 4096 * number ≤ outer.now.new.size }
-    ensures { result ≡ is_held old_len new_len pairs.now outer.now number }
+/// Returns whether a pair contains this block of `outer`.
+pub fn is_held(pairs: &[AreaPair], lens: Lengths, outer: RegionPair, number: u64) -> bool
+    requires fit { (lens.old < 2 ^ 32) × (lens.new < 2 ^ 32) }
+    requires inside { LieWithin lens outer }
+    requires begins { 4096 * number ≤ outer.new.size }
+    ensures { result ≡ is_held lens pairs.now outer number }
 {
-    pairs
-        .iter()
-        .any(|pair| pair.holds(old_len, new_len, outer, number))
+    pairs.iter().any(|pair| pair.holds(lens, outer, number))
 }
 
-/// Returns whether the area is the first area with its name.
+/// Returns whether the area is the first of its name.
 fn is_reached<'a>(names: &AreaNames<'a>, area: &'a NumberedArea) -> bool
     ensures { (areas : List NumberedArea) → Notes names.now areas → result
         ≡ is_reached areas area.now }
@@ -103,29 +81,7 @@ fn is_reached<'a>(names: &AreaNames<'a>, area: &'a NumberedArea) -> bool
     }
 }
 
-/// Pushes the area with the first old area of its name, if the area is the first of its name.
-fn push_pair<'a>(
-    pairs: &mut Vec<AreaPair>,
-    old_names: &AreaNames<'a>,
-    new_names: &AreaNames<'a>,
-    area: &'a NumberedArea,
-) -> Result<(), AllocError>
-    ensures pair { (olds news : List NumberedArea)
-        → Notes old_names.now olds → Notes new_names.now news →
-        OnOk result (pairs.new.items ≡ pairs.old.items ++ pair_of olds news area.now) }
-    ensures count { OnOk result (length pairs.new.items ≤ length pairs.old.items + 1) }
-{
-    if is_reached(new_names, area) {
-        pairs.push(AreaPair {
-            old: old_names.get(area.area.text()),
-            new: *area,
-        })?;
-    }
-    Ok(())
-}
-
-/// Returns the first area of each name in the new map, in the map's order, each with the first old
-/// area of its name.
+/// Returns the first new area of each name, in order, with its first old namesake.
 pub fn pairs<'a>(
     alloc: Global,
     old_names: &AreaNames<'a>,
@@ -139,12 +95,14 @@ pub fn pairs<'a>(
 {
     let mut pairs = Vec::new(alloc);
     for area in new_areas {
-        push_pair(&mut pairs, old_names, new_names, area)?;
+        let old = old_names.get(area.area.text());
+        let pair = AreaPair { old, new: *area };
+        push_if(&mut pairs, is_reached(new_names, area), pair)?;
     }
     Ok(pairs)
 }
 
-/// Pushes that the new map has no area of this one's name, if the area is the first of its name.
+/// Pushes an old area, the first of its name, if the new map lacks the name.
 fn push_if_gone<'a>(
     changes: &mut Vec<AreaChange>,
     old_names: &AreaNames<'a>,
@@ -159,7 +117,6 @@ fn push_if_gone<'a>(
     push_if(changes, is_gone, AreaChange::Gone(*area))
 }
 
-/// Pushes the areas of the old map whose names the new map lacks.
 pub fn push_gone<'a>(
     changes: &mut Vec<AreaChange>,
     old_names: &AreaNames<'a>,

@@ -1,146 +1,100 @@
-//! The comparison of components of two devices.
-ghost use Rattle.std.specs.Prelude.{◌≡◌, ◌+◌, ◌-◌, ◌/◌, ◌≤◌, true, length, slice_range, IfOk};
+//! The comparison of components.
+ghost use Rattle.std.specs.Prelude.{◌≡◌, ◌+◌, ◌-◌, ◌/◌, ◌≤◌, slice_range, IfOk};
 ghost use Rattle.std.specs.Str.{bytes_eq};
 ghost use Rattle.check_changes.specs.Components.Listings.{IsUsedIn, cell_difference};
-ghost use Rattle.check_changes.specs.Images.{BothLieIn, HasCompared, OnBoth, OnBothIn};
+ghost use Rattle.check_changes.specs.Images.{HasCompared, LieWithin, OnBothIn, lengths};
 
+use crate::areas::blocks_of;
 use crate::components::change::Difference;
 use crate::components::stretch::Stretch;
 use crate::fault::ChangeFault;
+use crate::images::{Images, RegionPair};
 use cbfs_walk::Cell;
-use flash_device::{Flash, PIECE, Paged, Region};
+use flash_device::{Flash, Region};
 
-/// Returns the first difference between a component of the old region and a component of the new
-/// region.
+/// Returns the first difference between two components.
 pub fn difference<F: Flash, G: Flash>(
-    old: &mut Paged<F>,
-    old_region: Region,
-    before: &Cell,
-    new: &mut Paged<G>,
-    new_region: Region,
-    after: &Cell,
+    images: &mut Images<F, G>,
+    regions: RegionPair,
+    old: &Cell,
+    new: &Cell,
 ) -> Result<Option<Difference>, ChangeFault>
-    requires regions { BothLieIn F.facts old.old.device old_region
-        G.facts new.old.device new_region }
-    requires before { IsUsedIn old_region.size before.now }
-    requires after { IsUsedIn new_region.size after.now }
+    requires regions { LieWithin (lengths F.facts G.facts images.old) regions }
+    requires old { IsUsedIn regions.old.size old.now }
+    requires new { IsUsedIn regions.new.size new.now }
 
-    ensures after { HasCompared F.facts G.facts (2 + after.now.span / 4096)
-        old.old old.new new.old new.new result }
-    ensures difference { OnBothIn F.facts old.old.device old_region
-        G.facts new.old.device new_region (λ x y.
-        IfOk result (λ what. what ≡ cell_difference x before.now y after.now)) }
+    ensures after { HasCompared F.facts G.facts (2 + new.now.span / 4096)
+        images.old images.new result }
+    ensures difference { OnBothIn F.facts G.facts images.old regions (λ x y.
+        IfOk result (λ what. what ≡ cell_difference x old.now y new.now)) }
 {
-    old.places_fit();
-    new.places_fit();
-    if before.head.kind != after.head.kind {
+    images.lengths();
+    if old.head.kind != new.head.kind {
         return Ok(Some(Difference::Type));
     }
-    if before.head.len != after.head.len {
+    if old.head.len != new.head.len {
         return Ok(Some(Difference::Length));
     }
-    let (a, b) = (Stretch::content(before), Stretch::content(after));
-    if !same_stretch(old, old_region, a, new, new_region, b)? {
+    let (a, b) = (Stretch::content(old), Stretch::content(new));
+    if !same_stretch(images, regions, a, b)? {
         return Ok(Some(Difference::Content));
     }
-    let (a, b) = (Stretch::attributes(before), Stretch::attributes(after));
-    if !same_stretch(old, old_region, a, new, new_region, b)? {
+    let (a, b) = (Stretch::attributes(old), Stretch::attributes(new));
+    if !same_stretch(images, regions, a, b)? {
         return Ok(Some(Difference::Attributes));
     }
     Ok(None)
 }
 
-/// Returns whether two stretches have equal bytes.
 fn same_stretch<F: Flash, G: Flash>(
-    old: &mut Paged<F>,
-    old_region: Region,
-    before: Stretch,
-    new: &mut Paged<G>,
-    new_region: Region,
-    after: Stretch,
+    images: &mut Images<F, G>,
+    regions: RegionPair,
+    old: Stretch,
+    new: Stretch,
 ) -> Result<bool, ChangeFault>
-    requires regions { BothLieIn F.facts old.old.device old_region
-        G.facts new.old.device new_region }
-    requires before { before.end ≤ old_region.size }
-    requires after { after.end ≤ new_region.size }
-    requires old_order { before.from ≤ before.end }
-    requires new_order { after.from ≤ after.end }
+    requires regions { LieWithin (lengths F.facts G.facts images.old) regions }
+    requires old { old.end ≤ regions.old.size }
+    requires new { new.end ≤ regions.new.size }
+    requires old_order { old.from ≤ old.end }
+    requires new_order { new.from ≤ new.end }
 
-    ensures after { HasCompared F.facts G.facts (1 + (after.end - after.from) / 4096)
-        old.old old.new new.old new.new result }
-    ensures same { OnBothIn F.facts old.old.device old_region
-        G.facts new.old.device new_region (λ x y.
-        IfOk result (λ same. same ≡ bytes_eq (slice_range x before.from before.end)
-        (slice_range y after.from after.end))) }
+    ensures after { HasCompared F.facts G.facts (1 + (new.end - new.from) / 4096)
+        images.old images.new result }
+    ensures same { OnBothIn F.facts G.facts images.old regions (λ x y.
+        IfOk result (λ same. same ≡ bytes_eq (slice_range x old.from old.end)
+        (slice_range y new.from new.end))) }
 {
-    old.places_fit();
-    new.places_fit();
-    let n = before.end - before.from;
-    if n != after.end - after.from {
+    let lens = images.lengths();
+    let n = old.end - old.from;
+    if n != new.end - new.from {
         return Ok(false);
     }
-    same_bytes(
-        old,
-        old_region.start() + before.from,
-        new,
-        new_region.start() + after.from,
-        n,
-    )
+    let Some(old) = Region::within(regions.old.start() + old.from, n, lens.old) else {
+        unreachable!()
+    };
+    let Some(new) = Region::within(regions.new.start() + new.from, n, lens.new) else {
+        unreachable!()
+    };
+    same_bytes(images, RegionPair { old, new })
 }
 
-/// Returns whether `n` bytes of both devices are equal.
 fn same_bytes<F: Flash, G: Flash>(
-    old: &mut Paged<F>,
-    before: u64,
-    new: &mut Paged<G>,
-    after: u64,
-    n: u64,
+    images: &mut Images<F, G>,
+    regions: RegionPair,
 ) -> Result<bool, ChangeFault>
-    requires before { before + n ≤ length (F.facts old.old.device).content }
-    requires after { after + n ≤ length (G.facts new.old.device).content }
+    requires regions { LieWithin (lengths F.facts G.facts images.old) regions }
+    requires same_size { regions.old.size ≡ regions.new.size }
 
-    ensures after { HasCompared F.facts G.facts (1 + n / 4096)
-        old.old old.new new.old new.new result }
-    ensures same { OnBoth F.facts old.old.device G.facts new.old.device (λ x y.
-        IfOk result (λ same. same ≡ bytes_eq (slice_range x before (before + n))
-        (slice_range y after (after + n)))) }
+    ensures after { HasCompared F.facts G.facts (1 + regions.new.size / 4096)
+        images.old images.new result }
+    ensures same { OnBothIn F.facts G.facts images.old regions (λ x y.
+        IfOk result (λ same. same ≡ bytes_eq x y)) }
 {
-    old.places_fit();
-    new.places_fit();
-    let mut done = 0;
-    while done < n {
-        let size = (n - done).min(PIECE as u64);
-        if !same_piece(old, before + done, new, after + done, size as usize)? {
+    images.lengths();
+    for number in 0..blocks_of(regions.new.size()) {
+        if images.is_different(regions, number)? {
             return Ok(false);
         }
-        done += size;
     }
     Ok(true)
-}
-
-/// Returns whether `n` bytes of both devices are equal, at most 4096.
-fn same_piece<F: Flash, G: Flash>(
-    old: &mut Paged<F>,
-    before: u64,
-    new: &mut Paged<G>,
-    after: u64,
-    n: usize,
-) -> Result<bool, ChangeFault>
-    requires before { before + n ≤ length (F.facts old.old.device).content }
-    requires after { after + n ≤ length (G.facts new.old.device).content }
-    requires short { n ≤ 4096 }
-
-    ensures after { HasCompared F.facts G.facts 1
-        old.old old.new new.old new.new result }
-    ensures same { OnBoth F.facts old.old.device G.facts new.old.device (λ x y.
-        IfOk result (λ same. same ≡ bytes_eq (slice_range x before (before + n))
-        (slice_range y after (after + n)))) }
-{
-    let Ok(old_bytes) = old.piece(before, n) else {
-        return Err(ChangeFault::OldDevice);
-    };
-    let Ok(new_bytes) = new.piece(after, n) else {
-        return Err(ChangeFault::NewDevice);
-    };
-    Ok(old_bytes == new_bytes)
 }

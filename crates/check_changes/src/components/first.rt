@@ -12,10 +12,10 @@ use std::alloc::{AllocError, Global};
 use std::collections::HashMap;
 use std::hash::RandomState;
 
-/// The cells by name. An image can have any names, so they are hashed with random keys.
+/// Cells by name, hashed with random keys, since an image's author chooses names.
 pub type Firsts<'a> = HashMap<&'a [u8], Cell, RandomState>;
 
-/// The components of a region, and the cell of the first component of each name.
+/// The components of a region, and the first cell of each name.
 #[derive(Drop)]
 pub struct Listing<'a> {
     pub region: Region,
@@ -26,14 +26,13 @@ pub struct Listing<'a> {
 }
 
 impl<'a> Listing<'a> {
-    /// Returns the cell of the first component of a name.
+    /// Returns the first cell of a name.
     pub fn first(&self, name: &'a [u8]) -> Option<Cell>
         ensures { result ≡ first_cell name.now self.now.all.now }
     {
         self.first.get(name).copied()
     }
 
-    /// Returns whether the component is the first component of its name.
     pub fn is_first(&self, listed: &'a Listed) -> bool
         ensures { result ≡ is_first self.now.all.now listed.now }
     {
@@ -58,7 +57,7 @@ pub fn with_firsts<'a>(
 {
     let mut first = HashMap::with_hasher(alloc, keys);
     let mut left = all.len();
-    // Backwards, so that the first component of a name replaces the later components.
+    // Backwards: the first component replaces later namesakes.
     while left > 0 {
         left -= 1;
         note(&mut first, &all[left])?;
@@ -66,7 +65,6 @@ pub fn with_firsts<'a>(
     Ok(Listing { region, all, first })
 }
 
-/// Notes a component's cell, and replaces the cell of a later component of its name.
 fn note<'a>(first: &mut Firsts<'a>, listed: &'a Listed) -> Result<(), AllocError>
     ensures { (behind : List Listed) → Notes first.old behind →
         OnOk result (Notes first.new (listed.now ∷ behind)) }

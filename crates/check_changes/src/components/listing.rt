@@ -1,5 +1,5 @@
 //! The components of a region.
-ghost use Rattle.std.specs.Prelude.{◌≡◌, ◌≢◌, ◌+◌, ◌/◌, [], ◌∷◌, ◌++◌, IfOk, IfErr, OnOk, OnErr};
+ghost use Rattle.std.specs.Prelude.{◌≡◌, ◌≢◌, ◌+◌, ◌/◌, ◌++◌, IfOk, IfErr, OnOk, OnErr};
 ghost use Rattle.flash_device.specs.Device.{faults_told};
 ghost use Rattle.flash_device.specs.Pages.{HasRead, OnHonestIn};
 ghost use Rattle.flash_device.specs.Regions.{LiesIn};
@@ -14,7 +14,7 @@ use check_findings::{CheckFault, Name};
 use flash_device::{Flash, Paged, Region};
 use std::alloc::{AllocError, Global};
 
-/// A component that a walk found.
+/// A component from a walk.
 #[derive(Drop)]
 pub struct Listed {
     pub name: Name,
@@ -22,7 +22,7 @@ pub struct Listed {
 }
 
 impl Listed {
-    /// Returns a copy of the component's name.
+    /// Copies the component's name.
     pub fn copied_name(&self, alloc: Global) -> Result<Name, AllocError>
         ensures { IfOk result (λ name. name ≡ self.now.name) }
     {
@@ -30,7 +30,6 @@ impl Listed {
     }
 }
 
-/// Pushes the component of a cell. An empty entry has no component.
 fn list_cell<F: Flash>(
     alloc: Global,
     paged: &mut Paged<F>,
@@ -58,8 +57,7 @@ fn list_cell<F: Flash>(
     Ok(())
 }
 
-/// Returns the components of a region in order, up to a damage. If the region has no valid shape,
-/// it returns no components.
+/// Returns the components of a region in order, up to a damage; none without a valid shape.
 pub fn components<F: Flash>(
     alloc: Global,
     paged: &mut Paged<F>,
@@ -86,7 +84,7 @@ pub fn components<F: Flash>(
     }
 }
 
-/// Returns the device fault of a walk. Any other fault only ends the list of cells.
+/// Returns the device fault of a walk. Other faults only end the list.
 fn ended(fault: WalkFault) -> Result<(), CheckFault>
     ensures ended { OnOk result (fault ≢ WalkFault.Device) }
     ensures device { OnErr result (fault ≡ WalkFault.Device) }

@@ -1,4 +1,4 @@
-//! Compares the components of two CBFS regions on two devices.
+//! Compares the components of two CBFS regions.
 
 mod change;
 mod changes;

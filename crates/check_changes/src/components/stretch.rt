@@ -1,4 +1,4 @@
-//! The parts of a component that are compared.
+//! The compared parts of a component.
 ghost use Rattle.std.specs.Prelude.{◌≡◌, ◌+◌, ◌<◌, ◌≤◌, ◌^◌};
 ghost use Rattle.flash_format.specs.Entry.{name_end};
 
@@ -12,7 +12,7 @@ pub struct Stretch {
 }
 
 impl Stretch {
-    /// Returns the range of a component's content, as it is stored.
+    /// Returns the range of the stored content.
     pub fn content(cell: &Cell) -> Stretch
         requires { cell.now.at + (cell.now.head.offset + cell.now.head.len) < 2 ^ 32 }
         ensures { result ≡ record {
@@ -27,7 +27,7 @@ impl Stretch {
         }
     }
 
-    /// Returns the range between a component's name and its content.
+    /// Returns the range between name and content.
     pub fn attributes(cell: &Cell) -> Stretch
         requires inside { cell.now.at + cell.now.head.offset < 2 ^ 32 }
         requires order { name_end cell.now.head ≤ cell.now.head.offset }

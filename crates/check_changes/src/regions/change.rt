@@ -21,14 +21,14 @@ impl Model for ComponentChanges {
 }
 
 impl ComponentChanges {
-    /// Returns these changes, in order.
+    /// Wraps these changes.
     pub fn new(changes: Vec<ComponentChange>) -> ComponentChanges
         ensures { result ≡ changes.items }
     {
         ComponentChanges { changes }
     }
 
-    /// Returns the changes, in order.
+    /// Returns the changes in order.
     pub fn as_slice(&self) -> &[ComponentChange]
         ensures { result.now ≡ self.now }
     {
@@ -36,15 +36,14 @@ impl ComponentChanges {
     }
 }
 
-/// The changes of the components of one area of the new image.
+/// The changes of components in an area.
 #[derive(Drop)]
 pub enum RegionChange {
-    /// The changes from the first area of the old image with its name.
+    /// The changes from the first old area of its name.
     Compared {
         area: NumberedArea,
         changes: ComponentChanges,
     },
-    /// Not compared: the old area ends outside the old image, or the limit of compared bytes is
-    /// reached.
+    /// An area ends outside its image, or the limit of compared bytes is reached.
     NotCompared(NumberedArea),
 }

@@ -1,4 +1,4 @@
-//! Compares the components of the regions of two images.
+//! Compares the components of two images.
 
 mod change;
 mod pairs;

@@ -1,4 +1,4 @@
-//! The pairs of areas of two images whose components are compared.
+//! Pairs of regions.
 ghost use Rattle.std.specs.Prelude.{◌≡◌, ◌++◌, List, IfOk, OnOk};
 ghost use Rattle.std.specs.List.{flat_map};
 ghost use Rattle.check_findings.specs.declared.map.finding.NumberedArea.{NumberedArea};
@@ -9,15 +9,14 @@ ghost use Rattle.check_changes.specs.Regions.RegionChanges.{pair_of, pairs};
 use check_findings::{AreaNames, ImageFinding, NumberedArea};
 use std::alloc::{AllocError, Global};
 
-/// An area of the new image, and the first area of the old image with its name.
+/// An area of the new image, and the first old area with its name.
 #[derive(Clone, Copy, Drop)]
 pub struct Pair {
     pub old: NumberedArea,
     pub new: NumberedArea,
 }
 
-/// Pushes the area of a region's finding with the old area of its name, if the old map has the
-/// name.
+/// Pushes the area of a region's finding, if it has an old namesake.
 fn push_pair<'a>(
     pairs: &mut Vec<Pair>,
     old_names: &AreaNames<'a>,
@@ -36,8 +35,8 @@ fn push_pair<'a>(
     Ok(())
 }
 
-/// Returns the areas of the regions in these findings, in order, each with the first old area of
-/// its name. Areas whose names the old map lacks are omitted.
+/// Returns the areas with an old namesake in these findings, in order, each with the first
+/// namesake.
 pub fn pairs<'a>(
     alloc: Global,
     old_names: &AreaNames<'a>,

@@ -1,5 +1,5 @@
--- Regions of which nothing bad is told.
-use Rattle.std.proofs.Common.{◌≡◌, ◌≢◌, ℕ, ◌+◌, Bool, true, false, cond, List, [], ◌∷◌, ◌++◌, Some, None, Contains, All, length, refl, sym, ap, ◌∙◌}
+-- Regions without bad findings.
+use Rattle.std.proofs.Common.{◌≡◌, ◌≢◌, ℕ, ◌+◌, Bool, true, false, cond, List, [], ◌∷◌, ◌++◌, Option, Some, None, Contains, All, length, refl, sym, ap, ◌∙◌}
 use Rattle.std.specs.List.{list_any}
 use Rattle.std.proofs.lemmas.Bool.{false≢true, or_parts}
 use Rattle.std.proofs.lemmas.List.Elements.{All-nil, All-cons}
@@ -12,22 +12,20 @@ use Rattle.flash_format.specs.Components.{Component, component_at, components_fr
 use Rattle.cbfs_walk.specs.Shaped.{place_after}
 use Rattle.cbfs_walk.specs.Shapes.{has_bad_size, is_absent, refused_or}
 use Rattle.cbfs_walk.specs.declared.walk.WalkFault.TheVariants as faults
-use Rattle.std.specs.Prelude.{is_some, not}
-use Rattle.std.specs.Str.{is_utf8}
-use Rattle.flash_format.specs.TypeNames.{name_of_type}
+use Rattle.std.specs.List.{position_from}
+use Rattle.check_findings.specs.Region.Laws.{IsBlankTail}
 use Rattle.check_findings.specs.Region.Names.{is_among}
-use Rattle.check_findings.specs.declared.region.finding.ComponentFinding.TheVariants as of_component
-use Rattle.check_findings.specs.Region.RegionFindings.{counts_of, region_findings, shape_findings, free_findings, told_if, component_findings, cells_findings, end_findings}
+use Rattle.check_findings.specs.Region.RegionFindings.{cell_findings, cells_findings, component_finding, counts_of, end_findings, filled_findings, free_findings, is_filled, names_after, region_findings, shape_findings, tail_bytes, tail_findings}
 use Rattle.check_findings.specs.declared.region.finding.RegionFinding.{RegionFinding}
-use Rattle.check_findings.proofs.RegionLemmas.Tails.{quiet_tail}
+use Rattle.check_findings.proofs.RegionLemmas.Tails.{none_filled}
 use Rattle.check_findings.specs.Image.Laws.{IsIntact, IsWhole}
 use Rattle.check_findings.specs.Image.Verdicts.{is_bad_region}
 
--- a bad finding among these makes them bad
-pub bad_among : (needs : Bool) (told : List RegionFinding) (finding : RegionFinding) → Contains told finding → is_bad_region needs finding ≡ true → list_any (is_bad_region needs) told ≡ true
-bad_among needs told finding has bad = list_any_at (is_bad_region needs) told has.0 finding has.1 (ap (is_bad_region needs) has.2 ∙ bad)
+-- a bad finding makes the list bad
+pub bad_among : (needs : Bool) (all : List RegionFinding) (finding : RegionFinding) → Contains all finding → is_bad_region needs finding ≡ true → list_any (is_bad_region needs) all ≡ true
+bad_among needs all finding has bad = list_any_at (is_bad_region needs) all has.0 finding has.1 (ap (is_bad_region needs) has.2 ∙ bad)
 
--- where none of two lists passes a test, none of either does
+-- if no element of both lists passes a test, no element of either list does
 pub none_of : {X : Type 0} (test : X → Bool) (xs ys : List X) → list_any test (xs ++ ys) ≡ false → (list_any test xs ≡ false) × (list_any test ys ≡ false)
 none_of test xs ys none = or_parts (list_any test xs) (list_any test ys) (sym (list_any-append test xs ys) ∙ none)
 
@@ -41,35 +39,38 @@ good_shape needs false false rest fit = (refl, fit)
 undamaged : (needs : Bool) (bytes : List ℕ) (at : ℕ) (end : End) (rest : List RegionFinding) → list_any (is_bad_region needs) (end_findings bytes at end ++ rest) ≡ false → (kind : DamageKind) → end ≢ damage kind
 undamaged needs bytes at end rest fit kind is = false≢true (sym (rw is at fit))
 
-intact_component : (needs : Bool) (names : List (List ℕ)) (at : ℕ) (x : List ℕ) → list_any (is_bad_region needs) (component_findings names at x) ≡ false → IsIntact (component_at at x)
-intact_component needs names at x fit stored is =
-    let name = cell_name x in
-    let after_name = none_of (is_bad_region needs) (told_if (is_among name names) at name of_component.Shadowed) _ fit in
-    let after_text = none_of (is_bad_region needs) (told_if (not (is_utf8 name)) at name of_component.NameNotText) _ after_name.1 in
-    let state = none_of (is_bad_region needs) (told_if (not (is_some (name_of_type (head_of x).kind))) at name (of_component.UnknownType (head_of x).kind)) _ after_text.1 in
-    false≢true (sym (rw is at state.1))
-
-intact_cell : (needs : Bool) (names : List (List ℕ)) (at : ℕ) (x : List ℕ) (others : List Component) (free : Bool) → list_any (is_bad_region needs) (cond free (free_findings at (head_of x)) (component_findings names at x)) ≡ false → All IsIntact others
+intact_cell : (needs : Bool) (names : List (List ℕ)) (at : ℕ) (x : List ℕ) (others : List Component) (free : Bool)
+    → list_any (is_bad_region needs) (cond free (free_findings at (head_of x)) (component_finding (is_among (cell_name x) names) (component_at at x) ∷ [])) ≡ false → All IsIntact others
     → All IsIntact (cond free others (component_at at x ∷ others))
 intact_cell needs names at x others true fit rest = rest
-intact_cell needs names at x others false fit rest = All-cons IsIntact (component_at at x) others (intact_component needs names at x fit) rest
+intact_cell needs names at x others false fit rest =
+    let digest = (or_parts (is_among (cell_name x) names) _ (or_parts _ false fit).0).1 in
+    All-cons IsIntact (component_at at x) others (λ stored is. false≢true (sym (rw is at digest))) rest
 
 intact : (needs : Bool) (names : List (List ℕ)) (at : ℕ) (cells : List (List ℕ)) → list_any (is_bad_region needs) (cells_findings names at cells) ≡ false → All IsIntact (components_from at cells)
 unfolding cells_findings components_from
 intact needs names at [] fit = All-nil IsIntact
 intact needs names at (x ∷ cells) fit =
-    let parts = none_of (is_bad_region needs) (cond (is_free (head_of x)) (free_findings at (head_of x)) (component_findings names at x)) _ fit in
-    intact_cell needs names at x (components_from (at + length x) cells) (is_free (head_of x)) parts.0 (intact needs (cond (is_free (head_of x)) names (cell_name x ∷ names)) (at + length x) cells parts.1)
+    let parts = none_of (is_bad_region needs) (cell_findings names at x) _ fit in
+    intact_cell needs names at x (components_from (at + length x) cells) (is_free (head_of x)) parts.0 (intact needs (names_after names x) (at + length x) cells parts.1)
 
--- a region without a bad finding is whole
+blank : (needs : Bool) (at : ℕ) (x : List ℕ) (rest : List RegionFinding) → list_any (is_bad_region needs) (tail_findings at x ++ rest) ≡ false → IsBlankTail at x
+unfolding tail_findings
+blank needs at x rest fit = none_filled at (tail_bytes at x) (go (position_from is_filled at (tail_bytes at x)) fit)
+  where
+    go : (o : Option ℕ) → list_any (is_bad_region needs) (filled_findings at x o ++ rest) ≡ false → o ≡ None
+    go None fit = refl
+    go (Some place) fit = absurd (false≢true (sym fit))
+
+-- a region without bad findings is whole
 pub fit_region : (needs : Bool) (x : List ℕ) → list_any (is_bad_region needs) (region_findings x) ≡ false → IsWhole x
 unfolding region_findings
 fit_region needs x fit =
-    let told = good_shape needs (has_bad_size (length x)) (is_absent (entry x)) _ fit in
-    let parts = none_of (is_bad_region needs) (cells_findings [] 0 (cut x).cells) _ told.1 in
+    let all = good_shape needs (has_bad_size (length x)) (is_absent (entry x)) _ fit in
+    let parts = none_of (is_bad_region needs) (cells_findings [] 0 (cut x).cells) _ all.1 in
     record {
-      shaped = told.0;
+      shaped = all.0;
       undamaged = undamaged needs x (place_after 0 (cut x).cells) (cut x).end (counts_of (length x) (cut x).cells) parts.1;
       intact = intact needs [] 0 (cut x).cells parts.0;
-      blank = λ is. quiet_tail (is_bad_region needs) (place_after 0 (cut x).cells) x (counts_of (length x) (cut x).cells) (λ place. refl) (rw is at parts.1);
+      blank = λ is. blank needs (place_after 0 (cut x).cells) x (counts_of (length x) (cut x).cells) (rw is at parts.1);
     }

@@ -1,32 +1,33 @@
--- Images of which nothing bad is told.
+-- Images without bad findings.
 use Rattle.std.proofs.Common.{◌≡◌, ◌∙◌, ℕ, ◌+◌, ◌≤◌, Bool, true, false, not, ◌||◌, cond, All, Contains, List, [], ◌∷◌, ◌++◌, ◌*◌, drop, length, nat_eq, nat_le, Option, Some, None, Ok, refl, sym, ap, subst}
 use Rattle.std.specs.Prelude.{filter, map}
 use Rattle.std.specs.List.{find, flat_map, list_any}
 use Rattle.std.specs.Option.{option_map}
 use Rattle.std.proofs.lemmas.Bool.{and_parts, false≢true, le-ltb, leb-true, or_parts}
-use Rattle.std.proofs.lemmas.List.Elements.{All-nil, All-cons, All-head, All-tail, All-append, All-filter, All-weaker, All-contains_itself, filter_passes}
+use Rattle.std.proofs.lemmas.List.Elements.{All-nil, All-cons, All-head, All-tail, All-filter, All-weaker, All-contains_itself, filter_passes}
 use Rattle.flash_format.specs.declared.flashmap.Area.{Area}
 use Rattle.flash_format.specs.Flashmap.{areas_at, fmap_head_of, is_area, map_of, text_of}
 use Rattle.flash_device.specs.declared.fmap.FoundMap.{FoundMap}
 use Rattle.flash_device.specs.Fmap.{found_from, found_in}
 use Rattle.flash_device.specs.Regions.{region_of, region_under}
 use Rattle.check_findings.specs.declared.map.finding.MapFinding.{MapFinding}
-use Rattle.check_findings.specs.declared.map.finding.MapFinding.TheVariants.{OtherSize}
+use Rattle.check_findings.specs.declared.map.finding.MapFinding.TheVariants.{OtherMap, OtherSize, SameName}
 use Rattle.check_findings.specs.declared.map.finding.NumberedArea.{NumberedArea}
-use Rattle.check_findings.specs.Map.MapFindings.{area_end, area_findings, areas_under, findings_of, findings_under, has_name, image_areas, map_areas, map_findings, name_finding, name_findings, next_findings, numbered_from, told_if}
+use Rattle.check_findings.specs.Map.MapFindings.{area_end, area_findings, areas_under, finding_if, finding_of, findings_of, findings_under, has_name, image_areas, map_areas, map_findings, name_findings, numbered_from}
 use Rattle.check_findings.proofs.MapLemmas.Sound.{named}
 use Rattle.check_findings.specs.declared.image.finding.ImageFinding.{ImageFinding}
 use Rattle.check_findings.specs.declared.image.finding.ImageFinding.TheVariants.{Map, NotChecked}
-use Rattle.check_findings.specs.Image.ImageFindings.{area_finding, areas_findings, bytes_of, expected_names, has_one_of, image_findings, is_wanted, left_after, range_of, region_finding, regions_findings}
+use Rattle.check_findings.specs.Region.RegionFindings.{region_findings}
+use Rattle.check_findings.specs.Image.ImageFindings.{areas_findings, bytes_of, expected_names, has_one_of, image_findings, is_wanted, left_after, range_of, region_finding, regions_findings}
 use Rattle.check_findings.specs.Image.Laws.{FitImagesAreWhole, FitRegionsLoseNothing, IsFit}
-use Rattle.check_findings.specs.Image.RegionAreas.{region_area, region_areas}
-use Rattle.check_findings.specs.Image.Verdicts.{is_bad, is_bad_map}
+use Rattle.check_findings.specs.Image.RegionAreas.{region_areas}
+use Rattle.check_findings.specs.Image.Verdicts.{is_bad, is_bad_map, is_bad_region}
 use Rattle.check_findings.proofs.ImageLemmas.Fit.{fit_region, none_of}
 use Rattle.check_findings.proofs.ImageLemmas.Regions.{regions_of}
 
--- ---- no name stands twice
+-- ---- names of areas are different
 
-no_name : (a : NumberedArea) (first : Option NumberedArea) → list_any is_bad_map (name_finding a first) ≡ false → name_finding a first ≡ []
+no_name : (a : NumberedArea) (first : Option NumberedArea) → list_any is_bad_map (finding_of (SameName a) first) ≡ false → finding_of (SameName a) first ≡ []
 no_name a None fit = refl
 no_name a (Some first) fit = absurd (false≢true (sym fit))
 
@@ -34,17 +35,17 @@ no_names : (before areas : List NumberedArea) → list_any is_bad_map (name_find
 no_names before [] fit = refl
 no_names before (a ∷ areas) fit =
     let first = find (has_name (text_of a.area.name)) before in
-    let parts = none_of is_bad_map (name_finding a first) _ fit in
+    let parts = none_of is_bad_map (finding_of (SameName a) first) _ fit in
     rw (no_name a first parts.0) (no_names (before ++ a ∷ []) areas parts.1)
 
 fit_names : (n : ℕ) (map : FoundMap) (next : Option FoundMap) (areas : List NumberedArea) → list_any is_bad_map (findings_of n map next areas) ≡ false → name_findings [] areas ≡ []
 fit_names n map next areas fit =
-    let other = none_of is_bad_map (next_findings next) _ fit in
-    let size = none_of is_bad_map (told_if (not (nat_eq map.head.size n)) OtherSize) _ other.1 in
+    let other = none_of is_bad_map (finding_of OtherMap next) _ fit in
+    let size = none_of is_bad_map (finding_if (not (nat_eq map.head.size n)) OtherSize) _ other.1 in
     let each = none_of is_bad_map (flat_map (area_findings n) areas) _ size.1 in
     no_names [] areas (none_of is_bad_map (name_findings [] areas) _ each.1).0
 
--- ---- a name reaches its first area
+-- ---- a name finds its first area
 
 find_area : (name : List ℕ) (k : ℕ) (areas : List Area) → option_map (λ (a : NumberedArea). a.area) (find (has_name name) (numbered_from k areas)) ≡ find (is_area name) areas
 find_area name k [] = refl
@@ -66,7 +67,7 @@ reached image name map a found is fits = go (map_of image) found
         let area = sym (find_area name 0 (areas_at image q)) ∙ ap (option_map (λ (b : NumberedArea). b.area)) here in
         rw (area, le-ltb (length image) (area_end a.area) fits) refl
 
--- where the area lies inside the image, its name reaches it
+-- the name of an area inside the image finds the area
 IsReached : List ℕ → NumberedArea → Type 0
 IsReached image a = area_end a.area ≤ length image → region_of image (text_of a.area.name) ≡ Ok (range_of a)
 
@@ -79,48 +80,34 @@ fit_areas image (Some map) found fit =
     (λ a there fits. reached image (text_of a.area.name) map a found (named [] areas (fit_names (length image) map (found_from (map.at + 1) image) areas fit) a there) fits)
     areas (All-contains_itself areas)
 
--- ---- the areas that are checked
+-- ---- checked areas
 
--- a region whose findings are good is fit
-IsGood : Bool → List ℕ → ImageFinding → Type 0
-IsGood needs image f = is_bad needs f ≡ false → All (IsFit image) (region_area f)
-
-good_region : FitRegionsLoseNothing → (needs : Bool) (image : List ℕ) (a : NumberedArea) → region_of image (text_of a.area.name) ≡ Ok (range_of a) → IsGood needs image (region_finding image a)
-unfolding IsGood
-good_region lossless needs image a is good =
-    let x = bytes_of image a in
-    All-cons (IsFit image) a [] (record { reached = is; whole = fit_region needs x good; found = λ c there. lossless needs x c good there }) (All-nil (IsFit image))
-
+-- without bad findings, the checked areas are fit
 module _ (lossless : FitRegionsLoseNothing) (needs : Bool) (image : List ℕ) (names : List (List ℕ)) where
-  good_area : (left : ℕ) (a : NumberedArea) → region_of image (text_of a.area.name) ≡ Ok (range_of a) → IsGood needs image (area_finding image names left a)
-  unfolding IsGood
-  good_area left a is = go (nat_le a.area.size left)
-    where
-      go : (b : Bool) → IsGood needs image (cond b (region_finding image a) (NotChecked a (has_one_of names a)))
-      go true = good_region lossless needs image a is
-      go false = λ good. All-nil (IsFit image)
-
-  good_areas : (left : ℕ) (areas : List NumberedArea) → All (λ (a : NumberedArea). region_of image (text_of a.area.name) ≡ Ok (range_of a)) areas → All (IsGood needs image) (areas_findings image names left areas)
+  fit_areas_of : (left : ℕ) (areas : List NumberedArea) → All (λ (a : NumberedArea). region_of image (text_of a.area.name) ≡ Ok (range_of a)) areas
+      → list_any (is_bad needs) (areas_findings image names left areas) ≡ false → All (IsFit image) (region_areas (areas_findings image names left areas))
   unfolding areas_findings
-  good_areas left [] each = All-nil (IsGood needs image)
-  good_areas left (a ∷ areas) each =
+  fit_areas_of left [] each fit = All-nil (IsFit image)
+  fit_areas_of left (a ∷ areas) each fit =
       let Is : NumberedArea → Type 0 = λ b. region_of image (text_of b.area.name) ≡ Ok (range_of b) in
-      All-cons (IsGood needs image) (area_finding image names left a) (areas_findings image names (left_after left a) areas)
-      (good_area left a (All-head Is a areas each)) (good_areas (left_after left a) areas (All-tail Is a areas each))
+      go (nat_le a.area.size left) (All-head Is a areas each) fit (fit_areas_of (left_after left a) areas (All-tail Is a areas each))
+    where
+      rest : List ImageFinding
+      rest = areas_findings image names (left_after left a) areas
 
--- where nothing bad is told, the areas that are checked are fit
-fit_areas_of : (needs : Bool) (image : List ℕ) (findings : List ImageFinding) → All (IsGood needs image) findings → list_any (is_bad needs) findings ≡ false → All (IsFit image) (region_areas findings)
-unfolding IsGood
-fit_areas_of needs image [] each fit = All-nil (IsFit image)
-fit_areas_of needs image (f ∷ findings) each fit =
-    let parts = or_parts (is_bad needs f) (list_any (is_bad needs) findings) fit in
-    All-append (IsFit image) (region_area f) (region_areas findings) (All-head (IsGood needs image) f findings each parts.0) (fit_areas_of needs image findings (All-tail (IsGood needs image) f findings each) parts.1)
+      go : (checked : Bool) → region_of image (text_of a.area.name) ≡ Ok (range_of a) → list_any (is_bad needs) (cond checked (region_finding image a) (NotChecked a (has_one_of names a)) ∷ rest) ≡ false
+          → (list_any (is_bad needs) rest ≡ false → All (IsFit image) (region_areas rest)) → All (IsFit image) (region_areas (cond checked (region_finding image a) (NotChecked a (has_one_of names a)) ∷ rest))
+      go false is fit later = later (or_parts (has_one_of names a) _ fit).1
+      go true is fit later =
+          let x = bytes_of image a in
+          let good = or_parts (list_any (is_bad_region needs) (region_findings x)) _ fit in
+          All-cons (IsFit image) a (region_areas rest) (record { reached = is; whole = fit_region needs x good.0; found = λ c there. lossless needs x c good.0 there }) (later good.1)
 
 -- ---- the image
 
-of_map : (needs : Bool) (told : List MapFinding) → list_any (is_bad needs) (map Map told) ≡ list_any is_bad_map told
+of_map : (needs : Bool) (all : List MapFinding) → list_any (is_bad needs) (map Map all) ≡ list_any is_bad_map all
 of_map needs [] = refl
-of_map needs (finding ∷ told) = ap (λ b. is_bad_map finding || b) (of_map needs told)
+of_map needs (finding ∷ all) = ap (λ b. is_bad_map finding || b) (of_map needs all)
 
 pub fit_image : FitRegionsLoseNothing → FitImagesAreWhole
 unfolding image_findings image_areas map_findings IsReached
@@ -134,4 +121,4 @@ fit_image lossless needs image names expected fit =
     let each = All-filter wanted (IsReached image) areas (fit_areas image (found_in image) refl (sym (of_map needs (map_findings image)) ∙ map_part.0)) in
     let reach : All (λ (a : NumberedArea). region_of image (text_of a.area.name) ≡ Ok (range_of a)) (filter wanted areas) = λ k d lt. each k d lt (leb-true _ (length image) (and_parts _ _ (filter_passes wanted areas k d lt)).0) in
     subst (All (IsFit image)) (sym (regions_of (map_findings image) regions areas names))
-    (fit_areas_of needs image regions (good_areas lossless needs image all (8 * length image) (filter wanted areas) reach) region_part.0)
+    (fit_areas_of lossless needs image all (2 * length image) (filter wanted areas) reach region_part.0)

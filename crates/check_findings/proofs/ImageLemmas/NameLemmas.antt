@@ -1,4 +1,4 @@
--- Names that are gone through one by one.
+-- Names, in order.
 use Rattle.std.proofs.Common.{◌≡◌, ◌∙◌, refl, cond, Option, Some, ℕ, suc, ◌+◌, ◌<◌, Bool, true, false, List, [], ◌∷◌, ◌++◌, length, map, get_or, drop, sym, ap, arith, append_assoc, append-nil}
 use Rattle.std.proofs.Math.Seq.{drop-cons, drop-length}
 use Rattle.std.proofs.lemmas.List.{length-map, get_or-map, map-append}
@@ -37,7 +37,7 @@ texts-none names i is =
     let bytes : Bor (List ℕ) → List ℕ = λ n. n.now in
     ap (λ k. drop k (texts names)) (is ∙ sym (length-map names bytes)) ∙ drop-length (texts names)
 
--- a name more
+-- another name
 either : {X : Type 0} (b any : Bool) (x : X) (o : Option X) → is_some o ≡ any → is_some (cond b (Some x) o) ≡ (any || (b || false))
 either true true x o is = refl
 either true false x o is = refl

@@ -1,4 +1,4 @@
--- The areas that are checked, one by one, and the whole of what is found.
+-- The checked areas in order, and all findings.
 use Rattle.std.proofs.Common.{◌≡◌, ◌∙◌, ℕ, ◌+◌, ◌-◌, ◌*◌, ◌<◌, ◌≤◌, Bool, true, false, cond, List, [], ◌∷◌, ◌++◌, length, get_or, drop, nat_le, refl, sym, ap, arith, add-one, append_assoc, append-nil, drop-cons, length-append}
 use Rattle.std.specs.Prelude.{filter, map, is_some}
 use Rattle.std.specs.List.{find}
@@ -18,7 +18,7 @@ use Rattle.check_findings.specs.Image.RegionAreas.{AreChecked, region_area, regi
 pub filter_more : (p : NumberedArea → Bool) (xs before after : List NumberedArea) (d : NumberedArea) → after ≡ before ++ filter p (d ∷ []) → before ≡ filter p xs → after ≡ filter p (xs ++ d ∷ [])
 filter_more p xs before after d is so_far = is ∙ ap (λ (l : List NumberedArea). l ++ filter p (d ∷ [])) so_far ∙ sym (filter-append p xs (d ∷ []))
 
--- one area more is checked, or not
+-- another area is checked, or not
 pub checked_more : (n i left : ℕ) (a : NumberedArea) (f : ImageFinding) (findings : List ImageFinding) → area_end a.area ≤ n → region_area f ≡ cond (nat_le a.area.size left) (a ∷ []) [] → AreChecked n i left (region_areas findings)
     → AreChecked n (i + 1) (left_after left a) (region_areas (findings ++ f ∷ []))
 checked_more n i left a f findings fits is had = rw (flat_map-append region_area findings (f ∷ []), append-nil (region_area f), is) (go (nat_le a.area.size left) refl)
@@ -34,10 +34,10 @@ checked_more n i left a f findings fits is had = rw (flat_map-append region_area
     }
     go false gt = rw (append-nil areas) (record { count = omega (arith, had.count); inside = had.inside; total = had.total })
 
-pub told_more : (image : List ℕ) (names : List (List ℕ)) (left i : ℕ) (areas : List NumberedArea) (d : NumberedArea) (f : ImageFinding) (before after all : List ImageFinding) → i < length areas → after ≡ before ++ f ∷ [] → f ≡ area_finding image names left (get_or areas i d)
+pub found_more : (image : List ℕ) (names : List (List ℕ)) (left i : ℕ) (areas : List NumberedArea) (d : NumberedArea) (f : ImageFinding) (before after all : List ImageFinding) → i < length areas → after ≡ before ++ f ∷ [] → f ≡ area_finding image names left (get_or areas i d)
     → before ++ areas_findings image names left (drop i areas) ≡ all → after ++ areas_findings image names (left_after left (get_or areas i d)) (drop (i + 1) areas) ≡ all
 unfolding areas_findings
-told_more image names left i areas d f before after all lt pushed is so_far =
+found_more image names left i areas d f before after all lt pushed is so_far =
     let a = get_or areas i d in
     let rest = areas_findings image names (left_after left a) (drop (i + 1) areas) in
     ap (λ (l : List ImageFinding). l ++ rest) pushed
@@ -46,16 +46,16 @@ told_more image names left i areas d f before after all lt pushed is so_far =
     ∙ ap (λ (l : List ImageFinding). before ++ l) (sym (rw (drop-cons areas i d lt, add-one i) refl))
     ∙ so_far
 
-pub told_all : (image : List ℕ) (names : List (List ℕ)) (left i : ℕ) (areas : List NumberedArea) (before all : List ImageFinding) → i ≡ length areas → before ++ areas_findings image names left (drop i areas) ≡ all → before ≡ all
+pub found_all : (image : List ℕ) (names : List (List ℕ)) (left i : ℕ) (areas : List NumberedArea) (before all : List ImageFinding) → i ≡ length areas → before ++ areas_findings image names left (drop i areas) ≡ all → before ≡ all
 unfolding areas_findings
-told_all image names left i areas before all is so_far =
+found_all image names left i areas before all is so_far =
     sym (append-nil before) ∙ ap (λ (l : List NumberedArea). before ++ areas_findings image names left l) (sym (ap (λ k. drop k areas) is ∙ drop-length areas)) ∙ so_far
 
 -- ---- the whole
 
-pub no_map_areas : (told : List MapFinding) → region_areas (map Map told) ≡ []
+pub no_map_areas : (found : List MapFinding) → region_areas (map Map found) ≡ []
 no_map_areas [] = refl
-no_map_areas (finding ∷ told) = no_map_areas told
+no_map_areas (finding ∷ found) = no_map_areas found
 
 no_name_area : (number : ℕ) (b : Bool) → region_areas (cond b [] (NoArea number ∷ [])) ≡ []
 no_name_area number true = refl
@@ -68,24 +68,24 @@ no_name_areas areas number (name ∷ names) =
     ∙ ap (λ (l : List NumberedArea). l ++ region_areas (names_findings areas (number + 1) names)) (no_name_area number (is_some (find (has_name name) areas)))
     ∙ no_name_areas areas (number + 1) names
 
--- the areas of all findings are those of the regions
-pub regions_of : (told : List MapFinding) (regions : List ImageFinding) (areas : List NumberedArea) (names : List (List ℕ)) → region_areas (map Map told ++ (regions ++ names_findings areas 0 names)) ≡ region_areas regions
-regions_of told regions areas names =
-    flat_map-append region_area (map Map told) (regions ++ names_findings areas 0 names)
-    ∙ rw (no_map_areas told) (flat_map-append region_area regions (names_findings areas 0 names) ∙ rw (no_name_areas areas 0 names) (append-nil (region_areas regions)))
+-- the areas of all findings are the areas of the regions
+pub regions_of : (found : List MapFinding) (regions : List ImageFinding) (areas : List NumberedArea) (names : List (List ℕ)) → region_areas (map Map found ++ (regions ++ names_findings areas 0 names)) ≡ region_areas regions
+regions_of found regions areas names =
+    flat_map-append region_area (map Map found) (regions ++ names_findings areas 0 names)
+    ∙ rw (no_map_areas found) (flat_map-append region_area regions (names_findings areas 0 names) ∙ rw (no_name_areas areas 0 names) (append-nil (region_areas regions)))
 
-pub listed : (told : List MapFinding) (areas : List NumberedArea) (names : List (List ℕ)) (first regions second all : List ImageFinding) → first ≡ map Map told → second ≡ first ++ regions → all ≡ second ++ names_findings areas 0 names
-    → all ≡ map Map told ++ (regions ++ names_findings areas 0 names)
-listed told areas names first regions second all is pushed last =
+pub listed : (found : List MapFinding) (areas : List NumberedArea) (names : List (List ℕ)) (first regions second all : List ImageFinding) → first ≡ map Map found → second ≡ first ++ regions → all ≡ second ++ names_findings areas 0 names
+    → all ≡ map Map found ++ (regions ++ names_findings areas 0 names)
+listed found areas names first regions second all is pushed last =
     last
     ∙ ap (λ (l : List ImageFinding). l ++ names_findings areas 0 names) (pushed ∙ ap (λ (l : List ImageFinding). l ++ regions) is)
-    ∙ append_assoc (map Map told) regions (names_findings areas 0 names)
+    ∙ append_assoc (map Map found) regions (names_findings areas 0 names)
 
-pub region_areas-listed : (told : List MapFinding) (areas : List NumberedArea) (names : List (List ℕ)) (first regions second all : List ImageFinding) → first ≡ map Map told → second ≡ first ++ regions → all ≡ second ++ names_findings areas 0 names
+pub region_areas-listed : (found : List MapFinding) (areas : List NumberedArea) (names : List (List ℕ)) (first regions second all : List ImageFinding) → first ≡ map Map found → second ≡ first ++ regions → all ≡ second ++ names_findings areas 0 names
     → region_areas all ≡ region_areas regions
-region_areas-listed told areas names first regions second all is pushed last = ap region_areas (listed told areas names first regions second all is pushed last) ∙ regions_of told regions areas names
+region_areas-listed found areas names first regions second all is pushed last = ap region_areas (listed found areas names first regions second all is pushed last) ∙ regions_of found regions areas names
 
-pub told_image : (image : List ℕ) (names expected : List (List ℕ)) (told : List MapFinding) (areas : List NumberedArea) (regions all : List ImageFinding) → all ≡ map Map told ++ (regions ++ names_findings areas 0 names) → told ≡ map_findings image → areas ≡ image_areas image
-    → regions ≡ areas_findings image (expected_names names expected) (8 * length image) (wanted_areas image (expected_names names expected) areas) → all ≡ image_findings image names expected
+pub found_image : (image : List ℕ) (names expected : List (List ℕ)) (found : List MapFinding) (areas : List NumberedArea) (regions all : List ImageFinding) → all ≡ map Map found ++ (regions ++ names_findings areas 0 names) → found ≡ map_findings image → areas ≡ image_areas image
+    → regions ≡ areas_findings image (expected_names names expected) (2 * length image) (wanted_areas image (expected_names names expected) areas) → all ≡ image_findings image names expected
 unfolding image_findings
-told_image image names expected told areas regions all is from_map from_areas from_wanted = rw (is, from_wanted, from_map, from_areas) refl
+found_image image names expected found areas regions all is from_map from_areas from_wanted = rw (is, from_wanted, from_map, from_areas) refl

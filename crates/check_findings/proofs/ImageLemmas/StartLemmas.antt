@@ -1,4 +1,4 @@
--- The places at which areas begin, area by area.
+-- The offsets of areas, in order.
 use Rattle.std.proofs.Common.{◌≡◌, ◌<◌, ◌≤◌, true, false, List, [], ◌∷◌, ◌++◌, Some, arith}
 use Rattle.std.specs.Ordering.{nat_cmp}
 use Rattle.std.specs.BTreeMap.{Updates}

@@ -1,4 +1,4 @@
--- A map of which nothing is told but itself is sound.
+-- A map without other findings is sound.
 use Rattle.std.proofs.Common.{◌≡◌, ◌⊎◌, inl, inr, ⊎_elim, ℕ, zero, suc, ◌+◌, ◌<◌, ◌≤◌, Bool, true, false, not, ◌&&◌, cond, nat_lt, nat_eq, All, List, [], ◌∷◌, ◌++◌, length, Option, Some, None, refl, sym, ap, subst, ◌∙◌, arith, append_assoc}
 use Rattle.std.specs.Prelude.{Contains, IsSomeAnd}
 use Rattle.std.specs.List.{find, flat_map}
@@ -16,18 +16,22 @@ use Rattle.flash_device.specs.Fmap.{found_from, found_in}
 use Rattle.check_findings.specs.declared.map.finding.NumberedArea.{NumberedArea}
 use Rattle.check_findings.specs.declared.map.finding.MapFinding.{MapFinding}
 use Rattle.check_findings.specs.declared.map.finding.MapFinding.TheVariants as findings
-use Rattle.check_findings.specs.Map.MapFindings.{area_end, area_findings, ends_inside, findings_of, findings_under, has_name, holds_map, map_area_findings, map_areas, map_findings, name_finding, name_findings, next_findings, overlap, overlap_finding, overlap_findings, overlaps_among, told_if}
+use Rattle.check_findings.specs.Map.MapFindings.{area_end, area_findings, ends_inside, finding_if, finding_of, findings_of, findings_under, has_name, holds_map, map_area_findings, map_areas, map_findings, name_findings, overlap, overlap_findings, overlaps_among}
 use Rattle.check_findings.specs.Map.Laws.{HoldsMap, IsInside, IsSound, Nest, UntoldMapsAreSound}
 
--- ---- nothing is told
+-- ---- no findings
 
 both-none : (xs ys : List MapFinding) → xs ++ ys ≡ [] → (xs ≡ []) × (ys ≡ [])
 both-none [] ys e = (refl, e)
 both-none (x ∷ xs) ys e = absurd cc
 
-untold : (b : Bool) (finding : MapFinding) → told_if b finding ≡ [] → b ≡ false
+untold : (b : Bool) (finding : MapFinding) → finding_if b finding ≡ [] → b ≡ false
 untold false finding e = refl
 untold true finding e = absurd cc
+
+uncaused : {X : Type 0} (f : X → MapFinding) (cause : Option X) → finding_of f cause ≡ [] → cause ≡ None
+uncaused f None e = refl
+uncaused f (Some x) e = absurd cc
 
 not-false : (b : Bool) → not b ≡ false → b ≡ true
 not-false true e = refl
@@ -46,7 +50,7 @@ find-none test (a ∷ areas) e =
     here false o e = (refl, e)
     here true o e = absurd cc
 
--- ---- of one area
+-- ---- of an area
 
 positive : (n : ℕ) → nat_eq n 0 ≡ false → 0 < n
 positive zero e = absurd cc
@@ -54,35 +58,31 @@ positive (suc n) e = omega arith
 
 inside : (n : ℕ) (a : NumberedArea) → area_findings n a ≡ [] → IsInside n a.area
 inside n a e =
-    let parts = both-none (told_if (nat_lt n (area_end a.area)) (findings.AreaOutside a)) _ e in
-    let more = both-none (told_if (nat_eq a.area.size 0) (findings.AreaEmpty a)) _ parts.1 in
+    let parts = both-none (finding_if (nat_lt n (area_end a.area)) (findings.AreaOutside a)) _ e in
+    let more = both-none (finding_if (nat_eq a.area.size 0) (findings.AreaEmpty a)) _ parts.1 in
     record { some = positive a.area.size (untold (nat_eq a.area.size 0) (findings.AreaEmpty a) more.0); inside = ltb-false n (area_end a.area) (untold (nat_lt n (area_end a.area)) (findings.AreaOutside a) parts.0) }
 
 text : (n : ℕ) (a : NumberedArea) → area_findings n a ≡ [] → is_utf8 (text_of a.area.name) ≡ true
 text n a e =
-    let more = both-none (told_if (nat_lt n (area_end a.area)) (findings.AreaOutside a)) _ e in
-    let last = both-none (told_if (nat_eq a.area.size 0) (findings.AreaEmpty a)) _ more.1 in
+    let more = both-none (finding_if (nat_lt n (area_end a.area)) (findings.AreaOutside a)) _ e in
+    let last = both-none (finding_if (nat_eq a.area.size 0) (findings.AreaEmpty a)) _ more.1 in
     not-false _ (untold (not (is_utf8 (text_of a.area.name))) (findings.AreaNameNotText a) last.1)
 
 -- ---- names
 
-unnamed : (a : NumberedArea) (o : Option NumberedArea) → name_finding a o ≡ [] → o ≡ None
-unnamed a None e = refl
-unnamed a (Some b) e = absurd cc
-
--- each name that none is told to have again finds its area
+-- a name without a later area finds its area
 pub named : (before areas : List NumberedArea) → name_findings before areas ≡ [] → (a : NumberedArea) → Contains areas a → find (has_name (text_of a.area.name)) (before ++ areas) ≡ Some a
 named before [] e a (k, lt, is) = absurd (omega (arith, lt))
 named before (x ∷ areas) e a (zero, lt, is) =
-    let parts = both-none (name_finding x (find (has_name (text_of x.area.name)) before)) (name_findings (before ++ x ∷ []) areas) e in
+    let parts = both-none (finding_of (findings.SameName x) (find (has_name (text_of x.area.name)) before)) (name_findings (before ++ x ∷ []) areas) e in
     let text = text_of x.area.name in
     let first : find (has_name text) (before ++ x ∷ areas) ≡ Some x =
     find-append (has_name text) before (x ∷ areas)
-    ∙ ap (λ (o : Option NumberedArea). option_or o (find (has_name text) (x ∷ areas))) (unnamed x (find (has_name text) before) parts.0)
+    ∙ ap (λ (o : Option NumberedArea). option_or o (find (has_name text) (x ∷ areas))) (uncaused (findings.SameName x) (find (has_name text) before) parts.0)
     ∙ ap (λ b. cond b (Some x) (find (has_name text) areas)) ((bytes_eq-Decides text text).1 refl) in
     subst (λ (b : NumberedArea). find (has_name (text_of b.area.name)) (before ++ x ∷ areas) ≡ Some b) is first
 named before (x ∷ areas) e a (suc k, lt, is) =
-    let parts = both-none (name_finding x (find (has_name (text_of x.area.name)) before)) (name_findings (before ++ x ∷ []) areas) e in
+    let parts = both-none (finding_of (findings.SameName x) (find (has_name (text_of x.area.name)) before)) (name_findings (before ++ x ∷ []) areas) e in
     ap (λ (l : List NumberedArea). find (has_name (text_of a.area.name)) l) (sym (append_assoc before (x ∷ []) areas)) ∙ named (before ++ x ∷ []) areas parts.1 a (k, omega (arith, lt), is)
 
 -- ---- overlaps
@@ -110,18 +110,14 @@ nest a b one other = ⊎_elim
     ])
     (cases_lt a.offset b.offset)
 
-apart : (a : NumberedArea) (o : Option NumberedArea) → overlap_finding a o ≡ [] → o ≡ None
-apart a None e = refl
-apart a (Some b) e = absurd cc
-
 compared : (areas : List NumberedArea) (many : Bool) → cond many (findings.TooManyAreas ∷ []) (overlaps_among areas areas) ≡ [] → overlaps_among areas areas ≡ []
 compared areas false e = e
 compared areas true e = absurd cc
 
 nested : (areas : List NumberedArea) → overlap_findings areas ≡ [] → (a b : NumberedArea) → Contains areas a → Contains areas b → Nest a.area b.area
 nested areas e a b there here =
-    let each = flat-none (λ (c : NumberedArea). overlap_finding c (find (overlap c) areas)) areas (compared areas (nat_lt 4096 (length areas)) e) in
-    let none = apart a (find (overlap a) areas) (All-contains (λ (c : NumberedArea). overlap_finding c (find (overlap c) areas) ≡ []) areas a each there) in
+    let each = flat-none (λ (c : NumberedArea). finding_of (findings.Overlap c) (find (overlap c) areas)) areas (compared areas (nat_lt 4096 (length areas)) e) in
+    let none = uncaused (findings.Overlap a) (find (overlap a) areas) (All-contains (λ (c : NumberedArea). finding_of (findings.Overlap c) (find (overlap c) areas) ≡ []) areas a each there) in
     let parts = or_parts (ends_inside a.area b.area) (ends_inside b.area a.area) (All-contains (λ (c : NumberedArea). overlap a c ≡ false) areas b (find-none (overlap a) areas none) here) in
     nest a.area b.area parts.0 parts.1
 
@@ -134,20 +130,16 @@ held map (Some a) e =
     let parts = and_parts _ _ holds in
     record { start = leb-true _ _ parts.0; end = leb-true _ _ parts.1 }
 
-alone : (o : Option FoundMap) → next_findings o ≡ [] → o ≡ None
-alone None e = refl
-alone (Some next) e = absurd cc
-
 sound_of : (image : List ℕ) (map : FoundMap) → found_in image ≡ Some map → findings_of (length image) map (found_from (map.at + 1) image) (map_areas image map) ≡ findings.Map map ∷ [] → IsSound image map
 sound_of image map found e =
     let n = length image in
     let areas = map_areas image map in
     let next = found_from (map.at + 1) image in
     let own = map_area_findings map (find (has_name (codes "FMAP")) areas) in
-    let size = told_if (not (nat_eq map.head.size n)) findings.OtherSize in
+    let size = finding_if (not (nat_eq map.head.size n)) findings.OtherSize in
     let each = flat_map (area_findings n) areas in
-    let rest : next_findings next ++ (size ++ (each ++ (name_findings [] areas ++ (overlap_findings areas ++ own)))) ≡ [] = cc in
-    let a = both-none (next_findings next) (size ++ (each ++ (name_findings [] areas ++ (overlap_findings areas ++ own)))) rest in
+    let rest : finding_of findings.OtherMap next ++ (size ++ (each ++ (name_findings [] areas ++ (overlap_findings areas ++ own)))) ≡ [] = cc in
+    let a = both-none (finding_of findings.OtherMap next) (size ++ (each ++ (name_findings [] areas ++ (overlap_findings areas ++ own)))) rest in
     let b = both-none size (each ++ (name_findings [] areas ++ (overlap_findings areas ++ own))) a.1 in
     let c = both-none each (name_findings [] areas ++ (overlap_findings areas ++ own)) b.1 in
     let d = both-none (name_findings [] areas) (overlap_findings areas ++ own) c.1 in
@@ -156,7 +148,7 @@ sound_of image map found e =
     record {
       found = found;
       size = eqb-true map.head.size n (not-false (nat_eq map.head.size n) (untold (not (nat_eq map.head.size n)) findings.OtherSize b.0));
-      only = alone next a.0;
+      only = uncaused findings.OtherMap next a.0;
       inside = λ x there. inside n x (All-contains (λ (y : NumberedArea). area_findings n y ≡ []) areas x untold_areas there);
       text = λ x there. text n x (All-contains (λ (y : NumberedArea). area_findings n y ≡ []) areas x untold_areas there);
       named = named [] areas d.0;

@@ -1,4 +1,4 @@
--- Counts that go on from cell to cell.
+-- Counts from cell to cell.
 use Rattle.std.proofs.Common.{◌≡◌, ℕ, ◌+◌, Bool, true, false, cond, List, [], ◌∷◌, length, refl, arith}
 use Rattle.std.specs.Prelude.{max}
 use Rattle.flash_format.specs.Head.{head_of, is_free}
@@ -9,7 +9,7 @@ use Rattle.check_findings.specs.Region.RegionFindings.{count_findings, counts_of
 use Rattle.check_findings.specs.Region.Reports.{counted}
 use Rattle.check_findings.specs.Region.Counts.{free_bytes, largest_room, nothing, count_after, usable}
 
--- what is told of the counts after cells of which the first stands at a place
+-- the findings of the counts after entries from this offset on
 abbrev pub count_all : Count → ℕ → List (List ℕ) → List RegionFinding
 count_all n at cells = count_findings (n.components + length (components_from at cells)) (n.free + free_bytes cells) (max n.room (largest_room n.size n.start at cells))
 

@@ -15,7 +15,7 @@ or-cond true c d same = refl
 or-cond false c d same = same
 
 module _ {S : Type 0} (x : Key) (old now : HashSet Key S) (updates : Updates (λ (a b : Key). bytes_eq a.items b.items) old now x true) where
-  -- what the set has with a name more, which is new or not
+  -- the set after a new or known name
   has-more : (q : List ℕ) (b : Bool) → bytes_eq x.items q ≡ b → has q now.keys ≡ cond b true (has q old.keys)
   unfolding KeepsOthers
   has-more q true same = ap (λ (n : List ℕ). has n now.keys) (sym ((bytes_eq-Decides x.items q).0 same)) ∙ updates.1

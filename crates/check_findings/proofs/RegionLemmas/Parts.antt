@@ -1,17 +1,13 @@
 -- The parts of a region's findings.
 use Rattle.std.proofs.Common.{◌≡◌, ℕ, ◌+◌, ◌-◌, ◌/◌, ◌==◌, Bool, true, false, cond, zero, suc, List, [], ◌∷◌, length, drop, Option, Some, None, All, refl}
-use Rattle.std.specs.Prelude.{is_some, nat_le, not}
+use Rattle.std.specs.Prelude.{nat_le}
 use Rattle.std.specs.List.{position_from}
-use Rattle.std.specs.Option.{option_map_or}
-use Rattle.std.specs.Str.{is_utf8}
 use Rattle.std.proofs.lemmas.List.Elements.{All-nil, All-cons, All-append}
 use Rattle.flash_format.specs.Cut.{End, complete, tail, damage}
 use Rattle.flash_format.specs.Head.{head_of, is_free}
-use Rattle.flash_format.specs.Components.{cell_name}
-use Rattle.flash_format.specs.TypeNames.{name_of_type}
+use Rattle.flash_format.specs.Components.{cell_name, component_at}
 use Rattle.check_findings.specs.Region.Names.{is_among}
-use Rattle.check_findings.specs.Region.RegionFindings.{begins_with_entry, cell_findings, cells_findings, component_findings, count_findings, end_findings, entries_findings, entry_findings, filled_findings, free_findings, is_filled, metadata, names_after, tail_bytes, tail_findings, told_if}
-use Rattle.check_findings.specs.declared.region.finding.ComponentFinding.TheVariants as kinds
+use Rattle.check_findings.specs.Region.RegionFindings.{begins_with_entry, cell_findings, cells_findings, component_finding, count_findings, end_findings, entries_findings, entry_findings, filled_findings, free_findings, is_filled, metadata, names_after, room_finding, tail_bytes, tail_findings}
 use Rattle.check_findings.specs.declared.region.finding.RegionFinding.{RegionFinding}
 use Rattle.check_findings.specs.declared.region.finding.RegionFinding.TheVariants.{BadSize, NotCbfs, Component, Deleted, Complete, Tail, TailFilled, TailEntry, Damaged, Components, NoComponents, FreeBytes, LargestContent, NoRoom}
 
@@ -24,7 +20,7 @@ pub data Part : Type 0 where
 abbrev pub part_of : RegionFinding → Part
 part_of BadSize = shape_part
 part_of NotCbfs = shape_part
-part_of (Component at name what) = cell_part
+part_of (Component at name shadowed content) = cell_part
 part_of (Deleted at) = cell_part
 part_of Complete = end_part
 part_of (Tail at) = end_part
@@ -45,15 +41,9 @@ if_so : (part : Part) (f : RegionFinding) → IsIn part f → (b : Bool) → All
 if_so part f is true = All-cons (IsIn part) f [] is (All-nil (IsIn part))
 if_so part f is false = All-nil (IsIn part)
 
-of_cell : (names : List (List ℕ)) (at : ℕ) (x : List ℕ) (free : Bool) → All (IsIn cell_part) (cond free (free_findings at (head_of x)) (component_findings names at x))
+of_cell : (names : List (List ℕ)) (at : ℕ) (x : List ℕ) (free : Bool) → All (IsIn cell_part) (cond free (free_findings at (head_of x)) (component_finding (is_among (cell_name x) names) (component_at at x) ∷ []))
 of_cell names at x true = if_so cell_part (Deleted at) refl ((head_of x).kind == 0)
-of_cell names at x false =
-    let name = cell_name x in
-    All-append (IsIn cell_part) (told_if (is_among name names) at name kinds.Shadowed) _ (if_so cell_part _ refl (is_among name names))
-    (All-append (IsIn cell_part) (told_if (not (is_utf8 name)) at name kinds.NameNotText) _ (if_so cell_part _ refl (not (is_utf8 name)))
-    (All-append (IsIn cell_part) (told_if (not (is_some (name_of_type (head_of x).kind))) at name (kinds.UnknownType (head_of x).kind)) _
-    (if_so cell_part _ refl (not (is_some (name_of_type (head_of x).kind))))
-    (All-cons (IsIn cell_part) _ [] refl (All-nil (IsIn cell_part)))))
+of_cell names at x false = All-cons (IsIn cell_part) _ [] refl (All-nil (IsIn cell_part))
 
 pub of_cells : (names : List (List ℕ)) (at : ℕ) (all : List (List ℕ)) → All (IsIn cell_part) (cells_findings names at all)
 unfolding cells_findings
@@ -70,13 +60,11 @@ of_entries (suc n) at x =
 
 of_tail : (at : ℕ) (x : List ℕ) → All (IsIn end_part) (tail_findings at x)
 unfolding tail_findings
-of_tail at x =
-    All-cons (IsIn end_part) (Tail at) _ refl
-    (All-append (IsIn end_part) (filled_findings at x) _ (go (position_from is_filled at (tail_bytes at x))) (of_entries ((length x - at) / 64) at x))
+of_tail at x = All-cons (IsIn end_part) (Tail at) _ refl (go (position_from is_filled at (tail_bytes at x)))
   where
-    go : (o : Option ℕ) → All (IsIn end_part) (option_map_or (λ place. TailFilled place ∷ []) o [])
+    go : (o : Option ℕ) → All (IsIn end_part) (filled_findings at x o)
     go None = All-nil (IsIn end_part)
-    go (Some place) = All-cons (IsIn end_part) (TailFilled place) [] refl (All-nil (IsIn end_part))
+    go (Some place) = All-cons (IsIn end_part) (TailFilled place) _ refl (of_entries ((length x - at) / 64) at x)
 
 pub of_end : (x : List ℕ) (at : ℕ) (e : End) → All (IsIn end_part) (end_findings x at e)
 of_end x at complete = All-cons (IsIn end_part) Complete [] refl (All-nil (IsIn end_part))
@@ -84,15 +72,14 @@ of_end x at tail = of_tail at x
 of_end x at (damage kind) = All-cons (IsIn end_part) (Damaged at kind) [] refl (All-nil (IsIn end_part))
 
 pub of_counts : (components free room : ℕ) → All (IsIn count_part) (count_findings components free room)
-of_counts components free room = go (components == 0) (nat_le metadata room)
+of_counts components free room =
+    All-cons (IsIn count_part) _ (FreeBytes free ∷ room_finding room ∷ []) (first (components == 0))
+    (All-cons (IsIn count_part) (FreeBytes free) (room_finding room ∷ []) refl (All-cons (IsIn count_part) _ [] (last (nat_le metadata room)) (All-nil (IsIn count_part))))
   where
-    all : (first last : RegionFinding) → IsIn count_part first → IsIn count_part last → All (IsIn count_part) (first ∷ FreeBytes free ∷ last ∷ [])
-    all first last one three =
-        All-cons (IsIn count_part) first (FreeBytes free ∷ last ∷ []) one
-        (All-cons (IsIn count_part) (FreeBytes free) (last ∷ []) refl (All-cons (IsIn count_part) last [] three (All-nil (IsIn count_part))))
+    first : (b : Bool) → IsIn count_part (cond b NoComponents (Components components))
+    first true = refl
+    first false = refl
 
-    go : (a b : Bool) → All (IsIn count_part) (cond a NoComponents (Components components) ∷ FreeBytes free ∷ cond b (LargestContent (room - metadata)) NoRoom ∷ [])
-    go true true = all NoComponents (LargestContent (room - metadata)) refl refl
-    go true false = all NoComponents NoRoom refl refl
-    go false true = all (Components components) (LargestContent (room - metadata)) refl refl
-    go false false = all (Components components) NoRoom refl refl
+    last : (b : Bool) → IsIn count_part (cond b (LargestContent (room - metadata)) NoRoom)
+    last true = refl
+    last false = refl

@@ -1,4 +1,4 @@
--- Components that aren't told to be shadowed.
+-- Unshadowed components.
 use Rattle.std.proofs.Common.{◌≡◌, ℕ, ◌+◌, ◌⊎◌, inl, inr, Bool, true, false, cond, List, [], ◌∷◌, ◌++◌, length, None, Option, Contains, refl, sym, ap, subst, ◌∙◌, arith}
 use Rattle.std.specs.Str.{bytes_eq}
 use Rattle.std.proofs.lemmas.Bool.{false≢true, or_parts}
@@ -12,13 +12,11 @@ use Rattle.cbfs_walk.specs.Shapes.{shape_fault, refused_or}
 use Rattle.cbfs_walk.specs.Shaped.{place_after}
 use Rattle.cbfs_walk.specs.declared.walk.WalkFault.{WalkFault}
 use Rattle.check_findings.specs.Region.Names.{is_among}
-use Rattle.check_findings.specs.Region.RegionFindings.{free_findings, told_if, component_findings, cells_findings, counts_of, end_findings, shape_findings, region_findings}
-use Rattle.check_findings.specs.declared.region.finding.ComponentFinding.TheVariants.{Shadowed}
+use Rattle.check_findings.specs.Region.RegionFindings.{free_findings, component_finding, cells_findings, counts_of, end_findings, shape_findings, region_findings}
 use Rattle.check_findings.specs.declared.region.finding.RegionFinding.{RegionFinding}
-use Rattle.check_findings.specs.declared.region.finding.RegionFinding.TheVariants as findings
 
 abbrev shadowed : Component → RegionFinding
-shadowed c = findings.Component c.at c.name Shadowed
+shadowed c = component_finding true c
 
 abbrev IsOther : List ℕ → Component → Type 0
 IsOther name c = bytes_eq c.name name ≡ false
@@ -50,29 +48,23 @@ one_or_later d others c has = go (Contains-append_cases (d ∷ []) others c has)
 
 -- ---- among cells
 
--- a name that isn't told to be shadowed is new
-new_name : (names : List (List ℕ)) (at : ℕ) (name : List ℕ) (more : List RegionFinding) → (Contains (told_if (is_among name names) at name Shadowed ++ more) (findings.Component at name Shadowed) → ⊥) → is_among name names ≡ false
-new_name names at name more none = go (is_among name names) none
+-- the name of an unshadowed component is new
+new_name : (names : List (List ℕ)) (c : Component) (more : List RegionFinding) → (Contains (component_finding (is_among c.name names) c ∷ more) (shadowed c) → ⊥) → is_among c.name names ≡ false
+new_name names c more none = go (is_among c.name names) none
   where
-    go : (b : Bool) → (Contains (cond b (findings.Component at name Shadowed ∷ []) [] ++ more) (findings.Component at name Shadowed) → ⊥) → b ≡ false
-    go true none = absurd (none (Contains-append_left (findings.Component at name Shadowed ∷ []) more _ (Contains-push [] (findings.Component at name Shadowed))))
+    go : (b : Bool) → (Contains (component_finding b c ∷ more) (shadowed c) → ⊥) → b ≡ false
+    go true none = absurd (none (Contains-append_left (shadowed c ∷ []) more _ (Contains-push [] (shadowed c))))
     go false none = refl
 
 IsNewIn : List (List ℕ) → List Component → Component → Type 0
 IsNewIn names all c = (is_among c.name names ≡ false) × IsFirstOf c.name all c
 
-first_component : (names : List (List ℕ)) (at : ℕ) (x : List ℕ) (others : List Component) (more : List RegionFinding)
-    → (Contains (component_findings names at x ++ more) (shadowed (component_at at x)) → ⊥) → IsNewIn names (component_at at x ∷ others) (component_at at x)
+first_component : (names : List (List ℕ)) (c : Component) (others : List Component) (more : List RegionFinding)
+    → (Contains (component_finding (is_among c.name names) c ∷ more) (shadowed c) → ⊥) → IsNewIn names (c ∷ others) c
 unfolding IsNewIn
-first_component names at x others more none = (
-  new_name names at (cell_name x) _ (λ told. none (Contains-append_left (component_findings names at x) more _ told)),
-  record {
-    before = [];
-    after = others;
-    whole = refl;
-    named = same_name (cell_name x);
-    none_before = All-nil (IsOther (cell_name x));
-  },
+first_component names c others more none = (
+  new_name names c more none,
+  record { before = []; after = others; whole = refl; named = same_name c.name; none_before = All-nil (IsOther c.name) },
 )
 
 later_component : (names : List (List ℕ)) (d : Component) (others : List Component) (c : Component) → IsNewIn (d.name ∷ names) others c → IsNewIn names (d ∷ others) c
@@ -89,28 +81,30 @@ later_component names d others c new = (
 )
 
 module _ (names : List (List ℕ)) (at : ℕ) (x : List ℕ) (next : ℕ) (cells : List (List ℕ)) (c : Component) where
-  -- what is known of the cells after the first
+  -- the properties of the cells after the first
   Known : Type 0
   Known = (ns : List (List ℕ)) → Contains (components_from next cells) c → (Contains (cells_findings ns next cells) (shadowed c) → ⊥) → IsNewIn ns (components_from next cells) c
 
+  abbrev rest : List (List ℕ) → List RegionFinding
+  rest ns = cells_findings ns next cells
+
   -- the first cell is a component
-  after_used : Known → (component_at at x ≡ c) ⊎ Contains (components_from next cells) c → (Contains (component_findings names at x ++ cells_findings (cell_name x ∷ names) next cells) (shadowed c) → ⊥)
-      → IsNewIn names (component_at at x ∷ components_from next cells) c
+  after_used : (d : Component) → Known → (d ≡ c) ⊎ Contains (components_from next cells) c → (Contains (component_finding (is_among d.name names) d ∷ rest (d.name ∷ names)) (shadowed c) → ⊥)
+      → IsNewIn names (d ∷ components_from next cells) c
   unfolding Known
-  after_used known (inl same) quiet =
-      subst (λ (d : Component). IsNewIn names (component_at at x ∷ components_from next cells) d) same
-      (first_component names at x (components_from next cells) (cells_findings (cell_name x ∷ names) next cells)
-      (subst (λ (d : Component). Contains (component_findings names at x ++ cells_findings (cell_name x ∷ names) next cells) (shadowed d) → ⊥) (sym same) quiet))
-  after_used known (inr later) quiet =
-      later_component names (component_at at x) (components_from next cells) c
-      (known (cell_name x ∷ names) later (λ told. quiet (Contains-append_right (component_findings names at x) (cells_findings (cell_name x ∷ names) next cells) _ told)))
+  after_used d known (inl same) quiet =
+      subst (λ e. IsNewIn names (d ∷ components_from next cells) e) same
+      (first_component names d (components_from next cells) (rest (d.name ∷ names)) (subst (λ e. Contains (component_finding (is_among d.name names) d ∷ rest (d.name ∷ names)) (shadowed e) → ⊥) (sym same) quiet))
+  after_used d known (inr later) quiet =
+      later_component names d (components_from next cells) c
+      (known (d.name ∷ names) later (λ there. quiet (Contains-append_right (component_finding (is_among d.name names) d ∷ []) (rest (d.name ∷ names)) _ there)))
 
   after_cell : Known → (free : Bool) → Contains (cond free (components_from next cells) (component_at at x ∷ components_from next cells)) c
-      → (Contains (cond free (free_findings at (head_of x)) (component_findings names at x) ++ cells_findings (cond free names (cell_name x ∷ names)) next cells) (shadowed c) → ⊥)
+      → (Contains (cond free (free_findings at (head_of x)) (component_finding (is_among (cell_name x) names) (component_at at x) ∷ []) ++ rest (cond free names (cell_name x ∷ names))) (shadowed c) → ⊥)
       → IsNewIn names (cond free (components_from next cells) (component_at at x ∷ components_from next cells)) c
   unfolding Known
-  after_cell known true listed quiet = known names listed (λ told. quiet (Contains-append_right (free_findings at (head_of x)) (cells_findings names next cells) _ told))
-  after_cell known false listed quiet = after_used known (one_or_later (component_at at x) (components_from next cells) c listed) quiet
+  after_cell known true listed quiet = known names listed (λ there. quiet (Contains-append_right (free_findings at (head_of x)) (rest names) _ there))
+  after_cell known false listed quiet = after_used (component_at at x) known (one_or_later (component_at at x) (components_from next cells) c listed) quiet
 
 unshadowed : (names : List (List ℕ)) (at : ℕ) (cells : List (List ℕ)) (c : Component) → Contains (components_from at cells) c
     → (Contains (cells_findings names at cells) (shadowed c) → ⊥) → IsNewIn names (components_from at cells) c
@@ -125,8 +119,8 @@ pub unshadowed_first : (x : List ℕ) (c : Component) → shape_fault x ≡ None
 unfolding region_findings IsNewIn
 unshadowed_first x c good listed none =
     (unshadowed [] 0 (cut x).cells c listed
-    (λ told. none (subst (λ (o : Option WalkFault). Contains (refused_or shape_findings o (cells_findings [] 0 (cut x).cells ++ last)) (shadowed c)) (sym good)
-    (Contains-append_left (cells_findings [] 0 (cut x).cells) last _ told)))).1
+    (λ there. none (subst (λ (o : Option WalkFault). Contains (refused_or shape_findings o (cells_findings [] 0 (cut x).cells ++ last)) (shadowed c)) (sym good)
+    (Contains-append_left (cells_findings [] 0 (cut x).cells) last _ there)))).1
   where
     last : List RegionFinding
     last = end_findings x (place_after 0 (cut x).cells) (cut x).end ++ counts_of (length x) (cut x).cells

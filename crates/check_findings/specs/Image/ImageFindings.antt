@@ -1,4 +1,4 @@
--- The findings of an image. The order and the rule for regions are this project's own.
+-- Findings of an image. This project defines their order and the choice of regions.
 use Rattle.std.specs.Prelude.{ℕ, ◌+◌, ◌-◌, ◌*◌, Bool, not, ◌&&◌, ◌||◌, List, [], ◌∷◌, ◌++◌, filter}
 use Rattle.std.specs.Prelude.{length, map, is_some, nat_le, nat_lt, ◌==◌, if◌then◌else◌}
 use Rattle.std.specs.List.{find, list_any}
@@ -12,11 +12,9 @@ use Rattle.check_findings.specs.declared.image.finding.ImageFinding.{ImageFindin
 use Rattle.check_findings.specs.declared.image.finding.ImageFinding.TheVariants.{Map, Region}
 use Rattle.check_findings.specs.declared.image.finding.ImageFinding.TheVariants.{NotChecked, NoArea}
 
--- the area as a range of the image
 abbrev pub range_of : NumberedArea → Range
 range_of a = record { start = a.area.offset; size = a.area.size }
 
--- the area's bytes
 abbrev pub bytes_of : List ℕ → NumberedArea → List ℕ
 bytes_of image a = bytes_in (range_of a) image
 
@@ -24,23 +22,23 @@ bytes_of image a = bytes_in (range_of a) image
 abbrev pub has_one_of : List (List ℕ) → NumberedArea → Bool
 has_one_of names a = list_any (λ name. is_area name a.area) names
 
--- the names of areas that are expected to be regions: the given names and the default region
+-- the given names and the default region
 abbrev pub expected_names : List (List ℕ) → List (List ℕ) → List (List ℕ)
 expected_names names expected = (names ++ codes "COREBOOT" ∷ []) ++ expected
 
--- the area begins at offset `at`, and has room for a header and fewer than `size` bytes
+-- the area begins at `at`, and has room for a header and fewer than `size` bytes
 abbrev pub begins_at : ℕ → ℕ → NumberedArea → Bool
 begins_at at size a = a.area.offset == at && (nat_le 24 a.area.size && nat_lt a.area.size size)
 
--- a smaller area begins at the same offset, and so with an entry if area `a` does
+-- a smaller area has the same offset, and so the same entry
 abbrev pub has_smaller : List NumberedArea → NumberedArea → Bool
 has_smaller areas a = list_any (begins_at a.area.offset a.area.size) areas
 
--- the area is the smallest area at its offset, and begins with an entry
+-- the area is the smallest at its offset, and begins with an entry
 abbrev pub is_cbfs : List ℕ → List NumberedArea → NumberedArea → Bool
 is_cbfs image areas a = not (has_smaller areas a) && begins_with_entry (bytes_of image a)
 
--- the area must be checked: it lies inside the image, and has a name of the list or is a CBFS
+-- the area lies inside the image, and has a name of the list or is a CBFS
 abbrev pub is_wanted : List ℕ → List (List ℕ) → List NumberedArea → NumberedArea → Bool
 is_wanted image names areas a =
     nat_le (area_end a.area) (length image) && (has_one_of names a || is_cbfs image areas a)
@@ -48,7 +46,7 @@ is_wanted image names areas a =
 abbrev pub wanted_areas : List ℕ → List (List ℕ) → List NumberedArea → List NumberedArea
 wanted_areas image names areas = filter (is_wanted image names areas) areas
 
--- the areas that must be checked if no name is expected
+-- the areas to check without expected names
 abbrev pub cbfs_areas : List ℕ → List NumberedArea → List NumberedArea
 cbfs_areas image areas =
     filter (λ a. nat_le (area_end a.area) (length image) && is_cbfs image areas a) areas
@@ -57,17 +55,16 @@ cbfs_areas image areas =
 abbrev pub region_finding : List ℕ → NumberedArea → ImageFinding
 region_finding image a = Region a (region_findings (bytes_of image a))
 
--- of an area, if `left` bytes may still be checked
+-- of an area, with `left` bytes for checks
 abbrev pub area_finding : List ℕ → List (List ℕ) → ℕ → NumberedArea → ImageFinding
 area_finding image names left a =
     if nat_le a.area.size left then region_finding image a
     else NotChecked a (has_one_of names a)
 
--- the number of bytes that may be checked after the area
+-- the remaining bytes for checks
 abbrev pub left_after : ℕ → NumberedArea → ℕ
 left_after left a = if nat_le a.area.size left then left - a.area.size else left
 
--- of a list of areas
 unfoldable pub areas_findings :
     List ℕ → List (List ℕ) → ℕ → List NumberedArea → List ImageFinding
 areas_findings image names left [] = []
@@ -75,24 +72,24 @@ areas_findings image names left (a ∷ areas) =
     area_finding image names left a
     ∷ areas_findings image names (left_after left a) areas
 
--- of a name with index `number`: that no area has the name
+-- of the name with index `number`, if no area has the name
 abbrev pub name_findings : List NumberedArea → ℕ → List ℕ → List ImageFinding
 name_findings areas number name =
     if is_some (find (has_name name) areas) then [] else NoArea number ∷ []
 
--- the same for a list of names, with indices from `number`
+-- of names with indices from `number`
 abbrev pub names_findings : List NumberedArea → ℕ → List (List ℕ) → List ImageFinding
 names_findings areas number [] = []
 names_findings areas number (name ∷ names) =
     name_findings areas number name ++ names_findings areas (number + 1) names
 
--- of the areas that must be checked
+-- of the areas to check
 abbrev pub regions_findings : List ℕ → List (List ℕ) → List ImageFinding
 regions_findings image names =
-    areas_findings image names (8 * length image)
+    areas_findings image names (2 * length image)
     (wanted_areas image names (image_areas image))
 
--- of an image: of the map, of the regions, and of names without an area
+-- of the map, regions, and names without an area
 unfoldable pub image_findings : List ℕ → List (List ℕ) → List (List ℕ) → List ImageFinding
 image_findings image names expected =
     map Map (map_findings image)

@@ -1,4 +1,4 @@
--- Laws about regions and images without bad findings.
+-- Laws about images without bad findings.
 use Rattle.std.specs.Prelude.{◌≡◌, ◌≢◌, Bool, true, false, All, Contains, List, ℕ, None, Some, Ok}
 use Rattle.std.specs.List.{list_any}
 use Rattle.flash_format.specs.declared.digest.Digest.{Digest}
@@ -21,46 +21,40 @@ use Rattle.check_findings.specs.Image.RegionAreas.{region_areas}
 use Rattle.check_findings.specs.declared.region.finding.Content.{Content}
 use Rattle.check_findings.specs.Image.Verdicts.{is_bad, is_bad_region}
 
--- in a region without bad findings, a search finds each component by its name
 abbrev pub FitRegionsLoseNothing : Type 0
 FitRegionsLoseNothing = (needs : Bool) (x : List ℕ) (c : Component)
     → list_any (is_bad_region needs) (region_findings x) ≡ false
     → Contains (components x) c → component_in x c.name ≡ Ok (Some c)
 
--- the stored digest of the component, if any, matches its content
+-- the component's digest, if any, matches
 abbrev pub IsIntact : Component → Type 0
 IsIntact c = (stored : Digest) → hash_state c.attributes c.content ≢ Invalid stored
 
--- a region of a good size with an entry at its start, without damaged entries, with intact
--- components and a blank tail, if it has a tail
+-- a good size, a first entry, no damaged entry, intact components, and a blank tail, if any
 pub record IsWhole (x : List ℕ) : Type 0 where
   pub shaped : shape_fault x ≡ None
   pub undamaged : (kind : DamageKind) → (cut x).end ≢ damage kind
   pub intact : All IsIntact (components x)
   pub blank : (cut x).end ≡ tail → IsBlankTail (place_after 0 (cut x).cells) x
 
--- a region without bad findings is whole
 abbrev pub FitRegionsAreWhole : Type 0
 FitRegionsAreWhole = (needs : Bool) (x : List ℕ)
     → list_any (is_bad_region needs) (region_findings x) ≡ false → IsWhole x
 
--- the name of the area leads a command to it, the area is whole, and a search finds each of its
--- components by its name
+-- a command finds the area by name, the area is whole, and a search finds each component by name
 pub record IsFit (image : List ℕ) (a : NumberedArea) : Type 0 where
   pub reached : region_of image (text_of a.area.name) ≡ Ok (range_of a)
   pub whole : IsWhole (bytes_of image a)
   pub found : (c : Component) → Contains (components (bytes_of image a)) c
       → component_in (bytes_of image a) c.name ≡ Ok (Some c)
 
--- in an image without bad findings, each checked area is fit
 abbrev pub FitImagesAreWhole : Type 0
 FitImagesAreWhole =
     (needs : Bool) (image : List ℕ) (names expected : List (List ℕ))
     → list_any (is_bad needs) (image_findings image names expected) ≡ false
     → All (IsFit image) (region_areas (image_findings image names expected))
 
--- a checked area has the area name, a search there finds a component with the name, and its content
--- has the position
+-- a search in the named area finds the component at the position
 pub record IsMet (image : List ℕ) (areas : List NumberedArea) (wish : Wish) : Type 0 where
   pub area : NumberedArea
   pub checked : Contains areas area
@@ -69,7 +63,6 @@ pub record IsMet (image : List ℕ) (areas : List NumberedArea) (wish : Wish) : 
   pub has : HasContent (bytes_of image area) wish.name content
   pub placed : is_met wish.place content area.area.size ≡ true
 
--- if the findings of an image meet a need, the image does
 abbrev pub NeedsAreThere : Type 0
 NeedsAreThere =
     (image : List ℕ) (names expected : List (List ℕ)) (wish : Wish)

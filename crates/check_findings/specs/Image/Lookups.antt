@@ -1,4 +1,4 @@
--- The contents of the tables of names and of offsets.
+-- Tables of names and offsets.
 use Rattle.std.specs.Prelude.{◌≡◌, ℕ, Bool, false, List, nat_lt, is_some}
 use Rattle.std.specs.List.{list_any}
 use Rattle.std.specs.Option.{option_map_or}
@@ -11,15 +11,14 @@ use Rattle.check_findings.specs.declared.image.names.NameSet.{NameSet}
 use Rattle.check_findings.specs.declared.image.starts.Starts.{Starts}
 use Rattle.check_findings.specs.Image.ImageFindings.{begins_at}
 
--- the set has the name
 abbrev pub has_name : NameSet → List ℕ → Bool
 has_name set name = is_some (get_by (λ k. slice_cmp nat_cmp name k.now) set.names)
 
--- the set has exactly the names of the list
+-- the set has exactly these names
 abbrev pub HasNames : NameSet → List (List ℕ) → Type 0
 HasNames set names = (name : List ℕ) → has_name set name ≡ list_any (λ n. bytes_eq n name) names
 
--- the table has a size below `size` for the offset `at`
+-- the table has a size below `size` at `at`
 abbrev pub is_below : Starts → ℕ → ℕ → Bool
 is_below starts at size =
     option_map_or (λ least. nat_lt least size) (get nat_cmp starts.smallest at) false

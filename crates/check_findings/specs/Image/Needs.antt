@@ -1,18 +1,16 @@
 -- Required components.
 use Rattle.std.specs.Prelude.{◌≡◌, ℕ, ◌+◌, ◌==◌, Bool, true, List, [], ◌∷◌, Option, Some, None, Ok}
 use Rattle.std.specs.Prelude.{if◌then◌else◌}
+use Rattle.std.specs.Option.{option_or}
 use Rattle.std.specs.Str.{bytes_eq}
 use Rattle.flash_format.specs.Flashmap.{is_area}
-use Rattle.flash_format.specs.Components.{Component, packing}
-use Rattle.flash_format.specs.Head.{head_of}
+use Rattle.flash_format.specs.Components.{Component}
 use Rattle.cbfs_walk.specs.Finding.{component_in}
-use Rattle.cbfs_walk.specs.Hashes.{hash_state}
-use Rattle.check_findings.specs.Region.RegionFindings.{content_of}
+use Rattle.check_findings.specs.Region.RegionFindings.{component_content}
 use Rattle.check_findings.specs.declared.map.finding.NumberedArea.{NumberedArea}
 use Rattle.check_findings.specs.declared.region.finding.Content.{Content}
 use Rattle.check_findings.specs.declared.region.finding.RegionFinding.{RegionFinding}
 use Rattle.check_findings.specs.declared.region.finding.RegionFinding.TheVariants as of_region
-use Rattle.check_findings.specs.declared.region.finding.ComponentFinding.TheVariants as of_component
 use Rattle.check_findings.specs.declared.image.finding.ImageFinding.{ImageFinding}
 use Rattle.check_findings.specs.declared.image.finding.ImageFinding.TheVariants.{Region}
 use Rattle.check_findings.specs.declared.image.needs.Need.{Need}
@@ -36,24 +34,18 @@ is_met places.Any content size = true
 is_met (places.At start) content size = content.start == start
 is_met places.End content size = content.start + content.len == size
 
--- the content of the finding, if its component has this name
 abbrev pub content_named : List ℕ → RegionFinding → Option Content
-content_named name (of_region.Component at other (of_component.Content content)) =
+content_named name (of_region.Component at other shadowed content) =
     if bytes_eq other name then Some content else None
 content_named name _ = None
 
--- the first value, or else the second
-abbrev pub first_of : {X : Type 0} → Option X → Option X → Option X
-first_of None other = other
-first_of (Some x) other = Some x
-
--- the content of the first component with this name
+-- the first content of this name
 abbrev pub first_content : List ℕ → List RegionFinding → Option Content
 first_content name [] = None
 first_content name (finding ∷ findings) =
-    first_of (content_named name finding) (first_content name findings)
+    option_or (content_named name finding) (first_content name findings)
 
--- the reason if this content doesn't meet the need
+-- the reason if the content doesn't meet the need
 abbrev pub unmet_by : NumberedArea → Wish → Option Content → Option NeedFinding
 unmet_by a wish None = Some Missing
 unmet_by a wish (Some content) =
@@ -62,19 +54,14 @@ unmet_by a wish (Some content) =
 abbrev pub unmet_in : NumberedArea → List RegionFinding → Wish → Option NeedFinding
 unmet_in a findings wish = unmet_by a wish (first_content wish.name findings)
 
--- the reason if the findings don't meet the need, by the first checked area with its name
+-- the reason if the findings don't meet the need, by the first area of this name
 abbrev pub unmet : List ImageFinding → Wish → Option NeedFinding
 unmet [] wish = Some Missing
 unmet (Region a of_region ∷ findings) wish =
     if is_area wish.area a.area then unmet_in a of_region wish else unmet findings wish
 unmet (_ ∷ findings) wish = unmet findings wish
 
--- the content of a component
-abbrev pub component_content : Component → Content
-component_content c =
-    content_of c.at (head_of c.bytes) (packing c.attributes) (hash_state c.attributes c.content)
-
--- a search of the region finds a component by the name, and it has this content
+-- a search finds the name with this content
 pub record HasContent (x name : List ℕ) (content : Content) : Type 0 where
   pub component : Component
   pub found : component_in x name ≡ Ok (Some component)

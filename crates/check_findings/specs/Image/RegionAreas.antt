@@ -1,4 +1,4 @@
--- The areas that are checked as regions.
+-- The checked areas.
 use Rattle.std.specs.Prelude.{ℕ, ◌+◌, ◌*◌, ◌≤◌, All, List, [], ◌∷◌, length}
 use Rattle.std.specs.List.{flat_map, sum_by}
 use Rattle.check_findings.specs.declared.map.finding.NumberedArea.{NumberedArea}
@@ -6,21 +6,18 @@ use Rattle.check_findings.specs.Map.MapFindings.{area_end}
 use Rattle.check_findings.specs.declared.image.finding.ImageFinding.{ImageFinding}
 use Rattle.check_findings.specs.declared.image.finding.ImageFinding.TheVariants.{Region}
 
--- the area of a region's finding
 abbrev pub region_area : ImageFinding → List NumberedArea
 region_area (Region a findings) = a ∷ []
 region_area _ = []
 
--- the areas of all findings
 abbrev pub region_areas : List ImageFinding → List NumberedArea
 region_areas findings = flat_map region_area findings
 
--- the sum of the sizes
 abbrev pub sum_sizes : List NumberedArea → ℕ
 sum_sizes areas = sum_by (λ (a : NumberedArea). a.area.size) areas
 
--- at most `most` areas lie inside an image of n bytes, and leave `left` of 8n bytes
+-- at most `most` areas lie inside an image of n bytes, and leave `left` of 2n bytes
 pub record AreChecked (n most left : ℕ) (areas : List NumberedArea) : Type 0 where
   pub count : length areas ≤ most
   pub inside : All (λ a. area_end a.area ≤ n) areas
-  pub total : sum_sizes areas + left ≤ 8 * n
+  pub total : sum_sizes areas + left ≤ 2 * n

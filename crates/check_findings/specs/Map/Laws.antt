@@ -17,23 +17,20 @@ pub record IsInside (n : ℕ) (area : Area) : Type 0 where
   pub some : 0 < area.size
   pub inside : area_end area ≤ n
 
--- area `a` contains area `b`
 pub record Holds (a b : Area) : Type 0 where
   pub start : a.offset ≤ b.offset
   pub end : area_end b ≤ area_end a
 
--- the areas have no common byte, or one contains the other
+-- the areas are disjoint, or one contains the other
 abbrev pub Nest : Area → Area → Type 0
 Nest a b = ((area_end a ≤ b.offset) ⊎ (area_end b ≤ a.offset)) ⊎ (Holds a b ⊎ Holds b a)
 
--- the area contains the whole map
 pub record HoldsMap (map : FoundMap) (area : Area) : Type 0 where
   pub start : area.offset ≤ map.at
   pub end : map.at + map_len map.head ≤ area_end area
 
--- The map of an image, with the size of the image and no map at a higher offset. Each area lies
--- inside the image, has a name of text that leads to the area, and nests with each area. The first
--- area with the name `FMAP` contains the whole map.
+-- The map has the image's size, and no later map exists. Each area lies inside the image, has a
+-- text name that finds the area, and nests with each area. The first area `FMAP` contains the map.
 pub record IsSound (image : List ℕ) (map : FoundMap) : Type 0 where
   pub found : found_in image ≡ Some map
   pub size : map.head.size ≡ length image
@@ -49,7 +46,7 @@ pub record IsSound (image : List ℕ) (map : FoundMap) : Type 0 where
   pub held : IsSomeAnd (find (has_name (codes "FMAP")) (map_areas image map))
       (λ a. HoldsMap map a.area)
 
--- a map without a finding but itself is sound
+-- a map without other findings is sound
 abbrev pub UntoldMapsAreSound : Type 0
 UntoldMapsAreSound = (image : List ℕ) (map : FoundMap)
     → map_findings image ≡ findings.Map map ∷ [] → IsSound image map

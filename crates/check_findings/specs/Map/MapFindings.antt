@@ -1,7 +1,9 @@
--- The findings of a flash map. The selection and the order are this project's own.
+-- Findings of a flash map. This project defines their choice and order.
 use Rattle.std.specs.Prelude.{ℕ, ◌+◌, Bool, not, ◌&&◌, ◌||◌, List, [], ◌∷◌, ◌++◌, length, drop}
 use Rattle.std.specs.Prelude.{nat_lt, nat_le, Option, Some, None, ◌==◌, if◌then◌else◌}
+use Rattle.std.specs.Prelude.{option_map}
 use Rattle.std.specs.List.{find, flat_map}
+use Rattle.std.specs.Option.{option_to_list}
 use Rattle.std.specs.Str.{is_utf8}
 use lib.Chars.{codes}
 use Rattle.flash_format.specs.declared.flashmap.Area.{Area}
@@ -18,45 +20,35 @@ numbered_from number [] = []
 numbered_from number (area ∷ areas) =
     record { number = number; area = area } ∷ numbered_from (number + 1) areas
 
--- the areas of a map of an image, with indices
 abbrev pub map_areas : List ℕ → FoundMap → List NumberedArea
 map_areas image map =
     numbered_from 0 (areas_from map.head.nareas (drop (map.at + fmap_head_len) image))
 
--- the end of the area
 abbrev pub area_end : Area → ℕ
 area_end area = area.offset + area.size
 
--- the finding, if `told`
-abbrev pub told_if : Bool → MapFinding → List MapFinding
-told_if told finding = if told then finding ∷ [] else []
+abbrev pub finding_if : Bool → MapFinding → List MapFinding
+finding_if found finding = if found then finding ∷ [] else []
 
--- of the next valid map at a higher offset
-abbrev pub next_findings : Option FoundMap → List MapFinding
-next_findings None = []
-next_findings (Some next) = findings.OtherMap next ∷ []
+-- the finding of a value, if any
+abbrev pub finding_of : {X : Type 0} → (X → MapFinding) → Option X → List MapFinding
+finding_of f cause = option_to_list (option_map f cause)
 
--- of an area on its own, in an image of n bytes
+-- of a single area, in an image of n bytes
 abbrev pub area_findings : ℕ → NumberedArea → List MapFinding
 area_findings n a =
-    told_if (nat_lt n (area_end a.area)) (findings.AreaOutside a)
-    ++ (told_if (a.area.size == 0) (findings.AreaEmpty a)
-    ++ told_if (not (is_utf8 (text_of a.area.name))) (findings.AreaNameNotText a))
+    finding_if (nat_lt n (area_end a.area)) (findings.AreaOutside a)
+    ++ (finding_if (a.area.size == 0) (findings.AreaEmpty a)
+    ++ finding_if (not (is_utf8 (text_of a.area.name))) (findings.AreaNameNotText a))
 
--- the area has this name
 abbrev pub has_name : List ℕ → NumberedArea → Bool
 has_name name a = is_area name a.area
 
--- of an area, if an earlier area has its name
-abbrev pub name_finding : NumberedArea → Option NumberedArea → List MapFinding
-name_finding a None = []
-name_finding a (Some first) = findings.SameName a first ∷ []
-
--- of each area with the name of an earlier area, also of the areas `before`
+-- of areas with an earlier area's name, also of areas `before`
 abbrev pub name_findings : List NumberedArea → List NumberedArea → List MapFinding
 name_findings before [] = []
 name_findings before (a ∷ areas) =
-    name_finding a (find (has_name (text_of a.area.name)) before)
+    finding_of (findings.SameName a) (find (has_name (text_of a.area.name)) before)
     ++ name_findings (before ++ a ∷ []) areas
 
 -- area `a` begins before area `b` and ends inside it
@@ -64,45 +56,37 @@ abbrev pub ends_inside : Area → Area → Bool
 ends_inside a b =
     nat_lt a.offset b.offset && (nat_lt b.offset (area_end a) && nat_lt (area_end a) (area_end b))
 
--- two areas overlap, and neither contains the other
+-- the areas overlap, and neither contains the other
 abbrev pub overlap : NumberedArea → NumberedArea → Bool
 overlap a b = ends_inside a.area b.area || ends_inside b.area a.area
 
--- of an area, if it overlaps another area
-abbrev pub overlap_finding : NumberedArea → Option NumberedArea → List MapFinding
-overlap_finding a None = []
-overlap_finding a (Some other) = findings.Overlap a other ∷ []
-
--- of each area of `areas` that overlaps any area of `all`
+-- of each area in `areas` that overlaps an area in `all`
 abbrev pub overlaps_among : List NumberedArea → List NumberedArea → List MapFinding
 overlaps_among all areas =
-    flat_map (λ (a : NumberedArea). overlap_finding a (find (overlap a) all)) areas
+    flat_map (λ (a : NumberedArea). finding_of (findings.Overlap a) (find (overlap a) all)) areas
 
--- the most areas that are compared pairwise
 abbrev pub most_compared : ℕ
 most_compared = 4096
 
--- of each area that overlaps another area
 abbrev pub overlap_findings : List NumberedArea → List MapFinding
 overlap_findings areas =
     if nat_lt most_compared (length areas) then findings.TooManyAreas ∷ []
     else overlaps_among areas areas
 
--- the area contains the whole map
 abbrev pub holds_map : FoundMap → Area → Bool
 holds_map map area = nat_le area.offset map.at && nat_le (map.at + map_len map.head) (area_end area)
 
--- of the first area with the name `FMAP`
+-- of the first area `FMAP`
 abbrev pub map_area_findings : FoundMap → Option NumberedArea → List MapFinding
 map_area_findings map None = findings.NoMapArea ∷ []
-map_area_findings map (Some a) = told_if (not (holds_map map a.area)) (findings.MapAreaMisses a)
+map_area_findings map (Some a) = finding_if (not (holds_map map a.area)) (findings.MapAreaMisses a)
 
 -- of a map, the next map and the areas, in an image of n bytes
 abbrev pub findings_of : ℕ → FoundMap → Option FoundMap → List NumberedArea → List MapFinding
 findings_of n map next areas =
     findings.Map map
-    ∷ (next_findings next
-    ++ (told_if (not (map.head.size == n)) findings.OtherSize
+    ∷ (finding_of findings.OtherMap next
+    ++ (finding_if (not (map.head.size == n)) findings.OtherSize
     ++ (flat_map (area_findings n) areas
     ++ (name_findings [] areas
     ++ (overlap_findings areas
@@ -113,7 +97,7 @@ findings_under image None = findings.NoMap ∷ []
 findings_under image (Some map) =
     findings_of (length image) map (found_from (map.at + 1) image) (map_areas image map)
 
--- the areas of the flash map; none without a map
+-- the areas of the map, if any
 abbrev pub areas_under : List ℕ → Option FoundMap → List NumberedArea
 areas_under image None = []
 areas_under image (Some map) = map_areas image map
@@ -121,6 +105,5 @@ areas_under image (Some map) = map_areas image map
 unfoldable pub image_areas : List ℕ → List NumberedArea
 image_areas image = areas_under image (found_in image)
 
--- the findings of the flash map of an image
 unfoldable pub map_findings : List ℕ → List MapFinding
 map_findings image = findings_under image (found_in image)

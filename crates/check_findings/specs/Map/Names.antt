@@ -8,7 +8,6 @@ use Rattle.check_findings.specs.declared.map.finding.NumberedArea.{NumberedArea}
 use Rattle.check_findings.specs.declared.map.names.AreaNames.{AreaNames}
 use Rattle.check_findings.specs.Map.MapFindings.{has_name}
 
--- the area of a name in the table
 abbrev pub area_for : AreaNames → List ℕ → Option NumberedArea
 area_for names name = get_by (λ k. slice_cmp nat_cmp name k.now) names.first
 

@@ -1,22 +1,19 @@
--- Sums over the entries of a region.
+-- Sums over entries.
 use Rattle.std.specs.Prelude.{ℕ, ◌+◌, ◌-◌, ◌≤◌, Bool, List, [], ◌∷◌, length, max, ◌==◌}
 use Rattle.std.specs.Prelude.{if◌then◌else◌}
 use Rattle.flash_format.specs.Head.{head_of, is_free}
 use Rattle.check_findings.specs.declared.region.count.Count.{Count}
 
--- the bytes of all empty entries
 unfoldable pub free_bytes : List (List ℕ) → ℕ
 free_bytes [] = 0
 free_bytes (x ∷ cells) =
     if is_free (head_of x) then length x + free_bytes cells else free_bytes cells
 
--- the number of bytes that a component can use of a run of empty entries: all, but four less if the
--- run ends with the region
+-- the usable bytes of an empty run: four less at the end of the region
 abbrev pub usable : ℕ → ℕ → ℕ → ℕ
 usable size start end = end - start - (if end == size then 4 else 0)
 
--- the most bytes that a component can use of one run of empty entries; the first run begins at
--- `start`, and the entries of the list begin at `at`
+-- the most usable bytes of an empty run; the first run begins at `start`, the list at `at`
 unfoldable pub largest_room : ℕ → ℕ → ℕ → List (List ℕ) → ℕ
 largest_room size start at [] = usable size start at
 largest_room size start at (x ∷ cells) =
@@ -29,11 +26,10 @@ largest_room size start at (x ∷ cells) =
 abbrev pub nothing : ℕ → Count
 nothing size = record { size = size; components = 0; free = 0; start = 0; room = 0 }
 
--- the most bytes that a component can use of one run, if the entries end here
+-- the most usable bytes of an empty run, if the entries end here
 abbrev pub room_to : Count → ℕ → ℕ
 room_to n end = max n.room (usable n.size n.start end)
 
--- the counts with the next entry, empty or not, at this offset and of this many bytes
 abbrev pub count_after : Count → Bool → ℕ → ℕ → Count
 count_after n free at len =
     if free then record n { free = n.free + len }

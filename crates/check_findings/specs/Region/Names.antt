@@ -1,14 +1,12 @@
--- The set of the names of components.
+-- Names of components.
 use Rattle.std.specs.Prelude.{◌≡◌, ℕ, Bool, List, Vec}
 use Rattle.std.specs.declared.alloc.Global.{Global}
 use Rattle.std.specs.List.{list_any}
 use Rattle.std.specs.Str.{bytes_eq}
 
--- whether the list has the name
 abbrev pub is_among : List ℕ → List (List ℕ) → Bool
 is_among name names = list_any (bytes_eq name) names
 
--- whether the keys have the name
 abbrev pub has : List ℕ → List (Vec ℕ Global) → Bool
 has name keys = list_any (λ k. bytes_eq name k.items) keys
 

@@ -28,7 +28,7 @@ impl RegionFindings {
         RegionFindings { findings }
     }
 
-    /// Returns the findings in their order.
+    /// Returns the findings in order.
     pub fn as_slice(&self) -> &[RegionFinding]
         ensures { result.now ≡ self.now }
     {
@@ -39,19 +39,17 @@ impl RegionFindings {
 /// A finding of an image.
 #[derive(Drop)]
 pub enum ImageFinding {
-    /// A finding of the flash map.
     Map(MapFinding),
-    /// The findings of an area that was checked as a CBFS region.
+    /// An area that was checked as a CBFS region.
     Region {
         area: NumberedArea,
         findings: RegionFindings,
     },
-    /// The area isn't checked, because the areas before it have too many bytes. `is_named` is
-    /// whether its name is expected.
+    /// The areas before it have too many bytes. `is_named`: the area's name is expected.
     NotChecked {
         area: NumberedArea,
         is_named: bool,
     },
-    /// No area has the name with this index among the given names.
+    /// The index of a given name without an area.
     NoArea(usize),
 }

@@ -1,4 +1,4 @@
-//! The check of an image.
+//! The image check.
 ghost use Rattle.std.specs.Prelude.{ℕ, List, All, ◌≡◌, ◌+◌, ◌-◌, ◌*◌, ◌/◌, ◌≤◌, [], ◌∷◌, ◌++◌};
 ghost use Rattle.std.specs.Prelude.{length, map, OnOk, IfOk, nat_le, if◌then◌else◌};
 ghost use Rattle.flash_format.specs.Flashmap.{area_len};
@@ -8,8 +8,8 @@ ghost use Rattle.flash_device.specs.Pages.{HasRead, OnHonest};
 ghost use Rattle.check_findings.specs.Map.MapFindings.{area_end, image_areas};
 ghost use Rattle.check_findings.specs.declared.image.finding.ImageFinding.TheVariants.{Map};
 ghost use Rattle.check_findings.specs.Faults.{by_device};
-ghost use Rattle.check_findings.specs.Image.ImageFindings as told;
-ghost use Rattle.check_findings.specs.Image.ImageFindings.{expected_names, image_findings};
+ghost use Rattle.check_findings.specs.Image.ImageFindings as of;
+ghost use Rattle.check_findings.specs.Image.ImageFindings.{image_findings};
 ghost use Rattle.check_findings.specs.Image.ImageFindings.{left_after};
 ghost use Rattle.check_findings.specs.Image.Lookups.{HasNames};
 ghost use Rattle.check_findings.specs.Image.RegionAreas.{AreChecked, region_area, region_areas};
@@ -25,11 +25,10 @@ use flash_device::{Flash, FoundMap, Paged, Region};
 use std::alloc::{AllocError, Global};
 use std::hash::RandomState;
 
-/// The bytes of all checked areas together are at most those of this many images.
-const MAX_IMAGES: u64 = 8;
+/// The limit of checked bytes, in image lengths.
+const MAX_IMAGES: u64 = 2;
 
-/// Returns the finding of an area. Checks the area if it has at most `left` bytes, and subtracts
-/// its size.
+/// Checks an area of at most `left` bytes, and subtracts its size.
 fn area_finding<F: Flash>(
     alloc: Global,
     keys: RandomState,
@@ -45,31 +44,25 @@ fn area_finding<F: Flash>(
     ensures left { left.new ≡ left_after left.old area.now }
     ensures area { IfOk result (λ finding. region_area finding
         ≡ (if nat_le area.now.area.size left.old then area.now ∷ [] else [])) }
-    ensures told { OnHonest F.facts paged.old.device (λ image.
+    ensures found { OnHonest F.facts paged.old.device (λ image.
         (names : List (List ℕ)) → HasNames expected.now names → IfOk result (λ finding.
-        finding ≡ told.area_finding image names left.old area.now)) }
+        finding ≡ of.area_finding image names left.old area.now)) }
 {
     let start = u64::from(area.area.offset);
     let size = u64::from(area.area.size);
-    let region = Region::within(start, size, paged.len());
-    match region {
+    let is_named = expected.contains(area);
+    let area = *area;
+    match Region::within(start, size, paged.len()) {
         Some(region) if size <= *left => {
             *left -= size;
             let findings = check_region(alloc, keys, paged, region)?;
             let findings = RegionFindings::new(findings);
-            Ok(ImageFinding::Region {
-                area: *area,
-                findings,
-            })
+            Ok(ImageFinding::Region { area, findings })
         }
-        _ => Ok(ImageFinding::NotChecked {
-            area: *area,
-            is_named: expected.contains(area),
-        }),
+        _ => Ok(ImageFinding::NotChecked { area, is_named }),
     }
 }
 
-/// Returns a finding for each of these areas.
 fn areas_findings<F: Flash>(
     alloc: Global,
     keys: RandomState,
@@ -85,9 +78,9 @@ fn areas_findings<F: Flash>(
     ensures checked { IfOk result (λ findings.
         AreChecked (length (F.facts paged.old.device).content) (length areas.now) 0
         (region_areas findings.items)) }
-    ensures told { OnHonest F.facts paged.old.device (λ image.
+    ensures found { OnHonest F.facts paged.old.device (λ image.
         (names : List (List ℕ)) → HasNames expected.now names → IfOk result (λ findings.
-        findings.items ≡ told.areas_findings image names (8 * length image) areas.now)) }
+        findings.items ≡ of.areas_findings image names (2 * length image) areas.now)) }
 {
     paged.places_fit();
     let mut left = MAX_IMAGES * paged.len();
@@ -99,7 +92,6 @@ fn areas_findings<F: Flash>(
     Ok(findings)
 }
 
-/// Adds a finding.
 pub fn push(findings: &mut Vec<ImageFinding>, finding: ImageFinding) -> Result<(), AllocError>
     ensures { OnOk result (findings.new.items ≡ findings.old.items ++ finding ∷ []) }
 {
@@ -109,34 +101,31 @@ pub fn push(findings: &mut Vec<ImageFinding>, finding: ImageFinding) -> Result<(
     }
 }
 
-/// Returns the findings of the flash map as findings of an image.
-fn map_part(alloc: Global, told: &[MapFinding]) -> Result<Vec<ImageFinding>, AllocError>
-    ensures { IfOk result (λ findings. findings.items ≡ map Map told.now) }
+fn map_part(alloc: Global, found: &[MapFinding]) -> Result<Vec<ImageFinding>, AllocError>
+    ensures { IfOk result (λ findings. findings.items ≡ map Map found.now) }
 {
     let mut findings = Vec::new(alloc);
-    for finding in told {
+    for finding in found {
         push(&mut findings, ImageFinding::Map(*finding))?;
     }
     Ok(findings)
 }
 
-/// The findings of an image, with its flash map and areas.
+/// An image's findings, map and areas.
 #[derive(Drop)]
 pub struct CheckedImage {
-    /// The map, or `None` if the image has none.
     pub found: Option<FoundMap>,
-    /// All areas of the map, in its order; empty if the image has no map.
+    /// All areas, in map order; empty without a map.
     pub areas: Vec<NumberedArea>,
     pub findings: Vec<ImageFinding>,
 }
 
-/// Returns the findings of an image: of its flash map, of the areas that are checked as regions, in
-/// the order of the map, and of each of `names` that no area has.
+/// Returns the findings of an image: of its map, its checked areas in map order, and each of
+/// `names` without an area.
 ///
-/// An area inside the image is checked if its name is expected: one of `names`, one of `expected`,
-/// or `COREBOOT`. An area of any other name is checked if it begins with an entry, and no smaller
-/// area that begins with an entry starts at the same offset. The sizes of the checked areas add up
-/// to at most eight times the length of the image. An area that would exceed the sum isn't checked.
+/// An area inside the image is checked if its name is in `names` or `expected` or is `COREBOOT`, or
+/// if it is the smallest area at its offset that begins with an entry. An area isn't checked if the
+/// sum of sizes would exceed two image lengths.
 ///
 /// Returns `Device` exactly if the device refused a read, and `Memory` if an allocation failed.
 pub fn check_image<F: Flash>(
@@ -150,7 +139,7 @@ pub fn check_image<F: Flash>(
     ensures after { HasRead F.facts (2 * length (F.facts paged.old.device).content + 64)
         (faults_told by_device result) paged.old paged.new }
     ensures total { IfOk result (λ checked. sum_sizes (region_areas checked.findings.items)
-        ≤ 8 * length (F.facts paged.old.device).content) }
+        ≤ 2 * length (F.facts paged.old.device).content) }
     ensures inside { IfOk result (λ checked.
         All (λ a. area_end a.area ≤ length (F.facts paged.old.device).content)
         (region_areas checked.findings.items)) }

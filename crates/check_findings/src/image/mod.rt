@@ -1,6 +1,5 @@
-//! The check of an image: its flash map, and each CBFS region in it.
-//!
-//! A check allocates memory for its findings. It never writes to the device.
+//! Checks an image: its flash map and CBFS regions. A check allocates memory for findings, and
+//! never writes to the device.
 
 mod finding;
 mod image;
@@ -17,5 +16,5 @@ pub use laws::{
     fit_images_are_whole, fit_regions_are_whole, fit_regions_lose_nothing, needs_are_there,
 };
 pub use needs::{Need, NeedFinding, NeededPlace, unmet};
-pub use verdict::{has_bad, is_bad, is_bad_map, is_bad_region};
+pub use verdict::{is_bad_hash, is_bad_map};
 pub use wanted::cbfs_areas;

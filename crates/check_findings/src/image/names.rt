@@ -1,5 +1,5 @@
-//! The names of areas that are checked even if they don't begin with an entry.
-ghost use Rattle.std.specs.Prelude.{◌≡◌, ◌∷◌, [], ◌++◌, List, ℕ, map, codes, IfOk, OnOk};
+//! Expected names of areas.
+ghost use Rattle.std.specs.Prelude.{◌≡◌, ◌∷◌, [], ◌++◌, List, ℕ, map, IfOk, OnOk};
 ghost use Rattle.check_findings.specs.Map.Names.{Notes};
 ghost use Rattle.check_findings.specs.Image.ImageFindings.{expected_names, has_one_of};
 ghost use Rattle.check_findings.specs.Image.ImageFindings.{name_findings, names_findings};
@@ -11,14 +11,12 @@ use crate::map::{AreaNames, NumberedArea};
 use std::alloc::{AllocError, Global};
 use std::collections::BTreeMap;
 
-/// A set of names.
 #[derive(Drop)]
 pub struct NameSet<'a> {
     names: BTreeMap<&'a [u8], ()>,
 }
 
 impl<'a> NameSet<'a> {
-    /// Returns the empty set.
     pub fn new(alloc: Global) -> NameSet<'a>
         ensures { HasNames result [] }
     {
@@ -27,7 +25,7 @@ impl<'a> NameSet<'a> {
         }
     }
 
-    /// Returns the names of areas that are expected to be regions: the given ones, and `COREBOOT`.
+    /// Returns the given names and `COREBOOT`.
     pub fn of(
         alloc: Global,
         names: &[&'a [u8]],
@@ -43,7 +41,6 @@ impl<'a> NameSet<'a> {
         Ok(set)
     }
 
-    /// Adds a name.
     fn add(&mut self, name: &'a [u8]) -> Result<(), AllocError>
         ensures { (before : List (List ℕ)) → HasNames self.old before →
             OnOk result (HasNames self.new (before ++ name.now ∷ [])) }
@@ -52,7 +49,6 @@ impl<'a> NameSet<'a> {
         Ok(())
     }
 
-    /// Adds these names.
     fn add_all(&mut self, names: &[&'a [u8]]) -> Result<(), AllocError>
         ensures { (before : List (List ℕ)) → HasNames self.old before →
             OnOk result (HasNames self.new (before ++ map (λ n. n.now) names.now)) }
@@ -63,7 +59,6 @@ impl<'a> NameSet<'a> {
         Ok(())
     }
 
-    /// Returns whether the area has one of the names.
     pub fn contains(&self, area: &NumberedArea) -> bool
         ensures { (names : List (List ℕ)) → HasNames self.now names →
             result ≡ has_one_of names area.now }
@@ -72,7 +67,7 @@ impl<'a> NameSet<'a> {
     }
 }
 
-/// Adds a finding if no area has this name, whose index is `number`.
+/// Adds a finding if no area has this name. `number` is its index.
 fn push_if_missing<'a>(
     findings: &mut Vec<ImageFinding>,
     areas: &AreaNames<'a>,
@@ -88,7 +83,7 @@ fn push_if_missing<'a>(
     Ok(())
 }
 
-/// Adds a finding for each name that no area has.
+/// Adds a finding for each name without an area.
 pub fn push_missing<'a>(
     alloc: Global,
     findings: &mut Vec<ImageFinding>,

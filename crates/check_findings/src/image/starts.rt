@@ -1,4 +1,4 @@
-//! The offsets at which areas begin.
+//! Smallest sizes of areas by offset.
 ghost use Rattle.std.specs.Prelude.{◌≡◌, ◌∷◌, [], ◌++◌, List, IfOk, OnOk};
 ghost use Rattle.check_findings.specs.declared.map.finding.NumberedArea.{NumberedArea};
 ghost use Rattle.check_findings.specs.Image.ImageFindings.{has_smaller};
@@ -8,14 +8,13 @@ use crate::map::NumberedArea;
 use std::alloc::{AllocError, Global};
 use std::collections::BTreeMap;
 
-/// The smallest size of an area with room for an entry, by the offset of the area.
+/// The smallest size of an area with room for an entry, by offset.
 #[derive(Drop)]
 pub struct Starts {
     smallest: BTreeMap<u32, u32>,
 }
 
 impl Starts {
-    /// Returns the smallest size at each offset.
     pub fn of(alloc: Global, areas: &[NumberedArea]) -> Result<Starts, AllocError>
         ensures { IfOk result (λ starts. HasStarts starts areas.now) }
     {
@@ -28,7 +27,6 @@ impl Starts {
         Ok(starts)
     }
 
-    /// Adds an area.
     fn add(&mut self, area: &NumberedArea) -> Result<(), AllocError>
         ensures { (before : List NumberedArea) → HasStarts self.old before →
             OnOk result (HasStarts self.new (before ++ area.now ∷ [])) }
@@ -43,7 +41,7 @@ impl Starts {
         Ok(())
     }
 
-    /// Returns whether a smaller area with room for an entry begins at the offset of this area.
+    /// Returns whether the table has a smaller area at the same offset.
     pub fn has_smaller(&self, area: &NumberedArea) -> bool
         ensures { (areas : List NumberedArea) → HasStarts self.now areas →
             result ≡ has_smaller areas area.now }

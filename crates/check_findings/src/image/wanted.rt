@@ -1,4 +1,4 @@
-//! The selection of the areas that are checked as regions.
+//! The choice of areas to check.
 ghost use Rattle.std.specs.Prelude.{ℕ, ◌≡◌, ◌≤◌, ◌+◌, ◌∷◌, [], ◌++◌, List, All, IsTrue, filter};
 ghost use Rattle.std.specs.Prelude.{length, IfOk, OnOk};
 ghost use Rattle.flash_device.specs.Device.{faults_told};
@@ -17,8 +17,8 @@ use crate::region::starts_with_entry;
 use flash_device::{Flash, FlashFault, Paged, Region};
 use std::alloc::Global;
 
-/// Returns the areas inside the image that contain a CBFS: each begins with an entry, and no
-/// smaller area that begins with an entry starts at the same offset.
+/// Returns the CBFS areas: each lies inside the image, begins with an entry, and is the smallest
+/// such area at its offset.
 pub fn cbfs_areas<F: Flash>(
     alloc: Global,
     paged: &mut Paged<F>,
@@ -33,7 +33,7 @@ pub fn cbfs_areas<F: Flash>(
     wanted_areas(alloc, paged, &none, areas)
 }
 
-/// Returns the areas that are to be checked, in their order.
+/// Returns the areas to check, in order.
 pub fn wanted_areas<F: Flash>(
     alloc: Global,
     paged: &mut Paged<F>,
@@ -57,7 +57,6 @@ pub fn wanted_areas<F: Flash>(
     Ok(wanted)
 }
 
-/// Adds the area if it is to be checked.
 fn push_if_wanted<F: Flash>(
     paged: &mut Paged<F>,
     expected: &NameSet,
@@ -82,7 +81,6 @@ fn push_if_wanted<F: Flash>(
     Ok(())
 }
 
-/// Returns whether the area is to be checked.
 fn is_wanted<F: Flash>(
     paged: &mut Paged<F>,
     expected: &NameSet,

@@ -1,6 +1,6 @@
 //! The areas of a flash map.
 
-ghost use Rattle.std.specs.Prelude.{◌≡◌, ◌+◌, ◌*◌, ◌/◌, ◌≤◌, [], ◌∷◌, ◌++◌, length, IfOk, OnOk};
+ghost use Rattle.std.specs.Prelude.{◌≡◌, ◌+◌, ◌*◌, ◌/◌, ◌≤◌, [], ◌∷◌, ◌++◌, length, IfOk, IfSome, OnOk};
 ghost use Rattle.flash_format.specs.Flashmap.{area_len, map_len};
 ghost use Rattle.flash_device.specs.Device.{faults_told};
 ghost use Rattle.flash_device.specs.Fmap.{found_in};
@@ -16,17 +16,17 @@ use std::alloc::{AllocError, Global};
 /// The flash map of an image.
 #[derive(Drop)]
 pub struct ImageMap {
-    /// The map, or `None` if the image has none.
     pub found: Option<FoundMap>,
-    /// All areas of the map, in its order.
     pub areas: Vec<NumberedArea>,
 }
 
-/// Returns the flash map of an image with its areas. Returns `Device` exactly if a read failed.
+/// Returns the image's map and areas, or `Device` exactly if a read failed.
 pub fn image_map<F: Flash>(alloc: Global, paged: &mut Paged<F>) -> Result<ImageMap, CheckFault>
     ensures after { HasRead F.facts (length (F.facts paged.old.device).content / 2
         + length (F.facts paged.old.device).content / area_len + 8) (faults_told by_device result)
         paged.old paged.new }
+    ensures inside { IfOk result (λ map. IfSome map.found (λ found.
+        found.at + map_len found.head ≤ length (F.facts paged.old.device).content)) }
     ensures fits { IfOk result (λ map.
         area_len * length map.areas.items ≤ length (F.facts paged.old.device).content) }
     ensures found { OnHonest F.facts paged.old.device (λ image.
@@ -43,8 +43,7 @@ pub fn image_map<F: Flash>(alloc: Global, paged: &mut Paged<F>) -> Result<ImageM
     Ok(ImageMap { found, areas })
 }
 
-/// Returns all areas of the map, in its order.
-pub fn map_areas<F: Flash>(
+fn map_areas<F: Flash>(
     alloc: Global,
     paged: &mut Paged<F>,
     map: &FoundMap,
@@ -65,7 +64,6 @@ pub fn map_areas<F: Flash>(
     Ok(areas)
 }
 
-/// Adds an area.
 pub fn push_area(areas: &mut Vec<NumberedArea>, area: NumberedArea) -> Result<(), AllocError>
     ensures { OnOk result (areas.new.items ≡ areas.old.items ++ area ∷ []) }
 {

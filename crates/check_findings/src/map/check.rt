@@ -9,24 +9,23 @@ ghost use Rattle.check_findings.specs.Faults.{by_device};
 ghost use Rattle.check_findings.specs.Map.MapFindings.{image_areas, map_findings};
 
 use crate::fault::CheckFault;
-use crate::map::areas::map_areas;
+use crate::map::areas::{ImageMap, image_map};
 use crate::map::finding::{MapFinding, NumberedArea};
 use crate::map::findings::{findings_of, push_if};
-use flash_device::{Flash, FoundMap, Paged, find_fmap, find_fmap_from};
+use flash_device::{Flash, FoundMap, Paged, find_fmap_from};
 use std::alloc::{AllocError, Global};
 
-/// The findings of a flash map, with the map and its areas.
+/// A map's findings, with the map and its areas.
 #[derive(Drop)]
 pub struct CheckedMap {
     pub findings: Vec<MapFinding>,
-    /// The map, or `None` if the image has none.
     pub found: Option<FoundMap>,
-    /// All areas of the map, in its order; empty if the image has no map.
+    /// All areas, in order; empty without a map.
     pub areas: Vec<NumberedArea>,
 }
 
-/// Returns the findings of an image's flash map, in the order of `MapFinding`, with the map and its
-/// areas. Returns `Device` exactly if a read failed.
+/// Returns the findings of the image's map in the order of `MapFinding`, or `Device` exactly if a
+/// read failed.
 pub fn check_map<F: Flash>(alloc: Global, paged: &mut Paged<F>) -> Result<CheckedMap, CheckFault>
     ensures after { HasRead F.facts (length (F.facts paged.old.device).content
         + length (F.facts paged.old.device).content / area_len + 16) (faults_told by_device result)
@@ -41,20 +40,14 @@ pub fn check_map<F: Flash>(alloc: Global, paged: &mut Paged<F>) -> Result<Checke
         IfOk result (λ map. map.areas.items ≡ image_areas image)) }
 {
     let len = paged.len();
-    let Some(map) = find_fmap(paged)? else {
-        let findings = no_map(alloc)?;
-        let areas = Vec::new(alloc);
-        let found = None;
-        return Ok(CheckedMap {
-            findings,
-            found,
-            areas,
-        });
+    let ImageMap { found, areas } = image_map(alloc, paged)?;
+    let findings = match &found {
+        Some(map) => {
+            let next = find_fmap_from(paged, map.at + 1)?;
+            findings_of(alloc, len, map, next, &areas)?
+        }
+        None => no_map(alloc)?,
     };
-    let next = find_fmap_from(paged, map.at + 1)?;
-    let areas = map_areas(alloc, paged, &map)?;
-    let findings = findings_of(alloc, len, &map, next, &areas)?;
-    let found = Some(map);
     Ok(CheckedMap {
         findings,
         found,
@@ -62,7 +55,6 @@ pub fn check_map<F: Flash>(alloc: Global, paged: &mut Paged<F>) -> Result<Checke
     })
 }
 
-/// Returns the findings of an image without a map.
 fn no_map(alloc: Global) -> Result<Vec<MapFinding>, AllocError>
     ensures { IfOk result (λ findings. findings.items ≡ MapFinding.NoMap ∷ []) }
 {

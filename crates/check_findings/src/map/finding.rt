@@ -1,7 +1,5 @@
 //! Findings of a flash map.
 
-ghost use Rattle.std.specs.Prelude.{◌≡◌};
-
 use flash_device::{FlashFault, FoundMap};
 use flash_format::Area;
 use std::alloc::AllocError;
@@ -13,39 +11,40 @@ pub struct NumberedArea {
     pub area: Area,
 }
 
+pub type MapFindings = Vec<MapFinding>;
+
 /// A finding of a flash map.
 #[derive(Clone, Copy, Drop)]
 pub enum MapFinding {
-    /// The image has no valid flash map. There is no other finding then.
+    /// The image has no valid map. No other finding follows.
     NoMap,
     /// The flash map of the image.
     Map(FoundMap),
-    /// The next valid map at a higher offset. A reader that searches in another order may use it.
+    /// The next valid map at a higher offset. Other readers may use it.
     OtherMap(FoundMap),
-    /// The size in the map differs from the size of the image.
+    /// The map's size isn't the image's.
     OtherSize,
-    /// The area ends after the end of the image.
+    /// The area ends after the image.
     AreaOutside(NumberedArea),
-    /// The size of the area is 0.
+    /// The area's size is 0.
     AreaEmpty(NumberedArea),
-    /// The name of the area isn't UTF-8.
+    /// The area's name isn't UTF-8.
     AreaNameNotText(NumberedArea),
-    /// An earlier area has the same name, so no command finds this area. `first` is the first area
-    /// with the name.
+    /// An earlier area has the name, so no command finds this area. `first` is the first area with
+    /// the name.
     SameName {
         area: NumberedArea,
         first: NumberedArea,
     },
-    /// The area overlaps another area, and neither contains the other. `other` is the first such
-    /// area.
+    /// Neither area contains the other. `other` is the first such area.
     Overlap {
         area: NumberedArea,
         other: NumberedArea,
     },
-    /// The map has more than 4096 areas, so overlaps are not looked for.
+    /// The map has more than 4096 areas, so overlaps aren't checked.
     TooManyAreas,
     /// No area has the name `FMAP`.
     NoMapArea,
-    /// The first area with the name `FMAP` doesn't contain the whole map.
+    /// The first area `FMAP` doesn't contain the whole map.
     MapAreaMisses(NumberedArea),
 }

@@ -1,14 +1,15 @@
-//! The findings of a flash map and its areas.
+//! The findings of a map and its areas.
 
-ghost use Rattle.std.specs.Prelude.{◌≡◌, ◌+◌, ◌^◌, ◌<◌, ◌≤◌, ◌++◌, length, IfOk, OnOk, drop};
+ghost use Rattle.std.specs.Prelude.{◌≡◌, ◌+◌, ◌^◌, ◌<◌, ◌≤◌, ◌++◌, IfOk, OnOk};
 ghost use Rattle.std.specs.List.{find, flat_map};
+ghost use Rattle.std.specs.Option.{option_to_list};
 ghost use lib.Chars.{codes};
 ghost use Rattle.flash_format.specs.Flashmap.{map_len};
-ghost use Rattle.check_findings.specs.Map.MapFindings.{area_findings, findings_of, has_name};
-ghost use Rattle.check_findings.specs.Map.MapFindings.{holds_map};
-ghost use Rattle.check_findings.specs.Map.MapFindings.{map_area_findings, next_findings, told_if};
+ghost use Rattle.check_findings.specs.Map.MapFindings.{area_findings, finding_if, findings_of};
+ghost use Rattle.check_findings.specs.Map.MapFindings.{has_name, holds_map, map_area_findings};
 
-use crate::map::finding::{MapFinding, NumberedArea};
+use crate::fault::Pushed;
+use crate::map::finding::{MapFinding, MapFindings, NumberedArea};
 use crate::map::names::push_name_findings;
 use crate::map::overlaps::push_overlap_findings;
 use crate::text::is_text;
@@ -16,26 +17,22 @@ use flash_device::FoundMap;
 use flash_format::{Area, FmapHead};
 use std::alloc::{AllocError, Global};
 
-/// Returns the findings of a map with these areas in an image of `len` bytes. `next` is the map at
-/// the next higher offset.
+/// Returns the findings in an image of `len` bytes. `next` is the map at the next higher offset.
 pub fn findings_of(
     alloc: Global,
     len: u64,
     map: &FoundMap,
     next: Option<FoundMap>,
     areas: &[NumberedArea],
-) -> Result<Vec<MapFinding>, AllocError>
+) -> Result<MapFindings, AllocError>
     requires { map.now.at + map_len map.now.head ≤ len }
     ensures { IfOk result (λ findings. findings.items ≡ findings_of len map.now next areas.now) }
 {
     let mut findings = Vec::new(alloc);
+    let has_other_size = u64::from(map.head.size) != len;
     push_if(&mut findings, true, MapFinding::Map(*map))?;
-    push_next_findings(&mut findings, next)?;
-    push_if(
-        &mut findings,
-        u64::from(map.head.size) != len,
-        MapFinding::OtherSize,
-    )?;
+    push_some(&mut findings, next.map(MapFinding::OtherMap))?;
+    push_if(&mut findings, has_other_size, MapFinding::OtherSize)?;
     push_area_findings(&mut findings, len, areas)?;
     push_name_findings(alloc, &mut findings, areas)?;
     push_overlap_findings(&mut findings, areas)?;
@@ -43,88 +40,57 @@ pub fn findings_of(
     Ok(findings)
 }
 
-/// Adds the finding if `told` is set.
-pub fn push_if(
-    findings: &mut Vec<MapFinding>,
-    told: bool,
-    finding: MapFinding,
-) -> Result<(), AllocError>
-    ensures { OnOk result (findings.new.items ≡ findings.old.items ++ told_if told finding) }
+pub fn push_if(findings: &mut MapFindings, found: bool, finding: MapFinding) -> Pushed
+    ensures { OnOk result (findings.new.items ≡ findings.old.items ++ finding_if found finding) }
 {
-    if told {
+    push_some(findings, if found { Some(finding) } else { None })
+}
+
+pub fn push_some(findings: &mut MapFindings, finding: Option<MapFinding>) -> Pushed
+    ensures { OnOk result (findings.new.items ≡ findings.old.items ++ option_to_list finding) }
+{
+    if let Some(finding) = finding {
         findings.push(finding)?;
     }
     Ok(())
 }
 
-/// Adds a finding for the next map.
-fn push_next_findings(
-    findings: &mut Vec<MapFinding>,
-    next: Option<FoundMap>,
-) -> Result<(), AllocError>
-    ensures { OnOk result (findings.new.items ≡ findings.old.items ++ next_findings next) }
-{
-    if let Some(next) = next {
-        findings.push(MapFinding::OtherMap(next))?;
-    }
-    Ok(())
-}
-
-/// Adds the findings of each area on its own.
-fn push_area_findings(
-    findings: &mut Vec<MapFinding>,
-    len: u64,
-    areas: &[NumberedArea],
-) -> Result<(), AllocError>
+fn push_area_findings(findings: &mut MapFindings, len: u64, areas: &[NumberedArea]) -> Pushed
     ensures { OnOk result (findings.new.items
         ≡ findings.old.items ++ flat_map (area_findings len) areas.now) }
 {
     for a in areas {
         let end = u64::from(a.area.offset) + u64::from(a.area.size);
+        let is_bytes = !is_text(a.area.text());
         push_if(findings, end > len, MapFinding::AreaOutside(*a))?;
         push_if(findings, a.area.size == 0, MapFinding::AreaEmpty(*a))?;
-        push_if(
-            findings,
-            !is_text(a.area.text()),
-            MapFinding::AreaNameNotText(*a),
-        )?;
+        push_if(findings, is_bytes, MapFinding::AreaNameNotText(*a))?;
     }
     Ok(())
 }
 
-/// Adds the finding of the first area with the name `FMAP`.
 fn push_map_area_findings(
-    findings: &mut Vec<MapFinding>,
+    findings: &mut MapFindings,
     map: &FoundMap,
     areas: &[NumberedArea],
-) -> Result<(), AllocError>
+) -> Pushed
     requires { map.now.at + map_len map.now.head < 2 ^ 64 }
     ensures { OnOk result (findings.new.items ≡ findings.old.items
         ++ map_area_findings map.now (find (has_name (codes "FMAP")) areas.now)) }
 {
-    match map_area(areas) {
-        Some(a) => push_if(
-            findings,
-            !holds_map(map, &a.area),
-            MapFinding::MapAreaMisses(a),
-        ),
-        None => push_if(findings, true, MapFinding::NoMapArea),
-    }
+    let Some(a) = map_area(areas) else {
+        return push_if(findings, true, MapFinding::NoMapArea);
+    };
+    let misses = !holds_map(map, &a.area);
+    push_if(findings, misses, MapFinding::MapAreaMisses(a))
 }
 
-/// Returns the first area with the name `FMAP`.
 fn map_area(areas: &[NumberedArea]) -> Option<NumberedArea>
     ensures { result ≡ find (has_name (codes "FMAP")) areas.now }
 {
-    for a in areas {
-        if a.area.name_is(b"FMAP") {
-            return Some(*a);
-        }
-    }
-    None
+    areas.iter().copied().find(|a| a.area.name_is(b"FMAP"))
 }
 
-/// Returns whether the area contains the whole map.
 fn holds_map(map: &FoundMap, area: &Area) -> bool
     requires { map.now.at + map_len map.now.head < 2 ^ 64 }
     ensures { result ≡ holds_map map.now area.now }

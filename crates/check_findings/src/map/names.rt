@@ -3,9 +3,11 @@
 ghost use Rattle.std.specs.Prelude.{◌≡◌, [], ◌∷◌, ◌++◌, List, IfOk, OnOk};
 ghost use Rattle.flash_format.specs.Flashmap.{text_of};
 ghost use Rattle.check_findings.specs.declared.map.finding.NumberedArea.{NumberedArea};
-ghost use Rattle.check_findings.specs.Map.MapFindings.{name_finding, name_findings};
+ghost use Rattle.check_findings.specs.Map.MapFindings.{name_findings};
 
-use crate::map::finding::{MapFinding, NumberedArea};
+use crate::fault::Pushed;
+use crate::map::finding::{MapFinding, MapFindings, NumberedArea};
+use crate::map::findings::push_some;
 use std::alloc::{AllocError, Global};
 use std::collections::BTreeMap;
 
@@ -18,7 +20,7 @@ pub struct AreaNames<'a> {
 impl<'a> AreaNames<'a> {
     ghost use Rattle.check_findings.specs.Map.Names.{area_for, Notes};
 
-    /// Returns the names of no areas.
+    /// Returns an empty table.
     pub fn new(alloc: Global) -> AreaNames<'a>
         ensures { Notes result [] }
     {
@@ -45,7 +47,7 @@ impl<'a> AreaNames<'a> {
         self.first.get(&name).copied()
     }
 
-    /// Returns the first area with the name of this area. Adds the area if there is none.
+    /// Returns the first area with this area's name, or adds the area.
     fn note(&mut self, area: &'a NumberedArea) -> Result<Option<NumberedArea>, AllocError>
         ensures first { IfOk result (λ first.
             first ≡ area_for self.old (text_of area.now.area.name)) }
@@ -61,32 +63,18 @@ impl<'a> AreaNames<'a> {
     }
 }
 
-/// Adds a finding for each area with the name of an earlier area.
 pub fn push_name_findings(
     alloc: Global,
-    findings: &mut Vec<MapFinding>,
+    findings: &mut MapFindings,
     areas: &[NumberedArea],
-) -> Result<(), AllocError>
+) -> Pushed
     ensures { OnOk result (findings.new.items ≡ findings.old.items ++ name_findings [] areas.now) }
 {
     let mut names = AreaNames::new(alloc);
     for a in areas {
         let first = names.note(a)?;
-        push_name_finding(findings, a, first)?;
-    }
-    Ok(())
-}
-
-/// Adds a finding if there is an earlier area with the name.
-fn push_name_finding(
-    findings: &mut Vec<MapFinding>,
-    a: &NumberedArea,
-    first: Option<NumberedArea>,
-) -> Result<(), AllocError>
-    ensures { OnOk result (findings.new.items ≡ findings.old.items ++ name_finding a.now first) }
-{
-    if let Some(first) = first {
-        findings.push(MapFinding::SameName { area: *a, first })?;
+        let finding = first.map(|first| MapFinding::SameName { area: *a, first });
+        push_some(findings, finding)?;
     }
     Ok(())
 }

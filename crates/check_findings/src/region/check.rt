@@ -1,4 +1,4 @@
-//! The check of a region.
+//! The region check.
 ghost use Rattle.std.specs.Prelude.{◌≡◌, ◌↔◌, ◌+◌, ◌*◌, ◌/◌, IfOk, IsErrOf};
 ghost use Rattle.flash_device.specs.Device.{faults_told};
 ghost use Rattle.flash_device.specs.Pages.{HasRead, OnHonestIn};
@@ -6,34 +6,23 @@ ghost use Rattle.flash_device.specs.Regions.{LiesIn};
 ghost use Rattle.cbfs_walk.specs.Cells.{IsCellIn, cell_in};
 ghost use Rattle.cbfs_walk.specs.Walks.{StandsIn};
 ghost use Rattle.check_findings.specs.Faults.{by_device};
-ghost use Rattle.check_findings.specs.Region.RegionFindings.{free_findings, region_findings};
-ghost use Rattle.check_findings.specs.Region.Reports.{AddsFindings, TellsMore};
-ghost use Rattle.check_findings.specs.Region.Reports.{refused_findings, told_cell};
+ghost use Rattle.check_findings.specs.Region.RegionFindings.{region_findings};
+ghost use Rattle.check_findings.specs.Region.Reports.{HasReported, Reported, Reports};
+ghost use Rattle.check_findings.specs.Region.Reports.{refused_findings, with_cell};
 
 use crate::fault::CheckFault;
 use crate::region::count::Count;
-use crate::region::finding::{Content, RegionFinding};
+use crate::region::finding::{Content, HashFinding, RegionFinding};
 use crate::region::report::Report;
-use crate::region::tail::tell_tail;
+use crate::region::tail::push_tail;
 use cbfs_walk::{
     Cell, Step, Walk, WalkFault, cells_stand_in_their_image, check_hash, name, packing,
 };
 use flash_device::{Flash, Paged, Region};
-use std::alloc::{AllocError, Global};
+use std::alloc::Global;
 use std::hash::RandomState;
 
-/// Adds the findings of an empty entry.
-fn tell_free(cell: &Cell, report: &mut Report) -> Result<(), AllocError>
-    ensures { AddsFindings result report.old report.new (free_findings cell.now.at cell.now.head) }
-{
-    if cell.head.kind == 0 {
-        return report.tell(RegionFinding::Deleted { at: cell.at });
-    }
-    Ok(())
-}
-
-/// Adds the findings of an entry.
-fn tell_cell<F: Flash>(
+fn push_cell<F: Flash>(
     paged: &mut Paged<F>,
     region: Region,
     cell: &Cell,
@@ -44,52 +33,53 @@ fn tell_cell<F: Flash>(
 
     ensures after { HasRead F.facts (3 + 2 * (cell.now.span / 3840)) (faults_told by_device result)
         paged.old paged.new }
-    ensures told { OnHonestIn F.facts paged.old.device region (λ x. StandsIn x cell.now →
-        TellsMore result report.old report.new
-        (λ t. told_cell t cell.now.at (cell_in x cell.now))) }
+    ensures found { OnHonestIn F.facts paged.old.device region (λ x. StandsIn x cell.now →
+        Reports result report.old report.new
+        (λ t. with_cell t cell.now.at (cell_in x cell.now))) }
 {
     cells_stand_in_their_image();
     if cell.head.is_free() {
-        tell_free(cell, report)?;
+        if cell.head.kind == 0 {
+            report.push(RegionFinding::Deleted { at: cell.at })?;
+        }
         return Ok(());
     }
     let mut field = [0; 256];
     let len = name(paged, region, cell, &mut field)?;
     let compression = packing(paged, region, cell)?;
-    let hash = check_hash(paged, region, cell)?;
+    let state = check_hash(paged, region, cell)?;
     let content = Content {
         kind: cell.head.kind,
         start: cell.at + u64::from(cell.head.offset),
-        len: u64::from(cell.head.len),
+        len: cell.head.len,
         compression,
-        hash,
+        hash: HashFinding::of(state),
     };
-    report.tell_named(cell.at, &field[..len], content)?;
+    report.push_component(cell.at, &field[..len], content)?;
     Ok(())
 }
 
 /// Returns the findings if the walk ends with a fault.
 fn refused(report: Report, count: Count, fault: WalkFault) -> Result<Vec<RegionFinding>, CheckFault>
-    ensures told { IfOk result (λ all.
-        all.items ≡ refused_findings report.findings.items count fault) }
+    ensures found { (t : Reported) → HasReported report t → IfOk result (λ all.
+        all.items ≡ refused_findings t.findings count fault) }
     ensures device { IsErrOf result CheckFault.Device ↔ (fault ≡ WalkFault.Device) }
 {
     let mut report = report;
     match fault {
         WalkFault::Device => return Err(CheckFault::Device),
-        WalkFault::RegionShape => report.tell(RegionFinding::BadSize)?,
-        WalkFault::NotCbfs => report.tell(RegionFinding::NotCbfs)?,
+        WalkFault::RegionShape => report.push(RegionFinding::BadSize)?,
+        WalkFault::NotCbfs => report.push(RegionFinding::NotCbfs)?,
         WalkFault::Damaged { at, kind } => {
-            report.tell(RegionFinding::Damaged { at, kind })?;
+            report.push(RegionFinding::Damaged { at, kind })?;
             return Ok(report.counted(count, at)?);
         }
     }
     Ok(report.findings)
 }
 
-/// Returns the findings of a region, entry by entry. They don't depend on the keys, which are for
-/// the hash table of names. Returns `Device` exactly if a read failed, and `Memory` if an
-/// allocation failed.
+/// Returns the findings of a region, entry by entry. The hash keys don't change them. Returns
+/// `Device` exactly if a read failed, and `Memory` if an allocation failed.
 pub fn check_region<F: Flash>(
     alloc: Global,
     keys: RandomState,
@@ -115,16 +105,16 @@ pub fn check_region<F: Flash>(
     loop {
         match walk.next(paged) {
             Ok(Step::Cell(cell)) => {
-                tell_cell(paged, region, &cell, &mut report)?;
+                push_cell(paged, region, &cell, &mut report)?;
                 count = count.with(&cell);
                 at = cell.at + cell.span;
             }
             Ok(Step::Tail(_)) => {
-                tell_tail(paged, region, at, &mut report)?;
+                push_tail(paged, region, at, &mut report)?;
                 return Ok(report.counted(count, at)?);
             }
             Ok(Step::End) => {
-                report.tell(RegionFinding::Complete)?;
+                report.push(RegionFinding::Complete)?;
                 return Ok(report.counted(count, size)?);
             }
             Err(fault) => return refused(report, count, fault),

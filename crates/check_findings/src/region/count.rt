@@ -1,26 +1,25 @@
-//! Sums over the entries of a region.
+//! Sums over entries.
 ghost use Rattle.std.specs.Prelude.{◌≡◌, ◌+◌, ◌^◌, ◌<◌};
 ghost use Rattle.flash_format.specs.Head.{is_free};
 ghost use Rattle.check_findings.specs.Region.Counts.{usable};
 
 use cbfs_walk::Cell;
 
-/// The sums over the entries of a region up to an offset.
+/// The sums over the entries before an offset.
 #[derive(Clone, Copy)]
 pub struct Count {
-    /// The size of the region in bytes.
+    /// The region's size in bytes.
     pub size: u64,
     pub components: u64,
     /// The bytes of all empty entries.
     pub free: u64,
-    /// The offset after the last component. All later entries are empty.
+    /// The offset after the last component.
     pub start: u64,
-    /// The most bytes that a component can use of one run of empty entries before `start`.
+    /// The most usable bytes of an empty run before `start`.
     pub room: u64,
 }
 
-/// Returns how many bytes a component can use of a run of empty entries in a region of this size.
-/// The last four bytes of the region are kept.
+/// Returns the usable bytes of an empty run: all but the region's last four.
 fn usable(size: u64, start: u64, end: u64) -> u64
     ensures { result ≡ usable size start end }
 {
@@ -32,7 +31,6 @@ impl Count {
     ghost use Rattle.check_findings.specs.Region.Counts.{IsCountBefore, count_after};
     ghost use Rattle.check_findings.specs.Region.Counts.{nothing, room_to};
 
-    /// Returns the sums over no entries, in a region of this size.
     pub fn new(size: u64) -> Count
         ensures { result ≡ nothing size }
     {
@@ -45,14 +43,13 @@ impl Count {
         }
     }
 
-    /// Returns the most bytes that a component can use of one run, if the entries end here.
+    /// Returns the most usable bytes of an empty run, if the entries end here.
     pub fn room_to(self, end: u64) -> u64
         ensures { result ≡ room_to self end }
     {
         self.room.max(usable(self.size, self.start, end))
     }
 
-    /// Returns the sums with the next entry.
     pub fn with(self, cell: &Cell) -> Count
         requires before { IsCountBefore cell.now.at self }
         requires small { cell.now.at + cell.now.span < 2 ^ 32 }

@@ -1,12 +1,13 @@
 //! Findings of a region.
 ghost use Rattle.std.specs.Prelude.{◌≡◌, IfOk};
+ghost use Rattle.check_findings.specs.Region.RegionFindings.{hash_finding};
 
 use cbfs_walk::HashState;
-use flash_format::DamageKind;
+use flash_format::{Algorithm, DamageKind};
 use std::alloc::{AllocError, Global};
 use std::marker::Model;
 
-/// The name of a component, without its NUL.
+/// A component's name, without its NUL.
 #[derive(Drop)]
 pub struct Name {
     bytes: Vec<u8>,
@@ -21,7 +22,7 @@ impl Model for Name {
 }
 
 impl Name {
-    /// Returns a copy of these bytes.
+    /// Copies these bytes.
     pub fn copied(alloc: Global, bytes: &[u8]) -> Result<Name, AllocError>
         ensures { IfOk result (λ name. name ≡ bytes.now) }
     {
@@ -37,77 +38,90 @@ impl Name {
     }
 }
 
-/// The type of a component, the range and compression of its content, and the state of its digest.
+/// The state of a digest, without its bytes.
+#[derive(Clone, Copy)]
+pub enum HashFinding {
+    Missing,
+    /// The digest equals the content's digest.
+    Valid(Algorithm),
+    Invalid(Algorithm),
+    /// Neither SHA-256 nor SHA-512, or too short a digest.
+    Unsupported,
+}
+
+impl HashFinding {
+    /// Returns the state without bytes.
+    pub fn of(state: HashState) -> HashFinding
+        ensures { result ≡ hash_finding state }
+    {
+        match state {
+            HashState::Absent => HashFinding::Missing,
+            HashState::Valid(digest) => HashFinding::Valid(digest.algorithm()),
+            HashState::Invalid(digest) => HashFinding::Invalid(digest.algorithm()),
+            HashState::Unsupported => HashFinding::Unsupported,
+        }
+    }
+}
+
+/// The type, range, compression and digest of a component's content.
 #[derive(Clone, Copy)]
 pub struct Content {
     pub kind: u32,
-    /// The offset of the content in the region.
+    /// The content's offset in the region.
     pub start: u64,
-    pub len: u64,
-    /// The value of its first compression attribute, or 0 if it has none.
+    pub len: u32,
+    /// The first compression attribute, or 0 without one.
     pub compression: u32,
-    pub hash: HashState,
+    pub hash: HashFinding,
 }
 
-/// A finding of a component.
-#[derive(Clone, Copy)]
-pub enum ComponentFinding {
-    /// An earlier component has the same name, so no search finds this component.
-    Shadowed,
-    /// Its name isn't UTF-8, so no argument of a command can contain it.
-    NameNotText,
-    /// Its type has no name.
-    UnknownType(u32),
-    /// Its content. The findings of each component end with this finding.
-    Content(Content),
-}
-
-/// A finding of a region. Each `at` is an offset in the region, in bytes.
+/// A finding of a region. Each `at` is an offset in the region, in bytes. `BadSize` and `NotCbfs`
+/// exclude other findings.
 #[derive(Drop)]
 pub enum RegionFinding {
-    /// The size of the region is 0 or no multiple of 64. There is no other finding then.
+    /// The size is 0 or no multiple of 64.
     BadSize,
-    /// The region doesn't begin with an entry. There is no other finding then.
+    /// The region doesn't begin with an entry.
     NotCbfs,
-    /// A finding of the component at this offset.
+    /// `is_shadowed`: an earlier component has the name, so no search finds this component.
     Component {
         at: u64,
         name: Name,
-        what: ComponentFinding,
+        is_shadowed: bool,
+        content: Content,
     },
-    /// The offset has an empty entry of type 0: a deleted component.
+    /// An empty entry of type 0: a deleted component.
     Deleted {
         at: u64,
     },
     /// The entries fill the region.
     Complete,
-    /// The entries end at an offset without an entry. The rest of the region is never used.
+    /// The entries end at an offset without an entry. The rest of the region is unused.
     Tail {
         at: u64,
     },
-    /// The first byte of the tail that is neither erased (0xff) nor cleared (0x00). The last four
-    /// bytes of the region are ignored.
+    /// The first byte of the tail, except the region's last four, that isn't 0xff (erased) or 0x00
+    /// (cleared).
     TailFilled {
         at: u64,
     },
-    /// An entry in the tail, at a multiple of 64. No walk reaches it.
+    /// An entry in the tail at a multiple of 64, beyond each walk.
     TailEntry {
         at: u64,
     },
-    /// The entries end at a damaged entry. `kind` is the first check that it fails.
+    /// The entries end at a damaged entry. `kind` is its first failed check.
     Damaged {
         at: u64,
         kind: DamageKind,
     },
-    /// The number of components, if the region has any.
+    /// The number of components, if any.
     Components(u64),
-    /// The region has no component.
     NoComponents,
     /// The bytes of all empty entries.
     FreeBytes(u64),
-    /// The length in bytes of the longest content that `add` takes without `-A`, `-a` and `-b` and
-    /// with a name of at most 3 bytes.
+    /// The longest content, in bytes, that `add` takes without `-A`, `-a` and `-b`, with a name of
+    /// at most 3 bytes.
     LargestContent(u64),
-    /// There is no room even for an empty content.
+    /// Even an empty content has no room.
     NoRoom,
 }

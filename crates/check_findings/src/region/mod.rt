@@ -10,6 +10,6 @@ mod start;
 mod tail;
 
 pub use check::check_region;
-pub use finding::{ComponentFinding, Content, Name, RegionFinding};
+pub use finding::{Content, HashFinding, Name, RegionFinding};
 pub use laws::{blank_tails_are_known, unshadowed_components_are_found};
 pub use start::starts_with_entry;

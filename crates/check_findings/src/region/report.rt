@@ -1,19 +1,18 @@
-//! The report of a region.
+//! The region report.
 ghost use Rattle.std.specs.Prelude.{◌≡◌, [], ◌∷◌, ◌++◌, IfOk};
 
+use crate::fault::Pushed;
 use crate::region::count::Count;
-use crate::region::finding::{ComponentFinding, Content, Name, RegionFinding};
+use crate::region::finding::{Content, Name, RegionFinding};
 use crate::region::names::{Names, add_name};
-use crate::text::is_text;
-use flash_format::type_name;
 use std::alloc::{AllocError, Global};
 use std::collections::HashSet;
 use std::hash::RandomState;
 
-/// The bytes of an entry's header and of a name of at most 3 bytes with its NUL.
+/// The bytes of a header and a name of at most 3 bytes with its NUL.
 const METADATA: u64 = 28;
 
-/// The findings of the entries so far, and the names of their components.
+/// The findings and names of the entries so far.
 #[derive(Drop)]
 pub struct Report {
     pub alloc: Global,
@@ -22,11 +21,9 @@ pub struct Report {
 }
 
 impl Report {
-    ghost use Rattle.check_findings.specs.Region.RegionFindings.{named_findings, told_if};
-    ghost use Rattle.check_findings.specs.Region.Reports.{AddsFindings, TellsMore};
-    ghost use Rattle.check_findings.specs.Region.Reports.{counted, told_component};
+    ghost use Rattle.check_findings.specs.Region.Reports.{HasReported, Reported, Reports, counted};
+    ghost use Rattle.check_findings.specs.Region.Reports.{with_component, with_findings};
 
-    /// Returns the empty report.
     pub fn new(alloc: Global, keys: RandomState) -> Report
         ensures findings { result.findings.items ≡ [] }
         ensures names { result.names.keys ≡ [] }
@@ -38,61 +35,42 @@ impl Report {
         }
     }
 
-    /// Adds a finding.
-    pub fn tell(&mut self, finding: RegionFinding) -> Result<(), AllocError>
-        ensures { AddsFindings result self.old self.new (finding ∷ []) }
+    pub fn push(&mut self, finding: RegionFinding) -> Pushed
+        ensures { Reports result self.old self.new (λ t. with_findings t (finding ∷ [])) }
     {
         self.findings.push(finding)?;
         Ok(())
     }
 
-    /// Adds a finding of a component if `is_so` is set.
-    fn tell_if(
-        &mut self,
-        is_so: bool,
-        at: u64,
-        name: &[u8],
-        what: ComponentFinding,
-    ) -> Result<(), AllocError>
-        ensures { AddsFindings result self.old self.new (told_if is_so at name.now what) }
+    pub fn push_component(&mut self, at: u64, name: &[u8], content: Content) -> Pushed
+        ensures { Reports result self.old self.new (λ t. with_component t at name.now content) }
     {
-        if !is_so {
-            return Ok(());
-        }
+        let is_shadowed = add_name(self.alloc, &mut self.names, name)?;
         let name = Name::copied(self.alloc, name)?;
-        self.tell(RegionFinding::Component { at, name, what })
-    }
-
-    /// Adds the findings of a component with this name and content, and its name.
-    pub fn tell_named(&mut self, at: u64, name: &[u8], content: Content) -> Result<(), AllocError>
-        ensures { TellsMore result self.old self.new
-            (λ t. told_component t name.now (named_findings t.names at name.now content)) }
-    {
-        let is_new = add_name(self.alloc, &mut self.names, name)?;
-        let is_known = type_name(content.kind).is_some();
-        self.tell_if(!is_new, at, name, ComponentFinding::Shadowed)?;
-        self.tell_if(!is_text(name), at, name, ComponentFinding::NameNotText)?;
-        let unknown = ComponentFinding::UnknownType(content.kind);
-        self.tell_if(!is_known, at, name, unknown)?;
-        self.tell_if(true, at, name, ComponentFinding::Content(content))?;
+        self.findings.push(RegionFinding::Component {
+            at,
+            name,
+            is_shadowed,
+            content,
+        })?;
         Ok(())
     }
 
-    /// Returns the findings with those of the counts. The entries end at this offset.
+    /// Returns all findings, if the entries end here.
     pub fn counted(self, count: Count, end: u64) -> Result<Vec<RegionFinding>, AllocError>
-        ensures { IfOk result (λ all. all.items ≡ self.findings.items ++ counted count end) }
+        ensures { (t : Reported) → HasReported self t →
+            IfOk result (λ all. all.items ≡ t.findings ++ counted count end) }
     {
-        let mut report = self;
-        report.tell(if count.components == 0 {
-            RegionFinding::NoComponents
-        } else {
-            RegionFinding::Components(count.components)
+        let mut findings = self.findings;
+        findings.push(match count.components {
+            0 => RegionFinding::NoComponents,
+            components => RegionFinding::Components(components),
         })?;
-        report.tell(RegionFinding::FreeBytes(count.free))?;
-        report.tell(match count.room_to(end).checked_sub(METADATA) {
+        findings.push(RegionFinding::FreeBytes(count.free))?;
+        findings.push(match count.room_to(end).checked_sub(METADATA) {
             Some(len) => RegionFinding::LargestContent(len),
             None => RegionFinding::NoRoom,
         })?;
-        Ok(report.findings)
+        Ok(findings)
     }
 }

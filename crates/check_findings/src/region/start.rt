@@ -1,4 +1,4 @@
-//! Entries at an offset of a region.
+//! Starts of entries.
 ghost use Rattle.std.specs.Prelude.{◌≡◌, ◌≤◌, drop, IfOk};
 ghost use Rattle.flash_device.specs.Pages.{HasAnswered, OnHonestIn};
 ghost use Rattle.flash_device.specs.Regions.{LiesIn};
@@ -7,7 +7,7 @@ ghost use Rattle.check_findings.specs.Region.RegionFindings.{begins_with_entry};
 use flash_device::{Flash, FlashFault, Paged, Region};
 use flash_format::Head;
 
-/// Returns whether an entry begins at this offset of the region. The entry may be damaged.
+/// Returns whether an entry, damaged or not, begins at this offset.
 pub fn has_entry_at<F: Flash>(
     paged: &mut Paged<F>,
     region: Region,
@@ -33,7 +33,7 @@ pub fn has_entry_at<F: Flash>(
     Ok(head.is_some())
 }
 
-/// Returns whether a region of any size begins with an entry. The entry may be damaged.
+/// Returns whether a region of any size begins with an entry, damaged or not.
 pub fn starts_with_entry<F: Flash>(paged: &mut Paged<F>, region: Region) -> Result<bool, FlashFault>
     requires { LiesIn region (F.facts paged.old.device).content }
 

@@ -1,4 +1,4 @@
--- At most 16 rows of a kind, a kind being a verdict and a code.
+-- At most 16 rows of a kind, which is a verdict and a code.
 use Rattle.std.specs.Prelude.{ℕ, ◌-◌, nat_lt, Bool, ◌&&◌, List, [], ◌∷◌, ◌++◌, None, count_by, map}
 use Rattle.std.specs.List.{flat_map}
 use Rattle.std.specs.Str.{bytes_eq}
@@ -8,15 +8,15 @@ use Rattle.check_report.specs.declared.rows.row.Verdict.{Verdict}
 use Rattle.check_report.specs.declared.rows.row.Detail.TheVariants.{Count}
 use Rattle.check_report.specs.Rows.Rows.{SeenRow, row_if, image_row, is_verdict}
 
--- two rows are of one kind
+-- the rows have the same kind
 abbrev pub is_like : SeenRow → SeenRow → Bool
 is_like row other = is_verdict row.verdict other.verdict && bytes_eq row.code other.code
 
--- the row, if fewer than so many of the rows before it are of its kind
+-- the row, unless the limit of earlier rows of its kind is reached
 abbrev pub row_within : ℕ → List SeenRow → SeenRow → List SeenRow
 row_within most before row = row_if (nat_lt (count_by (is_like row) before) most) row
 
--- of the rows after others, those that fewer than so many rows of their kind precede
+-- the rows after others, within the limit
 unfoldable pub first_rows : ℕ → List SeenRow → List SeenRow → List SeenRow
 first_rows most before [] = []
 first_rows most before (row ∷ rows) =
@@ -34,7 +34,6 @@ pub record SeenKind : Type 0 where
 abbrev pub seen_kind : Kind → SeenKind
 seen_kind kind = record { verdict = kind.verdict; code = kind.code.now; count = kind.count }
 
--- the row is of the kind
 abbrev pub is_of : SeenKind → SeenRow → Bool
 is_of kind row = is_verdict kind.verdict row.verdict && bytes_eq kind.code row.code
 
@@ -42,11 +41,11 @@ abbrev pub kind_in : List SeenRow → SeenRow → SeenKind
 kind_in rows row =
     record { verdict = row.verdict; code = row.code; count = count_by (is_like row) rows }
 
--- the kinds of these rows, in the order of the first rows of the kinds
+-- the kinds, in the order of their first rows
 abbrev pub kinds_of : List SeenRow → List SeenKind
 kinds_of rows = map (kind_in rows) (first_rows 1 [] rows)
 
--- the row for the rows of a kind that are not shown
+-- the row for the hidden rows of a kind
 abbrev pub more_row : SeenKind → SeenRow
 more_row kind =
     image_row kind.verdict None kind.code (codes "more of these") (Count (kind.count - 16))

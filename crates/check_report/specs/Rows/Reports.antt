@@ -1,70 +1,114 @@
--- A report of rows.
-use Rattle.std.specs.Prelude.{ℕ, Bool, false, List, [], ◌++◌, Option, Some, None, map}
+-- A report: a list of components on request, rows, and counts. JSON is one document (RFC 8259).
+use Rattle.std.specs.Prelude.{ℕ, Bool, true, false, List, [], ◌∷◌, ◌++◌, Option, Some, None, map}
 use Rattle.std.specs.Prelude.{if◌then◌else◌}
 use Rattle.std.specs.List.{flat_map}
-use Rattle.std.specs.Option.{option_map_or}
+use Rattle.std.specs.Option.{option_copied, option_map_or}
 use lib.Chars.{codes}
+use Rattle.json.specs.Json.{Json}
+use Rattle.json.specs.Token.{Token, begin_array, begin_object, end_array, end_object, key}
 use Rattle.json.specs.Tree.{json_tokens}
-use Rattle.json.specs.Print.{print}
+use Rattle.json.specs.Print.{print, print_from}
 use Rattle.flash_format.specs.Printed.{line_feed}
+use Rattle.check_report.specs.declared.request.Files.{Files}
 use Rattle.check_report.specs.declared.rows.kinds.Counts.{Counts}
 use Rattle.check_report.specs.declared.rows.form.Form.{Form}
 use Rattle.check_report.specs.declared.rows.form.Form.TheVariants as forms
-use Rattle.check_report.specs.Rows.Components.{SeenComponent, component_text}
-use Rattle.check_report.specs.Rows.Rows.{SeenRow, row_text, summary, counts_of}
-use Rattle.check_report.specs.Rows.Documents.{SeenFiles, document, closing_tokens, objects}
-use Rattle.check_report.specs.Rows.Documents.{between_tokens, component_json, row_json}
-use Rattle.check_report.specs.Rows.Documents.{start_tokens}
+use Rattle.check_report.specs.Rows.Fields.{Line, SeenField, absent, array_value, count_value}
+use Rattle.check_report.specs.Rows.Fields.{line_json, line_text, object_of, text_value}
+use Rattle.check_report.specs.Rows.Rows.{SeenRow, counts_of, row_line, summary}
 use Rattle.check_report.specs.Rows.Limits.{limited_rows}
 
--- the whole text of this list, if there is one, and of these rows with these counts
-unfoldable pub report_with : Form → SeenFiles → Option (List SeenComponent) → List SeenRow
-    → Counts → List ℕ
+pub record SeenFiles : Type 0 where
+  pub image : List ℕ
+  pub old : Option (List ℕ)
+
+abbrev pub seen_files : Files → SeenFiles
+seen_files files = record { image = files.image.now; old = option_copied files.old }
+
+abbrev pub file_fields : SeenFiles → List SeenField
+file_fields files =
+    (codes "format", count_value 1)
+    ∷ (codes "image", text_value files.image)
+    ∷ (codes "old", option_map_or text_value files.old absent)
+    ∷ []
+
+abbrev pub count_fields : Counts → List SeenField
+count_fields counts =
+    (codes "bad", count_value counts.bad)
+    ∷ (codes "remarks", count_value counts.remarks)
+    ∷ (codes "changes", count_value counts.changes)
+    ∷ []
+
+abbrev pub lines_field : List ℕ → List Line → SeenField
+lines_field name lines = (name, array_value (map line_json lines))
+
+abbrev pub list_fields : Option (List Line) → List SeenField
+list_fields None = []
+list_fields (Some lines) = lines_field (codes "components") lines ∷ []
+
+unfoldable pub document : SeenFiles → Option (List Line) → List Line → Counts → Json
+document files list rows counts = object_of (file_fields files ++ list_fields list
+    ++ lines_field (codes "rows") rows ∷ count_fields counts)
+
+-- the text of a list, rows and counts
+unfoldable pub report_with : Form → SeenFiles → Option (List Line) → List Line → Counts → List ℕ
 report_with forms.Text files list rows counts =
-    option_map_or (flat_map component_text) list [] ++ flat_map row_text rows ++ summary counts
+    option_map_or (flat_map line_text) list [] ++ flat_map line_text rows ++ summary counts
 report_with forms.Json files list rows counts =
     print (json_tokens (document files list rows counts)) ++ line_feed
 
--- the whole text of this list, if there is one, and of these rows: of all of them, or of at most
--- 16 of a kind
-abbrev pub report : Form → Bool → SeenFiles → Option (List SeenComponent) → List SeenRow → List ℕ
+-- the same with the limit of rows
+abbrev pub report : Form → Bool → SeenFiles → Option (List Line) → List SeenRow → List ℕ
 report form is_verbose files list rows =
-    report_with form files list (if is_verbose then rows else limited_rows rows) (counts_of rows)
+    report_with form files list (map row_line (if is_verbose then rows else limited_rows rows))
+    (counts_of rows)
 
 -- ---- its parts
 
--- the start, up to the start of the array of this name
+-- the tokens of a field with a JSON value
+abbrev pub member_tokens : SeenField → List Token
+member_tokens field = option_map_or (λ j. key field.0 ∷ json_tokens j) field.1.json []
+
+abbrev pub begin_tokens : List ℕ → List Token
+begin_tokens name = key name ∷ begin_array ∷ []
+
+-- the start, up to an array
 abbrev pub starting : Form → SeenFiles → List ℕ → List ℕ
 starting forms.Text files name = []
-starting forms.Json files name = print (start_tokens files name)
+starting forms.Json files name = print (begin_object ∷ flat_map member_tokens (file_fields files)
+    ++ begin_tokens name)
 
--- components; the first may follow another
-abbrev pub list_parts : Form → Bool → List SeenComponent → List ℕ
-list_parts forms.Text follows cs = flat_map component_text cs
-list_parts forms.Json follows cs = objects follows (map component_json cs)
+abbrev pub objects : Bool → List Json → List ℕ
+objects follows js = print_from follows (flat_map json_tokens js)
 
--- what is between the components and the rows
+-- the parts of lines
+abbrev pub parts : Form → Bool → List Line → List ℕ
+parts forms.Text follows lines = flat_map line_text lines
+parts forms.Json follows lines = objects follows (map line_json lines)
+
+-- the next line follows another line
+abbrev pub follows_after : Bool → List Line → Bool
+follows_after follows [] = follows
+follows_after follows (line ∷ lines) = true
+
+-- the part between components and rows
 abbrev pub between : Form → List ℕ
 between forms.Text = []
-between forms.Json = print between_tokens
+between forms.Json = print (end_array ∷ begin_tokens (codes "rows"))
 
--- all before the rows
-abbrev pub heading : Form → SeenFiles → Option (List SeenComponent) → List ℕ
+-- the text before the rows
+abbrev pub heading : Form → SeenFiles → Option (List Line) → List ℕ
 heading form files None = starting form files (codes "rows")
-heading form files (Some cs) =
-    starting form files (codes "components") ++ list_parts form false cs ++ between form
-
--- rows; the first may follow another
-abbrev pub row_parts : Form → Bool → List SeenRow → List ℕ
-row_parts forms.Text follows rows = flat_map row_text rows
-row_parts forms.Json follows rows = objects follows (map row_json rows)
+heading form files (Some lines) =
+    starting form files (codes "components") ++ parts form false lines ++ between form
 
 abbrev pub ending : Form → Counts → List ℕ
 ending forms.Text counts = summary counts
-ending forms.Json counts = print (closing_tokens counts) ++ line_feed
+ending forms.Json counts =
+    print (end_array ∷ flat_map member_tokens (count_fields counts) ++ end_object ∷ [])
+    ++ line_feed
 
--- the rows and the ending
 abbrev pub rows_text : Form → Bool → List SeenRow → List ℕ
 rows_text form is_verbose rows =
-    row_parts form false (if is_verbose then rows else limited_rows rows)
+    parts form false (map row_line (if is_verbose then rows else limited_rows rows))
     ++ ending form (counts_of rows)

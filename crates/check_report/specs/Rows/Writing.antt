@@ -1,8 +1,12 @@
--- The rows and the components that writers have.
-use Rattle.std.specs.Prelude.{◌≡◌, ℕ, ◌+◌, false, ◌==◌, List, [], ◌∷◌, ◌++◌, Option}
+-- The effects of printers and writers of rows.
+use Rattle.std.specs.Prelude.{◌≡◌, ℕ, ◌+◌, ◌≤◌, Bool, false, ◌==◌, List, [], ◌∷◌, ◌++◌, Option}
 use Rattle.std.specs.Prelude.{Result, OnOk}
 use Rattle.std.specs.Prelude.{fold, map, if◌then◌else◌}
 use Rattle.std.specs.Io.KnownBytes.{Appends}
+use Rattle.std.specs.declared.alloc.AllocError.{AllocError}
+use Rattle.json.specs.Token.{Token}
+use Rattle.json.specs.Written.{Written}
+use Rattle.flash_device.specs.Device.{faults_told}
 use Rattle.check_report.specs.declared.fault.WriteFault.{WriteFault}
 use Rattle.check_report.specs.declared.rows.kinds.Counts.{Counts}
 use Rattle.check_report.specs.declared.rows.kinds.Kind.{Kind}
@@ -11,14 +15,42 @@ use Rattle.check_report.specs.declared.rows.row.Verdict.{Verdict}
 use Rattle.check_report.specs.declared.rows.row.Verdict.TheVariants as verdicts
 use Rattle.check_report.specs.declared.rows.writer.Rows.{Rows, Empty, Then'}
 use Rattle.check_report.specs.declared.rows.writer.RowWriter.{RowWriter}
-use Rattle.check_report.specs.declared.rows.list.ListWriter.{ListWriter}
-use Rattle.check_report.specs.Rows.Components.{SeenComponent}
-use Rattle.check_report.specs.Rows.Documents.{follows_after}
-use Rattle.check_report.specs.Rows.Rows.{SeenRow, seen_row, counts_of}
+use Rattle.check_report.specs.declared.rows.printer.Printer.{Printer}
+use Rattle.check_report.specs.Faults.{by_sink}
+use Rattle.check_report.specs.Rows.Fields.{Line}
+use Rattle.check_report.specs.Rows.Rows.{SeenRow, row_line, seen_row, counts_of}
 use Rattle.check_report.specs.Rows.Limits.{seen_kind, is_of, kinds_of, shown_rows}
-use Rattle.check_report.specs.Rows.Reports.{list_parts, row_parts}
+use Rattle.check_report.specs.Rows.Reports.{follows_after, parts, rows_text}
 
--- the rows so far
+-- a successful call adds tokens
+pub record AddsTokens (result : Result (Unit {0}) AllocError) (old new : Written)
+    (more : List Token) : Type 0 where
+  pub tokens : OnOk result (new.tokens ≡ old.tokens ++ more)
+  pub before : new.before ≡ old.before
+
+-- ---- printers
+
+pub record HasPrinted {W : Type 0} (contents : W → Option (List ℕ)) (old new : Printer W)
+    (bytes : List ℕ) (is_next : Bool) : Type 0 where
+  pub text : Appends (contents old.out) (contents new.out) bytes
+  pub form : new.form ≡ old.form
+  pub follows : new.follows ≡ is_next
+
+-- a successful call prints the bytes; a reported fault of the sink occurred
+pub record Prints {W : Type 0} (contents : W → Option (List ℕ)) (faults : W → ℕ)
+    (result : Result (Unit {0}) WriteFault) (old new : Printer W) (bytes : List ℕ)
+    (is_next : Bool) : Type 0 where
+  pub printed : OnOk result (HasPrinted contents old new bytes is_next)
+  pub cause : faults old.out + faults_told by_sink result ≤ faults new.out
+
+abbrev pub PrintsLines : {W : Type 0} → (W → Option (List ℕ)) → (W → ℕ)
+    → Result (Unit {0}) WriteFault → Printer W → Printer W → List Line → Type 0
+PrintsLines contents faults result old new lines =
+    Prints contents faults result old new (parts old.form old.follows lines)
+    (follows_after old.follows lines)
+
+-- ---- rows
+
 abbrev pub rows_then : Rows → List SeenRow
 rows_then Empty = []
 rows_then (Then' row shape before) = rows_then before ++ seen_row row ∷ []
@@ -26,48 +58,46 @@ rows_then (Then' row shape before) = rows_then before ++ seen_row row ∷ []
 abbrev pub rows_in : {W : Type 0} → RowWriter W → List SeenRow
 rows_in writer = rows_then writer.rows.value
 
--- What a writer keeps and has written is that of the rows so far.
-pub record IsSound {W : Type 0} (contents : W
-    → Option (List ℕ)) (writer : RowWriter W) : Type 0 where
-  pub kinds : map seen_kind writer.kinds.items ≡ kinds_of (rows_in writer)
-  pub counts : writer.counts ≡ counts_of (rows_in writer)
-  pub text : Appends (contents writer.setup.begun.value) (contents writer.out)
-      (row_parts writer.setup.form false
-      (if writer.setup.is_verbose then rows_in writer else shown_rows (rows_in writer)))
+-- the lines of shown rows
+abbrev pub shown_lines : Bool → List SeenRow → List Line
+shown_lines is_verbose rows = map row_line (if is_verbose then rows else shown_rows rows)
+
+-- The kinds, counts and printed lines are correct for the rows so far.
+pub record IsSound {W : Type 0} (contents : W → Option (List ℕ)) (writer : RowWriter W) : Type 0
+  where
+    pub kinds : map seen_kind writer.kinds.items ≡ kinds_of (rows_in writer)
+    pub counts : writer.counts ≡ counts_of (rows_in writer)
+    pub printed : HasPrinted contents writer.begun.value writer.printer
+        (parts writer.begun.value.form false (shown_lines writer.is_verbose (rows_in writer)))
+        (follows_after false (shown_lines writer.is_verbose (rows_in writer)))
 
 pub record HasAdded {W : Type 0} (contents : W → Option (List ℕ)) (old new : RowWriter W)
     (more : List SeenRow) : Type 0 where
   pub rows : rows_in new ≡ rows_in old ++ more
-  pub setup : new.setup ≡ old.setup
+  pub begun : new.begun ≡ old.begun
+  pub is_verbose : new.is_verbose ≡ old.is_verbose
   pub sound : IsSound contents old → IsSound contents new
 
--- a call that is done has added these rows
-abbrev pub Adds : {W : Type 0} → (W → Option (List ℕ)) → Result (Unit {0}) WriteFault
-    → RowWriter W → RowWriter W
-    → List SeenRow → Type 0
-Adds contents result old new more = OnOk result (HasAdded contents old new more)
+-- a successful call adds the rows; a reported fault of the sink occurred
+pub record Adds {W : Type 0} (contents : W → Option (List ℕ)) (faults : W → ℕ)
+    (result : Result (Unit {0}) WriteFault) (old new : RowWriter W) (more : List SeenRow)
+    : Type 0 where
+  pub added : OnOk result (HasAdded contents old new more)
+  pub cause : faults old.printer.out + faults_told by_sink result ≤ faults new.printer.out
 
--- ---- the list
-
--- the components that a writer of the list has written more
-pub record HasListed {W : Type 0} (contents : W → Option (List ℕ)) (old new : ListWriter W)
-    (more : List SeenComponent) : Type 0 where
-  pub text : Appends (contents old.out) (contents new.out) (list_parts old.form old.follows more)
-  pub follows : new.follows ≡ follows_after old.follows more
-  pub form : new.form ≡ old.form
-
--- a call that is done has written these components
-abbrev pub Lists : {W : Type 0} → (W → Option (List ℕ)) → Result (Unit {0}) WriteFault
-    → ListWriter W → ListWriter W → List SeenComponent → Type 0
-Lists contents result old new more = OnOk result (HasListed contents old new more)
+-- the printer has printed all rows, more rows, and the ending
+abbrev pub Ends : {W : Type 0} → (W → Option (List ℕ)) → RowWriter W → List SeenRow → Printer W
+    → Type 0
+Ends contents old more new = Appends (contents old.begun.value.out) (contents new.out)
+    (rows_text old.begun.value.form old.is_verbose (rows_in old ++ more))
 
 -- ---- a row is counted
 
--- the number of the kind if the row is of it, and else n
+-- the count of the row's kind, or n for another kind
 abbrev pub earlier : SeenRow → ℕ → Kind → ℕ
 earlier row n kind = if is_of (seen_kind kind) row then kind.count else n
 
--- the number of earlier rows of a row's kind
+-- the number of earlier rows of the row's kind
 abbrev pub count_in : List Kind → SeenRow → ℕ
 count_in kinds row = fold (earlier row) 0 kinds
 
@@ -78,7 +108,6 @@ count_once row kind =
 abbrev pub new_kind : Row → Kind
 new_kind row = record { verdict = row.verdict; code = row.code; count = 1 }
 
--- the kinds after a row
 abbrev pub counted : List Kind → Row → List Kind
 counted kinds row = map (count_once (seen_row row)) kinds
     ++ (if count_in kinds (seen_row row) == 0 then new_kind row ∷ [] else [])

@@ -1,74 +1,44 @@
-//! Rows as JSON.
-
-ghost use Rattle.std.specs.Prelude.{◌≡◌, [], ◌∷◌, ◌++◌, Some, map, option_map, IfOk};
+//! Parts of the JSON document.
+ghost use Rattle.std.specs.Prelude.{◌≡◌, [], ◌∷◌, map, if◌then◌else◌, IfOk};
+ghost use Rattle.std.specs.List.{flat_map};
 ghost use Rattle.std.specs.Fmt.{decimal};
 ghost use lib.Chars.{codes};
 ghost use Rattle.flash_format.specs.Printed.{hexadecimal};
-ghost use Rattle.std.specs.Option.{option_copied};
-ghost use Rattle.json.specs.Json.{string};
-ghost use Rattle.flash_format.specs.Printed.{line_feed};
-ghost use Rattle.json.specs.Print.{IsPrintable, print};
+ghost use Rattle.json.specs.Print.{IsPrintable};
 ghost use Rattle.json.specs.Reads.{token_of};
-ghost use Rattle.json.specs.Token.{number};
+ghost use Rattle.json.specs.Token.{number, string};
 ghost use Rattle.json.specs.Tree.{json_tokens};
-ghost use Rattle.check_report.specs.Rows.Components.{printed_compression, printed_type};
-ghost use Rattle.check_report.specs.Rows.Components.{seen_component};
-ghost use Rattle.check_report.specs.Rows.Documents.{Appends, between_tokens, bytes_json};
-ghost use Rattle.check_report.specs.Rows.Documents.{closing_tokens, comma_if, component_json};
-ghost use Rattle.check_report.specs.Rows.Documents.{content_tokens, member_tokens};
-ghost use Rattle.check_report.specs.Rows.Documents.{name_json, number_json, number_token};
-ghost use Rattle.check_report.specs.Rows.Documents.{objects, place_tokens, row_json};
-ghost use Rattle.check_report.specs.Rows.Documents.{row_tokens, seen_files, start_tokens};
-ghost use Rattle.check_report.specs.Rows.Documents.{what_tokens};
-ghost use Rattle.check_report.specs.Rows.Rows.{seen_row};
+ghost use Rattle.check_report.specs.declared.rows.form.Form.TheVariants as forms;
+ghost use Rattle.check_report.specs.Rows.Fields.{bytes_json, name_json};
+ghost use Rattle.check_report.specs.Rows.Fields.{object_of, seen_field};
+ghost use Rattle.check_report.specs.Rows.Reports.{between, ending, file_fields, member_tokens};
+ghost use Rattle.check_report.specs.Rows.Reports.{objects, seen_files, starting};
+ghost use Rattle.check_report.specs.Rows.Writing.{AddsTokens};
 
 use crate::request::Files;
-use crate::rows::component::Listed;
+use crate::rows::field::{Field, Value};
 use crate::rows::kinds::Counts;
-use crate::rows::row::Row;
 use crate::rows::text::push;
-use flash_format::{hexadecimal, type_name};
+use flash_format::hexadecimal;
 use json::{Token, Writer};
 use std::alloc::{AllocError, Global};
 
 fn put(writer: &mut Writer, token: Token<'_>) -> Result<(), AllocError>
     requires { IsPrintable (token_of token) }
-    ensures { Appends result writer.old writer.new (token_of token.entry ∷ []) }
+    ensures { AddsTokens result writer.old writer.new (token_of token.entry ∷ []) }
 {
     writer.token(token)
 }
 
 fn put_number(writer: &mut Writer, n: u64) -> Result<(), AllocError>
-    ensures { Appends result writer.old writer.new (number (decimal n) ∷ []) }
+    ensures { AddsTokens result writer.old writer.new (number (decimal n) ∷ []) }
 {
     writer.u64(n)
 }
 
-#[tactic(auto, unfolding(crate::specs::Rows::Documents::member_tokens))]
-fn put_text(writer: &mut Writer, key: &str, text: &str) -> Result<(), AllocError>
-    ensures { Appends result writer.old writer.new (member_tokens key.now (Some
-        (string text.now))) }
-{
-    put(writer, Token::Key(key))?;
-    put(writer, Token::String(text))
-}
-
-#[tactic(auto, unfolding(crate::specs::Rows::Documents::member_tokens))]
-fn put_count(writer: &mut Writer, key: &str, count: Option<u64>) -> Result<(), AllocError>
-    ensures { Appends result writer.old writer.new (member_tokens key.now
-        (option_map number_json count)) }
-{
-    match count {
-        Some(count) => {
-            put(writer, Token::Key(key))?;
-            put_number(writer, count)
-        }
-        None => Ok(()),
-    }
-}
-
 fn put_numbers(writer: &mut Writer, bytes: &[u8]) -> Result<(), AllocError>
-    ensures { Appends result writer.old writer.new (map number_token bytes.now) }
+    ensures { AddsTokens result writer.old writer.new
+        (map (λ byte. number (decimal byte)) bytes.now) }
 {
     for byte in bytes {
         put_number(writer, u64::from(*byte))?;
@@ -76,17 +46,16 @@ fn put_numbers(writer: &mut Writer, bytes: &[u8]) -> Result<(), AllocError>
     Ok(())
 }
 
-/// An array of the bytes.
 fn put_bytes(writer: &mut Writer, bytes: &[u8]) -> Result<(), AllocError>
-    ensures { Appends result writer.old writer.new (json_tokens (bytes_json bytes.now)) }
+    ensures { AddsTokens result writer.old writer.new (json_tokens (bytes_json bytes.now)) }
 {
     put(writer, Token::BeginArray)?;
     put_numbers(writer, bytes)?;
     put(writer, Token::EndArray)
 }
 
-fn put_name_value(writer: &mut Writer, name: &[u8]) -> Result<(), AllocError>
-    ensures { Appends result writer.old writer.new (json_tokens (name_json name.now)) }
+fn put_name(writer: &mut Writer, name: &[u8]) -> Result<(), AllocError>
+    ensures { AddsTokens result writer.old writer.new (json_tokens (name_json name.now)) }
 {
     match str::from_utf8(name) {
         Ok(text) => put(writer, Token::String(text)),
@@ -94,114 +63,56 @@ fn put_name_value(writer: &mut Writer, name: &[u8]) -> Result<(), AllocError>
     }
 }
 
-#[tactic(auto, unfolding(crate::specs::Rows::Documents::member_tokens))]
-fn put_name(writer: &mut Writer, key: &str, name: Option<&[u8]>) -> Result<(), AllocError>
-    ensures { Appends result writer.old writer.new (member_tokens key.now (option_map name_json
-        (option_copied name.entry))) }
-{
-    match name {
-        Some(name) => {
-            put(writer, Token::Key(key))?;
-            put_name_value(writer, name)
-        }
-        None => Ok(()),
-    }
-}
-
-/// Writes a number as a string, in hexadecimal.
-fn put_hexadecimal(writer: &mut Writer, key: &str, n: u64) -> Result<(), AllocError>
-    ensures { Appends result writer.old writer.new (member_tokens key.now (Some
-        (string (hexadecimal n)))) }
+fn put_hexadecimal(writer: &mut Writer, n: u64) -> Result<(), AllocError>
+    ensures { AddsTokens result writer.old writer.new (string (hexadecimal n) ∷ []) }
 {
     let digits = hexadecimal(n);
     match str::from_utf8(digits.as_slice()) {
-        Ok(text) => put_text(writer, key, text),
+        Ok(text) => put(writer, Token::String(text)),
         Err(_) => unreachable!(),
     }
 }
 
-#[tactic(auto, unfolding(crate::specs::Rows::Components::printed_type))]
-fn put_type(writer: &mut Writer, kind: u32) -> Result<(), AllocError>
-    ensures { Appends result writer.old writer.new (member_tokens (codes "type") (Some
-        (string (printed_type kind)))) }
+/// Writes a field, if it has a JSON value.
+fn put_member(writer: &mut Writer, field: Field<'_>) -> Result<(), AllocError>
+    ensures { AddsTokens result writer.old writer.new (member_tokens (seen_field field.entry)) }
 {
-    match type_name(kind) {
-        Some(name) => put_text(writer, "type", name),
-        None => put_hexadecimal(writer, "type", u64::from(kind)),
+    if matches!(field.value, Value::Absent | Value::Dash) {
+        return Ok(());
+    }
+    put(writer, Token::Key(field.key))?;
+    match field.value {
+        Value::Absent | Value::Dash => Ok(()),
+        Value::Code(text) | Value::Text(text) => put(writer, Token::String(text)),
+        Value::Name(name) => put_name(writer, name),
+        Value::Count(n) | Value::Offset(n) => put_number(writer, n),
+        Value::Hexadecimal(n) => put_hexadecimal(writer, n),
     }
 }
 
-#[tactic(auto, unfolding(crate::specs::Rows::Components::printed_compression))]
-fn put_compression(writer: &mut Writer, compression: u32) -> Result<(), AllocError>
-    ensures { Appends result writer.old writer.new (member_tokens (codes "compression") (Some
-        (string (printed_compression compression)))) }
+fn put_members(writer: &mut Writer, fields: &[Field<'_>]) -> Result<(), AllocError>
+    ensures { AddsTokens result writer.old writer.new
+        (flat_map member_tokens (map seen_field fields.now)) }
 {
-    match compression {
-        0 => put_text(writer, "compression", "none"),
-        1 => put_text(writer, "compression", "LZMA"),
-        2 => put_text(writer, "compression", "LZ4"),
-        _ => put_hexadecimal(writer, "compression", u64::from(compression)),
+    for field in fields {
+        put_member(writer, *field)?;
     }
+    Ok(())
 }
 
-/// Writes the first members of a component of the list.
-fn put_place(writer: &mut Writer, component: &Listed<'_>) -> Result<(), AllocError>
-    ensures { Appends result writer.old writer.new
-        (place_tokens (seen_component component.now)) }
-{
-    put_name(writer, "area", Some(component.area))?;
-    put_name(writer, "component", Some(component.name))?;
-    put_count(writer, "position", Some(component.position))
-}
-
-/// Writes the other members of a component of the list.
-fn put_content(writer: &mut Writer, component: &Listed<'_>) -> Result<(), AllocError>
-    ensures { Appends result writer.old writer.new
-        (content_tokens (seen_component component.now)) }
-{
-    put_type(writer, component.kind)?;
-    put_count(writer, "length", Some(component.len))?;
-    put_compression(writer, component.compression)?;
-    put_text(writer, "hash", component.hash)
-}
-
-/// Writes a component of the list, as an item of an array.
-fn write_component(writer: &mut Writer, component: &Listed<'_>) -> Result<(), AllocError>
-    ensures { Appends result writer.old writer.new
-        (json_tokens (component_json (seen_component component.now))) }
+fn put_object(writer: &mut Writer, fields: &[Field<'_>]) -> Result<(), AllocError>
+    ensures { AddsTokens result writer.old writer.new
+        (json_tokens (object_of (map seen_field fields.now))) }
 {
     put(writer, Token::BeginObject)?;
-    put_place(writer, component)?;
-    put_content(writer, component)?;
+    put_members(writer, fields)?;
     put(writer, Token::EndObject)
 }
 
-/// Writes the last members of a row.
-fn put_what(writer: &mut Writer, row: &Row) -> Result<(), AllocError>
-    ensures { Appends result writer.old writer.new (what_tokens (seen_row row.now)) }
-{
-    put_text(writer, "what", row.what)?;
-    put_count(writer, "value", row.detail.number())?;
-    put_name(writer, "other", row.other)
-}
-
-/// Writes a row, as an item of an array.
-fn write_row(writer: &mut Writer, row: &Row) -> Result<(), AllocError>
-    ensures { Appends result writer.old writer.new (row_tokens (seen_row row.now)) }
-{
-    put(writer, Token::BeginObject)?;
-    put_text(writer, "verdict", row.verdict.word())?;
-    put_text(writer, "code", row.code)?;
-    put_name(writer, "area", row.area)?;
-    put_name(writer, "component", row.component)?;
-    put_count(writer, "position", row.position)?;
-    put_what(writer, row)?;
-    put(writer, Token::EndObject)
-}
-
-/// Returns a writer of a value. A comma comes first if the value follows another.
+/// Returns a writer of a value, after a comma if needed.
 fn value_writer(alloc: Global, follows: bool) -> Result<Writer, AllocError>
-    ensures before { IfOk result (λ writer. writer.before ≡ comma_if follows) }
+    ensures before { IfOk result (λ writer. writer.before
+        ≡ (if follows then codes "," else [])) }
     ensures tokens { IfOk result (λ writer. writer.tokens ≡ []) }
 {
     let mut text = Vec::new(alloc);
@@ -211,61 +122,46 @@ fn value_writer(alloc: Global, follows: bool) -> Result<Writer, AllocError>
     Ok(Writer::new(text))
 }
 
-/// Returns a row as an item of an array.
-pub fn row_object(alloc: Global, follows: bool, row: &Row) -> Result<Vec<u8>, AllocError>
-    ensures { IfOk result (λ part. part.items ≡ objects follows (row_json (seen_row row.now)
-        ∷ [])) }
-{
-    let mut writer = value_writer(alloc, follows)?;
-    write_row(&mut writer, row)?;
-    Ok(writer.into_inner())
-}
-
-/// Returns a component of the list as an item of an array.
-pub fn component_object(
+/// Returns a line as an item of an array.
+pub fn line_object(
     alloc: Global,
     follows: bool,
-    component: &Listed<'_>,
+    fields: &[Field<'_>],
 ) -> Result<Vec<u8>, AllocError>
     ensures { IfOk result (λ part. part.items
-        ≡ objects follows (component_json (seen_component component.now) ∷ [])) }
+        ≡ objects follows (object_of (map seen_field fields.now) ∷ [])) }
 {
     let mut writer = value_writer(alloc, follows)?;
-    write_component(&mut writer, component)?;
+    put_object(&mut writer, fields)?;
     Ok(writer.into_inner())
 }
 
-#[tactic(auto, unfolding(crate::specs::Rows::Documents::member_tokens))]
-fn put_old(writer: &mut Writer, old: Option<&str>) -> Result<(), AllocError>
-    ensures { Appends result writer.old writer.new
-        (member_tokens (codes "old") (option_map string (option_copied old.entry))) }
+fn file_fields<'a>(files: Files<'a>) -> [Field<'a>; 3]
+    ensures { map seen_field result ≡ file_fields (seen_files files.entry) }
 {
-    match old {
-        Some(old) => put_text(writer, "old", old),
-        None => Ok(()),
-    }
+    [
+        Field::new("format", Value::Count(1)),
+        Field::new("image", Value::Text(files.image)),
+        Field::new("old", Value::text_if(files.old)),
+    ]
 }
 
-/// Returns the start of the document, up to the start of the array with this key: the format and
-/// the paths of the images.
-#[tactic(auto, unfolding(crate::specs::Rows::Documents::start_tokens))]
+/// Returns the document up to the start of this array.
 pub fn json_start(alloc: Global, files: Files<'_>, array: &str) -> Result<Vec<u8>, AllocError>
     ensures { IfOk result (λ text. text.items
-        ≡ print (start_tokens (seen_files files.entry) array.now)) }
+        ≡ starting forms.Json (seen_files files.entry) array.now) }
 {
     let mut writer = Writer::new(Vec::new(alloc));
     put(&mut writer, Token::BeginObject)?;
-    put_count(&mut writer, "format", Some(1))?;
-    put_text(&mut writer, "image", files.image)?;
-    put_old(&mut writer, files.old)?;
+    put_members(&mut writer, &file_fields(files))?;
     put(&mut writer, Token::Key(array))?;
     put(&mut writer, Token::BeginArray)?;
     Ok(writer.into_inner())
 }
 
-/// Returns the part of the document between the components and the rows.
+/// Returns the part between the components and the rows.
 pub fn json_between(alloc: Global) -> Result<Vec<u8>, AllocError>
-    ensures { IfOk result (λ text. text.items ≡ print between_tokens) }
+    ensures { IfOk result (λ text. text.items ≡ between forms.Json) }
 {
     let mut writer = Writer::new(Vec::new(alloc));
     put(&mut writer, Token::EndArray)?;
@@ -274,16 +170,13 @@ pub fn json_between(alloc: Global) -> Result<Vec<u8>, AllocError>
     Ok(writer.into_inner())
 }
 
-/// Returns the end of the document, from the end of the array of rows.
-#[tactic(auto, unfolding(crate::specs::Rows::Documents::closing_tokens))]
+/// Returns the document from the end of the array of rows.
 pub fn json_end(alloc: Global, counts: Counts) -> Result<Vec<u8>, AllocError>
-    ensures { IfOk result (λ text. text.items ≡ print (closing_tokens counts) ++ line_feed) }
+    ensures { IfOk result (λ text. text.items ≡ ending forms.Json counts) }
 {
     let mut writer = Writer::new(Vec::new(alloc));
     put(&mut writer, Token::EndArray)?;
-    put_count(&mut writer, "bad", Some(counts.bad))?;
-    put_count(&mut writer, "remarks", Some(counts.remarks))?;
-    put_count(&mut writer, "changes", Some(counts.changes))?;
+    put_members(&mut writer, &counts.fields())?;
     put(&mut writer, Token::EndObject)?;
     let mut text = writer.into_inner();
     push(&mut text, b"\n")?;

@@ -3,7 +3,7 @@
 /// The form of a report.
 #[derive(Clone, Copy)]
 pub enum Form {
-    /// Tab-separated fields, a line for each row.
+    /// A line of tab-separated fields for each row.
     Text,
     /// One JSON document.
     Json,

@@ -1,10 +1,12 @@
-//! The kinds of the rows of a report. A kind is a verdict and a code.
+//! Kinds of rows. A kind is a verdict and a code.
 ghost use Rattle.std.specs.Prelude.{◌≡◌, ◌+◌, ◌++◌, ◌∷◌, [], map, IfOk, OnOk};
 ghost use Rattle.check_report.specs.Rows.Limits.{is_of, seen_kind};
 ghost use Rattle.check_report.specs.Rows.Writing.{count_in, count_once, counted, earlier, tallied};
 ghost use Rattle.check_report.specs.Rows.Rows.{seen_row};
+ghost use Rattle.check_report.specs.Rows.Fields.{seen_field};
+ghost use Rattle.check_report.specs.Rows.Reports.{count_fields};
 
-use crate::fault::WriteFault;
+use crate::rows::field::{Field, Value};
 use crate::rows::row::{Row, Verdict};
 use std::alloc::AllocError;
 
@@ -24,11 +26,11 @@ pub struct Counts {
     pub changes: u64,
 }
 
-/// Returns the next number. A report of 2^64 rows ends with `Memory`.
-fn next(count: u64) -> Result<u64, WriteFault>
+/// Returns the next number. A report of 2^64 rows ends as if an allocation failed.
+fn next(count: u64) -> Result<u64, AllocError>
     ensures { IfOk result (λ n. n ≡ count + 1) }
 {
-    count.checked_add(1).ok_or(WriteFault::Memory)
+    count.checked_add(1).ok_or(AllocError)
 }
 
 impl Kind {
@@ -38,15 +40,14 @@ impl Kind {
         row.verdict.is(self.verdict) && self.code == row.code
     }
 
-    /// Returns the number of rows of the kind if the row is of it, or else `before`.
+    /// Returns the count of the row's kind, or `before` for another kind.
     fn earlier(self, row: &Row, before: u64) -> u64
         ensures { result ≡ earlier (seen_row row.now) before self }
     {
         if self.is_of(row) { self.count } else { before }
     }
 
-    /// Returns the kind after a row.
-    fn with(self, row: &Row) -> Result<Kind, WriteFault>
+    fn with(self, row: &Row) -> Result<Kind, AllocError>
         ensures { IfOk result (λ kind. kind ≡ count_once (seen_row row.now) self) }
     {
         if !self.is_of(row) {
@@ -66,8 +67,8 @@ fn push(kinds: &mut Vec<Kind>, kind: Kind) -> Result<(), AllocError>
     Ok(())
 }
 
-/// Counts a row of one of these kinds, and returns the number of earlier ones.
-fn count_known(kinds: &mut [Kind], row: &Row) -> Result<u64, WriteFault>
+/// Counts a row. Returns the number of earlier rows, or 0 for a new kind.
+fn count_known(kinds: &mut [Kind], row: &Row) -> Result<u64, AllocError>
     ensures before { IfOk result (λ n. n ≡ count_in kinds.old (seen_row row.now)) }
     ensures kinds { OnOk result (kinds.new ≡ map (count_once (seen_row row.now)) kinds.old) }
 {
@@ -80,8 +81,8 @@ fn count_known(kinds: &mut [Kind], row: &Row) -> Result<u64, WriteFault>
     Ok(before)
 }
 
-/// Counts a row of its kind, and returns the number of earlier ones.
-pub fn count_row(kinds: &mut Vec<Kind>, row: &Row) -> Result<u64, WriteFault>
+/// Counts a row. Returns the number of earlier rows of its kind.
+pub fn count_row(kinds: &mut Vec<Kind>, row: &Row) -> Result<u64, AllocError>
     ensures before { IfOk result (λ n. n ≡ count_in kinds.old.items (seen_row row.now)) }
     ensures kinds { OnOk result (kinds.new.items ≡ counted kinds.old.items row.now) }
 {
@@ -98,8 +99,18 @@ pub fn count_row(kinds: &mut Vec<Kind>, row: &Row) -> Result<u64, WriteFault>
 }
 
 impl Counts {
-    /// Counts a row with this verdict.
-    pub fn with(self, verdict: Verdict) -> Result<Counts, WriteFault>
+    pub fn fields(self) -> [Field<'static>; 3]
+        ensures { map seen_field result ≡ count_fields self }
+    {
+        [
+            Field::new("bad", Value::Count(self.bad)),
+            Field::new("remarks", Value::Count(self.remarks)),
+            Field::new("changes", Value::Count(self.changes)),
+        ]
+    }
+
+    /// Counts a row.
+    pub fn with(self, verdict: Verdict) -> Result<Counts, AllocError>
         ensures { IfOk result (λ counts. counts ≡ tallied self verdict) }
     {
         Ok(match verdict {

@@ -1,17 +1,16 @@
-//! The rows of a report, as tab-separated text or as one JSON document.
+//! The lines of a report, as tab-separated text or one JSON document.
 
-mod component;
 mod document;
+mod field;
 mod form;
 mod kinds;
-mod list;
+mod printer;
 mod row;
 mod text;
 mod writer;
 
-pub use component::Listed;
-pub use document::{json_between, json_start};
+pub use field::{Field, Value};
 pub use form::Form;
-pub use list::ListWriter;
+pub use printer::Printer;
 pub use row::{Detail, Row, Verdict, area_row, component_row, image_row, map_area_row};
-pub use writer::{RowWriter, Written};
+pub use writer::RowWriter;

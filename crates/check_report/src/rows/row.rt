@@ -1,13 +1,16 @@
-//! What a row says.
+//! Rows.
 
-ghost use Rattle.std.specs.Prelude.{◌≡◌};
+ghost use Rattle.std.specs.Prelude.{◌≡◌, map};
 ghost use Rattle.check_report.specs.declared.rows.row.Detail.TheVariants as details;
 ghost use Rattle.check_report.specs.Rows.Rows as rows;
-ghost use Rattle.check_report.specs.Rows.Rows.{detail_number, is_verdict, seen_row, verdict_word};
+ghost use Rattle.check_report.specs.Rows.Rows.{detail_value, is_verdict, row_line, seen_row};
+ghost use Rattle.check_report.specs.Rows.Rows.{verdict_word};
+ghost use Rattle.check_report.specs.Rows.Fields.{seen_field, seen_value};
 
+use crate::rows::field::{Field, Value};
 use check_findings::NumberedArea;
 
-/// Whether a row is bad, a remark or a change.
+/// The classification of a row.
 #[derive(Clone, Copy)]
 pub enum Verdict {
     Bad,
@@ -34,44 +37,61 @@ impl Verdict {
     }
 }
 
-/// What a row says beside its text.
+/// The number after a row's text.
 #[derive(Clone, Copy)]
 pub enum Detail {
     None,
-    /// A count, which is printed in decimal.
+    /// A count, printed in decimal.
     Count(u64),
-    /// A number, which is printed in hexadecimal.
+    /// A number, printed in hexadecimal.
     Number(u64),
 }
 
 impl Detail {
-    pub fn number(self) -> Option<u64>
-        ensures { result ≡ detail_number self }
+    fn value<'a>(self) -> Value<'a>
+        ensures { seen_value result ≡ detail_value self }
     {
         match self {
-            Detail::None => None,
-            Detail::Count(number) | Detail::Number(number) => Some(number),
+            Detail::None => Value::Absent,
+            Detail::Count(count) => Value::Count(count),
+            Detail::Number(number) => Value::Offset(number),
         }
     }
 }
 
-/// One row of a report.
+/// A row of a report.
 #[derive(Clone, Copy)]
 pub struct Row<'a> {
     pub verdict: Verdict,
-    /// The area that it speaks of, by its name.
     pub area: Option<&'a [u8]>,
-    /// The component, by its name.
     pub component: Option<&'a [u8]>,
-    /// A place in bytes.
+    /// An offset in bytes.
     pub position: Option<u64>,
-    /// A word that stays the same in later versions.
+    /// A code that later versions keep.
     pub code: &'static str,
-    /// What is said: a text without tabs and line feeds.
+    /// A text without tabs and line feeds.
     pub what: &'static str,
     pub detail: Detail,
-    /// A second area, by its name.
+    /// The name of a second area.
     pub other: Option<&'a [u8]>,
+}
+
+impl<'a> Row<'a> {
+    /// Returns the fields after the verdict.
+    pub fn fields(&self) -> [Field<'a>; 8]
+        ensures { map seen_field result ≡ (row_line (seen_row self.now)).fields }
+    {
+        [
+            Field::new("verdict", Value::Code(self.verdict.word())),
+            Field::new("code", Value::Code(self.code)),
+            Field::new("area", Value::name_or(self.area, Value::Dash)),
+            Field::new("component", Value::name_or(self.component, Value::Dash)),
+            Field::new("position", Value::offset_or_dash(self.position)),
+            Field::new("what", Value::Text(self.what)),
+            Field::new("value", self.detail.value()),
+            Field::new("other", Value::name_or(self.other, Value::Absent)),
+        ]
+    }
 }
 
 /// Returns a row of a whole image.
@@ -95,7 +115,7 @@ pub fn image_row<'a>(
     }
 }
 
-/// Returns a row of the area of this name.
+/// Returns a row of this area.
 pub fn area_row<'a>(
     verdict: Verdict,
     name: &'a [u8],
@@ -112,7 +132,7 @@ pub fn area_row<'a>(
     }
 }
 
-/// Returns a row of an area of a flashmap, at its start.
+/// Returns a row of an area, at its start.
 pub fn map_area_row<'a>(
     verdict: Verdict,
     area: &'a NumberedArea,
@@ -130,7 +150,7 @@ pub fn map_area_row<'a>(
     )
 }
 
-/// Returns a row of a component, at its place in the area of this name.
+/// Returns a row of a component, at its offset in this area.
 pub fn component_row<'a>(
     verdict: Verdict,
     area: &'a [u8],

@@ -1,109 +1,86 @@
-//! A row as text.
-
-ghost use Rattle.std.specs.Prelude.{◌≡◌, ◌++◌, OnOk};
+//! Lines as text.
+ghost use Rattle.std.specs.Prelude.{◌≡◌, ◌++◌, map, OnOk};
+ghost use Rattle.std.specs.List.{flat_map};
 ghost use Rattle.std.specs.Fmt.{decimal};
-ghost use Rattle.std.specs.Option.{option_copied};
-ghost use Rattle.check_report.specs.Rows.Rows.{detail_field, end_text, name_or_dash, other_field};
-ghost use Rattle.check_report.specs.Rows.Rows.{position_or_dash, row_text, seen_row, summary};
+ghost use Rattle.flash_format.specs.Printed.{printed_name, tab};
+ghost use Rattle.check_report.specs.Rows.Fields.{field_text, line_text, seen_field};
+ghost use Rattle.check_report.specs.Rows.Rows.{summary};
 
+use crate::rows::field::{Field, Value};
 use crate::rows::kinds::Counts;
-use crate::rows::row::{Detail, Row};
 use flash_format::{hexadecimal, printed_byte};
 use itoa::Buffer;
 use std::alloc::AllocError;
 
-/// Adds bytes.
 pub fn push(text: &mut Vec<u8>, part: &[u8]) -> Result<(), AllocError>
     ensures { OnOk result (text.new.items ≡ text.old.items ++ part.now) }
 {
     text.extend_from_slice(part)
 }
 
-pub fn push_decimal(text: &mut Vec<u8>, n: u64) -> Result<(), AllocError>
+fn push_decimal(text: &mut Vec<u8>, n: u64) -> Result<(), AllocError>
     ensures { OnOk result (text.new.items ≡ text.old.items ++ decimal n) }
 {
     let mut buffer = Buffer::new();
     push(text, buffer.format(n).as_bytes())
 }
 
-/// Adds a name, or a dash.
-pub fn push_name(text: &mut Vec<u8>, name: Option<&[u8]>) -> Result<(), AllocError>
-    ensures { OnOk result (text.new.items ≡ text.old.items
-        ++ name_or_dash (option_copied name.entry)) }
+fn push_name(text: &mut Vec<u8>, name: &[u8]) -> Result<(), AllocError>
+    ensures { OnOk result (text.new.items ≡ text.old.items ++ printed_name name.now) }
 {
-    let Some(bytes) = name else {
-        return push(text, b"-");
-    };
-    for byte in bytes {
+    for byte in name {
         push(text, printed_byte(*byte).as_slice())?;
     }
     Ok(())
 }
 
-fn push_position(text: &mut Vec<u8>, position: Option<u64>) -> Result<(), AllocError>
-    ensures { OnOk result (text.new.items ≡ text.old.items ++ position_or_dash position) }
+fn push_tabbed(text: &mut Vec<u8>, part: &[u8]) -> Result<(), AllocError>
+    ensures { OnOk result (text.new.items ≡ text.old.items ++ (tab ++ part.now)) }
 {
-    match position {
-        Some(position) => push(text, hexadecimal(position).as_slice()),
-        None => push(text, b"-"),
+    push(text, b"\t")?;
+    push(text, part)
+}
+
+fn push_field(text: &mut Vec<u8>, field: Field<'_>) -> Result<(), AllocError>
+    ensures { OnOk result (text.new.items
+        ≡ text.old.items ++ field_text (seen_field field.entry)) }
+{
+    match field.value {
+        Value::Absent | Value::Code(_) => Ok(()),
+        Value::Dash => push_tabbed(text, b"-"),
+        Value::Text(part) => push_tabbed(text, part.as_bytes()),
+        Value::Name(name) => {
+            push(text, b"\t")?;
+            push_name(text, name)
+        }
+        Value::Count(n) => {
+            push(text, b"\t")?;
+            push_decimal(text, n)
+        }
+        Value::Offset(n) | Value::Hexadecimal(n) => push_tabbed(text, hexadecimal(n).as_slice()),
     }
 }
 
-fn push_detail(text: &mut Vec<u8>, detail: Detail) -> Result<(), AllocError>
-    ensures { OnOk result (text.new.items ≡ text.old.items ++ detail_field detail) }
+fn push_fields(text: &mut Vec<u8>, fields: &[Field<'_>]) -> Result<(), AllocError>
+    ensures { OnOk result (text.new.items
+        ≡ text.old.items ++ flat_map field_text (map seen_field fields.now)) }
 {
-    match detail {
-        Detail::None => Ok(()),
-        Detail::Count(count) => {
-            push(text, b"\t")?;
-            push_decimal(text, count)
-        }
-        Detail::Number(number) => {
-            push(text, b"\t")?;
-            push(text, hexadecimal(number).as_slice())
-        }
+    for field in fields {
+        push_field(text, *field)?;
     }
+    Ok(())
 }
 
-fn push_other(text: &mut Vec<u8>, other: Option<&[u8]>) -> Result<(), AllocError>
+pub fn push_line(text: &mut Vec<u8>, head: &str, fields: &[Field<'_>]) -> Result<(), AllocError>
     ensures { OnOk result (text.new.items ≡ text.old.items
-        ++ other_field (option_copied other.entry)) }
+        ++ line_text (record { head = head.now; fields = map seen_field fields.now })) }
 {
-    match other {
-        None => Ok(()),
-        Some(_) => {
-            push(text, b"\t")?;
-            push_name(text, other)
-        }
-    }
-}
-
-fn push_end(text: &mut Vec<u8>, row: &Row) -> Result<(), AllocError>
-    ensures { OnOk result (text.new.items ≡ text.old.items ++ end_text (seen_row row.now)) }
-{
-    push(text, row.what.as_bytes())?;
-    push_detail(text, row.detail)?;
-    push_other(text, row.other)?;
+    push(text, head.as_bytes())?;
+    push_fields(text, fields)?;
     push(text, b"\n")
 }
 
-/// Adds the row's text.
-#[tactic(auto, unfolding(crate::specs::Rows::Rows::row_text))]
-pub fn push_row(text: &mut Vec<u8>, row: &Row) -> Result<(), AllocError>
-    ensures { OnOk result (text.new.items ≡ text.old.items ++ row_text (seen_row row.now)) }
-{
-    push(text, row.verdict.word().as_bytes())?;
-    push(text, b"\t")?;
-    push_name(text, row.area)?;
-    push(text, b"\t")?;
-    push_name(text, row.component)?;
-    push(text, b"\t")?;
-    push_position(text, row.position)?;
-    push(text, b"\t")?;
-    push_end(text, row)
-}
-
-/// The line after all rows.
+/// Adds the line after all rows.
 #[tactic(auto, unfolding(crate::specs::Rows::Rows::summary))]
 pub fn push_summary(text: &mut Vec<u8>, counts: Counts) -> Result<(), AllocError>
     ensures { OnOk result (text.new.items ≡ text.old.items ++ summary counts) }

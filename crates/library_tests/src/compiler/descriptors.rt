@@ -1,4 +1,4 @@
-//! Partial and failed reads and writes of the descriptor compiler, and the length of its reads.
+//! Short and failed reads and writes of the compiler.
 
 use crate::support::{equal, has_all, writer};
 use fmap_compiler::{ReadText, Refusal, run};
@@ -6,7 +6,6 @@ use fmd_lang::{Expected, FmdFault};
 use std::io::{self, ErrorKind, Read};
 use std::process::Abort;
 
-/// A flash of 4096 bytes at 0xff000000: an area of 512 bytes for the table, and the rest.
 pub const TEXT: &[u8] = b"FLASH@0xff000000 0x1000 { FMAP 0x200 COREBOOT(CBFS) }";
 
 /// The encoded table of `TEXT`.
@@ -17,8 +16,7 @@ FMAP\0\0\0\0\0\0\0\0\0\0\0\0\0\0\0\0\0\0\0\0\0\0\0\0\0\0\0\0\x00\x00\
 \x00\x02\x00\x00\x00\x0e\x00\x00\
 COREBOOT\0\0\0\0\0\0\0\0\0\0\0\0\0\0\0\0\0\0\0\0\0\0\0\0\x00\x00";
 
-/// A reader over memory. The first reads have the lengths in the list, all later reads one byte; a
-/// read fails after `good` bytes.
+/// A reader of `pieces`, followed by single bytes, with an error after `good` bytes.
 #[derive(Drop)]
 struct Pieces<'a> {
     rest: &'a [u8],
@@ -94,7 +92,6 @@ fn any_pieces_make_the_same_table(rt: HostRuntime) {
     reads(&rt, &[4096]);
 }
 
-/// Checks a run with a read error after `good` bytes.
 fn failing_after(rt: &(impl Abort + AllocGlobal), good: usize) {
     let reader = in_pieces(&[10, 9, 40], good);
     compiles(rt, reader, 4096, 4096, Err(Refusal::Read), &[]);
@@ -108,7 +105,6 @@ fn a_reader_that_fails_leaves_nothing_written(rt: HostRuntime) {
     failing_after(&rt, TEXT.len());
 }
 
-/// Checks the output and the result of a run with limited writes and limited space.
 fn writes(
     rt: &(impl Abort + AllocGlobal),
     piece: usize,
@@ -134,7 +130,6 @@ fn a_writer_that_fails_has_a_prefix_of_the_table(rt: HostRuntime) {
     writes(&rt, 0, 140, fault, 0);
 }
 
-/// Checks the fault of a text of blanks, and the number of read bytes.
 fn refused_blanks(rt: &(impl Abort + AllocGlobal), left: usize, fault: FmdFault, taken: usize) {
     let mut reader = ReadText::new(Blanks { left, taken: 0 });
     let answer = run(rt.alloc(), &mut reader, &mut writer(4096, 0, &[]));

@@ -1,5 +1,4 @@
-//! Heads of entries and attributes from literal bytes. `checks/check_cbfstool` and
-//! `checks/check_fmaptool` test the other formats, and the limits.
+//! Headers of entries and attributes. Scripts in `checks` test the other formats, and the limits.
 use crate::support::equal;
 use flash_format::{AttrHead, DamageKind, Extent, Head};
 
@@ -7,7 +6,7 @@ const RAW: u32 = 0x50;
 
 const NULL: u32 = 0xffff_ffff;
 
-/// The first 24 bytes of an empty region of 512 bytes.
+/// The first 24 bytes of an empty region.
 const FRESH: [u8; 24] =
     *b"LARCHIVE\x00\x00\x01\xd4\xff\xff\xff\xff\x00\x00\x00\x00\x00\x00\x00\x28";
 

@@ -1,3 +1,2 @@
-//! The descriptor compiler, and the formats.
 pub mod descriptors;
 mod formats;

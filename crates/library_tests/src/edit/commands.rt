@@ -1,4 +1,4 @@
-//! Output faults at each position, sizes of new images, and failed creations.
+//! Output faults, sizes of new images, and failed creations.
 
 use crate::edit::deeds::{COREBOOT, answer_into, stopped};
 use crate::edit::support::{LEN, MAP, Stop, source_of, stopping};
@@ -17,8 +17,6 @@ const PRINT: Command<'static> = Command::Print {
 
 // ---- outputs
 
-/// Checks the output of a command with limited writes, limited space and a limited number of device
-/// calls.
 fn tells(
     rt: &(impl Abort + AllocGlobal),
     calls: u64,
@@ -44,7 +42,7 @@ fn tells(
     drop(paged);
 }
 
-/// Checks the output of a command for each limit of space, also with writes of three bytes.
+/// Checks that an output fault leaves a prefix of `text`.
 fn tells_what_has_room(rt: &(impl Abort + AllocGlobal), command: &Command, text: &[u8]) {
     for room in 0..text.len() {
         let first = text.get(..room).unwrap_or(text);
@@ -119,7 +117,6 @@ fn creation(
     stopped(rt, device, &Command::Create { regions }, map, stop, want)
 }
 
-/// Checks that a creation on a device of length `len` fails without a change.
 fn refuses(
     rt: &(impl Abort + AllocGlobal),
     len: usize,
@@ -154,8 +151,8 @@ fn creates(rt: &(impl Abort + AllocGlobal), calls: u64, reads: u64, want: Result
     let _left = creation(rt, device, &[COREBOOT], &MAP, stop, &want);
 }
 
-/// Calls: one fill, one write of the table, and two for the region's empty entry. Reads: the head,
-/// each of three areas, and the table.
+/// Checks a fault at each call (a fill, the table, two for the entry) and read (head, three areas,
+/// table).
 fn stop_creations(rt: &(impl Abort + AllocGlobal)) {
     for calls in 0..4 {
         creates(rt, calls, 5, Err(Refusal::Device));

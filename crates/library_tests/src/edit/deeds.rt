@@ -1,4 +1,4 @@
-//! Edits of the small image's region, and commands for the edits.
+//! Edits of the small image, direct or by commands.
 use crate::edit::support::{
     Held, MAGIC_20, SIZE, START, Stop, components, device_of, holds, region_of, source_of, stopping,
 };
@@ -23,8 +23,6 @@ const RUN_REMOVE: Command<'static> = Command::Remove {
     name: b"a",
 };
 
-/// The first removal joins free space on both sides; the second removes the first of two components
-/// with one name.
 #[derive(Clone, Copy)]
 pub enum Deed {
     Join,
@@ -57,7 +55,6 @@ pub fn after(deed: Deed) -> Held {
     }
 }
 
-/// Runs a command on a source with a limited number of reads.
 pub fn answer_into<F: Flash>(
     rt: &impl Abort,
     paged: &mut Paged<F>,
@@ -82,7 +79,6 @@ fn answer_of<F: Flash>(
     answer_into(rt, paged, command, bytes, reads, &mut writer(0, 0, &[]))
 }
 
-/// Returns the device after a stopped command with the given result.
 pub fn stopped(
     rt: &impl Abort,
     device: MemFlash,
@@ -100,8 +96,7 @@ pub fn stopped(
     paged.into_flash().into_inner()
 }
 
-/// Returns the command's refusal for an edit's fault. Only faults of the device and the source are
-/// distinguished.
+/// Converts a fault; all except `Device` and `Source` become `NotFound`.
 fn told(fault: Option<EditFault>) -> Result<(), Refusal> {
     match fault {
         None => Ok(()),
@@ -152,15 +147,14 @@ fn are_those(rt: &(impl Abort + AllocGlobal), found: &[u8], held: Held) -> bool 
     components(rt, device_of(rt, held), START, SIZE).as_slice() == found
 }
 
-/// Checks that the region has the components of either state.
+/// Checks for the components of either state.
 pub fn leaves(rt: &(impl Abort + AllocGlobal), device: MemFlash, one: Held, other: Held) {
     let found = components(rt, device, START, SIZE);
     let is_left = are_those(rt, &found, one) || are_those(rt, &found, other);
     assert!(rt; is_left);
 }
 
-/// Checks the image after a completed edit, and the components after a stopped edit: those before
-/// or after the edit. Returns true if the edit has completed.
+/// Checks the image after success, or the components after a fault. Returns true after success.
 pub fn has_finished(
     rt: &(impl Abort + AllocGlobal),
     deed: Deed,

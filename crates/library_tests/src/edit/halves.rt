@@ -1,4 +1,4 @@
-//! A region of several pieces, with a fault at each read of the source and each call of the device.
+//! A region of several pieces, with a fault at each read and each call.
 
 use crate::edit::deeds::{COREBOOT, stopped};
 use crate::edit::support::{Stop, components};
@@ -8,7 +8,7 @@ use cbfs_edit::{HashChoice, Spot};
 use flash_store::MemFlash;
 use std::process::Abort;
 
-/// The map of an image of 32,768 bytes: FMAP and COREBOOT, half each.
+/// The map of 32,768 bytes: FMAP and COREBOOT, half each.
 const HALVES: [u8; 140] = *b"__FMAP__\x01\x01\0\0\0\0\0\0\0\0\0\x80\0\0\
 F\0\0\0\0\0\0\0\0\0\0\0\0\0\0\0\0\0\0\0\0\0\0\0\0\0\0\0\0\0\0\0\x02\0\
 \0\0\0\0\0\x40\0\0FMAP\0\0\0\0\0\0\0\0\0\0\0\0\0\0\0\0\0\0\0\0\0\0\0\0\0\0\0\0\0\0\
@@ -17,15 +17,13 @@ F\0\0\0\0\0\0\0\0\0\0\0\0\0\0\0\0\0\0\0\0\0\0\0\0\0\0\0\0\0\0\0\x02\0\
 /// The offset and the length of COREBOOT.
 const HALF: usize = 16384;
 
-/// Headers of empty entries at the region's end (the whole region, and 7104 bytes), and of 192
-/// bytes.
 const LAST_16384: [u8; 28] = *b"LARCHIVE\0\0\x3f\xe0\xff\xff\xff\xff\0\0\0\0\0\0\0\x1c\0\0\0\0";
 
 const LAST_7104: [u8; 28] = *b"LARCHIVE\0\0\x1b\xa0\xff\xff\xff\xff\0\0\0\0\0\0\0\x1c\0\0\0\0";
 
 const EMPTY_192: [u8; 28] = *b"LARCHIVE\0\0\0\xa4\xff\xff\xff\xff\0\0\0\0\0\0\0\x1c\0\0\0\0";
 
-/// The metadata of a component `b` of 9000 bytes, after which a gap of 36 bytes follows.
+/// The metadata before a gap of 36 bytes.
 const B_9000: [u8; 28] = *b"LARCHIVE\0\0\x23\x28\0\0\0\x50\0\0\0\0\0\0\0\x40b\0\0\0";
 
 const ADD: Command<'static> = Command::Add {
@@ -56,7 +54,7 @@ fn numbered(rt: &(impl Abort + AllocGlobal)) -> Vec<u8> {
     bytes
 }
 
-/// Checks the result of a raw write, and the number of written bytes before the fault.
+/// Checks that the first `n` bytes are written.
 fn writes(
     rt: &(impl Abort + AllocGlobal),
     bytes: &[u8],
@@ -84,7 +82,6 @@ fn reads(
     writes(rt, bytes, stop, want, n);
 }
 
-/// Checks a fault at each read: the earlier pieces are written.
 fn refuse_reads(rt: &(impl Abort + AllocGlobal), bytes: &[u8]) {
     let fault = Err(Refusal::Source);
     reads(rt, bytes, 0, &fault, 0);
@@ -99,8 +96,6 @@ fn a_source_that_fails_at_any_read(rt: HostRuntime) {
     refuse_reads(&rt, &numbered(&rt));
 }
 
-/// Checks a raw write with a limited number of device calls. The first failed write writes `part`
-/// bytes.
 fn calls(rt: &(impl Abort + AllocGlobal), bytes: &[u8], calls: u64, part: usize, n: usize) {
     let stop = Stop {
         calls,
@@ -110,8 +105,8 @@ fn calls(rt: &(impl Abort + AllocGlobal), bytes: &[u8], calls: u64, part: usize,
     writes(rt, bytes, stop, &Err(Refusal::Device), n);
 }
 
-/// Checks a fault at each device call, one for the search of the region and four writes: the
-/// earlier pieces and `part` bytes are written.
+/// Checks a fault at each call: a search of the region, and four writes. The failed write writes
+/// `part` bytes.
 fn refuse_calls(rt: &(impl Abort + AllocGlobal), bytes: &[u8], part: usize) {
     calls(rt, bytes, 0, part, 0);
     calls(rt, bytes, 1, part, part);

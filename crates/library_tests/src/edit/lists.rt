@@ -1,5 +1,4 @@
-//! Lists of edits on a device in memory, and on a device with a single fault; single edits with a
-//! single fault.
+//! Edits, and lists of edits, with a single device fault.
 ghost use Rattle.std.specs.Prelude.{◌≡◌, ◌+◌, true, false, IsTrue};
 
 use crate::edit::deeds::{Deed, before, does, leaves};
@@ -38,20 +37,19 @@ fn freed(start: u64, end: u64) -> Reply {
     Reply::Freed(Freed { start, end })
 }
 
-/// A device with a single failed call, which has no effect.
+/// A device with a single failed call, without effect.
 #[derive(Drop)]
 struct FailOnce {
     device: MemFlash,
-    /// The number of calls up to the failed call; 0 after the failed call.
+    /// Calls up to the failed call; 0 afterwards.
     left: u64,
-    /// The number of calls after the failed call.
+    /// Calls after the failed call.
     after: u64,
     calls: Counter,
     faults: Counter,
 }
 
 impl FailOnce {
-    /// Makes a device; the call `number`, from 1, fails.
     fn new(device: MemFlash, number: u64) -> FailOnce {
         FailOnce {
             device,
@@ -161,8 +159,7 @@ fn stopped_at(rt: &(impl Abort + AllocGlobal), number: u64) -> usize {
     has_stopped(rt, &replies, paged.into_flash().device)
 }
 
-/// Checks the replies and the components, and returns the index of the stopped edit. A stopped
-/// removal may have removed its component.
+/// Returns the index of the stopped edit. A stopped removal may have removed the component.
 fn has_stopped(rt: &(impl Abort + AllocGlobal), replies: &[Reply; 3], device: MemFlash) -> usize {
     let stopped = stopped_of(replies);
     equal(rt, replies, &wanted(stopped));
@@ -175,7 +172,7 @@ fn has_stopped(rt: &(impl Abort + AllocGlobal), replies: &[Reply; 3], device: Me
     stopped
 }
 
-/// Stops a list of edits at each call, until no call fails.
+/// Checks that each of the three edits is stopped by some fault.
 fn stop_lists(rt: &(impl Abort + AllocGlobal)) {
     let mut last = 0;
     for number in 1..60 {
@@ -194,8 +191,7 @@ fn a_stopped_edit_does_not_stop_the_later_ones(rt: HostRuntime) {
     stop_lists(&rt);
 }
 
-/// Runs an edit with a single fault, after which no further call is made. Returns true if the edit
-/// has completed.
+/// Checks that no call follows the failed call. Returns true after success.
 fn ends_with(rt: &(impl Abort + AllocGlobal), deed: Deed, number: u64) -> bool {
     let mut paged = Paged::new(FailOnce::new(device_of(rt, before(deed)), number));
     let answer = does(rt, &mut paged, deed);

@@ -1,5 +1,4 @@
-//! Edits and commands with a device fault from each call on, and with short, interrupted and failed
-//! file calls.
+//! Edits stopped at each call of a device or file.
 
 use crate::edit::deeds::{Deed, before, does, has_finished};
 use crate::edit::support::{Held, LEN, Stop, device_of, image_of, region_of, source_of, stopping};
@@ -8,9 +7,9 @@ use cbfs_edit::{EditFault, HashChoice, Spot, add};
 use flash_store::{Ahead, Erased, FlakyFile, Flash, MemFlash, Paged, StoredFlash};
 use std::process::Abort;
 
-// ---- device faults from a call on
+// ---- devices
 
-/// Returns true if an edit completes within `k` calls.
+/// Returns true if `k` calls suffice.
 fn on_device(rt: &(impl Abort + AllocGlobal), deed: Deed, k: u64, part: usize) -> bool {
     let stop = Stop {
         calls: k,
@@ -22,7 +21,6 @@ fn on_device(rt: &(impl Abort + AllocGlobal), deed: Deed, k: u64, part: usize) -
     has_finished(rt, deed, answer, paged.into_flash().into_inner())
 }
 
-/// Stops an edit at each call, until the edit completes. An edit never completes without a call.
 fn stop_each(rt: &(impl Abort + AllocGlobal), deed: Deed, part: usize) {
     let mut finished = 0;
     for k in 0..20 {
@@ -34,7 +32,6 @@ fn stop_each(rt: &(impl Abort + AllocGlobal), deed: Deed, part: usize) {
     assert!(rt; finished > 0);
 }
 
-/// Stops all edits; the first failed write writes `part` bytes.
 fn stop_all(rt: &(impl Abort + AllocGlobal), part: usize) {
     stop_each(rt, Deed::Join, part);
     stop_each(rt, Deed::FirstOfTwo, part);
@@ -66,7 +63,7 @@ fn fault_of<F: Flash>(
     answer.err()
 }
 
-/// Checks the fault of an addition on a device without successful calls.
+/// Checks the fault if every device call fails.
 fn refused_at_once(
     rt: &(impl Abort + AllocGlobal),
     name: &[u8],
@@ -95,7 +92,7 @@ fn what_the_words_refuse_makes_no_call(rt: HostRuntime) {
 
 // ---- files
 
-/// The maximum transfer of a file call, and the number of calls between two interruptions.
+/// The maximum transfer, and the number of calls between interruptions.
 #[derive(Clone, Copy)]
 struct Calls {
     most: usize,
@@ -108,7 +105,7 @@ fn flaky(rt: &(impl Abort + AllocGlobal), held: Held, calls: Calls, made: u64) -
     FlakyFile::new(image, calls.most, calls.between, made)
 }
 
-/// A device with the layers of a device in a system file.
+/// The layers of a device in a system file.
 type InFile = Paged<StoredFlash<Ahead<Erased<FlakyFile>>>>;
 
 fn in_file(file: FlakyFile) -> InFile {
@@ -120,7 +117,7 @@ fn left_in(rt: &(impl Abort + AllocGlobal), paged: InFile) -> MemFlash {
     device_from(rt, file.bytes().to_vec(rt.alloc()).expect(rt, "memory"))
 }
 
-/// Returns true if an edit completes within a number of file calls.
+/// Returns true if `made` calls suffice.
 fn on_file(rt: &(impl Abort + AllocGlobal), deed: Deed, calls: Calls, made: u64) -> bool {
     let mut paged = in_file(flaky(rt, before(deed), calls, made));
     let answer = does(rt, &mut paged, deed);

@@ -1,4 +1,4 @@
-//! A small image with a region, and helpers of the tests of edits.
+//! A small image, and helpers for edits.
 ghost use Rattle.flash_device.specs.Regions.{LiesIn};
 
 use crate::support::{Failing, Parts, device_from, ends_with, image_with};
@@ -7,7 +7,7 @@ use flash_store::{FailAt, Flash, MemFlash, MemSource, Paged, Region};
 use std::alloc::AllocError;
 use std::process::Abort;
 
-/// The flash map of an image of 1536 bytes: FMAP, COREBOOT and REST, of 512 bytes each.
+/// The map of 1536 bytes: FMAP, COREBOOT and REST, of 512 bytes each.
 pub const MAP: [u8; 182] = *b"__FMAP__\x01\x01\x00\x00\x00\xff\x00\x00\x00\x00\x00\x06\x00\x00\
 FLASH\0\0\0\0\0\0\0\0\0\0\0\0\0\0\0\0\0\0\0\0\0\0\0\0\0\0\0\x03\x00\
 \x00\x00\x00\x00\x00\x02\x00\x00FMAP\0\0\0\0\0\0\0\0\0\0\0\0\0\0\0\0\0\0\0\0\0\0\0\0\0\0\0\0\0\0\
@@ -23,26 +23,23 @@ pub const SIZE: usize = 512;
 /// Deleted space of 20 bytes.
 pub const DELETED: [u8; 28] = *b"LARCHIVE\0\0\0\x14\0\0\0\0\0\0\0\0\0\0\0\x1c\0\0\0\0";
 
-/// A component `m` of five bytes.
+/// Components and free space, with name fields of 16 bytes.
 pub const M: [u8; 45] =
     *b"LARCHIVE\0\0\0\x05\0\0\0\x50\0\0\0\0\0\0\0\x28m\0\0\0\0\0\0\0\0\0\0\0\0\0\0\012345";
 
-/// A component `x` of one byte.
 pub const X1: [u8; 41] =
     *b"LARCHIVE\0\0\0\x01\0\0\0\x50\0\0\0\0\0\0\0\x28x\0\0\0\0\0\0\0\0\0\0\0\0\0\0\01";
 
-/// A component `x` of two bytes.
 pub const X2: [u8; 42] =
     *b"LARCHIVE\0\0\0\x02\0\0\0\x50\0\0\0\0\0\0\0\x28x\0\0\0\0\0\0\0\0\0\0\0\0\0\0\022";
 
-/// Free space of 340 bytes after a name field of 16.
 pub const NULL_340: [u8; 40] =
     *b"LARCHIVE\0\0\x01\x54\xff\xff\xff\xff\0\0\0\0\0\0\0\x28\0\0\0\0\0\0\0\0\0\0\0\0\0\0\0\0";
 
-/// A component `a` of ten bytes, as added.
+/// The component `a`, as added.
 pub const A: [u8; 38] = *b"LARCHIVE\0\0\0\x0a\0\0\0\x50\0\0\0\0\0\0\0\x1ca\0\0\00123456789";
 
-/// A component `b` of 20 bytes, as added; the same without its content, and with a gap of 36.
+/// The component `b`, as added, and before a gap of 36 bytes.
 pub const B: [u8; 48] =
     *b"LARCHIVE\0\0\0\x14\0\0\0\x50\0\0\0\0\0\0\0\x1cb\0\0\0LARCHIVE89abcdefghij";
 
@@ -51,7 +48,7 @@ pub const B_BEFORE_GAP: [u8; 28] = *b"LARCHIVE\0\0\0\x14\0\0\0\x50\0\0\0\0\0\0\0
 /// Content with the magic of an entry.
 pub const MAGIC_20: [u8; 20] = *b"LARCHIVE89abcdefghij";
 
-/// Headers of empty entries by size, inside a region (EMPTY) and at its end (LAST).
+/// Headers of empty entries, inside a region (EMPTY) or at the end (LAST).
 pub const EMPTY_64: [u8; 28] = *b"LARCHIVE\0\0\0\x24\xff\xff\xff\xff\0\0\0\0\0\0\0\x1c\0\0\0\0";
 
 pub const EMPTY_128: [u8; 28] = *b"LARCHIVE\0\0\0\x64\xff\xff\xff\xff\0\0\0\0\0\0\0\x1c\0\0\0\0";
@@ -67,28 +64,22 @@ pub const LAST_512: [u8; 28] = *b"LARCHIVE\0\0\x01\xe0\xff\xff\xff\xff\0\0\0\0\0
 #[derive(Clone, Copy)]
 pub enum Held {
     Fresh,
-    /// A component between free cells.
     Between,
-    /// Two components with one name.
+    /// Two components of the same name.
     Twice,
-    /// The second of the two components.
     Once,
     WithA,
-    /// `a`, and `b` with a gap before its content.
+    /// `a`, and `b` after a gap.
     WithLater,
-    /// `a`, then `b`.
     Both,
-    /// `b` after free space: `a` was removed.
+    /// `b` after the removal of `a`.
     BehindFree,
-    /// `b` at the start.
     WithB,
-    /// The component `a`, and other last four bytes.
+    /// `a`, and data in the last four bytes.
     WithLast,
-    /// One empty entry, and the other last four bytes.
     FreshBeforeLast,
 }
 
-/// Returns the parts of a region; all other bytes are 0xff.
 fn parts_of(held: Held) -> Parts<'static> {
     match held {
         Held::Fresh => &[(0, &LAST_512)],
@@ -119,8 +110,7 @@ pub fn device_of(rt: &(impl Abort + AllocGlobal), held: Held) -> MemFlash {
     device_from(rt, image_of(rt, held))
 }
 
-/// The numbers of successful calls of a device and reads of a source, and the written length of the
-/// first failed write.
+/// The numbers of successful calls and reads, and the length of the first failed write.
 #[derive(Clone, Copy)]
 pub struct Stop {
     pub calls: u64,
@@ -153,7 +143,7 @@ pub fn source_of<'a>(rt: &impl Abort, bytes: &'a [u8]) -> MemSource<'a> {
     MemSource::new(bytes)
 }
 
-/// Records a component: its position in the region, and its bytes up to the end of its content.
+/// Records a component: offset, header and content.
 fn put_down(told: &mut Vec<u8>, cell: &Cell, bytes: &[u8]) -> Result<(), AllocError> {
     if cell.head.is_free() {
         return Ok(());
@@ -164,7 +154,7 @@ fn put_down(told: &mut Vec<u8>, cell: &Cell, bytes: &[u8]) -> Result<(), AllocEr
     told.extend_from_slice(rest.get(..n).unwrap_or(rest))
 }
 
-/// Records the components of the region at `start`. Returns true if no entry is damaged.
+/// Records all components. Returns false at a damaged entry.
 fn walk_on(
     walk: &mut Walk,
     paged: &mut Paged<MemFlash>,

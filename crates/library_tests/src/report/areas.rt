@@ -1,11 +1,10 @@
-//! Areas of two small images, on devices that fail.
-use crate::support::{ALL, Failing, equal, failing};
-use check_changes::{ChangeFault, image_changes};
+//! Changes of areas, on failing devices.
+use crate::support::{ALL, Failing, FailingImages, equal, failing};
+use check_changes::{Areas, ChangeFault, Images, image_changes};
 use check_findings::NumberedArea;
 use flash_format::Area;
 use std::process::Abort;
 
-/// One of both blocks, and one of each.
 const AREAS: [NumberedArea; 3] = [
     NumberedArea {
         number: 0,
@@ -36,36 +35,38 @@ const AREAS: [NumberedArea; 3] = [
     },
 ];
 
-/// In how many blocks two images with these areas differ, and of how many areas a change is told.
+/// Returns the numbers of changed blocks and areas.
 fn told_between(
     rt: &(impl Abort + AllocGlobal),
-    old: &mut Failing,
-    new: &mut Failing,
+    images: &mut FailingImages,
 ) -> Result<(u32, usize), ChangeFault> {
-    match image_changes(rt.alloc(), old, &AREAS, new, &AREAS) {
+    let areas = Areas {
+        old: &AREAS,
+        new: &AREAS,
+    };
+    match image_changes(rt.alloc(), images, areas) {
         Ok(changes) => Ok((changes.blocks, changes.areas.len())),
         Err(fault) => Err(fault),
     }
 }
 
-/// A device of two blocks that begins with these bytes.
 fn beginning(rt: &(impl Abort + AllocGlobal), bytes: &[u8], calls: u64) -> Failing {
     failing(rt, 8192, &[(0, bytes)], calls)
 }
 
-/// Devices that refuse all calls behind the first ones tell this of areas that hold both blocks, and each of them, where the
-/// first one differs.
+/// Compares images that differ in the first block.
 fn told_after(
     rt: &(impl Abort + AllocGlobal),
     old_calls: u64,
     new_calls: u64,
     expected: Result<(u32, usize), ChangeFault>,
 ) {
-    let mut old = beginning(rt, b"", old_calls);
-    let mut new = beginning(rt, b"x", new_calls);
-    equal(rt, &told_between(rt, &mut old, &mut new), &expected);
-    drop(old);
-    drop(new);
+    let mut images = Images {
+        old_image: beginning(rt, b"", old_calls),
+        new_image: beginning(rt, b"x", new_calls),
+    };
+    equal(rt, &told_between(rt, &mut images), &expected);
+    drop(images);
 }
 
 #[test]
@@ -76,8 +77,8 @@ fn areas_on_devices_that_refuse_a_read(rt: HostRuntime) {
     told_after(&rt, 2, 1, Err(ChangeFault::NewDevice));
 }
 
-// Each block is read for the image, and again for each area that has it. `BOTH` and `FIRST` have
-// the one block that differs.
+// Each block is read for the image, and for each area with the block. Two areas have the changed
+// block.
 #[test]
 fn areas_that_stay(rt: HostRuntime) {
     told_after(&rt, ALL, ALL, Ok((1, 2)));

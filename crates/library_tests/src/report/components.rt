@@ -1,29 +1,27 @@
-//! What changes where only one image has a region, which no check of two images asks, and devices that fail.
+//! Changes of components, on failing devices, and with an absent region.
 use crate::report::support::keys;
-use crate::support::{ALL, Failing, equal, failing};
-use check_changes::{ChangeFault, ComponentChange, component_changes};
+use crate::support::{ALL, Failing, FailingImages, equal, failing};
+use check_changes::{ChangeFault, ComponentChange, Images, RegionPair, component_changes};
 use flash_store::Region;
 use std::process::Abort;
 use std::random::RandomSource;
 
-/// The component `l` of 5000 bytes, of which only the head and the name are given.
+/// A component of 5000 bytes, without the content.
 const L: [u8; 40] =
     *b"LARCHIVE\0\0\x13\x88\0\0\0\x50\0\0\0\0\0\0\0\x28l\0\0\0\0\0\0\0\0\0\0\0\0\0\0\0";
 
-/// What changes between regions of these sizes at the starts of two devices; one that is longer than its device is absent.
+/// Returns the changes. A region longer than the device is absent.
 fn changes_of(
     rt: &(impl Abort + AllocGlobal + RandomSource),
-    old: &mut Failing,
+    images: &mut FailingImages,
     old_size: u64,
-    new: &mut Failing,
     new_size: u64,
 ) -> Result<Vec<ComponentChange>, ChangeFault> {
-    let before = Region::within(0, old_size, old.len()).unwrap_or_default();
-    let after = Region::within(0, new_size, new.len()).unwrap_or_default();
-    component_changes(rt.alloc(), keys(rt), old, before, new, after)
+    let old = Region::within(0, old_size, images.old_image.len()).unwrap_or_default();
+    let new = Region::within(0, new_size, images.new_image.len()).unwrap_or_default();
+    component_changes(rt.alloc(), keys(rt), images, RegionPair { old, new })
 }
 
-/// What has become of the one component.
 fn word(changes: &[ComponentChange]) -> &'static str {
     match changes {
         [] => "same",
@@ -34,27 +32,23 @@ fn word(changes: &[ComponentChange]) -> &'static str {
     }
 }
 
-/// The same of regions of these sizes.
 fn told_of(
     rt: &(impl Abort + AllocGlobal + RandomSource),
-    old: &mut Failing,
+    images: &mut FailingImages,
     old_size: u64,
-    new: &mut Failing,
     new_size: u64,
 ) -> Result<&'static str, ChangeFault> {
-    match changes_of(rt, old, old_size, new, new_size) {
+    match changes_of(rt, images, old_size, new_size) {
         Ok(changes) => Ok(word(&changes)),
         Err(fault) => Err(fault),
     }
 }
 
-/// A device of 5056 bytes with the component, whose content ends with this; its first calls pass, and all later ones are
-/// refused.
+/// Returns a device with the component, ending with `end`.
 fn device(rt: &(impl Abort + AllocGlobal), end: &[u8], calls: u64) -> Failing {
     failing(rt, 5056, &[(0, &L), (5039, end)], calls)
 }
 
-/// What is told of regions of these sizes on two such devices, which differ in the last byte of the content.
 fn tells(
     rt: &(impl Abort + AllocGlobal + RandomSource),
     old_calls: u64,
@@ -63,12 +57,13 @@ fn tells(
     new_size: u64,
     expected: Result<&'static str, ChangeFault>,
 ) {
-    let mut old = device(rt, b"", old_calls);
-    let mut new = device(rt, b"x", new_calls);
-    let told = told_of(rt, &mut old, old_size, &mut new, new_size);
+    let mut images = Images {
+        old_image: device(rt, b"", old_calls),
+        new_image: device(rt, b"x", new_calls),
+    };
+    let told = told_of(rt, &mut images, old_size, new_size);
     equal(rt, &told, &expected);
-    drop(old);
-    drop(new);
+    drop(images);
 }
 
 #[test]
@@ -78,7 +73,7 @@ fn a_region_that_is_absent(rt: HostRuntime) {
     tells(&rt, ALL, 5057, ALL, 5057, Ok("same"));
 }
 
-/// What is told of the devices as wholes: one call lists the regions, two compare contents.
+/// Checks whole devices: a call lists the region, two compare contents.
 fn told_after(
     rt: &(impl Abort + AllocGlobal + RandomSource),
     old: u64,

@@ -1,10 +1,10 @@
-//! Findings that are made by hand, as rows.
+//! Rows of constructed findings.
 use crate::report::support::text_of;
 use crate::support::equal;
 use check_findings::ImageFinding;
 use check_report::{Form, rows_tell_what_is_bad};
 
-// The last name is none that was given, which no check of an image reports.
+// No check reports an index without a name.
 #[test]
 fn names_that_no_area_has(rt: HostRuntime) {
     rows_tell_what_is_bad();

@@ -1,10 +1,10 @@
-//! Which findings are bad.
+//! Bad findings.
 use crate::support::equal;
-use check_findings::{ImageFinding, MapFinding, RegionFinding, is_bad, is_bad_map, is_bad_region};
+use check_findings::{HashFinding, MapFinding, is_bad_hash, is_bad_map};
 
 #[test]
 fn findings_that_are_bad(rt: HostRuntime) {
-    equal(&rt, &is_bad(&ImageFinding::NoArea(0), false), &true);
     equal(&rt, &is_bad_map(&MapFinding::NoMapArea), &true);
-    equal(&rt, &is_bad_region(&RegionFinding::Complete, true), &false);
+    equal(&rt, &is_bad_hash(HashFinding::Missing, true), &true);
+    equal(&rt, &is_bad_hash(HashFinding::Missing, false), &false);
 }

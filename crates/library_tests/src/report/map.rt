@@ -1,10 +1,9 @@
-//! The map of a small image, and a device that fails at each of its first calls.
+//! Checks of a map, on a failing device.
 use crate::report::support::image;
 use crate::support::{ALL, equal};
 use check_findings::{CheckFault, check_map};
 use std::process::Abort;
 
-/// Where all calls behind the first ones are refused, so many findings are told.
 fn told_after(rt: &(impl Abort + AllocGlobal), calls: u64, expected: Result<usize, CheckFault>) {
     let mut paged = image(rt, b"", calls);
     let found = match check_map(rt.alloc(), &mut paged) {

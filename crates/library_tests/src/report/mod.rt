@@ -1,4 +1,4 @@
-//! What is checked and told of images.
+//! Checks of images, and reports.
 mod areas;
 mod components;
 mod findings;

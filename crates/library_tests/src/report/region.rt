@@ -1,4 +1,4 @@
-//! A region of one component, and a device that fails.
+//! Checks of a region, on a failing device.
 use crate::report::support::{ONE, count, keys};
 use crate::support::{ALL, equal, failing};
 use check_findings::{CheckFault, check_region};
@@ -6,7 +6,6 @@ use flash_store::Region;
 use std::process::Abort;
 use std::random::RandomSource;
 
-/// A check of the whole of a device tells so many findings, where all calls behind the first ones are refused.
 fn told_after(
     rt: &(impl Abort + AllocGlobal + RandomSource),
     calls: u64,
@@ -20,7 +19,7 @@ fn told_after(
     drop(paged);
 }
 
-// The component's content, that the cells fill the region, and three counts.
+// The findings: the content, the complete region, and three counts.
 #[test]
 fn the_findings_of_a_region(rt: HostRuntime) {
     told_after(&rt, ALL, Ok(5));

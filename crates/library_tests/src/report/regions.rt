@@ -1,13 +1,12 @@
-//! Two images with two regions each, on devices that fail.
+//! Changes of two regions, on failing devices.
 use crate::report::support::{MAP, ONE, count, keys};
-use crate::support::{ALL, Failing, equal, failing};
-use check_changes::{ChangeFault, region_changes};
+use crate::support::{ALL, Failing, FailingImages, equal, failing};
+use check_changes::{ChangeFault, Images, region_changes};
 use check_findings::{NumberedArea, check_image};
 use flash_format::Area;
 use std::process::Abort;
 use std::random::RandomSource;
 
-/// The areas `A` and `B` of the map.
 const AREAS: [NumberedArea; 2] = [
     NumberedArea {
         number: 1,
@@ -29,34 +28,33 @@ const AREAS: [NumberedArea; 2] = [
     },
 ];
 
-/// A device with the map and a component in each of both areas, whose first calls pass, and all later ones are refused.
 fn with_both(rt: &(impl Abort + AllocGlobal), calls: u64) -> Failing {
     failing(rt, 8192, &[(0, &MAP), (256, &ONE), (5120, &ONE)], calls)
 }
 
-/// Of how many regions is told what becomes of them where the new image is flashed over the old one.
+/// Returns the number of reported regions.
 fn told_between(
     rt: &(impl Abort + AllocGlobal + RandomSource),
-    old: &mut Failing,
-    new: &mut Failing,
+    images: &mut FailingImages,
 ) -> Result<usize, ChangeFault> {
+    let new = &mut images.new_image;
     let checked = check_image(rt.alloc(), keys(rt), new, &[], &[]).expect(rt, "findings");
-    count(region_changes(rt.alloc(), keys(rt), old, &AREAS, new, &checked.findings))
+    count(region_changes(rt.alloc(), keys(rt), images, &AREAS, &checked.findings))
 }
 
-/// What is told where the device with the old image refuses its call of this number, counted from 0, and that with the new
-/// one its call of that number, of which the first nine check the image and leave the first piece at hand.
+/// Checks the result within `old` and `new` calls. The check of the new image makes eight calls.
 fn told_after(
     rt: &(impl Abort + AllocGlobal + RandomSource),
     old: u64,
     new: u64,
     expected: Result<usize, ChangeFault>,
 ) {
-    let mut old = with_both(rt, old);
-    let mut new = with_both(rt, new);
-    equal(rt, &told_between(rt, &mut old, &mut new), &expected);
-    drop(old);
-    drop(new);
+    let mut images = Images {
+        old_image: with_both(rt, old),
+        new_image: with_both(rt, new),
+    };
+    equal(rt, &told_between(rt, &mut images), &expected);
+    drop(images);
 }
 
 #[test]
@@ -66,9 +64,9 @@ fn regions_that_stay(rt: HostRuntime) {
 
 #[test]
 fn images_on_devices_that_refuse_a_read(rt: HostRuntime) {
-    told_after(&rt, 0, 9, Err(ChangeFault::OldDevice));
+    told_after(&rt, 0, 8, Err(ChangeFault::OldDevice));
+    told_after(&rt, 1, 8, Err(ChangeFault::OldDevice));
+    told_after(&rt, 2, 8, Err(ChangeFault::NewDevice));
     told_after(&rt, 1, 9, Err(ChangeFault::OldDevice));
-    told_after(&rt, 2, 9, Err(ChangeFault::NewDevice));
-    told_after(&rt, 1, 10, Err(ChangeFault::OldDevice));
-    told_after(&rt, 2, 10, Ok(2));
+    told_after(&rt, 2, 9, Ok(2));
 }

@@ -1,8 +1,8 @@
-//! Reports on devices that fail.
+//! Reports on failing devices.
 use crate::report::support::{image, keys};
-use crate::support::{ALL, Failing, equal};
+use crate::support::{ALL, Failing, FailingImages, equal};
 use check_report::{
-    Asked, Files, Form, Inspection, ReportFault, Request, inspect_change, inspect_image,
+    Asked, Files, Form, Images, Inspection, ReportFault, Request, inspect_change, inspect_image,
 };
 use std::process::Abort;
 use std::random::RandomSource;
@@ -33,16 +33,13 @@ fn of_image(
     inspect_image(rt.alloc(), keys(rt), paged, request(&[], Form::Json))
 }
 
-/// The report on what changes, where `A` is to be kept.
 fn of_change(
     rt: &(impl Abort + AllocGlobal + RandomSource),
-    old: &mut Failing,
-    new: &mut Failing,
+    images: &mut FailingImages,
 ) -> Result<Inspection, ReportFault> {
-    inspect_change(rt.alloc(), keys(rt), old, new, request(&[b"A"], Form::Text))
+    inspect_change(rt.alloc(), keys(rt), images, request(&[b"A"], Form::Text))
 }
 
-/// There is no report, for this reason.
 fn is_refused(rt: &impl Abort, answer: Result<Inspection, ReportFault>, fault: ReportFault) {
     equal(rt, &answer.err(), &Some(fault));
 }
@@ -54,18 +51,18 @@ fn a_report_on_a_device_that_refuses_a_read(rt: HostRuntime) {
     drop(paged);
 }
 
-/// There is no report on what changes, for this reason.
 fn refuses_change(
     rt: &(impl Abort + AllocGlobal + RandomSource),
     old_calls: u64,
     new_calls: u64,
     fault: ReportFault,
 ) {
-    let mut old = image(rt, b"", old_calls);
-    let mut new = image(rt, b"", new_calls);
-    is_refused(rt, of_change(rt, &mut old, &mut new), fault);
-    drop(old);
-    drop(new);
+    let mut images = Images {
+        old_image: image(rt, b"", old_calls),
+        new_image: image(rt, b"", new_calls),
+    };
+    is_refused(rt, of_change(rt, &mut images), fault);
+    drop(images);
 }
 
 #[test]

@@ -1,7 +1,6 @@
-//! A report without rows, which no image has, and the words and numbers of a row.
+//! A report without rows.
 use crate::report::support::prints;
-use crate::support::equal;
-use check_report::{Detail, Form, Verdict};
+use check_report::Form;
 
 #[test]
 fn a_report_without_rows(rt: HostRuntime) {
@@ -11,11 +10,4 @@ fn a_report_without_rows(rt: HostRuntime) {
         Form::Json,
         b"{\"format\":1,\"image\":\"new.rom\",\"rows\":[],\"bad\":0,\"remarks\":0,\"changes\":0}\n",
     );
-}
-
-#[test]
-fn words_and_numbers_of_a_row(rt: HostRuntime) {
-    equal(&rt, &Verdict::Change.word(), &"change");
-    equal(&rt, &Verdict::Change.is(Verdict::Bad), &false);
-    equal(&rt, &Detail::Count(12).number(), &Some(12));
 }

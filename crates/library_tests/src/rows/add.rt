@@ -1,4 +1,4 @@
-//! Additions: the position of the component, the bytes of the region, and the order of refusals.
+//! Additions: positions, bytes, and the order of refusals.
 use crate::compiler::descriptors::TABLE;
 use crate::edit::support::{
     A, B_BEFORE_GAP, EMPTY_128, LAST_192, LAST_512, MAGIC_20, part_of, source_of,
@@ -23,8 +23,7 @@ fn a_small_component_is_added(rt: HostRuntime) {
     refuses(&rt, WITH_A, plain(b"a", TEN), Refusal::Exists);
 }
 
-/// Checks that the addition of an empty component with the given name, type and spot is refused,
-/// and the image with `a` is unchanged.
+/// Checks that an addition is refused without a change.
 fn refused(rt: &(impl Abort + AllocGlobal), name: &[u8], kind: u32, spot: Spot, refusal: Refusal) {
     let image = board(rt, WITH_A);
     adds_to(
@@ -45,7 +44,7 @@ fn names_types_and_alignments_that_are_refused(rt: HostRuntime) {
     refused(&rt, b"c", 0x50, Spot::Aligned(0), Refusal::BadAlign);
 }
 
-/// The empty entry of a fresh region with an older padding: a header of 40 bytes.
+/// A fresh region with the older padding, a header of 40 bytes.
 const OLD_468: [u8; 40] =
     *b"LARCHIVE\0\0\x01\xd4\xff\xff\xff\xff\0\0\0\0\0\0\0\x28\0\0\0\0\0\0\0\0\0\0\0\0\0\0\0\0";
 
@@ -66,10 +65,10 @@ const A_480: [u8; 28] = *b"LARCHIVE\0\0\x01\xe0\0\0\0\x50\0\0\0\0\0\0\0\x1ca\0\0
 
 const A_484: [u8; 28] = *b"LARCHIVE\0\0\x01\xe4\0\0\0\x50\0\0\0\0\0\0\0\x1ca\0\0\0";
 
-/// The header before a gap of 12 bytes and 472 bytes of content.
+/// The header before a gap of 12 bytes.
 const A_472: [u8; 28] = *b"LARCHIVE\0\0\x01\xd8\0\0\0\x50\0\0\0\0\0\0\0\x28a\0\0\0";
 
-/// Checks that `len` bytes fit in the fresh region with the given header, and another byte doesn't.
+/// Checks that at most `len` bytes fit in the fresh region.
 fn fits(rt: &(impl Abort + AllocGlobal), spot: Spot, header: &[u8; 28], at: usize, len: usize) {
     let bytes = content(rt, len);
     adds(
@@ -142,8 +141,7 @@ b\t0xc0\traw\t20\tnone\n(empty)\t0x140\tnull\t160\tnone\n";
     prints(&rt, after, text, Ok(()));
 }
 
-/// An empty entry of 384 bytes inside a region, and the header before a gap of 20 bytes and 16 of
-/// content.
+/// An empty entry, and a header before a gap of 20 bytes.
 const EMPTY_384: [u8; 28] = *b"LARCHIVE\0\0\x01\x64\xff\xff\xff\xff\0\0\0\0\0\0\0\x1c\0\0\0\0";
 
 const B_16: [u8; 28] = *b"LARCHIVE\0\0\0\x10\0\0\0\x50\0\0\0\0\0\0\0\x30b\0\0\0";
@@ -164,7 +162,7 @@ const NULL_344: [u8; 40] =
 
 const B_356: [u8; 28] = *b"LARCHIVE\0\0\x01\x64\0\0\0\x50\0\0\0\0\0\0\0\x1cb\0\0\0";
 
-/// Checks that 356 bytes fit before a tail of 64, which is unchanged.
+/// Checks that 356 bytes fit before an unchanged tail.
 fn fits_before(rt: &(impl Abort + AllocGlobal), tail: &[u8]) {
     let bytes = content(rt, 356);
     let before = changed(rt, &[(0, &A), (64, &NULL_344)], 460, tail);
@@ -188,7 +186,7 @@ fn a_tail_is_kept_and_never_used(rt: HostRuntime) {
 
 // ---- maps in content
 
-/// The flash map of a flash of 4096 bytes: COREBOOT and FMAP, of 512 bytes each, and REST.
+/// The map of 4096 bytes: COREBOOT and FMAP, of 512 bytes each, and REST.
 const MAP_BEHIND: [u8; 182] = *b"__FMAP__\x01\x01\0\0\0\0\0\0\0\0\x00\x10\x00\x00\
 FLASH\0\0\0\0\0\0\0\0\0\0\0\0\0\0\0\0\0\0\0\0\0\0\0\0\0\0\0\x03\x00\
 \x00\x00\x00\x00\x00\x02\x00\x00COREBOOT\0\0\0\0\0\0\0\0\0\0\0\0\0\0\0\0\0\0\0\0\0\0\0\0\0\0\
@@ -222,8 +220,7 @@ fn a_map_in_a_component_below_the_map_is_found_next(rt: HostRuntime) {
 
 // ---- two faults at once
 
-/// An addition: the parts and the size of the region, and the name, type, spot and content of the
-/// new component.
+/// An addition to a region of `size` bytes.
 #[derive(Clone, Copy)]
 struct Attempt<'a> {
     region: Parts<'a>,
@@ -274,7 +271,7 @@ const WITH_LONG: Parts = &[
     (192, &LAST_320),
 ];
 
-/// The component `a`, and a damaged entry with offset 0.
+/// A damaged entry after `a`.
 const DAMAGED: Parts = &[(0, &A), (64, b"LARCHIVE\0\0\0\0\0\0\0\x50\0\0\0\0\0\0\0\0")];
 
 const DAMAGE: EditFault = EditFault::Damaged {
@@ -288,7 +285,7 @@ const BAD_TYPE: u32 = 0xffff_ffff;
 
 const BAD_ALIGNMENT: Spot = Spot::Aligned(0);
 
-/// An addition without faults to the region with `a`.
+/// An addition without faults.
 const SOUND: Attempt = Attempt {
     region: WITH_A,
     size: 512,

@@ -1,4 +1,4 @@
-//! Whole images, raw writes and reads of a region, and the size in a flash map.
+//! New images, raw writes, and the size in a map.
 use crate::compiler::descriptors::TABLE;
 use crate::edit::deeds::COREBOOT;
 use crate::edit::support::{LAST_512, source_of};
@@ -33,7 +33,6 @@ fn creates(rt: &(impl Abort + AllocGlobal), names: &[&[u8]], map: &[u8], after: 
     creates_on(rt, &filled(rt, 7, 4096), names, map, Ok(()), after);
 }
 
-/// Checks that a creation is refused, and a device of the given length is unchanged.
 fn refuses(
     rt: &(impl Abort + AllocGlobal),
     len: usize,
@@ -52,7 +51,7 @@ fn an_image_is_made_from_its_flashmap(rt: HostRuntime) {
     drop(wanted);
 }
 
-/// The flash map of a flash of 4096 bytes at 0: FMAP of 1024, B of 2048 and C of 1024.
+/// The map of 4096 bytes: FMAP of 1024, B of 2048, and C of 1024.
 const TWO: [u8; 182] = *b"__FMAP__\x01\x01\0\0\0\0\0\0\0\0\x00\x10\x00\x00\
 F\0\0\0\0\0\0\0\0\0\0\0\0\0\0\0\0\0\0\0\0\0\0\0\0\0\0\0\0\0\0\0\x03\x00\
 \x00\x00\x00\x00\x00\x04\x00\x00FMAP\0\0\0\0\0\0\0\0\0\0\0\0\0\0\0\0\0\0\0\0\0\0\0\0\0\0\0\0\0\0\

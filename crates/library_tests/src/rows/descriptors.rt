@@ -1,4 +1,4 @@
-//! Trees, layouts and tables of descriptors, as values, and each refusal with its position.
+//! Trees and tables of descriptors, and each refusal with the offset.
 use crate::compiler::descriptors::{TABLE, TEXT};
 use crate::support::{equal, filled, has_all, same_bytes, write_over, writer};
 use flash_format::Area;
@@ -38,7 +38,6 @@ fn table_of(rt: &(impl Abort + AllocGlobal), text: &[u8]) -> Table {
     table
 }
 
-/// Returns a name padded with NULs to 32 bytes.
 fn padded(name: &[u8]) -> [u8; 32] {
     let mut field = [0; 32];
     write_over(&mut field, 0, name);
@@ -162,7 +161,6 @@ fn refuses(rt: &(impl Abort + AllocGlobal), text: &[u8], fault: FmdFault) {
     equal(rt, &fault_of(rt, text), &Some(fault));
 }
 
-/// Checks that the parser expects other input at a position.
 fn expects(rt: &(impl Abort + AllocGlobal), text: &[u8], at: usize, what: Expected) {
     refuses(rt, text, FmdFault::Expected { at, what });
 }
@@ -252,7 +250,7 @@ fn section(rt: &(impl Abort + AllocGlobal), name: &[u8]) -> Section {
     }
 }
 
-/// Returns a name of four letters, unique for each number below 65,536.
+/// Returns a name, unique for each number below 65,536.
 fn name_of(number: usize) -> [u8; 4] {
     [
         b'a' + ((number >> 12) % 16) as u8,
@@ -317,10 +315,10 @@ fn a_table_of_65536_areas(rt: HostRuntime) {
     drop(more);
 }
 
-// ---- bytes between two words
+// ---- bytes between two tokens
 
-/// The class of each byte between the words `A` and `1`: `_` is a blank, `n` continues the name,
-/// `!` is refused, and every other character is the mark itself.
+/// The class of each byte between `A` and `1`: blank `_`, part of the name `n`, refused `!`, or the
+/// mark itself.
 const BYTES: [u8; 256] = *b"!!!!!!!!!__!!_!!\
 !!!!!!!!!!!!!!!!\
 _nn#nnnn()nnnnnn\
@@ -338,7 +336,7 @@ nnnnnnnnnnn{n}n!\
 !!!!!!!!!!!!!!!!\
 !!!!!!!!!!!!!!!!";
 
-/// The length of the root's name, its offset and its size, or the fault.
+/// The root's name length, offset and size, or the fault.
 type Read = Result<(usize, Option<u32>, Option<u32>), FmdFault>;
 
 fn read(rt: &(impl Abort + AllocGlobal), text: &[u8]) -> Read {

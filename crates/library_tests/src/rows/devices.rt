@@ -1,4 +1,4 @@
-//! The search for a map, listings through a buffer before and after an edit, and images in files.
+//! The search for a map, the buffer after an edit, and images in files.
 use crate::compiler::descriptors::TABLE;
 use crate::edit::deeds::{COREBOOT, answer_into};
 use crate::edit::support::{MAGIC_20, source_of};
@@ -25,14 +25,13 @@ fn place_of(rt: &impl Abort, paged: &mut Paged<MemFlash>) -> Option<u64> {
     }
 }
 
-/// Checks the offset of the map in an image of the given length and parts.
 fn is_found(rt: &(impl Abort + AllocGlobal), len: usize, parts: Parts, at: u64) {
     let mut paged = Paged::new(device_with(rt, len, parts));
     equal(rt, &place_of(rt, &mut paged), &Some(at));
     drop(paged);
 }
 
-/// A table with the major version 2, and a valid table at a higher offset.
+/// A table of major version 2, before a valid table.
 const VERSION_2: Parts = &[(0x100, &TABLE), (0x108, b"\x02"), (0x400, &TABLE)];
 
 #[test]
@@ -42,7 +41,6 @@ fn a_map_behind_half_a_signature(rt: HostRuntime) {
     is_found(&rt, 4096, VERSION_2, 0x400);
 }
 
-/// Finds a table at each offset around the boundary of two pieces.
 fn find_each(rt: &(impl Abort + AllocGlobal)) {
     for at in 4083..4104 {
         is_found(rt, 8192, &[(at, &TABLE)], at as u64);
@@ -54,7 +52,6 @@ fn a_map_across_two_pieces(rt: HostRuntime) {
     find_each(&rt);
 }
 
-/// Returns 4096 bytes of repeated signature prefixes of six bytes.
 fn halves_of_signatures(rt: &(impl Abort + AllocGlobal)) -> Vec<u8> {
     let mut bytes = filled(rt, 0, 4096);
     for (i, byte) in bytes.iter_mut().enumerate() {
@@ -105,7 +102,7 @@ fn lists<F: Flash>(rt: &impl Abort, paged: &mut Paged<F>, text: &[u8]) {
     has_all(rt, out);
 }
 
-/// Checks that a used buffer and a new buffer give the same listing after an edit.
+/// Checks that a used and a new buffer give the same listing.
 fn lists_again(
     rt: &(impl Abort + AllocGlobal),
     region: Parts,
@@ -168,7 +165,7 @@ fn obeys<F: Flash, S: Source>(
     has_all(rt, out);
 }
 
-/// Returns a path in the current directory, unique for each run.
+/// Returns a path, unique for each process.
 fn path_of(rt: &(impl Abort + AllocGlobal), id: u32, name: &str) -> String {
     format!(in rt.alloc(); "library_tests_{id}_{name}").expect(rt, "memory")
 }
@@ -221,8 +218,6 @@ const ADD_A: Command<'static> = Command::Add {
 
 const WRITE: Command<'static> = Command::Write { region: COREBOOT };
 
-/// Creates an image in a file, lists the image, adds a component from another file, and writes the
-/// region from a file.
 fn work_on<R: Files<File = File> + Abort + AllocGlobal>(rt: &R, image: &str, from: &str) {
     create(rt, image);
     file_has(rt, image, &board(rt, FRESH));
@@ -249,7 +244,6 @@ fn an_image_and_contents_in_files(rt: HostRuntime) {
     drop(from);
 }
 
-/// Checks that neither a device nor a source opens at a path.
 fn is_absent<R: Files<File = File> + Abort>(rt: &R, path: &str) {
     equal(
         rt,

@@ -1,5 +1,4 @@
-//! Components with digests: their bytes, and the lines of valid, invalid and unsupported digests.
-//! The digests are the examples of FIPS 180 for no bytes and for `abc`.
+//! Components with digests: the examples of FIPS 180 for no bytes and for `abc`.
 use crate::edit::support::LAST_384;
 use crate::rows::support::{Addition, FRESH, PRINT_ALL, WITH_A, adds, changed, prints_all, shows};
 use crate::support::{Parts, device_with, equal};
@@ -10,8 +9,7 @@ use flash_format::Digest;
 use flash_store::Paged;
 use std::process::Abort;
 
-/// The bytes before a digest of 32 bytes: the head, the name, and the first twelve of the
-/// attribute.
+/// The bytes before the digest.
 const E: [u8; 40] =
     *b"LARCHIVE\0\0\0\0\0\0\0\x50\0\0\0\x1c\0\0\0\x48e\0\0\0hsaH\0\0\0\x2c\0\0\0\x02";
 
@@ -118,7 +116,7 @@ fn hashed<'a>(name: &'a [u8], hash: HashChoice, content: &'a [u8]) -> Addition<'
     }
 }
 
-/// Checks the verbose listing of a region after a change at an offset.
+/// Checks the listing after a change.
 fn with(rt: &(impl Abort + AllocGlobal), region: Parts, at: usize, bytes: &[u8], text: &[u8]) {
     shows(
         rt,

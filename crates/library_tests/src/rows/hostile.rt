@@ -15,7 +15,6 @@ fn damaged(at: u64, kind: DamageKind) -> Refusal {
     Refusal::Damaged { at, kind }
 }
 
-/// The region with `a`, and a second entry with a length of 4 GiB.
 const CLAIMS: Parts = &[(0, &A), (64, &LAST_448), (72, b"\xff\xff\xff\xff")];
 
 const A_ALONE: &[u8] = b"a\t0x0\traw\t10\tnone\n";
@@ -32,8 +31,8 @@ fn an_entry_that_claims_4_gib(rt: HostRuntime) {
 
 // ---- each kind of damage
 
-/// Heads of components with name fields of 16 bytes: without attributes, with attributes from
-/// inside the head on, and with 16 bytes of attributes.
+/// Headers without attributes, with attributes from inside the header on, and with 16 bytes of
+/// attributes.
 const WITHOUT: [u8; 24] = *b"LARCHIVE\0\0\0\0\0\0\0\x50\0\0\0\0\0\0\0\x28";
 
 const INSIDE: [u8; 24] = *b"LARCHIVE\0\0\0\0\0\0\0\x50\0\0\0\x18\0\0\0\x28";
@@ -46,7 +45,7 @@ const SEVEN: [u8; 8] = *b"\0\0\x12\x34\0\0\0\x07";
 
 const SEVENTEEN: [u8; 8] = *b"\0\0\x12\x34\0\0\0\x11";
 
-/// Checks that a region with the given damage in its first entry is refused without output.
+/// Checks for damage of the first entry.
 fn is_damaged(rt: &(impl Abort + AllocGlobal), region: Parts, kind: DamageKind) {
     prints(rt, region, b"", Err(damaged(0, kind)));
 }
@@ -82,8 +81,7 @@ fn each_kind_of_damage(rt: HostRuntime) {
 
 // ---- numbers around each limit
 
-/// The region with the component `a` of ten bytes and an empty entry, both with name fields of 16
-/// bytes.
+/// The component `a` and an empty entry, with name fields of 16 bytes.
 pub const PADDED: Parts<'static> = &[(0, &A_40), (64, &NULL_404)];
 
 const A_40: [u8; 50] =
@@ -94,7 +92,7 @@ const NULL_404: [u8; 40] =
 
 pub const A_AND_404: &[u8] = b"a\t0x0\traw\t10\tnone\n(empty)\t0x40\tnull\t404\tnone\n";
 
-/// Checks the listing of `PADDED` after a change at an offset.
+/// Checks the listing after a change.
 fn with(
     rt: &(impl Abort + AllocGlobal),
     at: usize,
@@ -105,8 +103,8 @@ fn with(
     shows(rt, &changed(rt, PADDED, at, bytes), &PRINT, text, answer);
 }
 
-/// The offsets of the last two bytes of numbers: the length and the offset of the second entry, and
-/// the offset and the start of the attributes of the first entry.
+/// Offsets of the low two bytes of fields: LENGTH and OFFSET of the second entry, the others of the
+/// first.
 const LENGTH: usize = 64 + 10;
 
 const OFFSET: usize = 64 + 22;
@@ -255,7 +253,7 @@ fn end_of(len: usize) -> Result<(), Refusal> {
     Ok(())
 }
 
-/// Lists the image truncated to each length. The map ends at 182 and the region at 1024.
+/// Lists each truncated image. The map ends at 182, the region at 1024.
 fn cut_each(rt: &(impl Abort + AllocGlobal), image: &[u8]) {
     for len in 0..4096 {
         let front = image.get(..len).unwrap_or(image);

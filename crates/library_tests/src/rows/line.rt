@@ -1,6 +1,5 @@
-//! Command lines as values: the image, the file, and the command with its names and numbers.
-//!
-//! The tests forget lines, because proofs of dropping clap's matches are slow.
+//! Command lines as values. Each line is forgotten, because proofs of the drop of clap's matches
+//! are slow.
 use crate::edit::deeds::COREBOOT;
 use crate::support::equal;
 use cbfs_commands::{Command, Refusal};
@@ -131,7 +130,6 @@ fn refusal_of(rt: &(impl Abort + AllocGlobal), words: &[&str]) -> Option<Refusal
     }
 }
 
-/// Checks that the arguments are not a command line.
 fn is_none(rt: &(impl Abort + AllocGlobal), words: &[&str]) {
     equal(rt, &refusal_of(rt, words), &Some(Refusal::Usage));
 }

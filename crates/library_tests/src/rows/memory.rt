@@ -1,8 +1,5 @@
-//! Allocation failures: each call returns out of memory without output.
-//!
-//! The calls take the system's allocator by its type, so a test can't pass a failing allocator. The
-//! tests accept both the result and out of memory; `checks/rows --growths` runs them with a failure
-//! at each growth of memory.
+//! Allocation failures: each test accepts the result, or out of memory without output. The option
+//! `--growths` of `checks/rows` fails each growth of memory in turn.
 use crate::rows::descriptors::{NESTED, NESTED_TABLE};
 use crate::rows::line::is_print;
 use crate::support::{equal, has_all, same_bytes, took_none, writer};

@@ -1,5 +1,4 @@
-//! The worked examples of docs/FORMAT.md with literal bytes. The tests compare whole texts,
-//! refusals and images.
+//! The examples of docs/EXAMPLES.md: whole texts, refusals and images, with literal bytes.
 mod add;
 mod create;
 pub mod descriptors;

@@ -27,7 +27,7 @@ fn a_small_component_beside_the_rest(rt: HostRuntime) {
     extracts(&rt, WITH_A, b"z", b"", Err(Refusal::NotFound));
 }
 
-/// The component `p` of 30 bytes up to its attribute, and attributes for `p`.
+/// The component `p` up to the attribute, and attributes.
 const P: [u8; 40] =
     *b"LARCHIVE\0\0\0\x1e\0\0\0\x50\0\0\0\x28\0\0\0\x38p\0\0\0\0\0\0\0\0\0\0\0\0\0\0\0";
 
@@ -67,7 +67,7 @@ fn a_compressed_component(rt: HostRuntime) {
     extracts(&rt, parts, b"p", b"", Err(Refusal::Compressed));
 }
 
-/// The component with an unknown attribute, alone and with `b`.
+/// An unknown attribute, alone and with `b`.
 const UNPACKED: Parts = &[
     (0, &P),
     (40, &OTHER_TAG),
@@ -94,7 +94,7 @@ fn an_unknown_attribute_is_kept(rt: HostRuntime) {
     adds(&rt, UNPACKED, plain(b"b", b"LARCHIVE89abcdefghij"), BESIDE);
 }
 
-/// The header of an empty entry of 384 bytes before the last 64 bytes of the region.
+/// An empty entry before the last 64 bytes of the region.
 const NULL_344: [u8; 40] =
     *b"LARCHIVE\0\0\x01\x58\xff\xff\xff\xff\0\0\0\0\0\0\0\x28\0\0\0\0\0\0\0\0\0\0\0\0\0\0\0\0";
 
@@ -149,7 +149,6 @@ fn regions_that_are_no_cbfs(rt: HostRuntime) {
     drop(image);
 }
 
-/// Checks that a region is refused, given the four size bytes in the flash map.
 fn sized(rt: &(impl Abort + AllocGlobal), size: &[u8; 4], refusal: Refusal) {
     let parts: Parts = &[(102, size), (512, b"LARCHIVE")];
     let image = image_with(rt, 4096, &BOARD, 0, parts);

@@ -4,7 +4,6 @@ use crate::rows::support::{FRESH, prints, removes};
 use crate::support::Parts;
 use cbfs_commands::Refusal;
 
-/// A component between two free cells.
 const BETWEEN: Parts = &[(0, &DELETED), (64, &M), (128, &NULL_340)];
 
 #[test]
@@ -12,7 +11,6 @@ fn a_removal_joins_the_free_space_on_both_sides(rt: HostRuntime) {
     removes(&rt, BETWEEN, b"m", Ok(()), FRESH);
 }
 
-/// Two components with one name, and the region after the removal of the first.
 const TWICE: Parts = &[(0, &X1), (64, &X2), (128, &NULL_340)];
 
 const ONCE: Parts = &[(0, &EMPTY_64), (64, &X2), (128, &NULL_340)];

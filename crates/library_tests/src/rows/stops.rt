@@ -1,5 +1,4 @@
-//! Edits on a device with a fault at each call, and a list of edits with refusals. `edit/` has
-//! faults of sources and outputs.
+//! Edits stopped at each device call, and a list of edits with refusals.
 use crate::edit::deeds::{COREBOOT, answer_into};
 use crate::edit::support::{
     A, B_BEFORE_GAP, DELETED, EMPTY_128, LAST_192, M, MAGIC_20, NULL_340, Stop, part_of, source_of,
@@ -37,7 +36,6 @@ fn replies_of(rt: &impl Abort, paged: &mut Paged<MemFlash>) -> [Reply; 4] {
     replies
 }
 
-/// The expected replies, including two refusals.
 const REPLIES: [Reply; 4] = [
     Reply::Placed(Placed {
         header: 0,
@@ -78,7 +76,6 @@ const REMOVE_M: Command<'static> = Command::Remove {
     name: b"m",
 };
 
-/// A region, its listing, and the names and contents of its components.
 #[derive(Clone, Copy)]
 struct State {
     parts: Parts<'static>,
@@ -86,7 +83,6 @@ struct State {
     contents: &'static [(&'static [u8], &'static [u8])],
 }
 
-/// The first addition, a second addition at a multiple of 256, and a removal between free cells.
 #[derive(Clone, Copy)]
 enum Edited {
     First,
@@ -94,7 +90,6 @@ enum Edited {
     Removal,
 }
 
-/// An edit with its source, and the region before and after the edit.
 #[derive(Clone, Copy)]
 struct Change {
     edit: Edited,
@@ -180,8 +175,8 @@ fn has_contents(rt: &impl Abort, paged: &mut Paged<MemFlash>, state: State) {
     }
 }
 
-/// Checks the listing, before or after the change, and the contents of the components. The listings
-/// of the free space are equal: the empty entry over the run has the length of the old entry.
+/// Checks for the listing and the contents of either state. An intermediate empty entry has the old
+/// length, and is listed as before.
 fn is_either(rt: &impl Abort, device: MemFlash, change: Change) {
     let mut paged = Paged::new(device);
     if writes(rt, &mut paged, &PRINT, change.before.text) {
@@ -207,7 +202,7 @@ fn edit(rt: &impl Abort, paged: &mut Failing, change: Change) -> Result<(), Refu
     }
 }
 
-/// Returns true if a change completes within a number of device calls.
+/// Returns true if `calls` calls suffice.
 fn changes(rt: &(impl Abort + AllocGlobal), change: Change, calls: u64, part: usize) -> bool {
     let stop = Stop {
         calls,
@@ -234,8 +229,6 @@ fn ends(
     false
 }
 
-/// Stops a change at each call, until the change completes. A change never completes without a
-/// call.
 fn stop_each(rt: &(impl Abort + AllocGlobal), change: Change, part: usize) {
     let mut finished = 0;
     for calls in 0..40 {

@@ -1,5 +1,4 @@
-//! The image of most examples, and helpers which run a command and compare its whole output,
-//! refusal and image.
+//! The image of most examples, and helpers for commands.
 use crate::edit::deeds::{COREBOOT, answer_into};
 use crate::edit::support::{A, LAST_448, LAST_512};
 use crate::support::{
@@ -10,21 +9,18 @@ use cbfs_edit::{HashChoice, Spot};
 use flash_store::Paged;
 use std::process::Abort;
 
-/// The flash map of a flash of 4096 bytes at 0xff000000: FMAP and COREBOOT, of 512 bytes each, and
-/// REST.
+/// The map of 4096 bytes at 0xff000000: FMAP and COREBOOT, of 512 bytes each, and REST.
 pub const BOARD: [u8; 182] = *b"__FMAP__\x01\x01\x00\x00\x00\xff\x00\x00\x00\x00\x00\x10\x00\x00\
 FLASH\0\0\0\0\0\0\0\0\0\0\0\0\0\0\0\0\0\0\0\0\0\0\0\0\0\0\0\x03\x00\
 \x00\x00\x00\x00\x00\x02\x00\x00FMAP\0\0\0\0\0\0\0\0\0\0\0\0\0\0\0\0\0\0\0\0\0\0\0\0\0\0\0\0\0\0\
 \x00\x02\x00\x00\x00\x02\x00\x00COREBOOT\0\0\0\0\0\0\0\0\0\0\0\0\0\0\0\0\0\0\0\0\0\0\0\0\0\0\
 \x00\x04\x00\x00\x00\x0c\x00\x00REST\0\0\0\0\0\0\0\0\0\0\0\0\0\0\0\0\0\0\0\0\0\0\0\0\0\0\0\0\0\0";
 
-/// The header of an empty entry of the last 320 bytes of a region.
 pub const LAST_320: [u8; 28] = *b"LARCHIVE\0\0\x01\x20\xff\xff\xff\xff\0\0\0\0\0\0\0\x1c\0\0\0\0";
 
-/// The region as one empty entry.
+/// A single empty entry.
 pub const FRESH: Parts<'static> = &[(0, &LAST_512)];
 
-/// The region with the component `a` of ten bytes.
 pub const WITH_A: Parts<'static> = &[(0, &A), (64, &LAST_448)];
 
 pub const PRINT: Command<'static> = Command::Print {
@@ -39,19 +35,18 @@ pub const PRINT_ALL: Command<'static> = Command::Print {
 
 pub const A_AND_416: &[u8] = b"a\t0x0\traw\t10\tnone\n(empty)\t0x40\tnull\t416\tnone\n";
 
-/// Returns the image with the given parts of its region, which begins at 0x200.
+/// Returns the image; the region begins at 0x200.
 pub fn board(rt: &(impl Abort + AllocGlobal), region: Parts) -> Vec<u8> {
     image_with(rt, 4096, &BOARD, 0x200, region)
 }
 
-/// Returns the image after a change of the region at an offset.
 pub fn changed(rt: &(impl Abort + AllocGlobal), region: Parts, at: usize, bytes: &[u8]) -> Vec<u8> {
     let mut image = board(rt, region);
     write_over(&mut image, at.saturating_add(0x200), bytes);
     image
 }
 
-/// Checks the output, the result and the image of a command with a source.
+/// Checks the output, the result and the image of a command.
 pub fn runs(
     rt: &(impl Abort + AllocGlobal),
     image: &[u8],
@@ -73,7 +68,7 @@ pub fn runs(
     drop(paged);
 }
 
-/// Checks the output and the result of a command without a change of the image.
+/// Checks a command without a change of the image.
 pub fn shows(
     rt: &(impl Abort + AllocGlobal),
     image: &[u8],
@@ -93,7 +88,6 @@ pub fn prints(
     shows(rt, &board(rt, region), &PRINT, text, answer);
 }
 
-/// Checks the listing of a region with attributes and digests.
 pub fn prints_all(rt: &(impl Abort + AllocGlobal), region: Parts, text: &[u8]) {
     shows(rt, &board(rt, region), &PRINT_ALL, text, Ok(()));
 }
@@ -120,7 +114,6 @@ pub struct Addition<'a> {
     pub content: &'a [u8],
 }
 
-/// Returns an addition without a digest at the first free space.
 pub fn plain<'a>(name: &'a [u8], content: &'a [u8]) -> Addition<'a> {
     spotted(name, Spot::First, content)
 }

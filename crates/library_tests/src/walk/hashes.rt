@@ -1,5 +1,4 @@
-//! The digest of a component of several pieces. `checks/check_cbfstool` tests other digests,
-//! contents and algorithms.
+//! The digest of a component of several pieces.
 ghost use Rattle.std.specs.Prelude.{◌≡◌, false};
 ghost use Rattle.flash_format.specs.Head.{is_free};
 ghost use Rattle.cbfs_walk.specs.Cells.{IsCellIn};
@@ -11,11 +10,11 @@ use flash_format::Digest;
 use flash_store::{FlashFault, Paged, Region};
 use std::process::Abort;
 
-/// The component `h` of 4097 bytes, with a digest of SHA-256.
+/// The component `h` of 4097 bytes, up to the digest.
 const HASHED: [u8; 52] =
     *b"LARCHIVE\0\0\x10\x01\0\0\0\x50\0\0\0\x28\0\0\0\x54h\0\0\0\0\0\0\0\0\0\0\0\0\0\0\0hsaH\0\0\0\x2c\0\0\0\x02";
 
-/// The content, and its digest, computed by Python.
+/// The content, and the digest as computed by Python.
 const CONTENT: [u8; 4097] = [7; 4097];
 
 const DIGEST: [u8; 32] =
@@ -34,7 +33,6 @@ fn hashed(rt: &(impl Abort + AllocGlobal)) -> (Region, Cell)
     (region, cell.expect(rt, "a component"))
 }
 
-/// Checks the hash state on another device with the component and a limited number of calls.
 fn fails_after(rt: &(impl Abort + AllocGlobal), calls: u64, want: &Result<HashState, FlashFault>) {
     let mut paged = failing(rt, 4544, PARTS, calls);
     let (region, cell) = hashed(rt);

@@ -1,6 +1,4 @@
-//! Behaviour without clauses: literal bytes, and the effects of calls. `checks/check_cbfstool`,
-//! `checks/check_create`, `checks/check_files` and `checks/check_cbfscheck` test system files,
-//! their lengths and locks.
+//! The buffer, and files with short or failed calls.
 use crate::support::{device_with, equal, filled, same_bytes, write_over};
 use flash_format::HEADER_LENGTH;
 use flash_store::{
@@ -9,7 +7,7 @@ use flash_store::{
 };
 use std::process::Abort;
 
-/// The map of a flash of 4096 bytes at 0xff000000: FMAP of 512 bytes, and COREBOOT of the rest.
+/// The map of 4096 bytes: FMAP of 512 bytes, and COREBOOT.
 const MAP: [u8; 140] = *b"__FMAP__\x01\x01\x00\x00\x00\xff\x00\x00\x00\x00\x00\x10\x00\x00\
 FLASH\x00\x00\x00\x00\x00\x00\x00\x00\x00\x00\x00\x00\x00\x00\x00\x00\x00\x00\x00\x00\x00\x00\x00\x00\x00\x00\x00\x02\x00\
 \x00\x00\x00\x00\x00\x02\x00\x00\
@@ -17,8 +15,7 @@ FMAP\x00\x00\x00\x00\x00\x00\x00\x00\x00\x00\x00\x00\x00\x00\x00\x00\x00\x00\x00
 \x00\x02\x00\x00\x00\x0e\x00\x00\
 COREBOOT\x00\x00\x00\x00\x00\x00\x00\x00\x00\x00\x00\x00\x00\x00\x00\x00\x00\x00\x00\x00\x00\x00\x00\x00\x00\x00";
 
-/// The region of an area's name, and no region for a name with a NUL, which no argument can
-/// contain.
+/// A name with a NUL, which no argument contains, has no region.
 #[test]
 fn areas_are_those_of_the_map(rt: HostRuntime) {
     let mut paged = Paged::new(device_with(&rt, 4096, &[(0x80, &MAP)]));
@@ -44,7 +41,6 @@ fn what_is_read_after_a_write_is_what_the_device_holds(rt: HostRuntime) {
     drop(paged);
 }
 
-/// Writes in each way into the loaded window.
 fn write_each(rt: &impl Abort, paged: &mut Paged<MemFlash>) {
     agrees(rt, paged, b"3,04,");
     push_six(rt, paged);
@@ -82,7 +78,7 @@ fn copy_six(rt: &impl Abort, paged: &mut Paged<MemFlash>) {
     drop(source);
 }
 
-/// Checks the bytes from 110 on, and the device's bytes after them.
+/// Checks that a read at 110 begins with `written`, and equals the device's bytes.
 fn agrees(rt: &impl Abort, paged: &mut Paged<MemFlash>, written: &[u8]) {
     let mut seen = [0; 100];
     assert!(rt; paged.len() == 9000);
@@ -92,8 +88,7 @@ fn agrees(rt: &impl Abort, paged: &mut Paged<MemFlash>, written: &[u8]) {
     same_bytes(rt, held, &seen);
 }
 
-/// Returns a file of the hundred bytes with a maximum transfer, an interruption at each fourth
-/// call, and a limited number of calls.
+/// Returns a file with an interruption at each fourth call.
 fn flaky(rt: &(impl Abort + AllocGlobal), most: usize, calls: u64) -> FlakyFile {
     let bytes = NUMBERED.to_vec(rt.alloc()).expect(rt, "memory");
     FlakyFile::new(bytes, most, 3, calls)
@@ -149,15 +144,14 @@ fn a_file_that_refuses_is_not_erased(rt: HostRuntime) {
     assert!(rt; Erased::erase(flaky(&rt, 7, 10)).is_err());
 }
 
-// ---- a header across two blocks of a file
+// ---- headers across two blocks
 
-/// The offset of a header with twelve bytes in one block and sixteen in the next.
+/// An offset twelve bytes before a block boundary.
 const OVER_THE_BORDER: u64 = 4096 - 12;
 
 const NEW_HEADER: [u8; HEADER_LENGTH] = *b"twenty-eight bytes of header";
 
-/// Commits the header to a file with a maximum transfer and a limited number of calls. Checks the
-/// result, and that the file has the new or the old bytes.
+/// Checks that the file has the new or the old bytes.
 fn commits(rt: &(impl Abort + AllocGlobal), most: usize, calls: u64, is_done: bool) {
     let mut wanted = filled(rt, b'o', 8192);
     let old = filled(rt, b'o', 8192);
@@ -173,7 +167,7 @@ fn commits(rt: &(impl Abort + AllocGlobal), most: usize, calls: u64, is_done: bo
     drop(wanted);
 }
 
-/// A file with a first write of at most twelve bytes fails.
+/// A commit succeeds only if a single write takes all 28 bytes.
 #[test]
 fn a_header_over_a_border_is_whole_or_absent(rt: HostRuntime) {
     commits(&rt, 12, 5000, false);

@@ -1,5 +1,4 @@
-//! A dishonest device, and a device with a fault at each call. `checks/check_cbfstool` tests the
-//! content of regions and their refusals.
+//! Walks over a dishonest device, and over a device with a fault at each call.
 ghost use Rattle.std.specs.Prelude.{◌≡◌};
 ghost use Rattle.flash_device.specs.Regions.{LiesIn};
 
@@ -12,18 +11,17 @@ use std::process::Abort;
 
 pub type Answer = Result<Step, WalkFault>;
 
-/// Free space of 340 bytes.
 const NULL_340: [u8; 40] =
     *b"LARCHIVE\0\0\x01\x54\xff\xff\xff\xff\0\0\0\0\0\0\0\x28\0\0\0\0\0\0\0\0\0\0\0\0\0\0\0\0";
 
-/// A component `a` of 3992 bytes in a cell of 4032.
+/// A component of 3992 bytes in a cell of 4032.
 const LONG: [u8; 40] =
     *b"LARCHIVE\0\0\x0f\x98\0\0\0\x50\0\0\0\0\0\0\0\x28a\0\0\0\0\0\0\0\0\0\0\0\0\0\0\0";
 
-/// The head of a component of ten bytes with a name field of 64.
+/// A head with a name field of 64 bytes.
 const WIDE: [u8; 24] = *b"LARCHIVE\0\0\0\x0a\0\0\0\x50\0\0\0\0\0\0\0\x58";
 
-/// An empty component with a name and space up to the next entry.
+/// An empty component in a cell of 64 bytes.
 const LIE: [u8; 64] =
     *b"LARCHIVE\0\0\0\0\0\0\0\x50\0\0\0\0\0\0\0\x28l\0\0\0\0\0\0\0\0\0\0\0\0\0\0\0\0\0\0\0\0\0\0\0\0\0\0\0\0\0\0\0\0\0\0\0\0\0\0\0";
 
@@ -74,7 +72,7 @@ fn damaged(at: u64, kind: DamageKind) -> WalkFault {
     WalkFault::Damaged { at, kind }
 }
 
-/// A device with neighbouring components at every offset, and other content at each call.
+/// A device with adjacent components at every offset, and other content at each call.
 #[derive(Drop)]
 struct Liar {
     len: u32,
@@ -127,8 +125,7 @@ fn a_walk_over_lies_ends(rt: HostRuntime) {
         calls: Counter::new(),
     });
     let mut walk = Walk::new(whole(&rt, &paged));
-    // Four calls: contents of 30 and then of 60 bytes in cells of 128, of 90 and of 120 in cells of
-    // 192.
+    // Four calls: contents of 30 and 60 bytes in cells of 128, of 90 and 120 in cells of 192.
     pass(&mut walk, &mut paged, 85);
     answers(&rt, &mut walk, &mut paged, &[gives(12224, 90, RAW, 192)]);
     pass(&mut walk, &mut paged, 20);
@@ -138,8 +135,7 @@ fn a_walk_over_lies_ends(rt: HostRuntime) {
     drop(paged);
 }
 
-/// A long component, a component whose head ends a window and whose name is in the next window, and
-/// free space: two reads.
+/// A long component, a component across two windows, and free space: two reads.
 const LONGER: Parts = &[(0, &LONG), (4032, &WIDE), (4056, b"w\0"), (4160, &NULL_340)];
 
 fn wide() -> Cell {
@@ -156,8 +152,7 @@ fn wide() -> Cell {
     }
 }
 
-/// Checks the results of a walk with a limited number of device calls, and the results afterwards
-/// on an equal device.
+/// Checks a stopped walk, and the rest on an equal device.
 fn goes_on(rt: &(impl Abort + AllocGlobal), calls: u64, first: &[Answer], then: &[Answer]) {
     let mut stopped = failing(rt, 4544, LONGER, calls);
     let mut sound = failing(rt, 4544, LONGER, ALL);

@@ -12,7 +12,7 @@ use Rattle.cbfs_commands.proofs.Telling.{handed}
 use Rattle.cbfs_commands.proofs.read.copy_out.Goals as goal
 
 module _ {F W : Type 0} {facts : F → Device} {contents : W → Option (List ℕ)} {faults : W → ℕ} {k at n : ℕ} {old new : Pages F} {a b : W} {answer : Answer} where
-  -- a copy that stopped has written some of the first bytes
+  -- an interrupted copy writes a prefix
   stopped : (fault : CopyFault) → HasCopiedOut {T = Unit {0}} facts contents faults k at n old new a b (Err fault) → IsErrAnd answer (λ r. r ≡ copy_refusal fault)
       → HasTold facts contents faults k old new a b answer (λ image. shows (slice_range image at (at + n)))
   stopped copy.Device copied is = subst (λ (r : Answer). HasTold facts contents faults k old new a b r (λ image. shows (slice_range image at (at + n)))) (handed answer refusals.Device is) (record {

@@ -5,7 +5,7 @@ use Rattle.clap.specs.Simple.{app_of_fields}
 use Rattle.check_line.specs.CheckWords.{flag}
 use Rattle.check_line.proofs.words.whole_command.Goals as goal
 
--- a command whose words begin after the program's name
+-- without the program's name
 abbrev nameless : App → App
 nameless a = record a { top = record a.top { no_binary_name = true } }
 

@@ -10,7 +10,7 @@ use Rattle.check_report.proofs.change.inspect_new.Goals as goal
 
 pub returns-clause-image : goal.returns-clause-image
 returns-clause-image g c = λ h k is.
-    let y = (g.G.Flash.facts c.args.new.now.device).content in
+    let y = (g.G.Flash.facts c.args.images.now.new_image.device).content in
     let wish = wish_of c.args.request in
     let seen = c.in_ok-checked.ensures.after.device in
     let names =

@@ -1,9 +1,9 @@
 use Rattle.std.proofs.Common.{Ok, take}
 use Rattle.std.specs.List.{flat_map}
 use Rattle.check_report.specs.Lists.{components_in}
-use Rattle.check_report.specs.Rows.Writing.{Lists}
+use Rattle.check_report.specs.Rows.Writing.{PrintsLines}
 use Rattle.check_report.proofs.list.list_components.Given as goal
 
 abbrev pub invariant-loop-finding : goal.invariant-loop-finding
-invariant-loop-finding g l = Lists g.W.Sink.contents (Ok tt) l.initial.list l.list
+invariant-loop-finding g l = PrintsLines g.W.Sink.contents g.W.Sink.faults (Ok tt) l.initial.printer l.printer
     (flat_map components_in (take l.finding-index l.findings))

@@ -1,4 +1,4 @@
--- Edits of two regions that lie apart.
+-- Edits of two separate regions.
 use Rattle.std.proofs.Common.{◌≡◌, ◌⊎◌, inl, inr, ℕ, ◌+◌, ◌≤◌, List, length, sym, ◌∙◌, ap, arith}
 use Rattle.flash_device.specs.Device.{overwritten}
 use Rattle.flash_device.specs.Regions.{Range, LiesIn, bytes_in}
@@ -11,7 +11,7 @@ turned : (r s : Range) → LieApart r s → LieApart s r
 turned r s (inl before) = inr before
 turned r s (inr after) = inl after
 
--- an edit of one is a write that the other doesn't see
+-- an edit of a region is a write without effect on the other
 seen : (image : List ℕ) (r s : Range) (u : List ℕ) (last : List ℕ → List ℕ) → LiesIn r image → LieApart r s → length u ≡ r.size → with_edit s last (overwritten image r.start u) ≡ overwritten (overwritten image r.start u) s.start (last (bytes_in s image))
 seen image r s u last lies apart long =
     ap (λ (l : List ℕ). overwritten (overwritten image r.start u) s.start (last l)) (written_beside s image r.start u (omega (arith, lies)) (where_it_is apart))

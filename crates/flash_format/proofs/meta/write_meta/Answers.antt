@@ -10,7 +10,7 @@ use Rattle.flash_format.proofs.MadeLaws.{length-padded}
 use Rattle.flash_format.proofs.PutLemmas.{then}
 use Rattle.flash_format.proofs.meta.write_meta.Goals as goal
 
--- four writes, one after the other
+-- four consecutive writes
 in_a_row : (x y z v w : List ℕ) (head name hash gap : List ℕ) (p q r s : ℕ) → p ≡ length head → q ≡ p + length name → r ≡ q + length hash → s ≡ r + length gap → s ≤ length x
     → y ≡ splice x 0 p head → z ≡ splice y p q name → v ≡ splice z q r hash → w ≡ splice v r s gap
     → (s ≡ length (head ++ name ++ hash ++ gap)) × (take s w ≡ head ++ name ++ hash ++ gap) × (drop s w ≡ drop s x)

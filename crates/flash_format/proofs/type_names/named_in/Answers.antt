@@ -7,7 +7,7 @@ use Rattle.flash_format.proofs.type_names.named_in.Goals as goal
 abbrev no_row : ℕ × Bor (List ℕ)
 no_row = (0, record { ref_ptr = (0, 0); now = [] })
 
--- one row, which has the name or not
+-- one row
 named-from : (rows : List (ℕ × Bor (List ℕ))) (i : ℕ) (text : List ℕ) (known : Bool) → i < length rows →
     bytes_eq text (get_or rows i no_row).1.now ≡ known →
     named_in (map (λ row. (row.0, row.1.now)) (drop i rows)) text

@@ -4,7 +4,7 @@ use Rattle.fmd_lang.specs.Numbers.{number_at, number_value}
 use Rattle.fmd_lang.specs.declared.fault.FmdFault.{FmdFault}
 use Rattle.fmd_lang.proofs.number.read_number.Goals as goal
 
--- What a product of a capped value says of the value itself.
+-- The capped value gives the same result as the exact value.
 number_at-scaled : (at : ℕ) (exact : Option ℕ) (value unit : ℕ) (answer : Result ℕ FmdFault) →
     Some value ≡ option_map (min (2 ^ 32)) exact →
     ((n : ℕ) → value ≡ min (2 ^ 32) n → answer ≡ number_at at (Some (n * unit))) →

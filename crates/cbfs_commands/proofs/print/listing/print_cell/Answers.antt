@@ -6,7 +6,6 @@ use Rattle.cbfs_commands.specs.Told.{Told, cell_of, shows}
 use Rattle.cbfs_commands.proofs.Telling.{so_far-ends, so_far-of, still_cell, told-stopped, told-within}
 use Rattle.cbfs_commands.proofs.print.listing.print_cell.Goals as goal
 
--- the lines after a cell's row
 abbrev lines : Bool → List ℕ → Told
 lines verbose x = shows (cond (verbose && not (is_free (head_of x))) (details x) [])
 

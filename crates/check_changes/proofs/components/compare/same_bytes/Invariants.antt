@@ -1,19 +1,12 @@
-use Rattle.std.proofs.Common.{◌≡◌, ◌+◌, ◌-◌, ◌<◌, ◌≤◌, ◌/◌, ◌%◌}
-use Rattle.std.specs.Prelude.{IsTrue}
-use Rattle.check_changes.specs.Images.{HasReadBoth}
+use Rattle.check_changes.specs.Images.{HasReadBoth, OnBothIn}
 use Rattle.check_changes.proofs.ComponentLemmas.Reading.{AreSame}
 use Rattle.check_changes.proofs.components.compare.same_bytes.Given as goal
 
-abbrev pub invariant-loop-done : goal.invariant-loop-done
-invariant-loop-done g l =
-    let old = g.F.Flash.facts l.fn.old.device in
-    let new = g.G.Flash.facts l.fn.new.device in
+abbrev pub invariant-loop-number : goal.invariant-loop-number
+invariant-loop-number g l =
+    let f = g.F.Flash.facts in
+    let k = g.G.Flash.facts in
     record {
-      within : l.done ≤ l.n;
-      whole_pieces : l.done < l.n → l.done % 4096 ≡ 0;
-      read : HasReadBoth g.F.Flash.facts g.G.Flash.facts ((l.done + 4095) / 4096) 0 0 l.fn.old l.old l.fn.new l.new;
-      same : IsTrue old.honest → IsTrue new.honest → AreSame old.content new.content l.before l.after l.done;
+      read : HasReadBoth f k l.number l.number 0 0 l.initial.images l.images;
+      same : OnBothIn f k l.initial.images l.regions (AreSame l.number);
     }
-
-abbrev pub decreases-loop-done : goal.decreases-loop-done
-decreases-loop-done g l = l.n - l.done

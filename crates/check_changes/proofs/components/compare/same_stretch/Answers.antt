@@ -1,14 +1,12 @@
 use Rattle.std.proofs.Common.{◌-◌, arith}
-use Rattle.check_changes.proofs.ComponentLemmas.Reading.{region_part}
+use Rattle.check_changes.proofs.ComponentLemmas.Reading.{bytes_in-part}
 use Rattle.check_changes.proofs.components.compare.same_stretch.Goals as goal
 
 pub returns-clause-same : goal.returns-clause-same
 returns-clause-same g c = λ h k.
-    let x = (g.F.Flash.facts c.args.old.now.device).content in
-    let y = (g.G.Flash.facts c.args.new.now.device).content in
-    let before = c.args.before in
-    let after = c.args.after in
-    let n = before.end - before.from in
-    let old = region_part x c.args.old_region c.start.result before.from n before.end c.start.ensures (omega (arith, c.requires.old_order)) c.requires.before in
-    let new = region_part y c.args.new_region c.start-2.result after.from n after.end c.start-2.ensures (omega (arith, c.requires.old_order, c.requires.new_order, c.if-n-after.false)) c.requires.after in
-    rw new at (rw old at (c.same_bytes.ensures.same h k))
+    let old = c.args.old in
+    let new = c.args.new in
+    let n = old.end - old.from in
+    let x = bytes_in-part (g.F.Flash.facts c.args.images.now.old_image.device).content c.args.regions.old _ c.start.result old.from n old.end c.in-Some.ensures.0 c.start.ensures (omega (arith, c.requires.old_order)) c.requires.old in
+    let y = bytes_in-part (g.G.Flash.facts c.args.images.now.new_image.device).content c.args.regions.new _ c.start-2.result new.from n new.end c.in-Some-within.ensures.0 c.start-2.ensures (omega (arith, c.requires.old_order, c.requires.new_order, c.if-n-new.false)) c.requires.new in
+    rw y at (rw x at (c.same_bytes.ensures.same h k))

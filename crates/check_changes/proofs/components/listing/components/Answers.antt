@@ -1,5 +1,5 @@
-use Rattle.std.proofs.Common.{refl, arith}
-use Rattle.check_changes.proofs.ComponentLemmas.ListingLemmas.{listing_start, listing_more, listing_end, error_of}
+use Rattle.std.proofs.Common.{refl}
+use Rattle.check_changes.proofs.ComponentLemmas.ListingLemmas.{listing_start, listing_more, listing_lists, error_of}
 use Rattle.check_changes.proofs.components.listing.components.Goals as goal
 
 pub loop-cell-init : goal.loop-cell-init
@@ -17,30 +17,15 @@ loop-cell-preserved g c =
 
 pub returns-in-Ok-Tail-clause-lists : goal.returns-in-Ok-Tail-clause-lists
 returns-in-Ok-Tail-clause-lists g c =
-    let i = c.loop-cell.invariant in
     let answer = rw c.in-Ok-Tail.field-0-is at c.in-Ok-Tail.ensures.answer in
-    record {
-      cells = i.cells;
-      room = omega (arith, i.room, i.inside);
-      shown = listing_end g.F.Flash.facts c.args.region c.loop-cell.walk c.loop-cell.all.items _ _ c.requires i _ (λ c e. absurd cc) (λ e. absurd cc) answer;
-    }
+    listing_lists g.F.Flash.facts c.args.region c.loop-cell.walk c.loop-cell.all _ _ c.requires c.loop-cell.invariant _ (λ c e. absurd cc) (λ e. absurd cc) answer
 
 pub returns-in-Ok-End-clause-lists : goal.returns-in-Ok-End-clause-lists
 returns-in-Ok-End-clause-lists g c =
-    let i = c.loop-cell.invariant in
     let answer = rw c.in-Ok-End.field-0-is at c.in-Ok-End.ensures.answer in
-    record {
-      cells = i.cells;
-      room = omega (arith, i.room, i.inside);
-      shown = listing_end g.F.Flash.facts c.args.region c.loop-cell.walk c.loop-cell.all.items _ _ c.requires i _ (λ c e. absurd cc) (λ e. absurd cc) answer;
-    }
+    listing_lists g.F.Flash.facts c.args.region c.loop-cell.walk c.loop-cell.all _ _ c.requires c.loop-cell.invariant _ (λ c e. absurd cc) (λ e. absurd cc) answer
 
 pub returns-in-Err-clause-lists : goal.returns-in-Err-clause-lists
 returns-in-Err-clause-lists g c =
-    let i = c.loop-cell.invariant in
     let other = c.in_ok-ended-in-Err.ensures.ended in
-    record {
-      cells = i.cells;
-      room = omega (arith, i.room, i.inside);
-      shown = listing_end g.F.Flash.facts c.args.region c.loop-cell.walk c.loop-cell.all.items _ _ c.requires i _ (λ c e. absurd cc) (λ e. other (error_of _ e)) c.in-Err.ensures.answer;
-    }
+    listing_lists g.F.Flash.facts c.args.region c.loop-cell.walk c.loop-cell.all _ _ c.requires c.loop-cell.invariant _ (λ c e. absurd cc) (λ e. other (error_of _ e)) c.in-Err.ensures.answer

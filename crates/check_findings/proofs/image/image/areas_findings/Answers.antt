@@ -1,7 +1,7 @@
 use Rattle.std.proofs.Common.{◌≤◌, arith}
 use Rattle.flash_device.proofs.DeviceLemmas.{honest_still}
 use Rattle.flash_device.proofs.WindowLemmas.{HasRead-then, HasRead-within}
-use Rattle.check_findings.proofs.ImageLemmas.Regions.{checked_more, told_all, told_more}
+use Rattle.check_findings.proofs.ImageLemmas.Regions.{checked_more, found_all, found_more}
 use Rattle.check_findings.proofs.image.image.areas_findings.Goals as goal
 
 pub area_finding-requires : goal.area_finding-requires
@@ -16,9 +16,9 @@ loop-area-preserved g c =
     record {
       read = HasRead-within _ _ _ 0 _ _ (omega (arith, had.checked.total, add.left, fewer)) (HasRead-then _ _ _ 0 _ _ _ had.read add.after);
       checked = rw (c.in_ok-push.ensures, add.left) (checked_more _ c.loop-area.area-index c.loop-area.left _ c.in_ok-finding.finding c.loop-area.findings.items (c.requires c.loop-area.area-index _ c.loop-area-test.true) add.area had.checked);
-      told = λ h names has. rw add.left (told_more _ names c.loop-area.left c.loop-area.area-index c.args.areas.now _ c.in_ok-finding.finding _ _ _ c.loop-area-test.true c.in_ok-push.ensures
-          (rw (device.unchanged h) at (add.told (honest_still device.calls.same_honesty h) names has)) (had.told h names has));
+      found = λ h names has. rw add.left (found_more _ names c.loop-area.left c.loop-area.area-index c.args.areas.now _ c.in_ok-finding.finding _ _ _ c.loop-area-test.true c.in_ok-push.ensures
+          (rw (device.unchanged h) at (add.found (honest_still device.calls.same_honesty h) names has)) (had.found h names has));
     }
 
-pub returns-clause-told : goal.returns-clause-told
-returns-clause-told g c = λ h names has. told_all _ names c.loop-area.left c.loop-area.area-index c.args.areas.now _ _ (omega arith) (c.loop-area.invariant.told h names has)
+pub returns-clause-found : goal.returns-clause-found
+returns-clause-found g c = λ h names has. found_all _ names c.loop-area.left c.loop-area.area-index c.args.areas.now _ _ (omega arith) (c.loop-area.invariant.found h names has)

@@ -10,8 +10,8 @@ invariant-loop-area g l =
     let facts = g.F.Flash.facts in
     let n = length (facts l.initial.paged.device).content in
     record {
-      read : HasRead facts ((8 * n - l.left) / 16 + 2 * l.area-index) 0 l.initial.paged l.paged;
+      read : HasRead facts ((2 * n - l.left) / 16 + 2 * l.area-index) 0 l.initial.paged l.paged;
       checked : AreChecked n l.area-index l.left (region_areas l.findings.items);
-      told : OnHonest facts l.initial.paged.device (λ image. (names : List (List ℕ)) → HasNames l.expected names →
-          l.findings.items ++ areas_findings image names l.left (drop l.area-index l.areas) ≡ areas_findings image names (8 * length image) l.areas);
+      found : OnHonest facts l.initial.paged.device (λ image. (names : List (List ℕ)) → HasNames l.expected names →
+          l.findings.items ++ areas_findings image names l.left (drop l.area-index l.areas) ≡ areas_findings image names (2 * length image) l.areas);
     }

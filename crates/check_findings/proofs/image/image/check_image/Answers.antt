@@ -2,7 +2,7 @@ use Rattle.std.proofs.Common.{◌≤◌, ◌∙◌, All, length, ap, subst, sym,
 use Rattle.flash_device.proofs.DeviceLemmas.{honest_still}
 use Rattle.check_findings.specs.Map.MapFindings.{area_end}
 use Rattle.check_findings.specs.Image.RegionAreas.{region_areas, sum_sizes}
-use Rattle.check_findings.proofs.ImageLemmas.Regions.{listed, region_areas-listed, told_image}
+use Rattle.check_findings.proofs.ImageLemmas.Regions.{listed, region_areas-listed, found_image}
 use Rattle.check_findings.proofs.image.image.check_image.Goals as goal
 
 pub returns-clause-total : goal.returns-clause-total
@@ -27,7 +27,7 @@ returns-clause-findings g c = λ h.
     let wanted = c.wanted_areas.ensures.after.device in
     let here = honest_still map.calls.same_honesty h in
     let named = rw (map.unchanged h, c.deref-2.ensures.value) at (c.in_ok-wanted.ensures.areas here _ c.in_ok-set.ensures) in
-    let told = rw (wanted.unchanged here, map.unchanged h, c.deref-3.ensures.value, named) at (c.in_ok-regions.ensures.told (honest_still wanted.calls.same_honesty here) _ c.in_ok-set.ensures) in
-    told_image _ _ _ c.deref.result.now c.deref-4.result.now c.in_ok-regions.regions.items _
+    let found = rw (wanted.unchanged here, map.unchanged h, c.deref-3.ensures.value, named) at (c.in_ok-regions.ensures.found (honest_still wanted.calls.same_honesty here) _ c.in_ok-set.ensures) in
+    found_image _ _ _ c.deref.result.now c.deref-4.result.now c.in_ok-regions.regions.items _
     (listed c.deref.result.now c.deref-4.result.now _ _ c.in_ok-regions.regions.items _ _ c.in_ok-findings.ensures c.in_ok-append.ensures.items c.in_ok-push_missing.ensures)
-    (c.deref.ensures.value ∙ c.in_ok-map.ensures.answer h) (c.deref-4.ensures.value ∙ c.in_ok-map.ensures.areas h) (rw c.deref-4.ensures.value told)
+    (c.deref.ensures.value ∙ c.in_ok-map.ensures.answer h) (c.deref-4.ensures.value ∙ c.in_ok-map.ensures.areas h) (rw c.deref-4.ensures.value found)

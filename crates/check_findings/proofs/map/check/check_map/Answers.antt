@@ -1,34 +1,23 @@
-use Rattle.std.proofs.Common.{rules, sym, ◌∙◌}
+use Rattle.std.proofs.Common.{refl, sym, ap, ◌∙◌}
 use Rattle.flash_device.proofs.DeviceLemmas.{honest_still}
-use Rattle.check_findings.proofs.MapLemmas.Telling.{none-told, map-told, none-listed, map-listed}
+use Rattle.check_findings.proofs.MapLemmas.Whole.{no_map-findings, map-findings, map-areas}
 use Rattle.check_findings.proofs.map.check.check_map.Goals as goal
-
-pub returns-in_default-clause-after : goal.returns-in_default-clause-after
-returns-in_default-clause-after g c = search rules
-
-pub returns-in_default-clause-answer : goal.returns-in_default-clause-answer
-returns-in_default-clause-answer g c = λ h.
-    none-told _ _ _ (sym c.in_default.is) (c.in_ok-map.ensures.found h) c.in_ok-findings.ensures
-
-pub returns-in_default-clause-areas : goal.returns-in_default-clause-areas
-returns-in_default-clause-areas g c = λ h.
-    none-listed _ _ _ (sym c.in_default.is) (c.in_ok-map.ensures.found h) c.new-areas.ensures.items
+use Rattle.check_findings.proofs.map.check.check_map.Goals.{in-Some+in_ok-next-in-Some+in_ok-findings-in-Some, in-None+in_ok-findings-in-None}
 
 pub returns-clause-answer : goal.returns-clause-answer
 returns-clause-answer g c = λ h.
     let image = (g.F.Flash.facts c.args.paged.now.device).content in
-    let search = c.find_fmap.ensures.after.read.device in
-    let above = c.find_fmap_from.ensures.after.read.device in
-    let searched = honest_still search.calls.same_honesty h in
-    map-told image _ c.in-Some.map c.in_ok-next.next c.len-len.result c.deref.result.now (rw c.in-Some.is at (c.in_ok-map.ensures.found h))
-    (rw (search.unchanged h) at (c.in_ok-next.ensures.found searched)) c.len-len.ensures.length
-    (c.deref.ensures.value ∙ rw (above.unchanged searched ∙ search.unchanged h) at (c.in_ok-areas.ensures.areas (honest_still above.calls.same_honesty searched)))
-    c.in_ok-findings-2.ensures
-
-pub returns-clause-areas : goal.returns-clause-areas
-returns-clause-areas g c = λ h.
-    let search = c.find_fmap.ensures.after.read.device in
-    let above = c.find_fmap_from.ensures.after.read.device in
-    let searched = honest_still search.calls.same_honesty h in
-    map-listed _ _ c.in-Some.map (rw c.in-Some.is at (c.in_ok-map.ensures.found h))
-    (rw (above.unchanged searched ∙ search.unchanged h) at (c.in_ok-areas.ensures.areas (honest_still above.calls.same_honesty searched)))
+    let searched = honest_still c.image_map.ensures.after.device.calls.same_honesty h in
+    let same = c.image_map.ensures.after.device.unchanged h in
+    elim c.match-found.branch [
+      | in-Some+in_ok-next-in-Some+in_ok-findings-in-Some w ↦
+          let map = w.in-Some.map in
+          let found = sym w.in-Some.is ∙ c.in_ok-found.ensures.found h in
+          let listed = map-areas image _ map found refl in
+          ap (λ v. v.items) w.findings-is
+          ∙ map-findings image _ map _ _ _ found (rw same at (w.in_ok-next-in-Some.ensures.found searched)) c.len-len.ensures.length
+          (w.deref.ensures.value ∙ c.in_ok-found.ensures.areas h ∙ sym listed) w.in_ok-findings-in-Some.ensures
+      | in-None+in_ok-findings-in-None w ↦
+          ap (λ v. v.items) w.findings-is
+          ∙ no_map-findings image _ _ (sym w.in-None.is) (c.in_ok-found.ensures.found h) w.in_ok-findings-in-None.ensures
+    ]

@@ -7,5 +7,5 @@ use Rattle.check_findings.proofs.map.names.push_name_findings.Given as goal
 abbrev pub invariant-loop-a : goal.invariant-loop-a
 invariant-loop-a l = record {
   notes : Notes l.names (take l.a-index l.areas);
-  told : l.findings.items ++ names_left l.areas l.a-index ≡ l.initial.findings.items ++ name_findings [] l.areas;
+  found : l.findings.items ++ names_left l.areas l.a-index ≡ l.initial.findings.items ++ name_findings [] l.areas;
 }

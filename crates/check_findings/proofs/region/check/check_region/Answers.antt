@@ -1,7 +1,5 @@
-use Rattle.std.proofs.Common.{List, ◌+◌, ◌++◌, ap, append_assoc, refl, rules, sym, ◌∙◌}
+use Rattle.std.proofs.Common.{◌+◌, ap, refl, rules, sym, ◌∙◌}
 use Rattle.cbfs_walk.specs.Walks.{Walking}
-use Rattle.check_findings.specs.Region.Reports.{counted}
-use Rattle.check_findings.specs.declared.region.finding.RegionFinding.{RegionFinding}
 use Rattle.check_findings.proofs.RegionLemmas.Checking.{checking_start, checking_more, checking_end, checking_tail, checking_refused}
 use Rattle.check_findings.proofs.region.check.check_region.Goals as goal
 
@@ -19,22 +17,21 @@ loop-cell-preserved g c =
     let answer = rw is at c.in-Ok-Cell.ensures.answer in
     let moved = rw is at c.in-Ok-Cell.ensures.moved in (
       checking_more g.F.Flash.facts c.args.region c.loop-cell.walk c.loop-cell.report c.loop-cell.count _ _ c.requires c.loop-cell.invariant.0 c.in-Ok-Cell.cell _ _ _ _ _ _ _
-          given reads refl c.in_ok-tell_cell-in-Ok-Cell.ensures.after refl answer moved c.with-count.ensures.before c.with-count.ensures.is c.in_ok-tell_cell-in-Ok-Cell.ensures.told,
+          given reads refl c.in_ok-push_cell-in-Ok-Cell.ensures.after refl answer moved c.with-count.ensures.before c.with-count.ensures.is c.in_ok-push_cell-in-Ok-Cell.ensures.found,
       ap (λ at. at + c.in-Ok-Cell.cell.span) given.1 ∙ sym (ap (λ (w : Walking). w.at) moved),
     )
 
 pub returns-in-Ok-Tail-clause-findings : goal.returns-in-Ok-Tail-clause-findings
-returns-in-Ok-Tail-clause-findings g c = λ h.
+returns-in-Ok-Tail-clause-findings g c =
     let is = c.in-Ok-Tail.field-0-is in
-    c.in_ok-counted-in-Ok-Tail.ensures
-    ∙ checking_tail g.F.Flash.facts c.args.region c.loop-cell.walk c.loop-cell.report c.loop-cell.count _ _ c.requires c.loop-cell.invariant.0 _ c.loop-cell.at _ _ _ (rw is at c.in-Ok-Tail.ensures.answer) c.loop-cell.invariant.1
-    (rw is at c.in-Ok-Tail.ensures.after) c.in_ok-tell_tail-in-Ok-Tail.ensures.told h
+    checking_tail g.F.Flash.facts c.args.region c.loop-cell.walk c.loop-cell.report c.loop-cell.count _ _ c.requires c.loop-cell.invariant.0 _ c.loop-cell.at _ _ c.push_tail.new.report _ (rw is at c.in-Ok-Tail.ensures.answer) c.loop-cell.invariant.1
+    (rw is at c.in-Ok-Tail.ensures.after) c.in_ok-push_tail-in-Ok-Tail.ensures.found c.in_ok-counted-in-Ok-Tail.ensures
 
 pub returns-in-Ok-End-clause-findings : goal.returns-in-Ok-End-clause-findings
-returns-in-Ok-End-clause-findings g c = λ h.
-    let told = checking_end g.F.Flash.facts c.args.region c.loop-cell.walk c.loop-cell.report c.loop-cell.count _ _ c.requires c.loop-cell.invariant.0 c.size-size.result (rw c.in-Ok-End.field-0-is at c.in-Ok-End.ensures.answer) c.size-size.ensures h in
-    c.in_ok-counted-in-Ok-End.ensures ∙ ap (λ (l : List RegionFinding). l ++ counted c.loop-cell.count c.size-size.result) c.in_ok-tell-in-Ok-End.ensures.findings ∙ append_assoc c.loop-cell.report.findings.items _ _ ∙ told
+returns-in-Ok-End-clause-findings g c =
+    checking_end g.F.Flash.facts c.args.region c.loop-cell.walk c.loop-cell.report c.loop-cell.count _ _ c.requires c.loop-cell.invariant.0 c.push.new.self c.size-size.result _ (rw c.in-Ok-End.field-0-is at c.in-Ok-End.ensures.answer) c.size-size.ensures
+    c.in_ok-push-in-Ok-End.ensures c.in_ok-counted-in-Ok-End.ensures
 
 pub returns-in-Err-clause-findings : goal.returns-in-Err-clause-findings
 returns-in-Err-clause-findings g c = λ h.
-    checking_refused g.F.Flash.facts c.args.region c.loop-cell.walk c.loop-cell.report c.loop-cell.count _ _ c.requires c.loop-cell.invariant.0 c.in-Err.fault c.in-Err.ensures.answer h c.refused.result (λ e. c.refused.ensures.device.1 e) c.refused.ensures.told
+    checking_refused g.F.Flash.facts c.args.region c.loop-cell.walk c.loop-cell.report c.loop-cell.count _ _ c.requires c.loop-cell.invariant.0 c.in-Err.fault c.in-Err.ensures.answer h c.refused.result (λ e. c.refused.ensures.device.1 e) c.refused.ensures.found

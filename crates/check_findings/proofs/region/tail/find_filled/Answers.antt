@@ -1,24 +1,49 @@
-use Rattle.std.proofs.Common.{◌∙◌, sym, arith}
-use Rattle.flash_device.proofs.WindowLemmas.{HasRead-within}
-use Rattle.check_findings.proofs.RegionLemmas.Tails.{seeking_found, seeking_more, seeking_none}
+use Rattle.std.proofs.Common.{◌+◌, ◌*◌, ◌∙◌, ℕ, Option, ap, drop, sym, arith}
+use Rattle.std.specs.Prelude.{is_some}
+use Rattle.std.specs.List.{position_from}
+use Rattle.flash_device.specs.Regions.{bytes_in}
+use Rattle.flash_device.proofs.DeviceLemmas.{length-bytes_in}
+use Rattle.flash_device.proofs.WindowLemmas.{HasRead-then}
+use Rattle.check_findings.specs.Region.RegionFindings.{is_filled, tail_bytes}
+use Rattle.check_findings.proofs.RegionLemmas.Tails.{filled_next, none_left, none_or, piece_read, some_or}
 use Rattle.check_findings.proofs.region.tail.find_filled.Goals as goal
 
-pub returns-in-Some-clause-found : goal.returns-in-Some-clause-found
-returns-in-Some-clause-found g c = λ h.
-    seeking_found g.F.Flash.facts c.args.region c.args.at c.saturating_sub-end.result c.loop-place.place c.min-n.result _ _ c.piece.follows.lender-at-none c.requires c.loop-place.invariant
-    (omega (arith, c.saturating_sub-end.ensures, c.size.ensures)) (omega (arith, c.min-n.ensures, c.loop-place-test.true)) c.in_ok-bytes.bytes.now c.in-Some.k
-    (rw c.start.ensures at c.in_ok-bytes.ensures.read) (sym c.in-Some.is ∙ c.first_filled.ensures.first) h
-
-pub loop-place-preserved : goal.loop-place-preserved
-loop-place-preserved g c =
+pub loop-i-preserved : goal.loop-i-preserved
+loop-i-preserved g c =
+    let had = c.loop-i.invariant in
     let piece = rw c.in_ok-bytes.was at c.piece.follows.holds-at-none in
-    seeking_more g.F.Flash.facts c.args.region c.args.at c.saturating_sub-end.result c.loop-place.place c.min-n.result _ _ c.piece.follows.lender-at-none c.requires c.loop-place.invariant
-    (omega (arith, c.saturating_sub-end.ensures, c.size.ensures)) (omega (arith, c.min-n.ensures, c.loop-place-test.true)) c.min-n.ensures c.loop-place-test.true piece.read c.in_ok-bytes.bytes.now
-    (rw c.start.ensures at c.in_ok-bytes.ensures.read) (sym c.first_filled.ensures.first ∙ c.in_default.is)
+    let r = c.args.region in
+    let at = c.args.at in
+    let k = 4096 * c.loop-i.i in
+    let x = bytes_in r (g.F.Flash.facts c.args.paged.now.device).content in
+    record {
+      read = HasRead-then _ _ 1 0 _ _ _ had.read piece.read;
+      blank = λ h.
+          had.blank h
+          ∙ filled_next x at k c.in_ok-bytes.bytes.now
+          (piece_read g.F.Flash.facts r at k c.min-n.result _ _ _ _ c.requires.region had.read (omega (arith, c.loop-i-test.true, c.saturating_sub-len.ensures, c.size.ensures))
+          (omega (arith, c.min-n.ensures, c.saturating_sub-len.ensures, c.size.ensures)) (rw c.start.ensures at c.in_ok-bytes.ensures.read) h)
+          ∙ none_or (position_from is_filled (at + k) c.in_ok-bytes.bytes.now) _ (ap (λ (o : Option ℕ). is_some o) (sym c.first_filled-filled.ensures) ∙ sym c.is_some.ensures ∙ c.if-is_some.false)
+          ∙ ap (λ m. position_from is_filled (at + m) (drop m (tail_bytes at x))) {x = k + 4096} {y = 4096 * (c.loop-i.i + 1)} (omega arith);
+    }
 
-pub returns-clause-after : goal.returns-clause-after
-returns-clause-after g c = record { read = HasRead-within g.F.Flash.facts _ _ 0 _ _ (omega (arith, c.loop-place.invariant.high, c.saturating_sub-end.ensures, c.size.ensures)) c.loop-place.invariant.read }
+pub returns-then-is_some-clause-found : goal.returns-then-is_some-clause-found
+returns-then-is_some-clause-found g c = λ h.
+    let had = c.loop-i.invariant in
+    let r = c.args.region in
+    let at = c.args.at in
+    let k = 4096 * c.loop-i.i in
+    let x = bytes_in r (g.F.Flash.facts c.args.paged.now.device).content in
+    c.first_filled-filled.ensures
+    ∙ sym (had.blank h
+    ∙ filled_next x at k c.in_ok-bytes.bytes.now
+    (piece_read g.F.Flash.facts r at k c.min-n.result _ _ _ _ c.requires.region had.read (omega (arith, c.loop-i-test.true, c.saturating_sub-len.ensures, c.size.ensures))
+    (omega (arith, c.min-n.ensures, c.saturating_sub-len.ensures, c.size.ensures)) (rw c.start.ensures at c.in_ok-bytes.ensures.read) h)
+    ∙ some_or (position_from is_filled (at + k) c.in_ok-bytes.bytes.now) _ (ap (λ (o : Option ℕ). is_some o) (sym c.first_filled-filled.ensures) ∙ sym c.is_some.ensures ∙ c.if-is_some.true))
 
 pub returns-clause-found : goal.returns-clause-found
-returns-clause-found g c =
-    seeking_none g.F.Flash.facts c.args.region c.args.at c.saturating_sub-end.result c.loop-place.place _ _ c.requires c.loop-place.invariant (omega (arith, c.saturating_sub-end.ensures, c.size.ensures)) c.loop-place-test.false
+returns-clause-found g c = λ h.
+    let r = c.args.region in
+    let image = (g.F.Flash.facts c.args.paged.now.device).content in
+    sym (c.loop-i.invariant.blank h ∙ none_left (bytes_in r image) c.args.at (4096 * c.loop-i.i)
+    (omega (arith, length-bytes_in r image c.requires.region, c.loop-i-test.false, c.saturating_sub-len.ensures, c.size.ensures)))

@@ -1,9 +1,14 @@
-use Rattle.std.proofs.Common.{◌-◌}
-use Rattle.check_findings.proofs.RegionLemmas.Tails.{Seeking}
+use Rattle.std.proofs.Common.{◌≡◌, ◌+◌, ◌*◌, drop}
+use Rattle.std.specs.List.{position_from}
+use Rattle.flash_device.specs.Pages.{HasRead, OnHonestIn}
+use Rattle.check_findings.specs.Region.RegionFindings.{is_filled, tail_bytes}
 use Rattle.check_findings.proofs.region.tail.find_filled.Given as goal
 
-abbrev pub invariant-loop-place : goal.invariant-loop-place
-invariant-loop-place g l = Seeking g.F.Flash.facts l.fn.region l.initial.at l.end l.place l.fn.paged l.paged
-
-abbrev pub decreases-loop-place : goal.decreases-loop-place
-decreases-loop-place g l = l.end - l.place
+abbrev pub invariant-loop-i : goal.invariant-loop-i
+invariant-loop-i g l =
+    let facts = g.F.Flash.facts in
+    record {
+      read : HasRead facts l.i 0 l.fn.paged l.paged;
+      blank : OnHonestIn facts l.fn.paged.device l.fn.region (λ x.
+          position_from is_filled l.fn.at (tail_bytes l.fn.at x) ≡ position_from is_filled (l.fn.at + 4096 * l.i) (drop (4096 * l.i) (tail_bytes l.fn.at x)));
+    }

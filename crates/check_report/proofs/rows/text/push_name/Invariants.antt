@@ -3,4 +3,4 @@ use Rattle.flash_format.specs.Printed.{printed_name}
 use Rattle.check_report.proofs.rows.text.push_name.Given as goal
 
 abbrev pub invariant-loop-byte : goal.invariant-loop-byte
-invariant-loop-byte l = l.text.items ≡ l.initial.text.items ++ printed_name (take l.byte-index l.bytes)
+invariant-loop-byte l = l.text.items ≡ l.initial.text.items ++ printed_name (take l.byte-index l.name)

@@ -1,6 +1,10 @@
-use Rattle.check_report.proofs.SoundRows.{sound_end}
+use Rattle.check_report.proofs.SoundRows.{sound_bad, sound_end}
 use Rattle.check_report.proofs.rows.writer.RowWriter.finish.Goals as goal
 
-pub returns : goal.returns
-returns g c = λ s. sound_end g.W.Sink.contents c.args.self c.put_hidden.new.out c.put_end.new.out s
-    (rw c.deref.ensures.value at c.in_ok-put_hidden.ensures) c.in_ok-put_end.ensures
+pub returns-clause-bad : goal.returns-clause-bad
+returns-clause-bad g c = sound_bad g.W.Sink.contents c.args.self.now
+
+pub returns-clause-text : goal.returns-clause-text
+returns-clause-text g c = λ s.
+    sound_end g.W.Sink.contents c.args.self.now c.more.new.self c.end.new.self s
+    (rw (c.limited.ensures, c.deref.ensures.value) at c.in_ok-more.ensures.printed) c.in_ok-end.ensures.printed.text

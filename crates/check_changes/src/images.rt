@@ -1,0 +1,95 @@
+//! The two images.
+ghost use Rattle.std.specs.Prelude.{◌≡◌, ◌*◌, ◌^◌, ◌<◌, ◌≤◌, IfOk, IfSome};
+ghost use Rattle.check_changes.specs.Areas.Blocks.{differs};
+ghost use Rattle.check_changes.specs.Images.{HasCompared, LieWithin, OnBothIn, lengths, regions_within};
+
+use crate::fault::ChangeFault;
+use check_findings::NumberedArea;
+use flash_device::{Flash, PIECE, Paged, Region};
+
+/// The lengths of two images, in bytes.
+#[derive(Clone, Copy, Drop)]
+pub struct Lengths {
+    pub old: u64,
+    pub new: u64,
+}
+
+/// Two compared regions, one of each image.
+#[derive(Clone, Copy, Drop)]
+pub struct RegionPair {
+    pub old: Region,
+    pub new: Region,
+}
+
+impl Lengths {
+    /// Returns two areas as regions, if they end inside images of these lengths.
+    pub fn regions(self, old: NumberedArea, new: NumberedArea) -> Option<RegionPair>
+        ensures regions { result ≡ regions_within self old new }
+        ensures inside { IfSome result (LieWithin self) }
+    {
+        let (old, new) = (old.area, new.area);
+        let old = Region::within(u64::from(old.offset), u64::from(old.size), self.old)?;
+        let new = Region::within(u64::from(new.offset), u64::from(new.size), self.new)?;
+        Some(RegionPair { old, new })
+    }
+
+    pub fn whole(self) -> RegionPair
+        ensures { result ≡ record {
+          old = record { start = 0; size = self.old };
+          new = record { start = 0; size = self.new };
+        } }
+    {
+        let Some(old) = Region::within(0, self.old, self.old) else {
+            unreachable!()
+        };
+        let Some(new) = Region::within(0, self.new, self.new) else {
+            unreachable!()
+        };
+        RegionPair { old, new }
+    }
+}
+
+/// Two images, each on its device.
+#[derive(Drop)]
+pub struct Images<F: Flash, G: Flash> {
+    pub old_image: Paged<F>,
+    pub new_image: Paged<G>,
+}
+
+impl<F: Flash, G: Flash> Images<F, G> {
+    /// Returns the lengths of the images. Sums of offsets don't overflow.
+    pub fn lengths(&self) -> Lengths
+        ensures lengths { result ≡ lengths F.facts G.facts self.now }
+        ensures old { result.old < 2 ^ 32 }
+        ensures new { result.new < 2 ^ 32 }
+    {
+        Lengths {
+            old: self.old_image.len(),
+            new: self.new_image.len(),
+        }
+    }
+
+    /// Returns whether the blocks with this number differ; they may begin at the ends.
+    pub fn is_different(&mut self, regions: RegionPair, number: u64) -> Result<bool, ChangeFault>
+        requires regions { LieWithin (lengths F.facts G.facts self.old) regions }
+        requires old_begins { 4096 * number ≤ regions.old.size }
+        requires new_begins { 4096 * number ≤ regions.new.size }
+
+        ensures after { HasCompared F.facts G.facts 1 self.old self.new result }
+        ensures different { OnBothIn F.facts G.facts self.old regions (λ x y.
+            IfOk result (λ different. different ≡ differs x y number)) }
+    {
+        self.lengths();
+        let start = number * PIECE as u64;
+        let (old, new) = (regions.old, regions.new);
+        let old_size = (old.size() - start).min(PIECE as u64) as usize;
+        let new_size = (new.size() - start).min(PIECE as u64) as usize;
+        let Ok(old_block) = self.old_image.piece(old.start() + start, old_size) else {
+            return Err(ChangeFault::OldDevice);
+        };
+        let Ok(new_block) = self.new_image.piece(new.start() + start, new_size) else {
+            return Err(ChangeFault::NewDevice);
+        };
+        Ok(old_block != new_block)
+    }
+}

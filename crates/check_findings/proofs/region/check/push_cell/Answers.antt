@@ -1,0 +1,47 @@
+use Rattle.std.proofs.Common.{◌≡◌, ◌∙◌, List, ℕ, rules, sym, subst}
+use Rattle.flash_format.specs.Components.{cell_attributes, cell_content, packing}
+use Rattle.flash_device.specs.Regions.{bytes_in}
+use Rattle.flash_device.proofs.DeviceLemmas.{honest_still}
+use Rattle.cbfs_walk.specs.Cells.{cell_in}
+use Rattle.cbfs_walk.specs.Hashes.{hash_state}
+use Rattle.cbfs_walk.specs.Walks.{StandsIn}
+use Rattle.check_findings.proofs.RegionLemmas.Reporting.{cell_reported, deleted_reported}
+use Rattle.check_findings.proofs.region.check.push_cell.Goals as goal
+
+pub returns-in_err-state-clause-after : goal.returns-in_err-state-clause-after
+returns-in_err-state-clause-after g c = search rules
+
+pub returns-in_err-push_component-clause-after : goal.returns-in_err-push_component-clause-after
+returns-in_err-push_component-clause-after g c = search rules
+
+pub returns-clause-after : goal.returns-clause-after
+returns-clause-after g c = search rules
+
+pub returns-in_ok-push-clause-found : goal.returns-in_ok-push-clause-found
+returns-in_ok-push-clause-found g c = λ h stands. λ t has.
+    let r = c.args.region in
+    let cell = c.args.cell.now in
+    let image = (g.F.Flash.facts c.args.paged.now.device).content in
+    let known = c.cells_stand_in_their_image.ensures r image cell c.requires.region c.requires.cell stands in
+    deleted_reported c.push.new.self cell.at (cell_in (bytes_in r image) cell) cell.head t (sym c.is_free.ensures ∙ c.if-is_free.true) c.if-cell-eq0.true known.head (c.in_ok-push.ensures t has)
+
+pub returns-clause-found : goal.returns-clause-found
+returns-clause-found g c = λ h stands. λ t has.
+    let r = c.args.region in
+    let cell = c.args.cell.now in
+    let image = (g.F.Flash.facts c.args.paged.now.device).content in
+    let x : List ℕ = cell_in (bytes_in r image) cell in
+    let known = c.cells_stand_in_their_image.ensures r image cell c.requires.region c.requires.cell stands in
+    let named = c.in_ok-len.ensures in
+    let same = named.after.read.device.unchanged h in
+    let there = subst (λ (l : List ℕ). StandsIn (bytes_in r l) cell) (sym same) stands in
+    let still = honest_still named.after.read.device.calls.same_honesty h in
+    let compressed = subst (λ (l : List ℕ). c.in_ok-compression.compression ≡ packing (cell_attributes (cell_in (bytes_in r l) cell))) same
+    (c.in_ok-compression.ensures.packing still there) in
+    let packed = c.in_ok-compression.ensures.after.read.device in
+    let after = packed.unchanged still ∙ same in
+    let stays = subst (λ (l : List ℕ). StandsIn (bytes_in r l) cell) (sym after) stands in
+    let state = subst (λ (l : List ℕ). c.in_ok-state.state ≡ hash_state (cell_attributes (cell_in (bytes_in r l) cell)) (cell_content (cell_in (bytes_in r l) cell))) after
+    (c.in_ok-state.ensures.state (honest_still packed.calls.same_honesty still) stays) in
+    cell_reported c.push_component.new.self cell.at x _ cell.head c.in_ok-compression.compression _ t (sym c.if-is_free.ensures) (named.name h stands) known.head compressed state
+    (rw (c.from.ensures, c.of.ensures) at (c.in_ok-push_component.ensures t has))

@@ -1,0 +1,35 @@
+use Rattle.std.proofs.Common.{◌+◌, ◌*◌, Ok, add-one, subst, arith}
+use Rattle.flash_device.specs.Regions.{bytes_in}
+use Rattle.flash_device.proofs.DeviceLemmas.{honest_still, length-bytes_in}
+use Rattle.flash_device.proofs.WindowLemmas.{HasRead-none, HasRead-then}
+use Rattle.check_findings.specs.declared.fault.CheckFault.{CheckFault}
+use Rattle.check_findings.specs.Region.RegionFindings.{entries_findings, entry_findings}
+use Rattle.check_findings.specs.Region.Reports.{Reports, with_findings}
+use Rattle.check_findings.proofs.RegionLemmas.Tails.{entries_last}
+use Rattle.check_findings.proofs.RegionLemmas.Reporting.{reports_both, reports_none}
+use Rattle.check_findings.proofs.region.tail.push_entries.Goals as goal
+
+pub loop-i-init : goal.loop-i-init
+unfolding entries_findings
+loop-i-init g c = record { read = HasRead-none _ _; found = λ h. reports_none CheckFault c.args.report.now }
+
+pub loop-i-preserved : goal.loop-i-preserved
+loop-i-preserved g c =
+    let had = c.loop-i.invariant in
+    let add = c.in_ok-push_entry.ensures in
+    let i = c.loop-i.i in
+    let at = c.args.at in
+    let x = bytes_in c.args.region (g.F.Flash.facts c.args.paged.now.device).content in
+    record {
+      read = HasRead-then _ _ 1 0 _ _ _ had.read add.after;
+      found = λ h. rw (add-one i, entries_last i at x)
+          (reports_both {E = CheckFault} (Ok tt) c.args.report.now c.loop-i.report c.push_entry.new.report (entries_findings i at x) (entry_findings (at + 64 * i) x)
+          (had.found h) (rw (had.read.device.unchanged h) at (add.found (honest_still had.read.device.calls.same_honesty h))));
+    }
+
+pub returns-clause-found : goal.returns-clause-found
+returns-clause-found g c = λ h.
+    let r = c.args.region in
+    let image = (g.F.Flash.facts c.args.paged.now.device).content in
+    subst (λ n. Reports {E = CheckFault} (Ok tt) c.args.report.now c.loop-i.report (λ t. with_findings t (entries_findings n c.args.at (bytes_in r image))))
+    (omega (arith, c.loop-i-test.false, c.size.ensures, length-bytes_in r image c.requires.region)) (c.loop-i.invariant.found h)

@@ -1,0 +1,15 @@
+use Rattle.std.proofs.Common.{Ok}
+use Rattle.flash_device.specs.Pages.{HasRead, OnHonestIn}
+use Rattle.check_findings.specs.declared.fault.CheckFault.{CheckFault}
+use Rattle.check_findings.specs.Region.RegionFindings.{entries_findings}
+use Rattle.check_findings.specs.Region.Reports.{Reports, with_findings}
+use Rattle.check_findings.proofs.region.tail.push_entries.Given as goal
+
+abbrev pub invariant-loop-i : goal.invariant-loop-i
+invariant-loop-i g l =
+    let facts = g.F.Flash.facts in
+    record {
+      read : HasRead facts l.i 0 l.initial.paged l.paged;
+      found : OnHonestIn facts l.initial.paged.device l.region (λ x.
+          Reports {E = CheckFault} (Ok tt) l.initial.report l.report (λ t. with_findings t (entries_findings l.i l.at x)));
+    }

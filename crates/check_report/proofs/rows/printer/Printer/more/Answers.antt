@@ -1,0 +1,12 @@
+use Rattle.std.proofs.Common.{map, refl}
+use Rattle.check_report.specs.Rows.Limits.{more_of, seen_kind}
+use Rattle.check_report.specs.Rows.Rows.{row_line}
+use Rattle.check_report.proofs.Printed.{prints_none, prints_then}
+use Rattle.check_report.proofs.rows.printer.Printer.more.Goals as goal
+
+pub loop-kind-init : goal.loop-kind-init
+loop-kind-init g c = prints_none g.W.Sink.contents g.W.Sink.faults _
+
+pub loop-kind-preserved : goal.loop-kind-preserved
+loop-kind-preserved g c = prints_then g.W.Sink.contents g.W.Sink.faults _ _ _ (λ k. map row_line (more_of (seen_kind k))) c.args.kinds.now c.loop-kind.kind-index _ _
+    c.loop-kind-test.true refl c.loop-kind.invariant (rw c.more_row.ensures at c.in_ok-row_if.ensures)

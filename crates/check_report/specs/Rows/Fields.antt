@@ -1,0 +1,111 @@
+-- Fields as text and JSON. This project defines the text.
+use Rattle.std.specs.Prelude.{ℕ, List, [], ◌∷◌, ◌++◌, Option, Some, None, map, ◌==◌, unwrap_or}
+use Rattle.std.specs.Prelude.{if◌then◌else◌}
+use Rattle.std.specs.List.{flat_map}
+use Rattle.std.specs.Option.{option_map_or}
+use Rattle.std.specs.Fmt.{decimal}
+use Rattle.std.specs.Str.{is_utf8}
+use lib.Chars.{codes}
+use Rattle.json.specs.Json.{Json, number, string, array, object, Items, no_items, item, Members}
+use Rattle.json.specs.Json.{no_members, member}
+use Rattle.flash_format.specs.Printed.{hexadecimal, printed_name, tab, line_feed}
+use Rattle.flash_format.specs.TypeNames.{name_of_type}
+use Rattle.check_report.specs.declared.rows.field.Value.{Value}
+use Rattle.check_report.specs.declared.rows.field.Value.TheVariants as values
+use Rattle.check_report.specs.declared.rows.field.Field.{Field}
+
+-- a value in both forms
+pub record SeenValue : Type 0 where
+  pub text : Option (List ℕ)
+  pub json : Option Json
+
+abbrev pub absent : SeenValue
+absent = record { text = None; json = None }
+
+abbrev pub dash : SeenValue
+dash = record { text = Some (codes "-"); json = None }
+
+-- a text in JSON alone
+abbrev pub code_value : List ℕ → SeenValue
+code_value text = record { text = None; json = Some (string text) }
+
+abbrev pub text_value : List ℕ → SeenValue
+text_value text = record { text = Some text; json = Some (string text) }
+
+abbrev pub number_json : ℕ → Json
+number_json n = number (decimal n)
+
+abbrev pub items : List Json → Items
+items [] = no_items
+items (j ∷ js) = item j (items js)
+
+abbrev pub bytes_json : List ℕ → Json
+bytes_json bytes = array (items (map number_json bytes))
+
+-- a name: a string if UTF-8, otherwise an array of bytes
+abbrev pub name_json : List ℕ → Json
+name_json name = if is_utf8 name then string name else bytes_json name
+
+abbrev pub name_value : List ℕ → SeenValue
+name_value name = record { text = Some (printed_name name); json = Some (name_json name) }
+
+abbrev pub count_value : ℕ → SeenValue
+count_value n = record { text = Some (decimal n); json = Some (number_json n) }
+
+abbrev pub offset_value : ℕ → SeenValue
+offset_value n = record { text = Some (hexadecimal n); json = Some (number_json n) }
+
+-- an array in JSON alone
+abbrev pub array_value : List Json → SeenValue
+array_value js = record { text = None; json = Some (array (items js)) }
+
+abbrev pub seen_value : Value → SeenValue
+seen_value values.Absent = absent
+seen_value values.Dash = dash
+seen_value (values.Code text) = code_value text.now
+seen_value (values.Text text) = text_value text.now
+seen_value (values.Name name) = name_value name.now
+seen_value (values.Count n) = count_value n
+seen_value (values.Offset n) = offset_value n
+seen_value (values.Hexadecimal n) = text_value (hexadecimal n)
+
+-- the name of a type, or else its number
+unfoldable pub printed_type : ℕ → List ℕ
+printed_type kind = unwrap_or (name_of_type kind) (hexadecimal kind)
+
+-- the name of a compression, or else its number
+unfoldable pub printed_compression : ℕ → List ℕ
+printed_compression n = if n == 0 then codes "none"
+    else (if n == 1 then codes "LZMA" else (if n == 2 then codes "LZ4" else hexadecimal n))
+
+-- ---- fields
+
+abbrev pub SeenField : Type 0
+SeenField = List ℕ × SeenValue
+
+abbrev pub seen_field : Field → SeenField
+seen_field field = (field.key.now, seen_value field.value)
+
+-- a tab and the field's text, if any
+abbrev pub field_text : SeenField → List ℕ
+field_text field = option_map_or (λ text. tab ++ text) field.1.text []
+
+-- the fields with a JSON value
+abbrev pub members : List SeenField → Members
+members [] = no_members
+members (field ∷ fields) =
+    option_map_or (λ j. member field.0 j (members fields)) field.1.json (members fields)
+
+abbrev pub object_of : List SeenField → Json
+object_of fields = object (members fields)
+
+-- a line: the first field in text, and the other fields
+pub record Line : Type 0 where
+  pub head : List ℕ
+  pub fields : List SeenField
+
+abbrev pub line_text : Line → List ℕ
+line_text line = line.head ++ flat_map field_text line.fields ++ line_feed
+
+abbrev pub line_json : Line → Json
+line_json line = object_of line.fields

@@ -1,0 +1,98 @@
+//! The fields of a line.
+ghost use Rattle.std.specs.Prelude.{◌≡◌};
+ghost use Rattle.std.specs.Option.{option_copied, option_map_or};
+ghost use Rattle.check_report.specs.Rows.Fields as of;
+ghost use Rattle.check_report.specs.Rows.Fields.{name_value, offset_value, seen_field};
+ghost use Rattle.check_report.specs.Rows.Fields.{seen_value, text_value};
+
+use flash_format::type_name;
+
+#[derive(Clone, Copy)]
+pub enum Value<'a> {
+    /// Nothing in text or JSON.
+    Absent,
+    /// A dash in text, nothing in JSON.
+    Dash,
+    /// Nothing in text, a string in JSON.
+    Code(&'static str),
+    /// A text without tabs and line feeds.
+    Text(&'a str),
+    /// In JSON a string if UTF-8, otherwise an array of bytes.
+    Name(&'a [u8]),
+    /// A decimal number.
+    Count(u64),
+    /// A hexadecimal number; a JSON number.
+    Offset(u64),
+    /// A hexadecimal number; a JSON string.
+    Hexadecimal(u64),
+}
+
+/// A field of a line, with its JSON key.
+#[derive(Clone, Copy)]
+pub struct Field<'a> {
+    pub key: &'static str,
+    pub value: Value<'a>,
+}
+
+impl<'a> Field<'a> {
+    pub fn new(key: &'static str, value: Value<'a>) -> Field<'a>
+        ensures { seen_field result ≡ (key.now, seen_value value.entry) }
+    {
+        Field { key, value }
+    }
+}
+
+impl<'a> Value<'a> {
+    pub fn name_or(name: Option<&'a [u8]>, other: Value<'a>) -> Value<'a>
+        ensures { seen_value result
+            ≡ option_map_or name_value (option_copied name.entry) (seen_value other.entry) }
+    {
+        match name {
+            Some(name) => Value::Name(name),
+            None => other,
+        }
+    }
+
+    pub fn text_if(text: Option<&'a str>) -> Value<'a>
+        ensures { seen_value result ≡ option_map_or text_value (option_copied text.entry) of.absent }
+    {
+        match text {
+            Some(text) => Value::Text(text),
+            None => Value::Absent,
+        }
+    }
+
+    /// Returns an offset, or a dash without one.
+    pub fn offset_or_dash(offset: Option<u64>) -> Value<'a>
+        ensures { seen_value result ≡ option_map_or offset_value offset of.dash }
+    {
+        match offset {
+            Some(offset) => Value::Offset(offset),
+            None => Value::Dash,
+        }
+    }
+
+    /// Returns the name of a type, or else its number.
+    #[tactic(auto, unfolding(crate::specs::Rows::Fields::printed_type))]
+    pub fn of_type(kind: u32) -> Value<'a>
+        ensures { seen_value result ≡ text_value (of.printed_type kind) }
+    {
+        match type_name(kind) {
+            Some(name) => Value::Text(name),
+            None => Value::Hexadecimal(u64::from(kind)),
+        }
+    }
+
+    /// Returns the name of a compression, or else its number.
+    #[tactic(auto, unfolding(crate::specs::Rows::Fields::printed_compression))]
+    pub fn of_compression(compression: u32) -> Value<'a>
+        ensures { seen_value result ≡ text_value (of.printed_compression compression) }
+    {
+        match compression {
+            0 => Value::Text("none"),
+            1 => Value::Text("LZMA"),
+            2 => Value::Text("LZ4"),
+            _ => Value::Hexadecimal(u64::from(compression)),
+        }
+    }
+}
