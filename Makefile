@@ -192,7 +192,7 @@ package: put
 		" fmaptool$(SUFFIX) compiles a flashmap descriptor, and cbfscheck$(SUFFIX) checks" \
 		" that the flash map and the file systems of an image are sound." \
 		" ." \
-		" Each function is proved to satisfy its contract. The names differ from" \
+		" Functions are proved to satisfy their contracts. The names differ from" \
 		" those of coreboot-utils, so both packages can be installed." > "$(DESTDIR)/DEBIAN/control"
 	cd "$(DESTDIR)" && find usr -type f -exec md5sum {} + | LC_ALL=C sort -k 2 > DEBIAN/md5sums
 	chmod -R u=rwX,go=rX "$(DESTDIR)"

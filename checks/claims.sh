@@ -646,9 +646,16 @@ completions() {
     done
 }
 
-# libraries: the README of each crate's folder names just what its crate has for others; one of tests names its crate
+# exported CRATE: the names that the crate has for others
+exported() {
+    sed -n '/^pub use [a-z_]*::/,/;/p; s/^pub mod \(.*\);/ \1/p' "$top/crates/$1/src/lib.rt" | sed 's/.*:://' |
+        grep -oE '[A-Za-z_][A-Za-z_0-9]*' | LC_ALL=C sort
+}
+
+# libraries: the README of each crate's folder names just what its crate has for others; one of tests names its crate; one
+# that says so has all names of another crate too, and lists only the rest
 libraries() {
-    local folder name file
+    local folder name file other
     for folder in "$top"/crates/*/; do
         name=$(basename "$folder")
         file=$pages/$name.README
@@ -658,7 +665,15 @@ libraries() {
         case $name in
             library_tests | cbfstool | fmaptool | cbfscheck) continue ;;
         esac
-        sed -n '/^pub use [a-z_]*::/,/;/p; s/^pub mod \(.*\);/ \1/p' "$folder/src/lib.rt" | sed 's/.*:://' | grep -oE '[A-Za-z_][A-Za-z_0-9]*' | LC_ALL=C sort > used
+        exported "$name" > used
+        other=$(sed -n 's/.*re-exports all names of \[\([a-z_]*\)\].*/\1/p' "$file")
+        if [ -n "$other" ]; then
+            exported "$other" > others
+            LC_ALL=C comm -23 others used > lacking
+            [ ! -s lacking ] || fail "claims: $name lacks names of $other: $(tr '\n' ' ' < lacking)"
+            LC_ALL=C comm -13 others used > own
+            mv own used
+        fi
         sed -n '/^|---/,/^$/s/^| \([^|]*\) |.*/\1/p' "$file" | grep -oE '`[^`]*`' | tr -d '`' | LC_ALL=C sort > named
         [ -s used ] && diff used named > differ || fail "claims: the README of $name names others: $(cat differ)"
     done
@@ -695,6 +710,12 @@ walk() {
         done < <(sed 's/^[^:]*://; s/Definitions: .*//' <<< "$line" | grep -oE '`[^`]*`' | tr -d '`')
         while read -r word; do
             names=$((names + 1))
+            # (a file of the step's own crate needs no crate, and none needs its ending)
+            case $word in
+                */*) ;;
+                *) word=${source%%/*}/$word ;;
+            esac
+            word=${word%.antt}.antt
             [ -f "$top/crates/${word%%/*}/specs/${word#*/}" ] || fail "claims: DEVELOPING.md names $word, which isn't there"
             grep -oE 'Rattle\.[A-Za-z_.]*[A-Za-z_]' "$top/crates/$source" | grep -qxE "Rattle\.${word%%/*}\.specs\.$(sed 's,^[^/]*/,,; s,\.antt$,,; s,/,\\.,g' <<< "$word")" ||
                 fail "claims: DEVELOPING.md names $word, which $source doesn't cite"

@@ -62,6 +62,7 @@ make_files() {
     part 6000 20 > fwid
     printf ptr_ > pointer
     make_elf > payload.elf
+    cp payload.elf romstage.elf
     # (as the image of an embedded controller has one)
     { part 7000 900 && make_map && part 8000 600; } > ec.bin
     part 7000 700 > content
@@ -415,11 +416,15 @@ plant() {
 planted_mistakes() {
     local plants=0 boards=1 several='/^### Several/,/^Compared/p' unchanged='/^## Unchanged/,/^## Creating/p'
     local absent='/^## Not supported/,/^## Different/p' different='/^## Different/,/^## Descriptors/p'
+    local makefile='/^### An image with/,/^Compared/p'
     plant document "$several" 's/-t raw -r \$region/-t spd -r $region/' "the images differ"
     plant document "$several" 's/^Compared: image/Compared: pictures/' "pictures isn't a comparison"
     plant document "$several" '/^Compared/d' "a use that isn't compared"
     plant document "$several" '/^Here:/d' "a use without two blocks"
     plant document "$several" 's/add -f logo.bmp -n/add -f absent -n/' "coreboot's ends with status 1"
+    plant document "$makefile" 's/add-at-end \$@.new COREBOOT/add-at-end $@.new FW_MAIN_A/' "the cells differ"
+    plant document "$makefile" 's/^regions = COREBOOT FW_MAIN_A/regions = COREBOOT/' "the cells differ"
+    plant document "$makefile" 's/add-at-end /add-at-ends /' "ours ends with status 2"
     plant document '/^### All areas/,/^Compared/p' 's/^Compared: .*/Compared: image/' "coreboot's leaves the image as it was"
     plant document '/^### All areas/,/^Compared/p' 's/layout$/layout | grep -v GBB/' "they list other areas"
     plant document '/^### The list/,/^Compared/p' 's/^Compared: .*/Compared: file `chip.fmd`/' "doesn't make chip.fmd"

@@ -2,7 +2,7 @@
 import collections, re
 
 BLOCK = 4096
-TIMES = 8
+CHECKED, COMPARED = 2, 8
 MOST_OF_A_KIND = 16
 MOST_COMPARED = 4096
 PRESERVE = 8
@@ -27,7 +27,7 @@ KINDS = {
     "area-name": ("remark", "name isn't UTF-8"),
     "no-map-area": ("bad", "no area FMAP"),
     "map-area": ("bad", "doesn't hold the flashmap"),
-    "area-not-checked": ("remark", "isn't checked: the areas before it are eight times the image"),
+    "area-not-checked": ("remark", "isn't checked: the areas before it are twice the image"),
     "no-area": ("bad", "no such area"),
     "region-size": ("bad", "size is 0 or no multiple of 64"),
     "no-cbfs": ("bad", "no CBFS"),
@@ -249,7 +249,7 @@ def expected_names(old, wishes):
 
 def of_image(image, expected, wishes):
     """The rows of the areas, and the numbers of those that are checked."""
-    rows, checked, left = [], [], TIMES * len(image.data)
+    rows, checked, left = [], [], CHECKED * len(image.data)
     for number in selected(image, expected):
         area = image.areas[number]
         if area.size > left:
@@ -419,7 +419,7 @@ def of_area(before, area, left, pairs, kept, old, new):
 
 def of_areas(old, new, kept):
     """The rows of the areas of two images, of which those of these names have to stay."""
-    rows, left, before, after = [], TIMES * len(new.data), firsts(old.areas), firsts(new.areas)
+    rows, left, before, after = [], COMPARED * len(new.data), firsts(old.areas), firsts(new.areas)
     pairs = [(before[name], area) for name, area in after.items() if name in before]
     for name, area in after.items():
         if name not in before:
