@@ -5,7 +5,7 @@ ghost use Rattle.std.specs.Prelude.{◌≡◌, if◌then◌else◌, option_map, 
 
 mod texts;
 
-pub use check_line::{Asked, CheckLine, LineFault, read_check};
+pub use check_line::{CheckLine, Invocation, LineFault, read_check};
 pub use check_report::{Inspection, ReportFault, Request, inspect_change, inspect_image};
 use check_report::{Files, Form, Images, WriteFault, Written};
 use flash_store::{FileFlash, OpenFault, Output, Paged, WriteSink};
@@ -201,9 +201,9 @@ fn read_words<'a>(rt: &HostRuntime) -> Result<Vec<String>, Refusal<'a>> {
 /// Performs the request, and returns whether a finding is bad.
 fn obey<'a>(rt: &HostRuntime, words: &'a [&'a str]) -> Result<bool, Refusal<'a>> {
     match read_check(rt.alloc(), words)? {
-        Asked::Help => print(rt, HELP),
-        Asked::Version => print(rt, VERSION),
-        Asked::Check(line) => check(rt, &line),
+        Invocation::Help => print(rt, HELP),
+        Invocation::Version => print(rt, VERSION),
+        Invocation::Check(line) => check(rt, &line),
     }
 }
 

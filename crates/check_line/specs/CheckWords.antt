@@ -19,8 +19,8 @@ use Rattle.check_line.specs.declared.fault.LineFault.{LineFault}
 use Rattle.check_line.specs.declared.fault.LineFault.TheVariants.{Word, NoImage, NoNewImage, Memory}
 use Rattle.check_line.specs.declared.fault.WordFault.{WordFault}
 use Rattle.check_line.specs.declared.fault.WordFault.TheVariants as mistake
-use Rattle.check_line.specs.declared.line.Asked.{Asked}
-use Rattle.check_line.specs.declared.line.Asked.TheVariants.{Help, Version, Check}
+use Rattle.check_line.specs.declared.line.Invocation.{Invocation}
+use Rattle.check_line.specs.declared.line.Invocation.TheVariants.{Help, Version, Check}
 use Rattle.check_line.specs.declared.line.CheckLine.{CheckLine}
 
 abbrev pub texts : List (Bor (List ℕ)) → List (List ℕ)
@@ -170,16 +170,16 @@ abbrev pub request_in : List (Bor (List ℕ)) → Option (List ℕ)
 request_in words = option_map (λ (word : Bor (List ℕ)). word.now)
     (find is_request (take_while is_before_end words))
 
-abbrev pub requested : List ℕ → Asked
+abbrev pub requested : List ℕ → Invocation
 requested word = if bytes_eq word (codes "--version") then Version else Help
 
 -- by clap's matches
-abbrev pub IsAsked : List Row → Asked → Type 0
-IsAsked rows (Check line) = IsLineOf rows line
-IsAsked rows asked = ⊥
+abbrev pub IsInvocation : List Row → Invocation → Type 0
+IsInvocation rows (Check line) = IsLineOf rows line
+IsInvocation rows asked = ⊥
 
 -- for arguments refused by clap, or with help as the result
-abbrev pub IsRefusal : List (Bor (List ℕ)) → Result Asked LineFault → Type 0
+abbrev pub IsRefusal : List (Bor (List ℕ)) → Result Invocation LineFault → Type 0
 IsRefusal words (Ok Help) = Refuses reason.DisplayHelp words
 IsRefusal words (Err (Word fault word)) = (kind : ErrorKind) × (kind ≢ reason.DisplayHelp)
     × IsWrong kind words word × (fault ≡ word_fault kind word.now)
@@ -187,12 +187,12 @@ IsRefusal words (Err Memory) = ⊤
 IsRefusal words result = ⊥
 
 -- by clap's definitions
-abbrev pub IsRead : List (Bor (List ℕ)) → Result Asked LineFault → Type 0
+abbrev pub IsRead : List (Bor (List ℕ)) → Result Invocation LineFault → Type 0
 IsRead words result = (IsAccepted words
     × Gives (complaint_in (matches_of check_words (texts words)))
-    (IsAsked (matches_of check_words (texts words))) result) ⊎ IsRefusal words result
+    (IsInvocation (matches_of check_words (texts words))) result) ⊎ IsRefusal words result
 
 -- for the arguments after the program's name
-abbrev pub Answers : List (Bor (List ℕ)) → Result Asked LineFault → Type 0
+abbrev pub Answers : List (Bor (List ℕ)) → Result Invocation LineFault → Type 0
 Answers words result = MatchOption (request_in words) (IsRead words result)
     (λ word. result ≡ Ok (requested word))

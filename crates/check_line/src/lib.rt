@@ -8,5 +8,5 @@ mod reading;
 mod words;
 
 pub use fault::{LineFault, WordFault};
-pub use line::{Asked, CheckLine};
+pub use line::{CheckLine, Invocation};
 pub use reading::read_check;

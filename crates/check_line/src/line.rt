@@ -5,7 +5,7 @@ ghost use Rattle.std.specs.Prelude.{option_map};
 ghost use Rattle.std.specs.List.{list_any};
 ghost use Rattle.clap.specs.Words.{first_of, found_of, rows_of};
 ghost use Rattle.check_findings.specs.Image.Needs.{wish_of};
-ghost use Rattle.check_line.specs.CheckWords.{Gives, IsAsked, bad_areas, bad_need, complaint_in};
+ghost use Rattle.check_line.specs.CheckWords.{Gives, IsInvocation, bad_areas, bad_need, complaint_in};
 ghost use Rattle.check_line.specs.CheckWords.{is_empty, is_set, parts_of, texts};
 ghost use Rattle.check_line.specs.Needs.{need_in};
 
@@ -17,7 +17,7 @@ use std::alloc::{AllocError, Global};
 
 /// A request.
 #[derive(Drop)]
-pub enum Asked<'a> {
+pub enum Invocation<'a> {
     Help,
     Version,
     Check(CheckLine<'a>),
@@ -131,9 +131,9 @@ fn is_set(matches: &ArgMatches<'_>, id: &str) -> bool
 }
 
 /// Returns the request of clap's matches. Refuses missing images and bad lists.
-pub fn line_of<'a>(alloc: Global, matches: &ArgMatches<'a>) -> Result<Asked<'a>, LineFault<'a>>
+pub fn line_of<'a>(alloc: Global, matches: &ArgMatches<'a>) -> Result<Invocation<'a>, LineFault<'a>>
     ensures { Gives (complaint_in (rows_of (found_of matches.now)))
-        (IsAsked (rows_of (found_of matches.now))) result }
+        (IsInvocation (rows_of (found_of matches.now))) result }
 {
     let (new_image, keep) = (text(matches, "new"), text(matches, "keep"));
     let keeps_preserved = is_set(matches, "keep-preserved");
@@ -143,7 +143,7 @@ pub fn line_of<'a>(alloc: Global, matches: &ArgMatches<'a>) -> Result<Asked<'a>,
     if (keep.is_some() || keeps_preserved) && new_image.is_none() {
         return Err(LineFault::NoNewImage);
     }
-    Ok(Asked::Check(CheckLine {
+    Ok(Invocation::Check(CheckLine {
         image,
         new_image,
         areas: names_given(alloc, text(matches, "areas"))?,

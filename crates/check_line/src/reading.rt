@@ -6,7 +6,7 @@ ghost use Rattle.check_line.specs.CheckWords.{Refuses, Spares, request_in};
 ghost use Rattle.check_line.specs.CheckWords.{requested, word_fault};
 
 use crate::fault::{LineFault, WordFault};
-use crate::line::{Asked, line_of};
+use crate::line::{Invocation, line_of};
 use crate::words::whole_command;
 use clap::error::ErrorKind;
 use std::alloc::{AllocError, Global};
@@ -22,13 +22,13 @@ fn request_in<'a>(words: &'a [&'a str]) -> Option<&'a str>
         .find(|word| matches!(*word, "-h" | "--help" | "--version"))
 }
 
-fn requested<'a>(word: &str) -> Asked<'a>
+fn requested<'a>(word: &str) -> Invocation<'a>
     ensures { result ≡ requested word.now }
 {
     if word == "--version" {
-        Asked::Version
+        Invocation::Version
     } else {
-        Asked::Help
+        Invocation::Help
     }
 }
 
@@ -87,13 +87,13 @@ fn refusal_of<'a>(
     alloc: Global,
     words: &'a [&'a str],
     kind: ErrorKind,
-) -> Result<Asked<'a>, LineFault<'a>>
+) -> Result<Invocation<'a>, LineFault<'a>>
     requires { IsKindOf (Some kind) words.now }
     ensures { IsRefusal words.entry.now result }
 {
     match kind {
         ErrorKind::OutOfMemory => Err(LineFault::Memory),
-        ErrorKind::DisplayHelp => Ok(Asked::Help),
+        ErrorKind::DisplayHelp => Ok(Invocation::Help),
         _ => {
             let word = wrong_word(alloc, words, kind)?;
             let fault = word_fault(kind, word);
@@ -102,7 +102,7 @@ fn refusal_of<'a>(
     }
 }
 
-fn read_options<'a>(alloc: Global, words: &'a [&'a str]) -> Result<Asked<'a>, LineFault<'a>>
+fn read_options<'a>(alloc: Global, words: &'a [&'a str]) -> Result<Invocation<'a>, LineFault<'a>>
     ensures { IsRead words.entry.now result }
 {
     match whole_command(alloc)?.try_get_matches_from(words) {
@@ -113,7 +113,7 @@ fn read_options<'a>(alloc: Global, words: &'a [&'a str]) -> Result<Asked<'a>, Li
 
 /// Parses the arguments after the program's name: IMAGE, or OLD and NEW, and options, in any order.
 /// The first `-h`, `--help` or `--version` before `--` decides.
-pub fn read_check<'a>(alloc: Global, words: &'a [&'a str]) -> Result<Asked<'a>, LineFault<'a>>
+pub fn read_check<'a>(alloc: Global, words: &'a [&'a str]) -> Result<Invocation<'a>, LineFault<'a>>
     ensures { Answers words.entry.now result }
 {
     match request_in(words) {

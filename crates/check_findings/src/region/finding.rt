@@ -4,13 +4,14 @@ ghost use Rattle.check_findings.specs.Region.RegionFindings.{hash_finding};
 
 use cbfs_walk::HashState;
 use flash_format::{Algorithm, DamageKind};
+use smallvec::SmallVec;
 use std::alloc::{AllocError, Global};
 use std::marker::Model;
 
 /// A component's name, without its NUL.
 #[derive(Drop)]
 pub struct Name {
-    bytes: Vec<u8>,
+    bytes: SmallVec<u8, 24>,
 }
 
 impl Model for Name {
@@ -26,7 +27,7 @@ impl Name {
     pub fn copied(alloc: Global, bytes: &[u8]) -> Result<Name, AllocError>
         ensures { IfOk result (λ name. name ≡ bytes.now) }
     {
-        let bytes = bytes.to_vec(alloc)?;
+        let bytes = SmallVec::from_slice(alloc, bytes)?;
         Ok(Name { bytes })
     }
 

@@ -2,12 +2,13 @@
 ghost use Rattle.std.specs.Prelude.{◌≡◌, ℕ, ◌∷◌, List, IfOk, OnOk};
 ghost use Rattle.check_findings.specs.Region.Names.{HasNames, is_among};
 
+use smallvec::SmallVec;
 use std::alloc::{AllocError, Global};
 use std::collections::HashSet;
 use std::hash::RandomState;
 
 /// Names, hashed with random keys, since an image's author chooses names.
-pub type Names = HashSet<Vec<u8>, RandomState>;
+pub type Names = HashSet<SmallVec<u8, 24>, RandomState>;
 
 /// Adds a name. Returns whether the set had it.
 pub fn add_name(alloc: Global, names: &mut Names, name: &[u8]) -> Result<bool, AllocError>
@@ -16,7 +17,7 @@ pub fn add_name(alloc: Global, names: &mut Names, name: &[u8]) -> Result<bool, A
     ensures added { OnOk result ((before : List (List ℕ)) → HasNames names.old.keys before →
         HasNames names.new.keys (name.now ∷ before)) }
 {
-    let copy = name.to_vec(alloc)?;
+    let copy = SmallVec::from_slice(alloc, name)?;
     let is_new = names.insert(copy)?;
     Ok(!is_new)
 }
