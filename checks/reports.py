@@ -27,7 +27,7 @@ KINDS = {
     "area-name": ("remark", "name isn't UTF-8"),
     "no-map-area": ("bad", "no area FMAP"),
     "map-area": ("bad", "doesn't hold the flashmap"),
-    "area-not-checked": ("remark", "isn't checked: the areas before it are twice the image"),
+    "area-not-checked": ("remark", "isn't checked: checked areas would exceed twice the image"),
     "no-area": ("bad", "no such area"),
     "region-size": ("bad", "size is 0 or no multiple of 64"),
     "no-cbfs": ("bad", "no CBFS"),

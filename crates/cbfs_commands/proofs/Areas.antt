@@ -8,14 +8,14 @@ use Rattle.flash_device.specs.Fmap.{found_in}
 use Rattle.flash_device.specs.declared.fmap.FoundMap.{FoundMap}
 use Rattle.cbfs_commands.specs.Rows.{area_row, map_row, layout}
 use Rattle.cbfs_commands.proofs.Telling.{text_then}
-use Rattle.cbfs_commands.specs.Told.{Told, refuses, shows}
+use Rattle.cbfs_commands.specs.Printouts.{Printout, refuses, shows}
 use Rattle.cbfs_commands.specs.declared.refusal.Refusal.TheVariants as refusals
 
 abbrev pub rows_of : List ℕ → ℕ → ℕ → List ℕ
 rows_of image n at = flat_map area_row (areas_from n (drop at image))
 
 -- the output from an area on
-abbrev pub rows_left : List ℕ → ℕ → ℕ → ℕ → Told
+abbrev pub rows_left : List ℕ → ℕ → ℕ → ℕ → Printout
 rows_left image at n i = shows (rows_of image (n - i) (at + 42 * i))
 
 pub one_less : (image : List ℕ) (at n i : ℕ) → i < n → rows_left image at n i ≡ text_then (area_row (area_of (drop (at + 42 * i) image))) (rows_left image at n (i + 1))

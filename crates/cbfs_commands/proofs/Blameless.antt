@@ -27,12 +27,12 @@ use Rattle.cbfs_commands.specs.declared.create.plan.Plan.{Plan}
 use Rattle.cbfs_commands.specs.declared.refusal.Refusal.{Refusal}
 use Rattle.cbfs_commands.specs.declared.refusal.Refusal.TheVariants as refusals
 use Rattle.cbfs_commands.specs.Creations.{head_for, map_place, plan_for, plan_of, region_place, region_places, some_overlap}
-use Rattle.cbfs_commands.specs.Deeds.{changes, deed, edits, outcome, Request}
+use Rattle.cbfs_commands.specs.Effects.{changes, effect, edits, outcome, Request}
 use Rattle.cbfs_commands.specs.Rows.{area_row, layout, map_row}
-use Rattle.cbfs_commands.specs.Outcomes.{StopsIn, extract_region, print_region, told_component, told_in}
+use Rattle.cbfs_commands.specs.Outcomes.{StopsIn, extract_region, print_region, printed_component, printed_in}
 use Rattle.cbfs_commands.specs.Refusals.{HasNoFault, edit_refusal, fault_or, store_refusal, walk_refusal}
-use Rattle.cbfs_commands.specs.Deeds as requests
-use Rattle.cbfs_commands.specs.Told.{Told, refuses, shows}
+use Rattle.cbfs_commands.specs.Effects as requests
+use Rattle.cbfs_commands.specs.Printouts.{Printout, refuses, shows}
 
 -- an error that is no such fault
 abbrev BlamesNone : Refusal → Type 0
@@ -68,9 +68,9 @@ next-blameless : {T U E : Type 0} (tell : E → Refusal) (r : Result T E) (next 
 next-blameless tell (Err fault) next own each = own
 next-blameless tell (Ok value) next own each = each value
 
-told-blameless : {T E : Type 0} (tell : E → Refusal) (r : Result T E) (next : T → Told) → Blameless tell r → ((value : T) → Blameless itself (next value).answer) → Blameless itself (fault_or (λ fault. refuses (tell fault)) r next).answer
-told-blameless tell (Err fault) next own each = own
-told-blameless tell (Ok value) next own each = each value
+printout-blameless : {T E : Type 0} (tell : E → Refusal) (r : Result T E) (next : T → Printout) → Blameless tell r → ((value : T) → Blameless itself (next value).answer) → Blameless itself (fault_or (λ fault. refuses (tell fault)) r next).answer
+printout-blameless tell (Err fault) next own each = own
+printout-blameless tell (Ok value) next own each = each value
 
 -- ---- regions, their shape and their cells
 
@@ -162,24 +162,24 @@ plan_for-blameless n names source = next-blameless itself _ _ (head_for-blameles
 
 -- ---- commands
 
-told_found-blameless : (c : Option Component) → Blameless itself (option_map_or told_component c (refuses refusals.NotFound)).answer
+told_found-blameless : (c : Option Component) → Blameless itself (option_map_or printed_component c (refuses refusals.NotFound)).answer
 told_found-blameless None = tt
-told_found-blameless (Some c) = elim (is_packed c.attributes) as (λ b. Blameless itself (let t : Told = cond b (refuses refusals.Compressed) (shows c.content) in t).answer) [ true ↦ tt | false ↦ tt ]
+told_found-blameless (Some c) = elim (is_packed c.attributes) as (λ b. Blameless itself (let t : Printout = cond b (refuses refusals.Compressed) (shows c.content) in t).answer) [ true ↦ tt | false ↦ tt ]
 
 -- by the region's output or change
-by_region : (image name : List ℕ) (tell : List ℕ → Told) → ((x : List ℕ) → Blameless itself (tell x).answer) → Blameless itself (told_in image name tell).answer
-by_region image name tell each = told-blameless store_refusal _ _ (region_of-blameless image name) (λ region. each (bytes_in region image))
+by_region : (image name : List ℕ) (tell : List ℕ → Printout) → ((x : List ℕ) → Blameless itself (tell x).answer) → Blameless itself (printed_in image name tell).answer
+by_region image name tell each = printout-blameless store_refusal _ _ (region_of-blameless image name) (λ region. each (bytes_in region image))
 
-edited : (image name source : List ℕ) (make : Range → List ℕ → List ℕ → Result (List ℕ) Refusal) → ((region : Range) (x : List ℕ) → Blameless itself (make region x source)) → Blameless itself (outcome (changes (edits name false make StopsIn)) image source).told.answer
+edited : (image name source : List ℕ) (make : Range → List ℕ → List ℕ → Result (List ℕ) Refusal) → ((region : Range) (x : List ℕ) → Blameless itself (make region x source)) → Blameless itself (outcome (changes (edits name false make StopsIn)) image source).printout.answer
 edited image name source make each =
     next-blameless itself _ _ (next-blameless store_refusal _ _ (region_of-blameless image name) (λ region. next-blameless itself _ _ (each region (bytes_in region image)) (λ bytes. tt))) (λ now. tt)
 
-own_answer : (r : Request) (image source : List ℕ) → Blameless itself (outcome (deed r) image source).told.answer
+own_answer : (r : Request) (image source : List ℕ) → Blameless itself (outcome (effect r) image source).printout.answer
 unfolding print_region layout
 own_answer (requests.on_region region (requests.print verbose)) image source =
-    by_region image region (λ x. print_region x verbose) (λ x. unless-misshapen (λ (t : Told). Blameless itself t.answer) (λ fault. refuses (walk_refusal fault)) x _ tt tt (next-blameless walk_refusal _ _ (found-blameless None (place_after 0 (cut x).cells) (cut x).end) (λ none. tt)))
+    by_region image region (λ x. print_region x verbose) (λ x. unless-misshapen (λ (t : Printout). Blameless itself t.answer) (λ fault. refuses (walk_refusal fault)) x _ tt tt (next-blameless walk_refusal _ _ (found-blameless None (place_after 0 (cut x).cells) (cut x).end) (λ none. tt)))
 own_answer requests.layout image source = elim (map_of image) as (λ o. Blameless itself (option_map_or (λ q. shows (map_row q (fmap_head_of (drop q image)) ++ flat_map area_row (areas_at image q))) o (refuses refusals.NoFmap)).answer) [ None ↦ tt | Some q ↦ tt ]
-own_answer (requests.on_region region (requests.extract name)) image source = by_region image region (λ x. extract_region x name) (λ x. told-blameless walk_refusal (component_in x name) _ (component_in-blameless x name) told_found-blameless)
+own_answer (requests.on_region region (requests.extract name)) image source = by_region image region (λ x. extract_region x name) (λ x. printout-blameless walk_refusal (component_in x name) _ (component_in-blameless x name) told_found-blameless)
 own_answer (requests.on_region region (requests.add name kind hash spot)) image source =
     let new : NewComponent = new_component name kind hash source in
     edited image region source (λ found x s. fault_or (λ fault. Err (edit_refusal fault)) (addition_in x new spot) (λ place. Ok (added x new place))) (λ found x. next-blameless edit_refusal (addition_in x new spot) (λ place. Ok (added x new place)) (addition_in-blameless x new spot) (λ place. tt))
@@ -191,5 +191,5 @@ own_answer (requests.create names) image source = next-blameless itself _ _ (nex
 
 -- ---- the law
 
-pub outcome-blameless : (r : Request) (image source : List ℕ) → HasNoFault (outcome (deed r) image source).told.answer
-outcome-blameless r image source = no_fault (outcome (deed r) image source).told.answer (own_answer r image source)
+pub outcome-blameless : (r : Request) (image source : List ℕ) → HasNoFault (outcome (effect r) image source).printout.answer
+outcome-blameless r image source = no_fault (outcome (effect r) image source).printout.answer (own_answer r image source)

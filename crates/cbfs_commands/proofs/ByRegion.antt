@@ -8,11 +8,11 @@ use Rattle.cbfs_edit.specs.Additions.{NewComponent, added, addition_in, new_comp
 use Rattle.cbfs_edit.specs.Removals.{removal_in, removed}
 use Rattle.cbfs_commands.specs.declared.refusal.Refusal.{Refusal}
 use Rattle.cbfs_commands.specs.declared.refusal.Refusal.TheVariants as refusals
-use Rattle.cbfs_commands.specs.Deeds.{changes, deed, edits, outcome, Task, on_region}
-use Rattle.cbfs_commands.specs.Deeds as tasks
+use Rattle.cbfs_commands.specs.Effects.{changes, effect, edits, outcome, Task, on_region}
+use Rattle.cbfs_commands.specs.Effects as tasks
 use Rattle.cbfs_commands.specs.Refusals.{edit_refusal, fault_or}
-use Rattle.cbfs_commands.specs.Outcomes.{Outcome, StopsIn, extract_region, print_region, told_in}
-use Rattle.cbfs_commands.specs.Told.{Told, shows}
+use Rattle.cbfs_commands.specs.Outcomes.{Outcome, StopsIn, extract_region, print_region, printed_in}
+use Rattle.cbfs_commands.specs.Printouts.{Printout, shows}
 use Rattle.cbfs_commands.specs.Laws.{OutcomesAreOfTheRegion}
 use Rattle.cbfs_commands.proofs.RegionPlaces.{alike_over, region_lies}
 
@@ -20,12 +20,12 @@ use Rattle.cbfs_commands.proofs.RegionPlaces.{alike_over, region_lies}
 module _ (name : List ℕ) (region : Range) (image other : List ℕ) (here : region_of image name ≡ Ok region) (there : region_of other name ≡ Ok region) (same : bytes_in region other ≡ bytes_in region image) where
   -- equal outputs, and equal bytes of the region
   abbrev Alike : Outcome → Outcome → Type 0
-  Alike a b = (b.told ≡ a.told) × (bytes_in region b.image ≡ bytes_in region a.image)
+  Alike a b = (b.printout ≡ a.printout) × (bytes_in region b.image ≡ bytes_in region a.image)
 
-  told : (tell : List ℕ → Told) → Alike (record { told = told_in image name tell; image = image }) (record { told = told_in other name tell; image = other })
-  told tell =
-      let first : told_in image name tell ≡ tell (bytes_in region image) = rw here refl in
-      let last : told_in other name tell ≡ tell (bytes_in region image) = rw (there, same) refl in
+  printout : (tell : List ℕ → Printout) → Alike (record { printout = printed_in image name tell; image = image }) (record { printout = printed_in other name tell; image = other })
+  printout tell =
+      let first : printed_in image name tell ≡ tell (bytes_in region image) = rw here refl in
+      let last : printed_in other name tell ≡ tell (bytes_in region image) = rw (there, same) refl in
       (last ∙ sym first, same)
 
   made : (source : List ℕ) (make : Range → List ℕ → List ℕ → Result (List ℕ) Refusal) → let d = changes (edits name false make StopsIn) in Alike (outcome d image source) (outcome d other source)
@@ -34,20 +34,20 @@ module _ (name : List ℕ) (region : Range) (image other : List ℕ) (here : reg
       over : List ℕ → Result (List ℕ) Refusal → Outcome
       over whole r =
           let made : Result (List ℕ) Refusal = fault_or Err r (λ bytes. Ok (overwritten whole region.start bytes)) in
-          record { told = record { written = []; answer = fault_or Err made (λ now. Ok tt) }; image = result_unwrap_or made whole }
+          record { printout = record { written = []; answer = fault_or Err made (λ now. Ok tt) }; image = result_unwrap_or made whole }
 
       go : (r : Result (List ℕ) Refusal) → Alike (over image r) (over other r)
       go (Err refusal) = (refl, same)
       go (Ok bytes) = (refl, alike_over region image other bytes (region_lies image name region here) (region_lies other name region there) same)
 
-  each : (task : Task) (source : List ℕ) → let d = deed (on_region name task) in Alike (outcome d image source) (outcome d other source)
-  each (tasks.print verbose) source = told (λ x. print_region x verbose)
-  each (tasks.extract component) source = told (λ x. extract_region x component)
+  each : (task : Task) (source : List ℕ) → let d = effect (on_region name task) in Alike (outcome d image source) (outcome d other source)
+  each (tasks.print verbose) source = printout (λ x. print_region x verbose)
+  each (tasks.extract component) source = printout (λ x. extract_region x component)
   each (tasks.add component kind hash spot) source =
       let new : NewComponent = new_component component kind hash source in
       made source (λ found x s. fault_or (λ fault. Err (edit_refusal fault)) (addition_in x new spot) (λ place. Ok (added x new place)))
   each (tasks.remove component) source = made source (λ found x s. fault_or (λ fault. Err (edit_refusal fault)) (removal_in x component) (λ group. Ok (removed x group)))
-  each tasks.read source = told shows
+  each tasks.read source = printout shows
   each tasks.write source = made source (λ found x s. if length s == found.size then Ok s else Err refusals.SourceSize)
 
 pub outcomes_of_region : OutcomesAreOfTheRegion

@@ -16,10 +16,10 @@ use Rattle.cbfs_edit.specs.Changes.{AddLeavesBefore, AddLeavesWhole, LeavesWhole
 use Rattle.cbfs_edit.specs.Removals.{removal_in}
 use Rattle.cbfs_commands.specs.declared.refusal.Refusal.{Refusal}
 use Rattle.cbfs_commands.specs.declared.refusal.Refusal.TheVariants as refusals
-use Rattle.cbfs_commands.specs.Deeds.{adds, changes, outcome, removes}
+use Rattle.cbfs_commands.specs.Effects.{adds, changes, outcome, removes}
 use Rattle.cbfs_commands.specs.Outcomes.{AddStopsIn, LeavesOr}
 use Rattle.cbfs_commands.specs.Refusals.{edit_refusal, fault_or, store_refusal}
-use Rattle.cbfs_commands.specs.Told.{Answer}
+use Rattle.cbfs_commands.specs.Printouts.{Answer}
 use Rattle.cbfs_commands.proofs.Telling.{handed}
 
 -- the error of the place is the error of the addition
@@ -28,17 +28,17 @@ refused_place (Err other) fault next is = let same : other ≡ fault = cc in rw 
 refused_place (Ok place) fault next is = absurd cc
 
 -- a found region: the answer is the edit's error, and only a fault leaves a change
-module _ (image between now source name : List ℕ) (region : Range) (fault : EditFault) (answer : Answer) (sought : (let r : Result Range StoreFault = Ok region in IsErrOf r store.Device ⊎ (r ≡ region_of image name))) (unread : between ≡ image) (told : IsErrAnd answer (λ refusal. refusal ≡ edit_refusal fault)) (same : fault ≢ edit.Device → fault ≢ edit.Source → now ≡ between) where
+module _ (image between now source name : List ℕ) (region : Range) (fault : EditFault) (answer : Answer) (sought : (let r : Result Range StoreFault = Ok region in IsErrOf r store.Device ⊎ (r ≡ region_of image name))) (unread : between ≡ image) (printout : IsErrAnd answer (λ refusal. refusal ≡ edit_refusal fault)) (same : fault ≢ edit.Device → fault ≢ edit.Source → now ≡ between) where
   here : Ok region ≡ region_of image name
   here = elim sought [ inl failed ↦ absurd cc | inr is ↦ is ]
 
   answer_is : answer ≡ Err (edit_refusal fault)
-  answer_is = sym (handed answer (edit_refusal fault) told)
+  answer_is = sym (handed answer (edit_refusal fault) printout)
 
-  left : (next : Range → Result (List ℕ) Refusal) → (fault ≢ edit.Device → fault ≢ edit.Source → next region ≡ Err (edit_refusal fault)) → let made : Result (List ℕ) Refusal = fault_or (λ f. Err (store_refusal f)) (region_of image name) next in LeavesOr now answer (record { told = record { written = []; answer = fault_or Err made (λ now. Ok tt) }; image = result_unwrap_or made image })
+  left : (next : Range → Result (List ℕ) Refusal) → (fault ≢ edit.Device → fault ≢ edit.Source → next region ≡ Err (edit_refusal fault)) → let made : Result (List ℕ) Refusal = fault_or (λ f. Err (store_refusal f)) (region_of image name) next in LeavesOr now answer (record { printout = record { written = []; answer = fault_or Err made (λ now. Ok tt) }; image = result_unwrap_or made image })
   left next refused = rw (← here) (go fault answer_is same refused)
     where
-      go : (f : EditFault) → answer ≡ Err (edit_refusal f) → (f ≢ edit.Device → f ≢ edit.Source → now ≡ between) → (f ≢ edit.Device → f ≢ edit.Source → next region ≡ Err (edit_refusal f)) → LeavesOr now answer (record { told = record { written = []; answer = fault_or Err (next region) (λ now. Ok tt) }; image = result_unwrap_or (next region) image })
+      go : (f : EditFault) → answer ≡ Err (edit_refusal f) → (f ≢ edit.Device → f ≢ edit.Source → now ≡ between) → (f ≢ edit.Device → f ≢ edit.Source → next region ≡ Err (edit_refusal f)) → LeavesOr now answer (record { printout = record { written = []; answer = fault_or Err (next region) (λ now. Ok tt) }; image = result_unwrap_or (next region) image })
       go edit.Device is kept refused = inr (inl is)
       go edit.Source is kept refused = inr (inr is)
       go other is kept refused = rw (refused (λ e. absurd cc) (λ e. absurd cc)) (inl (is, kept (λ e. absurd cc) (λ e. absurd cc) ∙ unread))

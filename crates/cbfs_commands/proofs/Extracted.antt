@@ -14,8 +14,8 @@ use Rattle.cbfs_edit.proofs.FoundAgain.{additions_found}
 use Rattle.cbfs_walk.specs.Finding.{Found}
 use Rattle.cbfs_commands.specs.declared.refusal.Refusal.TheVariants as refusals
 use Rattle.cbfs_commands.specs.Refusals.{fault_or, store_refusal, walk_refusal}
-use Rattle.cbfs_commands.specs.Outcomes.{extract_region, told_component}
-use Rattle.cbfs_commands.specs.Told.{Told, refuses, shows}
+use Rattle.cbfs_commands.specs.Outcomes.{extract_region, printed_component}
+use Rattle.cbfs_commands.specs.Printouts.{Printout, refuses, shows}
 use Rattle.cbfs_commands.specs.Laws.{AddedFilesAreExtracted, AdditionsAreExtracted}
 use Rattle.cbfs_commands.proofs.RegionPlaces.{region_lies, whole_over}
 
@@ -26,7 +26,7 @@ plain (Some digest) = refl
 
 pub additions_extracted : AdditionsAreExtracted
 additions_extracted x new spot place is =
-    ap (λ (f : Found). fault_or (λ fault. refuses (walk_refusal fault)) f (λ found. option_map_or told_component found (refuses refusals.NotFound))) (additions_found x new spot place is) ∙ ap (λ b. let t : Told = cond b (refuses refusals.Compressed) (shows new.content) in t) (plain new.digest)
+    ap (λ (f : Found). fault_or (λ fault. refuses (walk_refusal fault)) f (λ found. option_map_or printed_component found (refuses refusals.NotFound))) (additions_found x new spot place is) ∙ ap (λ b. let t : Printout = cond b (refuses refusals.Compressed) (shows new.content) in t) (plain new.digest)
 
 pub files_extracted : AddedFilesAreExtracted
 files_extracted image name new spot region place asked is still =

@@ -6,13 +6,13 @@ use Rattle.flash_format.specs.Entry.{Attribute}
 use Rattle.cbfs_walk.specs.AttrWalks.{first_head, after_first, head_of_attribute}
 use Rattle.cbfs_commands.specs.Rows.{attribute_line}
 use Rattle.cbfs_commands.proofs.Telling.{text_then}
-use Rattle.cbfs_commands.specs.Told.{Told, shows}
+use Rattle.cbfs_commands.specs.Printouts.{Printout, shows}
 
-abbrev pub lines : List Attribute → Told
+abbrev pub lines : List Attribute → Printout
 lines all = shows (flat_map attribute_line (map head_of_attribute all))
 
 -- the remaining lines, or none if malformed
-abbrev pub lines_left : Option (List Attribute) → Told
+abbrev pub lines_left : Option (List Attribute) → Printout
 lines_left None = shows []
 lines_left (Some all) = lines all
 

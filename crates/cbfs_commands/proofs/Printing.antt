@@ -2,7 +2,7 @@
 use Rattle.std.proofs.Common.{◌≡◌, ℕ, ◌+◌, ◌/◌, ◌%◌, ◌-◌, ◌≤◌, ◌⊎◌, inl, inr, Bool, true, false, List, [], Option, None, Ok, Err, refl, sym, ap, ◌∙◌, arith, subst}
 use Rattle.std.specs.Prelude.{IsErrOf, if◌then◌else◌}
 use Rattle.std.specs.Result.{IsErrAnd}
-use Rattle.flash_device.specs.Device.{Device, faults_told}
+use Rattle.flash_device.specs.Device.{Device, fault_count}
 use Rattle.flash_device.specs.Pages.{Pages, HasRead, OnHonest, OnHonestIn}
 use Rattle.flash_device.specs.Regions.{Range, LiesIn, bytes_in}
 use Rattle.cbfs_walk.specs.Cells.{IsCellIn}
@@ -20,18 +20,18 @@ use Rattle.cbfs_commands.specs.declared.refusal.Refusal.TheVariants as refusals
 use Rattle.cbfs_commands.specs.Outcomes.{print_cut, print_region}
 use Rattle.cbfs_commands.specs.Refusals.{by_device, walk_refusal}
 use Rattle.cbfs_commands.specs.Rows.{rows_from, shown_cell}
-use Rattle.cbfs_commands.specs.Told.{Answer, HasTold, Told, cell_of, shows, refuses}
-use Rattle.cbfs_commands.proofs.Telling.{ToldSoFar, so_far-ends, so_far-more, text_then, told-after, told-none, told-refusal, told-stopped}
+use Rattle.cbfs_commands.specs.Printouts.{Answer, HasOutput, Printout, cell_of, shows, refuses}
+use Rattle.cbfs_commands.proofs.Telling.{ToldSoFar, so_far-ends, so_far-more, text_then, printout-after, printout-none, printout-refusal, printout-stopped}
 use Rattle.flash_device.proofs.DeviceLemmas.{length-bytes_in}
 
-abbrev pub print_from : Bool → List ℕ → ℕ → Told
+abbrev pub print_from : Bool → List ℕ → ℕ → Printout
 print_from verbose x at = reading_of (λ fault. refuses (walk_refusal fault)) (print_cut verbose) x at
 
 pub print_region-from : (verbose : Bool) (x : List ℕ) → print_region x verbose ≡ print_from verbose x 0
 unfolding print_region reading_of
 print_region-from verbose x = refl
 
-abbrev each_row : Bool → List ℕ → Cell → Told → Told
+abbrev each_row : Bool → List ℕ → Cell → Printout → Printout
 each_row verbose c given t = text_then (shown_cell verbose given.at c) t
 
 law : (verbose : Bool) → ReadsCells (print_cut verbose) (each_row verbose)
@@ -39,7 +39,7 @@ unfolding rows_from
 law verbose at c k = refl
 
 -- by the walk's result
-abbrev print_by : Bool → List ℕ → walks.Answer → Told
+abbrev print_by : Bool → List ℕ → walks.Answer → Printout
 print_by verbose x a = by_answer (λ fault. refuses (walk_refusal fault)) (print_cut verbose) (each_row verbose) x a
 
 refused_by : (verbose : Bool) (x : List ℕ) (fault : WalkFault) → print_by verbose x (Err fault) ≡ refuses (walk_refusal fault)
@@ -78,14 +78,14 @@ pub record PrintedTo {F W : Type 0} (facts : F → Device) (contents : W → Opt
   pub going : w.ended ≡ None
   pub inside : w.at ≤ r.size
   pub aligned : w.at % 64 ≡ 0
-  pub told : ToldSoFar facts contents sinks (region_reads verbose w.at) (λ image. print_region (bytes_in r image) verbose) (λ image. print_from verbose (bytes_in r image) w.at) old now before after
+  pub printout : ToldSoFar facts contents sinks (region_reads verbose w.at) (λ image. print_region (bytes_in r image) verbose) (λ image. print_from verbose (bytes_in r image) w.at) old now before after
 
 module _ {F W : Type 0} {facts : F → Device} {contents : W → Option (List ℕ)} {sinks : W → ℕ} {verbose : Bool} {r : Range} {old now next : Pages F} {before after : W} {w : Walking}
     (p : PrintedTo facts contents sinks verbose r old now before after w) (lies : LiesIn r (facts old.device).content) (a : walks.Answer)
-    (read : HasRead facts (reads_at w.region.size w.at a) (faults_told walks.by_device a) now next)
+    (read : HasRead facts (reads_at w.region.size w.at a) (fault_count walks.by_device a) now next)
     (answer : OnHonestIn facts now.device w.region (λ x. w.ended ≡ None → IsErrOf a faults.Device ⊎ (a ≡ answer_at x w.at))) where
   abbrev Printed : Pages F → W → Answer → Type 0
-  Printed new out result = HasTold facts contents sinks (region_reads verbose r.size + 2) old new before out result (λ image. print_region (bytes_in r image) verbose)
+  Printed new out result = HasOutput facts contents sinks (region_reads verbose r.size + 2) old new before out result (λ image. print_region (bytes_in r image) verbose)
 
   size : w.region.size ≡ r.size
   size = ap (λ (q : Range). q.size) p.region
@@ -97,7 +97,7 @@ module _ {F W : Type 0} {facts : F → Device} {contents : W → Option (List �
     | inr is ↦ inr (
         let image : List ℕ = (facts now.device).content in
         let x : List ℕ = bytes_in r image in
-        let lies_now : LiesIn r image = omega (arith, lies, p.told.reads.device.calls.same_length) in
+        let lies_now : LiesIn r image = omega (arith, lies, p.printout.reads.device.calls.same_length) in
         let here : answer_at x w.at ≡ a = ap (λ (k : Range). answer_at (bytes_in k image) w.at) (sym p.region) ∙ sym is in
         shaped_step (λ fault. refuses (walk_refusal fault)) (print_cut verbose) (each_row verbose) (law verbose) x w.at (omega (arith, length-bytes_in r image lies_now, p.inside)) p.aligned
         ∙ ap (print_by verbose x) here)
@@ -114,7 +114,7 @@ module _ {F W : Type 0} {facts : F → Device} {contents : W → Option (List �
     few = 2 + c.span / 3840 + (if verbose then 1 + c.span / 8 + c.span / 3840 else 0)
 
     abbrev Shown : ℕ → Pages F → Pages F → W → Answer → Type 0
-    Shown n from new out result = HasTold facts contents sinks n from new after out result (λ image. shows (shown_cell verbose c.at (cell_of r c image)))
+    Shown n from new out result = HasOutput facts contents sinks n from new after out result (λ image. shows (shown_cell verbose c.at (cell_of r c image)))
 
     given : IsCellIn w.region.size c × (c.at ≡ w.at)
     given = rw is at cell
@@ -123,25 +123,25 @@ module _ {F W : Type 0} {facts : F → Device} {contents : W → Option (List �
     others h = let image : List ℕ = (facts now.device).content in rest-step (steps.Cell c) is h ∙ ap (λ q. text_then (shown_cell verbose c.at (cell_of r c image)) (print_from verbose (bytes_in r image) (q + c.span))) given.1
 
     lines : {new : Pages F} {out : W} {result : Answer} → Shown few next new out result → Shown (1 + c.span / 3840 + few) now new out result
-    lines told = told-after told _ (rw is at read) (omega arith)
+    lines printout = printout-after printout _ (rw is at read) (omega arith)
 
     pub printed-more : {new : Pages F} {out : W} → Shown few next new out (Ok tt) → (v : Walking) → v ≡ walk_after w a → PrintedTo facts contents sinks verbose r old new before out v
-    printed-more {new} {out} told v is_moved = subst (λ (u : Walking). PrintedTo facts contents sinks verbose r old new before out u) (sym (rw is at is_moved)) (record {
+    printed-more {new} {out} printout v is_moved = subst (λ (u : Walking). PrintedTo facts contents sinks verbose r old new before out u) (sym (rw is at is_moved)) (record {
       region = p.region;
       going = p.going;
       inside = omega (arith, given.0.inside, given.1, size);
       aligned = omega (arith, p.aligned, given.0.whole);
-      told = so_far-more p.told _ _ (lines told) others (reads_with verbose w.at c.span (w.at + c.span) p.aligned given.0.whole given.0.positive (omega arith));
+      printout = so_far-more p.printout _ _ (lines printout) others (reads_with verbose w.at c.span (w.at + c.span) p.aligned given.0.whole given.0.positive (omega arith));
     })
 
     pub printed-stops : {new : Pages F} {out : W} {refusal : Refusal} {result : Answer} → Shown few next new out (Err refusal) → IsErrAnd result (λ x. x ≡ refusal) → Printed new out result
-    printed-stops told stopped =
-        so_far-ends p.told _ (told-stopped (λ image. print_from verbose (bytes_in r image) (w.at + c.span)) (lines told) stopped) others
+    printed-stops printout stopped =
+        so_far-ends p.printout _ (printout-stopped (λ image. print_from verbose (bytes_in r image) (w.at + c.span)) (lines printout) stopped) others
         (omega (arith, reads_with verbose w.at c.span r.size p.aligned given.0.whole given.0.positive (omega (arith, given.0.inside, given.1, size))))
 
   ends : (s : Step) → a ≡ Ok s → ((x : List ℕ) → print_by verbose x (Ok s) ≡ shows []) → HasRead facts (1 + (w.region.size - w.at) / 3840) 0 now next → Printed next after (Ok tt)
   ends s is none few =
-      so_far-ends p.told _ (told-after (told-none next after) (1 + (w.region.size - w.at) / 3840) few (omega arith)) (λ h. rest-step s is h ∙ none _)
+      so_far-ends p.printout _ (printout-after (printout-none next after) (1 + (w.region.size - w.at) / 3840) few (omega arith)) (λ h. rest-step s is h ∙ none _)
       (omega (arith, reads_left verbose w.at r.size p.inside, size))
 
   pub printed-done : (s : Step) → a ≡ Ok s → ((c : Cell) → s ≡ steps.Cell c → ⊥) → Printed next after (Ok tt)
@@ -153,7 +153,7 @@ module _ {F W : Type 0} {facts : F → Device} {contents : W → Option (List �
   pub printed-failed : (fault : WalkFault) → a ≡ Err fault → {result : Answer} → IsErrAnd result (λ x. x ≡ walk_refusal fault) → Printed next after result
   printed-failed fault is failed =
       let none = blames_no_other fault in
-      so_far-ends p.told _ (told-refusal (λ image. print_from verbose (bytes_in r image) w.at) failed (rw (is, counted fault) at read) none.0 none.1 (λ h. elim (rw is at (rest h)) [
+      so_far-ends p.printout _ (printout-refusal (λ image. print_from verbose (bytes_in r image) w.at) failed (rw (is, counted fault) at read) none.0 none.1 (λ h. elim (rw is at (rest h)) [
         | inl device ↦ inl (let same : fault ≡ faults.Device = cc in ap walk_refusal same)
         | inr e ↦ inr (e ∙ refused_by verbose (bytes_in r (facts now.device).content) fault)
       ])) (λ h. refl) (omega (arith, reads_left verbose w.at r.size p.inside, size))

@@ -2,12 +2,12 @@
 use Rattle.std.proofs.Common.{◌≡◌, ℕ, List, Option, true, refl, rules}
 use Rattle.flash_device.specs.Device.{Device}
 use Rattle.flash_device.specs.Pages.{Pages}
-use Rattle.cbfs_commands.specs.Deeds.{Change, HasChanged, HasRun, changes, no_source, reads_source, removes, tells}
-use Rattle.cbfs_commands.specs.Told.{Answer, HasTold, Told}
+use Rattle.cbfs_commands.specs.Effects.{Change, HasChanged, HasRun, changes, no_source, reads_source, removes, prints}
+use Rattle.cbfs_commands.specs.Printouts.{Answer, HasOutput, Printout}
 
 module _ {F S W : Type 0} {facts : F → Device} {sources : S → Device} {contents : W → Option (List ℕ)} {faults : W → ℕ} {n : ℕ} {old new : Pages F} {source : S} {out : W} {answer : Answer} where
   -- a report
-  pub told_runs : {t : List ℕ → Told} {out_new : W} → HasTold facts contents faults n old new out out_new answer t → HasRun facts sources contents faults n (tells t) old new source source out out_new answer
+  pub told_runs : {t : List ℕ → Printout} {out_new : W} → HasOutput facts contents faults n old new out out_new answer t → HasRun facts sources contents faults n (prints t) old new source source out out_new answer
   told_runs h = record {
     calls = h.read.device.calls;
     source_calls = search rules;

@@ -6,7 +6,7 @@ use Rattle.std.proofs.Math.Seq.{take-append-add}
 use Rattle.std.specs.Io.KnownBytes.{Appends}
 use Rattle.std.specs.Result.{IsErrAnd}
 use Rattle.std.proofs.KnownBytes.{Appends-nil, Appends-trans}
-use Rattle.flash_device.specs.Device.{Device, faults_told}
+use Rattle.flash_device.specs.Device.{Device, fault_count}
 use Rattle.flash_device.specs.Pages.{Pages, HasRead, OnHonest}
 use Rattle.flash_device.specs.Regions.{Range, bytes_in}
 use Rattle.flash_device.proofs.DeviceLemmas.{honest_still}
@@ -16,10 +16,10 @@ use Rattle.cbfs_walk.specs.declared.cell.Cell.{Cell}
 use Rattle.cbfs_commands.specs.declared.refusal.Refusal.{Refusal}
 use Rattle.cbfs_commands.specs.declared.refusal.Refusal.TheVariants as refusals
 use Rattle.cbfs_commands.specs.Refusals.{by_device}
-use Rattle.cbfs_commands.specs.Told.{Answer, HasTold, IsCellOf, Told, refuses, shows, Tells}
+use Rattle.cbfs_commands.specs.Printouts.{Answer, HasOutput, IsCellOf, Printout, refuses, shows, PrintsOut}
 
 -- a text, then the output
-abbrev pub text_then : List ℕ → Told → Told
+abbrev pub text_then : List ℕ → Printout → Printout
 text_then text t = record { written = text ++ t.written; answer = t.answer }
 
 -- a text, then a prefix of another
@@ -27,14 +27,14 @@ first_of_both : (old mid new : Option (List ℕ)) (text rest : List ℕ) (n : �
     → Appends old new (take (length text + n) (text ++ rest))
 first_of_both old mid new text rest n wrote more = rw (take-append-add text rest n) (Appends-trans old mid new text (take n rest) wrote more)
 
-tells-then : (old mid new : Option (List ℕ)) (answer : Answer) (text : List ℕ) (t : Told) → Appends old mid text → Tells mid new answer t
-    → Tells old new answer (text_then text t)
-tells-then old mid new answer text t wrote (inl done) = inl (done.0, Appends-trans old mid new text t.written wrote done.1)
-tells-then old mid new answer text t wrote (inr (inl stopped)) =
+prints-then : (old mid new : Option (List ℕ)) (answer : Answer) (text : List ℕ) (t : Printout) → Appends old mid text → PrintsOut mid new answer t
+    → PrintsOut old new answer (text_then text t)
+prints-then old mid new answer text t wrote (inl done) = inl (done.0, Appends-trans old mid new text t.written wrote done.1)
+prints-then old mid new answer text t wrote (inr (inl stopped)) =
     let n = stopped.1.0 in
     let more = first_of_both old mid new text t.written n wrote stopped.1.2 in
     inr (inl (stopped.0, (length text + n, omega (arith, length-append text t.written, stopped.1.1), more)))
-tells-then old mid new answer text t wrote (inr (inr failed)) =
+prints-then old mid new answer text t wrote (inr (inr failed)) =
     let n = failed.1.0 in
     let more = first_of_both old mid new text t.written n wrote failed.1.2 in
     inr (inr (failed.0, (length text + n, omega (arith, length-append text t.written, failed.1.1), more)))
@@ -43,13 +43,13 @@ tells-then old mid new answer text t wrote (inr (inr failed)) =
 first_of_longer : (old new : Option (List ℕ)) (text rest : List ℕ) (n : ℕ) → n ≤ length text → Appends old new (take n text) → Appends old new (take n (text ++ rest))
 first_of_longer old new text rest n short wrote = rw (take-append-le n text rest short) wrote
 
-tells-stopped : (old new : Option (List ℕ)) (refusal : Refusal) (text : List ℕ) (t : Told) → Tells old new (Err refusal) (shows text)
-    → Tells old new (Err refusal) (text_then text t)
-tells-stopped old new refusal text t (inl done) = absurd (let bad : (let a : Answer = Err refusal in a) ≡ Ok tt = done.0 in cc)
-tells-stopped old new refusal text t (inr (inl stopped)) =
+prints-stopped : (old new : Option (List ℕ)) (refusal : Refusal) (text : List ℕ) (t : Printout) → PrintsOut old new (Err refusal) (shows text)
+    → PrintsOut old new (Err refusal) (text_then text t)
+prints-stopped old new refusal text t (inl done) = absurd (let bad : (let a : Answer = Err refusal in a) ≡ Ok tt = done.0 in cc)
+prints-stopped old new refusal text t (inr (inl stopped)) =
     let some = first_of_longer old new text t.written stopped.1.0 (omega (arith, stopped.1.1)) stopped.1.2 in
     inr (inl (stopped.0, (stopped.1.0, omega (arith, length-append text t.written, stopped.1.1), some)))
-tells-stopped old new refusal text t (inr (inr failed)) =
+prints-stopped old new refusal text t (inr (inr failed)) =
     let some = first_of_longer old new text t.written failed.1.0 failed.1.1 failed.1.2 in
     inr (inr (failed.0, (failed.1.0, omega (arith, length-append text t.written, failed.1.1), some)))
 
@@ -57,132 +57,132 @@ pub handed : (answer : Answer) (refusal : Refusal) → IsErrAnd answer (λ r. r 
 handed (Ok done) refusal is = absurd is
 handed (Err other) refusal is = ap (λ (r : Refusal). (let a : Answer = Err r in a)) (sym is)
 
-told-text : (old new : Option (List ℕ)) (text : List ℕ) → Tells old new (Ok tt) (shows text) → Appends old new text
-told-text old new text (inl done) = done.1
-told-text old new text (inr (inl stopped)) = absurd (let bad : (let a : Answer = Ok tt in a) ≡ Err refusals.Output = stopped.0 in cc)
-told-text old new text (inr (inr failed)) = absurd (let bad : (let a : Answer = Ok tt in a) ≡ Err refusals.Device = failed.0 in cc)
+printout-text : (old new : Option (List ℕ)) (text : List ℕ) → PrintsOut old new (Ok tt) (shows text) → Appends old new text
+printout-text old new text (inl done) = done.1
+printout-text old new text (inr (inl stopped)) = absurd (let bad : (let a : Answer = Ok tt in a) ≡ Err refusals.Output = stopped.0 in cc)
+printout-text old new text (inr (inr failed)) = absurd (let bad : (let a : Answer = Ok tt in a) ≡ Err refusals.Device = failed.0 in cc)
 
 -- ---- the output so far
 
 -- a written text, and the remaining output
-pub record Telling (whole rest : Told) (before after : Option (List ℕ)) : Type 0 where
+pub record Telling (whole rest : Printout) (before after : Option (List ℕ)) : Type 0 where
   pub text : List ℕ
   pub written : Appends before after text
   pub is : whole ≡ text_then text rest
 
 -- the same for a device's bytes, after at most n reads
-pub record ToldSoFar {F W : Type 0} (facts : F → Device) (contents : W → Option (List ℕ)) (faults : W → ℕ) (n : ℕ) (whole rest : List ℕ → Told) (old now : Pages F) (before after : W) : Type 0 where
+pub record ToldSoFar {F W : Type 0} (facts : F → Device) (contents : W → Option (List ℕ)) (faults : W → ℕ) (n : ℕ) (whole rest : List ℕ → Printout) (old now : Pages F) (before after : W) : Type 0 where
   pub reads : HasRead facts n 0 old now
   pub sink : faults before ≤ faults after
-  pub told : OnHonest facts old.device (λ image. Telling (whole image) (rest image) (contents before) (contents after))
+  pub printout : OnHonest facts old.device (λ image. Telling (whole image) (rest image) (contents before) (contents after))
 
 module _ {F W : Type 0} {facts : F → Device} {contents : W → Option (List ℕ)} {faults : W → ℕ} where
   -- no output yet
-  pub so_far-none : (n : ℕ) (whole rest : List ℕ → Told) (p : Pages F) (out : W) → ((image : List ℕ) → whole image ≡ rest image)
+  pub so_far-none : (n : ℕ) (whole rest : List ℕ → Printout) (p : Pages F) (out : W) → ((image : List ℕ) → whole image ≡ rest image)
       → ToldSoFar facts contents faults n whole rest p p out out
   so_far-none n whole rest p out is = record {
     reads = HasRead-within facts 0 n 0 p p (omega arith) (HasRead-none facts p);
     sink = omega arith;
-    told = λ h. record { text = []; written = Appends-nil (contents out); is = is (facts p.device).content };
+    printout = λ h. record { text = []; written = Appends-nil (contents out); is = is (facts p.device).content };
   }
 
-  module _ {n : ℕ} {whole rest : List ℕ → Told} {old mid : Pages F} {a b : W} (p : ToldSoFar facts contents faults n whole rest old mid a b) where
+  module _ {n : ℕ} {whole rest : List ℕ → Printout} {old mid : Pages F} {a b : W} (p : ToldSoFar facts contents faults n whole rest old mid a b) where
     module _ {k : ℕ} {new : Pages F} {c : W} where
       -- one more text
-      pub so_far-more : {text : List ℕ → List ℕ} (m : ℕ) (next : List ℕ → Told) → HasTold facts contents faults k mid new b c (Ok tt) (λ image. shows (text image))
+      pub so_far-more : {text : List ℕ → List ℕ} (m : ℕ) (next : List ℕ → Printout) → HasOutput facts contents faults k mid new b c (Ok tt) (λ image. shows (text image))
           → OnHonest facts mid.device (λ image. rest image ≡ text_then (text image) (next image)) → n + k ≤ m → ToldSoFar facts contents faults m whole next old new a c
       so_far-more {text} m next step is few = record {
         reads = HasRead-within facts (n + k) m 0 old new few (HasRead-then facts n k 0 old mid new p.reads step.read);
         sink = omega (arith, p.sink, step.sink);
-        told = λ h.
-            let so_far = p.told h in
+        printout = λ h.
+            let so_far = p.printout h in
             let still = honest_still p.reads.device.calls.same_honesty h in
             let image : List ℕ = (facts old.device).content in
-            let piece = subst (λ (l : List ℕ). Appends (contents b) (contents c) (text l)) (p.reads.device.unchanged h) (told-text _ _ _ (step.told still)) in
+            let piece = subst (λ (l : List ℕ). Appends (contents b) (contents c) (text l)) (p.reads.device.unchanged h) (printout-text _ _ _ (step.printout still)) in
             let left = subst (λ (l : List ℕ). rest l ≡ text_then (text l) (next l)) (p.reads.device.unchanged h) (is still) in
             record {
               text = so_far.text ++ text image;
               written = Appends-trans (contents a) (contents b) (contents c) so_far.text (text image) so_far.written piece;
-              is = so_far.is ∙ ap (λ (t : Told). text_then so_far.text t) left
-                  ∙ ap (λ (l : List ℕ). (let t : Told = record { written = l; answer = (next image).answer } in t)) (sym (append_assoc so_far.text (text image) (next image).written));
+              is = so_far.is ∙ ap (λ (t : Printout). text_then so_far.text t) left
+                  ∙ ap (λ (l : List ℕ). (let t : Printout = record { written = l; answer = (next image).answer } in t)) (sym (append_assoc so_far.text (text image) (next image).written));
             };
       }
 
       -- the rest of the output
-      pub so_far-ends : {answer : Answer} {t : List ℕ → Told} (m : ℕ) → HasTold facts contents faults k mid new b c answer t
-          → OnHonest facts mid.device (λ image. rest image ≡ t image) → n + k ≤ m → HasTold facts contents faults m old new a c answer whole
+      pub so_far-ends : {answer : Answer} {t : List ℕ → Printout} (m : ℕ) → HasOutput facts contents faults k mid new b c answer t
+          → OnHonest facts mid.device (λ image. rest image ≡ t image) → n + k ≤ m → HasOutput facts contents faults m old new a c answer whole
       so_far-ends {answer} {t} m last is few = record {
         read = HasRead-within facts (n + k) m _ old new few (HasRead-then facts n k _ old mid new p.reads last.read);
         sink = omega (arith, p.sink, last.sink);
         output = λ failed. omega (arith, p.sink, last.output failed);
         no_source = last.no_source;
-        told = λ h.
-            let so_far = p.told h in
+        printout = λ h.
+            let so_far = p.printout h in
             let still = honest_still p.reads.device.calls.same_honesty h in
-            let here = subst (λ (u : Told). Tells (contents b) (contents c) answer u) (sym (is still)) (last.told still) in
-            subst (λ (u : Told). Tells (contents a) (contents c) answer u) (sym so_far.is)
-            (tells-then _ _ _ answer so_far.text _ so_far.written (subst (λ (l : List ℕ). Tells (contents b) (contents c) answer (rest l)) (p.reads.device.unchanged h) here));
+            let here = subst (λ (u : Printout). PrintsOut (contents b) (contents c) answer u) (sym (is still)) (last.printout still) in
+            subst (λ (u : Printout). PrintsOut (contents a) (contents c) answer u) (sym so_far.is)
+            (prints-then _ _ _ answer so_far.text _ so_far.written (subst (λ (l : List ℕ). PrintsOut (contents b) (contents c) answer (rest l)) (p.reads.device.unchanged h) here));
       }
 
-  module _ {k : ℕ} {old mid new : Pages F} {a b : W} {answer : Answer} {t : List ℕ → Told} (told : HasTold facts contents faults k mid new a b answer t) where
+  module _ {k : ℕ} {old mid new : Pages F} {a b : W} {answer : Answer} {t : List ℕ → Printout} (printout : HasOutput facts contents faults k mid new a b answer t) where
     -- output after reads
-    pub told-after : {n : ℕ} (m : ℕ) → HasRead facts n 0 old mid → n + k ≤ m → HasTold facts contents faults m old new a b answer t
-    told-after {n} m first few = record {
-      read = HasRead-within facts (n + k) m _ old new few (HasRead-then facts n k _ old mid new first told.read);
-      sink = told.sink;
-      output = told.output;
-      no_source = told.no_source;
-      told = λ h. subst (λ (l : List ℕ). Tells (contents a) (contents b) answer (t l)) (first.device.unchanged h) (told.told (honest_still first.device.calls.same_honesty h));
+    pub printout-after : {n : ℕ} (m : ℕ) → HasRead facts n 0 old mid → n + k ≤ m → HasOutput facts contents faults m old new a b answer t
+    printout-after {n} m first few = record {
+      read = HasRead-within facts (n + k) m _ old new few (HasRead-then facts n k _ old mid new first printout.read);
+      sink = printout.sink;
+      output = printout.output;
+      no_source = printout.no_source;
+      printout = λ h. subst (λ (l : List ℕ). PrintsOut (contents a) (contents b) answer (t l)) (first.device.unchanged h) (printout.printout (honest_still first.device.calls.same_honesty h));
     }
 
   module _ {k : ℕ} {old new : Pages F} {a b : W} {text : List ℕ → List ℕ} where
     -- a partial text is a prefix of the output
-    pub told-stopped : {refusal : Refusal} {answer : Answer} (t : List ℕ → Told) → HasTold facts contents faults k old new a b (Err refusal) (λ image. shows (text image)) → IsErrAnd answer (λ r. r ≡ refusal)
-        → HasTold facts contents faults k old new a b answer (λ image. text_then (text image) (t image))
-    told-stopped {refusal} {answer} t told is = subst (λ (r : Answer). HasTold facts contents faults k old new a b r (λ image. text_then (text image) (t image))) (handed answer refusal is) (record {
-      read = told.read;
-      sink = told.sink;
-      output = told.output;
-      no_source = told.no_source;
-      told = λ h. tells-stopped _ _ refusal (text (facts old.device).content) (t (facts old.device).content) (told.told h);
+    pub printout-stopped : {refusal : Refusal} {answer : Answer} (t : List ℕ → Printout) → HasOutput facts contents faults k old new a b (Err refusal) (λ image. shows (text image)) → IsErrAnd answer (λ r. r ≡ refusal)
+        → HasOutput facts contents faults k old new a b answer (λ image. text_then (text image) (t image))
+    printout-stopped {refusal} {answer} t printout is = subst (λ (r : Answer). HasOutput facts contents faults k old new a b r (λ image. text_then (text image) (t image))) (handed answer refusal is) (record {
+      read = printout.read;
+      sink = printout.sink;
+      output = printout.output;
+      no_source = printout.no_source;
+      printout = λ h. prints-stopped _ _ refusal (text (facts old.device).content) (t (facts old.device).content) (printout.printout h);
     })
 
     -- a complete output before the next output
-    pub so_far-of : (next : List ℕ → Told) → HasTold facts contents faults k old new a b (Ok tt) (λ image. shows (text image))
+    pub so_far-of : (next : List ℕ → Printout) → HasOutput facts contents faults k old new a b (Ok tt) (λ image. shows (text image))
         → ToldSoFar facts contents faults k (λ image. text_then (text image) (next image)) next old new a b
-    so_far-of next told = record { reads = told.read; sink = told.sink; told = λ h. record { text = text (facts old.device).content; written = told-text _ _ _ (told.told h); is = refl } }
+    so_far-of next printout = record { reads = printout.read; sink = printout.sink; printout = λ h. record { text = text (facts old.device).content; written = printout-text _ _ _ (printout.printout h); is = refl } }
 
   -- by more calls
-  pub told-within : {k : ℕ} {old new : Pages F} {a b : W} {answer : Answer} {t : List ℕ → Told} (m : ℕ) → k ≤ m → HasTold facts contents faults k old new a b answer t
-      → HasTold facts contents faults m old new a b answer t
-  told-within m few told = told-after told m (HasRead-none facts _) (omega (arith, few))
+  pub printout-within : {k : ℕ} {old new : Pages F} {a b : W} {answer : Answer} {t : List ℕ → Printout} (m : ℕ) → k ≤ m → HasOutput facts contents faults k old new a b answer t
+      → HasOutput facts contents faults m old new a b answer t
+  printout-within m few printout = printout-after printout m (HasRead-none facts _) (omega (arith, few))
 
   -- a row after reads
-  pub told-row : {k : ℕ} {old new : Pages F} {a b : W} {answer : Answer} {text : List ℕ} → HasRead facts k 0 old new → faults a ≤ faults b → OnErr answer (faults a < faults b) → OnErr answer (answer ≡ Err refusals.Output)
-      → Tells (contents a) (contents b) answer (shows text) → HasTold facts contents faults k old new a b answer (λ image. shows text)
-  told-row {answer = Ok done} read sink output only told = record { read = read; sink = sink; output = λ failed. absurd cc; no_source = λ failed. absurd cc; told = λ h. told }
-  told-row {answer = Err refusal} read sink output only told =
+  pub printout-row : {k : ℕ} {old new : Pages F} {a b : W} {answer : Answer} {text : List ℕ} → HasRead facts k 0 old new → faults a ≤ faults b → OnErr answer (faults a < faults b) → OnErr answer (answer ≡ Err refusals.Output)
+      → PrintsOut (contents a) (contents b) answer (shows text) → HasOutput facts contents faults k old new a b answer (λ image. shows text)
+  printout-row {answer = Ok done} read sink output only printout = record { read = read; sink = sink; output = λ failed. absurd cc; no_source = λ failed. absurd cc; printout = λ h. printout }
+  printout-row {answer = Err refusal} read sink output only printout =
       let is : refusal ≡ refusals.Output = cc in
-      record { read = rw is read; sink = sink; output = λ failed. output; no_source = λ failed. absurd cc; told = λ h. told }
+      record { read = rw is read; sink = sink; output = λ failed. output; no_source = λ failed. absurd cc; printout = λ h. printout }
 
-  pub told-none : (p : Pages F) (out : W) → HasTold facts contents faults 0 p p out out (Ok tt) (λ image. shows [])
-  told-none p out = record {
+  pub printout-none : (p : Pages F) (out : W) → HasOutput facts contents faults 0 p p out out (Ok tt) (λ image. shows [])
+  printout-none p out = record {
     read = HasRead-none facts p;
     sink = omega arith;
     output = λ failed. absurd cc;
     no_source = λ failed. absurd cc;
-    told = λ h. inl (refl, Appends-nil (contents out));
+    printout = λ h. inl (refl, Appends-nil (contents out));
   }
 
   -- only an error: the device's, or the output's only content
-  pub told-refusal : {k : ℕ} {old new : Pages F} {out : W} {refusal : Refusal} {answer : Answer} (t : List ℕ → Told) → IsErrAnd answer (λ r. r ≡ refusal) → HasRead facts k (by_device refusal) old new
-      → (refusal ≡ refusals.Output → ⊥) → (refusal ≡ refusals.Source → ⊥) → OnHonest facts old.device (λ image. (refusal ≡ refusals.Device) ⊎ (t image ≡ refuses refusal)) → HasTold facts contents faults k old new out out answer t
-  told-refusal {k} {old} {new} {out} {refusal} {answer} t is read no_output no_source told = subst (λ (r : Answer). HasTold facts contents faults k old new out out r t) (handed answer refusal is) (record {
+  pub printout-refusal : {k : ℕ} {old new : Pages F} {out : W} {refusal : Refusal} {answer : Answer} (t : List ℕ → Printout) → IsErrAnd answer (λ r. r ≡ refusal) → HasRead facts k (by_device refusal) old new
+      → (refusal ≡ refusals.Output → ⊥) → (refusal ≡ refusals.Source → ⊥) → OnHonest facts old.device (λ image. (refusal ≡ refusals.Device) ⊎ (t image ≡ refuses refusal)) → HasOutput facts contents faults k old new out out answer t
+  printout-refusal {k} {old} {new} {out} {refusal} {answer} t is read no_output no_source printout = subst (λ (r : Answer). HasOutput facts contents faults k old new out out r t) (handed answer refusal is) (record {
     read = read;
     sink = omega arith;
     output = λ failed. absurd (no_output cc);
     no_source = λ failed. no_source cc;
-    told = λ h. elim (told h) [
+    printout = λ h. elim (printout h) [
       | inl device ↦ rw device (inr (inr (refl, (0, omega arith, Appends-nil (contents out)))))
       | inr only ↦ rw only (inl (refl, Appends-nil (contents out)))
     ];
@@ -200,11 +200,11 @@ still_cell {region = region} {cell = cell} read is = record {
 }
 
 -- a call that only reads the device, by its parts
-pub told_by_parts : {F W : Type 0} {facts : F → Device} {contents : W → Option (List ℕ)} {faults : W → ℕ} {n : ℕ} {old new : Pages F} {out_old out_new : W} {answer : Answer} {t : List ℕ → Told}
-    → OnHonest facts old.device (λ image. Tells (contents out_old) (contents out_new) answer (t image))
-    → HasRead facts n (faults_told by_device answer) old new
+pub told_by_parts : {F W : Type 0} {facts : F → Device} {contents : W → Option (List ℕ)} {faults : W → ℕ} {n : ℕ} {old new : Pages F} {out_old out_new : W} {answer : Answer} {t : List ℕ → Printout}
+    → OnHonest facts old.device (λ image. PrintsOut (contents out_old) (contents out_new) answer (t image))
+    → HasRead facts n (fault_count by_device answer) old new
     → faults out_old ≤ faults out_new
     → (IsErrOf answer refusals.Output → faults out_old < faults out_new)
     → (IsErrOf answer refusals.Source → ⊥)
-    → HasTold facts contents faults n old new out_old out_new answer t
-told_by_parts told read sink output no_source = record { read = read; sink = sink; output = output; no_source = no_source; told = told }
+    → HasOutput facts contents faults n old new out_old out_new answer t
+told_by_parts printout read sink output no_source = record { read = read; sink = sink; output = output; no_source = no_source; printout = printout }

@@ -16,18 +16,18 @@ use Rattle.cbfs_edit.specs.declared.place.Place.{Place}
 use Rattle.cbfs_edit.specs.declared.place.Spot.{Spot}
 use Rattle.cbfs_commands.specs.declared.create.plan.Plan.{Plan}
 use Rattle.cbfs_commands.specs.Creations.{FitsImage, created_image, plan_for}
-use Rattle.cbfs_commands.specs.Deeds.{deed, outcome, replaces, Request, Task, on_region}
-use Rattle.cbfs_commands.specs.Outcomes.{extract_region, told_in}
+use Rattle.cbfs_commands.specs.Effects.{effect, outcome, replaces, Request, Task, on_region}
+use Rattle.cbfs_commands.specs.Outcomes.{extract_region, printed_in}
 use Rattle.cbfs_commands.specs.Refusals.{HasNoFault}
 use Rattle.cbfs_commands.specs.Rows.{area_row, map_row, row, rows_from}
-use Rattle.cbfs_commands.specs.Told.{shows}
+use Rattle.cbfs_commands.specs.Printouts.{shows}
 
 abbrev pub OutcomesHaveNoFault : Type 0
 OutcomesHaveNoFault = (r : Request) (image source : List ℕ)
-    → HasNoFault (outcome (deed r) image source).told.answer
+    → HasNoFault (outcome (effect r) image source).printout.answer
 
 abbrev pub WritingBackChangesNothing : Type 0
-WritingBackChangesNothing = (image name bytes : List ℕ) → told_in image name shows ≡ shows bytes
+WritingBackChangesNothing = (image name bytes : List ℕ) → printed_in image name shows ≡ shows bytes
     → (replaces name).made image bytes ≡ Ok image
 
 -- A command has the same output, and the same result in the region.
@@ -36,9 +36,9 @@ OutcomesAreOfTheRegion =
     (name : List ℕ) (task : Task) (region : Range) (image other source : List ℕ)
     → region_of image name ≡ Ok region → region_of other name ≡ Ok region
     → bytes_in region other ≡ bytes_in region image
-    → let of_image = outcome (deed (on_region name task)) image source in
-    let of_other = outcome (deed (on_region name task)) other source in
-    (of_other.told ≡ of_image.told)
+    → let of_image = outcome (effect (on_region name task)) image source in
+    let of_other = outcome (effect (on_region name task)) other source in
+    (of_other.printout ≡ of_image.printout)
     × (bytes_in region of_other.image ≡ bytes_in region of_image.image)
 
 -- The map's area and the regions don't overlap.
@@ -65,7 +65,7 @@ AddedFilesAreExtracted =
     → region_of image name ≡ Ok region → IsAdded (bytes_in region image) new spot place
     → let now = overwritten image region.start (added (bytes_in region image) new place) in
     region_of now name ≡ Ok region
-    → told_in now name (λ x. extract_region x new.name) ≡ shows new.content
+    → printed_in now name (λ x. extract_region x new.name) ≡ shows new.content
 
 -- ---- printed rows
 

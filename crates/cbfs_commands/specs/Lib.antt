@@ -1,7 +1,7 @@
 pub mod Refusals
 pub mod Rows
-pub mod Told
+pub mod Printout
 pub mod Creations
 pub mod Outcomes
-pub mod Deeds
+pub mod Effects
 pub mod Laws

@@ -14,40 +14,42 @@ use Rattle.cbfs_walk.specs.Shapes.{shape_fault, refused_or}
 use Rattle.cbfs_commands.specs.declared.refusal.Refusal.TheVariants as refusals
 use Rattle.cbfs_commands.specs.Refusals.{fault_or, store_refusal, walk_refusal}
 use Rattle.cbfs_commands.specs.Rows.{rows_from}
-use Rattle.cbfs_commands.specs.Told.{Answer, Told, shows, refuses}
+use Rattle.cbfs_commands.specs.Printouts.{Answer, Printout, shows, refuses}
 
 pub record Outcome : Type 0 where
-  pub told : Told
+  pub printout : Printout
   pub image : List ℕ
 
-abbrev pub told_in : List ℕ → List ℕ → (List ℕ → Told) → Told
-told_in image name tell = fault_or (λ fault. refuses (store_refusal fault)) (region_of image name)
+abbrev pub printed_in : List ℕ → List ℕ → (List ℕ → Printout) → Printout
+printed_in image name tell =
+    fault_or (λ fault. refuses (store_refusal fault)) (region_of image name)
     (λ region. tell (bytes_in region image))
 
 -- ---- print
 
 -- a row per cell, then the damage after the cells, or success
-abbrev pub print_cut : Bool → ℕ → Cut → Told
+abbrev pub print_cut : Bool → ℕ → Cut → Printout
 print_cut verbose at c =
     let found = not_found (place_after at c.cells) c.end in
     let answer = fault_or (λ fault. Err (walk_refusal fault)) found (λ none. Ok tt) in
     record { written = rows_from verbose at c.cells; answer = answer }
 
 -- if verbose, also the lines of the components
-unfoldable pub print_region : List ℕ → Bool → Told
+unfoldable pub print_region : List ℕ → Bool → Printout
 print_region x verbose =
     refused_or (λ fault. refuses (walk_refusal fault)) (shape_fault x) (print_cut verbose 0 (cut x))
 
 -- ---- extract
 
 -- the content, unless compressed
-abbrev pub told_component : Component → Told
-told_component c = if is_packed c.attributes then refuses refusals.Compressed else shows c.content
+abbrev pub printed_component : Component → Printout
+printed_component c =
+    if is_packed c.attributes then refuses refusals.Compressed else shows c.content
 
-abbrev pub extract_region : List ℕ → List ℕ → Told
+abbrev pub extract_region : List ℕ → List ℕ → Printout
 extract_region x name =
     fault_or (λ fault. refuses (walk_refusal fault)) (component_in x name) (λ found.
-    option_map_or told_component found (refuses refusals.NotFound))
+    option_map_or printed_component found (refuses refusals.NotFound))
 
 -- ---- the effect of a call
 
@@ -70,5 +72,5 @@ pub record AddStopsIn (region : Range) (image : List ℕ) (new : NewComponent) (
 
 -- the answer and effect of the outcome, or a fault of the device or the source
 abbrev pub LeavesOr : List ℕ → Answer → Outcome → Type 0
-LeavesOr now answer o = ((answer ≡ o.told.answer) × (now ≡ o.image))
+LeavesOr now answer o = ((answer ≡ o.printout.answer) × (now ≡ o.image))
     ⊎ (answer ≡ Err refusals.Device) ⊎ (answer ≡ Err refusals.Source)

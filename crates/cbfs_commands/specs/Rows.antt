@@ -13,7 +13,7 @@ use Rattle.flash_format.specs.declared.flashmap.FmapHead.{FmapHead}
 use Rattle.flash_format.specs.declared.flashmap.Area.{Area}
 use Rattle.flash_format.specs.declared.head.Head.{Head}
 use Rattle.flash_format.specs.Printed.{hexadecimal, printed_name, tab, line_feed}
-use Rattle.cbfs_commands.specs.Told.{Told, shows, refuses}
+use Rattle.cbfs_commands.specs.Printouts.{Printout, shows, refuses}
 use Rattle.cbfs_commands.specs.declared.refusal.Refusal.TheVariants as refusals
 use Rattle.byteorder.specs.Endian.{big_bytes}
 use Rattle.hex.specs.Hex.{encode_lower}
@@ -57,7 +57,7 @@ unfoldable pub area_row : Area → List ℕ
 area_row a = printed_name (text_of a.name) ++ tab ++ hexadecimal a.offset ++ tab ++ decimal a.size
     ++ tab ++ hexadecimal a.flags ++ line_feed
 
-unfoldable pub layout : List ℕ → Told
+unfoldable pub layout : List ℕ → Printout
 layout image = option_map_or
     (λ q. shows (map_row q (fmap_head_of (drop q image)) ++ flat_map area_row (areas_at image q)))
     (map_of image) (refuses refusals.NoFmap)

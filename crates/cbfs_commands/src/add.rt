@@ -1,7 +1,7 @@
 //! The command `add`.
 
 ghost use Rattle.std.specs.Prelude.{◌+◌, ◌*◌, length};
-ghost use Rattle.cbfs_commands.specs.Deeds.{HasChanged, adds};
+ghost use Rattle.cbfs_commands.specs.Effects.{HasChanged, adds};
 
 use crate::refusal::Refusal;
 use cbfs_edit::{HashChoice, Spot};

@@ -2,10 +2,10 @@
 
 ghost use Rattle.std.specs.Prelude.{◌≡◌, ◌+◌, ◌*◌, ◌/◌, ◌<◌, ◌≤◌, ◌⊎◌, false, length, IsTrue};
 ghost use Rattle.std.specs.Prelude.{IsErrOf};
-ghost use Rattle.flash_device.specs.Device.{Calls, faults_told};
-ghost use Rattle.cbfs_commands.specs.Deeds.{HasRun, Meets, MayHaveWritten, Serves, SparesOutside};
-ghost use Rattle.cbfs_commands.specs.Deeds.{change_of, deed, reads_source, request_of};
-ghost use Rattle.cbfs_commands.specs.Deeds.{source_calls, writes_output};
+ghost use Rattle.flash_device.specs.Device.{Calls, fault_count};
+ghost use Rattle.cbfs_commands.specs.Effects.{HasRun, Meets, MayHaveWritten, Serves, SparesOutside};
+ghost use Rattle.cbfs_commands.specs.Effects.{change_of, effect, reads_source, request_of};
+ghost use Rattle.cbfs_commands.specs.Effects.{source_calls, writes_output};
 ghost use Rattle.cbfs_commands.specs.Refusals.{by_device, by_source};
 
 use crate::add::add;
@@ -27,7 +27,7 @@ fn dispatch<F: Flash, S: Source, W: Sink>(
     out: &mut W,
 ) -> Result<(), Refusal>
     ensures { HasRun F.facts S.facts W.contents W.faults
-        (2 * length (F.facts paged.old.device).content + 64) (deed (request_of command.now))
+        (2 * length (F.facts paged.old.device).content + 64) (effect (request_of command.now))
         paged.old paged.new source.old source.new out.old out.new result }
 {
     match command {
@@ -57,42 +57,43 @@ pub fn run<F: Flash, S: Source, W: Sink>(
 ) -> Result<(), Refusal>
     // On any device, for any source and sink.
     ensures calls { Calls (2 * length (F.facts paged.old.device).content + 64)
-        (faults_told by_device result) (F.facts paged.old.device) (F.facts paged.new.device) }
+        (fault_count by_device result) (F.facts paged.old.device) (F.facts paged.new.device) }
     ensures source_calls { Calls
-        (source_calls (deed (request_of command.now)) (length (S.facts source.old).content))
-        (faults_told by_source result) (S.facts source.old) (S.facts source.new) }
+        (source_calls (effect (request_of command.now)) (length (S.facts source.old).content))
+        (fault_count by_source result) (S.facts source.old) (S.facts source.new) }
     ensures faults { W.faults out.old ≤ W.faults out.new }
 
-    ensures unread { reads_source (deed (request_of command.now)) ≡ false
+    ensures unread { reads_source (effect (request_of command.now)) ≡ false
         → source.new ≡ source.old }
-    ensures unwritten { writes_output (deed (request_of command.now)) ≡ false → out.new ≡ out.old }
+    ensures unwritten { writes_output (effect (request_of command.now)) ≡ false
+        → out.new ≡ out.old }
 
     // A fault implies a failure of its device, and a command that uses the device.
     ensures device { IsErrOf result Refusal.Device →
         (F.facts paged.old.device).faults < (F.facts paged.new.device).faults }
     ensures source { IsErrOf result Refusal.Source
-        → IsTrue (reads_source (deed (request_of command.now)))
+        → IsTrue (reads_source (effect (request_of command.now)))
         × ((S.facts source.old).faults < (S.facts source.new).faults) }
     ensures output { IsErrOf result Refusal.Output
-        → IsTrue (writes_output (deed (request_of command.now)))
+        → IsTrue (writes_output (effect (request_of command.now)))
         × (W.faults out.old < W.faults out.new) }
 
     // For any answer and source.
     ensures spares { IsTrue (F.facts paged.old.device).honest → SparesOutside
-        ((change_of (deed (request_of command.now))).target (F.facts paged.old.device).content)
+        ((change_of (effect (request_of command.now))).target (F.facts paged.old.device).content)
         (F.facts paged.old.device).content (F.facts paged.new.device).content }
     ensures refused { IsTrue (F.facts paged.old.device).honest → MayHaveWritten result
         ⊎ ((F.facts paged.new.device).content ≡ (F.facts paged.old.device).content) }
 
     // For an honest source, if the command reads it.
     ensures outcome { IsTrue (F.facts paged.old.device).honest
-        → Serves (deed (request_of command.now)) (S.facts source.old)
-        → Meets (deed (request_of command.now)) (W.contents out.old) (W.contents out.new)
+        → Serves (effect (request_of command.now)) (S.facts source.old)
+        → Meets (effect (request_of command.now)) (W.contents out.old) (W.contents out.new)
         (F.facts paged.old.device).content (S.facts source.old).content
         (F.facts paged.new.device).content result }
     ensures stopped { IsTrue (F.facts paged.old.device).honest
-        → Serves (deed (request_of command.now)) (S.facts source.old)
-        → (change_of (deed (request_of command.now))).Stopped (F.facts paged.old.device).content
+        → Serves (effect (request_of command.now)) (S.facts source.old)
+        → (change_of (effect (request_of command.now))).Stopped (F.facts paged.old.device).content
         (S.facts source.old).content result (F.facts paged.new.device).content }
 {
     dispatch(paged, command, source, out)

@@ -2,8 +2,8 @@
 
 ghost use Rattle.std.specs.Prelude.{◌≡◌, ◌+◌, ◌*◌, ◌/◌, ◌<◌, ◌≤◌, length};
 ghost use Rattle.flash_format.specs.Components.{component_at};
-ghost use Rattle.cbfs_commands.specs.Outcomes.{extract_region, told_component, told_in};
-ghost use Rattle.cbfs_commands.specs.Told.{HasTold, IsComponentOf, cell_of};
+ghost use Rattle.cbfs_commands.specs.Outcomes.{extract_region, printed_component, printed_in};
+ghost use Rattle.cbfs_commands.specs.Printouts.{HasOutput, IsComponentOf, cell_of};
 
 use crate::read::copy_out;
 use crate::refusal::Refusal;
@@ -18,9 +18,9 @@ fn extract_component<F: Flash, W: Sink>(
 ) -> Result<(), Refusal>
     requires { IsComponentOf F.facts region cell.now paged.old.device }
 
-    ensures { HasTold F.facts W.contents W.faults (cell.now.span / 3840 + 2)
+    ensures { HasOutput F.facts W.contents W.faults (cell.now.span / 3840 + 2)
         paged.old paged.new out.old out.new result (λ image.
-        told_component (component_at cell.now.at (cell_of region cell.now image))) }
+        printed_component (component_at cell.now.at (cell_of region cell.now image))) }
 {
     cells_stand_in_their_image();
     paged.places_fit();
@@ -38,10 +38,10 @@ pub fn extract<F: Flash, W: Sink>(
     name: &[u8],
     out: &mut W,
 ) -> Result<(), Refusal>
-    ensures { HasTold F.facts W.contents W.faults
+    ensures { HasOutput F.facts W.contents W.faults
         (2 * length (F.facts paged.old.device).content + 64)
         paged.old paged.new out.old out.new result (λ image.
-        told_in image region.now (λ x. extract_region x name.now)) }
+        printed_in image region.now (λ x. extract_region x name.now)) }
 {
     let region = flash_device::region(paged, region)?;
     match find(paged, region, name)? {

@@ -5,7 +5,7 @@ ghost use Rattle.std.specs.List.{flat_map};
 ghost use Rattle.flash_format.specs.Flashmap.{fmap_head_len, area_len, map_len, area_of};
 ghost use Rattle.flash_format.specs.Flashmap.{areas_from};
 ghost use Rattle.cbfs_commands.specs.Rows.{layout, map_row, area_row};
-ghost use Rattle.cbfs_commands.specs.Told.{HasTold, shows};
+ghost use Rattle.cbfs_commands.specs.Printouts.{HasOutput, shows};
 
 use crate::refusal::Refusal;
 use crate::row::{Row, push_decimal, put_row};
@@ -56,7 +56,7 @@ fn list_area<F: Flash, W: Sink>(
         ≤ length (F.facts paged.old.device).content }
     requires number { i < map.now.head.nareas }
 
-    ensures { HasTold F.facts W.contents W.faults 1
+    ensures { HasOutput F.facts W.contents W.faults 1
         paged.old paged.new out.old out.new result (λ image.
         shows (area_row (area_of (drop (map.now.at + fmap_head_len + area_len * i) image)))) }
 {
@@ -73,7 +73,7 @@ fn list_areas<F: Flash, W: Sink>(
 ) -> Result<(), Refusal>
     requires { map.now.at + map_len map.now.head ≤ length (F.facts paged.old.device).content }
 
-    ensures { HasTold F.facts W.contents W.faults map.now.head.nareas
+    ensures { HasOutput F.facts W.contents W.faults map.now.head.nareas
         paged.old paged.new out.old out.new result (λ image. shows (flat_map area_row
         (areas_from map.now.head.nareas (drop (map.now.at + fmap_head_len) image)))) }
 {
@@ -86,7 +86,7 @@ fn list_areas<F: Flash, W: Sink>(
 /// Prints the offset and the areas of the image's map.
 #[tactic(auto, unfolding(crate::specs::Rows::layout))]
 pub fn layout<F: Flash, W: Sink>(paged: &mut Paged<F>, out: &mut W) -> Result<(), Refusal>
-    ensures { HasTold F.facts W.contents W.faults (length (F.facts paged.old.device).content / 2
+    ensures { HasOutput F.facts W.contents W.faults (length (F.facts paged.old.device).content / 2
         + length (F.facts paged.old.device).content / area_len + 8)
         paged.old paged.new out.old out.new result layout }
 {

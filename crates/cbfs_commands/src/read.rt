@@ -1,8 +1,8 @@
 //! The command `read`.
 
 ghost use Rattle.std.specs.Prelude.{◌≡◌, ◌+◌, ◌*◌, ◌/◌, ◌<◌, ◌≤◌, length, slice_range};
-ghost use Rattle.cbfs_commands.specs.Outcomes.{told_in};
-ghost use Rattle.cbfs_commands.specs.Told.{HasTold, shows};
+ghost use Rattle.cbfs_commands.specs.Outcomes.{printed_in};
+ghost use Rattle.cbfs_commands.specs.Printouts.{HasOutput, shows};
 
 use crate::refusal::Refusal;
 use flash_device::{Flash, Paged, Sink};
@@ -16,7 +16,7 @@ pub fn copy_out<F: Flash, W: Sink>(
 ) -> Result<(), Refusal>
     requires { start + size ≤ length (F.facts paged.old.device).content }
 
-    ensures { HasTold F.facts W.contents W.faults ((size + 4095) / 4096)
+    ensures { HasOutput F.facts W.contents W.faults ((size + 4095) / 4096)
         paged.old paged.new out.old out.new result (λ image.
         shows (slice_range image start (start + size))) }
 {
@@ -30,9 +30,9 @@ pub fn read<F: Flash, W: Sink>(
     name: &[u8],
     out: &mut W,
 ) -> Result<(), Refusal>
-    ensures { HasTold F.facts W.contents W.faults
+    ensures { HasOutput F.facts W.contents W.faults
         (2 * length (F.facts paged.old.device).content + 64)
-        paged.old paged.new out.old out.new result (λ image. told_in image name.now shows) }
+        paged.old paged.new out.old out.new result (λ image. printed_in image name.now shows) }
 {
     let region = flash_device::region(paged, name)?;
     copy_out(paged, region.start(), region.size(), out)

@@ -1,7 +1,7 @@
 //! The command `remove`.
 
 ghost use Rattle.std.specs.Prelude.{◌+◌, ◌*◌, length};
-ghost use Rattle.cbfs_commands.specs.Deeds.{HasChanged, no_source, removes};
+ghost use Rattle.cbfs_commands.specs.Effects.{HasChanged, no_source, removes};
 
 use crate::refusal::Refusal;
 use flash_device::{Flash, Paged};

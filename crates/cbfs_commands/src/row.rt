@@ -7,7 +7,7 @@ ghost use lib.Chars.{codes};
 ghost use Rattle.arrayvec.specs.ArrayVec.{array_vec_len};
 ghost use Rattle.flash_format.specs.Printed.{Pushes, printed_name};
 ghost use Rattle.cbfs_commands.specs.Rows.{printed_type, printed_packing, row_text};
-ghost use Rattle.cbfs_commands.specs.Told.{Tells, shows};
+ghost use Rattle.cbfs_commands.specs.Printouts.{PrintsOut, shows};
 
 use crate::refusal::Refusal;
 use arrayvec::ArrayVec;
@@ -90,7 +90,8 @@ pub fn put_row<W: Sink>(out: &mut W, row: &Row) -> Result<(), Refusal>
     ensures faults { W.faults out.old ≤ W.faults out.new }
     ensures output { OnErr result (W.faults out.old < W.faults out.new) }
     ensures only { OnErr result (result ≡ Err Refusal.Output) }
-    ensures told { Tells (W.contents out.old) (W.contents out.new) result (shows row.now.items) }
+    ensures printout { PrintsOut (W.contents out.old) (W.contents out.new) result
+        (shows row.now.items) }
 {
     put_all(out, row.as_slice())?;
     Ok(())

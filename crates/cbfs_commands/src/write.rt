@@ -1,7 +1,7 @@
 //! The command `write`.
 
 ghost use Rattle.std.specs.Prelude.{◌+◌, ◌*◌, length};
-ghost use Rattle.cbfs_commands.specs.Deeds.{HasChanged, replaces};
+ghost use Rattle.cbfs_commands.specs.Effects.{HasChanged, replaces};
 
 use crate::refusal::Refusal;
 use flash_device::{Flash, Paged, Source};

@@ -3,7 +3,7 @@ use Rattle.std.proofs.Common.{◌≡◌, ◌≢◌, ℕ, ◌+◌, ◌-◌, ◌/�
 use Rattle.std.specs.Prelude.{IfErr, IsErrOf, ◌||◌, is_some, nat_lt, ok_or}
 use mathlib.Core.Path.{fun_ext}
 use Rattle.flash_format.specs.Cut.{Cut, cut}
-use Rattle.flash_device.specs.Device.{Device, faults_told}
+use Rattle.flash_device.specs.Device.{Device, fault_count}
 use Rattle.flash_device.specs.Pages.{Pages, HasRead}
 use Rattle.flash_device.proofs.WindowLemmas.{HasRead-none, HasRead-then, HasRead-within}
 use Rattle.flash_device.specs.Regions.{Range, LiesIn, bytes_in}
@@ -180,7 +180,7 @@ module _ {F S A : Type 0} (facts : F → Device) (r : Range) (sense : S → ℕ 
       go (inl device) = let is : fault ≡ walk.Device = cc in inl (ap (λ (f : WalkFault). let a : Result A EditFault = Err (edit_fault_of f) in a) is)
       go (inr is) = inr (sym ((answered (Err fault) h is).1 ∙ found_refusal x (sense s w.at) fault))
 
-pub faultless : {A : Type 0} (r : Result A EditFault) → IfErr r (λ fault. fault ≢ faults.Device) → faults_told by_device r ≡ 0
+pub faultless : {A : Type 0} (r : Result A EditFault) → IfErr r (λ fault. fault ≢ faults.Device) → fault_count by_device r ≡ 0
 faultless (Ok a) other = refl
 faultless (Err faults.Device) other = absurd (other refl)
 faultless (Err fault) other = refl

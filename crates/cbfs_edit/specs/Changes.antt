@@ -1,7 +1,7 @@
 -- The effect of edits on a region, also after a fault.
 use Rattle.std.specs.Prelude.{◌≡◌, ℕ, ◌+◌, ◌/◌, List, length, Result, IsTrue, IsErrOf, OnOk, ◌⊎◌}
 use Rattle.std.specs.Prelude.{◌-◌, max, drop, Ok, ◌==◌}
-use Rattle.flash_device.specs.Device.{overwritten, SameOutside, Device, Reads, faults_told}
+use Rattle.flash_device.specs.Device.{overwritten, SameOutside, Device, Reads, fault_count}
 use Rattle.flash_device.specs.Device.{refusals}
 use Rattle.flash_device.specs.Pages as copies
 use Rattle.flash_device.specs.Pages.{Pages, HasChanged}
@@ -52,8 +52,8 @@ pub record HasWrittenIn {F T E : Type 0} (facts : F → Device) (region : Range)
 pub record HasCopied {F T : Type 0} (facts : F → Device) (region : Range) (at : ℕ)
     (old new : Pages F) (input input_now : Device) (result : Result T CopyFault) : Type 0 where
   pub after : HasChanged facts region ((length input.content + 4095) / 4096)
-      (faults_told copies.by_device result) old new
-  pub source : Reads ((length input.content + 4095) / 4096) (faults_told copies.by_source result)
+      (fault_count copies.by_device result) old new
+  pub source : Reads ((length input.content + 4095) / 4096) (fault_count copies.by_source result)
       input input_now
   pub no_output : IsErrOf result causes.Output → ⊥
   pub copied : OnHonestChange facts region old new (λ x y.

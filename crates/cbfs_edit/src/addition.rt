@@ -5,7 +5,7 @@ ghost use Rattle.std.specs.Prelude.{option_copied};
 ghost use Rattle.std.specs.List.{list_any};
 ghost use Rattle.flash_format.specs.Entry.{is_nul};
 ghost use Rattle.flash_format.specs.Made.{hash_len};
-ghost use Rattle.flash_device.specs.Device.{overwritten, Reads, faults_told};
+ghost use Rattle.flash_device.specs.Device.{overwritten, Reads, fault_count};
 ghost use Rattle.flash_device.specs.Pages as copies;
 ghost use Rattle.flash_device.specs.Pages.{HasChanged, OnHonestIn};
 ghost use Rattle.flash_device.specs.Regions.{LiesIn};
@@ -22,7 +22,7 @@ use crate::hashing::Hashing;
 use crate::insertion::describe;
 use crate::place::{Place, Spot, Wanted, find_place};
 use crate::write::{copy_into, write_empty_entry};
-use flash_device::{CopyFault, Flash, Nobody, Paged, Region, Source};
+use flash_device::{CopyFault, Flash, Paged, Region, Source, Unwatched};
 use flash_format::{Algorithm, Digest, Meta, meta_len};
 use sha2::{Sha256, Sha512};
 
@@ -75,7 +75,7 @@ fn copy_content<F: Flash, S: Source>(
 {
     match hash {
         HashChoice::Plain => {
-            copy_into(paged, region, at, source, &mut Nobody)?;
+            copy_into(paged, region, at, source, &mut Unwatched)?;
             Ok(None)
         }
         HashChoice::Sha256 => {
@@ -150,9 +150,9 @@ fn insert<F: Flash, S: Source>(
         ≡ wanted_for (component_of_label label.now (S.facts source.old).content) wanted.spot }
 
     ensures after { HasChanged F.facts region (region.size / 4096 + region.size / 4096 + 6)
-        (faults_told copies.by_device result) paged.old paged.new }
+        (fault_count copies.by_device result) paged.old paged.new }
     ensures source { Reads ((length (S.facts source.old).content + 4095) / 4096)
-        (faults_told copies.by_source result) (S.facts source.old) (S.facts source.new) }
+        (fault_count copies.by_source result) (S.facts source.old) (S.facts source.new) }
     ensures no_output { IsErrOf result CopyFault.Output → ⊥ }
 
     ensures added { OnHonestChange F.facts region paged.old paged.new (λ x y.
@@ -240,9 +240,9 @@ pub fn add<F: Flash, S: Source>(
     requires { LiesIn region (F.facts paged.old.device).content }
 
     ensures after { HasChanged F.facts region (region.size / 16 + region.size / 2048 + 7)
-        (faults_told by_device result) paged.old paged.new }
+        (fault_count by_device result) paged.old paged.new }
     ensures source { Reads (length (S.facts source.old).content / 4096 + 1)
-        (faults_told by_source result) (S.facts source.old) (S.facts source.new) }
+        (fault_count by_source result) (S.facts source.old) (S.facts source.new) }
 
     ensures words { IfSome (own_fault name.now kind spot) (λ fault.
         (result ≡ Err fault) × (paged.new ≡ paged.old) × (source.new ≡ source.old)) }

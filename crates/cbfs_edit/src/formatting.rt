@@ -1,7 +1,7 @@
 //! The formatting of a region.
 ghost use Rattle.std.specs.Prelude.{◌≡◌, ◌≢◌, ◌⊎◌, ◌+◌, ◌/◌, ◌<◌, Ok, Err, if◌then◌else◌, IsTrue};
 ghost use Rattle.std.specs.Prelude.{IsErrOf, IfErr, OnOk};
-ghost use Rattle.flash_device.specs.Device.{faults_told};
+ghost use Rattle.flash_device.specs.Device.{fault_count};
 ghost use Rattle.flash_device.specs.Pages.{HasChanged};
 ghost use Rattle.flash_device.specs.Regions.{LiesIn};
 ghost use Rattle.cbfs_walk.specs.Shapes.{has_bad_size};
@@ -20,7 +20,7 @@ pub fn format<F: Flash>(paged: &mut Paged<F>, region: Region) -> Result<(), Edit
     requires { LiesIn region (F.facts paged.old.device).content }
 
     ensures after { HasChanged F.facts region (region.size / 4096 + 2)
-        (faults_told by_device result) paged.old paged.new }
+        (fault_count by_device result) paged.old paged.new }
     ensures answer { IsErrOf result EditFault.Device
         ⊎ (result ≡ (if has_bad_size region.size then Err EditFault.RegionShape else Ok tt)) }
 

@@ -1,7 +1,7 @@
 //! The search for a removal's cells.
 ghost use Rattle.std.specs.Prelude.{◌≡◌, ◌⊎◌, ℕ, ◌+◌, ◌/◌, ◌<◌, ◌≤◌, List, [], ◌∷◌, IfOk, IfErr};
 ghost use Rattle.std.specs.Prelude.{IsErrOf};
-ghost use Rattle.flash_device.specs.Device.{faults_told};
+ghost use Rattle.flash_device.specs.Device.{fault_count};
 ghost use Rattle.flash_device.specs.Pages.{HasRead, HasAnswered, OnHonestIn};
 ghost use Rattle.flash_device.specs.Regions.{LiesIn};
 ghost use Rattle.cbfs_walk.specs.Cells.{IsCellIn, cell_in};
@@ -42,7 +42,7 @@ pub fn find_group<F: Flash>(
 ) -> Result<CellRange, EditFault>
     requires { LiesIn region (F.facts paged.old.device).content }
 
-    ensures after { HasRead F.facts (region.size / 16 + 1) (faults_told by_device result)
+    ensures after { HasRead F.facts (region.size / 16 + 1) (fault_count by_device result)
         paged.old paged.new }
     ensures no_source { IsErrOf result EditFault.Source → ⊥ }
     ensures group { IfOk result (λ group. IsCellRange group region.size) }

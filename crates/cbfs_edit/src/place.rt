@@ -2,7 +2,7 @@
 ghost use Rattle.std.specs.Option.{option_or};
 ghost use Rattle.std.specs.Prelude.{◌≡◌, ◌≢◌, ◌⊎◌, ℕ, ◌+◌, ◌/◌, ◌^◌, ◌<◌, ◌≤◌, List, [], ◌∷◌, None};
 ghost use Rattle.std.specs.Prelude.{false, nat_lt, if◌then◌else◌, IfOk, IfErr, IfSome, IsErrOf};
-ghost use Rattle.flash_device.specs.Device.{faults_told};
+ghost use Rattle.flash_device.specs.Device.{fault_count};
 ghost use Rattle.flash_device.specs.Pages.{HasRead, HasAnswered, OnHonestIn};
 ghost use Rattle.flash_device.specs.Regions.{LiesIn};
 ghost use Rattle.cbfs_walk.specs.Cells.{IsCellIn, cell_in};
@@ -69,7 +69,7 @@ pub fn find_place<F: Flash>(
     requires region { LiesIn region (F.facts paged.old.device).content }
     requires wanted { IsWanted wanted }
 
-    ensures after { HasRead F.facts (region.size / 16 + 1) (faults_told by_device result)
+    ensures after { HasRead F.facts (region.size / 16 + 1) (fault_count by_device result)
         paged.old paged.new }
     ensures no_source { IsErrOf result EditFault.Source → ⊥ }
     ensures fits { IfOk result (Fits wanted region.size) }

@@ -1,6 +1,6 @@
 //! The removal of a component.
 ghost use Rattle.std.specs.Prelude.{◌≡◌, ◌≢◌, ◌⊎◌, ◌+◌, ◌/◌, ◌<◌, IsTrue, IfOk, IfErr, IsErrOf};
-ghost use Rattle.flash_device.specs.Device.{overwritten, faults_told};
+ghost use Rattle.flash_device.specs.Device.{overwritten, fault_count};
 ghost use Rattle.flash_device.specs.Pages.{HasChanged, OnHonestIn};
 ghost use Rattle.flash_device.specs.Regions.{LiesIn};
 ghost use Rattle.cbfs_edit.specs.Changes.{OnHonestChange, LeavesWhole, by_device};
@@ -26,7 +26,7 @@ pub fn remove<F: Flash>(
     requires { LiesIn region (F.facts paged.old.device).content }
 
     ensures after { HasChanged F.facts region (region.size / 16 + region.size / 4096 + 3)
-        (faults_told by_device result) paged.old paged.new }
+        (fault_count by_device result) paged.old paged.new }
     ensures no_source { IsErrOf result EditFault.Source → ⊥ }
 
     ensures answer { OnHonestIn F.facts paged.old.device region (λ x.

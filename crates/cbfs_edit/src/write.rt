@@ -8,7 +8,9 @@ ghost use Rattle.cbfs_edit.specs.Changes.{HasCopied, HasWrittenIn, IsOldOrEmptie
 ghost use Rattle.cbfs_edit.specs.Removals.{IsCellRange, removed, space_end};
 
 use crate::group::CellRange;
-use flash_device::{CopyFault, Flash, FlashFault, MemSource, Nobody, Paged, Region, Source, Watch};
+use flash_device::{
+    CopyFault, Flash, FlashFault, MemSource, Paged, Region, Source, Unwatched, Watch,
+};
 use flash_format::{HEADER_LENGTH, empty_header};
 
 /// Replaces a header atomically.
@@ -84,7 +86,7 @@ pub fn write_in<F: Flash>(
         (SameOutside at (length bytes.now)) paged.old paged.new result }
 {
     let mut source = MemSource::new(bytes);
-    match copy_into(paged, region, at, &mut source, &mut Nobody) {
+    match copy_into(paged, region, at, &mut source, &mut Unwatched) {
         Ok(()) => Ok(()),
         Err(_) => Err(FlashFault),
     }

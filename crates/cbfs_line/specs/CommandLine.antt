@@ -20,8 +20,8 @@ use Rattle.cbfs_edit.specs.declared.addition.HashChoice.{HashChoice}
 use Rattle.cbfs_edit.specs.declared.addition.HashChoice.TheVariants.{Plain, Sha256, Sha512}
 use Rattle.cbfs_edit.specs.declared.place.Spot.{Spot}
 use Rattle.cbfs_edit.specs.declared.place.Spot.TheVariants.{First, Aligned, Fixed}
-use Rattle.cbfs_commands.specs.Deeds.{Request, request_of}
-use Rattle.cbfs_commands.specs.Deeds as requests
+use Rattle.cbfs_commands.specs.Effects.{Request, request_of}
+use Rattle.cbfs_commands.specs.Effects as requests
 use Rattle.cbfs_commands.specs.declared.command.Command.{Command}
 use Rattle.cbfs_commands.specs.declared.refusal.Refusal.{Refusal}
 use Rattle.cbfs_commands.specs.declared.refusal.Refusal.TheVariants as refusals

@@ -11,7 +11,7 @@ use Rattle.flash_format.specs.Head.{head_of, is_free, extent_of}
 use Rattle.flash_format.specs.Entry.{attributes, Entry, absent, damaged, cell, entry, front, present, component, has_name, name_field, attribute_field}
 use Rattle.flash_format.proofs.CutSteps.{front_some}
 use Rattle.flash_format.proofs.EntryLaws.{present_by}
-use Rattle.flash_device.specs.Device.{Device, faults_told}
+use Rattle.flash_device.specs.Device.{Device, fault_count}
 use Rattle.flash_device.specs.Pages.{Pages, HasRead}
 use Rattle.flash_device.specs.Regions.{Range}
 use Rattle.flash_device.proofs.WindowLemmas.{HasRead-within}
@@ -98,7 +98,7 @@ answer_cell x at size h e a len good inside head checks told = go (told (front_s
     go (inr is) = inr (is ∙ answer_entry x at size (present h (drop at x) (Ok e)) len good inside there (and_right (eqb at 0) (is_absent (present h (drop at x) (Ok e))) (present_some h (drop at x) e)))
 
 pub cell_reads : {F : Type 0} (facts : F → Device) (r : Range) (c : Cell) (old mid new : Pages F) (a : Answer) → PassesChecks r.size c → IfOk a (λ step. step ≡ steps.Cell c)
-    → Passes facts r c.at c.at 0 old mid → Passes facts r c.at (content_start c) (faults_told by_device a) mid new → HasRead facts (reads_at r.size c.at a) (faults_told by_device a) old new
+    → Passes facts r c.at c.at 0 old mid → Passes facts r c.at (content_start c) (fault_count by_device a) mid new → HasRead facts (reads_at r.size c.at a) (fault_count by_device a) old new
 cell_reads facts r c old mid new (Ok step) is told first second =
     let k = checks_give (r.size - c.at) c.head c.span is in
     rw told (HasRead-within facts _ (reads_over c.span) 0 old new (omega (arith, k.fits)) (Passes-then first second (le_refl c.at) (le_refl c.at) (le_refl (content_start c))).read)
@@ -116,7 +116,7 @@ cell_gives size c (Ok step) is good aligned inside told =
 
 -- ---- an ended walk
 
-pub ends_faultless : (a : Answer) → EndsWalk a → faults_told by_device a ≡ 0
+pub ends_faultless : (a : Answer) → EndsWalk a → fault_count by_device a ≡ 0
 ends_faultless (Ok (steps.Cell c)) e = absurd e
 ends_faultless (Err faults.Device) e = absurd e
 ends_faultless _ e = refl

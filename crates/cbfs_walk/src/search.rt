@@ -3,7 +3,7 @@ ghost use Rattle.std.specs.Prelude.{◌≡◌, ◌⊎◌, ◌<◌, ◌&&◌, not
 ghost use Rattle.std.specs.Str.{bytes_eq};
 ghost use Rattle.flash_format.specs.Head.{is_free};
 ghost use Rattle.flash_format.specs.Components.{cell_name, component_at};
-ghost use Rattle.flash_device.specs.Device.{faults_told};
+ghost use Rattle.flash_device.specs.Device.{fault_count};
 ghost use Rattle.flash_device.specs.Pages.{HasRead, HasAnswered, OnHonestIn};
 ghost use Rattle.flash_device.specs.Regions.{LiesIn};
 ghost use Rattle.cbfs_walk.specs.Cells.{IsCellIn, PassesChecks, cell_in};
@@ -24,7 +24,7 @@ pub fn find<F: Flash>(
 ) -> Result<Option<Cell>, WalkFault>
     requires { LiesIn region (F.facts paged.old.device).content }
 
-    ensures after { HasRead F.facts (find_reads region.size result) (faults_told by_device result)
+    ensures after { HasRead F.facts (find_reads region.size result) (fault_count by_device result)
         paged.old paged.new }
     ensures cell { IfOk result (λ found. IfSome found (IsCellIn region.size)) }
     ensures component { IfOk result (λ found. IfSome found (λ cell. is_free cell.head ≡ false)) }

@@ -2,7 +2,7 @@
 ghost use Rattle.std.specs.Prelude.{◌≡◌, ◌⊎◌, ℕ, ◌+◌, ◌-◌, ◌*◌, ◌/◌, ◌%◌, ◌<◌, ◌≤◌, None, IsSome, IfOk, IfSome, IsErrOf, drop};
 ghost use Rattle.flash_format.specs.Entry.{front, component, name_end};
 ghost use Rattle.flash_format.specs.Head.{head_of};
-ghost use Rattle.flash_device.specs.Device.{faults_told};
+ghost use Rattle.flash_device.specs.Device.{fault_count};
 ghost use Rattle.flash_device.specs.Pages.{HasRead, OnHonestIn};
 ghost use Rattle.flash_device.specs.Regions.{LiesIn};
 ghost use Rattle.cbfs_walk.specs.Cells.{PassesChecks, content_start};
@@ -103,7 +103,7 @@ impl Walk {
         requires { LiesIn self.old.region (F.facts paged.old.device).content }
 
         ensures after { HasRead F.facts (reads_at self.old.region.size self.old.at result)
-            (faults_told by_device result) paged.old paged.new }
+            (fault_count by_device result) paged.old paged.new }
         ensures cell { GivesCell self.old.region.size self.old.at result }
         ensures moved { self.new ≡ walk_after self.old result }
         ensures ended { IfSome self.old.ended (λ answer. result ≡ answer) }
@@ -141,7 +141,7 @@ fn answer_at<F: Flash>(paged: &mut Paged<F>, region: Region, at: u64) -> Result<
     requires aligned { at % 64 ≡ 0 }
 
     ensures after { HasRead F.facts (reads_at region.size at result)
-        (faults_told by_device result) paged.old paged.new }
+        (fault_count by_device result) paged.old paged.new }
     ensures cell { GivesCell region.size at result }
     ensures answer { OnHonestIn F.facts paged.old.device region (λ x.
         IsErrOf result WalkFault.Device ⊎ (result ≡ answer_at x at)) }
@@ -176,7 +176,7 @@ fn cell_at<F: Flash>(paged: &mut Paged<F>, region: Region, cell: &Cell) -> Resul
     requires cell { PassesChecks region.size cell.now }
 
     ensures passes { Passes F.facts region cell.now.at (content_start cell.now)
-        (faults_told by_device result) paged.old paged.new }
+        (fault_count by_device result) paged.old paged.new }
     ensures cell { IfOk result (λ step. step ≡ Step.Cell cell.now) }
     ensures answer { OnHonestIn F.facts paged.old.device region
         (λ x. cell.now.head ≡ head_of (drop cell.now.at x)

@@ -1,6 +1,6 @@
 -- Two images on two devices.
 use Rattle.std.specs.Prelude.{ℕ, ◌+◌, ◌≤◌, ◌&&◌, List, Result, IsTrue, Option, Some, None, length, nat_le, if◌then◌else◌}
-use Rattle.flash_device.specs.Device.{Device, faults_told}
+use Rattle.flash_device.specs.Device.{Device, fault_count}
 use Rattle.flash_device.specs.Pages.{HasRead}
 use Rattle.flash_device.specs.Regions.{bytes_in}
 use Rattle.check_findings.specs.declared.map.finding.NumberedArea.{NumberedArea}
@@ -52,7 +52,7 @@ pub record HasReadBoth {F G : Type 0} (f : F → Device) (g : G → Device) (m n
 abbrev pub HasReadFor : {F G T : Type 0} → (F → Device) → (G → Device) → ℕ → ℕ
     → Images F G → Images F G → Result T ChangeFault → Type 0
 HasReadFor f g m n before after result =
-    HasReadBoth f g m n (faults_told by_old result) (faults_told by_new result) before after
+    HasReadBoth f g m n (fault_count by_old result) (fault_count by_new result) before after
 
 -- the same with a common bound
 abbrev pub HasCompared : {F G T : Type 0} → (F → Device) → (G → Device) → ℕ

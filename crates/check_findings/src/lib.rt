@@ -14,8 +14,8 @@ pub use image::{
     is_bad_hash, is_bad_map, needs_are_there, unmet,
 };
 pub use map::{
-    AreaNames, CheckedMap, ImageMap, MapFinding, NumberedArea, check_map, image_map,
-    untold_maps_are_sound,
+    AreaNames, CheckedMap, ImageMap, MapFinding, NumberedArea, check_map, clean_maps_are_sound,
+    image_map,
 };
 pub use region::{
     Content, HashFinding, Name, RegionFinding, blank_tails_are_known, check_region,

@@ -7,7 +7,7 @@ use Rattle.cbfs_walk.specs.Finding.{not_found}
 use Rattle.cbfs_walk.specs.Shaped.{place_after}
 use Rattle.check_findings.specs.Image.Laws.{IsFit, IsWhole}
 use Rattle.cbfs_commands.specs.Outcomes.{print_region}
-use Rattle.cbfs_commands.specs.Told.{shows}
+use Rattle.cbfs_commands.specs.Printouts.{shows}
 use Rattle.check_laws.specs.Laws.{IsExtracted, IsListed, whole_listing}
 
 undamaged : (at : ℕ) (end : End) → ((kind : DamageKind) → end ≢ damage kind) → not_found at end ≡ Ok None

@@ -17,8 +17,8 @@ use Rattle.cbfs_edit.specs.Runs.{runs}
 use Rattle.cbfs_edit.specs.declared.place.Wanted.{Wanted}
 use Rattle.cbfs_edit.specs.declared.place.Spot.TheVariants.{First}
 use Rattle.cbfs_commands.specs.Rows.{rows_from}
-use Rattle.cbfs_commands.specs.Outcomes.{extract_region, print_region, told_component, told_in}
-use Rattle.cbfs_commands.specs.Told.{shows}
+use Rattle.cbfs_commands.specs.Outcomes.{extract_region, print_region, printed_component, printed_in}
+use Rattle.cbfs_commands.specs.Printouts.{shows}
 
 -- the rows of all cells, and verbose lines of components on request
 abbrev pub whole_listing : List ℕ → Bool → List ℕ
@@ -34,13 +34,13 @@ FitRegionsAreListed =
 -- `print` of the area by name lists all cells, and succeeds
 abbrev pub IsListed : List ℕ → Bool → NumberedArea → Type 0
 IsListed image verbose a =
-    told_in image (text_of a.area.name) (λ x. print_region x verbose)
+    printed_in image (text_of a.area.name) (λ x. print_region x verbose)
     ≡ shows (whole_listing (bytes_of image a) verbose)
 
 -- `extract` by both names returns the content of each uncompressed component
 abbrev pub IsExtracted : List ℕ → NumberedArea → Type 0
 IsExtracted image a = (c : Component) → Contains (components (bytes_of image a)) c
-    → told_in image (text_of a.area.name) (λ x. extract_region x c.name) ≡ told_component c
+    → printed_in image (text_of a.area.name) (λ x. extract_region x c.name) ≡ printed_component c
 
 -- each checked area of an image without bad findings is listed
 abbrev pub FitImagesAreListed : Type 0

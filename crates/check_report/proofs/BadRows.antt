@@ -93,7 +93,7 @@ bad_finding : (asked : Asked) (names : List (List ℕ)) (f : ImageFinding) → l
 bad_finding asked names (Map f) = bad_map f
 bad_finding asked names (Region a findings) = bad_rows (region_rows asked (area_name a)) (is_bad_region asked.needs_hashes) (bad_region asked (area_name a)) findings
 bad_finding asked names (NotChecked a named) =
-    bad_named named a (codes "area-not-checked") (codes "isn't checked: the areas before it are twice the image")
+    bad_named named a (codes "area-not-checked") (codes "isn't checked: checked areas would exceed twice the image")
 bad_finding asked names (NoArea number) = refl
 
 pub bad_findings : (asked : Asked) (names : List (List ℕ)) (findings : List ImageFinding) → list_any is_bad_row (finding_rows asked names findings) ≡ list_any (is_bad asked.needs_hashes) findings

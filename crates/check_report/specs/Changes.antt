@@ -1,6 +1,6 @@
 -- Two images before their report.
 use Rattle.std.specs.Prelude.{◌≡◌, ℕ, List, Some, Result, length}
-use Rattle.flash_device.specs.Device.{Device, faults_told}
+use Rattle.flash_device.specs.Device.{Device, fault_count}
 use Rattle.flash_device.specs.Fmap.{found_in}
 use Rattle.check_findings.specs.declared.map.finding.NumberedArea.{NumberedArea}
 use Rattle.check_findings.specs.declared.image.finding.ImageFinding.{ImageFinding}
@@ -23,7 +23,7 @@ use Rattle.check_report.specs.Reports.{SeenInspection, seen_comparison}
 abbrev pub HasInspected : {F G T : Type 0} → (F → Device) → (G → Device) → ℕ → ℕ
     → Images F G → Images F G → Result T ReportFault → Type 0
 HasInspected f g m n before after result =
-    HasReadBoth f g m n (faults_told by_old result) (faults_told by_new result) before after
+    HasReadBoth f g m n (fault_count by_old result) (fault_count by_new result) before after
 
 -- the changes from image x to image y, by the areas and the findings of y
 pub record AreChanges (x y : List ℕ) (olds news : List NumberedArea) (findings : List ImageFinding)

@@ -162,7 +162,7 @@ missing_row names number =
 -- bad if its name is expected
 abbrev pub not_checked_row : NumberedArea → Bool → SeenRow
 not_checked_row a named = map_area_row (verdict_of named) a (codes "area-not-checked")
-    (codes "isn't checked: the areas before it are twice the image") details.None
+    (codes "isn't checked: checked areas would exceed twice the image") details.None
 
 -- by the given area names
 abbrev pub rows_of : Asked → List (List ℕ) → ImageFinding → List SeenRow

@@ -1,7 +1,7 @@
 //! The check of a new image.
 ghost use Rattle.std.specs.Prelude.{◌≡◌, ◌+◌, ◌*◌, ◌/◌, ◌≤◌, length, IfOk};
 ghost use Rattle.flash_format.specs.Flashmap.{area_len};
-ghost use Rattle.flash_device.specs.Device.{faults_told};
+ghost use Rattle.flash_device.specs.Device.{fault_count};
 ghost use Rattle.flash_device.specs.Fmap.{found_in};
 ghost use Rattle.flash_device.specs.Pages.{HasRead, OnHonest};
 ghost use Rattle.check_findings.specs.Faults.{by_device};
@@ -31,7 +31,7 @@ struct OldImage {
 
 fn old_image<F: Flash>(alloc: Global, old: &mut Paged<F>) -> Result<OldImage, CheckFault>
     ensures after { HasRead F.facts (length (F.facts old.old.device).content * 4 / 7 + 8)
-        (faults_told by_device result) old.old old.new }
+        (fault_count by_device result) old.old old.new }
     ensures image { OnHonest F.facts old.old.device (λ x. IfOk result (λ image.
         IsOldImage x image)) }
 {

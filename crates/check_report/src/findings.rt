@@ -24,7 +24,7 @@ fn missing_row<'a>(names: &[&'a [u8]], number: usize) -> Row<'a>
 fn not_checked_row<'a>(area: &'a NumberedArea, is_named: bool) -> Row<'a>
     ensures { seen_row result ≡ of.not_checked_row area.now is_named }
 {
-    let what = "isn't checked: the areas before it are twice the image";
+    let what = "isn't checked: checked areas would exceed twice the image";
     map_area_row(verdict_of(is_named), area, "area-not-checked", what)
 }
 

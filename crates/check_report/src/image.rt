@@ -1,6 +1,6 @@
 //! The check of one image.
 ghost use Rattle.std.specs.Prelude.{◌≡◌, ◌+◌, ◌*◌, length, None, IfOk};
-ghost use Rattle.flash_device.specs.Device.{faults_told};
+ghost use Rattle.flash_device.specs.Device.{fault_count};
 ghost use Rattle.flash_device.specs.Pages.{HasRead, OnHonest};
 ghost use Rattle.check_report.specs.Faults.{by_new, by_old};
 ghost use Rattle.check_report.specs.Reports.{inspected_image, seen_inspection, wish_of};
@@ -24,8 +24,8 @@ pub fn inspect_image<F: Flash>(
 ) -> Result<Inspection, ReportFault>
     // On any device.
     ensures after { HasRead F.facts (2 * length (F.facts paged.old.device).content + 64)
-        (faults_told by_new result) paged.old paged.new }
-    ensures side { faults_told by_old result ≡ 0 }
+        (fault_count by_new result) paged.old paged.new }
+    ensures side { fault_count by_old result ≡ 0 }
 
     // On an honest device.
     ensures inspection { OnHonest F.facts paged.old.device (λ image. IfOk result (λ inspection.

@@ -2,7 +2,7 @@
 ghost use Rattle.std.specs.Prelude.{◌≡◌, ◌+◌, ◌≤◌, ◌++◌, false, IfOk, OnOk};
 ghost use Rattle.std.specs.List.{list_any};
 ghost use Rattle.std.specs.Io.KnownBytes.{Appends};
-ghost use Rattle.flash_device.specs.Device.{faults_told};
+ghost use Rattle.flash_device.specs.Device.{fault_count};
 ghost use Rattle.check_report.specs.Faults.{by_sink};
 ghost use Rattle.check_report.specs.Reports.{change_rows, compared, found_rows};
 ghost use Rattle.check_report.specs.Reports.{inspection_rows, seen_changes, seen_inspection};
@@ -160,7 +160,7 @@ impl Inspection {
         ensures text { IsSound W.contents rows.old → OnOk result (Ends W.contents rows.old
             (inspection_rows (wish_of request.entry) (seen_inspection self.now))
             rows.new.printer) }
-        ensures cause { W.faults rows.old.printer.out + faults_told by_sink result
+        ensures cause { W.faults rows.old.printer.out + fault_count by_sink result
             ≤ W.faults rows.new.printer.out }
     {
         self.add_rows(alloc, request, rows)?;
@@ -178,7 +178,7 @@ impl Inspection {
             (seen_files request.entry.files)
             (list_if request.entry.asked.lists self.now.findings.items)
             (inspection_rows (wish_of request.entry) (seen_inspection self.now)))) }
-        ensures cause { W.faults out + faults_told by_sink result.is_bad ≤ W.faults result.out }
+        ensures cause { W.faults out + fault_count by_sink result.is_bad ≤ W.faults result.out }
     {
         let mut printer = Printer::new(alloc, request.form, out);
         if let Err(fault) = self.print_heading(request, &mut printer) {

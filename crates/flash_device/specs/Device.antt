@@ -31,12 +31,12 @@ pub record Device : Type 0 where
   pub honest : Bool
 
 -- the faults in a result, by error
-abbrev pub faults_told : {T E : Type 0} → (E → ℕ) → Result T E → ℕ
-faults_told told (Ok value) = 0
-faults_told told (Err fault) = told fault
+abbrev pub fault_count : {T E : Type 0} → (E → ℕ) → Result T E → ℕ
+fault_count told (Ok value) = 0
+fault_count told (Err fault) = told fault
 
 abbrev pub refusals : {T E : Type 0} → Result T E → ℕ
-refusals = faults_told (λ fault. 1)
+refusals = fault_count (λ fault. 1)
 
 -- at most n calls of any device
 pub record Calls (n refused : ℕ) (old new : Device) : Type 0 where

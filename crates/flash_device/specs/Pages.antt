@@ -1,7 +1,7 @@
 -- Buffered devices, and the effects of their calls.
 use Rattle.std.specs.Prelude.{◌≡◌, ◌+◌, ◌-◌, ◌≤◌, ℕ, List, length, take, min, Result, IsTrue, IsOk, OnOk, OnErr, IfOk, slice_range, ◌/◌, ◌<◌, Option, replicate, IsErrOf}
 use Rattle.std.specs.Borrow.{Bor}
-use Rattle.flash_device.specs.Device.{SameOutside, Device, Calls, Reads, refusals, overwritten, FirstWritten, PartWritten, faults_told}
+use Rattle.flash_device.specs.Device.{SameOutside, Device, Calls, Reads, refusals, overwritten, FirstWritten, PartWritten, fault_count}
 use Rattle.flash_device.specs.Regions.{Range, bytes_in}
 use Rattle.flash_device.specs.declared.paged.Buffered.{Buffered}
 use Rattle.flash_device.specs.declared.paged.Buffered.TheVariants as code
@@ -116,9 +116,9 @@ pub record HasFilled {T E : Type 0} (at n byte : ℕ) (old new : Device)
 -- source, `outside` for an honest device.
 pub record HasCopiedIn {F S T : Type 0} (facts : F → Device) (source_facts : S → Device) (at n : ℕ)
     (device device_now : F) (source source_now : S) (result : Result T CopyFault) : Type 0 where
-  pub calls : Calls ((n + 4095) / 4096) (faults_told by_device result)
+  pub calls : Calls ((n + 4095) / 4096) (fault_count by_device result)
       (facts device) (facts device_now)
-  pub source_calls : Calls ((n + 4095) / 4096) (faults_told by_source result)
+  pub source_calls : Calls ((n + 4095) / 4096) (fault_count by_source result)
       (source_facts source) (source_facts source_now)
   pub no_output : IsErrOf result causes.Output → ⊥
   pub same_source : IsTrue (source_facts source).honest
@@ -141,7 +141,7 @@ pub record HasCopiedIn {F S T : Type 0} (facts : F → Device) (source_facts : S
 pub record HasCopiedOut {F W T : Type 0} (facts : F → Device) (contents : W → Option (List ℕ))
     (failures : W → ℕ) (most at n : ℕ) (old new : Pages F) (out out_now : W)
     (result : Result T CopyFault) : Type 0 where
-  pub read : HasRead facts most (faults_told by_device result) old new
+  pub read : HasRead facts most (fault_count by_device result) old new
   pub free : Covers old.held at n → new ≡ old
   pub no_piece : without_piece new.held ≡ new.held
   pub dropped : IsErrOf result causes.Device → new.held ≡ Nothing

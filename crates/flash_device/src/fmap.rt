@@ -2,7 +2,7 @@
 ghost use Rattle.std.specs.Prelude.{◌≡◌, ◌+◌, ◌-◌, ◌*◌, ◌/◌, ◌<◌, ◌≤◌, ◌↔◌, ◌⊎◌, length, drop, OnErr, IfOk, IfSome, IsErrOf};
 ghost use Rattle.std.specs.List.{find};
 ghost use Rattle.flash_format.specs.Flashmap.{fmap_head_len, area_len, map_len, area_of, areas_from, is_area};
-ghost use Rattle.flash_device.specs.Device.{Reads, faults_told, refusals};
+ghost use Rattle.flash_device.specs.Device.{Reads, fault_count, refusals};
 ghost use Rattle.flash_device.specs.Pages.{OnHonest, HasRead, HasAnswered};
 ghost use Rattle.flash_device.specs.Fmap.{HasSignatureAt, map_head, map_head_in, found_from, found_in};
 ghost use Rattle.flash_device.specs.Regions.{LiesIn, by_device, region_by_area, region_of};
@@ -212,7 +212,7 @@ pub fn region_of_area(area: Option<Area>, image_len: u64) -> Result<Region, Stor
 #[tactic(auto, unfolding(crate::specs::Regions::region_of))]
 pub fn region<F: Flash>(paged: &mut Paged<F>, name: &[u8]) -> Result<Region, StoreFault>
     ensures after { HasRead F.facts (length (F.facts paged.old.device).content / 2
-        + length (F.facts paged.old.device).content / area_len + 8) (faults_told by_device result)
+        + length (F.facts paged.old.device).content / area_len + 8) (fault_count by_device result)
         paged.old paged.new }
     ensures inside { IfOk result (λ region. LiesIn region (F.facts paged.old.device).content) }
     ensures answer { OnHonest F.facts paged.old.device (λ image.

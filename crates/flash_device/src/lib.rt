@@ -32,4 +32,4 @@ pub use paged::{CopyFault, Paged};
 pub use range::Region;
 pub use sink::{Sink, SinkFault, WriteSink, put_all};
 pub use source::{Source, SourceFault};
-pub use watch::{Nobody, Watch};
+pub use watch::{Unwatched, Watch};

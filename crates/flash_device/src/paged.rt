@@ -8,7 +8,7 @@ ghost use Rattle.std.specs.Io.KnownBytes.{Keeps};
 use crate::flash::{Flash, FlashFault, PIECE};
 use crate::sink::{Sink, SinkFault, put_all};
 use crate::source::{Source, SourceFault};
-use crate::watch::{Nobody, Watch};
+use crate::watch::{Unwatched, Watch};
 use flash_format::HEADER_LENGTH;
 use std::marker::Model;
 
@@ -304,7 +304,7 @@ impl<F: Flash> Paged<F> {
             source.new result }
         ensures dropped { self.new.held ≡ Nothing }
     {
-        self.copy_in_watched(at, n, source, &mut Nobody)
+        self.copy_in_watched(at, n, source, &mut Unwatched)
     }
 
     /// Copies like `copy_in`, and first shows each piece to the watcher.

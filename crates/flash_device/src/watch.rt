@@ -13,9 +13,9 @@ pub trait Watch: Drop {
 
 /// An observer without state.
 #[derive(Drop)]
-pub struct Nobody;
+pub struct Unwatched;
 
-impl Watch for Nobody {
+impl Watch for Unwatched {
     ghost saw = { λ _ _. Unit {0} };
 
     fn see(&mut self, _: &[u8]) {}

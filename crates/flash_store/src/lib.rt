@@ -20,7 +20,7 @@ pub use file_source::FileSource;
 pub use flaky_file::FlakyFile;
 pub use flash_device::{
     CopyFault, Counter, FailAt, FailSource, Flash, FlashFault, FoundMap, MemFlash, MemSource,
-    Nobody, PIECE, Paged, Region, Sink, SinkFault, Source, SourceFault, StoreFault, Watch,
+    PIECE, Paged, Region, Sink, SinkFault, Source, SourceFault, StoreFault, Unwatched, Watch,
     WriteSink, area, area_in_source, find_fmap, find_fmap_from, map_in_source, put_all, region,
     region_of_area, separate_edits_swap, separate_writes_swap, writes_are_seen_by_regions,
     written_maps_are_found,

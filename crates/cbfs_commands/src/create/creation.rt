@@ -8,7 +8,7 @@ ghost use Rattle.flash_device.specs.Pages.{OnHonest};
 ghost use Rattle.cbfs_edit.specs.Formats.{formatted};
 ghost use Rattle.cbfs_commands.specs.declared.create.flashmap.TheConstants.{MOST_REGIONS};
 ghost use Rattle.cbfs_commands.specs.Creations.{IsPlace};
-ghost use Rattle.cbfs_commands.specs.Deeds.{HasChanged, creates};
+ghost use Rattle.cbfs_commands.specs.Effects.{HasChanged, creates};
 
 use crate::create::plan::read_plan;
 use crate::refusal::Refusal;

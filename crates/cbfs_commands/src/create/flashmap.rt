@@ -6,7 +6,7 @@ ghost use Rattle.std.specs.Option.{ok_or, option_map};
 ghost use lib.Chars.{codes};
 ghost use Rattle.flash_format.specs.declared.flashmap.Area.{Area};
 ghost use Rattle.flash_format.specs.Flashmap.{fmap_head_len, map_len, areas_from};
-ghost use Rattle.flash_device.specs.Device.{Reads, faults_told, refusals};
+ghost use Rattle.flash_device.specs.Device.{Reads, fault_count, refusals};
 ghost use Rattle.flash_device.specs.Fmap.{map_head};
 ghost use Rattle.cbfs_commands.specs.Creations.{head_for, first_area};
 ghost use Rattle.cbfs_commands.specs.Refusals.{by_source};
@@ -23,7 +23,7 @@ const MAP_AREA: &[u8] = b"FMAP";
 /// Returns the image's size according to the flashmap's header. Errors: an invalid or truncated
 /// flashmap (18), and read errors (3).
 pub fn create_size<S: Source>(source: &mut S) -> Result<u32, Refusal>
-    ensures calls { Reads 1 (faults_told by_source result) (S.facts source.old)
+    ensures calls { Reads 1 (fault_count by_source result) (S.facts source.old)
         (S.facts source.new) }
     ensures refusals { IfErr result (λ refusal.
         (refusal ≡ Refusal.Source) ⊎ (refusal ≡ Refusal.TableBad)) }
@@ -39,7 +39,7 @@ pub fn create_size<S: Source>(source: &mut S) -> Result<u32, Refusal>
 
 /// Returns the header of a flashmap for an image of `image_len` bytes.
 pub fn head_for<S: Source>(source: &mut S, image_len: u64) -> Result<FmapHead, Refusal>
-    ensures calls { Reads 1 (faults_told by_source result) (S.facts source.old)
+    ensures calls { Reads 1 (fault_count by_source result) (S.facts source.old)
         (S.facts source.new) }
     ensures no_device { IsErrOf result Refusal.Device → ⊥ }
     ensures no_output { IsErrOf result Refusal.Output → ⊥ }

@@ -5,7 +5,7 @@ ghost use Rattle.std.specs.Prelude.{IfOk};
 ghost use Rattle.std.specs.List.{list_any};
 ghost use Rattle.std.specs.Result.{result_map_both};
 ghost use Rattle.flash_format.specs.Flashmap.{area_len, map_len};
-ghost use Rattle.flash_device.specs.Device.{Reads, faults_told};
+ghost use Rattle.flash_device.specs.Device.{Reads, fault_count};
 ghost use Rattle.cbfs_commands.specs.Creations.{FitsImage, map_place, overlap, plan_for, plan_of};
 ghost use Rattle.cbfs_commands.specs.Creations.{region_place, region_places, some_overlap};
 ghost use Rattle.cbfs_commands.specs.Refusals.{by_source};
@@ -126,7 +126,7 @@ pub fn read_plan<S: Source>(
     requires { length names.now ≤ MOST_REGIONS }
 
     ensures calls { Reads (length (S.facts source.old).content / area_len + 1)
-        (faults_told by_source result) (S.facts source.old) (S.facts source.new) }
+        (fault_count by_source result) (S.facts source.old) (S.facts source.new) }
     ensures no_device { IsErrOf result Refusal.Device → ⊥ }
     ensures no_output { IsErrOf result Refusal.Output → ⊥ }
     ensures fits { IfOk result (λ plan.

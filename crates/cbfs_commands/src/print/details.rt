@@ -12,7 +12,7 @@ ghost use Rattle.cbfs_walk.specs.AttrWalks.{head_of_attribute};
 ghost use Rattle.cbfs_walk.specs.Hashes.{hash_state};
 ghost use Rattle.cbfs_commands.specs.Rows.{attribute_line, details, digest_line, hash_line};
 ghost use Rattle.cbfs_commands.specs.Rows.{hash_text};
-ghost use Rattle.cbfs_commands.specs.Told.{HasTold, IsComponentOf, cell_of, shows};
+ghost use Rattle.cbfs_commands.specs.Printouts.{HasOutput, IsComponentOf, cell_of, shows};
 
 use crate::refusal::Refusal;
 use crate::row::{ROW_LEN, Row, push_decimal, put_row};
@@ -93,7 +93,7 @@ fn print_attributes<F: Flash, W: Sink>(
 ) -> Result<(), Refusal>
     requires { IsComponentOf F.facts region cell.now paged.old.device }
 
-    ensures { HasTold F.facts W.contents W.faults (cell.now.head.offset / 8)
+    ensures { HasOutput F.facts W.contents W.faults (cell.now.head.offset / 8)
         paged.old paged.new out.old out.new result (λ image. shows (flat_map attribute_line
         (map head_of_attribute (cell_attributes (cell_of region cell.now image))))) }
 {
@@ -114,7 +114,7 @@ fn print_hash<F: Flash, W: Sink>(
 ) -> Result<(), Refusal>
     requires { IsComponentOf F.facts region cell.now paged.old.device }
 
-    ensures { HasTold F.facts W.contents W.faults (1 + cell.now.span / 3840)
+    ensures { HasOutput F.facts W.contents W.faults (1 + cell.now.span / 3840)
         paged.old paged.new out.old out.new result (λ image.
         shows (hash_text (cell_of region cell.now image))) }
 {
@@ -133,7 +133,7 @@ pub fn print_details<F: Flash, W: Sink>(
 ) -> Result<(), Refusal>
     requires { IsComponentOf F.facts region cell.now paged.old.device }
 
-    ensures { HasTold F.facts W.contents W.faults
+    ensures { HasOutput F.facts W.contents W.faults
         (cell.now.head.offset / 8 + (1 + cell.now.span / 3840))
         paged.old paged.new out.old out.new result (λ image.
         shows (details (cell_of region cell.now image))) }

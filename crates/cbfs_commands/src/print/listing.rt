@@ -3,9 +3,9 @@
 ghost use Rattle.std.specs.Prelude.{◌≡◌, ◌+◌, ◌*◌, ◌/◌, ◌<◌, ◌≤◌, length, OnOk, if◌then◌else◌};
 ghost use Rattle.flash_device.specs.Pages.{HasAnswered, OnHonest};
 ghost use Rattle.flash_device.specs.Regions.{LiesIn, bytes_in};
-ghost use Rattle.cbfs_commands.specs.Outcomes.{print_region, told_in};
+ghost use Rattle.cbfs_commands.specs.Outcomes.{print_region, printed_in};
 ghost use Rattle.cbfs_commands.specs.Rows.{shown_cell, row};
-ghost use Rattle.cbfs_commands.specs.Told.{HasTold, IsCellOf, cell_of, shows};
+ghost use Rattle.cbfs_commands.specs.Printouts.{HasOutput, IsCellOf, cell_of, shows};
 
 use crate::print::details::print_details;
 use crate::refusal::Refusal;
@@ -48,7 +48,7 @@ fn print_row<F: Flash, W: Sink>(
 ) -> Result<(), Refusal>
     requires { IsCellOf F.facts region cell.now paged.old.device }
 
-    ensures { HasTold F.facts W.contents W.faults (2 + cell.now.span / 3840)
+    ensures { HasOutput F.facts W.contents W.faults (2 + cell.now.span / 3840)
         paged.old paged.new out.old out.new result (λ image.
         shows (row cell.now.at (cell_of region cell.now image))) }
 {
@@ -67,7 +67,7 @@ fn print_cell<F: Flash, W: Sink>(
 ) -> Result<(), Refusal>
     requires { IsCellOf F.facts region cell.now paged.old.device }
 
-    ensures { HasTold F.facts W.contents W.faults
+    ensures { HasOutput F.facts W.contents W.faults
         (2 + cell.now.span / 3840
         + (if verbose then 1 + cell.now.span / 8 + cell.now.span / 3840 else 0))
         paged.old paged.new out.old out.new result
@@ -89,7 +89,7 @@ fn print_region<F: Flash, W: Sink>(
 ) -> Result<(), Refusal>
     requires { LiesIn region (F.facts paged.old.device).content }
 
-    ensures { HasTold F.facts W.contents W.faults
+    ensures { HasOutput F.facts W.contents W.faults
         ((if verbose then region.size / 4 else region.size / 16) + 2)
         paged.old paged.new out.old out.new result (λ image.
         print_region (bytes_in region image) verbose) }
@@ -109,10 +109,10 @@ pub fn print<F: Flash, W: Sink>(
     verbose: bool,
     out: &mut W,
 ) -> Result<(), Refusal>
-    ensures { HasTold F.facts W.contents W.faults
+    ensures { HasOutput F.facts W.contents W.faults
         (2 * length (F.facts paged.old.device).content + 64)
         paged.old paged.new out.old out.new result (λ image.
-        told_in image name.now (λ x. print_region x verbose)) }
+        printed_in image name.now (λ x. print_region x verbose)) }
 {
     let region = flash_device::region(paged, name)?;
     print_region(paged, region, verbose, out)

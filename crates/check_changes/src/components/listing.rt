@@ -1,6 +1,6 @@
 //! The components of a region.
 ghost use Rattle.std.specs.Prelude.{◌≡◌, ◌≢◌, ◌+◌, ◌/◌, ◌++◌, IfOk, IfErr, OnOk, OnErr};
-ghost use Rattle.flash_device.specs.Device.{faults_told};
+ghost use Rattle.flash_device.specs.Device.{fault_count};
 ghost use Rattle.flash_device.specs.Pages.{HasRead, OnHonestIn};
 ghost use Rattle.flash_device.specs.Regions.{LiesIn};
 ghost use Rattle.cbfs_walk.specs.Cells.{IsCellIn};
@@ -40,7 +40,7 @@ fn list_cell<F: Flash>(
     requires region { LiesIn region (F.facts paged.old.device).content }
     requires cell { IsCellIn region.size cell.now }
 
-    ensures after { HasRead F.facts 1 (faults_told by_device result) paged.old paged.new }
+    ensures after { HasRead F.facts 1 (fault_count by_device result) paged.old paged.new }
     ensures adds { OnOk result (AddsAtMost cell.now all.old.items all.new.items) }
     ensures listed { OnHonestIn F.facts paged.old.device region (λ x. StandsIn x cell.now →
         OnOk result (states_in x all.new.items ≡ states_in x all.old.items
@@ -66,7 +66,7 @@ pub fn components<F: Flash>(
     requires { LiesIn region (F.facts paged.old.device).content }
 
     ensures after { HasRead F.facts (region.size / 24 + 2)
-        (faults_told by_device result) paged.old paged.new }
+        (fault_count by_device result) paged.old paged.new }
     ensures lists { IfOk result (Lists F.facts region paged.old) }
 {
     let mut all = Vec::new(alloc);

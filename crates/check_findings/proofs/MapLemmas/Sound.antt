@@ -17,7 +17,7 @@ use Rattle.check_findings.specs.declared.map.finding.NumberedArea.{NumberedArea}
 use Rattle.check_findings.specs.declared.map.finding.MapFinding.{MapFinding}
 use Rattle.check_findings.specs.declared.map.finding.MapFinding.TheVariants as findings
 use Rattle.check_findings.specs.Map.MapFindings.{area_end, area_findings, ends_inside, finding_if, finding_of, findings_of, findings_under, has_name, holds_map, map_area_findings, map_areas, map_findings, name_findings, overlap, overlap_findings, overlaps_among}
-use Rattle.check_findings.specs.Map.Laws.{HoldsMap, IsInside, IsSound, Nest, UntoldMapsAreSound}
+use Rattle.check_findings.specs.Map.Laws.{HoldsMap, IsInside, IsSound, Nest, CleanMapsAreSound}
 
 -- ---- no findings
 
@@ -156,7 +156,7 @@ sound_of image map found e =
       held = held map (find (has_name (codes "FMAP")) areas) f.1;
     }
 
-pub sound : UntoldMapsAreSound
+pub sound : CleanMapsAreSound
 unfolding map_findings
 sound image map e = go (found_in image) refl e
   where

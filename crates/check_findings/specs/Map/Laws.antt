@@ -47,6 +47,6 @@ pub record IsSound (image : List ℕ) (map : FoundMap) : Type 0 where
       (λ a. HoldsMap map a.area)
 
 -- a map without other findings is sound
-abbrev pub UntoldMapsAreSound : Type 0
-UntoldMapsAreSound = (image : List ℕ) (map : FoundMap)
+abbrev pub CleanMapsAreSound : Type 0
+CleanMapsAreSound = (image : List ℕ) (map : FoundMap)
     → map_findings image ≡ findings.Map map ∷ [] → IsSound image map

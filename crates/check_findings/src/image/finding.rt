@@ -45,7 +45,7 @@ pub enum ImageFinding {
         area: NumberedArea,
         findings: RegionFindings,
     },
-    /// The areas before it have too many bytes. `is_named`: the area's name is expected.
+    /// With it, the checked areas would exceed the limit. `is_named`: the name is expected.
     NotChecked {
         area: NumberedArea,
         is_named: bool,

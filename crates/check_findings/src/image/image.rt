@@ -2,7 +2,7 @@
 ghost use Rattle.std.specs.Prelude.{ℕ, List, All, ◌≡◌, ◌+◌, ◌-◌, ◌*◌, ◌/◌, ◌≤◌, [], ◌∷◌, ◌++◌};
 ghost use Rattle.std.specs.Prelude.{length, map, OnOk, IfOk, nat_le, if◌then◌else◌};
 ghost use Rattle.flash_format.specs.Flashmap.{area_len};
-ghost use Rattle.flash_device.specs.Device.{faults_told};
+ghost use Rattle.flash_device.specs.Device.{fault_count};
 ghost use Rattle.flash_device.specs.Fmap.{found_in};
 ghost use Rattle.flash_device.specs.Pages.{HasRead, OnHonest};
 ghost use Rattle.check_findings.specs.Map.MapFindings.{area_end, image_areas};
@@ -39,7 +39,7 @@ fn area_finding<F: Flash>(
 ) -> Result<ImageFinding, CheckFault>
     requires { area_end area.now.area ≤ length (F.facts paged.old.device).content }
 
-    ensures after { HasRead F.facts ((left.old - left.new) / 16 + 2) (faults_told by_device result)
+    ensures after { HasRead F.facts ((left.old - left.new) / 16 + 2) (fault_count by_device result)
         paged.old paged.new }
     ensures left { left.new ≡ left_after left.old area.now }
     ensures area { IfOk result (λ finding. region_area finding
@@ -74,7 +74,7 @@ fn areas_findings<F: Flash>(
 
     ensures after { HasRead F.facts
         (length (F.facts paged.old.device).content / 2 + 2 * length areas.now)
-        (faults_told by_device result) paged.old paged.new }
+        (fault_count by_device result) paged.old paged.new }
     ensures checked { IfOk result (λ findings.
         AreChecked (length (F.facts paged.old.device).content) (length areas.now) 0
         (region_areas findings.items)) }
@@ -137,7 +137,7 @@ pub fn check_image<F: Flash>(
 ) -> Result<CheckedImage, CheckFault>
     // On any device.
     ensures after { HasRead F.facts (2 * length (F.facts paged.old.device).content + 64)
-        (faults_told by_device result) paged.old paged.new }
+        (fault_count by_device result) paged.old paged.new }
     ensures total { IfOk result (λ checked. sum_sizes (region_areas checked.findings.items)
         ≤ 2 * length (F.facts paged.old.device).content) }
     ensures inside { IfOk result (λ checked.

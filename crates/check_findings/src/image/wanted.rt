@@ -1,7 +1,7 @@
 //! The choice of areas to check.
 ghost use Rattle.std.specs.Prelude.{ℕ, ◌≡◌, ◌≤◌, ◌+◌, ◌∷◌, [], ◌++◌, List, All, IsTrue, filter};
 ghost use Rattle.std.specs.Prelude.{length, IfOk, OnOk};
-ghost use Rattle.flash_device.specs.Device.{faults_told};
+ghost use Rattle.flash_device.specs.Device.{fault_count};
 ghost use Rattle.flash_device.specs.Pages.{HasRead, HasAnswered, OnHonest};
 ghost use Rattle.check_findings.specs.declared.map.finding.NumberedArea.{NumberedArea};
 ghost use Rattle.check_findings.specs.Faults.{by_device};
@@ -24,7 +24,7 @@ pub fn cbfs_areas<F: Flash>(
     paged: &mut Paged<F>,
     areas: &[NumberedArea],
 ) -> Result<Vec<NumberedArea>, CheckFault>
-    ensures after { HasRead F.facts (length areas.now) (faults_told by_device result)
+    ensures after { HasRead F.facts (length areas.now) (fault_count by_device result)
         paged.old paged.new }
     ensures areas { OnHonest F.facts paged.old.device (λ image.
         IfOk result (λ found. found.items ≡ cbfs_areas image areas.now)) }
@@ -40,7 +40,7 @@ pub fn wanted_areas<F: Flash>(
     expected: &NameSet,
     areas: &[NumberedArea],
 ) -> Result<Vec<NumberedArea>, CheckFault>
-    ensures after { HasRead F.facts (length areas.now) (faults_told by_device result)
+    ensures after { HasRead F.facts (length areas.now) (fault_count by_device result)
         paged.old paged.new }
     ensures inside { IfOk result (λ wanted.
         All (λ a. area_end a.area ≤ length (F.facts paged.old.device).content) wanted.items) }
@@ -64,7 +64,7 @@ fn push_if_wanted<F: Flash>(
     area: &NumberedArea,
     wanted: &mut Vec<NumberedArea>,
 ) -> Result<(), CheckFault>
-    ensures after { HasRead F.facts 1 (faults_told by_device result) paged.old paged.new }
+    ensures after { HasRead F.facts 1 (fault_count by_device result) paged.old paged.new }
     ensures inside { All (λ a. area_end a.area ≤ length (F.facts paged.old.device).content)
         wanted.old.items → OnOk result
         (All (λ a. area_end a.area ≤ length (F.facts paged.old.device).content) wanted.new.items) }

@@ -2,7 +2,7 @@
 
 ghost use Rattle.std.specs.Prelude.{◌≡◌, ◌+◌, ◌*◌, ◌/◌, ◌≤◌, [], ◌∷◌, ◌++◌, length, IfOk, IfSome, OnOk};
 ghost use Rattle.flash_format.specs.Flashmap.{area_len, map_len};
-ghost use Rattle.flash_device.specs.Device.{faults_told};
+ghost use Rattle.flash_device.specs.Device.{fault_count};
 ghost use Rattle.flash_device.specs.Fmap.{found_in};
 ghost use Rattle.flash_device.specs.Pages.{HasRead, OnHonest};
 ghost use Rattle.check_findings.specs.Faults.{by_device};
@@ -23,7 +23,7 @@ pub struct ImageMap {
 /// Returns the image's map and areas, or `Device` exactly if a read failed.
 pub fn image_map<F: Flash>(alloc: Global, paged: &mut Paged<F>) -> Result<ImageMap, CheckFault>
     ensures after { HasRead F.facts (length (F.facts paged.old.device).content / 2
-        + length (F.facts paged.old.device).content / area_len + 8) (faults_told by_device result)
+        + length (F.facts paged.old.device).content / area_len + 8) (fault_count by_device result)
         paged.old paged.new }
     ensures inside { IfOk result (λ map. IfSome map.found (λ found.
         found.at + map_len found.head ≤ length (F.facts paged.old.device).content)) }
@@ -50,7 +50,7 @@ fn map_areas<F: Flash>(
 ) -> Result<Vec<NumberedArea>, CheckFault>
     requires { map.now.at + map_len map.now.head ≤ length (F.facts paged.old.device).content }
 
-    ensures after { HasRead F.facts map.now.head.nareas (faults_told by_device result)
+    ensures after { HasRead F.facts map.now.head.nareas (fault_count by_device result)
         paged.old paged.new }
     ensures count { IfOk result (λ areas. length areas.items ≡ map.now.head.nareas) }
     ensures areas { OnHonest F.facts paged.old.device (λ image.

@@ -2,7 +2,7 @@
 
 ghost use Rattle.std.specs.Prelude.{◌≡◌, ◌+◌, ◌*◌, ◌/◌, ◌≤◌, [], ◌∷◌, length, IfOk};
 ghost use Rattle.flash_format.specs.Flashmap.{area_len};
-ghost use Rattle.flash_device.specs.Device.{faults_told};
+ghost use Rattle.flash_device.specs.Device.{fault_count};
 ghost use Rattle.flash_device.specs.Fmap.{found_in};
 ghost use Rattle.flash_device.specs.Pages.{HasRead, OnHonest};
 ghost use Rattle.check_findings.specs.Faults.{by_device};
@@ -28,7 +28,7 @@ pub struct CheckedMap {
 /// read failed.
 pub fn check_map<F: Flash>(alloc: Global, paged: &mut Paged<F>) -> Result<CheckedMap, CheckFault>
     ensures after { HasRead F.facts (length (F.facts paged.old.device).content
-        + length (F.facts paged.old.device).content / area_len + 16) (faults_told by_device result)
+        + length (F.facts paged.old.device).content / area_len + 16) (fault_count by_device result)
         paged.old paged.new }
     ensures fits { IfOk result (λ map.
         area_len * length map.areas.items ≤ length (F.facts paged.old.device).content) }

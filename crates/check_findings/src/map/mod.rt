@@ -11,5 +11,5 @@ mod overlaps;
 pub use areas::{ImageMap, image_map, push_area};
 pub use check::{CheckedMap, check_map};
 pub use finding::{MapFinding, NumberedArea};
-pub use laws::untold_maps_are_sound;
+pub use laws::clean_maps_are_sound;
 pub use names::AreaNames;

@@ -1,6 +1,6 @@
 //! The region check.
 ghost use Rattle.std.specs.Prelude.{◌≡◌, ◌↔◌, ◌+◌, ◌*◌, ◌/◌, IfOk, IsErrOf};
-ghost use Rattle.flash_device.specs.Device.{faults_told};
+ghost use Rattle.flash_device.specs.Device.{fault_count};
 ghost use Rattle.flash_device.specs.Pages.{HasRead, OnHonestIn};
 ghost use Rattle.flash_device.specs.Regions.{LiesIn};
 ghost use Rattle.cbfs_walk.specs.Cells.{IsCellIn, cell_in};
@@ -31,7 +31,7 @@ fn push_cell<F: Flash>(
     requires region { LiesIn region (F.facts paged.old.device).content }
     requires cell { IsCellIn region.size cell.now }
 
-    ensures after { HasRead F.facts (3 + 2 * (cell.now.span / 3840)) (faults_told by_device result)
+    ensures after { HasRead F.facts (3 + 2 * (cell.now.span / 3840)) (fault_count by_device result)
         paged.old paged.new }
     ensures found { OnHonestIn F.facts paged.old.device region (λ x. StandsIn x cell.now →
         Reports result report.old report.new
@@ -89,7 +89,7 @@ pub fn check_region<F: Flash>(
     requires { LiesIn region (F.facts paged.old.device).content }
 
     // On any device.
-    ensures after { HasRead F.facts (region.size / 16 + 2) (faults_told by_device result)
+    ensures after { HasRead F.facts (region.size / 16 + 2) (fault_count by_device result)
         paged.old paged.new }
 
     // On an honest device.

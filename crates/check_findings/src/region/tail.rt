@@ -1,7 +1,7 @@
 //! The bytes after the entries.
 ghost use Rattle.std.specs.Prelude.{◌≡◌, ◌+◌, ◌-◌, ◌/◌, ◌^◌, ◌<◌, ◌≤◌, length, IfOk};
 ghost use Rattle.std.specs.List.{position_from};
-ghost use Rattle.flash_device.specs.Device.{faults_told};
+ghost use Rattle.flash_device.specs.Device.{fault_count};
 ghost use Rattle.flash_device.specs.Pages.{HasAnswered, HasRead, OnHonestIn};
 ghost use Rattle.flash_device.specs.Regions.{LiesIn};
 ghost use Rattle.check_findings.specs.Faults.{by_device};
@@ -68,7 +68,7 @@ fn push_entry<F: Flash>(
     requires region { LiesIn region (F.facts paged.old.device).content }
     requires inside { at ≤ region.size }
 
-    ensures after { HasRead F.facts 1 (faults_told by_device result) paged.old paged.new }
+    ensures after { HasRead F.facts 1 (fault_count by_device result) paged.old paged.new }
     ensures found { OnHonestIn F.facts paged.old.device region (λ x.
         Reports result report.old report.new (λ t. with_findings t (entry_findings at x))) }
 {
@@ -88,7 +88,7 @@ fn push_entries<F: Flash>(
     requires region { LiesIn region (F.facts paged.old.device).content }
     requires inside { at ≤ region.size }
 
-    ensures after { HasRead F.facts ((region.size - at) / 64) (faults_told by_device result)
+    ensures after { HasRead F.facts ((region.size - at) / 64) (fault_count by_device result)
         paged.old paged.new }
     ensures found { OnHonestIn F.facts paged.old.device region (λ x.
         Reports result report.old report.new
@@ -112,7 +112,7 @@ pub fn push_tail<F: Flash>(
     requires inside { at ≤ region.size }
 
     ensures after { HasRead F.facts ((region.size - at + 4095) / 4096 + (region.size - at) / 64)
-        (faults_told by_device result) paged.old paged.new }
+        (fault_count by_device result) paged.old paged.new }
     ensures found { OnHonestIn F.facts paged.old.device region (λ x.
         Reports result report.old report.new (λ t. with_findings t (tail_findings at x))) }
 {

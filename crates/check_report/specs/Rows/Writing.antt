@@ -6,7 +6,7 @@ use Rattle.std.specs.Io.KnownBytes.{Appends}
 use Rattle.std.specs.declared.alloc.AllocError.{AllocError}
 use Rattle.json.specs.Token.{Token}
 use Rattle.json.specs.Written.{Written}
-use Rattle.flash_device.specs.Device.{faults_told}
+use Rattle.flash_device.specs.Device.{fault_count}
 use Rattle.check_report.specs.declared.fault.WriteFault.{WriteFault}
 use Rattle.check_report.specs.declared.rows.kinds.Counts.{Counts}
 use Rattle.check_report.specs.declared.rows.kinds.Kind.{Kind}
@@ -41,7 +41,7 @@ pub record Prints {W : Type 0} (contents : W → Option (List ℕ)) (faults : W 
     (result : Result (Unit {0}) WriteFault) (old new : Printer W) (bytes : List ℕ)
     (is_next : Bool) : Type 0 where
   pub printed : OnOk result (HasPrinted contents old new bytes is_next)
-  pub cause : faults old.out + faults_told by_sink result ≤ faults new.out
+  pub cause : faults old.out + fault_count by_sink result ≤ faults new.out
 
 abbrev pub PrintsLines : {W : Type 0} → (W → Option (List ℕ)) → (W → ℕ)
     → Result (Unit {0}) WriteFault → Printer W → Printer W → List Line → Type 0
@@ -83,7 +83,7 @@ pub record Adds {W : Type 0} (contents : W → Option (List ℕ)) (faults : W �
     (result : Result (Unit {0}) WriteFault) (old new : RowWriter W) (more : List SeenRow)
     : Type 0 where
   pub added : OnOk result (HasAdded contents old new more)
-  pub cause : faults old.printer.out + faults_told by_sink result ≤ faults new.printer.out
+  pub cause : faults old.printer.out + fault_count by_sink result ≤ faults new.printer.out
 
 -- the printer has printed all rows, more rows, and the ending
 abbrev pub Ends : {W : Type 0} → (W → Option (List ℕ)) → RowWriter W → List SeenRow → Printer W

@@ -2,7 +2,7 @@
 ghost use Rattle.std.specs.Prelude.{◌≡◌, ◌+◌, ◌≤◌, ◌++◌, ◌∷◌, ◌||◌, [], false, nat_lt, map, IfOk};
 ghost use Rattle.std.specs.Prelude.{OnOk, if◌then◌else◌};
 ghost use Rattle.std.specs.List.{flat_map, list_any};
-ghost use Rattle.flash_device.specs.Device.{faults_told};
+ghost use Rattle.flash_device.specs.Device.{fault_count};
 ghost use Rattle.check_report.specs.Faults.{by_sink};
 ghost use Rattle.check_report.specs.Rows.Limits.{more_of, more_row, seen_kind};
 ghost use Rattle.check_report.specs.Rows.Rows.{is_bad_row, row_if, row_line, seen_row};
@@ -140,7 +140,7 @@ impl<'a, W: Sink + Drop> RowWriter<'a, W> {
             is_bad ≡ list_any is_bad_row (rows_in self.old)) }
         ensures text { IsSound W.contents self.old → OnOk result
             (Ends W.contents self.old [] self.new.printer) }
-        ensures cause { W.faults self.old.printer.out + faults_told by_sink result
+        ensures cause { W.faults self.old.printer.out + fault_count by_sink result
             ≤ W.faults self.new.printer.out }
     {
         self.printer.more(limited(self.is_verbose, &self.kinds))?;

@@ -1,6 +1,6 @@
 //! Output faults, sizes of new images, and failed creations.
 
-use crate::edit::deeds::{COREBOOT, answer_into, stopped};
+use crate::edit::actions::{COREBOOT, answer_into, stopped};
 use crate::edit::support::{LEN, MAP, Stop, source_of, stopping};
 use crate::rows::hostile::{A_AND_404, PADDED};
 use crate::rows::support::board;

@@ -1,6 +1,6 @@
 //! A region of several pieces, with a fault at each read and each call.
 
-use crate::edit::deeds::{COREBOOT, stopped};
+use crate::edit::actions::{COREBOOT, stopped};
 use crate::edit::support::{Stop, components};
 use crate::support::{ALL, Parts, device_from, ends_with, filled, image_with, same_bytes};
 use cbfs_commands::{Command, Refusal};

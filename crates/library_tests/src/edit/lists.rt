@@ -1,7 +1,7 @@
 //! Edits, and lists of edits, with a single device fault.
 ghost use Rattle.std.specs.Prelude.{◌≡◌, ◌+◌, true, false, IsTrue};
 
-use crate::edit::deeds::{Deed, before, does, leaves};
+use crate::edit::actions::{Action, before, does, leaves};
 use crate::edit::support::{Held, MAGIC_20, device_of, region_of, source_of};
 use crate::support::equal;
 use cbfs_edit::{Edit, EditFault, Freed, HashChoice, Placed, Reply, Spot, apply_all};
@@ -192,19 +192,19 @@ fn a_stopped_edit_does_not_stop_the_later_ones(rt: HostRuntime) {
 }
 
 /// Checks that no call follows the failed call. Returns true after success.
-fn ends_with(rt: &(impl Abort + AllocGlobal), deed: Deed, number: u64) -> bool {
-    let mut paged = Paged::new(FailOnce::new(device_of(rt, before(deed)), number));
-    let answer = does(rt, &mut paged, deed);
+fn ends_with(rt: &(impl Abort + AllocGlobal), action: Action, number: u64) -> bool {
+    let mut paged = Paged::new(FailOnce::new(device_of(rt, before(action)), number));
+    let answer = does(rt, &mut paged, action);
     let device = paged.into_flash();
     equal(rt, &device.after, &0);
     drop(device);
     answer.is_ok()
 }
 
-fn refuse_each(rt: &(impl Abort + AllocGlobal), deed: Deed) {
+fn refuse_each(rt: &(impl Abort + AllocGlobal), action: Action) {
     let mut finished = 0;
     for number in 1..20 {
-        if ends_with(rt, deed, number) {
+        if ends_with(rt, action, number) {
             finished = number;
             break;
         }
@@ -214,7 +214,7 @@ fn refuse_each(rt: &(impl Abort + AllocGlobal), deed: Deed) {
 
 #[test]
 fn an_edit_makes_no_call_after_a_refused_one(rt: HostRuntime) {
-    refuse_each(&rt, Deed::Join);
-    refuse_each(&rt, Deed::Format);
-    refuse_each(&rt, Deed::AddLater);
+    refuse_each(&rt, Action::Join);
+    refuse_each(&rt, Action::Format);
+    refuse_each(&rt, Action::AddLater);
 }

@@ -1,6 +1,6 @@
 //! Edits and commands.
+pub mod actions;
 mod commands;
-pub mod deeds;
 mod halves;
 mod lists;
 mod stops;

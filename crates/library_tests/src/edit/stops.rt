@@ -1,6 +1,6 @@
 //! Edits stopped at each call of a device or file.
 
-use crate::edit::deeds::{Deed, before, does, has_finished};
+use crate::edit::actions::{Action, before, does, has_finished};
 use crate::edit::support::{Held, LEN, Stop, device_of, image_of, region_of, source_of, stopping};
 use crate::support::{ALL, device_from, equal};
 use cbfs_edit::{EditFault, HashChoice, Spot, add};
@@ -10,21 +10,21 @@ use std::process::Abort;
 // ---- devices
 
 /// Returns true if `k` calls suffice.
-fn on_device(rt: &(impl Abort + AllocGlobal), deed: Deed, k: u64, part: usize) -> bool {
+fn on_device(rt: &(impl Abort + AllocGlobal), action: Action, k: u64, part: usize) -> bool {
     let stop = Stop {
         calls: k,
         part,
         reads: ALL,
     };
-    let mut paged = stopping(device_of(rt, before(deed)), stop);
-    let answer = does(rt, &mut paged, deed);
-    has_finished(rt, deed, answer, paged.into_flash().into_inner())
+    let mut paged = stopping(device_of(rt, before(action)), stop);
+    let answer = does(rt, &mut paged, action);
+    has_finished(rt, action, answer, paged.into_flash().into_inner())
 }
 
-fn stop_each(rt: &(impl Abort + AllocGlobal), deed: Deed, part: usize) {
+fn stop_each(rt: &(impl Abort + AllocGlobal), action: Action, part: usize) {
     let mut finished = 0;
     for k in 0..20 {
-        if on_device(rt, deed, k, part) {
+        if on_device(rt, action, k, part) {
             finished = k;
             break;
         }
@@ -33,11 +33,11 @@ fn stop_each(rt: &(impl Abort + AllocGlobal), deed: Deed, part: usize) {
 }
 
 fn stop_all(rt: &(impl Abort + AllocGlobal), part: usize) {
-    stop_each(rt, Deed::Join, part);
-    stop_each(rt, Deed::FirstOfTwo, part);
-    stop_each(rt, Deed::Format, part);
-    stop_each(rt, Deed::Add, part);
-    stop_each(rt, Deed::AddLater, part);
+    stop_each(rt, Action::Join, part);
+    stop_each(rt, Action::FirstOfTwo, part);
+    stop_each(rt, Action::Format, part);
+    stop_each(rt, Action::Add, part);
+    stop_each(rt, Action::AddLater, part);
 }
 
 #[test]
@@ -118,16 +118,16 @@ fn left_in(rt: &(impl Abort + AllocGlobal), paged: InFile) -> MemFlash {
 }
 
 /// Returns true if `made` calls suffice.
-fn on_file(rt: &(impl Abort + AllocGlobal), deed: Deed, calls: Calls, made: u64) -> bool {
-    let mut paged = in_file(flaky(rt, before(deed), calls, made));
-    let answer = does(rt, &mut paged, deed);
-    has_finished(rt, deed, answer, left_in(rt, paged))
+fn on_file(rt: &(impl Abort + AllocGlobal), action: Action, calls: Calls, made: u64) -> bool {
+    let mut paged = in_file(flaky(rt, before(action), calls, made));
+    let answer = does(rt, &mut paged, action);
+    has_finished(rt, action, answer, left_in(rt, paged))
 }
 
-fn stop_each_of(rt: &(impl Abort + AllocGlobal), deed: Deed, calls: Calls) {
+fn stop_each_of(rt: &(impl Abort + AllocGlobal), action: Action, calls: Calls) {
     let mut finished = 0;
     for made in 0..2000 {
-        if on_file(rt, deed, calls, made) {
+        if on_file(rt, action, calls, made) {
             finished = made;
             break;
         }
@@ -137,32 +137,32 @@ fn stop_each_of(rt: &(impl Abort + AllocGlobal), deed: Deed, calls: Calls) {
 
 fn stop_all_of(rt: &(impl Abort + AllocGlobal), most: usize, between: u64) {
     let calls = Calls { most, between };
-    stop_each_of(rt, Deed::Join, calls);
-    stop_each_of(rt, Deed::FirstOfTwo, calls);
-    stop_each_of(rt, Deed::Format, calls);
-    stop_each_of(rt, Deed::Add, calls);
-    stop_each_of(rt, Deed::AddLater, calls);
-    stop_each_of(rt, Deed::RunAdd, calls);
-    stop_each_of(rt, Deed::RunRemove, calls);
+    stop_each_of(rt, Action::Join, calls);
+    stop_each_of(rt, Action::FirstOfTwo, calls);
+    stop_each_of(rt, Action::Format, calls);
+    stop_each_of(rt, Action::Add, calls);
+    stop_each_of(rt, Action::AddLater, calls);
+    stop_each_of(rt, Action::RunAdd, calls);
+    stop_each_of(rt, Action::RunRemove, calls);
 }
 
 #[test]
-fn a_deed_stops_at_any_call_of_a_file(rt: HostRuntime) {
+fn an_edit_stops_at_any_call_of_a_file(rt: HostRuntime) {
     stop_all_of(&rt, 4096, 5000);
     stop_all_of(&rt, 21, 3);
     stop_all_of(&rt, 30, 1);
 }
 
-fn never(rt: &(impl Abort + AllocGlobal), deed: Deed, calls: Calls, made: u64) {
-    assert!(rt; !on_file(rt, deed, calls, made));
+fn never(rt: &(impl Abort + AllocGlobal), action: Action, calls: Calls, made: u64) {
+    assert!(rt; !on_file(rt, action, calls, made));
 }
 
 fn never_at_all(rt: &(impl Abort + AllocGlobal), calls: Calls, made: u64) {
-    never(rt, Deed::Join, calls, made);
-    never(rt, Deed::FirstOfTwo, calls, made);
-    never(rt, Deed::Format, calls, made);
-    never(rt, Deed::Add, calls, made);
-    never(rt, Deed::AddLater, calls, made);
+    never(rt, Action::Join, calls, made);
+    never(rt, Action::FirstOfTwo, calls, made);
+    never(rt, Action::Format, calls, made);
+    never(rt, Action::Add, calls, made);
+    never(rt, Action::AddLater, calls, made);
 }
 
 #[test]

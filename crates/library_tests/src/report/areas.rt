@@ -55,7 +55,7 @@ fn beginning(rt: &(impl Abort + AllocGlobal), bytes: &[u8], calls: u64) -> Faili
 }
 
 /// Compares images that differ in the first block.
-fn told_after(
+fn changes_after(
     rt: &(impl Abort + AllocGlobal),
     old_calls: u64,
     new_calls: u64,
@@ -71,17 +71,17 @@ fn told_after(
 
 #[test]
 fn areas_on_devices_that_refuse_a_read(rt: HostRuntime) {
-    told_after(&rt, 0, 2, Err(ChangeFault::OldDevice));
-    told_after(&rt, 1, 2, Err(ChangeFault::OldDevice));
-    told_after(&rt, 2, 0, Err(ChangeFault::NewDevice));
-    told_after(&rt, 2, 1, Err(ChangeFault::NewDevice));
+    changes_after(&rt, 0, 2, Err(ChangeFault::OldDevice));
+    changes_after(&rt, 1, 2, Err(ChangeFault::OldDevice));
+    changes_after(&rt, 2, 0, Err(ChangeFault::NewDevice));
+    changes_after(&rt, 2, 1, Err(ChangeFault::NewDevice));
 }
 
 // Each block is read for the image, and for each area with the block. Two areas have the changed
 // block.
 #[test]
 fn areas_that_stay(rt: HostRuntime) {
-    told_after(&rt, ALL, ALL, Ok((1, 2)));
-    told_after(&rt, 3, ALL, Err(ChangeFault::OldDevice));
-    told_after(&rt, ALL, 3, Err(ChangeFault::NewDevice));
+    changes_after(&rt, ALL, ALL, Ok((1, 2)));
+    changes_after(&rt, 3, ALL, Err(ChangeFault::OldDevice));
+    changes_after(&rt, ALL, 3, Err(ChangeFault::NewDevice));
 }

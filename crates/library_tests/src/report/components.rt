@@ -74,7 +74,7 @@ fn a_region_that_is_absent(rt: HostRuntime) {
 }
 
 /// Checks whole devices: a call lists the region, two compare contents.
-fn told_after(
+fn changes_after(
     rt: &(impl Abort + AllocGlobal + RandomSource),
     old: u64,
     new: u64,
@@ -85,11 +85,11 @@ fn told_after(
 
 #[test]
 fn regions_on_devices_that_refuse_a_read(rt: HostRuntime) {
-    told_after(&rt, 0, 0, Err(ChangeFault::OldDevice));
-    told_after(&rt, 9, 0, Err(ChangeFault::NewDevice));
-    told_after(&rt, 1, 9, Err(ChangeFault::OldDevice));
-    told_after(&rt, 9, 1, Err(ChangeFault::NewDevice));
-    told_after(&rt, 2, 9, Err(ChangeFault::OldDevice));
-    told_after(&rt, 9, 2, Err(ChangeFault::NewDevice));
-    told_after(&rt, 9, 9, Ok("changed"));
+    changes_after(&rt, 0, 0, Err(ChangeFault::OldDevice));
+    changes_after(&rt, 9, 0, Err(ChangeFault::NewDevice));
+    changes_after(&rt, 1, 9, Err(ChangeFault::OldDevice));
+    changes_after(&rt, 9, 1, Err(ChangeFault::NewDevice));
+    changes_after(&rt, 2, 9, Err(ChangeFault::OldDevice));
+    changes_after(&rt, 9, 2, Err(ChangeFault::NewDevice));
+    changes_after(&rt, 9, 9, Ok("changed"));
 }

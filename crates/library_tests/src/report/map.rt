@@ -4,7 +4,7 @@ use crate::support::{ALL, equal};
 use check_findings::{CheckFault, check_map};
 use std::process::Abort;
 
-fn told_after(rt: &(impl Abort + AllocGlobal), calls: u64, expected: Result<usize, CheckFault>) {
+fn changes_after(rt: &(impl Abort + AllocGlobal), calls: u64, expected: Result<usize, CheckFault>) {
     let mut paged = image(rt, b"", calls);
     let found = match check_map(rt.alloc(), &mut paged) {
         Ok(checked) => Ok(checked.findings.len()),
@@ -16,8 +16,8 @@ fn told_after(rt: &(impl Abort + AllocGlobal), calls: u64, expected: Result<usiz
 
 #[test]
 fn a_device_that_refuses_a_read(rt: HostRuntime) {
-    told_after(&rt, 0, Err(CheckFault::Device));
-    told_after(&rt, 1, Err(CheckFault::Device));
-    told_after(&rt, 2, Err(CheckFault::Device));
-    told_after(&rt, ALL, Ok(1));
+    changes_after(&rt, 0, Err(CheckFault::Device));
+    changes_after(&rt, 1, Err(CheckFault::Device));
+    changes_after(&rt, 2, Err(CheckFault::Device));
+    changes_after(&rt, ALL, Ok(1));
 }

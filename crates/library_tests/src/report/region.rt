@@ -6,7 +6,7 @@ use flash_store::Region;
 use std::process::Abort;
 use std::random::RandomSource;
 
-fn told_after(
+fn changes_after(
     rt: &(impl Abort + AllocGlobal + RandomSource),
     calls: u64,
     expected: Result<usize, CheckFault>,
@@ -22,10 +22,10 @@ fn told_after(
 // The findings: the content, the complete region, and three counts.
 #[test]
 fn the_findings_of_a_region(rt: HostRuntime) {
-    told_after(&rt, ALL, Ok(5));
+    changes_after(&rt, ALL, Ok(5));
 }
 
 #[test]
 fn a_region_on_a_device_that_refuses_a_read(rt: HostRuntime) {
-    told_after(&rt, 0, Err(CheckFault::Device));
+    changes_after(&rt, 0, Err(CheckFault::Device));
 }

@@ -43,7 +43,7 @@ fn told_between(
 }
 
 /// Checks the result within `old` and `new` calls. The check of the new image makes eight calls.
-fn told_after(
+fn changes_after(
     rt: &(impl Abort + AllocGlobal + RandomSource),
     old: u64,
     new: u64,
@@ -59,14 +59,14 @@ fn told_after(
 
 #[test]
 fn regions_that_stay(rt: HostRuntime) {
-    told_after(&rt, ALL, ALL, Ok(2));
+    changes_after(&rt, ALL, ALL, Ok(2));
 }
 
 #[test]
 fn images_on_devices_that_refuse_a_read(rt: HostRuntime) {
-    told_after(&rt, 0, 8, Err(ChangeFault::OldDevice));
-    told_after(&rt, 1, 8, Err(ChangeFault::OldDevice));
-    told_after(&rt, 2, 8, Err(ChangeFault::NewDevice));
-    told_after(&rt, 1, 9, Err(ChangeFault::OldDevice));
-    told_after(&rt, 2, 9, Ok(2));
+    changes_after(&rt, 0, 8, Err(ChangeFault::OldDevice));
+    changes_after(&rt, 1, 8, Err(ChangeFault::OldDevice));
+    changes_after(&rt, 2, 8, Err(ChangeFault::NewDevice));
+    changes_after(&rt, 1, 9, Err(ChangeFault::OldDevice));
+    changes_after(&rt, 2, 9, Ok(2));
 }

@@ -1,6 +1,6 @@
 //! New images, raw writes, and the size in a map.
 use crate::compiler::descriptors::TABLE;
-use crate::edit::deeds::COREBOOT;
+use crate::edit::actions::COREBOOT;
 use crate::edit::support::{LAST_512, source_of};
 use crate::rows::support::{BOARD, FRESH, PRINT, board, content, runs, shows};
 use crate::support::{Parts, equal, filled, image_with};

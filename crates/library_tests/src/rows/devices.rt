@@ -1,6 +1,6 @@
 //! The search for a map, the buffer after an edit, and images in files.
 use crate::compiler::descriptors::TABLE;
-use crate::edit::deeds::{COREBOOT, answer_into};
+use crate::edit::actions::{COREBOOT, answer_into};
 use crate::edit::support::{MAGIC_20, source_of};
 use crate::rows::support::{A_AND_416, BOARD, FRESH, PRINT, WITH_A, board, content};
 use crate::support::{

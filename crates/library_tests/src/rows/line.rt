@@ -1,6 +1,6 @@
 //! Command lines as values. Each line is forgotten, because proofs of the drop of clap's matches
 //! are slow.
-use crate::edit::deeds::COREBOOT;
+use crate::edit::actions::COREBOOT;
 use crate::support::equal;
 use cbfs_commands::{Command, Refusal};
 use cbfs_edit::{HashChoice, Spot};

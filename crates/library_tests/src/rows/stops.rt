@@ -1,5 +1,5 @@
 //! Edits stopped at each device call, and a list of edits with refusals.
-use crate::edit::deeds::{COREBOOT, answer_into};
+use crate::edit::actions::{COREBOOT, answer_into};
 use crate::edit::support::{
     A, B_BEFORE_GAP, DELETED, EMPTY_128, LAST_192, M, MAGIC_20, NULL_340, Stop, part_of, source_of,
     stopping,

@@ -1,5 +1,5 @@
 //! The image of most examples, and helpers for commands.
-use crate::edit::deeds::{COREBOOT, answer_into};
+use crate::edit::actions::{COREBOOT, answer_into};
 use crate::edit::support::{A, LAST_448, LAST_512};
 use crate::support::{
     ALL, Parts, device_from, equal, filled, has_all, image_with, same_bytes, write_over, writer,

@@ -1,6 +1,6 @@
 use Rattle.std.proofs.Common.{refl, rules}
 use Rattle.std.specs.Prelude.{map}
-use Rattle.cbfs_commands.specs.Deeds.{creates}
+use Rattle.cbfs_commands.specs.Effects.{creates}
 use Rattle.cbfs_commands.proofs.Running.{told_runs, fed_runs, removal_runs}
 use Rattle.cbfs_commands.proofs.execution.dispatch.Goals as goal
 

@@ -6,4 +6,4 @@ pub returns-in_err-cell : goal.returns-in_err-cell
 returns-in_err-cell g c = told_by_parts (search rules) (search rules) (search rules) (search rules) (search rules)
 
 pub returns-in-Some : goal.returns-in-Some
-returns-in-Some g c = record { read = search rules; sink = search rules; output = search rules; no_source = search rules; told = search rules }
+returns-in-Some g c = record { read = search rules; sink = search rules; output = search rules; no_source = search rules; printout = search rules }

@@ -7,4 +7,4 @@ returns g c = search rules
 
 pub returns-in_err-packing : goal.returns-in_err-packing
 returns-in_err-packing g c =
-    record { read = search rules; sink = search rules; output = search rules; no_source = search rules; told = search rules }
+    record { read = search rules; sink = search rules; output = search rules; no_source = search rules; printout = search rules }

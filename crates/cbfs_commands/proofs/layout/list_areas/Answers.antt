@@ -1,6 +1,6 @@
 use Rattle.std.proofs.Common.{◌+◌, List, ℕ, arith}
 use Rattle.cbfs_commands.proofs.Areas.{every, none_left, one_less, rows_left}
-use Rattle.cbfs_commands.proofs.Telling.{so_far-ends, so_far-more, so_far-none, told-none, told-stopped}
+use Rattle.cbfs_commands.proofs.Telling.{so_far-ends, so_far-more, so_far-none, printout-none, printout-stopped}
 use Rattle.cbfs_commands.proofs.layout.list_areas.Goals as goal
 
 pub loop-i-init : goal.loop-i-init
@@ -15,10 +15,10 @@ pub returns-in_err-list_area : goal.returns-in_err-list_area
 returns-in_err-list_area g c =
     let map = c.args.map.now in
     let rest = λ (image : List ℕ). rows_left image (map.at + 56) map.head.nareas (c.loop-i.i + 1) in
-    let stopped = told-stopped rest c.in_err-list_area.ensures c.from_residual.ensures.1 in
+    let stopped = printout-stopped rest c.in_err-list_area.ensures c.from_residual.ensures.1 in
     so_far-ends c.loop-i.invariant _ stopped (λ h. one_less _ (map.at + 56) map.head.nareas c.loop-i.i c.loop-i-test.true) (omega (arith, c.loop-i-test.true))
 
 pub returns : goal.returns
 returns g c =
     let map = c.args.map.now in
-    so_far-ends c.loop-i.invariant _ (told-none _ _) (λ h. none_left _ (map.at + 56) map.head.nareas c.loop-i.i c.loop-i-test.false) (omega arith)
+    so_far-ends c.loop-i.invariant _ (printout-none _ _) (λ h. none_left _ (map.at + 56) map.head.nareas c.loop-i.i c.loop-i-test.false) (omega arith)

@@ -7,27 +7,27 @@ use Rattle.flash_device.specs.declared.paged.CopyFault.{CopyFault}
 use Rattle.flash_device.specs.declared.paged.CopyFault.TheVariants as copy
 use Rattle.cbfs_commands.specs.declared.refusal.Refusal.TheVariants as refusals
 use Rattle.cbfs_commands.specs.Refusals.{copy_refusal}
-use Rattle.cbfs_commands.specs.Told.{Answer, HasTold, shows}
+use Rattle.cbfs_commands.specs.Printouts.{Answer, HasOutput, shows}
 use Rattle.cbfs_commands.proofs.Telling.{handed}
 use Rattle.cbfs_commands.proofs.read.copy_out.Goals as goal
 
 module _ {F W : Type 0} {facts : F → Device} {contents : W → Option (List ℕ)} {faults : W → ℕ} {k at n : ℕ} {old new : Pages F} {a b : W} {answer : Answer} where
   -- an interrupted copy writes a prefix
   stopped : (fault : CopyFault) → HasCopiedOut {T = Unit {0}} facts contents faults k at n old new a b (Err fault) → IsErrAnd answer (λ r. r ≡ copy_refusal fault)
-      → HasTold facts contents faults k old new a b answer (λ image. shows (slice_range image at (at + n)))
-  stopped copy.Device copied is = subst (λ (r : Answer). HasTold facts contents faults k old new a b r (λ image. shows (slice_range image at (at + n)))) (handed answer refusals.Device is) (record {
+      → HasOutput facts contents faults k old new a b answer (λ image. shows (slice_range image at (at + n)))
+  stopped copy.Device copied is = subst (λ (r : Answer). HasOutput facts contents faults k old new a b r (λ image. shows (slice_range image at (at + n)))) (handed answer refusals.Device is) (record {
     read = copied.read;
     sink = copied.faults;
     output = λ failed. absurd cc;
     no_source = λ failed. absurd cc;
-    told = λ h. let part = copied.part h in inr (inr (refl, (part.0, omega (arith, part.1), part.2)));
+    printout = λ h. let part = copied.part h in inr (inr (refl, (part.0, omega (arith, part.1), part.2)));
   })
-  stopped copy.Output copied is = subst (λ (r : Answer). HasTold facts contents faults k old new a b r (λ image. shows (slice_range image at (at + n)))) (handed answer refusals.Output is) (record {
+  stopped copy.Output copied is = subst (λ (r : Answer). HasOutput facts contents faults k old new a b r (λ image. shows (slice_range image at (at + n)))) (handed answer refusals.Output is) (record {
     read = copied.read;
     sink = copied.faults;
     output = λ failed. copied.output refl;
     no_source = λ failed. absurd cc;
-    told = λ h. inr (inl (refl, copied.part h));
+    printout = λ h. inr (inl (refl, copied.part h));
   })
   stopped copy.Source copied is = absurd (copied.no_source refl)
 
@@ -37,4 +37,4 @@ returns-in_err-copy_out g c = stopped c.in_err-copy_out.field-0.0 c.in_err-copy_
 pub returns : goal.returns
 returns g c =
     let done = c.in_ok-copy_out.ensures.after in
-    record { read = done.read; sink = done.faults; output = λ failed. absurd cc; no_source = λ failed. absurd cc; told = λ h. inl (refl, done.copied h) }
+    record { read = done.read; sink = done.faults; output = λ failed. absurd cc; no_source = λ failed. absurd cc; printout = λ h. inl (refl, done.copied h) }

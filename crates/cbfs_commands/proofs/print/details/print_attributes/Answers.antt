@@ -2,53 +2,53 @@ use Rattle.std.proofs.Common.{◌≡◌, ◌+◌, ◌∙◌, IsTrue, List, ℕ, 
 use Rattle.flash_device.specs.Regions.{bytes_in}
 use Rattle.cbfs_walk.specs.AttrWalks.{AttrWalking, after_first, attr_reads, attributes_left}
 use Rattle.cbfs_commands.proofs.Listing.{lines-first, lines-none, lines_left}
-use Rattle.cbfs_commands.proofs.Telling.{so_far-ends, so_far-more, told-after, told-none, told-refusal, told-row, told-stopped}
+use Rattle.cbfs_commands.proofs.Telling.{so_far-ends, so_far-more, printout-after, printout-none, printout-refusal, printout-row, printout-stopped}
 use Rattle.cbfs_commands.proofs.print.details.print_attributes.Goals as goal
 
 pub loop-head-preserved : goal.loop-head-preserved
 loop-head-preserved g c =
     let had = c.loop-head.invariant in
     let head = c.in-Some.head in
-    let told = c.in_ok-head.ensures in
+    let printout = c.in_ok-head.ensures in
     let is = c.in-Some.is in
-    let given = rw is at told.attribute in
-    let moved = rw is at told.moved in
+    let given = rw is at printout.attribute in
+    let moved = rw is at printout.moved in
     let at : c.next.new.self.at ≡ c.loop-head.walk.at + head.len = ap (λ (q : AttrWalking). q.at) moved in
     let put = c.in_ok-put_row.ensures in
-    let row = told-row told.after.read put.faults put.output put.only (rw c.set_attribute_row.ensures at put.told) in
+    let row = printout-row printout.after.read put.faults put.output put.only (rw c.set_attribute_row.ensures at put.printout) in
     record {
       same_cell = ap (λ (q : AttrWalking). q.cell) moved ∙ had.same_cell;
       same_offset = ap (λ (q : AttrWalking). q.cell.head.offset) moved ∙ had.same_offset;
       inside = omega (arith, given.inside, had.same_offset, at);
       left = λ h.
-          let before = subst (λ b. IsTrue b) told.after.read.device.calls.same_honesty h in
+          let before = subst (λ b. IsTrue b) printout.after.read.device.calls.same_honesty h in
           let left = had.left before in (
             after_first left.0,
-            ap (λ (l : List ℕ). attributes_left (bytes_in c.args.region l) c.next.new.self) (told.after.read.device.unchanged before) ∙ told.rest before left.0 left.1,
+            ap (λ (l : List ℕ). attributes_left (bytes_in c.args.region l) c.next.new.self) (printout.after.read.device.unchanged before) ∙ printout.rest before left.0 left.1,
           );
-      told = so_far-more had.told _ _ row (λ h. let left = had.left h in lines-first _ _ left.0 head left.1 (sym is ∙ told.head h left.0 left.1) (told.rest h left.0 left.1)) (omega (arith, given.head, at));
+      printout = so_far-more had.printout _ _ row (λ h. let left = had.left h in lines-first _ _ left.0 head left.1 (sym is ∙ printout.head h left.0 left.1) (printout.rest h left.0 left.1)) (omega (arith, given.head, at));
     }
 
 pub returns-in_err-put_row : goal.returns-in_err-put_row
 returns-in_err-put_row g c =
     let had = c.loop-head.invariant in
     let head = c.in-Some.head in
-    let told = c.in_ok-head.ensures in
+    let printout = c.in_ok-head.ensures in
     let is = c.in-Some.is in
-    let given = rw is at told.attribute in
+    let given = rw is at printout.attribute in
     let put = c.in_err-put_row.ensures in
-    let row = told-row told.after.read put.faults put.output put.only (rw c.set_attribute_row.ensures at put.told) in
-    let stopped = told-stopped (λ image. lines_left (attributes_left (bytes_in c.args.region image) c.next.new.self)) row c.from_residual-in_err-put_row.ensures.1 in
-    so_far-ends had.told _ stopped (λ h. let left = had.left h in lines-first _ _ left.0 head left.1 (sym is ∙ told.head h left.0 left.1) (told.rest h left.0 left.1)) (omega (arith, given.head, given.inside, had.same_offset))
+    let row = printout-row printout.after.read put.faults put.output put.only (rw c.set_attribute_row.ensures at put.printout) in
+    let stopped = printout-stopped (λ image. lines_left (attributes_left (bytes_in c.args.region image) c.next.new.self)) row c.from_residual-in_err-put_row.ensures.1 in
+    so_far-ends had.printout _ stopped (λ h. let left = had.left h in lines-first _ _ left.0 head left.1 (sym is ∙ printout.head h left.0 left.1) (printout.rest h left.0 left.1)) (omega (arith, given.head, given.inside, had.same_offset))
 
 pub returns : goal.returns
 returns g c =
     let had = c.loop-head.invariant in
-    let told = c.in_ok-head.ensures in
-    so_far-ends had.told _ (told-after (told-none _ _) (attr_reads c.loop-head.walk) told.after.read (omega arith)) (λ h. let left = had.left h in lines-none _ left.0 left.1 (sym c.in_default.is ∙ told.head h left.0 left.1)) (omega (arith, had.same_offset, had.inside))
+    let printout = c.in_ok-head.ensures in
+    so_far-ends had.printout _ (printout-after (printout-none _ _) (attr_reads c.loop-head.walk) printout.after.read (omega arith)) (λ h. let left = had.left h in lines-none _ left.0 left.1 (sym c.in_default.is ∙ printout.head h left.0 left.1)) (omega (arith, had.same_offset, had.inside))
 
 pub returns-in_err-head : goal.returns-in_err-head
 returns-in_err-head g c =
     let had = c.loop-head.invariant in
-    let failed = told-refusal (λ image. lines_left (attributes_left (bytes_in c.args.region image) c.loop-head.walk)) c.from_residual.ensures.1 c.in_err-head.ensures.after.read (λ e. cc) (λ e. cc) (λ h. inl refl) in
-    so_far-ends had.told _ failed (λ h. refl) (omega (arith, had.same_offset, had.inside))
+    let failed = printout-refusal (λ image. lines_left (attributes_left (bytes_in c.args.region image) c.loop-head.walk)) c.from_residual.ensures.1 c.in_err-head.ensures.after.read (λ e. cc) (λ e. cc) (λ h. inl refl) in
+    so_far-ends had.printout _ failed (λ h. refl) (omega (arith, had.same_offset, had.inside))

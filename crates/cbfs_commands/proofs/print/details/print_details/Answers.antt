@@ -1,7 +1,7 @@
 use Rattle.std.proofs.Common.{arith, refl}
 use Rattle.cbfs_commands.specs.Rows.{hash_text}
-use Rattle.cbfs_commands.specs.Told.{cell_of, shows}
-use Rattle.cbfs_commands.proofs.Telling.{so_far-ends, so_far-of, still_cell, told-stopped, told-within}
+use Rattle.cbfs_commands.specs.Printouts.{cell_of, shows}
+use Rattle.cbfs_commands.proofs.Telling.{so_far-ends, so_far-of, still_cell, printout-stopped, printout-within}
 use Rattle.cbfs_commands.proofs.print.details.print_details.Goals as goal
 
 pub print_hash-requires : goal.print_hash-requires
@@ -9,7 +9,7 @@ print_hash-requires g c = record { cell = still_cell c.print_attributes.ensures.
 
 pub returns-in_err-print_attributes : goal.returns-in_err-print_attributes
 returns-in_err-print_attributes g c =
-    told-within _ (omega arith) (told-stopped (λ image. shows (hash_text (cell_of c.args.region c.args.cell.now image))) c.in_err-print_attributes.ensures c.from_residual.ensures.1)
+    printout-within _ (omega arith) (printout-stopped (λ image. shows (hash_text (cell_of c.args.region c.args.cell.now image))) c.in_err-print_attributes.ensures c.from_residual.ensures.1)
 
 pub returns : goal.returns
 returns g c =

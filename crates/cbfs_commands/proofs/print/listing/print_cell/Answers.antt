@@ -2,11 +2,11 @@ use Rattle.std.proofs.Common.{◌≡◌, ◌∙◌, ◌&&◌, not, Bool, false, 
 use Rattle.flash_format.specs.Head.{head_of, is_free}
 use Rattle.flash_format.specs.declared.head.Head.{Head}
 use Rattle.cbfs_commands.specs.Rows.{details}
-use Rattle.cbfs_commands.specs.Told.{Told, cell_of, shows}
-use Rattle.cbfs_commands.proofs.Telling.{so_far-ends, so_far-of, still_cell, told-stopped, told-within}
+use Rattle.cbfs_commands.specs.Printouts.{Printout, cell_of, shows}
+use Rattle.cbfs_commands.proofs.Telling.{so_far-ends, so_far-of, still_cell, printout-stopped, printout-within}
 use Rattle.cbfs_commands.proofs.print.listing.print_cell.Goals as goal
 
-abbrev lines : Bool → List ℕ → Told
+abbrev lines : Bool → List ℕ → Printout
 lines verbose x = shows (cond (verbose && not (is_free (head_of x))) (details x) [])
 
 pub print_details-requires : goal.print_details-requires
@@ -14,7 +14,7 @@ print_details-requires g c = record { cell = still_cell c.print_row.ensures.read
 
 pub returns-in_err-print_row : goal.returns-in_err-print_row
 returns-in_err-print_row g c =
-    told-within _ (omega arith) (told-stopped (λ image. lines c.args.verbose (cell_of c.args.region c.args.cell.now image)) c.in_err-print_row.ensures c.from_residual.ensures.1)
+    printout-within _ (omega arith) (printout-stopped (λ image. lines c.args.verbose (cell_of c.args.region c.args.cell.now image)) c.in_err-print_row.ensures c.from_residual.ensures.1)
 
 pub returns-then-not-is_free : goal.returns-then-not-is_free
 returns-then-not-is_free g c =

@@ -10,7 +10,7 @@ loop-cell-init g c = rw c.new-walk.ensures (record {
   going = refl;
   inside = omega arith;
   aligned = refl;
-  told = so_far-none _ _ _ _ _ (λ image. print_region-from c.args.verbose (bytes_in c.args.region image));
+  printout = so_far-none _ _ _ _ _ (λ image. print_region-from c.args.verbose (bytes_in c.args.region image));
 })
 
 pub loop-cell-preserved : goal.loop-cell-preserved

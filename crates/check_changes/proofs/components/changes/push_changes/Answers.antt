@@ -1,5 +1,5 @@
 use Rattle.std.proofs.Common.{◌≡◌, ◌+◌, ◌/◌, ◌++◌, get_or, rules}
-use Rattle.flash_device.specs.Device.{faults_told}
+use Rattle.flash_device.specs.Device.{fault_count}
 use Rattle.flash_device.specs.Regions.{bytes_in}
 use Rattle.check_changes.specs.Components.ListedChanges.{listed_change}
 use Rattle.check_changes.specs.Images.{HasReadBoth}
@@ -14,7 +14,7 @@ returns-in_err-push_component-clause-after g c =
     let lists = c.args.lists.now in
     let l = get_or lists.new.all.now c.loop-listed.listed-index c.listed-item.result in
     let n = 2 + l.cell.span / 4096 in
-    let step : HasReadBoth g.F.Flash.facts g.G.Flash.facts n n (faults_told by_old c.from_residual.result) (faults_told by_new c.from_residual.result) c.loop-listed.images c.push_component.new.images = search rules in
+    let step : HasReadBoth g.F.Flash.facts g.G.Flash.facts n n (fault_count by_old c.from_residual.result) (fault_count by_new c.from_residual.result) c.loop-listed.images c.push_component.new.images = search rules in
     reads_all _ _ _ lists.new.all.now lists.new.cells c.loop-listed.listed-index c.listed-item.result c.loop-listed-test.true c.loop-listed.invariant.read step
 
 pub loop-listed-preserved : goal.loop-listed-preserved

@@ -24,7 +24,7 @@ const RUN_REMOVE: Command<'static> = Command::Remove {
 };
 
 #[derive(Clone, Copy)]
-pub enum Deed {
+pub enum Action {
     Join,
     FirstOfTwo,
     Format,
@@ -34,23 +34,23 @@ pub enum Deed {
     RunRemove,
 }
 
-pub fn before(deed: Deed) -> Held {
-    match deed {
-        Deed::Join => Held::Between,
-        Deed::FirstOfTwo => Held::Twice,
-        Deed::Format => Held::WithLast,
-        Deed::Add => Held::Fresh,
+pub fn before(action: Action) -> Held {
+    match action {
+        Action::Join => Held::Between,
+        Action::FirstOfTwo => Held::Twice,
+        Action::Format => Held::WithLast,
+        Action::Add => Held::Fresh,
         _ => Held::WithA,
     }
 }
 
-pub fn after(deed: Deed) -> Held {
-    match deed {
-        Deed::FirstOfTwo => Held::Once,
-        Deed::Format => Held::FreshBeforeLast,
-        Deed::Add => Held::WithA,
-        Deed::AddLater => Held::WithLater,
-        Deed::RunAdd => Held::Both,
+pub fn after(action: Action) -> Held {
+    match action {
+        Action::FirstOfTwo => Held::Once,
+        Action::Format => Held::FreshBeforeLast,
+        Action::Add => Held::WithA,
+        Action::AddLater => Held::WithLater,
+        Action::RunAdd => Held::Both,
         _ => Held::Fresh,
     }
 }
@@ -131,15 +131,19 @@ fn formats<F: Flash>(rt: &impl Abort, paged: &mut Paged<F>) -> Option<EditFault>
     format(paged, region).err()
 }
 
-pub fn does<F: Flash>(rt: &impl Abort, paged: &mut Paged<F>, deed: Deed) -> Result<(), Refusal> {
-    match deed {
-        Deed::Join => told(removes(rt, paged, b"m")),
-        Deed::FirstOfTwo => told(removes(rt, paged, b"x")),
-        Deed::Format => told(formats(rt, paged)),
-        Deed::Add => told(adds(rt, paged, b"a", Spot::First, b"0123456789")),
-        Deed::AddLater => told(adds(rt, paged, b"b", Spot::Aligned(256), &MAGIC_20)),
-        Deed::RunAdd => answer_of(rt, paged, &RUN_ADD, &MAGIC_20, ALL),
-        Deed::RunRemove => answer_of(rt, paged, &RUN_REMOVE, b"", ALL),
+pub fn does<F: Flash>(
+    rt: &impl Abort,
+    paged: &mut Paged<F>,
+    action: Action,
+) -> Result<(), Refusal> {
+    match action {
+        Action::Join => told(removes(rt, paged, b"m")),
+        Action::FirstOfTwo => told(removes(rt, paged, b"x")),
+        Action::Format => told(formats(rt, paged)),
+        Action::Add => told(adds(rt, paged, b"a", Spot::First, b"0123456789")),
+        Action::AddLater => told(adds(rt, paged, b"b", Spot::Aligned(256), &MAGIC_20)),
+        Action::RunAdd => answer_of(rt, paged, &RUN_ADD, &MAGIC_20, ALL),
+        Action::RunRemove => answer_of(rt, paged, &RUN_REMOVE, b"", ALL),
     }
 }
 
@@ -157,15 +161,15 @@ pub fn leaves(rt: &(impl Abort + AllocGlobal), device: MemFlash, one: Held, othe
 /// Checks the image after success, or the components after a fault. Returns true after success.
 pub fn has_finished(
     rt: &(impl Abort + AllocGlobal),
-    deed: Deed,
+    action: Action,
     answer: Result<(), Refusal>,
     device: MemFlash,
 ) -> bool {
     if answer.is_ok() {
-        holds(rt, device, after(deed));
+        holds(rt, device, after(action));
         return true;
     }
     equal(rt, &answer, &Err(Refusal::Device));
-    leaves(rt, device, before(deed), after(deed));
+    leaves(rt, device, before(action), after(action));
     false
 }

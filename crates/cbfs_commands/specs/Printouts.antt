@@ -3,7 +3,7 @@ use Rattle.std.specs.Prelude.{◌≡◌, ℕ, ◌<◌, ◌≤◌, ◌⊎◌, IsE
 use Rattle.std.specs.Prelude.{Err, length, take}
 use Rattle.std.specs.Io.KnownBytes.{Appends}
 use Rattle.flash_format.specs.Head.{is_free}
-use Rattle.flash_device.specs.Device.{Device, faults_told}
+use Rattle.flash_device.specs.Device.{Device, fault_count}
 use Rattle.flash_device.specs.Pages.{Pages, HasRead, OnHonest, OnHonestIn}
 use Rattle.flash_device.specs.Output.{AppendsPart}
 use Rattle.flash_device.specs.Regions.{Range, LiesIn, bytes_in}
@@ -17,16 +17,16 @@ use Rattle.cbfs_commands.specs.declared.refusal.Refusal.TheVariants as refusals
 abbrev pub Answer : Type 0
 Answer = Result (Unit {0}) Refusal
 
-pub record Told : Type 0 where
+pub record Printout : Type 0 where
   pub written : List ℕ
   pub answer : Answer
 
 -- text and success
-abbrev pub shows : List ℕ → Told
+abbrev pub shows : List ℕ → Printout
 shows text = record { written = text; answer = Ok tt }
 
 -- an error without output
-abbrev pub refuses : Refusal → Told
+abbrev pub refuses : Refusal → Printout
 refuses refusal = record { written = []; answer = Err refusal }
 
 -- the writer failed after a proper prefix of the text, or the device after a prefix
@@ -36,8 +36,8 @@ StopsWriting old new answer text =
     × ((n : ℕ) × (n ≤ length text) × Appends old new (take n text)))
 
 -- the output and answer, or an interruption
-abbrev pub Tells : Option (List ℕ) → Option (List ℕ) → Answer → Told → Type 0
-Tells old new answer t =
+abbrev pub PrintsOut : Option (List ℕ) → Option (List ℕ) → Answer → Printout → Type 0
+PrintsOut old new answer t =
     ((answer ≡ t.answer) × Appends old new t.written) ⊎ StopsWriting old new answer t.written
 
 -- A cell of a region within bounds. An honest device has the cell at its offset.
@@ -58,13 +58,13 @@ abbrev pub cell_of : Range → Cell → List ℕ → List ℕ
 cell_of region cell image = cell_in (bytes_in region image) cell
 
 -- A call that reads the device at most n times and writes to a sink. A fault implies a failure of
--- its device. `told` requires an honest device.
-pub record HasTold {F W : Type 0} (facts : F → Device) (contents : W → Option (List ℕ))
+-- its device. `printout` requires an honest device.
+pub record HasOutput {F W : Type 0} (facts : F → Device) (contents : W → Option (List ℕ))
     (faults : W → ℕ) (n : ℕ) (old new : Pages F) (out_old out_new : W) (answer : Answer)
-    (t : List ℕ → Told) : Type 0 where
-  pub read : HasRead facts n (faults_told by_device answer) old new
+    (t : List ℕ → Printout) : Type 0 where
+  pub read : HasRead facts n (fault_count by_device answer) old new
   pub sink : faults out_old ≤ faults out_new
   pub output : IsErrOf answer refusals.Output → faults out_old < faults out_new
   pub no_source : IsErrOf answer refusals.Source → ⊥
-  pub told : OnHonest facts old.device (λ image.
-      Tells (contents out_old) (contents out_new) answer (t image))
+  pub printout : OnHonest facts old.device (λ image.
+      PrintsOut (contents out_old) (contents out_new) answer (t image))

@@ -9,7 +9,7 @@ use Rattle.cbfs_commands.specs.declared.command.Command.TheVariants as commands
 use Rattle.std.specs.Option.{option_map_or}
 use Rattle.std.specs.Result.{ForOk, result_ok, result_unwrap_or}
 use Rattle.flash_format.specs.Flashmap.{area_len}
-use Rattle.flash_device.specs.Device.{SameOutside, overwritten, Device, Calls, faults_told}
+use Rattle.flash_device.specs.Device.{SameOutside, overwritten, Device, Calls, fault_count}
 use Rattle.flash_device.specs.Pages.{Pages, OnHonest}
 use Rattle.flash_device.specs.Regions.{Range, bytes_in, region_of}
 use Rattle.cbfs_edit.specs.Additions.{added, addition_in, new_component}
@@ -22,8 +22,8 @@ use Rattle.cbfs_commands.specs.Rows as rows
 use Rattle.cbfs_commands.specs.Refusals.{by_device, by_source, edit_refusal, fault_or}
 use Rattle.cbfs_commands.specs.Refusals.{store_refusal}
 use Rattle.cbfs_commands.specs.Outcomes.{Outcome, StopsIn, AddStopsIn, LeavesOr, print_region}
-use Rattle.cbfs_commands.specs.Outcomes.{extract_region, told_in}
-use Rattle.cbfs_commands.specs.Told.{Answer, Told, Tells, shows}
+use Rattle.cbfs_commands.specs.Outcomes.{extract_region, printed_in}
+use Rattle.cbfs_commands.specs.Printouts.{Answer, Printout, PrintsOut, shows}
 
 -- a request on a region
 pub data Task : Type 0 where
@@ -61,24 +61,24 @@ pub record Change : Type 1 where
   pub Stopped : List ℕ → List ℕ → Answer → List ℕ → Type 0
 
 -- a report on the image, or a change without output
-pub data Deed : Type 1 where
-  tells : (List ℕ → Told) → Deed
-  changes : Change → Deed
+pub data Effect : Type 1 where
+  prints : (List ℕ → Printout) → Effect
+  changes : Change → Effect
 
 -- ---- the meaning
 
-abbrev pub outcome : Deed → List ℕ → List ℕ → Outcome
-outcome (tells told) image source = record { told = told image; image = image }
+abbrev pub outcome : Effect → List ℕ → List ℕ → Outcome
+outcome (prints printout) image source = record { printout = printout image; image = image }
 outcome (changes c) image source =
     let made = c.made image source in
     record {
-      told = record { written = []; answer = fault_or Err made (λ now. Ok tt) };
+      printout = record { written = []; answer = fault_or Err made (λ now. Ok tt) };
       image = result_unwrap_or made image;
     }
 
 -- a report changes nothing and reads no source
-abbrev pub change_of : Deed → Change
-change_of (tells told) = record {
+abbrev pub change_of : Effect → Change
+change_of (prints printout) = record {
   made = λ image source. Ok image;
   target = λ image. None;
   source_calls = None;
@@ -86,14 +86,14 @@ change_of (tells told) = record {
 }
 change_of (changes c) = c
 
-abbrev pub writes_output : Deed → Bool
-writes_output (tells told) = true
+abbrev pub writes_output : Effect → Bool
+writes_output (prints printout) = true
 writes_output (changes c) = false
 
-abbrev pub reads_source : Deed → Bool
+abbrev pub reads_source : Effect → Bool
 reads_source d = is_some (change_of d).source_calls
 
-abbrev pub source_calls : Deed → ℕ → ℕ
+abbrev pub source_calls : Effect → ℕ → ℕ
 source_calls d n = option_map_or (λ calls. calls n) (change_of d).source_calls 0
 
 -- ---- the commands
@@ -148,20 +148,20 @@ creates names = record {
   Stopped = λ image source answer now. length now ≡ length image;
 }
 
-abbrev pub deed : Request → Deed
-deed (on_region region (print verbose)) =
-    tells (λ image. told_in image region (λ x. print_region x verbose))
-deed (on_region region (extract name)) =
-    tells (λ image. told_in image region (λ x. extract_region x name))
-deed (on_region region (add name kind hash spot)) = changes (adds region name kind hash spot)
-deed (on_region region (remove name)) = changes (removes region name)
-deed (on_region region read) = tells (λ image. told_in image region shows)
-deed (on_region region write) = changes (replaces region)
-deed layout = tells rows.layout
-deed (create names) = changes (creates names)
+abbrev pub effect : Request → Effect
+effect (on_region region (print verbose)) =
+    prints (λ image. printed_in image region (λ x. print_region x verbose))
+effect (on_region region (extract name)) =
+    prints (λ image. printed_in image region (λ x. extract_region x name))
+effect (on_region region (add name kind hash spot)) = changes (adds region name kind hash spot)
+effect (on_region region (remove name)) = changes (removes region name)
+effect (on_region region read) = prints (λ image. printed_in image region shows)
+effect (on_region region write) = changes (replaces region)
+effect layout = prints rows.layout
+effect (create names) = changes (creates names)
 
 -- an honest source, if the command reads it
-abbrev pub Serves : Deed → Device → Type 0
+abbrev pub Serves : Effect → Device → Type 0
 Serves d source = IsTrue (reads_source d) → IsTrue source.honest
 
 -- all bytes outside the region remain, or all bytes without a region
@@ -169,11 +169,11 @@ abbrev pub SparesOutside : Option Range → List ℕ → List ℕ → Type 0
 SparesOutside target image now =
     MatchOption target (now ≡ image) (λ region. SameOutside region.start region.size image now)
 
--- the answer, output and effect of the deed, or an interruption
-abbrev pub Meets : Deed → Option (List ℕ) → Option (List ℕ) → List ℕ → List ℕ → List ℕ
+-- the answer, output and effect of the effect, or an interruption
+abbrev pub Meets : Effect → Option (List ℕ) → Option (List ℕ) → List ℕ → List ℕ → List ℕ
     → Answer → Type 0
-Meets (tells told) old new image source now answer =
-    Tells old new answer (told image) × (now ≡ image)
+Meets (prints printout) old new image source now answer =
+    PrintsOut old new answer (printout image) × (now ≡ image)
 Meets (changes c) old new image source now answer =
     LeavesOr now answer (outcome (changes c) image source)
 
@@ -190,9 +190,9 @@ no_source = record { content = []; calls = 0; faults = 0; honest = true }
 -- honest source, the result is the change or an interruption.
 pub record HasChanged {F : Type 0} (facts : F → Device) (n : ℕ) (change : Change)
     (old new : Pages F) (source source_now : Device) (answer : Answer) : Type 0 where
-  pub calls : Calls n (faults_told by_device answer) (facts old.device) (facts new.device)
+  pub calls : Calls n (fault_count by_device answer) (facts old.device) (facts new.device)
   pub source_calls : Calls (source_calls (changes change) (length source.content))
-      (faults_told by_source answer) source source_now
+      (fault_count by_source answer) source source_now
   pub no_output : IsErrOf answer refusals.Output → ⊥
   pub spares : OnHonest facts old.device (λ image.
       SparesOutside (change.target image) image (facts new.device).content)
@@ -206,11 +206,11 @@ pub record HasChanged {F : Type 0} (facts : F → Device) (n : ℕ) (change : Ch
 -- A command by at most n device calls. Unused devices remain, and a fault implies a failure of its
 -- device. The other fields require an honest device.
 pub record HasRun {F S W : Type 0} (facts : F → Device) (sources : S → Device)
-    (contents : W → Option (List ℕ)) (faults : W → ℕ) (n : ℕ) (d : Deed) (old new : Pages F)
+    (contents : W → Option (List ℕ)) (faults : W → ℕ) (n : ℕ) (d : Effect) (old new : Pages F)
     (source_old source_new : S) (out_old out_new : W) (answer : Answer) : Type 0 where
-  pub calls : Calls n (faults_told by_device answer) (facts old.device) (facts new.device)
+  pub calls : Calls n (fault_count by_device answer) (facts old.device) (facts new.device)
   pub source_calls : Calls (source_calls d (length (sources source_old).content))
-      (faults_told by_source answer) (sources source_old) (sources source_new)
+      (fault_count by_source answer) (sources source_old) (sources source_new)
   pub sink : faults out_old ≤ faults out_new
   pub unread : reads_source d ≡ false → source_new ≡ source_old
   pub unwritten : writes_output d ≡ false → out_new ≡ out_old
