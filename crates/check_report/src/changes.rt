@@ -39,7 +39,8 @@ pub fn add_image_changes<W: Sink + Drop>(
     new_len: u64,
     blocks: u32,
 ) -> Result<(), WriteFault>
-    ensures { Adds W.contents W.faults result rows.old rows.new (of.image_rows old_len new_len blocks) }
+    ensures { Adds W.contents W.faults result rows.old rows.new
+        (of.image_rows old_len new_len blocks) }
 {
     rows.add_if(old_len != new_len, size_row(old_len))?;
     let blocks = u64::from(blocks);

@@ -26,9 +26,9 @@ impl Model for OsFile {
 
     ghost Value = { Stored };
 
-    // No clause of the kit relates a system file to a list of bytes. So the contract state has zeros
-    // as content, and the file is unfaithful, which no contract tells a caller: clauses about
-    // faithful files hold for it by the assumption that a call does what it returns.
+    // No clause of the kit relates a system file to bytes. So the content is zeros here, and the
+    // file is unfaithful, which no contract states: clauses about faithful files hold for it by the
+    // assumption that a call does what it returns.
     ghost view = { λ f. record {
       content = replicate f.len 0;
       faithful = f.faithful.value;

@@ -119,7 +119,8 @@ metadata = 24 + 4
 
 -- the longest content in `room` bytes
 abbrev pub room_finding : ℕ → RegionFinding
-room_finding room = if nat_le metadata room then findings.LargestContent (room - metadata) else findings.NoRoom
+room_finding room =
+    if nat_le metadata room then findings.LargestContent (room - metadata) else findings.NoRoom
 
 abbrev pub count_findings : ℕ → ℕ → ℕ → List RegionFinding
 count_findings components free room =

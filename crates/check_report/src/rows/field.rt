@@ -54,7 +54,8 @@ impl<'a> Value<'a> {
     }
 
     pub fn text_if(text: Option<&'a str>) -> Value<'a>
-        ensures { seen_value result ≡ option_map_or text_value (option_copied text.entry) of.absent }
+        ensures { seen_value result
+            ≡ option_map_or text_value (option_copied text.entry) of.absent }
     {
         match text {
             Some(text) => Value::Text(text),

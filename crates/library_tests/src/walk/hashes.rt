@@ -12,13 +12,15 @@ use std::process::Abort;
 
 /// The component `h` of 4097 bytes, up to the digest.
 const HASHED: [u8; 52] =
-    *b"LARCHIVE\0\0\x10\x01\0\0\0\x50\0\0\0\x28\0\0\0\x54h\0\0\0\0\0\0\0\0\0\0\0\0\0\0\0hsaH\0\0\0\x2c\0\0\0\x02";
+    *b"LARCHIVE\0\0\x10\x01\0\0\0\x50\0\0\0\x28\0\0\0\x54h\0\0\0\0\0\0\0\0\0\0\0\0\0\0\0hsaH\0\0\
+    \0\x2c\0\0\0\x02";
 
 /// The content, and the digest as computed by Python.
 const CONTENT: [u8; 4097] = [7; 4097];
 
 const DIGEST: [u8; 32] =
-    *b"\xf9\xec\xad\x1d\x08\x5b\x61\x90\x73\xe6\x7e\x60\x33\x43\x0a\x0f\x92\xa8\x93\x28\x89\x0c\xcb\xdf\x9e\x7c\x10\xc3\x46\x64\xad\x53";
+    *b"\xf9\xec\xad\x1d\x08\x5b\x61\x90\x73\xe6\x7e\x60\x33\x43\x0a\x0f\x92\xa8\x93\x28\x89\x0c\
+    \xcb\xdf\x9e\x7c\x10\xc3\x46\x64\xad\x53";
 
 const PARTS: Parts = &[(0, &HASHED), (52, &DIGEST), (84, &CONTENT)];
 

@@ -8,12 +8,12 @@ use flash_store::{
 use std::process::Abort;
 
 /// The map of 4096 bytes: FMAP of 512 bytes, and COREBOOT.
-const MAP: [u8; 140] = *b"__FMAP__\x01\x01\x00\x00\x00\xff\x00\x00\x00\x00\x00\x10\x00\x00\
-FLASH\x00\x00\x00\x00\x00\x00\x00\x00\x00\x00\x00\x00\x00\x00\x00\x00\x00\x00\x00\x00\x00\x00\x00\x00\x00\x00\x00\x02\x00\
-\x00\x00\x00\x00\x00\x02\x00\x00\
-FMAP\x00\x00\x00\x00\x00\x00\x00\x00\x00\x00\x00\x00\x00\x00\x00\x00\x00\x00\x00\x00\x00\x00\x00\x00\x00\x00\x00\x00\x00\x00\
-\x00\x02\x00\x00\x00\x0e\x00\x00\
-COREBOOT\x00\x00\x00\x00\x00\x00\x00\x00\x00\x00\x00\x00\x00\x00\x00\x00\x00\x00\x00\x00\x00\x00\x00\x00\x00\x00";
+const MAP: [u8; 140] = *b"__FMAP__\x01\x01\0\0\0\xff\0\0\0\0\0\x10\0\0\
+FLASH\0\0\0\0\0\0\0\0\0\0\0\0\0\0\0\0\0\0\0\0\0\0\0\0\0\0\0\x02\0\
+\0\0\0\0\0\x02\0\0\
+FMAP\0\0\0\0\0\0\0\0\0\0\0\0\0\0\0\0\0\0\0\0\0\0\0\0\0\0\0\0\0\0\
+\0\x02\0\0\0\x0e\0\0\
+COREBOOT\0\0\0\0\0\0\0\0\0\0\0\0\0\0\0\0\0\0\0\0\0\0\0\0\0\0";
 
 /// A name with a NUL, which no argument contains, has no region.
 #[test]
@@ -32,7 +32,8 @@ fn place_of(paged: &mut Paged<MemFlash>, word: &[u8]) -> Result<(u64, u64), Stor
 
 /// A hundred bytes without a repeated sequence of three.
 const NUMBERED: [u8; 100] =
-    *b"00,01,02,03,04,05,06,07,08,09,10,11,12,13,14,15,16,17,18,19,20,21,22,23,24,25,26,27,28,29,30,31,32,.";
+    *b"00,01,02,03,04,05,06,07,08,09,10,11,12,13,14,15,16,17,18,19,20,21,22,23,24,25,26,27,28,29,\
+    30,31,32,.";
 
 #[test]
 fn what_is_read_after_a_write_is_what_the_device_holds(rt: HostRuntime) {
