@@ -2,7 +2,7 @@
 use Rattle.std.proofs.Common.{◌≡◌, ℕ, ◌+◌, ◌≤◌, Bool, IsTrue, refl, sym, ◌∙◌, subst, arith, ◌-◌, ◌++◌, take, drop}
 use Rattle.std.specs.Prelude.{List, length, Result, Ok, Err, IsOk}
 use Rattle.std.proofs.Common.{length-take, length-drop}
-use Rattle.flash_device.specs.Regions.{Range, LiesIn, bytes_in}
+use Rattle.flash_device.specs.Regions.{Range, LiesIn, LiesOn, bytes_in}
 use Rattle.std.proofs.lemmas.List.{length-take-le, take_at}
 use Rattle.flash_device.specs.Device.{Device, Calls, Reads, OneRead, refusals}
 
@@ -44,6 +44,10 @@ Reads-then n k refused old mid new first second = record {
   calls = Calls-then n k refused old mid new first.calls second.calls;
   unchanged = λ h. second.unchanged (honest_still first.calls.same_honesty h) ∙ first.unchanged h;
 }
+
+-- calls keep the length
+pub LiesOn-calls : {r : Range} {n refused : ℕ} {old new : Device} → Calls n refused old new → LiesOn r old → LiesOn r new
+LiesOn-calls calls lies = record { inside = omega (arith, calls.same_length, lies.inside); below = omega (arith, calls.same_length, lies.below) }
 
 pub length-bytes_in : (r : Range) (image : List ℕ) → LiesIn r image → length (bytes_in r image) ≡ r.size
 length-bytes_in r image lies = omega (arith, lies, length-take (r.start + r.size - r.start) (drop r.start image), length-drop r.start image)

@@ -1,7 +1,8 @@
 -- Ranges of an image, and named regions.
-use Rattle.std.specs.Prelude.{ℕ, ◌+◌, ◌≤◌, List, length, slice_range, Option, Some, None, Result, Ok, Err, nat_lt, if◌then◌else◌}
+use Rattle.std.specs.Prelude.{ℕ, ◌+◌, ◌^◌, ◌<◌, ◌≤◌, List, length, slice_range, Option, Some, None, Result, Ok, Err, nat_lt, if◌then◌else◌}
 use Rattle.flash_format.specs.declared.flashmap.Area.{Area}
 use Rattle.flash_format.specs.Flashmap.{map_of, area_in}
+use Rattle.flash_device.specs.Device.{Device}
 use Rattle.flash_device.specs.declared.fmap.StoreFault.{StoreFault}
 use Rattle.flash_device.specs.declared.fmap.StoreFault.TheVariants as faults
 
@@ -14,6 +15,11 @@ bytes_in region image = slice_range image region.start (region.start + region.si
 
 abbrev pub LiesIn : Range → List ℕ → Type 0
 LiesIn region image = region.start + region.size ≤ length image
+
+-- a region inside a device; offsets have 32 bits, so sums don't overflow
+pub record LiesOn (r : Range) (device : Device) : Type 0 where
+  pub inside : r.start + r.size ≤ length device.content
+  pub below : length device.content < 2 ^ 32
 
 -- device faults in an error
 abbrev pub by_device : StoreFault → ℕ

@@ -5,7 +5,7 @@ ghost use Rattle.flash_format.specs.Flashmap.{fmap_head_len, area_len, map_len, 
 ghost use Rattle.flash_device.specs.Device.{Reads, fault_count, refusals};
 ghost use Rattle.flash_device.specs.Pages.{OnHonest, HasRead, HasAnswered};
 ghost use Rattle.flash_device.specs.Fmap.{HasSignatureAt, map_head, map_head_in, found_from, found_in};
-ghost use Rattle.flash_device.specs.Regions.{LiesIn, by_device, region_by_area, region_of};
+ghost use Rattle.flash_device.specs.Regions.{LiesOn, by_device, region_by_area, region_of};
 ghost use Rattle.memchr.specs.Find.{IsFirst};
 
 use crate::flash::{Flash, FlashFault, PIECE};
@@ -112,7 +112,7 @@ fn signature_in<F: Flash>(
     ensures first { OnHonest F.facts paged.old.device
         (λ image. IfOk result (IsFirst (HasSignatureAt image) at (at + n - 7))) }
 {
-    paged.places_fit();
+    let _len = paged.len();
     let bytes = paged.piece(at, n)?;
     match memmem::find(bytes, &FmapHead::SIGNATURE) {
         Some(place) => Ok(Some(at + place as u64)),
@@ -163,7 +163,7 @@ pub fn area<F: Flash>(paged: &mut Paged<F>, map: &FoundMap, i: u16) -> Result<Ar
         IfOk result
         (λ area. area ≡ area_of (drop (map.now.at + fmap_head_len + area_len * i) image))) }
 {
-    paged.places_fit();
+    let _len = paged.len();
     let mut bytes = [0; Area::LENGTH];
     let at = map.at + HEAD_LENGTH + AREA_LENGTH * u64::from(i);
     paged.read_small(at, &mut bytes)?;
@@ -214,7 +214,7 @@ pub fn region<F: Flash>(paged: &mut Paged<F>, name: &[u8]) -> Result<Region, Sto
     ensures after { HasRead F.facts (length (F.facts paged.old.device).content / 2
         + length (F.facts paged.old.device).content / area_len + 8) (fault_count by_device result)
         paged.old paged.new }
-    ensures inside { IfOk result (λ region. LiesIn region (F.facts paged.old.device).content) }
+    ensures inside { IfOk result (λ region. LiesOn region (F.facts paged.old.device)) }
     ensures answer { OnHonest F.facts paged.old.device (λ image.
         IsErrOf result StoreFault.Device ⊎ (result ≡ region_of image name.now)) }
 {

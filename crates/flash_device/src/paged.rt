@@ -121,13 +121,6 @@ impl<F: Flash> Paged<F> {
         self.device.len()
     }
 
-    /// Proves that offsets fit in 32 bits, so sums don't overflow. No effect at run time.
-    pub fn places_fit(&self)
-        ensures { length (F.facts self.now.device).content < 2 ^ 32 }
-    {
-        let _len = self.device.len();
-    }
-
     /// Returns the device.
     pub fn flash(&self) -> &F
         ensures { result.now ≡ self.now.device }
@@ -342,7 +335,7 @@ impl<F: Flash> Paged<F> {
             (slice_range image at (at + n))) }
     {
         self.forget_piece();
-        self.places_fit();
+        let _len = self.len();
         let mut done = 0;
         while done < n {
             let size = (n - done).min(PIECE as u64);
