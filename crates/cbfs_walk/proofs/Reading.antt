@@ -3,7 +3,7 @@ use Rattle.std.proofs.Common.{◌≡◌, ℕ, ◌+◌, ◌-◌, ◌*◌, ◌<◌
 use Rattle.std.specs.Prelude.{IfOk, IsOk, length}
 use Rattle.flash_device.specs.Device.{Device, refusals}
 use Rattle.flash_device.specs.Pages.{Pages, HasAnswered, HasSeen}
-use Rattle.flash_device.specs.Regions.{Range, LiesIn}
+use Rattle.flash_device.specs.Regions.{Range, LiesOn}
 use Rattle.flash_device.specs.Scans.{ScansTo, SpendsTo}
 use Rattle.flash_device.proofs.WindowLemmas.{ScansTo-none, ScansTo-on, SpendsTo-on, ScansTo-more, SpendsTo-more, ScansTo-then, SpendsTo-then, ScansTo-spends, SpendsTo-reads}
 use Rattle.cbfs_walk.specs.Walks.{Passes, reads_over}
@@ -25,7 +25,7 @@ ordered {F} {facts} {r} {at} {end} {refused} {old} {new} spends scans = record {
 pub Passes-none : {F : Type 0} (facts : F → Device) (r : Range) (at : ℕ) (p : Pages F) → Passes facts r at at 0 p p
 Passes-none facts r at p = let none = ScansTo-none facts (r.start + at) p in ordered (ScansTo-spends facts (r.start + at) (r.start + at) p p none) (λ _. none)
 
-pub Passes-seen : {F T E : Type 0} {facts : F → Device} {r : Range} {at n : ℕ} {old new : Pages F} {result : Result T E} → LiesIn r (facts old.device).content → at + n ≤ r.size → n ≤ 256
+pub Passes-seen : {F T E : Type 0} {facts : F → Device} {r : Range} {at n : ℕ} {old new : Pages F} {result : Result T E} → LiesOn r (facts old.device) → at + n ≤ r.size → n ≤ 256
     → HasSeen facts (r.start + at) n old new result → Passes facts r at at (refusals result) old new
 Passes-seen {F} {T} {E} {facts} {r} {at} {n} {old} {new} {result} lies inside short seen =
     let q = r.start + at in

@@ -10,7 +10,7 @@ use Rattle.flash_format.specs.Entry.{Attribute, attribute, attributes, attr_head
 use Rattle.flash_format.specs.Components.{packing, cell_attributes}
 use Rattle.flash_device.specs.Device.{Device}
 use Rattle.flash_device.specs.Pages.{Pages}
-use Rattle.flash_device.specs.Regions.{Range, LiesIn, bytes_in}
+use Rattle.flash_device.specs.Regions.{Range, LiesIn, LiesOn, bytes_in}
 use Rattle.cbfs_walk.specs.Walks.{Passes, StandsIn}
 use Rattle.cbfs_walk.specs.Cells.{attributes_start, content_start, IsComponentIn, cell_in}
 use Rattle.cbfs_walk.specs.AttrWalks.{IsAttrIn, after_first, IsAttrOf, listed_in, Placed, by_tag, first_after, first_in, first_of, value_in}
@@ -18,7 +18,7 @@ use Rattle.cbfs_walk.specs.Hashes.{data_at}
 use Rattle.cbfs_walk.specs.declared.cell.Cell.{Cell}
 use Rattle.cbfs_walk.specs.declared.attribute_walk.Listed as declared
 use Rattle.cbfs_walk.specs.declared.attribute_walk.Listed.TheVariants as listed
-use Rattle.flash_device.proofs.DeviceLemmas.{honest_still}
+use Rattle.flash_device.proofs.DeviceLemmas.{honest_still, LiesOn-calls}
 use Rattle.cbfs_walk.proofs.Reading.{Passes-none, Passes-then}
 use Rattle.cbfs_walk.proofs.Parts.{length-region, range-inner, range-after, length-range}
 use Rattle.cbfs_walk.proofs.Checks.{content_inside}
@@ -39,8 +39,8 @@ module _ {F : Type 0} {facts : F → Device} {r : Range} {from end at : ℕ} {ol
   pub told_before : (P : List ℕ → Type 0) → (IsTrue (facts now.device).honest → P (facts now.device).content) → IsTrue (facts old.device).honest → P (facts old.device).content
   told_before P told k = subst P (s.passed.read.device.unchanged k) (told (honest_still s.passed.read.device.calls.same_honesty k))
 
-  pub lies_still : LiesIn r (facts old.device).content → LiesIn r (facts now.device).content
-  lies_still lies = omega (arith, lies, s.passed.read.device.calls.same_length)
+  pub lies_still : LiesOn r (facts old.device) → LiesOn r (facts now.device)
+  lies_still lies = LiesOn-calls s.passed.read.device.calls lies
 
   -- a further read
   pub scanning_more : (n : ℕ) (new : Pages F) (After : Type 0) → at + n ≤ end → Passes facts r at at 0 now new → (IsTrue (facts old.device).honest → Asked → After) → Scanning facts r from end (at + n) old new After

@@ -8,7 +8,7 @@ use Rattle.flash_format.specs.Cut.{Cut}
 use Rattle.flash_format.specs.Components.{Component, cell_name, component_at, components_from}
 use Rattle.flash_device.specs.Device.{Device, fault_count}
 use Rattle.flash_device.specs.Pages.{Pages, HasRead}
-use Rattle.flash_device.specs.Regions.{Range, LiesIn, bytes_in}
+use Rattle.flash_device.specs.Regions.{Range, LiesOn, bytes_in}
 use Rattle.cbfs_walk.specs.Walks.{reads_over, Answer, Walking, walk_of, answer_at, StandsIn, GivesCell, reads_at, by_device, walk_after}
 use Rattle.cbfs_walk.specs.Cells.{IsCellIn, cell_in}
 use Rattle.cbfs_walk.specs.Shaped.{reading_of, ReadsCells, by_answer, place_after}
@@ -97,12 +97,12 @@ told_step s b (inr e) = e
 cell_is : (at span : ℕ) (h k : Head) (n : ℕ) → h ≡ k → n ≡ span → (let a : Cell = record { at = at; head = h; span = n } in a) ≡ record { at = at; head = k; span = span }
 cell_is at span h k n e f = ap (λ (j : Head). let a : Cell = record { at = at; head = j; span = n } in a) e ∙ ap (λ m. let a : Cell = record { at = at; head = k; span = m } in a) f
 
-module _ {F : Type 0} (facts : F → Device) (r : Range) (name : List ℕ) (w : Walking) (old now : Pages F) (lies : LiesIn r (facts old.device).content) (s : Searching facts r name w old now) where
+module _ {F : Type 0} (facts : F → Device) (r : Range) (name : List ℕ) (w : Walking) (old now : Pages F) (lies : LiesOn r (facts old.device)) (s : Searching facts r name w old now) where
   answered : (a : Answer) → IsTrue (facts old.device).honest → a ≡ answer_at (bytes_in w.region (facts now.device).content) w.at
       → (a ≡ answer_at (bytes_in r (facts old.device).content) w.at) × (component_in (bytes_in r (facts old.device).content) name ≡ found_by (bytes_in r (facts old.device).content) name a)
   answered a h is =
       let x = bytes_in r (facts old.device).content in
-      let len : length x ≡ r.size = length-region r (facts old.device).content lies in
+      let len : length x ≡ r.size = length-region r (facts old.device).content lies.inside in
       let here : a ≡ answer_at x w.at = is ∙ ap (λ (k : Range). answer_at (bytes_in k (facts now.device).content) w.at) s.region ∙ ap (λ l. answer_at (bytes_in r l) w.at) (s.read.device.unchanged h) in
       (here, s.so_far h ∙ found_step x name w.at (omega (arith, len, s.inside)) s.aligned ∙ ap (found_by x name) (sym here))
 
@@ -143,7 +143,7 @@ module _ {F : Type 0} (facts : F → Device) (r : Range) (name : List ℕ) (w : 
     pub found_answer : is_it ≡ true → IsTrue (facts old.device).honest → Ok (Some c) ≡ found_cell (component_in (bytes_in r (facts old.device).content) name)
     found_answer e h =
         let x = bytes_in r (facts old.device).content in
-        let len : length x ≡ r.size = length-region r (facts old.device).content lies in
+        let len : length x ≡ r.size = length-region r (facts old.device).content lies.inside in
         let head = cell_head x c (standing x c (stands h)) given.0.positive in
         let span = cell_len x r.size c len cell_of_region in
         sym (ap found_cell (found_first e h) ∙ ap (λ (d : Cell). Ok (Some d)) (cell_is c.at c.span (head_of (cell_in x c)) c.head (length (cell_in x c)) head span))

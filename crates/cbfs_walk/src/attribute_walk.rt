@@ -4,7 +4,7 @@ ghost use Rattle.flash_format.specs.Head.{is_free, be32};
 ghost use Rattle.flash_format.specs.Entry.{Attribute, attributes, COMPRESSION, name_end};
 ghost use Rattle.flash_format.specs.Components.{cell_attributes, packing};
 ghost use Rattle.flash_device.specs.Pages.{HasAnswered, OnHonestIn};
-ghost use Rattle.flash_device.specs.Regions.{LiesIn};
+ghost use Rattle.flash_device.specs.Regions.{LiesOn};
 ghost use Rattle.cbfs_walk.specs.Walks.{HasPassed, ReadsAs, reads_over, StandsIn, ReadsCellAs};
 ghost use Rattle.cbfs_walk.specs.Cells.{IsComponentIn, attributes_start, cell_in};
 ghost use Rattle.cbfs_walk.specs.AttrWalks.{place_in_region, attr_walk_of, attr_moved, attr_reads, IsAttrIn, attributes_left, first_head, after_first, IsListedIn, listed_in, IsAttrOf, first_of, searched_to, value_in};
@@ -54,7 +54,7 @@ impl AttrWalk {
         paged: &mut Paged<F>,
         region: Region,
     ) -> Result<Option<AttrHead>, FlashFault>
-        requires region { LiesIn region (F.facts paged.old.device).content }
+        requires region { LiesOn region (F.facts paged.old.device) }
         requires inside { self.old.cell.at + self.old.cell.head.offset ≤ region.size }
 
         ensures after { HasAnswered F.facts (attr_reads self.old) paged.old paged.new result }
@@ -73,7 +73,6 @@ impl AttrWalk {
             → attributes_left x self.old ≡ Some all
             → IfOk result (λ _. attributes_left x self.new ≡ Some (after_first all))) }
     {
-        paged.places_fit();
         let at = self.cell.at + u64::from(self.at);
         let end = self.cell.at + u64::from(self.cell.head.offset);
         match listed_at(paged, region, at, end)? {
@@ -95,7 +94,7 @@ pub fn packing<F: Flash>(
     region: Region,
     cell: &Cell,
 ) -> Result<u32, FlashFault>
-    requires region { LiesIn region (F.facts paged.old.device).content }
+    requires region { LiesOn region (F.facts paged.old.device) }
     requires component { IsComponentIn region.size cell.now }
 
     ensures after { HasAnswered F.facts (reads_over cell.now.head.offset) paged.old
@@ -106,7 +105,6 @@ pub fn packing<F: Flash>(
     ensures packing { ReadsCellAs F.facts paged.old region cell.now result
         (λ x. packing (cell_attributes x)) }
 {
-    paged.places_fit();
     content_fits(cell, region);
     match first_attribute(paged, region, cell, AttrHead::COMPRESSION)? {
         Some((at, _)) => value_at(paged, region, at + 8),
@@ -122,7 +120,7 @@ pub fn first_attribute<F: Flash>(
     cell: &Cell,
     tag: u32,
 ) -> Result<Option<(u64, AttrHead)>, FlashFault>
-    requires region { LiesIn region (F.facts paged.old.device).content }
+    requires region { LiesOn region (F.facts paged.old.device) }
     requires component { IsComponentIn region.size cell.now }
 
     ensures passes { HasPassed F.facts region (attributes_start cell.now)
@@ -130,7 +128,6 @@ pub fn first_attribute<F: Flash>(
     ensures attribute { IfOk result (λ found. IfSome found (IsAttrOf cell.now tag)) }
     ensures first { ReadsAs F.facts paged.old region result (λ x. first_of x cell.now tag) }
 {
-    paged.places_fit();
     content_fits(cell, region);
     let end = cell.at + u64::from(cell.head.offset);
     let mut at = cell.at + u64::from(name_end(&cell.head));
@@ -154,7 +151,7 @@ pub fn are_well_formed<F: Flash>(
     from: u64,
     end: u64,
 ) -> Result<bool, FlashFault>
-    requires region { LiesIn region (F.facts paged.old.device).content }
+    requires region { LiesOn region (F.facts paged.old.device) }
     requires order { from ≤ end }
     requires inside { end ≤ region.size }
 
@@ -162,7 +159,6 @@ pub fn are_well_formed<F: Flash>(
     ensures formed { ReadsAs F.facts paged.old region result
         (λ x. is_some (attributes (slice_range x from end))) }
 {
-    paged.places_fit();
     let mut at = from;
     loop {
         match listed_at(paged, region, at, end)? {
@@ -186,7 +182,7 @@ fn listed_at<F: Flash>(
     at: u64,
     end: u64,
 ) -> Result<Listed, FlashFault>
-    requires region { LiesIn region (F.facts paged.old.device).content }
+    requires region { LiesOn region (F.facts paged.old.device) }
     requires order { at ≤ end }
     requires inside { end ≤ region.size }
 
@@ -201,7 +197,6 @@ fn listed_at<F: Flash>(
     if end - at < 8 {
         return Ok(Listed::End);
     }
-    paged.places_fit();
     let mut bytes = [0; 8];
     read_in(paged, region, at, &mut bytes)?;
     let head = AttrHead::read(&bytes);
@@ -215,13 +210,12 @@ fn listed_at<F: Flash>(
 }
 
 pub fn value_at<F: Flash>(paged: &mut Paged<F>, region: Region, at: u64) -> Result<u32, FlashFault>
-    requires region { LiesIn region (F.facts paged.old.device).content }
+    requires region { LiesOn region (F.facts paged.old.device) }
     requires inside { at + 4 ≤ region.size }
 
     ensures passes { HasPassed F.facts region at at paged.old paged.new result }
     ensures value { ReadsAs F.facts paged.old region result (λ x. be32 at x) }
 {
-    paged.places_fit();
     let mut bytes = [0; 4];
     read_in(paged, region, at, &mut bytes)?;
     Ok(BigEndian::read_u32(&bytes[..4]))

@@ -3,7 +3,7 @@ ghost use Rattle.std.specs.Prelude.{◌≡◌, ◌+◌, ◌≤◌, slice_range, 
 ghost use Rattle.flash_format.specs.declared.digest.Digest.TheVariants as digests;
 ghost use Rattle.flash_format.specs.Components.{cell_attributes, cell_content};
 ghost use Rattle.flash_device.specs.Pages.{HasAnswered, HasRead, OnHonestIn};
-ghost use Rattle.flash_device.specs.Regions.{LiesIn};
+ghost use Rattle.flash_device.specs.Regions.{LiesOn};
 ghost use Rattle.cbfs_walk.specs.Walks.{HasPassed, ReadsAs, reads_over, ReadsCellAs};
 ghost use Rattle.cbfs_walk.specs.Cells.{IsComponentIn, PassesChecks, content_start, content_end};
 ghost use Rattle.cbfs_walk.specs.Hashes.{digest_like, stored_digest, comparison, hash_state, content_at, hash_state_in, IsUncompared};
@@ -37,7 +37,7 @@ pub fn check_hash<F: Flash>(
     region: Region,
     cell: &Cell,
 ) -> Result<HashState, FlashFault>
-    requires region { LiesIn region (F.facts paged.old.device).content }
+    requires region { LiesOn region (F.facts paged.old.device) }
     requires component { IsComponentIn region.size cell.now }
 
     ensures after { HasAnswered F.facts (reads_over cell.now.span) paged.old paged.new result }
@@ -48,7 +48,6 @@ pub fn check_hash<F: Flash>(
     ensures state { ReadsCellAs F.facts paged.old region cell.now result
         (λ x. hash_state (cell_attributes x) (cell_content x)) }
 {
-    paged.places_fit();
     content_fits(cell, region);
     match first_attribute(paged, region, cell, AttrHead::HASH)? {
         Some((at, head)) => match stored_digest(paged, region, at + 8, head.len - 8)? {
@@ -69,7 +68,7 @@ fn stored_digest<F: Flash>(
     at: u64,
     n: u32,
 ) -> Result<Option<Digest>, FlashFault>
-    requires region { LiesIn region (F.facts paged.old.device).content }
+    requires region { LiesOn region (F.facts paged.old.device) }
     requires inside { at + n ≤ region.size }
     requires least { 4 ≤ n }
 
@@ -77,7 +76,6 @@ fn stored_digest<F: Flash>(
     ensures stored { ReadsAs F.facts paged.old region result
         (λ x. stored_digest (slice_range x at (at + n))) }
 {
-    paged.places_fit();
     let number = value_at(paged, region, at)?;
     let Some(algorithm) = Algorithm::numbered(number) else {
         return Ok(None);
@@ -96,7 +94,7 @@ fn content_digest<F: Flash>(
     cell: &Cell,
     stored: &Digest,
 ) -> Result<Digest, FlashFault>
-    requires region { LiesIn region (F.facts paged.old.device).content }
+    requires region { LiesOn region (F.facts paged.old.device) }
     requires cell { PassesChecks region.size cell.now }
 
     ensures passes { HasPassed F.facts region (content_start cell.now) (content_end cell.now)
@@ -125,7 +123,7 @@ fn hash_content<F: Flash, D: sha2::Digest>(
     region: Region,
     cell: &Cell,
 ) -> Result<D::Output, FlashFault>
-    requires region { LiesIn region (F.facts paged.old.device).content }
+    requires region { LiesOn region (F.facts paged.old.device) }
     requires cell { PassesChecks region.size cell.now }
 
     ensures passes { HasPassed F.facts region (content_start cell.now) (content_end cell.now)
@@ -133,7 +131,6 @@ fn hash_content<F: Flash, D: sha2::Digest>(
     ensures digest { OnHonestIn F.facts paged.old.device region (λ x.
         IfOk result (D.digest_of (content_at x cell.now))) }
 {
-    paged.places_fit();
     content_fits(cell, region);
     let mut hasher = D::new();
     let mut at = cell.at + u64::from(cell.head.offset);

@@ -5,7 +5,7 @@ ghost use Rattle.std.specs.Str.{bytes_eq};
 ghost use Rattle.flash_format.specs.Entry.{name_field, name_end, has_name, is_nul};
 ghost use Rattle.flash_format.specs.Components.{cell_name};
 ghost use Rattle.flash_device.specs.Pages.{HasAnswered, OnHonestIn};
-ghost use Rattle.flash_device.specs.Regions.{LiesIn};
+ghost use Rattle.flash_device.specs.Regions.{LiesOn};
 ghost use Rattle.cbfs_walk.specs.Walks.{HasPassed, ReadsAs, StandsIn, ReadsCellAs};
 ghost use Rattle.cbfs_walk.specs.Cells.{IsComponentIn, cell_in};
 
@@ -24,7 +24,7 @@ pub fn name<F: Flash>(
     cell: &Cell,
     out: &mut [u8; 256],
 ) -> Result<usize, FlashFault>
-    requires region { LiesIn region (F.facts paged.old.device).content }
+    requires region { LiesOn region (F.facts paged.old.device) }
     requires component { IsComponentIn region.size cell.now }
 
     ensures after { HasAnswered F.facts 1 paged.old paged.new result }
@@ -34,7 +34,6 @@ pub fn name<F: Flash>(
         → IfOk result (λ n. take n out.new ≡ cell_name (cell_in x cell.now))) }
     ensures len { ReadsCellAs F.facts paged.old region cell.now result (λ x. length (cell_name x)) }
 {
-    paged.places_fit();
     content_fits(cell, region);
     let n = name_room(&cell.head).min(LONGEST);
     let bytes = piece_in(paged, region, cell.at + 24, n)?;
@@ -49,7 +48,7 @@ pub fn name_is<F: Flash>(
     cell: &Cell,
     name: &[u8],
 ) -> Result<bool, FlashFault>
-    requires region { LiesIn region (F.facts paged.old.device).content }
+    requires region { LiesOn region (F.facts paged.old.device) }
     requires component { IsComponentIn region.size cell.now }
 
     ensures after { HasAnswered F.facts 1 paged.old paged.new result }
@@ -57,7 +56,6 @@ pub fn name_is<F: Flash>(
     ensures named { ReadsCellAs F.facts paged.old region cell.now result
         (λ x. bytes_eq (cell_name x) name.now) }
 {
-    paged.places_fit();
     content_fits(cell, region);
     if name.len() > LONGEST || name.len() >= name_room(&cell.head) {
         return Ok(false);
@@ -74,7 +72,7 @@ pub fn has_name_end<F: Flash>(
     at: u64,
     head: &Head,
 ) -> Result<bool, FlashFault>
-    requires region { LiesIn region (F.facts paged.old.device).content }
+    requires region { LiesOn region (F.facts paged.old.device) }
     requires inside { at + name_end head.now ≤ region.size }
     requires order { 24 ≤ name_end head.now }
 
@@ -82,7 +80,6 @@ pub fn has_name_end<F: Flash>(
     ensures ends { ReadsAs F.facts paged.old region result
         (λ x. has_name (name_field head.now (drop at x))) }
 {
-    paged.places_fit();
     let n = name_room(head).min(256);
     let bytes = piece_in(paged, region, at + 24, n)?;
     Ok(has_nul(bytes))

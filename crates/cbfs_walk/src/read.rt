@@ -3,7 +3,7 @@ ghost use Rattle.std.specs.Prelude.{◌≡◌, ◌+◌, ◌≤◌, length, slice
 ghost use Rattle.std.specs.Borrow.{sem};
 ghost use Rattle.std.specs.Io.BufRead.{Rests};
 ghost use Rattle.flash_device.specs.Pages.{OnHonestIn};
-ghost use Rattle.flash_device.specs.Regions.{LiesIn};
+ghost use Rattle.flash_device.specs.Regions.{LiesOn};
 ghost use Rattle.flash_device.specs.contracts.paged.Paged.{the_row};
 ghost use Rattle.cbfs_walk.specs.Walks.{HasPassed};
 
@@ -17,7 +17,7 @@ pub fn read_in<F: Flash>(
     at: u64,
     out: &mut [u8],
 ) -> Result<(), FlashFault>
-    requires region { LiesIn region (F.facts paged.old.device).content }
+    requires region { LiesOn region (F.facts paged.old.device) }
     requires inside { at + length out.old ≤ region.size }
     requires short { length out.old ≤ 256 }
 
@@ -25,7 +25,6 @@ pub fn read_in<F: Flash>(
     ensures read { OnHonestIn F.facts paged.old.device region (λ x.
         OnOk result (out.new ≡ slice_range x at (at + length out.old))) }
 {
-    paged.places_fit();
     paged.read_small(region.start() + at, out)
 }
 
@@ -37,7 +36,7 @@ pub fn piece_in<F: Flash>(
     at: u64,
     n: usize,
 ) -> Result<&[u8], FlashFault>
-    requires region { LiesIn region (F.facts paged.old.device).content }
+    requires region { LiesOn region (F.facts paged.old.device) }
     requires inside { at + n ≤ region.size }
     requires short { n ≤ 256 }
 
@@ -47,6 +46,5 @@ pub fn piece_in<F: Flash>(
     ensures read { OnHonestIn F.facts paged.old.device region (λ x.
         IfOk result (λ bytes. bytes.now ≡ slice_range x at (at + n))) }
 {
-    paged.places_fit();
     paged.piece(region.start() + at, n)
 }

@@ -5,7 +5,7 @@ ghost use Rattle.flash_format.specs.Head.{is_free};
 ghost use Rattle.flash_format.specs.Components.{cell_name, component_at};
 ghost use Rattle.flash_device.specs.Device.{fault_count};
 ghost use Rattle.flash_device.specs.Pages.{HasRead, HasAnswered, OnHonestIn};
-ghost use Rattle.flash_device.specs.Regions.{LiesIn};
+ghost use Rattle.flash_device.specs.Regions.{LiesOn};
 ghost use Rattle.cbfs_walk.specs.Cells.{IsCellIn, PassesChecks, cell_in};
 ghost use Rattle.cbfs_walk.specs.Walks.{StandsIn, ReadsCellAs, by_device};
 ghost use Rattle.cbfs_walk.specs.Finding.{component_in, found_cell, find_reads};
@@ -22,7 +22,7 @@ pub fn find<F: Flash>(
     region: Region,
     name: &[u8],
 ) -> Result<Option<Cell>, WalkFault>
-    requires { LiesIn region (F.facts paged.old.device).content }
+    requires { LiesOn region (F.facts paged.old.device) }
 
     ensures after { HasRead F.facts (find_reads region.size result) (fault_count by_device result)
         paged.old paged.new }
@@ -57,7 +57,7 @@ pub fn is_component<F: Flash>(
     cell: &Cell,
     name: &[u8],
 ) -> Result<bool, FlashFault>
-    requires region { LiesIn region (F.facts paged.old.device).content }
+    requires region { LiesOn region (F.facts paged.old.device) }
     requires cell { PassesChecks region.size cell.now }
 
     ensures after { HasAnswered F.facts 1 paged.old paged.new result }

@@ -4,7 +4,7 @@ ghost use Rattle.flash_format.specs.Entry.{front, component, name_end};
 ghost use Rattle.flash_format.specs.Head.{head_of};
 ghost use Rattle.flash_device.specs.Device.{fault_count};
 ghost use Rattle.flash_device.specs.Pages.{HasRead, OnHonestIn};
-ghost use Rattle.flash_device.specs.Regions.{LiesIn};
+ghost use Rattle.flash_device.specs.Regions.{LiesOn};
 ghost use Rattle.cbfs_walk.specs.Cells.{PassesChecks, content_start};
 ghost use Rattle.cbfs_walk.specs.Walks.{entry_or, by_device, walk_of, walk_after, answer_at, answer_of, GivesCell, reads_at, HasPassed, Passes, ReadsAs};
 ghost use Rattle.cbfs_walk.specs.Shapes.{has_bad_size};
@@ -100,7 +100,7 @@ impl Walk {
     /// after any other end, each call returns the same result. A call makes one device call, and
     /// another for each 3840 bytes of the cell, or of the remaining region without a cell.
     pub fn next<F: Flash>(&mut self, paged: &mut Paged<F>) -> Result<Step, WalkFault>
-        requires { LiesIn self.old.region (F.facts paged.old.device).content }
+        requires { LiesOn self.old.region (F.facts paged.old.device) }
 
         ensures after { HasRead F.facts (reads_at self.old.region.size self.old.at result)
             (fault_count by_device result) paged.old paged.new }
@@ -136,7 +136,7 @@ fn has_bad_size(size: u64) -> bool
 }
 
 fn answer_at<F: Flash>(paged: &mut Paged<F>, region: Region, at: u64) -> Result<Step, WalkFault>
-    requires region { LiesIn region (F.facts paged.old.device).content }
+    requires region { LiesOn region (F.facts paged.old.device) }
     requires inside { at ≤ region.size }
     requires aligned { at % 64 ≡ 0 }
 
@@ -172,7 +172,7 @@ fn answer_at<F: Flash>(paged: &mut Paged<F>, region: Region, at: u64) -> Result<
 }
 
 fn cell_at<F: Flash>(paged: &mut Paged<F>, region: Region, cell: &Cell) -> Result<Step, WalkFault>
-    requires region { LiesIn region (F.facts paged.old.device).content }
+    requires region { LiesOn region (F.facts paged.old.device) }
     requires cell { PassesChecks region.size cell.now }
 
     ensures passes { Passes F.facts region cell.now.at (content_start cell.now)
@@ -196,7 +196,7 @@ fn front_at<F: Flash>(
     region: Region,
     at: u64,
 ) -> Result<Option<Head>, FlashFault>
-    requires region { LiesIn region (F.facts paged.old.device).content }
+    requires region { LiesOn region (F.facts paged.old.device) }
     requires inside { at ≤ region.size }
 
     ensures passes { HasPassed F.facts region at at paged.old paged.new result }
@@ -217,7 +217,7 @@ fn damage_in<F: Flash>(
     at: u64,
     head: &Head,
 ) -> Result<Option<DamageKind>, FlashFault>
-    requires region { LiesIn region (F.facts paged.old.device).content }
+    requires region { LiesOn region (F.facts paged.old.device) }
     requires inside { at + head.now.offset ≤ region.size }
     requires room { 24 ≤ name_end head.now }
     requires placed { name_end head.now ≤ head.now.offset }
@@ -229,7 +229,6 @@ fn damage_in<F: Flash>(
     if !has_name_end(paged, region, at, head)? {
         return Ok(Some(DamageKind::Name));
     }
-    paged.places_fit();
     let from = at + u64::from(name_end(head));
     if !are_well_formed(paged, region, from, at + u64::from(head.offset))? {
         return Ok(Some(DamageKind::AttrLength));
