@@ -6,7 +6,7 @@ use Rattle.flash_format.specs.Cut.{Cut, cut}
 use Rattle.flash_device.specs.Device.{Device, fault_count}
 use Rattle.flash_device.specs.Pages.{Pages, HasRead}
 use Rattle.flash_device.proofs.WindowLemmas.{HasRead-none, HasRead-then, HasRead-within}
-use Rattle.flash_device.specs.Regions.{Range, LiesIn, bytes_in}
+use Rattle.flash_device.specs.Regions.{Range, LiesOn, bytes_in}
 use Rattle.flash_device.proofs.DeviceLemmas.{honest_still, length-bytes_in}
 use Rattle.cbfs_walk.specs.Cells.{IsCellIn, cell_in}
 use Rattle.cbfs_walk.specs.Walks.{reads_over, Answer, Walking, walk_of, answer_at, reads_at, StandsIn}
@@ -111,14 +111,14 @@ told_step : (s : Step) (b : Answer) → (let a : Answer = Ok s in IsErrOf a walk
 told_step s b (inl e) = absurd cc
 told_step s b (inr e) = e
 
-module _ {F S A : Type 0} (facts : F → Device) (r : Range) (sense : S → ℕ → Reading A) (want : Result A EditFault) (IsBefore : ℕ → S → Type 0) (w : Walking) (s : S) (old now : Pages F) (lies : LiesIn r (facts old.device).content) (i : Surveying facts r sense want IsBefore w s old now) where
+module _ {F S A : Type 0} (facts : F → Device) (r : Range) (sense : S → ℕ → Reading A) (want : Result A EditFault) (IsBefore : ℕ → S → Type 0) (w : Walking) (s : S) (old now : Pages F) (lies : LiesOn r (facts old.device)) (i : Surveying facts r sense want IsBefore w s old now) where
   abbrev x : List ℕ
   x = bytes_in r (facts old.device).content
 
   answered : (a : Answer) → IsTrue (facts old.device).honest → a ≡ answer_at (bytes_in w.region (facts now.device).content) w.at
       → (a ≡ answer_at x w.at) × (want ≡ found_by x (sense s w.at) a)
   answered a h is =
-      let len : length x ≡ r.size = length-bytes_in r (facts old.device).content lies in
+      let len : length x ≡ r.size = length-bytes_in r (facts old.device).content lies.inside in
       let here : a ≡ answer_at x w.at = is ∙ ap (λ (k : Range). answer_at (bytes_in k (facts now.device).content) w.at) i.region ∙ ap (λ (l : List ℕ). answer_at (bytes_in r l) w.at) (i.read.device.unchanged h) in
       (here, i.so_far h ∙ found_step x (sense s w.at) w.at (omega (arith, len, i.inside)) i.aligned ∙ ap (λ (b : Answer). found_by x (sense s w.at) b) (sym here))
 

@@ -8,7 +8,7 @@ ghost use Rattle.flash_format.specs.Made.{hash_len};
 ghost use Rattle.flash_device.specs.Device.{overwritten, Reads, fault_count};
 ghost use Rattle.flash_device.specs.Pages as copies;
 ghost use Rattle.flash_device.specs.Pages.{HasChanged, OnHonestIn};
-ghost use Rattle.flash_device.specs.Regions.{LiesIn};
+ghost use Rattle.flash_device.specs.Regions.{LiesOn};
 ghost use Rattle.cbfs_edit.specs.Changes.{OnHonestChange, HasCopied, AddLeavesBefore};
 ghost use Rattle.cbfs_edit.specs.Changes.{AddLeavesWhole, IsInsertStop, written_to, by_device};
 ghost use Rattle.cbfs_edit.specs.Changes.{by_source};
@@ -61,7 +61,7 @@ fn copy_content<F: Flash, S: Source>(
     hash: HashChoice,
     source: &mut S,
 ) -> Result<Option<Digest>, CopyFault>
-    requires region { LiesIn region (F.facts paged.old.device).content }
+    requires region { LiesOn region (F.facts paged.old.device) }
     requires inside { at + length (S.facts source.old).content ≤ region.size }
 
     ensures after { HasCopied F.facts region at paged.old paged.new (S.facts source.old)
@@ -143,7 +143,7 @@ fn insert<F: Flash, S: Source>(
     label: &Label<'_>,
     source: &mut S,
 ) -> Result<(), CopyFault>
-    requires region { LiesIn region (F.facts paged.old.device).content }
+    requires region { LiesOn region (F.facts paged.old.device) }
     requires fits { Fits wanted region.size place }
     requires name { length label.now.name.now ≤ 127 }
     requires wanted { wanted
@@ -163,7 +163,6 @@ fn insert<F: Flash, S: Source>(
         ((IsErrOf result CopyFault.Source → ⊥) × (IsTrue (S.facts source.old).honest →
         y ≡ added x (component_of_label label.now (S.facts source.old).content) place)) x y)) }
 {
-    paged.places_fit();
     let end = (place.content + wanted.len + 63) / 64 * 64;
     write_empty_entry(paged, region, place.run)?;
     let digest = copy_content(paged, region, place.content, label.hash, source)?;
@@ -237,7 +236,7 @@ pub fn add<F: Flash, S: Source>(
     spot: Spot,
     source: &mut S,
 ) -> Result<Placed, EditFault>
-    requires { LiesIn region (F.facts paged.old.device).content }
+    requires { LiesOn region (F.facts paged.old.device) }
 
     ensures after { HasChanged F.facts region (region.size / 16 + region.size / 2048 + 7)
         (fault_count by_device result) paged.old paged.new }
@@ -270,7 +269,6 @@ pub fn add<F: Flash, S: Source>(
         IsTrue (S.facts source.old).honest → IsErrOf result EditFault.Device
         → AddLeavesWhole x (new_component name.now kind hash (S.facts source.old).content) spot y) }
 {
-    paged.places_fit();
     if let Some(fault) = own_fault(name, kind, spot) {
         return Err(fault);
     }

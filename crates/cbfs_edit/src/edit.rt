@@ -1,7 +1,7 @@
 //! Lists of edits.
 ghost use Rattle.std.specs.Prelude.{◌≡◌, length, sum_by};
 ghost use Rattle.flash_device.specs.Pages.{HasChanged};
-ghost use Rattle.flash_device.specs.Regions.{LiesIn};
+ghost use Rattle.flash_device.specs.Regions.{LiesOn};
 ghost use Rattle.cbfs_edit.specs.Changes.{by_device};
 ghost use Rattle.cbfs_edit.specs.Steps.{Run, Step, edit_calls, faults_of};
 
@@ -47,7 +47,7 @@ pub fn apply_all<F: Flash, S: Source>(
     edits: &mut [Edit<'_, S>],
     replies: &mut [Reply],
 )
-    requires region { LiesIn region (F.facts paged.old.device).content }
+    requires region { LiesOn region (F.facts paged.old.device) }
     requires same_length { length edits.old ≡ length replies.old }
 
     ensures after { HasChanged F.facts region (sum_by (edit_calls region.size) edits.old)
@@ -62,7 +62,7 @@ pub fn apply_all<F: Flash, S: Source>(
 
 /// Applies an edit.
 fn apply<F: Flash, S: Source>(paged: &mut Paged<F>, region: Region, edit: &mut Edit<'_, S>) -> Reply
-    requires { LiesIn region (F.facts paged.old.device).content }
+    requires { LiesOn region (F.facts paged.old.device) }
 
     ensures after { HasChanged F.facts region (edit_calls region.size edit.old)
         (faults_of by_device result) paged.old paged.new }

@@ -3,7 +3,7 @@ ghost use Rattle.std.specs.Prelude.{◌≡◌, ◌≢◌, ◌⊎◌, ◌+◌, �
 ghost use Rattle.std.specs.Prelude.{IsErrOf, IfErr, OnOk};
 ghost use Rattle.flash_device.specs.Device.{fault_count};
 ghost use Rattle.flash_device.specs.Pages.{HasChanged};
-ghost use Rattle.flash_device.specs.Regions.{LiesIn};
+ghost use Rattle.flash_device.specs.Regions.{LiesOn};
 ghost use Rattle.cbfs_walk.specs.Shapes.{has_bad_size};
 ghost use Rattle.cbfs_edit.specs.Changes.{OnHonestChange, by_device};
 ghost use Rattle.cbfs_edit.specs.Formats.{formatted, IsOneFreeCell};
@@ -17,7 +17,7 @@ use flash_device::{Flash, Paged, Region};
 /// Formats the region as a single empty entry, without reading, and keeps its last four bytes. A
 /// device fault leaves the region unchanged, or a single free cell.
 pub fn format<F: Flash>(paged: &mut Paged<F>, region: Region) -> Result<(), EditFault>
-    requires { LiesIn region (F.facts paged.old.device).content }
+    requires { LiesOn region (F.facts paged.old.device) }
 
     ensures after { HasChanged F.facts region (region.size / 4096 + 2)
         (fault_count by_device result) paged.old paged.new }
@@ -33,7 +33,6 @@ pub fn format<F: Flash>(paged: &mut Paged<F>, region: Region) -> Result<(), Edit
         IsErrOf result EditFault.Device
         → ((y ≡ x) ⊎ IsOneFreeCell y) × (last_four y ≡ last_four x)) }
 {
-    paged.places_fit();
     let end = region.size();
     if end == 0 || end % 64 != 0 {
         return Err(EditFault::RegionShape);

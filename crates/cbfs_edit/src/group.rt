@@ -3,7 +3,7 @@ ghost use Rattle.std.specs.Prelude.{◌≡◌, ◌⊎◌, ℕ, ◌+◌, ◌/◌,
 ghost use Rattle.std.specs.Prelude.{IsErrOf};
 ghost use Rattle.flash_device.specs.Device.{fault_count};
 ghost use Rattle.flash_device.specs.Pages.{HasRead, HasAnswered, OnHonestIn};
-ghost use Rattle.flash_device.specs.Regions.{LiesIn};
+ghost use Rattle.flash_device.specs.Regions.{LiesOn};
 ghost use Rattle.cbfs_walk.specs.Cells.{IsCellIn, cell_in};
 ghost use Rattle.cbfs_walk.specs.Walks.{StandsIn};
 ghost use Rattle.cbfs_edit.specs.Removals.{IsCellRange, removal_in};
@@ -40,7 +40,7 @@ pub fn find_group<F: Flash>(
     region: Region,
     name: &[u8],
 ) -> Result<CellRange, EditFault>
-    requires { LiesIn region (F.facts paged.old.device).content }
+    requires { LiesOn region (F.facts paged.old.device) }
 
     ensures after { HasRead F.facts (region.size / 16 + 1) (fault_count by_device result)
         paged.old paged.new }
@@ -69,7 +69,7 @@ fn pass<F: Flash>(
     name: &[u8],
     search: Search,
 ) -> Result<Search, FlashFault>
-    requires region { LiesIn region (F.facts paged.old.device).content }
+    requires region { LiesOn region (F.facts paged.old.device) }
     requires cell { IsCellIn region.size cell.now }
     requires before { IsBefore cell.now.at search }
 
@@ -80,7 +80,6 @@ fn pass<F: Flash>(
         (cells : List (List ℕ)) → group_by name.now search cell.now.at (cell_in x cell.now ∷ cells)
         ≡ group_by name.now next (cell.now.at + cell.now.span) cells)) }
 {
-    paged.places_fit();
     cells_stand_in_their_image();
     let end = cell.at + cell.span;
     match search {

@@ -4,7 +4,7 @@
 //! component. Bytes written between the commits are free space.
 ghost use Rattle.std.specs.Prelude.{◌≡◌, ◌⊎◌, ◌-◌, ◌%◌, ◌^◌, ◌<◌, ◌≤◌, length};
 ghost use Rattle.flash_format.specs.Made.{header_length, metadata_of, described_len};
-ghost use Rattle.flash_device.specs.Regions.{LiesIn};
+ghost use Rattle.flash_device.specs.Regions.{LiesOn};
 ghost use Rattle.cbfs_edit.specs.Changes.{HasWrittenIn};
 ghost use Rattle.cbfs_edit.specs.Additions.{HasRoom, IsUnfinished, with_bound, with_component};
 ghost use Rattle.cbfs_edit.specs.Additions.{with_metadata, held_back, shown_by};
@@ -32,7 +32,7 @@ fn write_metadata<F: Flash>(
     end: u64,
     metadata: &[u8],
 ) -> Result<(), FlashFault>
-    requires region { LiesIn region (F.facts paged.old.device).content }
+    requires region { LiesOn region (F.facts paged.old.device) }
     requires room { HasRoom region.size place end (length metadata.now) }
 
     ensures { HasWrittenIn F.facts region 1 (λ x. with_metadata x place metadata.now)
@@ -49,7 +49,7 @@ fn write_bound<F: Flash>(
     place: Place,
     end: u64,
 ) -> Result<(), FlashFault>
-    requires region { LiesIn region (F.facts paged.old.device).content }
+    requires region { LiesOn region (F.facts paged.old.device) }
     requires room { HasRoom region.size place end (place.content - place.header) }
 
     ensures { HasWrittenIn F.facts region 1 (λ x. with_bound x end place.run.end)
@@ -89,7 +89,7 @@ fn show<F: Flash>(
     end: u64,
     metadata: &[u8],
 ) -> Result<(), FlashFault>
-    requires region { LiesIn region (F.facts paged.old.device).content }
+    requires region { LiesOn region (F.facts paged.old.device) }
     requires room { HasRoom region.size place end (length metadata.now) }
 
     ensures { HasWrittenIn F.facts region 3 (λ x. with_component x place end metadata.now)
@@ -110,7 +110,7 @@ pub fn describe<F: Flash>(
     end: u64,
     meta: &Meta<'_>,
 ) -> Result<(), FlashFault>
-    requires region { LiesIn region (F.facts paged.old.device).content }
+    requires region { LiesOn region (F.facts paged.old.device) }
     requires room { HasRoom region.size place end (described_len meta.now) }
     requires name { length meta.now.name.now ≤ 127 }
     requires gap { meta.now.gap < 64 }

@@ -4,7 +4,7 @@ ghost use Rattle.std.specs.Prelude.{◌≡◌, ◌≢◌, ◌⊎◌, ℕ, ◌+�
 ghost use Rattle.std.specs.Prelude.{false, nat_lt, if◌then◌else◌, IfOk, IfErr, IfSome, IsErrOf};
 ghost use Rattle.flash_device.specs.Device.{fault_count};
 ghost use Rattle.flash_device.specs.Pages.{HasRead, HasAnswered, OnHonestIn};
-ghost use Rattle.flash_device.specs.Regions.{LiesIn};
+ghost use Rattle.flash_device.specs.Regions.{LiesOn};
 ghost use Rattle.cbfs_walk.specs.Cells.{IsCellIn, cell_in};
 ghost use Rattle.cbfs_walk.specs.Walks.{StandsIn};
 ghost use Rattle.cbfs_edit.specs.Removals.{IsCellRange};
@@ -66,7 +66,7 @@ pub fn find_place<F: Flash>(
     name: &[u8],
     wanted: Wanted,
 ) -> Result<Place, EditFault>
-    requires region { LiesIn region (F.facts paged.old.device).content }
+    requires region { LiesOn region (F.facts paged.old.device) }
     requires wanted { IsWanted wanted }
 
     ensures after { HasRead F.facts (region.size / 16 + 1) (fault_count by_device result)
@@ -77,7 +77,6 @@ pub fn find_place<F: Flash>(
     ensures answer { OnHonestIn F.facts paged.old.device region (λ x.
         IsErrOf result EditFault.Device ⊎ (result ≡ placing_in x name.now wanted)) }
 {
-    paged.places_fit();
     let mut walk = Walk::new(region);
     let mut survey = Survey {
         row: CellRange { start: 0, end: 0 },
@@ -102,7 +101,7 @@ fn pass<F: Flash>(
     wanted: Wanted,
     survey: Survey,
 ) -> Result<Survey, FlashFault>
-    requires region { LiesIn region (F.facts paged.old.device).content }
+    requires region { LiesOn region (F.facts paged.old.device) }
     requires cell { IsCellIn region.size cell.now }
     requires before { IsSurvey wanted region.size cell.now.at survey }
 
@@ -113,7 +112,6 @@ fn pass<F: Flash>(
         → place_by name.now wanted region.size survey (cell_in x cell.now ∷ cells)
         ≡ place_by name.now wanted region.size next cells)) }
 {
-    paged.places_fit();
     cells_stand_in_their_image();
     let end = survey.row.end + cell.span;
     if cell.head.is_free() {

@@ -2,7 +2,7 @@
 ghost use Rattle.std.specs.Prelude.{◌≡◌, ◌≢◌, ◌⊎◌, ◌+◌, ◌/◌, ◌<◌, IsTrue, IfOk, IfErr, IsErrOf};
 ghost use Rattle.flash_device.specs.Device.{overwritten, fault_count};
 ghost use Rattle.flash_device.specs.Pages.{HasChanged, OnHonestIn};
-ghost use Rattle.flash_device.specs.Regions.{LiesIn};
+ghost use Rattle.flash_device.specs.Regions.{LiesOn};
 ghost use Rattle.cbfs_edit.specs.Changes.{OnHonestChange, LeavesWhole, by_device};
 ghost use Rattle.cbfs_edit.specs.Removals.{removed, removal_in};
 
@@ -23,7 +23,7 @@ pub fn remove<F: Flash>(
     region: Region,
     name: &[u8],
 ) -> Result<Freed, EditFault>
-    requires { LiesIn region (F.facts paged.old.device).content }
+    requires { LiesOn region (F.facts paged.old.device) }
 
     ensures after { HasChanged F.facts region (region.size / 16 + region.size / 4096 + 3)
         (fault_count by_device result) paged.old paged.new }
@@ -42,7 +42,6 @@ pub fn remove<F: Flash>(
     ensures stopped { OnHonestChange F.facts region paged.old paged.new (λ x y.
         IsErrOf result EditFault.Device → LeavesWhole x name.now y) }
 {
-    paged.places_fit();
     let group = find_group(paged, region, name)?;
     write_empty_entry(paged, region, group)?;
     Ok(group)

@@ -3,7 +3,7 @@ ghost use Rattle.std.specs.Prelude.{◌≡◌, ◌⊎◌, ℕ, List, ◌++◌, �
 ghost use Rattle.std.specs.Prelude.{OnOk, OnErr, replicate};
 ghost use Rattle.flash_format.specs.Made.{header_length};
 ghost use Rattle.flash_device.specs.Device.{overwritten, SameOutside};
-ghost use Rattle.flash_device.specs.Regions.{LiesIn};
+ghost use Rattle.flash_device.specs.Regions.{LiesOn};
 ghost use Rattle.cbfs_edit.specs.Changes.{HasCopied, HasWrittenIn, IsOldOrEmptied};
 ghost use Rattle.cbfs_edit.specs.Removals.{IsCellRange, removed, space_end};
 
@@ -20,13 +20,12 @@ pub fn commit_in<F: Flash>(
     at: u64,
     bytes: &[u8; HEADER_LENGTH],
 ) -> Result<(), FlashFault>
-    requires region { LiesIn region (F.facts paged.old.device).content }
+    requires region { LiesOn region (F.facts paged.old.device) }
     requires inside { at + header_length ≤ region.size }
 
     ensures { HasWrittenIn F.facts region 1 (λ x. overwritten x at bytes.now)
         (λ x y. (y ≡ x) ⊎ (y ≡ overwritten x at bytes.now)) paged.old paged.new result }
 {
-    paged.places_fit();
     paged.commit(region.start() + at, bytes)
 }
 
@@ -38,13 +37,12 @@ pub fn fill_in<F: Flash>(
     n: u64,
     byte: u8,
 ) -> Result<(), FlashFault>
-    requires region { LiesIn region (F.facts paged.old.device).content }
+    requires region { LiesOn region (F.facts paged.old.device) }
     requires inside { at + n ≤ region.size }
 
     ensures { HasWrittenIn F.facts region ((n + 4095) / 4096)
         (λ x. overwritten x at (replicate n byte)) (SameOutside at n) paged.old paged.new result }
 {
-    paged.places_fit();
     paged.fill(region.start() + at, n, byte)
 }
 
@@ -56,7 +54,7 @@ pub fn copy_into<F: Flash, S: Source, W: Watch>(
     source: &mut S,
     watch: &mut W,
 ) -> Result<(), CopyFault>
-    requires region { LiesIn region (F.facts paged.old.device).content }
+    requires region { LiesOn region (F.facts paged.old.device) }
     requires inside { at + length (S.facts source.old).content ≤ region.size }
 
     ensures after { HasCopied F.facts region at paged.old paged.new (S.facts source.old)
@@ -66,7 +64,6 @@ pub fn copy_into<F: Flash, S: Source, W: Watch>(
     ensures shown { IsTrue (S.facts source.old).honest → (seen : List ℕ) → W.saw watch.old seen →
         OnOk result (W.saw watch.new (seen ++ (S.facts source.old).content)) }
 {
-    paged.places_fit();
     let n = source.len();
     paged.copy_in_watched(region.start() + at, n, source, watch)
 }
@@ -78,7 +75,7 @@ pub fn write_in<F: Flash>(
     at: u64,
     bytes: &[u8],
 ) -> Result<(), FlashFault>
-    requires region { LiesIn region (F.facts paged.old.device).content }
+    requires region { LiesOn region (F.facts paged.old.device) }
     requires inside { at + length bytes.now ≤ region.size }
     requires short { length bytes.now ≤ 4096 }
 
@@ -98,13 +95,12 @@ pub fn write_empty_entry<F: Flash>(
     region: Region,
     group: CellRange,
 ) -> Result<(), FlashFault>
-    requires region { LiesIn region (F.facts paged.old.device).content }
+    requires region { LiesOn region (F.facts paged.old.device) }
     requires group { IsCellRange group region.size }
 
     ensures { HasWrittenIn F.facts region (region.size / 4096 + 2) (λ x. removed x group)
         (IsOldOrEmptied group (space_end region.size group.end)) paged.old paged.new result }
 {
-    paged.places_fit();
     let kept = group.end == region.size();
     let header = empty_header((group.end - group.start) as u32, kept);
     commit_in(paged, region, group.start, &header)?;

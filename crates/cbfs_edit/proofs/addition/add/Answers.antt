@@ -40,7 +40,7 @@ returns-in-Ok g c =
       refused = search rules;
       before = λ honest failed. no_error failed;
       added = done;
-      image = λ honest source_honest. image_of c.args.region _ _ _ _ c.requires (same honest) c.insert.ensures.after.calls.same_length (c.insert.ensures.after.outside (still honest)) (done honest source_honest);
+      image = λ honest source_honest. image_of c.args.region _ _ _ _ c.requires.inside (same honest) c.insert.ensures.after.calls.same_length (c.insert.ensures.after.outside (still honest)) (done honest source_honest);
       stopped = λ honest source_honest failed. no_error failed;
     }
 
@@ -58,7 +58,7 @@ returns-in-Err-Device g c =
       before = λ honest failed. device_for_source failed;
       added = search rules;
       image = search rules;
-      stopped = λ honest source_honest failed. device_leaves c.args.region new c.args.spot c.in_ok-place.place _ _ _ (IsTrue (g.S.Source.facts c.args.source.now).honest) _ _ c.requires c.places_fit.ensures c.ranges.kind.fits (omega (arith, c.len.ensures)) (ap (λ (w : Wanted). w.len) (c.wanted_of-wanted.ensures new.content c.len.ensures.length))
+      stopped = λ honest source_honest failed. device_leaves c.args.region new c.args.spot c.in_ok-place.place _ _ _ (IsTrue (g.S.Source.facts c.args.source.now).honest) _ _ c.requires.inside c.requires.below c.ranges.kind.fits (omega (arith, c.len.ensures)) (ap (λ (w : Wanted). w.len) (c.wanted_of-wanted.ensures new.content c.len.ensures.length))
           (digest-sized c.args.hash new.content) (c.find_place.ensures.after.device.unchanged honest) (is honest) ((rw c.in-Err-Device.field-0-is at c.in-Err-Device.ensures.stopped) (honest_still c.find_place.ensures.after.device.calls.same_honesty honest)) source_honest;
     }
 
@@ -73,7 +73,7 @@ returns-in-Err-Source g c =
       words = rw (← passed) tt;
       answer = λ honest. inr (inl refl);
       refused = λ honest other another. absurd (another refl);
-      before = λ honest failed. source_leaves c.args.region new c.args.spot c.in_ok-place.place _ _ _ (IsTrue (g.S.Source.facts c.args.source.now).honest) _ _ c.requires c.places_fit.ensures c.ranges.kind.fits (omega (arith, c.len.ensures)) (ap (λ (w : Wanted). w.len) (c.wanted_of-wanted.ensures new.content c.len.ensures.length))
+      before = λ honest failed. source_leaves c.args.region new c.args.spot c.in_ok-place.place _ _ _ (IsTrue (g.S.Source.facts c.args.source.now).honest) _ _ c.requires.inside c.requires.below c.ranges.kind.fits (omega (arith, c.len.ensures)) (ap (λ (w : Wanted). w.len) (c.wanted_of-wanted.ensures new.content c.len.ensures.length))
           (digest-sized c.args.hash new.content) (c.find_place.ensures.after.device.unchanged honest) (is honest) ((rw c.in-Err-Source.field-0-is at c.in-Err-Source.ensures.stopped) (honest_still c.find_place.ensures.after.device.calls.same_honesty honest)) refl;
       added = search rules;
       image = search rules;

@@ -12,7 +12,7 @@ returns g c =
       written = λ honest.
           on_ok_weaker c.write_in.result
           (bound-is c.args.region.size c.args.place c.args.end metadata c.requires.room _ _ c.empty_header-header.result c.size.result
-          (c.size.ensures ∙ sym (length-bytes_in c.args.region _ c.requires.region)) c.empty_header-header.ensures c.if-end-place.false)
+          (c.size.ensures ∙ sym (length-bytes_in c.args.region _ c.requires.region.inside)) c.empty_header-header.ensures c.if-end-place.false)
           (c.write_in.ensures.written honest);
       left = λ honest. bound-within c.args.region.size c.args.place c.args.end metadata c.requires.room _ _ _ (search rules) c.if-end-place.false (c.write_in.ensures.left honest);
     }

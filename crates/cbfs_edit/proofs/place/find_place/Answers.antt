@@ -12,8 +12,8 @@ loop-cell-init g c =
     let r = c.args.region in
     let x = bytes_in r (g.F.Flash.facts c.args.paged.now.device).content in
     rw c.new-walk.ensures (surveying_start g.F.Flash.facts r (λ s at cells. place_by c.args.name.now c.args.wanted r.size s cells) (placing_in x c.args.name.now c.args.wanted) (IsSurvey c.args.wanted r.size) nothing_passed c.args.paged.now
-    (record { asked = c.requires.wanted; small = omega (arith, c.requires.region, c.places_fit.ensures); here = refl; order = omega arith; inside = omega arith; start_aligned = refl; end_aligned = refl; place = tt })
-    (place_searched x c.args.name.now c.args.wanted r.size (length-bytes_in r _ c.requires.region)))
+    (record { asked = c.requires.wanted; small = omega (arith, c.requires.region.inside, c.requires.region.below); here = refl; order = omega arith; inside = omega arith; start_aligned = refl; end_aligned = refl; place = tt })
+    (place_searched x c.args.name.now c.args.wanted r.size (length-bytes_in r _ c.requires.region.inside)))
 
 pub loop-cell-preserved : goal.loop-cell-preserved
 loop-cell-preserved g c =

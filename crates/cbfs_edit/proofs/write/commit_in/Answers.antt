@@ -14,8 +14,8 @@ returns g c = record {
   };
   written = λ honest.
       written_ok c.commit.result c.args.region (g.F.Flash.facts c.args.paged.now.device).content _ (c.start.result + c.args.at) c.args.at header_length c.args.bytes.now
-      c.requires.region (omega arith) (search rules) c.requires.inside (c.commit.ensures.after.written honest);
+      c.requires.region.inside (omega arith) (search rules) c.requires.inside (c.commit.ensures.after.written honest);
   left = λ honest.
       written_whole c.args.region (g.F.Flash.facts c.args.paged.now.device).content _ (c.start.result + c.args.at) c.args.at header_length c.args.bytes.now
-      c.requires.region (omega arith) (search rules) c.requires.inside (c.commit.ensures.after.whole honest);
+      c.requires.region.inside (omega arith) (search rules) c.requires.inside (c.commit.ensures.after.whole honest);
 }

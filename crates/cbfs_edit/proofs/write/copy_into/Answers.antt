@@ -21,7 +21,7 @@ returns-clause-after g c =
       source = record { calls = rw (← c.len-n.ensures.length) copied.source_calls; unchanged = copied.same_source };
       no_output = copied.no_output;
       copied = λ honest source_honest.
-          written_ok c.copy_in_watched.result r old _ at c.args.at (length content) content c.requires.region (omega arith) refl c.requires.inside
+          written_ok c.copy_in_watched.result r old _ at c.args.at (length content) content c.requires.region.inside (omega arith) refl c.requires.inside
           (on_ok_weaker c.copy_in_watched.result (λ e. e ∙ ap (λ (l : List ℕ). overwritten old at l) all) (copied.copied honest source_honest));
       torn = λ honest. changed_at r old _ at c.args.at (length content) (omega arith) c.requires.inside (rw c.len-n.ensures.length at (copied.outside honest));
     }

@@ -12,6 +12,6 @@ returns g c =
     record {
       after = record { calls = filled.calls; outside = λ honest. outside_of r old _ at c.args.at c.args.n (omega arith) c.requires.inside (filled.outside honest) };
       written = λ honest.
-          written_ok c.fill.result r old _ at c.args.at c.args.n (replicate c.args.n c.args.byte) c.requires.region (omega arith) (length-replicate {A = ℕ} c.args.n c.args.byte) c.requires.inside (filled.filled honest);
+          written_ok c.fill.result r old _ at c.args.at c.args.n (replicate c.args.n c.args.byte) c.requires.region.inside (omega arith) (length-replicate {A = ℕ} c.args.n c.args.byte) c.requires.inside (filled.filled honest);
       left = λ honest. changed_at r old _ at c.args.at c.args.n (omega arith) c.requires.inside (filled.outside honest);
     }

@@ -7,7 +7,7 @@ use Rattle.cbfs_edit.proofs.write.write_empty_entry.Goals as goal
 
 pub returns-in_err-commit_in : goal.returns-in_err-commit_in
 returns-in_err-commit_in g c =
-    let left = λ (honest : IsTrue (g.F.Flash.facts c.args.paged.now.device).honest). commit_left c.args.region c.args.group _ c.empty_header-header.result c.size.result c.requires.region c.requires.group c.size.ensures c.empty_header-header.ensures _ (c.commit_in.ensures.left honest) in
+    let left = λ (honest : IsTrue (g.F.Flash.facts c.args.paged.now.device).honest). commit_left c.args.region c.args.group _ c.empty_header-header.result c.size.result c.requires.region.inside c.requires.group c.size.ensures c.empty_header-header.ensures _ (c.commit_in.ensures.left honest) in
     record { after = search rules; written = search rules; left = left }
 
 pub returns : goal.returns
@@ -18,10 +18,10 @@ returns g c =
       after = search rules;
       written = λ honest.
           on_ok_weaker c.fill_in.result
-          (fill_done c.args.region c.args.group _ c.empty_header-header.result c.size.result c.requires.region c.requires.group c.size.ensures c.empty_header-header.ensures _ _ n (c.in_ok-commit_in.ensures.written honest) is_n)
+          (fill_done c.args.region c.args.group _ c.empty_header-header.result c.size.result c.requires.region.inside c.requires.group c.size.ensures c.empty_header-header.ensures _ _ n (c.in_ok-commit_in.ensures.written honest) is_n)
           (c.fill_in.ensures.written (honest_still c.commit_in.ensures.after.calls.same_honesty honest));
       left = λ honest.
-          fill_left c.args.region c.args.group _ c.empty_header-header.result c.size.result c.requires.region c.requires.group c.size.ensures c.empty_header-header.ensures _ _ n (c.in_ok-commit_in.ensures.written honest) is_n
-          (same_region_length c.args.region _ _ _ c.requires.region c.commit_in.ensures.after.calls.same_length c.fill_in.ensures.after.calls.same_length)
+          fill_left c.args.region c.args.group _ c.empty_header-header.result c.size.result c.requires.region.inside c.requires.group c.size.ensures c.empty_header-header.ensures _ _ n (c.in_ok-commit_in.ensures.written honest) is_n
+          (same_region_length c.args.region _ _ _ c.requires.region.inside c.commit_in.ensures.after.calls.same_length c.fill_in.ensures.after.calls.same_length)
           (c.fill_in.ensures.left (honest_still c.commit_in.ensures.after.calls.same_honesty honest));
     }
