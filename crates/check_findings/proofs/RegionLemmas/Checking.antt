@@ -7,7 +7,7 @@ use Rattle.flash_format.specs.Entry.{Entry, absent, cell, damaged, entry}
 use Rattle.flash_device.specs.Device.{Device}
 use Rattle.flash_device.specs.Pages.{Pages, HasRead}
 use Rattle.flash_device.proofs.WindowLemmas.{HasRead-none, HasRead-then, HasRead-within}
-use Rattle.flash_device.specs.Regions.{Range, LiesIn, bytes_in}
+use Rattle.flash_device.specs.Regions.{Range, LiesOn, bytes_in}
 use Rattle.flash_device.proofs.DeviceLemmas.{honest_still, length-bytes_in}
 use Rattle.cbfs_walk.specs.Cells.{IsCellIn, cell_in}
 use Rattle.cbfs_walk.specs.Walks.{reads_over, Answer, Walking, walk_of, answer_at, answer_by, StandsIn}
@@ -125,7 +125,7 @@ pub record Checking {F : Type 0} (facts : F → Device) (r : Range) (w : Walking
   pub before : IsCountBefore w.at count
   pub so_far : IsTrue (facts old.device).honest → (t : Reported) × HasReported report t × (region_findings (bytes_in r (facts old.device).content) ≡ findings_from (bytes_in r (facts old.device).content) t count w.at)
 
-pub checking_start : {F : Type 0} (facts : F → Device) (r : Range) (report : Report) (old : Pages F) → LiesIn r (facts old.device).content → report.findings.items ≡ [] → report.names.keys ≡ []
+pub checking_start : {F : Type 0} (facts : F → Device) (r : Range) (report : Report) (old : Pages F) → LiesOn r (facts old.device) → report.findings.items ≡ [] → report.names.keys ≡ []
     → Checking facts r (walk_of r) report (nothing r.size) old old
 checking_start facts r report old lies none unnamed = record {
   region = refl;
@@ -134,7 +134,7 @@ checking_start facts r report old lies none unnamed = record {
   aligned = refl;
   read = HasRead-within facts 0 (0 / 16) 0 old old (omega arith) (HasRead-none facts old);
   before = record { components = omega arith; free = omega arith };
-  so_far = λ h. (nothing_reported, (none, rw unnamed (λ q. refl)), whole_findings (bytes_in r (facts old.device).content) ∙ ap (λ n. findings_from (bytes_in r (facts old.device).content) nothing_reported (nothing n) 0) (length-bytes_in r (facts old.device).content lies));
+  so_far = λ h. (nothing_reported, (none, rw unnamed (λ q. refl)), whole_findings (bytes_in r (facts old.device).content) ∙ ap (λ n. findings_from (bytes_in r (facts old.device).content) nothing_reported (nothing n) 0) (length-bytes_in r (facts old.device).content lies.inside));
 }
 
 -- a step is no device fault
@@ -142,7 +142,7 @@ no_fault : (s : Step) (b : Answer) → (let a : Answer = Ok s in IsErrOf a walk.
 no_fault s b (inl e) = absurd cc
 no_fault s b (inr e) = e
 
-module _ {F : Type 0} (facts : F → Device) (r : Range) (w : Walking) (report : Report) (count : Count) (old now : Pages F) (lies : LiesIn r (facts old.device).content) (i : Checking facts r w report count old now) where
+module _ {F : Type 0} (facts : F → Device) (r : Range) (w : Walking) (report : Report) (count : Count) (old now : Pages F) (lies : LiesOn r (facts old.device)) (i : Checking facts r w report count old now) where
   abbrev x : List ℕ
   x = bytes_in r (facts old.device).content
 
@@ -153,7 +153,7 @@ module _ {F : Type 0} (facts : F → Device) (r : Range) (w : Walking) (report :
   answered : (a : Answer) → IsTrue (facts old.device).honest → a ≡ answer_at (bytes_in w.region (facts now.device).content) w.at
       → (a ≡ answer_at x w.at) × ((t : Reported) × HasReported report t × (region_findings x ≡ findings_by x t count a))
   answered a h is =
-      let len : length x ≡ r.size = length-bytes_in r (facts old.device).content lies in
+      let len : length x ≡ r.size = length-bytes_in r (facts old.device).content lies.inside in
       let here : a ≡ answer_at x w.at = is ∙ ap (λ (k : Range). answer_at (bytes_in k (facts now.device).content) w.at) i.region ∙ ap (λ (l : List ℕ). answer_at (bytes_in r l) w.at) (i.read.device.unchanged h) in
       let known = i.so_far h in
       (here, (known.0, known.1, known.2 ∙ by_step x known.0 count w.at (omega (arith, len, i.inside)) i.aligned ∙ ap (λ (b : Answer). findings_by x known.0 count b) (sym here)))
@@ -207,7 +207,7 @@ module _ {F : Type 0} (facts : F → Device) (r : Range) (w : Walking) (report :
   pub checking_end : (next : Report) (end : ℕ) (all : List RegionFinding) → Answers (Ok steps.End) → end ≡ r.size → Reports {E = CheckFault} (Ok tt) report next (λ t. with_findings t (findings.Complete ∷ []))
       → ((t : Reported) → HasReported next t → all ≡ t.findings ++ counted count end) → IsTrue (facts old.device).honest → all ≡ region_findings x
   checking_end next end all answer place reports is_all =
-      let same : end ≡ length x = place ∙ sym (length-bytes_in r (facts old.device).content lies) in
+      let same : end ≡ length x = place ∙ sym (length-bytes_in r (facts old.device).content lies.inside) in
       stopped steps.End next (findings.Complete ∷ []) end all answer reports is_all (λ t. by_end x t count ∙ ap (λ p. t.findings ++ findings.Complete ∷ counted count p) (sym same))
 
   pub checking_tail : (at here n : ℕ) (mid : Pages F) (next : Report) (all : List RegionFinding) → Answers (Ok (steps.Tail at)) → here ≡ w.at → HasRead facts n 0 now mid

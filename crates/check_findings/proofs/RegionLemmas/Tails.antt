@@ -8,7 +8,7 @@ use Rattle.std.proofs.lemmas.List.{drop_all, drop-drop, take_all, take-take}
 use Rattle.std.proofs.lemmas.List.Elements.{All-nil, All-cons, All-head, All-tail}
 use Rattle.flash_device.specs.Device.{Device}
 use Rattle.flash_device.specs.Pages.{Pages, HasRead}
-use Rattle.flash_device.specs.Regions.{LiesIn, Range, bytes_in}
+use Rattle.flash_device.specs.Regions.{LiesOn, Range, bytes_in}
 use Rattle.flash_device.proofs.DeviceLemmas.{honest_still, length-bytes_in}
 use Rattle.cbfs_walk.proofs.Parts.{length-range, part-in, range_is, range-after}
 use Rattle.check_findings.specs.Region.Laws.{BlankTailsAreKnown}
@@ -66,13 +66,13 @@ pub none_or : (a b : Option ℕ) → is_some a ≡ false → option_or a b ≡ b
 none_or None b e = refl
 none_or (Some k) b e = absurd cc
 
-pub piece_read : {F : Type 0} (facts : F → Device) (r : Range) (at k n m : ℕ) (old now : Pages F) (bytes : List ℕ) → LiesIn r (facts old.device).content → HasRead facts m 0 old now
+pub piece_read : {F : Type 0} (facts : F → Device) (r : Range) (at k n m : ℕ) (old now : Pages F) (bytes : List ℕ) → LiesOn r (facts old.device) → HasRead facts m 0 old now
     → at + k < r.size - 4 → n ≡ min (r.size - at - 4 - k) 4096 → (IsTrue (facts now.device).honest → bytes ≡ slice_range (facts now.device).content (r.start + (at + k)) (r.start + (at + k) + n))
     → IsTrue (facts old.device).honest → bytes ≡ take 4096 (drop k (tail_bytes at (bytes_in r (facts old.device).content)))
 piece_read facts r at k n m old now bytes lies read inside is shown h =
     let image = (facts old.device).content in
     let x = bytes_in r image in
-    let len : length x ≡ r.size = length-bytes_in r image lies in
+    let len : length x ≡ r.size = length-bytes_in r image lies.inside in
     shown (honest_still read.device.calls.same_honesty h) ∙ ap (λ l. slice_range l (r.start + (at + k)) (r.start + (at + k) + n)) (read.device.unchanged h)
     ∙ part-in image r (at + k) n (omega (arith, is, inside)) ∙ piece_is x at k (length x - 4) n (omega (arith, inside, len)) (omega (arith, is, len))
 

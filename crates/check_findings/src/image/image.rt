@@ -82,7 +82,6 @@ fn areas_findings<F: Flash>(
         (names : List (List ℕ)) → HasNames expected.now names → IfOk result (λ findings.
         findings.items ≡ of.areas_findings image names (2 * length image) areas.now)) }
 {
-    paged.places_fit();
     let mut left = MAX_IMAGES * paged.len();
     let mut findings = Vec::new(alloc);
     for area in areas {

@@ -2,7 +2,7 @@
 ghost use Rattle.std.specs.Prelude.{◌≡◌, ◌↔◌, ◌+◌, ◌*◌, ◌/◌, IfOk, IsErrOf};
 ghost use Rattle.flash_device.specs.Device.{fault_count};
 ghost use Rattle.flash_device.specs.Pages.{HasRead, OnHonestIn};
-ghost use Rattle.flash_device.specs.Regions.{LiesIn};
+ghost use Rattle.flash_device.specs.Regions.{LiesOn};
 ghost use Rattle.cbfs_walk.specs.Cells.{IsCellIn, cell_in};
 ghost use Rattle.cbfs_walk.specs.Walks.{StandsIn};
 ghost use Rattle.check_findings.specs.Faults.{by_device};
@@ -28,7 +28,7 @@ fn push_cell<F: Flash>(
     cell: &Cell,
     report: &mut Report,
 ) -> Result<(), CheckFault>
-    requires region { LiesIn region (F.facts paged.old.device).content }
+    requires region { LiesOn region (F.facts paged.old.device) }
     requires cell { IsCellIn region.size cell.now }
 
     ensures after { HasRead F.facts (3 + 2 * (cell.now.span / 3840)) (fault_count by_device result)
@@ -86,7 +86,7 @@ pub fn check_region<F: Flash>(
     paged: &mut Paged<F>,
     region: Region,
 ) -> Result<Vec<RegionFinding>, CheckFault>
-    requires { LiesIn region (F.facts paged.old.device).content }
+    requires { LiesOn region (F.facts paged.old.device) }
 
     // On any device.
     ensures after { HasRead F.facts (region.size / 16 + 2) (fault_count by_device result)
@@ -96,7 +96,6 @@ pub fn check_region<F: Flash>(
     ensures findings { OnHonestIn F.facts paged.old.device region (λ x.
         IfOk result (λ findings. findings.items ≡ region_findings x)) }
 {
-    paged.places_fit();
     let mut report = Report::new(alloc, keys);
     let size = region.size();
     let mut count = Count::new(size);

@@ -1,7 +1,7 @@
 //! Starts of entries.
 ghost use Rattle.std.specs.Prelude.{◌≡◌, ◌≤◌, drop, IfOk};
 ghost use Rattle.flash_device.specs.Pages.{HasAnswered, OnHonestIn};
-ghost use Rattle.flash_device.specs.Regions.{LiesIn};
+ghost use Rattle.flash_device.specs.Regions.{LiesOn};
 ghost use Rattle.check_findings.specs.Region.RegionFindings.{begins_with_entry};
 
 use flash_device::{Flash, FlashFault, Paged, Region};
@@ -13,7 +13,7 @@ pub fn has_entry_at<F: Flash>(
     region: Region,
     at: u64,
 ) -> Result<bool, FlashFault>
-    requires region { LiesIn region (F.facts paged.old.device).content }
+    requires region { LiesOn region (F.facts paged.old.device) }
     requires inside { at ≤ region.size }
 
     // On any device.
@@ -26,7 +26,6 @@ pub fn has_entry_at<F: Flash>(
     if region.size() - at < 24 {
         return Ok(false);
     }
-    paged.places_fit();
     let mut bytes = [0; 24];
     paged.read_small(region.start() + at, &mut bytes)?;
     let head = Head::read(&bytes);
@@ -35,7 +34,7 @@ pub fn has_entry_at<F: Flash>(
 
 /// Returns whether a region of any size begins with an entry, damaged or not.
 pub fn starts_with_entry<F: Flash>(paged: &mut Paged<F>, region: Region) -> Result<bool, FlashFault>
-    requires { LiesIn region (F.facts paged.old.device).content }
+    requires { LiesOn region (F.facts paged.old.device) }
 
     // On any device.
     ensures after { HasAnswered F.facts 1 paged.old paged.new result }

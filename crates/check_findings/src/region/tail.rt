@@ -3,7 +3,7 @@ ghost use Rattle.std.specs.Prelude.{◌≡◌, ◌+◌, ◌-◌, ◌/◌, ◌^�
 ghost use Rattle.std.specs.List.{position_from};
 ghost use Rattle.flash_device.specs.Device.{fault_count};
 ghost use Rattle.flash_device.specs.Pages.{HasAnswered, HasRead, OnHonestIn};
-ghost use Rattle.flash_device.specs.Regions.{LiesIn};
+ghost use Rattle.flash_device.specs.Regions.{LiesOn};
 ghost use Rattle.check_findings.specs.Faults.{by_device};
 ghost use Rattle.check_findings.specs.Region.RegionFindings.{is_filled, tail_bytes};
 ghost use Rattle.check_findings.specs.Region.RegionFindings.{entries_findings, entry_findings};
@@ -37,7 +37,7 @@ fn find_filled<F: Flash>(
     region: Region,
     at: u64,
 ) -> Result<Option<u64>, FlashFault>
-    requires region { LiesIn region (F.facts paged.old.device).content }
+    requires region { LiesOn region (F.facts paged.old.device) }
     requires inside { at ≤ region.size }
 
     ensures after { HasAnswered F.facts ((region.size - at + 4095) / 4096)
@@ -45,7 +45,6 @@ fn find_filled<F: Flash>(
     ensures found { OnHonestIn F.facts paged.old.device region (λ x.
         IfOk result (λ found. found ≡ position_from is_filled at (tail_bytes at x))) }
 {
-    paged.places_fit();
     let len = (region.size() - at).saturating_sub(4);
     for i in 0..(len + 4095) / 4096 {
         let place = at + 4096 * i;
@@ -65,7 +64,7 @@ fn push_entry<F: Flash>(
     at: u64,
     report: &mut Report,
 ) -> Result<(), CheckFault>
-    requires region { LiesIn region (F.facts paged.old.device).content }
+    requires region { LiesOn region (F.facts paged.old.device) }
     requires inside { at ≤ region.size }
 
     ensures after { HasRead F.facts 1 (fault_count by_device result) paged.old paged.new }
@@ -85,7 +84,7 @@ fn push_entries<F: Flash>(
     at: u64,
     report: &mut Report,
 ) -> Result<(), CheckFault>
-    requires region { LiesIn region (F.facts paged.old.device).content }
+    requires region { LiesOn region (F.facts paged.old.device) }
     requires inside { at ≤ region.size }
 
     ensures after { HasRead F.facts ((region.size - at) / 64) (fault_count by_device result)
@@ -108,7 +107,7 @@ pub fn push_tail<F: Flash>(
     at: u64,
     report: &mut Report,
 ) -> Result<(), CheckFault>
-    requires region { LiesIn region (F.facts paged.old.device).content }
+    requires region { LiesOn region (F.facts paged.old.device) }
     requires inside { at ≤ region.size }
 
     ensures after { HasRead F.facts ((region.size - at + 4095) / 4096 + (region.size - at) / 64)

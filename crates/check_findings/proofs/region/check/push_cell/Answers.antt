@@ -22,7 +22,7 @@ returns-in_ok-push-clause-found g c = λ h stands. λ t has.
     let r = c.args.region in
     let cell = c.args.cell.now in
     let image = (g.F.Flash.facts c.args.paged.now.device).content in
-    let known = c.cells_stand_in_their_image.ensures r image cell c.requires.region c.requires.cell stands in
+    let known = c.cells_stand_in_their_image.ensures r image cell c.requires.region.inside c.requires.cell stands in
     deleted_reported c.push.new.self cell.at (cell_in (bytes_in r image) cell) cell.head t (sym c.is_free.ensures ∙ c.if-is_free.true) c.if-cell-eq0.true known.head (c.in_ok-push.ensures t has)
 
 pub returns-clause-found : goal.returns-clause-found
@@ -31,7 +31,7 @@ returns-clause-found g c = λ h stands. λ t has.
     let cell = c.args.cell.now in
     let image = (g.F.Flash.facts c.args.paged.now.device).content in
     let x : List ℕ = cell_in (bytes_in r image) cell in
-    let known = c.cells_stand_in_their_image.ensures r image cell c.requires.region c.requires.cell stands in
+    let known = c.cells_stand_in_their_image.ensures r image cell c.requires.region.inside c.requires.cell stands in
     let named = c.in_ok-len.ensures in
     let same = named.after.read.device.unchanged h in
     let there = subst (λ (l : List ℕ). StandsIn (bytes_in r l) cell) (sym same) stands in

@@ -46,4 +46,4 @@ returns-clause-found g c = λ h.
     let r = c.args.region in
     let image = (g.F.Flash.facts c.args.paged.now.device).content in
     sym (c.loop-i.invariant.blank h ∙ none_left (bytes_in r image) c.args.at (4096 * c.loop-i.i)
-    (omega (arith, length-bytes_in r image c.requires.region, c.loop-i-test.false, c.saturating_sub-len.ensures, c.size.ensures)))
+    (omega (arith, length-bytes_in r image c.requires.region.inside, c.loop-i-test.false, c.saturating_sub-len.ensures, c.size.ensures)))

@@ -32,4 +32,4 @@ returns-clause-found g c = λ h.
     let r = c.args.region in
     let image = (g.F.Flash.facts c.args.paged.now.device).content in
     subst (λ n. Reports {E = CheckFault} (Ok tt) c.args.report.now c.loop-i.report (λ t. with_findings t (entries_findings n c.args.at (bytes_in r image))))
-    (omega (arith, c.loop-i-test.false, c.size.ensures, length-bytes_in r image c.requires.region)) (c.loop-i.invariant.found h)
+    (omega (arith, c.loop-i-test.false, c.size.ensures, length-bytes_in r image c.requires.region.inside)) (c.loop-i.invariant.found h)
