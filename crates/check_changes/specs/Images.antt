@@ -2,7 +2,7 @@
 use Rattle.std.specs.Prelude.{ℕ, ◌+◌, ◌≤◌, ◌&&◌, List, Result, IsTrue, Option, Some, None, length, nat_le, if◌then◌else◌}
 use Rattle.flash_device.specs.Device.{Device, fault_count}
 use Rattle.flash_device.specs.Pages.{HasRead}
-use Rattle.flash_device.specs.Regions.{bytes_in}
+use Rattle.flash_device.specs.Regions.{LiesOn, bytes_in}
 use Rattle.check_findings.specs.declared.map.finding.NumberedArea.{NumberedArea}
 use Rattle.check_findings.specs.Map.MapFindings.{area_end}
 use Rattle.check_findings.specs.Image.ImageFindings.{range_of}
@@ -22,6 +22,12 @@ lengths f g images =
 pub record LieWithin (lens : Lengths) (regions : RegionPair) : Type 0 where
   pub in_old : regions.old.start + regions.old.size ≤ lens.old
   pub in_new : regions.new.start + regions.new.size ≤ lens.new
+
+-- regions on the devices of the images
+pub record LieOn {F G : Type 0} (f : F → Device) (g : G → Device) (images : Images F G)
+    (regions : RegionPair) : Type 0 where
+  pub old : LiesOn regions.old (f images.old_image.device)
+  pub new : LiesOn regions.new (g images.new_image.device)
 
 -- two areas as regions, if both lie in their images
 abbrev pub regions_within : Lengths → NumberedArea → NumberedArea → Option RegionPair

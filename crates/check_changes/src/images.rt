@@ -1,7 +1,7 @@
 //! The two images.
 ghost use Rattle.std.specs.Prelude.{◌≡◌, ◌*◌, ◌^◌, ◌<◌, ◌≤◌, IfOk, IfSome};
 ghost use Rattle.check_changes.specs.Areas.Blocks.{differs};
-ghost use Rattle.check_changes.specs.Images.{HasCompared, LieWithin, OnBothIn, lengths, regions_within};
+ghost use Rattle.check_changes.specs.Images.{HasCompared, LieOn, LieWithin, OnBothIn, lengths, regions_within};
 
 use crate::fault::ChangeFault;
 use check_findings::NumberedArea;
@@ -71,7 +71,7 @@ impl<F: Flash, G: Flash> Images<F, G> {
 
     /// Returns whether the blocks with this number differ; they may begin at the ends.
     pub fn is_different(&mut self, regions: RegionPair, number: u64) -> Result<bool, ChangeFault>
-        requires regions { LieWithin (lengths F.facts G.facts self.old) regions }
+        requires regions { LieOn F.facts G.facts self.old regions }
         requires old_begins { 4096 * number ≤ regions.old.size }
         requires new_begins { 4096 * number ≤ regions.new.size }
 
@@ -79,7 +79,6 @@ impl<F: Flash, G: Flash> Images<F, G> {
         ensures different { OnBothIn F.facts G.facts self.old regions (λ x y.
             IfOk result (λ different. different ≡ differs x y number)) }
     {
-        self.lengths();
         let start = number * PIECE as u64;
         let (old, new) = (regions.old, regions.new);
         let old_size = (old.size() - start).min(PIECE as u64) as usize;

@@ -13,7 +13,7 @@ use Rattle.flash_format.specs.Components.{component_at, components_from, cell_na
 use Rattle.flash_device.specs.Device.{Device}
 use Rattle.flash_device.specs.Pages.{Pages, HasRead}
 use Rattle.flash_device.proofs.WindowLemmas.{HasRead-none, HasRead-then, HasRead-within}
-use Rattle.flash_device.specs.Regions.{Range, LiesIn, bytes_in}
+use Rattle.flash_device.specs.Regions.{Range, LiesOn, bytes_in}
 use Rattle.flash_device.proofs.DeviceLemmas.{honest_still, length-bytes_in}
 use Rattle.cbfs_walk.specs.Cells.{IsCellIn, cell_in}
 use Rattle.cbfs_walk.specs.Hashes.{content_at}
@@ -135,7 +135,7 @@ room_more : (c : Cell) (old new : List Listed) (n : ℕ) → AddsAtMost c old ne
 room_more c old new n (inl same) room = rw same (omega (arith, room))
 room_more c old new n (inr more) room = rw more.added (omega (arith, room, sum_by-append (λ (l : Listed). l.cell.span) old (record { name = more.name; cell = c } ∷ [])))
 
-module _ {F : Type 0} (facts : F → Device) (r : Range) (w : Walking) (all : List Listed) (old now : Pages F) (lies : LiesIn r (facts old.device).content) (i : ListedSoFar facts r w all old now) where
+module _ {F : Type 0} (facts : F → Device) (r : Range) (w : Walking) (all : List Listed) (old now : Pages F) (lies : LiesOn r (facts old.device)) (i : ListedSoFar facts r w all old now) where
   abbrev x : List ℕ
   x = bytes_in r (facts old.device).content
 
@@ -149,7 +149,7 @@ module _ {F : Type 0} (facts : F → Device) (r : Range) (w : Walking) (all : Li
       go : IsErrOf a walk.Device ⊎ (a ≡ answer_at (bytes_in w.region (facts now.device).content) w.at) → (a ≡ answer_at x w.at) × (map (state_in x) all ++ states_by x a ≡ states x)
       go (inl fault) = absurd (other fault)
       go (inr is) =
-          let len : length x ≡ r.size = length-bytes_in r (facts old.device).content lies in
+          let len : length x ≡ r.size = length-bytes_in r (facts old.device).content lies.inside in
           let here : a ≡ answer_at x w.at = is ∙ ap (λ (k : Range). answer_at (bytes_in k (facts now.device).content) w.at) i.region ∙ ap (λ (l : List ℕ). answer_at (bytes_in r l) w.at) (i.read.device.unchanged h) in
           let step : states_by x a ≡ states_from x w.at = ap (λ (b : Answer). states_by x b) here ∙ sym (states_step x w.at (omega (arith, len, i.inside)) i.aligned) in
           (here, ap (λ (l : List ComponentState). map (state_in x) all ++ l) step ∙ i.so_far h)
@@ -190,7 +190,7 @@ module _ {F : Type 0} (facts : F → Device) (r : Range) (w : Walking) (all : Li
   listing_end : (a : Answer) → IsNoCell a → (IsErrOf a walk.Device → ⊥) → Answers a → IsTrue (facts old.device).honest → map (state_in x) all ≡ states x
   listing_end a none other answer h = sym (append-nil (map (state_in x) all)) ∙ ap (λ (l : List ComponentState). map (state_in x) all ++ l) (sym (states_end x a none)) ∙ (answered a other answer h).1
 
-pub listing_lists : {F : Type 0} (facts : F → Device) (r : Range) (w : Walking) (all : Vec Listed Global) (old now : Pages F) (lies : LiesIn r (facts old.device).content) (i : ListedSoFar facts r w all.items old now) (a : Answer)
+pub listing_lists : {F : Type 0} (facts : F → Device) (r : Range) (w : Walking) (all : Vec Listed Global) (old now : Pages F) (lies : LiesOn r (facts old.device)) (i : ListedSoFar facts r w all.items old now) (a : Answer)
     → IsNoCell a → (IsErrOf a walk.Device → ⊥) → Answers facts r w all.items old now lies i a → Lists facts r old all
 listing_lists facts r w all old now lies i a none other answer = record {
   cells = i.cells;

@@ -2,7 +2,7 @@
 ghost use Rattle.std.specs.Prelude.{◌≡◌, ◌*◌, ◌^◌, ◌≤◌, IfOk};
 ghost use Rattle.check_changes.specs.Areas.AreaChanges.{is_difference, is_own_difference};
 ghost use Rattle.check_changes.specs.Areas.Blocks.{blocks_of, count_below};
-ghost use Rattle.check_changes.specs.Images.{HasCompared, LieWithin, OnBoth, lengths};
+ghost use Rattle.check_changes.specs.Images.{HasCompared, LieOn, OnBoth};
 
 use crate::areas::pairs::{AreaPair, is_held};
 use crate::fault::ChangeFault;
@@ -24,7 +24,7 @@ fn difference_at<F: Flash, G: Flash>(
     pairs: &[AreaPair],
     number: u64,
 ) -> Result<(bool, bool), ChangeFault>
-    requires regions { LieWithin (lengths F.facts G.facts images.old) regions.now }
+    requires regions { LieOn F.facts G.facts images.old regions.now }
     requires old_begins { 4096 * number ≤ regions.now.old.size }
     requires new_begins { 4096 * number ≤ regions.now.new.size }
 
@@ -56,7 +56,7 @@ pub fn different_in<F: Flash, G: Flash>(
     pairs: &[AreaPair],
     len: u64,
 ) -> Result<Differing, ChangeFault>
-    requires regions { LieWithin (lengths F.facts G.facts images.old) regions.now }
+    requires regions { LieOn F.facts G.facts images.old regions.now }
     requires old_begin { len ≤ blocks_of regions.now.old.size }
     requires new_begin { len ≤ blocks_of regions.now.new.size }
 
@@ -67,7 +67,6 @@ pub fn different_in<F: Flash, G: Flash>(
     ensures own { OnBoth F.facts G.facts images.old (λ x y.
         IfOk result (λ n. n.own ≡ count_below (is_own_difference x y pairs.now regions.now) len)) }
 {
-    images.lengths();
     let mut blocks: u32 = 0;
     let mut own: u32 = 0;
     for number in 0..len {

@@ -4,7 +4,7 @@ ghost use Rattle.std.specs.List.{flat_map};
 ghost use Rattle.check_changes.specs.Components.ComponentChanges.{changes_between, component_changes, pair_change};
 ghost use Rattle.check_changes.specs.Components.ListedChanges.{listed_change, listed_removal, regions_of};
 ghost use Rattle.check_changes.specs.Components.Listings.{IsListedIn, spans, states_in};
-ghost use Rattle.check_changes.specs.Images.{HasCompared, HasReadFor, LieWithin, OnBothIn, lengths};
+ghost use Rattle.check_changes.specs.Images.{HasCompared, HasReadFor, LieOn, OnBothIn};
 
 use crate::components::change::{ComponentChange, Difference};
 use crate::components::compare::difference;
@@ -69,7 +69,7 @@ fn push_component<'a, F: Flash, G: Flash>(
     lists: &Listings<'a>,
     listed: &'a Listed,
 ) -> Result<(), ChangeFault>
-    requires regions { LieWithin (lengths F.facts G.facts images.old) (regions_of lists.now) }
+    requires regions { LieOn F.facts G.facts images.old (regions_of lists.now) }
     requires listed { IsListedIn lists.now.new.region.size listed.now }
 
     ensures after { HasCompared F.facts G.facts (2 + listed.now.cell.span / 4096)
@@ -96,7 +96,7 @@ fn push_changes<'a, F: Flash, G: Flash>(
     images: &mut Images<F, G>,
     lists: &Listings<'a>,
 ) -> Result<(), ChangeFault>
-    requires { LieWithin (lengths F.facts G.facts images.old) (regions_of lists.now) }
+    requires { LieOn F.facts G.facts images.old (regions_of lists.now) }
 
     ensures after { HasCompared F.facts G.facts (spans lists.now.new.all.now / 24)
         images.old images.new result }
@@ -151,7 +151,7 @@ fn list_changes<'a, F: Flash, G: Flash>(
     old: &'a [Listed],
     new: &'a [Listed],
 ) -> Result<Vec<ComponentChange>, ChangeFault>
-    requires regions { LieWithin (lengths F.facts G.facts images.old) regions }
+    requires regions { LieOn F.facts G.facts images.old regions }
     requires old { All (IsListedIn regions.old.size) old.now }
     requires new { All (IsListedIn regions.new.size) new.now }
 
@@ -177,7 +177,7 @@ pub fn component_changes<F: Flash, G: Flash>(
     images: &mut Images<F, G>,
     regions: RegionPair,
 ) -> Result<Vec<ComponentChange>, ChangeFault>
-    requires { LieWithin (lengths F.facts G.facts images.old) regions }
+    requires { LieOn F.facts G.facts images.old regions }
 
     // On any devices.
     ensures after { HasReadFor F.facts G.facts ((regions.old.size + regions.new.size) / 24 + 2)

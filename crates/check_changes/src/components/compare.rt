@@ -2,7 +2,7 @@
 ghost use Rattle.std.specs.Prelude.{◌≡◌, ◌+◌, ◌-◌, ◌/◌, ◌≤◌, slice_range, IfOk};
 ghost use Rattle.std.specs.Str.{bytes_eq};
 ghost use Rattle.check_changes.specs.Components.Listings.{IsUsedIn, cell_difference};
-ghost use Rattle.check_changes.specs.Images.{HasCompared, LieWithin, OnBothIn, lengths};
+ghost use Rattle.check_changes.specs.Images.{HasCompared, LieOn, OnBothIn};
 
 use crate::areas::blocks_of;
 use crate::components::change::Difference;
@@ -19,7 +19,7 @@ pub fn difference<F: Flash, G: Flash>(
     old: &Cell,
     new: &Cell,
 ) -> Result<Option<Difference>, ChangeFault>
-    requires regions { LieWithin (lengths F.facts G.facts images.old) regions }
+    requires regions { LieOn F.facts G.facts images.old regions }
     requires old { IsUsedIn regions.old.size old.now }
     requires new { IsUsedIn regions.new.size new.now }
 
@@ -28,7 +28,6 @@ pub fn difference<F: Flash, G: Flash>(
     ensures difference { OnBothIn F.facts G.facts images.old regions (λ x y.
         IfOk result (λ what. what ≡ cell_difference x old.now y new.now)) }
 {
-    images.lengths();
     if old.head.kind != new.head.kind {
         return Ok(Some(Difference::Type));
     }
@@ -52,7 +51,7 @@ fn same_stretch<F: Flash, G: Flash>(
     old: Stretch,
     new: Stretch,
 ) -> Result<bool, ChangeFault>
-    requires regions { LieWithin (lengths F.facts G.facts images.old) regions }
+    requires regions { LieOn F.facts G.facts images.old regions }
     requires old { old.end ≤ regions.old.size }
     requires new { new.end ≤ regions.new.size }
     requires old_order { old.from ≤ old.end }
@@ -82,7 +81,7 @@ fn same_bytes<F: Flash, G: Flash>(
     images: &mut Images<F, G>,
     regions: RegionPair,
 ) -> Result<bool, ChangeFault>
-    requires regions { LieWithin (lengths F.facts G.facts images.old) regions }
+    requires regions { LieOn F.facts G.facts images.old regions }
     requires same_size { regions.old.size ≡ regions.new.size }
 
     ensures after { HasCompared F.facts G.facts (1 + regions.new.size / 4096)
@@ -90,7 +89,6 @@ fn same_bytes<F: Flash, G: Flash>(
     ensures same { OnBothIn F.facts G.facts images.old regions (λ x y.
         IfOk result (λ same. same ≡ bytes_eq x y)) }
 {
-    images.lengths();
     for number in 0..blocks_of(regions.new.size()) {
         if images.is_different(regions, number)? {
             return Ok(false);

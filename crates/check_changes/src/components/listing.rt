@@ -2,7 +2,7 @@
 ghost use Rattle.std.specs.Prelude.{◌≡◌, ◌≢◌, ◌+◌, ◌/◌, ◌++◌, IfOk, IfErr, OnOk, OnErr};
 ghost use Rattle.flash_device.specs.Device.{fault_count};
 ghost use Rattle.flash_device.specs.Pages.{HasRead, OnHonestIn};
-ghost use Rattle.flash_device.specs.Regions.{LiesIn};
+ghost use Rattle.flash_device.specs.Regions.{LiesOn};
 ghost use Rattle.cbfs_walk.specs.Cells.{IsCellIn};
 ghost use Rattle.cbfs_walk.specs.Walks.{StandsIn};
 ghost use Rattle.check_changes.specs.Components.Listings.{AddsAtMost, Lists, cell_states, states_in};
@@ -37,7 +37,7 @@ fn list_cell<F: Flash>(
     cell: &Cell,
     all: &mut Vec<Listed>,
 ) -> Result<(), CheckFault>
-    requires region { LiesIn region (F.facts paged.old.device).content }
+    requires region { LiesOn region (F.facts paged.old.device) }
     requires cell { IsCellIn region.size cell.now }
 
     ensures after { HasRead F.facts 1 (fault_count by_device result) paged.old paged.new }
@@ -63,7 +63,7 @@ pub fn components<F: Flash>(
     paged: &mut Paged<F>,
     region: Region,
 ) -> Result<Vec<Listed>, CheckFault>
-    requires { LiesIn region (F.facts paged.old.device).content }
+    requires { LiesOn region (F.facts paged.old.device) }
 
     ensures after { HasRead F.facts (region.size / 24 + 2)
         (fault_count by_device result) paged.old paged.new }

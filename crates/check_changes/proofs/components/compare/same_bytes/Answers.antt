@@ -23,6 +23,6 @@ loop-number-preserved g c =
 pub returns-clause-same : goal.returns-clause-same
 returns-clause-same g c = λ h k.
     let r = c.args.regions in
-    let old = length-bytes_in r.old _ c.requires.regions.in_old in
-    let new = length-bytes_in r.new _ c.requires.regions.in_new in
+    let old = length-bytes_in r.old _ c.requires.regions.old.inside in
+    let new = length-bytes_in r.new _ c.requires.regions.new.inside in
     same-all _ _ c.loop-number.number (omega (arith, old, c.requires.same_size)) (omega (arith, new)) (c.loop-number.invariant.same h k)

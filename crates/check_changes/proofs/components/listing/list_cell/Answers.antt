@@ -8,6 +8,6 @@ returns-clause-listed g c = λ h stands.
     let cell = c.args.cell.now in
     let image = (g.F.Flash.facts c.args.paged.now.device).content in
     let x = bytes_in c.args.region image in
-    let known = c.cells_stand_in_their_image.ensures c.args.region image cell c.requires.region c.requires.cell stands in
+    let known = c.cells_stand_in_their_image.ensures c.args.region image cell c.requires.region.inside c.requires.cell stands in
     let shown = state_shown x cell c.in_ok-name.name (sym c.is_free.ensures ∙ c.if-is_free.false) (c.in_ok-name.ensures ∙ c.in_ok-len.ensures.name h stands) known.head c.requires.cell.content in
     listed_more x c.args.all.now.items c.push.new.list.items _ shown c.in_ok-push.ensures
