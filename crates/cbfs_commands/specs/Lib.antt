@@ -1,6 +1,6 @@
 pub mod Refusals
 pub mod Rows
-pub mod Printout
+pub mod Printouts
 pub mod Creations
 pub mod Outcomes
 pub mod Effects
