@@ -4,7 +4,7 @@ use Rattle.std.specs.Prelude.{IsErrOf, if◌then◌else◌}
 use Rattle.std.specs.Result.{IsErrAnd}
 use Rattle.flash_device.specs.Device.{Device, fault_count}
 use Rattle.flash_device.specs.Pages.{Pages, HasRead, OnHonest, OnHonestIn}
-use Rattle.flash_device.specs.Regions.{Range, LiesIn, bytes_in}
+use Rattle.flash_device.specs.Regions.{Range, LiesIn, LiesOn, bytes_in}
 use Rattle.cbfs_walk.specs.Cells.{IsCellIn}
 use Rattle.cbfs_walk.specs.Shaped.{reading_of, ReadsCells, by_answer}
 use Rattle.cbfs_walk.specs.Walks.{Walking, GivesCell, answer_at, walk_after, reads_at}
@@ -81,7 +81,7 @@ pub record PrintedTo {F W : Type 0} (facts : F → Device) (contents : W → Opt
   pub printout : ToldSoFar facts contents sinks (region_reads verbose w.at) (λ image. print_region (bytes_in r image) verbose) (λ image. print_from verbose (bytes_in r image) w.at) old now before after
 
 module _ {F W : Type 0} {facts : F → Device} {contents : W → Option (List ℕ)} {sinks : W → ℕ} {verbose : Bool} {r : Range} {old now next : Pages F} {before after : W} {w : Walking}
-    (p : PrintedTo facts contents sinks verbose r old now before after w) (lies : LiesIn r (facts old.device).content) (a : walks.Answer)
+    (p : PrintedTo facts contents sinks verbose r old now before after w) (lies : LiesOn r (facts old.device)) (a : walks.Answer)
     (read : HasRead facts (reads_at w.region.size w.at a) (fault_count walks.by_device a) now next)
     (answer : OnHonestIn facts now.device w.region (λ x. w.ended ≡ None → IsErrOf a faults.Device ⊎ (a ≡ answer_at x w.at))) where
   abbrev Printed : Pages F → W → Answer → Type 0
@@ -97,7 +97,7 @@ module _ {F W : Type 0} {facts : F → Device} {contents : W → Option (List �
     | inr is ↦ inr (
         let image : List ℕ = (facts now.device).content in
         let x : List ℕ = bytes_in r image in
-        let lies_now : LiesIn r image = omega (arith, lies, p.printout.reads.device.calls.same_length) in
+        let lies_now : LiesIn r image = omega (arith, lies.inside, p.printout.reads.device.calls.same_length) in
         let here : answer_at x w.at ≡ a = ap (λ (k : Range). answer_at (bytes_in k image) w.at) (sym p.region) ∙ sym is in
         shaped_step (λ fault. refuses (walk_refusal fault)) (print_cut verbose) (each_row verbose) (law verbose) x w.at (omega (arith, length-bytes_in r image lies_now, p.inside)) p.aligned
         ∙ ap (print_by verbose x) here)

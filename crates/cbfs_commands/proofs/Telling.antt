@@ -9,7 +9,7 @@ use Rattle.std.proofs.KnownBytes.{Appends-nil, Appends-trans}
 use Rattle.flash_device.specs.Device.{Device, fault_count}
 use Rattle.flash_device.specs.Pages.{Pages, HasRead, OnHonest}
 use Rattle.flash_device.specs.Regions.{Range, bytes_in}
-use Rattle.flash_device.proofs.DeviceLemmas.{honest_still}
+use Rattle.flash_device.proofs.DeviceLemmas.{honest_still, LiesOn-calls}
 use Rattle.flash_device.proofs.WindowLemmas.{HasRead-none, HasRead-then, HasRead-within}
 use Rattle.cbfs_walk.specs.Walks.{StandsIn}
 use Rattle.cbfs_walk.specs.declared.cell.Cell.{Cell}
@@ -192,7 +192,7 @@ module _ {F W : Type 0} {facts : F → Device} {contents : W → Option (List �
 pub still_cell : {F : Type 0} {facts : F → Device} {region : Range} {cell : Cell} {n refused : ℕ} {old new : Pages F} → HasRead facts n refused old new
     → IsCellOf facts region cell old.device → IsCellOf facts region cell new.device
 still_cell {region = region} {cell = cell} read is = record {
-  region = omega (arith, is.region, read.device.calls.same_length);
+  region = LiesOn-calls read.device.calls is.region;
   cell = is.cell;
   stands = λ h.
       let before = subst (λ b. IsTrue b) read.device.calls.same_honesty h in

@@ -6,7 +6,7 @@ use Rattle.flash_format.specs.Head.{is_free}
 use Rattle.flash_device.specs.Device.{Device, fault_count}
 use Rattle.flash_device.specs.Pages.{Pages, HasRead, OnHonest, OnHonestIn}
 use Rattle.flash_device.specs.Output.{AppendsPart}
-use Rattle.flash_device.specs.Regions.{Range, LiesIn, bytes_in}
+use Rattle.flash_device.specs.Regions.{Range, LiesOn, bytes_in}
 use Rattle.cbfs_walk.specs.Cells.{IsCellIn, cell_in}
 use Rattle.cbfs_walk.specs.Walks.{StandsIn}
 use Rattle.cbfs_walk.specs.declared.cell.Cell.{Cell}
@@ -43,7 +43,7 @@ PrintsOut old new answer t =
 -- A cell of a region within bounds. An honest device has the cell at its offset.
 pub record IsCellOf {F : Type 0} (facts : F → Device) (r : Range) (c : Cell)
     (device : F) : Type 0 where
-  pub region : LiesIn r (facts device).content
+  pub region : LiesOn r (facts device)
   pub cell : IsCellIn r.size c
   pub stands : OnHonestIn facts device r (λ x. StandsIn x c)
 

@@ -23,7 +23,6 @@ fn extract_component<F: Flash, W: Sink>(
         printed_component (component_at cell.now.at (cell_of region cell.now image))) }
 {
     cells_stand_in_their_image();
-    paged.places_fit();
     if packing(paged, region, cell)? != 0 {
         return Err(Refusal::Compressed);
     }

@@ -24,6 +24,7 @@ fn format_place<F: Flash>(paged: &mut Paged<F>, place: Region) -> Result<(), Ref
     ensures formatted { OnHonest F.facts paged.old.device (λ image.
         OnOk result ((F.facts paged.new.device).content ≡ with_edit place formatted image)) }
 {
+    let _len = paged.len();
     match format(paged, place) {
         Ok(()) => Ok(()),
         Err(_) => Err(Refusal::Device),

@@ -2,7 +2,7 @@
 
 ghost use Rattle.std.specs.Prelude.{◌≡◌, ◌+◌, ◌*◌, ◌/◌, ◌<◌, ◌≤◌, length, OnOk, if◌then◌else◌};
 ghost use Rattle.flash_device.specs.Pages.{HasAnswered, OnHonest};
-ghost use Rattle.flash_device.specs.Regions.{LiesIn, bytes_in};
+ghost use Rattle.flash_device.specs.Regions.{LiesOn, bytes_in};
 ghost use Rattle.cbfs_commands.specs.Outcomes.{print_region, printed_in};
 ghost use Rattle.cbfs_commands.specs.Rows.{shown_cell, row};
 ghost use Rattle.cbfs_commands.specs.Printouts.{HasOutput, IsCellOf, cell_of, shows};
@@ -87,7 +87,7 @@ fn print_region<F: Flash, W: Sink>(
     verbose: bool,
     out: &mut W,
 ) -> Result<(), Refusal>
-    requires { LiesIn region (F.facts paged.old.device).content }
+    requires { LiesOn region (F.facts paged.old.device) }
 
     ensures { HasOutput F.facts W.contents W.faults
         ((if verbose then region.size / 4 else region.size / 16) + 2)

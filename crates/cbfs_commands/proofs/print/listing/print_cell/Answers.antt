@@ -24,6 +24,6 @@ returns-then-not-is_free g c =
     let here = still_cell c.print_row.ensures.read c.requires in
     let rest = so_far-of (λ image. lines c.args.verbose (cell_of r cell image)) c.in_ok-print_row.ensures in
     so_far-ends rest _ c.print_details.ensures (λ h.
-    let known = c.cells_stand_in_their_image.ensures r mid cell here.region here.cell (here.stands h) in
+    let known = c.cells_stand_in_their_image.ensures r mid cell here.region.inside here.cell (here.stands h) in
     let used : is_free (head_of (cell_of r cell mid)) ≡ false = ap (λ (head : Head). is_free head) known.head ∙ sym c.if-not-is_free.ensures in
     rw (c.if-verbose.true, used) refl) (rw c.if-verbose.true (omega (arith, c.requires.cell.content)))
