@@ -1,5 +1,5 @@
 //! A small image, and helpers for edits.
-ghost use Rattle.flash_device.specs.Regions.{LiesIn};
+ghost use Rattle.flash_device.specs.Regions.{LiesOn};
 
 use crate::support::{Failing, Parts, device_from, ends_with, image_with};
 use cbfs_walk::{Cell, Step, Walk};
@@ -127,13 +127,13 @@ pub fn holds(rt: &(impl Abort + AllocGlobal), device: MemFlash, held: Held) {
 }
 
 pub fn part_of<F: Flash>(rt: &impl Abort, paged: &Paged<F>, start: u64, size: u64) -> Region
-    ensures { LiesIn result (F.facts paged.now.device).content }
+    ensures { LiesOn result (F.facts paged.now.device) }
 {
     Region::within(start, size, paged.len()).expect(rt, "a region")
 }
 
 pub fn region_of<F: Flash>(rt: &impl Abort, paged: &Paged<F>) -> Region
-    ensures { LiesIn result (F.facts paged.now.device).content }
+    ensures { LiesOn result (F.facts paged.now.device) }
 {
     part_of(rt, paged, START as u64, SIZE as u64)
 }
@@ -161,7 +161,7 @@ fn walk_on(
     start: usize,
     told: &mut Vec<u8>,
 ) -> Result<bool, AllocError>
-    requires { LiesIn walk.old.region paged.old.device.content }
+    requires { LiesOn walk.old.region (⟦<MemFlash as Flash>⟧.facts paged.old.device) }
 {
     loop {
         match walk.next(paged) {

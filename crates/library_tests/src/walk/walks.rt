@@ -1,6 +1,6 @@
 //! Walks over a dishonest device, and over a device with a fault at each call.
 ghost use Rattle.std.specs.Prelude.{◌≡◌};
-ghost use Rattle.flash_device.specs.Regions.{LiesIn};
+ghost use Rattle.flash_device.specs.Regions.{LiesOn};
 
 use crate::support::{ALL, Failing, Parts, equal, failing};
 use cbfs_walk::{Cell, Step, Walk, WalkFault, find};
@@ -31,15 +31,15 @@ pub const RAW: u32 = 0x50;
 pub const NULL: u32 = 0xffff_ffff;
 
 pub fn whole<F: Flash>(rt: &impl Abort, paged: &Paged<F>) -> Region
-    ensures { LiesIn result (F.facts paged.now.device).content }
+    ensures { LiesOn result (F.facts paged.now.device) }
 {
     Region::within(0, paged.len(), paged.len()).expect(rt, "a region")
 }
 
 pub fn answers<F: Flash>(rt: &impl Abort, walk: &mut Walk, paged: &mut Paged<F>, want: &[Answer])
-    requires { LiesIn walk.old.region (F.facts paged.old.device).content }
+    requires { LiesOn walk.old.region (F.facts paged.old.device) }
     ensures region { walk.new.region ≡ walk.old.region }
-    ensures lies { LiesIn walk.new.region (F.facts paged.new.device).content }
+    ensures lies { LiesOn walk.new.region (F.facts paged.new.device) }
 {
     for one in want {
         equal(rt, &walk.next(paged), one);
@@ -47,8 +47,8 @@ pub fn answers<F: Flash>(rt: &impl Abort, walk: &mut Walk, paged: &mut Paged<F>,
 }
 
 fn pass<F: Flash>(walk: &mut Walk, paged: &mut Paged<F>, calls: u32)
-    requires { LiesIn walk.old.region (F.facts paged.old.device).content }
-    ensures { LiesIn walk.new.region (F.facts paged.new.device).content }
+    requires { LiesOn walk.old.region (F.facts paged.old.device) }
+    ensures { LiesOn walk.new.region (F.facts paged.new.device) }
 {
     for _call in 0..calls {
         let _answer = walk.next(paged);

@@ -1,10 +1,10 @@
-use Rattle.std.proofs.Common.{◌-◌, ◌≡◌}
-use Rattle.flash_device.specs.Regions.{LiesIn}
+use Rattle.std.proofs.Common.{◌-◌, ◌≡◌, true}
+use Rattle.flash_device.specs.Regions.{LiesOn}
 use Rattle.library_tests.proofs.edit.support.walk_on.Given as goal
 
 abbrev pub invariant-loop-cell : goal.invariant-loop-cell
 invariant-loop-cell l = record {
-  lies : LiesIn l.walk.region l.paged.device.content;
+  lies : LiesOn l.walk.region (record { content = l.paged.device.content; calls = l.paged.device.calls; faults = 0; honest = true });
   region : l.walk.region ≡ l.initial.walk.region;
 }
 
