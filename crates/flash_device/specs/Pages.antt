@@ -9,6 +9,9 @@ use Rattle.std.specs.Io.KnownBytes.{Appends}
 use Rattle.flash_device.specs.Output.{AppendsPart}
 use Rattle.flash_device.specs.declared.paged.CopyFault.{CopyFault}
 use Rattle.flash_device.specs.declared.paged.CopyFault.TheVariants as causes
+use Rattle.flash_device.specs.declared.paged.CopyInFault.{CopyInFault}
+use Rattle.flash_device.specs.declared.paged.CopyInFault.TheVariants as inputs
+use Rattle.std.specs.Result.{result_map_both}
 
 -- P holds for an honest device's content
 abbrev pub OnHonest : {F : Type 0} → (F → Device) → F → (List ℕ → Type 0) → Type 0
@@ -92,6 +95,14 @@ pub record HasPulled {F E : Type 0} (old new : Pages F)
   pub same_device : new.device ≡ old.device
   pub held : IfOk result (λ bytes. new.held ≡ Piece bytes.now)
   pub dropped : OnErr result (new.held ≡ Nothing)
+
+-- the result of a copy from a source, as a copy's result
+abbrev pub copy_fault : CopyInFault → CopyFault
+copy_fault inputs.Device = causes.Device
+copy_fault inputs.Source = causes.Source
+
+abbrev pub as_copy : {T : Type 0} → Result T CopyInFault → Result T CopyFault
+as_copy result = result_map_both (λ value. value) copy_fault result
 
 -- device faults, or source faults, in a copy's fault
 abbrev pub by_device : CopyFault → ℕ

@@ -28,7 +28,7 @@ pub use laws::{
 };
 pub use mem_flash::MemFlash;
 pub use mem_source::MemSource;
-pub use paged::{CopyFault, Paged};
+pub use paged::{CopyFault, CopyInFault, Paged};
 pub use range::Region;
 pub use sink::{Sink, SinkFault, WriteSink, put_all};
 pub use source::{Source, SourceFault};

@@ -1,7 +1,7 @@
 //! Buffered devices.
 ghost use Rattle.std.specs.Prelude.{◌≡◌, ℕ, List, ◌++◌, ◌+◌, ◌/◌, ◌^◌, ◌<◌, ◌≤◌, ◌↔◌, length, take, IsTrue, OnOk, IfOk, IsErrOf, slice_range, replicate};
 ghost use Rattle.flash_device.specs.Device.{OneCall, OneRead, OneWrite, OneCommit, refusals};
-ghost use Rattle.flash_device.specs.Pages.{HasFilled, HasCopiedIn, HasCopiedOut};
+ghost use Rattle.flash_device.specs.Pages.{HasFilled, HasCopiedIn, HasCopiedOut, as_copy};
 ghost use Rattle.flash_device.specs.Output.{AppendsPieces};
 ghost use Rattle.std.specs.Io.KnownBytes.{Keeps};
 
@@ -11,6 +11,35 @@ use crate::source::{Source, SourceFault};
 use crate::watch::{Unwatched, Watch};
 use flash_format::HEADER_LENGTH;
 use std::marker::Model;
+
+/// The reason for a stopped copy from a source.
+#[derive(Clone, Copy, Debug, PartialEq, Eq, Drop)]
+pub enum CopyInFault {
+    /// A failed device call.
+    Device,
+    /// A failed source read.
+    Source,
+}
+
+impl From<FlashFault> for CopyInFault {
+    ghost use Rattle.flash_device.specs.declared.paged.CopyInFault.TheVariants.{Device};
+
+    ghost from_gives = { λ _ fault. fault ≡ Device };
+
+    fn from(_: FlashFault) -> CopyInFault {
+        CopyInFault::Device
+    }
+}
+
+impl From<SourceFault> for CopyInFault {
+    ghost use Rattle.flash_device.specs.declared.paged.CopyInFault.TheVariants.{Source};
+
+    ghost from_gives = { λ _ fault. fault ≡ Source };
+
+    fn from(_: SourceFault) -> CopyInFault {
+        CopyInFault::Source
+    }
+}
 
 /// The reason for a stopped copy, with cbfstool's number.
 #[derive(Clone, Copy, Debug, PartialEq, Eq, Drop)]
@@ -43,13 +72,16 @@ impl From<SinkFault> for CopyFault {
     }
 }
 
-impl From<SourceFault> for CopyFault {
-    ghost use Rattle.flash_device.specs.declared.paged.CopyFault.TheVariants.{Source};
+impl From<CopyInFault> for CopyFault {
+    ghost use Rattle.flash_device.specs.Pages.{copy_fault};
 
-    ghost from_gives = { λ _ fault. fault ≡ Source };
+    ghost from_gives = { λ copy_in_fault fault. fault ≡ copy_fault copy_in_fault };
 
-    fn from(_: SourceFault) -> CopyFault {
-        CopyFault::Source
+    fn from(fault: CopyInFault) -> CopyFault {
+        match fault {
+            CopyInFault::Device => CopyFault::Device,
+            CopyInFault::Source => CopyFault::Source,
+        }
     }
 }
 
@@ -297,7 +329,8 @@ impl<F: Flash> Paged<F> {
             source.new result }
         ensures dropped { self.new.held ≡ Nothing }
     {
-        self.copy_in_watched(at, n, source, &mut Unwatched)
+        self.copy_in_watched(at, n, source, &mut Unwatched)?;
+        Ok(())
     }
 
     /// Copies like `copy_in`, and first shows each piece to the watcher.
@@ -307,12 +340,12 @@ impl<F: Flash> Paged<F> {
         n: u64,
         source: &mut S,
         watch: &mut W,
-    ) -> Result<(), CopyFault>
+    ) -> Result<(), CopyInFault>
         requires inside { at + n ≤ length (F.facts self.old.device).content }
         requires in_source { n ≤ length (S.facts source.old).content }
 
         ensures after { HasCopiedIn F.facts S.facts at n self.old.device self.new.device source.old
-            source.new result }
+            source.new (as_copy result) }
         ensures dropped { self.new.held ≡ Nothing }
         // If the source is honest, on any device.
         ensures shown { IsTrue (S.facts source.old).honest → (seen : List ℕ)
@@ -393,12 +426,12 @@ fn copy_pieces<F: Flash, S: Source, W: Watch>(
     n: u64,
     source: &mut S,
     watch: &mut W,
-) -> Result<(), CopyFault>
+) -> Result<(), CopyInFault>
     requires inside { at + n ≤ length (F.facts device.old).content }
     requires in_source { n ≤ length (S.facts source.old).content }
 
     ensures after { HasCopiedIn F.facts S.facts at n device.old device.new source.old
-        source.new result }
+        source.new (as_copy result) }
     ensures shown { IsTrue (S.facts source.old).honest → (seen : List ℕ) → W.saw watch.old seen
         → OnOk result (W.saw watch.new (seen ++ take n (S.facts source.old).content)) }
 {
