@@ -20,7 +20,7 @@ use Rattle.cbfs_edit.specs.Removals.{IsCellRange, kept_at, space_end}
 use Rattle.cbfs_edit.specs.Runs.{runs}
 use Rattle.cbfs_edit.specs.Places.{is_bad_align, IsWanted, IsFirstPlace, IsPlaceAmong, placing_in}
 use Rattle.cbfs_edit.specs.Places.{Fits}
-use Rattle.cbfs_edit.specs.Changes.{AddLeavesWhole, AddLeavesBefore, IsOldOrEmptied, written_to, IsInsertStop}
+use Rattle.cbfs_edit.specs.Changes.{AddLeavesWhole, AddLeavesBefore, IsOldOrEmptied, written_to, IsInsertStop, copy_fault}
 use Rattle.cbfs_edit.specs.Additions.{NewComponent, AddsOne, added, added_component, addition_in, empty_between, cell_end, metadata_len_of, is_bad_name, is_bad_type, kept_from, made_at, own_fault, wanted_for, added_to, digest_of}
 use Rattle.cbfs_edit.specs.Laws.{AdditionsAddOneComponent, IsAdded}
 use Rattle.cbfs_edit.specs.declared.fault.EditFault.{EditFault}
@@ -37,7 +37,7 @@ use Rattle.cbfs_edit.proofs.Insertions.{hash_short}
 use Rattle.std.specs.Option.{option_map_or}
 use Rattle.std.specs.Result.{result_ok}
 use Rattle.flash_device.specs.Regions.{Range, LiesIn, bytes_in}
-use Rattle.flash_device.specs.declared.paged.CopyFault.{CopyFault}
+use Rattle.flash_device.specs.declared.paged.CopyInFault.{CopyInFault}
 use Rattle.flash_device.proofs.DeviceLemmas.{Calls-at_most, Calls-then, honest_still, length-bytes_in}
 use Rattle.sha2.proofs.Facts256.{length-sha256}
 use Rattle.sha2.proofs.Facts512.{length-sha512}
@@ -45,7 +45,7 @@ use Rattle.cbfs_walk.specs.Hashes.{sha256_of, sha512_of}
 use Rattle.cbfs_edit.specs.declared.addition.HashChoice.{HashChoice}
 use Rattle.cbfs_edit.specs.declared.addition.HashChoice.TheVariants.{Plain, Sha256, Sha512}
 use Rattle.cbfs_edit.specs.declared.fault.EditFault.TheVariants as faults
-use Rattle.flash_device.specs.declared.paged.CopyFault.TheVariants as copies
+use Rattle.flash_device.specs.declared.paged.CopyInFault.TheVariants as copies
 
 -- after the caller's own checks
 pub own-is : (x : List ℕ) (new : NewComponent) (spot : Spot) (own : Option EditFault) → own ≡ own_fault new.name new.kind spot → option_map_or (λ fault. Err fault) own (placing_in x new.name (wanted_for new spot)) ≡ addition_in x new spot
@@ -259,11 +259,18 @@ told_as fault other is = ap (λ e. Err e) is
 pub no_error : {A E X : Type 0} {value : A} {fault : E} → (let a : Result A E = Ok value in IsErrOf a fault) → X
 no_error is = absurd cc
 
-pub device_for_source : {A X : Type 0} → (let a : Result A EditFault = Err faults.Device in IsErrOf a faults.Source) → X
-device_for_source is = absurd cc
+-- a stopped copy
+pub copy_cause : {A Q : Type 0} (fault : CopyInFault) → (let a : Result A EditFault = Err (copy_fault fault) in IsErrOf a faults.Device ⊎ (IsErrOf a faults.Source ⊎ Q))
+copy_cause copies.Device = inl refl
+copy_cause copies.Source = inr (inl refl)
 
-pub source_for_device : {A X : Type 0} → (let a : Result A EditFault = Err faults.Source in IsErrOf a faults.Device) → X
-source_for_device is = absurd cc
+pub copy_only : {X : Type 0} (fault : CopyInFault) → (copy_fault fault ≡ faults.Device → ⊥) → (copy_fault fault ≡ faults.Source → ⊥) → X
+copy_only copies.Device other another = absurd (other refl)
+copy_only copies.Source other another = absurd (another refl)
+
+pub copy_source : {A B : Type 0} (fault : CopyInFault) → (let a : Result A EditFault = Err (copy_fault fault) in IsErrOf a faults.Source) → (let b : Result B CopyInFault = Err fault in IsErrOf b copies.Source)
+copy_source copies.Device is = absurd cc
+copy_source copies.Source is = refl
 
 -- the source's calls
 pub content_read : (n told : ℕ) (old new : Device) → Reads ((n + 4095) / 4096) told old new → Reads (n / 4096 + 1) told old new
@@ -299,7 +306,7 @@ module _ (x : List ℕ) (new : NewComponent) (spot : Spot) (own : Option EditFau
 pub written : (r : Range) (new : NewComponent) (spot : Spot) (place : Place) (old mid now : List ℕ) → mid ≡ old → addition_in (bytes_in r old) new spot ≡ Ok place → bytes_in r now ≡ added (bytes_in r mid) new place → bytes_in r now ≡ added_to (bytes_in r old) new spot
 written r new spot place old mid now same is there = there ∙ ap (λ (l : List ℕ). added (bytes_in r l) new place) same ∙ sym (ap (λ (a : Result Place EditFault). option_map_or (added (bytes_in r old) new) (result_ok a) (bytes_in r old)) is)
 
-module _ (r : Range) (new : NewComponent) (spot : Spot) (place : Place) (old mid now : List ℕ) (honest : Type 0) (result : Result (Unit {0}) CopyFault) (n : ℕ) (lies : LiesIn r old) (small : length old < 2 ^ 32) (kind_small : new.kind < 2 ^ 32)
+module _ (r : Range) (new : NewComponent) (spot : Spot) (place : Place) (old mid now : List ℕ) (honest : Type 0) (result : Result (Unit {0}) CopyInFault) (n : ℕ) (lies : LiesIn r old) (small : length old < 2 ^ 32) (kind_small : new.kind < 2 ^ 32)
     (content_small : length new.content < 2 ^ 32) (len : n ≡ length new.content) (digest : IsDigest new.digest) (same : mid ≡ old) (is : addition_in (bytes_in r old) new spot ≡ Ok place)
     (stopped : IsInsertStop place.run (written_to r.size n place) ((IsErrOf result copies.Source → ⊥) × (honest → bytes_in r now ≡ added (bytes_in r mid) new place)) (bytes_in r mid) (bytes_in r now)) where
   abbrev x : List ℕ

@@ -3,11 +3,10 @@ use Rattle.std.specs.Prelude.{◌≡◌, ℕ, ◌+◌, ◌/◌, List, length, Re
 use Rattle.std.specs.Prelude.{◌-◌, max, drop, Ok, ◌==◌}
 use Rattle.flash_device.specs.Device.{overwritten, SameOutside, Device, Reads, fault_count}
 use Rattle.flash_device.specs.Device.{refusals}
-use Rattle.flash_device.specs.Pages as copies
 use Rattle.flash_device.specs.Pages.{Pages, HasChanged}
 use Rattle.flash_device.specs.Regions.{Range, bytes_in}
-use Rattle.flash_device.specs.declared.paged.CopyFault.{CopyFault}
-use Rattle.flash_device.specs.declared.paged.CopyFault.TheVariants as causes
+use Rattle.flash_device.specs.declared.paged.CopyInFault.{CopyInFault}
+use Rattle.flash_device.specs.declared.paged.CopyInFault.TheVariants as causes
 use Rattle.flash_format.specs.Made.{header_length, empty_header}
 use Rattle.flash_format.specs.Cut.{cut}
 use Rattle.flash_format.specs.Components.{components}
@@ -32,6 +31,14 @@ by_device fault = by_fault fault 1 0 0
 abbrev pub by_source : EditFault → ℕ
 by_source fault = by_fault fault 0 1 0
 
+abbrev pub copy_fault : CopyInFault → EditFault
+copy_fault causes.Device = faults.Device
+copy_fault causes.Source = faults.Source
+
+-- the number of failed calls of a copy
+abbrev pub stop_count : {T : Type 0} → (EditFault → ℕ) → Result T CopyInFault → ℕ
+stop_count told result = fault_count (λ fault. told (copy_fault fault)) result
+
 -- P of a region before and after, on an honest device
 abbrev pub OnHonestChange : {F : Type 0} → (F → Device) → Range → Pages F → Pages F
     → (List ℕ → List ℕ → Type 0) → Type 0
@@ -50,12 +57,11 @@ pub record HasWrittenIn {F T E : Type 0} (facts : F → Device) (region : Range)
 -- A copy of a source into a region. `copied` and `torn` require an honest device, `copied` also an
 -- honest source.
 pub record HasCopied {F T : Type 0} (facts : F → Device) (region : Range) (at : ℕ)
-    (old new : Pages F) (input input_now : Device) (result : Result T CopyFault) : Type 0 where
+    (old new : Pages F) (input input_now : Device) (result : Result T CopyInFault) : Type 0 where
   pub after : HasChanged facts region ((length input.content + 4095) / 4096)
-      (fault_count copies.by_device result) old new
-  pub source : Reads ((length input.content + 4095) / 4096) (fault_count copies.by_source result)
+      (stop_count by_device result) old new
+  pub source : Reads ((length input.content + 4095) / 4096) (stop_count by_source result)
       input input_now
-  pub no_output : IsErrOf result causes.Output → ⊥
   pub copied : OnHonestChange facts region old new (λ x y.
       IsTrue input.honest → OnOk result (y ≡ overwritten x at input.content))
   pub torn : OnHonestChange facts region old new (SameOutside at (length input.content))

@@ -6,12 +6,11 @@ ghost use Rattle.std.specs.List.{list_any};
 ghost use Rattle.flash_format.specs.Entry.{is_nul};
 ghost use Rattle.flash_format.specs.Made.{hash_len};
 ghost use Rattle.flash_device.specs.Device.{overwritten, Reads, fault_count};
-ghost use Rattle.flash_device.specs.Pages as copies;
 ghost use Rattle.flash_device.specs.Pages.{HasChanged, OnHonestIn};
 ghost use Rattle.flash_device.specs.Regions.{LiesOn};
 ghost use Rattle.cbfs_edit.specs.Changes.{OnHonestChange, HasCopied, AddLeavesBefore};
 ghost use Rattle.cbfs_edit.specs.Changes.{AddLeavesWhole, IsInsertStop, written_to, by_device};
-ghost use Rattle.cbfs_edit.specs.Changes.{by_source};
+ghost use Rattle.cbfs_edit.specs.Changes.{by_source, stop_count};
 ghost use Rattle.cbfs_edit.specs.Additions.{added, added_to, addition_in, digest_of, is_bad_name};
 ghost use Rattle.cbfs_edit.specs.Additions.{is_bad_type, component_of_label, new_component};
 ghost use Rattle.cbfs_edit.specs.Additions.{own_fault, placed_of, wanted_for};
@@ -22,7 +21,7 @@ use crate::hashing::Hashing;
 use crate::insertion::describe;
 use crate::place::{Place, Spot, Wanted, find_place};
 use crate::write::{copy_into, write_empty_entry};
-use flash_device::{CopyFault, Flash, Paged, Region, Source, Unwatched};
+use flash_device::{CopyInFault, Flash, Paged, Region, Source, Unwatched};
 use flash_format::{Algorithm, Digest, Meta, meta_len};
 use sha2::{Sha256, Sha512};
 
@@ -60,7 +59,7 @@ fn copy_content<F: Flash, S: Source>(
     at: u64,
     hash: HashChoice,
     source: &mut S,
-) -> Result<Option<Digest>, CopyFault>
+) -> Result<Option<Digest>, CopyInFault>
     requires region { LiesOn region (F.facts paged.old.device) }
     requires inside { at + length (S.facts source.old).content ≤ region.size }
 
@@ -142,7 +141,7 @@ fn insert<F: Flash, S: Source>(
     place: Place,
     label: &Label<'_>,
     source: &mut S,
-) -> Result<(), CopyFault>
+) -> Result<(), CopyInFault>
     requires region { LiesOn region (F.facts paged.old.device) }
     requires fits { Fits wanted region.size place }
     requires name { length label.now.name.now ≤ 127 }
@@ -150,17 +149,16 @@ fn insert<F: Flash, S: Source>(
         ≡ wanted_for (component_of_label label.now (S.facts source.old).content) wanted.spot }
 
     ensures after { HasChanged F.facts region (region.size / 4096 + region.size / 4096 + 6)
-        (fault_count copies.by_device result) paged.old paged.new }
+        (stop_count by_device result) paged.old paged.new }
     ensures source { Reads ((length (S.facts source.old).content + 4095) / 4096)
-        (fault_count copies.by_source result) (S.facts source.old) (S.facts source.new) }
-    ensures no_output { IsErrOf result CopyFault.Output → ⊥ }
+        (stop_count by_source result) (S.facts source.old) (S.facts source.new) }
 
     ensures added { OnHonestChange F.facts region paged.old paged.new (λ x y.
         IsTrue (S.facts source.old).honest → OnOk result
         (y ≡ added x (component_of_label label.now (S.facts source.old).content) place)) }
     ensures stopped { OnHonestChange F.facts region paged.old paged.new (λ x y. OnErr result
         (IsInsertStop place.run (written_to region.size wanted.len place)
-        ((IsErrOf result CopyFault.Source → ⊥) × (IsTrue (S.facts source.old).honest →
+        ((IsErrOf result CopyInFault.Source → ⊥) × (IsTrue (S.facts source.old).honest →
         y ≡ added x (component_of_label label.now (S.facts source.old).content) place)) x y)) }
 {
     let end = (place.content + wanted.len + 63) / 64 * 64;
@@ -275,13 +273,9 @@ pub fn add<F: Flash, S: Source>(
     let label = Label { name, kind, hash };
     let wanted = wanted_of(&label, source.len(), spot);
     let place = find_place(paged, region, name, wanted)?;
-    match insert(paged, region, wanted, place, &label, source) {
-        Ok(()) => Ok(Placed {
-            header: place.header,
-            content: place.content,
-        }),
-        Err(CopyFault::Device) => Err(EditFault::Device),
-        Err(CopyFault::Source) => Err(EditFault::Source),
-        Err(CopyFault::Output) => unreachable!(),
-    }
+    insert(paged, region, wanted, place, &label, source)?;
+    Ok(Placed {
+        header: place.header,
+        content: place.content,
+    })
 }

@@ -1,10 +1,11 @@
 //! The errors of edits.
 ghost use Rattle.std.specs.Prelude.{◌≡◌};
+ghost use Rattle.cbfs_edit.specs.Changes.{copy_fault};
 ghost use Rattle.cbfs_edit.specs.Removals.{edit_fault_of};
 ghost use Rattle.cbfs_edit.specs.declared.fault.EditFault.TheVariants.{Device};
 
 use cbfs_walk::WalkFault;
-use flash_device::FlashFault;
+use flash_device::{CopyInFault, FlashFault};
 use flash_format::DamageKind;
 
 /// The errors of edits, with the printed numbers. After `Device`, the components are the same as
@@ -40,6 +41,17 @@ impl From<FlashFault> for EditFault {
 
     fn from(_: FlashFault) -> EditFault {
         EditFault::Device
+    }
+}
+
+impl From<CopyInFault> for EditFault {
+    ghost from_gives = { λ copy_in_fault fault. fault ≡ copy_fault copy_in_fault };
+
+    fn from(fault: CopyInFault) -> EditFault {
+        match fault {
+            CopyInFault::Device => EditFault::Device,
+            CopyInFault::Source => EditFault::Source,
+        }
     }
 }
 

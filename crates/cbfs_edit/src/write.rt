@@ -9,7 +9,7 @@ ghost use Rattle.cbfs_edit.specs.Removals.{IsCellRange, removed, space_end};
 
 use crate::group::CellRange;
 use flash_device::{
-    CopyFault, Flash, FlashFault, MemSource, Paged, Region, Source, Unwatched, Watch,
+    CopyInFault, Flash, FlashFault, MemSource, Paged, Region, Source, Unwatched, Watch,
 };
 use flash_format::{HEADER_LENGTH, empty_header};
 
@@ -53,7 +53,7 @@ pub fn copy_into<F: Flash, S: Source, W: Watch>(
     at: u64,
     source: &mut S,
     watch: &mut W,
-) -> Result<(), CopyFault>
+) -> Result<(), CopyInFault>
     requires region { LiesOn region (F.facts paged.old.device) }
     requires inside { at + length (S.facts source.old).content ≤ region.size }
 

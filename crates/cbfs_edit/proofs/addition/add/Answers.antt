@@ -5,7 +5,7 @@ use Rattle.flash_device.proofs.DeviceLemmas.{honest_still}
 use Rattle.cbfs_edit.specs.Additions.{new_component, placed_of}
 use Rattle.cbfs_edit.specs.declared.fault.EditFault.TheVariants as faults
 use Rattle.cbfs_edit.specs.declared.place.Wanted.{Wanted}
-use Rattle.cbfs_edit.proofs.Added.{own-is, no_fault, told, digest-sized, found_in, place_found, written, source_leaves, device_leaves, no_error, device_for_source, source_for_device, content_read, sought_written}
+use Rattle.cbfs_edit.proofs.Added.{own-is, no_fault, told, digest-sized, found_in, place_found, written, source_leaves, device_leaves, no_error, copy_cause, copy_only, copy_source, content_read, sought_written}
 use Rattle.cbfs_edit.proofs.Removals.{image_of}
 use Rattle.cbfs_edit.proofs.addition.add.Goals as goal
 
@@ -24,17 +24,17 @@ returns-in_err-place-clause-answer g c honest =
       | inr is ↦ inr (inr (ap placed_of is))
     ])
 
-pub returns-in-Ok : goal.returns-in-Ok
-returns-in-Ok g c =
+pub returns : goal.returns
+returns g c =
     let new = new_component c.args.name.now c.args.kind c.args.hash (g.S.Source.facts c.args.source.now).content in
     let passed = no_fault c.own_fault.result c.in_default.not-Some ∙ c.own_fault.ensures in
     let still = λ (h : IsTrue (g.F.Flash.facts c.args.paged.now.device).honest). honest_still c.find_place.ensures.after.device.calls.same_honesty h in
     let same = c.find_place.ensures.after.device.unchanged in
     let is = λ (h : IsTrue (g.F.Flash.facts c.args.paged.now.device).honest). place_found (bytes_in c.args.region (g.F.Flash.facts c.args.paged.now.device).content) new c.args.spot _ _ c.in_default.not-Some c.own_fault.ensures (c.wanted_of-wanted.ensures new.content c.len.ensures.length) c.in_ok-place.place (c.in_ok-place.ensures.answer h) in
-    let done = λ (h : IsTrue (g.F.Flash.facts c.args.paged.now.device).honest) (s : IsTrue (g.S.Source.facts c.args.source.now).honest). written c.args.region new c.args.spot c.in_ok-place.place _ _ _ (same h) (is h) (c.in-Ok.ensures.added (still h) s) in
+    let done = λ (h : IsTrue (g.F.Flash.facts c.args.paged.now.device).honest) (s : IsTrue (g.S.Source.facts c.args.source.now).honest). written c.args.region new c.args.spot c.in_ok-place.place _ _ _ (same h) (is h) (c.in_ok-insert.ensures.added (still h) s) in
     record {
-      after = sought_written g.F.Flash.facts c.args.region _ c.args.paged.now c.find_place.new.paged c.insert.new.paged c.in_ok-place.ensures.after c.in-Ok.ensures.after;
-      source = content_read _ _ (g.S.Source.facts c.args.source.now) (g.S.Source.facts c.insert.new.source) c.in-Ok.ensures.source;
+      after = sought_written g.F.Flash.facts c.args.region _ c.args.paged.now c.find_place.new.paged c.insert.new.paged c.in_ok-place.ensures.after c.in_ok-insert.ensures.after;
+      source = content_read _ _ (g.S.Source.facts c.args.source.now) (g.S.Source.facts c.insert.new.source) c.in_ok-insert.ensures.source;
       words = rw (← passed) tt;
       answer = λ honest. inr (inr (sym (ap placed_of (is honest))));
       refused = search rules;
@@ -44,38 +44,23 @@ returns-in-Ok g c =
       stopped = λ honest source_honest failed. no_error failed;
     }
 
-pub returns-in-Err-Device : goal.returns-in-Err-Device
-returns-in-Err-Device g c =
+pub returns-in_err-insert : goal.returns-in_err-insert
+returns-in_err-insert g c =
     let new = new_component c.args.name.now c.args.kind c.args.hash (g.S.Source.facts c.args.source.now).content in
     let passed = no_fault c.own_fault.result c.in_default.not-Some ∙ c.own_fault.ensures in
     let is = λ (h : IsTrue (g.F.Flash.facts c.args.paged.now.device).honest). place_found (bytes_in c.args.region (g.F.Flash.facts c.args.paged.now.device).content) new c.args.spot _ _ c.in_default.not-Some c.own_fault.ensures (c.wanted_of-wanted.ensures new.content c.len.ensures.length) c.in_ok-place.place (c.in_ok-place.ensures.answer h) in
-    record {
-      after = sought_written g.F.Flash.facts c.args.region _ c.args.paged.now c.find_place.new.paged c.insert.new.paged c.in_ok-place.ensures.after (rw c.in-Err-Device.field-0-is at c.in-Err-Device.ensures.after);
-      source = content_read _ _ (g.S.Source.facts c.args.source.now) (g.S.Source.facts c.insert.new.source) (rw c.in-Err-Device.field-0-is at c.in-Err-Device.ensures.source);
+    let fault = c.in_err-insert.field-0.0 in
+    let refused = err_from_is_err_and c.from_residual-in_err-insert.result c.from_residual-in_err-insert.ensures.1 in
+    rw (refused.1, refused.2) (record {
+      after = sought_written g.F.Flash.facts c.args.region _ c.args.paged.now c.find_place.new.paged c.insert.new.paged c.in_ok-place.ensures.after c.in_err-insert.ensures.after;
+      source = content_read _ _ (g.S.Source.facts c.args.source.now) (g.S.Source.facts c.insert.new.source) c.in_err-insert.ensures.source;
       words = rw (← passed) tt;
-      answer = λ honest. inl refl;
-      refused = λ honest other another. absurd (other refl);
-      before = λ honest failed. device_for_source failed;
+      answer = λ honest. copy_cause fault;
+      refused = λ honest. copy_only fault;
+      before = λ honest failed. source_leaves c.args.region new c.args.spot c.in_ok-place.place _ _ _ (IsTrue (g.S.Source.facts c.args.source.now).honest) _ _ c.requires.inside c.requires.below c.ranges.kind.fits (omega (arith, c.len.ensures)) (ap (λ (w : Wanted). w.len) (c.wanted_of-wanted.ensures new.content c.len.ensures.length))
+          (digest-sized c.args.hash new.content) (c.find_place.ensures.after.device.unchanged honest) (is honest) (c.in_err-insert.ensures.stopped (honest_still c.find_place.ensures.after.device.calls.same_honesty honest)) (copy_source fault failed);
       added = search rules;
       image = search rules;
       stopped = λ honest source_honest failed. device_leaves c.args.region new c.args.spot c.in_ok-place.place _ _ _ (IsTrue (g.S.Source.facts c.args.source.now).honest) _ _ c.requires.inside c.requires.below c.ranges.kind.fits (omega (arith, c.len.ensures)) (ap (λ (w : Wanted). w.len) (c.wanted_of-wanted.ensures new.content c.len.ensures.length))
-          (digest-sized c.args.hash new.content) (c.find_place.ensures.after.device.unchanged honest) (is honest) ((rw c.in-Err-Device.field-0-is at c.in-Err-Device.ensures.stopped) (honest_still c.find_place.ensures.after.device.calls.same_honesty honest)) source_honest;
-    }
-
-pub returns-in-Err-Source : goal.returns-in-Err-Source
-returns-in-Err-Source g c =
-    let new = new_component c.args.name.now c.args.kind c.args.hash (g.S.Source.facts c.args.source.now).content in
-    let passed = no_fault c.own_fault.result c.in_default.not-Some ∙ c.own_fault.ensures in
-    let is = λ (h : IsTrue (g.F.Flash.facts c.args.paged.now.device).honest). place_found (bytes_in c.args.region (g.F.Flash.facts c.args.paged.now.device).content) new c.args.spot _ _ c.in_default.not-Some c.own_fault.ensures (c.wanted_of-wanted.ensures new.content c.len.ensures.length) c.in_ok-place.place (c.in_ok-place.ensures.answer h) in
-    record {
-      after = sought_written g.F.Flash.facts c.args.region _ c.args.paged.now c.find_place.new.paged c.insert.new.paged c.in_ok-place.ensures.after (rw c.in-Err-Source.field-0-is at c.in-Err-Source.ensures.after);
-      source = content_read _ _ (g.S.Source.facts c.args.source.now) (g.S.Source.facts c.insert.new.source) (rw c.in-Err-Source.field-0-is at c.in-Err-Source.ensures.source);
-      words = rw (← passed) tt;
-      answer = λ honest. inr (inl refl);
-      refused = λ honest other another. absurd (another refl);
-      before = λ honest failed. source_leaves c.args.region new c.args.spot c.in_ok-place.place _ _ _ (IsTrue (g.S.Source.facts c.args.source.now).honest) _ _ c.requires.inside c.requires.below c.ranges.kind.fits (omega (arith, c.len.ensures)) (ap (λ (w : Wanted). w.len) (c.wanted_of-wanted.ensures new.content c.len.ensures.length))
-          (digest-sized c.args.hash new.content) (c.find_place.ensures.after.device.unchanged honest) (is honest) ((rw c.in-Err-Source.field-0-is at c.in-Err-Source.ensures.stopped) (honest_still c.find_place.ensures.after.device.calls.same_honesty honest)) refl;
-      added = search rules;
-      image = search rules;
-      stopped = λ honest source_honest failed. source_for_device failed;
-    }
+          (digest-sized c.args.hash new.content) (c.find_place.ensures.after.device.unchanged honest) (is honest) (c.in_err-insert.ensures.stopped (honest_still c.find_place.ensures.after.device.calls.same_honesty honest)) source_honest;
+    })
