@@ -15,10 +15,11 @@ use Rattle.flash_format.specs.declared.head.Extent.{Extent}
 use Rattle.flash_format.specs.declared.head.DamageKind.{DamageKind}
 use Rattle.flash_format.specs.declared.head.DamageKind.TheVariants as kinds
 use Rattle.flash_format.specs.declared.digest.Digest.{Digest}
-use Rattle.flash_format.specs.declared.digest.Digest.TheVariants as digests
+use Rattle.flash_format.specs.declared.digest.Algorithm.{Algorithm}
+use Rattle.flash_format.specs.declared.digest.Algorithm.TheVariants.{Sha256, Sha512}
 use Rattle.flash_format.specs.declared.attribute.AttrHead.{AttrHead}
 use Rattle.flash_format.specs.Head.{head_of, head_at, head_bytes, is_free, round64, be32}
-use Rattle.flash_format.specs.Made.{name_padding, padding, IsDigest, IsMade, KeepsFour, name_room, meta_length, algorithm_row, algorithm, digest_bytes, digest_len, hash_attribute, hash_bytes, hash_len, made_head, padded_name, made_metadata, made, made_attributes}
+use Rattle.flash_format.specs.Made.{name_padding, padding, IsDigest, IsMade, KeepsFour, name_room, meta_length, algorithm_row, algorithm, digest_bytes, hash_attribute, hash_bytes, hash_len, made_head, padded_name, made_metadata, made, made_attributes}
 use Rattle.flash_format.specs.Entry.{Attribute, attr_head_of, attributes, attributes_after, attribute, ends_list, is_malformed, is_unused, has_bad_len, HASH, damaged, cell, present, component, is_nul, name_end, name_field, has_name, attribute_field}
 use Rattle.flash_format.specs.Components.{component_at}
 use Rattle.flash_format.specs.Placings.{IsReadAs, made_component}
@@ -110,9 +111,9 @@ hash_read number bytes gap few =
     ∙ ap (λ (o : Option (List Attribute)). option_map (λ others. attribute x ∷ others) o) rest
     ∙ ap (λ (a : Attribute). Some (a ∷ [])) first
 
-few_bytes : (digest : Digest) → length (digest_bytes digest) ≡ digest_len digest → length (digest_bytes digest) ≤ 64
-few_bytes (digests.Sha256 bytes) is = omega (arith, is)
-few_bytes (digests.Sha512 bytes) is = omega (arith, is)
+pub few_bytes : (a : Algorithm) → (algorithm_row a).len ≤ 64
+few_bytes Sha256 = omega arith
+few_bytes Sha512 = omega arith
 
 -- ---- the parts of metadata
 
@@ -146,7 +147,7 @@ attributes_read name kind (Some d) gap n more is =
     ∙ ap (λ (l : List ℕ). slice_range l at h.offset) shape
     ∙ range_of before list more at h.offset (omega (arith, length-append (head_bytes h) (padded_name name), length-head_bytes h, length-padded name))
     (omega (arith, length-append hash (replicate gap 255), length-replicate {A = ℕ} gap 255)) in
-    ap (λ (l : List ℕ). attributes l) field ∙ hash_read (algorithm_row (algorithm d)).number (digest_bytes d) gap (few_bytes d is)
+    ap (λ (l : List ℕ). attributes l) field ∙ hash_read (algorithm_row (algorithm d)).number (digest_bytes d) gap (omega (arith, is, few_bytes (algorithm d)))
 
 -- ---- the cell
 

@@ -6,6 +6,7 @@ use Rattle.std.specs.Prelude.{ℕ, ◌-◌, Bool, List, ◌++◌, drop, replicat
 use Rattle.flash_format.specs.Head.{head_bytes, round64}
 use Rattle.std.specs.List.{find, list_any}
 use Rattle.std.specs.Option.{option_copied, option_map_or}
+use Rattle.std.specs.Str.{bytes_eq}
 use lib.Chars.{codes}
 use Rattle.byteorder.specs.Endian.{big_bytes}
 use Rattle.flash_format.specs.declared.head.Head.{Head}
@@ -62,9 +63,14 @@ abbrev pub algorithm_row : Algorithm → AlgorithmRow
 algorithm_row Sha256 = record { number = 2; len = 32; name = codes "sha256" }
 algorithm_row Sha512 = record { number = 3; len = 64; name = codes "sha512" }
 
+abbrev pub algorithms : List Algorithm
+algorithms = Sha256 ∷ Sha512 ∷ []
+
 abbrev pub algorithm_numbered : ℕ → Option Algorithm
-algorithm_numbered number =
-    find (λ algorithm. (algorithm_row algorithm).number == number) (Sha256 ∷ Sha512 ∷ [])
+algorithm_numbered number = find (λ algorithm. (algorithm_row algorithm).number == number) algorithms
+
+abbrev pub algorithm_named : List ℕ → Option Algorithm
+algorithm_named name = find (λ algorithm. bytes_eq (algorithm_row algorithm).name name) algorithms
 
 abbrev pub digest_with : Algorithm → List ℕ → Digest
 digest_with Sha256 bytes = digests.Sha256 bytes

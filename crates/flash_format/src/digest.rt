@@ -2,7 +2,8 @@
 
 ghost use Rattle.std.specs.Prelude.{◌≡◌, ◌≤◌, ◌*◌, length, take, drop};
 ghost use Rattle.hex.specs.Hex.{encode_lower};
-ghost use Rattle.flash_format.specs.Made.{algorithm_row, algorithm_numbered, digest_with, algorithm, digest_bytes, digest_len};
+ghost use Rattle.flash_format.specs.Made.{algorithm_row, algorithm_named, algorithm_numbered};
+ghost use Rattle.flash_format.specs.Made.{algorithm, digest_bytes, digest_len, digest_with};
 
 /// A digest algorithm of FIPS 180-4.
 #[derive(Clone, Copy)]
@@ -19,6 +20,13 @@ impl Algorithm {
         ensures { result ≡ algorithm_numbered number }
     {
         Self::ALL.into_iter().find(|it| it.number() == number)
+    }
+
+    /// Returns the algorithm with a printed name.
+    pub fn named(name: &str) -> Option<Algorithm>
+        ensures { result ≡ algorithm_named name.now }
+    {
+        Self::ALL.into_iter().find(|it| it.name() == name)
     }
 
     /// Returns vboot's number.
