@@ -1,14 +1,14 @@
 -- The digest of a content, and the first hash attribute.
-use Rattle.std.proofs.Common.{◌≡◌, ℕ, ◌+◌, ◌-◌, ◌<◌, ◌≤◌, Bool, true, false, cond, IsTrue, List, ◌++◌, take, drop, length, Option, Some, None, Ok, sym, subst, ap, ◌∙◌, arith, ltb, le_refl}
+use Rattle.std.proofs.Common.{◌≡◌, ℕ, ◌+◌, ◌-◌, ◌<◌, ◌≤◌, Bool, true, false, cond, IsTrue, List, ◌++◌, take, drop, length, Option, Some, None, Ok, refl, sym, subst, ap, ◌∙◌, arith, ltb, le_refl}
 use Rattle.std.specs.Prelude.{slice_range, IfSome, option_and_then}
 use Rattle.std.specs.Str.{bytes_eq}
 use Rattle.std.proofs.lemmas.Bool.{lt-ltb, le-ltb}
 use Rattle.byteorder.specs.Endian.{big_number}
-use Rattle.sha2.specs.Sha256.{sha256}
-use Rattle.sha2.specs.Sha512.{sha512}
+use Rattle.sha2.proofs.Facts256.{length-sha256}
+use Rattle.sha2.proofs.Facts512.{length-sha512}
 use Rattle.flash_format.specs.declared.digest.Algorithm.{Algorithm}
+use Rattle.flash_format.specs.declared.digest.Algorithm.TheVariants as algorithms
 use Rattle.flash_format.specs.declared.digest.Digest.{Digest}
-use Rattle.flash_format.specs.declared.digest.Digest.TheVariants as digests
 use Rattle.flash_format.specs.declared.head.Head.{Head}
 use Rattle.flash_format.specs.Head.{be32}
 use Rattle.flash_format.specs.Entry.{data_of, HASH}
@@ -20,11 +20,11 @@ use Rattle.flash_device.specs.Regions.{Range, LiesIn, bytes_in}
 use Rattle.cbfs_walk.specs.Walks.{Passes, StandsIn}
 use Rattle.cbfs_walk.specs.Cells.{IsComponentIn, cell_in, attributes_start, content_start, content_end}
 use Rattle.cbfs_walk.specs.AttrWalks.{IsAttrOf, Placed, searched_to}
-use Rattle.cbfs_walk.specs.Hashes.{sha256_of, sha512_of, digest_like, digest_by, stored_digest, comparison, state_of, hash_state, content_at, hash_state_in, IsUncompared}
+use Rattle.cbfs_walk.specs.Hashes.{hashed_by, digest_by, stored_digest, comparison, state_of, hash_state, content_at, hash_state_in, IsUncompared}
 use Rattle.cbfs_walk.specs.declared.cell.Cell.{Cell}
 use Rattle.cbfs_walk.specs.declared.hashes.HashState.{HashState}
 use Rattle.cbfs_walk.specs.declared.hashes.HashState.TheVariants.{Valid, Invalid}
-use Rattle.flash_format.specs.Made.{algorithm_row, algorithm_numbered, digest_with, digest_bytes}
+use Rattle.flash_format.specs.Made.{algorithm, algorithm_row, algorithm_numbered, digest_with, digest_bytes, digest_len}
 use Rattle.cbfs_walk.proofs.Parts.{length-region, range-inner, range-take, range-after, length-range}
 use Rattle.cbfs_walk.proofs.Reading.{Passes-then}
 use Rattle.cbfs_walk.proofs.Checks.{checks_give}
@@ -94,13 +94,16 @@ module _ (r : Range) (image : List ℕ) (at n number : ℕ) (lies : LiesIn r ima
 pub content_taken : (x : List ℕ) (c : Cell) (from at : ℕ) → from ≡ content_start c → at ≡ content_end c → slice_range x from at ≡ content_at x c
 content_taken x c from at begins ends = ap (λ k. slice_range x k at) begins ∙ ap (slice_range x (content_start c)) ends
 
-pub like_sha256 : (stored : Digest) (old bytes content : List ℕ) → stored ≡ digests.Sha256 old → bytes ≡ sha256 content → digests.Sha256 bytes ≡ digest_like stored content
-unfolding sha256_of
-like_sha256 stored old bytes content is e = ap digests.Sha256 e ∙ ap (λ d. digest_like d content) (sym is)
+-- the algorithm's row
+pub algorithm-hashed : (a : Algorithm) (bytes : List ℕ) → algorithm (hashed_by a bytes) ≡ a
+unfolding hashed_by
+algorithm-hashed algorithms.Sha256 bytes = refl
+algorithm-hashed algorithms.Sha512 bytes = refl
 
-pub like_sha512 : (stored : Digest) (old bytes content : List ℕ) → stored ≡ digests.Sha512 old → bytes ≡ sha512 content → digests.Sha512 bytes ≡ digest_like stored content
-unfolding sha512_of
-like_sha512 stored old bytes content is e = ap digests.Sha512 e ∙ ap (λ d. digest_like d content) (sym is)
+pub length-hashed : (a : Algorithm) (bytes : List ℕ) → length (digest_bytes (hashed_by a bytes)) ≡ digest_len (hashed_by a bytes)
+unfolding hashed_by
+length-hashed algorithms.Sha256 bytes = length-sha256 bytes
+length-hashed algorithms.Sha512 bytes = length-sha512 bytes
 
 -- ---- the first hash attribute
 

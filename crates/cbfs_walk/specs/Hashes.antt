@@ -7,11 +7,13 @@ use Rattle.std.specs.Str.{bytes_eq}
 use Rattle.sha2.specs.Sha256.{sha256}
 use Rattle.sha2.specs.Sha512.{sha512}
 use Rattle.flash_format.specs.declared.digest.Algorithm.{Algorithm}
+use Rattle.flash_format.specs.declared.digest.Algorithm.TheVariants as algorithms
 use Rattle.flash_format.specs.declared.digest.Digest.{Digest}
 use Rattle.flash_format.specs.declared.digest.Digest.TheVariants.{Sha256, Sha512}
 use Rattle.flash_format.specs.Head.{be32}
 use Rattle.flash_format.specs.Entry.{Attribute, data_of, HASH}
-use Rattle.flash_format.specs.Made.{algorithm_row, algorithm_numbered, digest_with, digest_bytes}
+use Rattle.flash_format.specs.Made.{algorithm, algorithm_row, algorithm_numbered, digest_with}
+use Rattle.flash_format.specs.Made.{digest_bytes}
 use Rattle.cbfs_walk.specs.declared.cell.Cell.{Cell}
 use Rattle.cbfs_walk.specs.declared.hashes.HashState.{HashState}
 use Rattle.cbfs_walk.specs.declared.hashes.HashState.TheVariants.{Absent, Valid, Invalid, Unsupported}
@@ -20,17 +22,14 @@ use Rattle.cbfs_walk.specs.AttrWalks.{Placed, first_of}
 
 -- ---- digests
 
--- separate names, so that proofs don't unfold the standard's definitions
-unfoldable pub sha256_of : List ℕ → Digest
-sha256_of bytes = Sha256 (sha256 bytes)
-
-unfoldable pub sha512_of : List ℕ → Digest
-sha512_of bytes = Sha512 (sha512 bytes)
+-- opaque, so that proofs don't unfold the standard's definitions
+unfoldable pub hashed_by : Algorithm → List ℕ → Digest
+hashed_by algorithms.Sha256 bytes = Sha256 (sha256 bytes)
+hashed_by algorithms.Sha512 bytes = Sha512 (sha512 bytes)
 
 -- the digest by the algorithm of another digest
 abbrev pub digest_like : Digest → List ℕ → Digest
-digest_like (Sha256 other) bytes = sha256_of bytes
-digest_like (Sha512 other) bytes = sha512_of bytes
+digest_like other bytes = hashed_by (algorithm other) bytes
 
 -- ---- states of a hash attribute
 

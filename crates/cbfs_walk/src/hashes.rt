@@ -24,7 +24,7 @@ pub enum HashState {
     Valid(Digest),
     /// Different digests.
     Invalid(Digest),
-    /// Neither SHA-256 nor SHA-512, or a truncated digest.
+    /// An unknown algorithm, or a truncated digest.
     Unsupported,
 }
 
@@ -88,6 +88,7 @@ fn stored_digest<F: Flash>(
     Ok(Some(Digest::read(algorithm, bytes)))
 }
 
+#[tactic(auto, unfolding(crate::specs::Hashes::hashed_by))]
 fn content_digest<F: Flash>(
     paged: &mut Paged<F>,
     region: Region,
