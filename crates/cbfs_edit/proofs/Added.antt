@@ -21,7 +21,7 @@ use Rattle.cbfs_edit.specs.Runs.{runs}
 use Rattle.cbfs_edit.specs.Places.{is_bad_align, IsWanted, IsFirstPlace, IsPlaceAmong, placing_in}
 use Rattle.cbfs_edit.specs.Places.{Fits}
 use Rattle.cbfs_edit.specs.Changes.{AddLeavesWhole, AddLeavesBefore, IsOldOrEmptied, written_to, IsInsertStop, copy_fault}
-use Rattle.cbfs_edit.specs.Additions.{NewComponent, AddsOne, added, added_component, addition_in, empty_between, cell_end, metadata_len_of, is_bad_name, is_bad_type, kept_from, made_at, own_fault, wanted_for, added_to, digest_of}
+use Rattle.cbfs_edit.specs.Additions.{NewComponent, AddsOne, added, added_component, addition_in, empty_between, cell_end, metadata_len_of, is_bad_name, is_bad_type, kept_from, made_at, own_fault, wanted_for, added_to, algorithm_of, digest_of}
 use Rattle.cbfs_edit.specs.Laws.{AdditionsAddOneComponent, IsAdded}
 use Rattle.cbfs_edit.specs.declared.fault.EditFault.{EditFault}
 use Rattle.cbfs_edit.specs.declared.group.CellRange.{CellRange}
@@ -39,11 +39,11 @@ use Rattle.std.specs.Result.{result_ok}
 use Rattle.flash_device.specs.Regions.{Range, LiesIn, bytes_in}
 use Rattle.flash_device.specs.declared.paged.CopyInFault.{CopyInFault}
 use Rattle.flash_device.proofs.DeviceLemmas.{Calls-at_most, Calls-then, honest_still, length-bytes_in}
-use Rattle.sha2.proofs.Facts256.{length-sha256}
-use Rattle.sha2.proofs.Facts512.{length-sha512}
-use Rattle.cbfs_walk.specs.Hashes.{sha256_of, sha512_of}
+use Rattle.std.specs.Option.{option_map}
+use Rattle.flash_format.specs.declared.digest.Algorithm.{Algorithm}
+use Rattle.cbfs_walk.specs.Hashes.{hashed_by}
+use Rattle.cbfs_walk.proofs.Hashing.{length-hashed}
 use Rattle.cbfs_edit.specs.declared.addition.HashChoice.{HashChoice}
-use Rattle.cbfs_edit.specs.declared.addition.HashChoice.TheVariants.{Plain, Sha256, Sha512}
 use Rattle.cbfs_edit.specs.declared.fault.EditFault.TheVariants as faults
 use Rattle.flash_device.specs.declared.paged.CopyInFault.TheVariants as copies
 
@@ -236,10 +236,11 @@ additions_add_one = adds_one
 -- ---- the steps: own checks, search, writes
 
 pub digest-sized : (hash : HashChoice) (content : List ℕ) → IsDigest (digest_of hash content)
-unfolding sha256_of sha512_of
-digest-sized Plain content = tt
-digest-sized Sha256 content = length-sha256 content
-digest-sized Sha512 content = length-sha512 content
+digest-sized hash content = sized (algorithm_of hash)
+  where
+    sized : (found : Option Algorithm) → IsDigest (option_map (λ algorithm. hashed_by algorithm content) found)
+    sized None = tt
+    sized (Some a) = length-hashed a content
 
 -- no error of the caller's own checks
 pub no_fault : (o : Option EditFault) → ((fault : EditFault) → o ≡ Some fault → ⊥) → None ≡ o

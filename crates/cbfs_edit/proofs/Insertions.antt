@@ -4,9 +4,9 @@ use Rattle.std.specs.Prelude.{◌==◌, is_some, max, OnErr, option_copied}
 use Rattle.std.proofs.lemmas.Bool.{cases_eq, eq-eqb, ne_eqb, cond_both, eqb-false}
 use Rattle.std.proofs.lemmas.List.{append-nil, length-replicate, length-take-le}
 use Rattle.flash_format.specs.Head.{round64}
-use Rattle.flash_format.specs.Made.{header_length, empty_header, empty_entry, padding, KeepsFour, hash_len, made, made_metadata, metadata_of, described_len}
+use Rattle.flash_format.specs.Made.{algorithm, header_length, empty_header, empty_entry, padding, KeepsFour, hash_len, made, made_metadata, metadata_of, described_len}
 use Rattle.flash_format.proofs.EmptyEntryLaws.{length-empty_header}
-use Rattle.flash_format.proofs.MadeLaws.{length-padding}
+use Rattle.flash_format.proofs.MadeLaws.{few_bytes, length-padding}
 use Rattle.flash_device.specs.Device.{overwritten, SameOutside}
 use Rattle.flash_device.proofs.BytesLemmas.{length-overwritten, drop-overwritten, further}
 use Rattle.cbfs_edit.specs.declared.place.Place.{Place}
@@ -20,7 +20,6 @@ use Rattle.flash_device.specs.Regions.{Range, LiesIn, bytes_in}
 use Rattle.flash_device.proofs.DeviceLemmas.{length-bytes_in}
 use Rattle.cbfs_edit.specs.Places.{Fits}
 use Rattle.cbfs_edit.specs.Changes.{IsEmptied, IsInsertStop, IsOldOrEmptied, written_to}
-use Rattle.flash_format.specs.declared.digest.Digest.TheVariants as digests
 use Rattle.cbfs_edit.specs.declared.addition.Label.{Label}
 use Rattle.cbfs_edit.specs.declared.group.CellRange.{CellRange}
 use Rattle.cbfs_edit.specs.declared.place.Wanted.{Wanted}
@@ -184,8 +183,7 @@ module _ (x : List ℕ) (place : Place) (end : ℕ) (metadata : List ℕ) (room 
 
 pub hash_short : (d : Option Digest) → hash_len d ≤ 76
 hash_short None = omega arith
-hash_short (Some (digests.Sha256 bytes)) = omega arith
-hash_short (Some (digests.Sha512 bytes)) = omega arith
+hash_short (Some digest) = omega (arith, few_bytes (algorithm digest))
 
 pub described-is : (m : Meta) (name : List ℕ) (kind : ℕ) (digest : Option Digest) (gap n : ℕ) → m.name.now ≡ name → m.kind ≡ kind → option_copied m.digest ≡ digest → m.gap ≡ gap → m.len ≡ n
     → metadata_of m ≡ made_metadata name kind digest gap n

@@ -1,6 +1,6 @@
 -- The effect and errors of an addition.
 use Rattle.std.specs.List.{list_any}
-use Rattle.std.specs.Option.{option_map_or}
+use Rattle.std.specs.Option.{option_map, option_map_or}
 use Rattle.std.specs.Result.{result_map_both, result_ok}
 use Rattle.std.specs.Prelude.{◌≡◌, ℕ, ◌+◌, ◌-◌, ◌==◌, ◌||◌, max, Bool, List, [], ◌∷◌, ◌++◌, length}
 use Rattle.std.specs.Prelude.{slice_range, nat_lt, Option, Some, None, Result, Err, if◌then◌else◌}
@@ -12,9 +12,11 @@ use Rattle.flash_format.specs.Entry.{is_nul}
 use Rattle.flash_format.specs.Components.{Component}
 use Rattle.flash_format.specs.Placings.{HasOneMore, made_component, space_cells}
 use Rattle.flash_format.specs.Splices.{AllFree, CellsBetween}
+use Rattle.flash_format.specs.declared.digest.Algorithm.{Algorithm}
+use Rattle.flash_format.specs.declared.digest.Algorithm.TheVariants as algorithms
 use Rattle.flash_format.specs.declared.digest.Digest.{Digest}
 use Rattle.flash_device.specs.Device.{overwritten, SameOutside}
-use Rattle.cbfs_walk.specs.Hashes.{sha256_of, sha512_of}
+use Rattle.cbfs_walk.specs.Hashes.{hashed_by}
 use Rattle.cbfs_edit.specs.Removals.{kept_at, IsCellRange}
 use Rattle.cbfs_edit.specs.Places.{is_bad_align, placing_in}
 use Rattle.cbfs_edit.specs.declared.addition.HashChoice.{HashChoice}
@@ -33,10 +35,17 @@ pub record NewComponent : Type 0 where
   pub digest : Option Digest
   pub content : List ℕ
 
+abbrev pub algorithm_of : HashChoice → Option Algorithm
+algorithm_of Plain = None
+algorithm_of Sha256 = Some algorithms.Sha256
+algorithm_of Sha512 = Some algorithms.Sha512
+
+abbrev pub choice_of : Algorithm → HashChoice
+choice_of algorithms.Sha256 = Sha256
+choice_of algorithms.Sha512 = Sha512
+
 abbrev pub digest_of : HashChoice → List ℕ → Option Digest
-digest_of Plain content = None
-digest_of Sha256 content = Some (sha256_of content)
-digest_of Sha512 content = Some (sha512_of content)
+digest_of hash content = option_map (λ algorithm. hashed_by algorithm content) (algorithm_of hash)
 
 abbrev pub new_component : List ℕ → ℕ → HashChoice → List ℕ → NewComponent
 new_component name kind hash content =

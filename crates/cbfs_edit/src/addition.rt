@@ -11,8 +11,9 @@ ghost use Rattle.flash_device.specs.Regions.{LiesOn};
 ghost use Rattle.cbfs_edit.specs.Changes.{OnHonestChange, HasCopied, AddLeavesBefore};
 ghost use Rattle.cbfs_edit.specs.Changes.{AddLeavesWhole, IsInsertStop, written_to, by_device};
 ghost use Rattle.cbfs_edit.specs.Changes.{by_source, stop_count};
-ghost use Rattle.cbfs_edit.specs.Additions.{added, added_to, addition_in, digest_of, is_bad_name};
-ghost use Rattle.cbfs_edit.specs.Additions.{is_bad_type, component_of_label, new_component};
+ghost use Rattle.cbfs_edit.specs.Additions.{added, added_to, addition_in, algorithm_of, choice_of};
+ghost use Rattle.cbfs_edit.specs.Additions.{component_of_label, digest_of, is_bad_name};
+ghost use Rattle.cbfs_edit.specs.Additions.{is_bad_type, new_component};
 ghost use Rattle.cbfs_edit.specs.Additions.{own_fault, placed_of, wanted_for};
 ghost use Rattle.cbfs_edit.specs.Places.{Fits};
 
@@ -34,6 +35,30 @@ pub enum HashChoice {
     Sha512,
 }
 
+impl HashChoice {
+    /// Returns the digest's algorithm, if any.
+    pub fn algorithm(self) -> Option<Algorithm>
+        ensures { result ≡ algorithm_of self }
+    {
+        match self {
+            HashChoice::Plain => None,
+            HashChoice::Sha256 => Some(Algorithm::Sha256),
+            HashChoice::Sha512 => Some(Algorithm::Sha512),
+        }
+    }
+}
+
+impl From<Algorithm> for HashChoice {
+    ghost from_gives = { λ algorithm choice. choice ≡ choice_of algorithm };
+
+    fn from(algorithm: Algorithm) -> HashChoice {
+        match algorithm {
+            Algorithm::Sha256 => HashChoice::Sha256,
+            Algorithm::Sha512 => HashChoice::Sha512,
+        }
+    }
+}
+
 /// A component's position, relative to the region's start.
 #[derive(Clone, Copy, Debug, PartialEq, Eq)]
 pub struct Placed {
@@ -52,7 +77,7 @@ pub struct Label<'a> {
 }
 
 /// Copies the source to an offset, and returns its digest, computed in the same pass.
-#[tactic(auto, unfolding(cbfs_walk::specs::Hashes::sha256_of, cbfs_walk::specs::Hashes::sha512_of))]
+#[tactic(auto, unfolding(cbfs_walk::specs::Hashes::hashed_by))]
 fn copy_content<F: Flash, S: Source>(
     paged: &mut Paged<F>,
     region: Region,
@@ -72,22 +97,41 @@ fn copy_content<F: Flash, S: Source>(
     ensures digest { IsTrue (S.facts source.old).honest →
         IfOk result (λ digest. digest ≡ digest_of hash (S.facts source.old).content) }
 {
-    match hash {
-        HashChoice::Plain => {
+    match hash.algorithm() {
+        None => {
             copy_into(paged, region, at, source, &mut Unwatched)?;
             Ok(None)
         }
-        HashChoice::Sha256 => {
-            let mut hashing = Hashing::<Sha256>::new();
-            copy_into(paged, region, at, source, &mut hashing)?;
-            Ok(Some(Digest::Sha256(hashing.finish())))
+        Some(Algorithm::Sha256) => {
+            let digest = copy_hashed::<F, S, Sha256>(paged, region, at, source)?;
+            Ok(Some(Digest::Sha256(digest)))
         }
-        HashChoice::Sha512 => {
-            let mut hashing = Hashing::<Sha512>::new();
-            copy_into(paged, region, at, source, &mut hashing)?;
-            Ok(Some(Digest::Sha512(hashing.finish())))
+        Some(Algorithm::Sha512) => {
+            let digest = copy_hashed::<F, S, Sha512>(paged, region, at, source)?;
+            Ok(Some(Digest::Sha512(digest)))
         }
     }
+}
+
+fn copy_hashed<F: Flash, S: Source, H: sha2::Digest>(
+    paged: &mut Paged<F>,
+    region: Region,
+    at: u64,
+    source: &mut S,
+) -> Result<H::Output, CopyInFault>
+    requires region { LiesOn region (F.facts paged.old.device) }
+    requires inside { at + length (S.facts source.old).content ≤ region.size }
+
+    ensures after { HasCopied F.facts region at paged.old paged.new (S.facts source.old)
+        (S.facts source.new) result }
+
+    // For an honest source.
+    ensures digest { IsTrue (S.facts source.old).honest →
+        IfOk result (H.digest_of (S.facts source.old).content) }
+{
+    let mut hashing = Hashing::<H>::new();
+    copy_into(paged, region, at, source, &mut hashing)?;
+    Ok(hashing.finish())
 }
 
 fn meta_of<'a>(
@@ -205,15 +249,13 @@ fn is_bad_type(kind: u32) -> bool
 }
 
 /// Returns the length of the digest's attribute.
-#[tactic(auto, unfolding(cbfs_walk::specs::Hashes::sha256_of, cbfs_walk::specs::Hashes::sha512_of))]
 fn attribute_len(hash: HashChoice) -> usize
     ensures is { (content : List ℕ) → result ≡ hash_len (digest_of hash content) }
     ensures short { result ≤ 76 }
 {
-    match hash {
-        HashChoice::Plain => 0,
-        HashChoice::Sha256 => 12 + Algorithm::Sha256.digest_len(),
-        HashChoice::Sha512 => 12 + Algorithm::Sha512.digest_len(),
+    match hash.algorithm() {
+        None => 0,
+        Some(algorithm) => 12 + algorithm.digest_len(),
     }
 }
 

@@ -1,4 +1,4 @@
-use Rattle.std.proofs.Common.{inl, inr, IsTrue, Err, Some, ap, ◌∙◌, sym, refl, arith, rules}
+use Rattle.std.proofs.Common.{inl, inr, IsTrue, Err, Some, ap, ◌∙◌, sym, arith, rules}
 use Rattle.std.proofs.lemmas.Result.{err_from_is_err_and}
 use Rattle.flash_device.specs.Regions.{bytes_in}
 use Rattle.flash_device.proofs.DeviceLemmas.{honest_still}
