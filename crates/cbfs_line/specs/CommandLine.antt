@@ -13,11 +13,11 @@ use Rattle.clap.specs.declared.error.ErrorKind.{ErrorKind}
 use Rattle.clap.specs.declared.error.ErrorKind.TheVariants.{OutOfMemory}
 use Rattle.cbfs_words.specs.Subcommands.{command_line}
 use Rattle.flash_format.specs.Numbers.{number_of}
-use Rattle.flash_format.specs.declared.digest.Algorithm.TheVariants as algorithms
-use Rattle.flash_format.specs.Made.{algorithm_row}
+use Rattle.flash_format.specs.Made.{algorithm_named}
 use Rattle.flash_format.specs.TypeNames.{type_of_text}
 use Rattle.cbfs_edit.specs.declared.addition.HashChoice.{HashChoice}
-use Rattle.cbfs_edit.specs.declared.addition.HashChoice.TheVariants.{Plain, Sha256, Sha512}
+use Rattle.cbfs_edit.specs.declared.addition.HashChoice.TheVariants.{Plain}
+use Rattle.cbfs_edit.specs.Additions.{choice_of}
 use Rattle.cbfs_edit.specs.declared.place.Spot.{Spot}
 use Rattle.cbfs_edit.specs.declared.place.Spot.TheVariants.{First, Aligned, Fixed}
 use Rattle.cbfs_commands.specs.Effects.{Request, request_of}
@@ -71,9 +71,7 @@ spot_by (Some alignment) (Some base) = None
 -- None without `-A`
 abbrev pub hash_by : Option (List ℕ) → Option HashChoice
 hash_by None = Some Plain
-hash_by (Some text) =
-    if bytes_eq text (algorithm_row algorithms.Sha256).name then Some Sha256
-    else (if bytes_eq text (algorithm_row algorithms.Sha512).name then Some Sha512 else None)
+hash_by (Some name) = option_map choice_of (algorithm_named name)
 
 -- requires name, file and valid options
 abbrev pub addition : List ℕ → Option (List ℕ) → Option (List ℕ) → Option ℕ → Option HashChoice

@@ -15,7 +15,7 @@ use cbfs_edit::{HashChoice, Spot};
 use cbfs_words::whole_command;
 use clap::error::ErrorKind;
 use clap::{ArgMatches, Error};
-use flash_format::{read_number, type_number};
+use flash_format::{Algorithm, read_number, type_number};
 use std::alloc::Global;
 use std::marker::Model;
 
@@ -143,10 +143,8 @@ impl<'a> Line<'a> {
         ensures { result ≡ hash_by (option_text (codes "hash") self.now) }
     {
         match self.option("hash") {
+            Some(name) => Algorithm::named(name).map(HashChoice::from),
             None => Some(HashChoice::Plain),
-            Some("sha256") => Some(HashChoice::Sha256),
-            Some("sha512") => Some(HashChoice::Sha512),
-            Some(_) => None,
         }
     }
 
