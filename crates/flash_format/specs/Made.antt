@@ -67,7 +67,8 @@ abbrev pub algorithms : List Algorithm
 algorithms = Sha256 ∷ Sha512 ∷ []
 
 abbrev pub algorithm_numbered : ℕ → Option Algorithm
-algorithm_numbered number = find (λ algorithm. (algorithm_row algorithm).number == number) algorithms
+algorithm_numbered number =
+    find (λ algorithm. (algorithm_row algorithm).number == number) algorithms
 
 abbrev pub algorithm_named : List ℕ → Option Algorithm
 algorithm_named name = find (λ algorithm. bytes_eq (algorithm_row algorithm).name name) algorithms
