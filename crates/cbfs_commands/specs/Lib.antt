@@ -1,7 +1,7 @@
-pub mod Refusals
-pub mod Rows
-pub mod Printouts
 pub mod Creations
-pub mod Outcomes
 pub mod Effects
 pub mod Laws
+pub mod Outcomes
+pub mod Printouts
+pub mod Refusals
+pub mod Rows

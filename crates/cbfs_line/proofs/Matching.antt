@@ -5,7 +5,7 @@ use Rattle.clap.proofs.OnLiterals.{clap_on_literals}
 use Rattle.clap.specs.Words.{HasKind, IsAmong, Kinds, Row, is_simple, is_simple_and_free, kind_of}
 use Rattle.clap.specs.declared.error.Error.{Error}
 use Rattle.clap.specs.declared.error.kind.ErrorKind.TheVariants.{OutOfMemory}
-use Rattle.cbfs_words.specs.Subcommands.{command_line}
+use Rattle.cbfs_line.specs.Subcommands.{command_line}
 use Rattle.cbfs_line.specs.CommandLine.{Texts, with_image}
 
 abbrev pub pair_of : List ℕ → List Row → List ℕ × List Row

@@ -11,7 +11,7 @@ use Rattle.clap.specs.Words.{Row, first_of}
 use Rattle.clap.specs.Words as clap
 use Rattle.clap.specs.declared.error.ErrorKind.{ErrorKind}
 use Rattle.clap.specs.declared.error.ErrorKind.TheVariants.{OutOfMemory}
-use Rattle.cbfs_words.specs.Subcommands.{command_line}
+use Rattle.cbfs_line.specs.Subcommands.{command_line}
 use Rattle.flash_format.specs.Numbers.{number_of}
 use Rattle.flash_format.specs.Made.{algorithm_named}
 use Rattle.flash_format.specs.TypeNames.{type_of_text}

@@ -4,15 +4,15 @@ ghost use Rattle.std.specs.Prelude.{◌≡◌, ◌≢◌, ◌<◌, ◌⊎◌, []
 ghost use Rattle.std.specs.Prelude.{codes, drop, map, option_map, option_and_then, true};
 ghost use Rattle.flash_format.specs.TypeNames.{type_of_text};
 ghost use Rattle.clap.specs.Words.{fault_of, has_subcommand, kind_of, subcommand_rows_of};
-ghost use Rattle.cbfs_words.specs.Subcommands.{command_line};
+ghost use Rattle.cbfs_line.specs.Subcommands.{command_line};
 ghost use Rattle.cbfs_line.specs.CommandLine.{addition, command_of, creation_of, hash_by, names_in};
 ghost use Rattle.cbfs_line.specs.CommandLine.{names_of, refusal_by, request_answer, spot_by};
 ghost use Rattle.cbfs_line.specs.CommandLine.{option_text, texts_of, verbose_by, with_image};
 
+use crate::words::whole_command;
 use arrayvec::ArrayVec;
 use cbfs_commands::{Command, MOST_REGIONS, Refusal};
 use cbfs_edit::{HashChoice, Spot};
-use cbfs_words::whole_command;
 use clap::error::ErrorKind;
 use clap::{ArgMatches, Error};
 use flash_format::{Algorithm, read_number, type_number};

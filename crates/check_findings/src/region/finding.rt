@@ -11,7 +11,7 @@ use std::marker::Model;
 /// A component's name, without its NUL.
 #[derive(Drop)]
 pub struct Name {
-    bytes: SmallVec<u8, 24>,
+    bytes: SmallVec<u8, 16>,
 }
 
 impl Model for Name {

@@ -8,7 +8,7 @@ use std::collections::HashSet;
 use std::hash::RandomState;
 
 /// Names, hashed with random keys, since an image's author chooses names.
-pub type Names = HashSet<SmallVec<u8, 24>, RandomState>;
+pub type Names = HashSet<SmallVec<u8, 16>, RandomState>;
 
 /// Adds a name. Returns whether the set had it.
 pub fn add_name(alloc: Global, names: &mut Names, name: &[u8]) -> Result<bool, AllocError>

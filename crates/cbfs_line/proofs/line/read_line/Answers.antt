@@ -3,7 +3,7 @@ use Rattle.std.specs.Option.{option_map}
 use Rattle.std.specs.Borrow.{Bor}
 use Rattle.clap.specs.Words.{App, Row, fault_of, is_simple, is_simple_and_free, subcommand_of}
 use Rattle.clap.specs.declared.error.kind.ErrorKind.{ErrorKind}
-use Rattle.cbfs_words.specs.Subcommands.{command_line}
+use Rattle.cbfs_line.specs.Subcommands.{command_line}
 use Rattle.cbfs_line.specs.CommandLine.{refusal_by, texts_of, with_image}
 use Rattle.cbfs_line.proofs.Matching.{simple, simple_shape, faultless}
 use Rattle.cbfs_line.proofs.line.read_line.Goals as goal

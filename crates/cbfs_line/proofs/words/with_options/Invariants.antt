@@ -1,8 +1,8 @@
 use Rattle.std.proofs.Common.{◌≡◌, false, length}
 use Rattle.clap.specs.Words.{app_of}
 use Rattle.clap.specs.declared.builder.command.Command.TheViews.{out-Command as fields_of}
-use Rattle.cbfs_words.specs.Table.{with_options}
-use Rattle.cbfs_words.proofs.words.with_options.Given as goal
+use Rattle.cbfs_line.specs.Table.{with_options}
+use Rattle.cbfs_line.proofs.words.with_options.Given as goal
 
 abbrev pub invariant-loop-options : goal.invariant-loop-options
 invariant-loop-options l = record {

@@ -4,8 +4,8 @@ use Rattle.std.specs.Borrow.{Bor}
 use Rattle.clap.specs.Words.{App, Rule, app_of, new_app, with_rule, with_subcommand}
 use Rattle.clap.specs.declared.builder.command.Command.{Command}
 use Rattle.clap.specs.declared.builder.command.Command.TheViews.{out-Command as fields_of}
-use Rattle.cbfs_words.specs.Subcommands.{rule_of}
-use Rattle.cbfs_words.specs.declared.words.TableOption.{TableOption}
+use Rattle.cbfs_line.specs.Subcommands.{rule_of}
+use Rattle.cbfs_line.specs.declared.words.TableOption.{TableOption}
 
 -- as defined, without a global option
 pub record IsLocal (command : Command) (app : App) : Type 0 where

@@ -3,8 +3,8 @@
 ghost use Rattle.std.specs.Prelude.{◌≡◌, IfOk, true, false};
 ghost use Rattle.clap.specs.Words.{app_of, with_rule};
 ghost use Rattle.clap.specs.declared.builder.command.Command.TheViews.{out-Command as fields_of};
-ghost use Rattle.cbfs_words.specs.Subcommands.{command_line};
-ghost use Rattle.cbfs_words.specs.Table.{IsLocal, rule_by, with_options, with_row, with_rows};
+ghost use Rattle.cbfs_line.specs.Subcommands.{command_line};
+ghost use Rattle.cbfs_line.specs.Table.{IsLocal, rule_by, with_options, with_row, with_rows};
 
 use clap::{Arg, ArgAction, Command};
 use std::alloc::{AllocError, Global};

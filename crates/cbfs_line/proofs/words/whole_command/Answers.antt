@@ -1,6 +1,6 @@
 -- Goals that a must-fail edit breaks, which then fails at once.
 use Rattle.std.proofs.Common.{rules}
-use Rattle.cbfs_words.proofs.words.whole_command.Goals as goal
+use Rattle.cbfs_line.proofs.words.whole_command.Goals as goal
 
 pub returns-clause-needs : goal.returns-clause-needs
 returns-clause-needs c = search rules

@@ -1,9 +1,9 @@
 use Rattle.std.proofs.Common.{refl, ◌∙◌, arith}
 use Rattle.clap.specs.Words.{App, with_rule}
-use Rattle.cbfs_words.specs.Table.{rule_by, with_options}
-use Rattle.cbfs_words.specs.declared.words.TableOption.{TableOption}
-use Rattle.cbfs_words.proofs.Tables.{one_more, ended}
-use Rattle.cbfs_words.proofs.words.with_options.Goals as goal
+use Rattle.cbfs_line.specs.Table.{rule_by, with_options}
+use Rattle.cbfs_line.specs.declared.words.TableOption.{TableOption}
+use Rattle.cbfs_line.proofs.Tables.{one_more, ended}
+use Rattle.cbfs_line.proofs.words.with_options.Goals as goal
 
 pub loop-options-init : goal.loop-options-init
 loop-options-init c = record { local = c.requires; shape = refl }

@@ -1,7 +1,7 @@
 use Rattle.std.proofs.Common.{refl, ◌∙◌, arith}
-use Rattle.cbfs_words.specs.Table.{with_row, with_rows}
-use Rattle.cbfs_words.proofs.Tables.{one_more, ended}
-use Rattle.cbfs_words.proofs.words.with_rows.Goals as goal
+use Rattle.cbfs_line.specs.Table.{with_row, with_rows}
+use Rattle.cbfs_line.proofs.Tables.{one_more, ended}
+use Rattle.cbfs_line.proofs.words.with_rows.Goals as goal
 
 pub loop-rows-init : goal.loop-rows-init
 loop-rows-init c = record { local = c.requires; shape = refl }

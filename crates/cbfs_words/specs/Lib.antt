@@ -1,2 +1,0 @@
-pub mod Subcommands
-pub mod Table
