@@ -548,7 +548,7 @@ limits() {
         echo $((at - $(sed -n 's/^new\t\(0x[0-9a-f]*\)\t.*/\1/p' listed) - 28))
     done | sort -nu > gaps
     seq 0 "$limit" | diff gaps - > differ || fail "claims: the gaps have other lengths: $(cat differ)"
-    grep "^| up to $limit | the gap, bytes 0xff," "$(format)" > /dev/null || fail "claims: FORMAT.md has no gap of $limit bytes"
+    grep "^| 0 to $limit | the gap, bytes 0xff," "$(format)" > /dev/null || fail "claims: FORMAT.md has no gap of $limit bytes"
     # regions of a new image
     limit cbfstool.1 'a list of at most N names'
     list=$(seq -s , -f R%.0f "$limit")
