@@ -752,20 +752,17 @@ walks() {
     done < lines
 }
 
-# versions: the pages and the newest heading of CHANGELOG.md name the version, and that release has a date, from which
-# the archive and the package take the times of their files. The page of cbfscheck has the version of the newest heading
-# `VERSION of cbfscheck`.
+# versions: the pages, cbfscheck and the newest heading of CHANGELOG.md name the version, and that release has a date, from
+# which the archive and the package take the times of their files.
 versions() {
-    local page version date checker
+    local page version date
     version=$(cat "$top/VERSION")
     [[ $version =~ ^[0-9]+(\.[0-9]+)+$ ]] || fail "claims: $version is no version"
-    for page in cbfstool.1 fmaptool.1 fmd.5; do
+    for page in cbfstool.1 fmaptool.1 cbfscheck.1 fmd.5; do
         section "$page" HISTORY | grep -xF "This page is of version $version." > /dev/null || fail "claims: $page isn't of version $version"
     done
-    checker=$(sed -n 's/^## \(.*\) of cbfscheck$/\1/p' "$top/CHANGELOG.md" | head -n 1)
-    section cbfscheck.1 HISTORY | grep -xF "This page is of version $checker." > /dev/null || fail "claims: cbfscheck.1 isn't of version $checker"
-    grep -F "cbfscheck $checker" "$top/crates/cbfscheck/src/texts.rt" > /dev/null || fail "claims: cbfscheck isn't of version $checker"
-    [ "$(grep '^## ' "$top/CHANGELOG.md" | grep -v ' of cbfscheck$' | head -n 1)" = "## $version" ] || fail "claims: CHANGELOG.md doesn't begin with $version"
+    grep -F "cbfscheck $version" "$top/crates/cbfscheck/src/texts.rt" > /dev/null || fail "claims: cbfscheck isn't of version $version"
+    [ "$(grep '^## ' "$top/CHANGELOG.md" | head -n 1)" = "## $version" ] || fail "claims: CHANGELOG.md doesn't begin with $version"
     date=$(sed -n '/^## /,/^- /s/^Released on \(.*\)\.$/\1/p' "$top/CHANGELOG.md" | head -n 1)
     [ "$(sed -n "/^## ${version//./\\.}\$/{n;n;p;q}" "$top/CHANGELOG.md")" = "Released on $date." ] && LC_ALL=C date -u -d "$date" > /dev/null ||
         fail "claims: CHANGELOG.md has no date of $version"

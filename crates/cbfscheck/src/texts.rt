@@ -34,6 +34,6 @@ With OLD and NEW:
   --keep AREA[,AREA..]  require that these areas do not change
   --keep-preserved      require that no area with the flag PRESERVE changes
 
-Exit status: 0 if nothing is bad, 1 if a finding is bad, 2 without a report.
+Exit status: 0 if nothing is bad, 1 if a finding is bad, 2 without a complete report.
 Example: cbfscheck -r COREBOOT --keep-preserved chip.rom image.rom
 ";
