@@ -65,6 +65,10 @@ pub fn equal<T: PartialEq + Debug>(rt: &impl Abort, left: &T, right: &T) {
     assert_eq!(rt; *left, *right);
 }
 
+pub fn is_same(left: &[u8], right: &[u8]) -> bool {
+    left == right
+}
+
 pub fn same_bytes(rt: &impl Abort, left: &[u8], right: &[u8]) {
     equal(rt, &left, &right);
 }

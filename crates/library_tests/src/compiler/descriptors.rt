@@ -1,6 +1,7 @@
 //! Short and failed reads and writes of the compiler.
 
-use crate::support::{equal, has_all, writer};
+use crate::support::{Short, equal, has_all, writer};
+use flash_store::WriteSink;
 use fmap_compiler::{ReadText, Refusal, run};
 use fmd_lang::{Expected, FmdFault};
 use std::io::{self, ErrorKind, Read};
@@ -59,30 +60,26 @@ impl Read for Blanks {
     }
 }
 
-fn in_pieces(pieces: &[usize], good: usize) -> ReadText<Pieces<'_>> {
-    ReadText::new(Pieces {
+/// Compiles `TEXT` in `pieces`, with an error after `good` bytes, and checks the result and the output.
+fn compiles(
+    rt: &(impl Abort + AllocGlobal),
+    pieces: &[usize],
+    good: usize,
+    out: &mut WriteSink<Short<'_>>,
+    wanted: Result<(), Refusal>,
+) {
+    let mut reader = ReadText::new(Pieces {
         rest: TEXT,
         pieces,
         good,
-    })
-}
-
-fn compiles(
-    rt: &(impl Abort + AllocGlobal),
-    mut reader: ReadText<Pieces<'_>>,
-    piece: usize,
-    room: usize,
-    wanted: Result<(), Refusal>,
-    bytes: &[u8],
-) {
-    let mut writer = writer(piece, room, bytes);
-    equal(rt, &run(rt.alloc(), &mut reader, &mut writer), &wanted);
-    has_all(rt, writer);
+    });
+    equal(rt, &run(rt.alloc(), &mut reader, out), &wanted);
 }
 
 fn reads(rt: &(impl Abort + AllocGlobal), pieces: &[usize]) {
-    let reader = in_pieces(pieces, usize::MAX);
-    compiles(rt, reader, 4096, 4096, Ok(()), &TABLE);
+    let mut out = writer(4096, 4096, &TABLE);
+    compiles(rt, pieces, usize::MAX, &mut out, Ok(()));
+    has_all(rt, out);
 }
 
 #[test]
@@ -93,8 +90,9 @@ fn any_pieces_make_the_same_table(rt: HostRuntime) {
 }
 
 fn failing_after(rt: &(impl Abort + AllocGlobal), good: usize) {
-    let reader = in_pieces(&[10, 9, 40], good);
-    compiles(rt, reader, 4096, 4096, Err(Refusal::Read), &[]);
+    let mut out = writer(4096, 4096, &[]);
+    compiles(rt, &[10, 9, 40], good, &mut out, Err(Refusal::Read));
+    has_all(rt, out);
 }
 
 #[test]
@@ -105,29 +103,28 @@ fn a_reader_that_fails_leaves_nothing_written(rt: HostRuntime) {
     failing_after(&rt, TEXT.len());
 }
 
-fn writes(
-    rt: &(impl Abort + AllocGlobal),
-    piece: usize,
-    room: usize,
-    wanted: Result<(), Refusal>,
-    written: usize,
-) {
-    let prefix = TABLE.get(..written).expect(rt, "a prefix");
-    let reader = in_pieces(&[4096], usize::MAX);
-    compiles(rt, reader, piece, room, wanted, prefix);
+/// Checks that a writer with this room takes the beginning of the table.
+fn writes(rt: &(impl Abort + AllocGlobal), piece: usize, room: usize, written: usize) {
+    let mut out = writer(piece, room, TABLE.get(..written).expect(rt, "a prefix"));
+    let wanted = if written < TABLE.len() {
+        Err(Refusal::Output)
+    } else {
+        Ok(())
+    };
+    compiles(rt, &[4096], usize::MAX, &mut out, wanted);
+    has_all(rt, out);
 }
 
 #[test]
 fn a_writer_that_fails_has_a_prefix_of_the_table(rt: HostRuntime) {
-    let fault = Err(Refusal::Output);
-    writes(&rt, 140, 60, fault, 60);
-    writes(&rt, 7, 60, fault, 60);
-    writes(&rt, 140, 139, fault, 139);
-    writes(&rt, 140, 0, fault, 0);
-    writes(&rt, 3, 140, Ok(()), 140);
-    writes(&rt, 1, 140, Ok(()), 140);
+    writes(&rt, 140, 60, 60);
+    writes(&rt, 7, 60, 60);
+    writes(&rt, 140, 139, 139);
+    writes(&rt, 140, 0, 0);
+    writes(&rt, 3, 140, 140);
+    writes(&rt, 1, 140, 140);
     // Each write returns 0.
-    writes(&rt, 0, 140, fault, 0);
+    writes(&rt, 0, 140, 0);
 }
 
 fn refused_blanks(rt: &(impl Abort + AllocGlobal), left: usize, fault: FmdFault, taken: usize) {

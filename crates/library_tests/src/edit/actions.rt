@@ -2,7 +2,7 @@
 use crate::edit::support::{
     Held, MAGIC_20, SIZE, START, Stop, components, device_of, holds, region_of, source_of, stopping,
 };
-use crate::support::{ALL, Short, equal, writer};
+use crate::support::{ALL, Short, equal, is_same, writer};
 use cbfs_commands::{Command, Refusal, run};
 use cbfs_edit::{EditFault, HashChoice, Spot, add, format, remove};
 use flash_store::{FailSource, Flash, MemFlash, Paged, WriteSink};
@@ -131,31 +131,42 @@ fn formats<F: Flash>(rt: &impl Abort, paged: &mut Paged<F>) -> Option<EditFault>
     format(paged, region).err()
 }
 
+fn edits<F: Flash>(rt: &impl Abort, paged: &mut Paged<F>, action: Action) -> Option<EditFault> {
+    match action {
+        Action::Join => removes(rt, paged, b"m"),
+        Action::FirstOfTwo => removes(rt, paged, b"x"),
+        Action::Format => formats(rt, paged),
+        Action::AddLater => adds(rt, paged, b"b", Spot::Aligned(256), &MAGIC_20),
+        _ => adds(rt, paged, b"a", Spot::First, b"0123456789"),
+    }
+}
+
 pub fn does<F: Flash>(
     rt: &impl Abort,
     paged: &mut Paged<F>,
     action: Action,
 ) -> Result<(), Refusal> {
     match action {
-        Action::Join => told(removes(rt, paged, b"m")),
-        Action::FirstOfTwo => told(removes(rt, paged, b"x")),
-        Action::Format => told(formats(rt, paged)),
-        Action::Add => told(adds(rt, paged, b"a", Spot::First, b"0123456789")),
-        Action::AddLater => told(adds(rt, paged, b"b", Spot::Aligned(256), &MAGIC_20)),
         Action::RunAdd => answer_of(rt, paged, &RUN_ADD, &MAGIC_20, ALL),
         Action::RunRemove => answer_of(rt, paged, &RUN_REMOVE, b"", ALL),
+        _ => told(edits(rt, paged, action)),
     }
 }
 
 fn are_those(rt: &(impl Abort + AllocGlobal), found: &[u8], held: Held) -> bool {
-    components(rt, device_of(rt, held), START, SIZE).as_slice() == found
+    let wanted = components(rt, device_of(rt, held), START, SIZE);
+    let is_same = is_same(found, &wanted);
+    drop(wanted);
+    is_same
 }
 
 /// Checks for the components of either state.
 pub fn leaves(rt: &(impl Abort + AllocGlobal), device: MemFlash, one: Held, other: Held) {
     let found = components(rt, device, START, SIZE);
-    let is_left = are_those(rt, &found, one) || are_those(rt, &found, other);
-    assert!(rt; is_left);
+    let is_one = are_those(rt, &found, one);
+    let is_other = are_those(rt, &found, other);
+    drop(found);
+    assert!(rt; is_one || is_other);
 }
 
 /// Checks the image after success, or the components after a fault. Returns true after success.
