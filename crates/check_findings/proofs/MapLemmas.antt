@@ -1,4 +1,3 @@
 pub mod MapAreas
-pub mod Whole
 pub mod NameLemmas
 pub mod Sound

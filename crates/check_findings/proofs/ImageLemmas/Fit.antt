@@ -3,7 +3,7 @@ use Rattle.std.proofs.Common.{◌≡◌, ◌≢◌, ℕ, ◌+◌, Bool, true, fa
 use Rattle.std.specs.List.{list_any}
 use Rattle.std.proofs.lemmas.Bool.{false≢true, or_parts}
 use Rattle.std.proofs.lemmas.List.Elements.{All-nil, All-cons}
-use Rattle.std.proofs.lemmas.List.Folds.{list_any-append, list_any_at}
+use Rattle.std.proofs.lemmas.List.Folds.{list_any_at}
 use Rattle.flash_format.specs.declared.head.DamageKind.{DamageKind}
 use Rattle.flash_format.specs.Head.{head_of, is_free}
 use Rattle.flash_format.specs.Entry.{entry}
@@ -17,6 +17,7 @@ use Rattle.check_findings.specs.Region.Laws.{IsBlankTail}
 use Rattle.check_findings.specs.Region.Names.{is_among}
 use Rattle.check_findings.specs.Region.RegionFindings.{cell_findings, cells_findings, component_finding, counts_of, end_findings, filled_findings, free_findings, is_filled, names_after, region_findings, shape_findings, tail_bytes, tail_findings}
 use Rattle.check_findings.specs.declared.region.finding.RegionFinding.{RegionFinding}
+use Rattle.check_findings.proofs.MapLemmas.Sound.{none_of}
 use Rattle.check_findings.proofs.RegionLemmas.Tails.{none_filled}
 use Rattle.check_findings.specs.Image.Laws.{IsIntact, IsWhole}
 use Rattle.check_findings.specs.Image.Verdicts.{is_bad_region}
@@ -24,10 +25,6 @@ use Rattle.check_findings.specs.Image.Verdicts.{is_bad_region}
 -- a bad finding makes the list bad
 pub bad_among : (needs : Bool) (all : List RegionFinding) (finding : RegionFinding) → Contains all finding → is_bad_region needs finding ≡ true → list_any (is_bad_region needs) all ≡ true
 bad_among needs all finding has bad = list_any_at (is_bad_region needs) all has.0 finding has.1 (ap (is_bad_region needs) has.2 ∙ bad)
-
--- if no element of both lists passes a test, no element of either list does
-pub none_of : {X : Type 0} (test : X → Bool) (xs ys : List X) → list_any test (xs ++ ys) ≡ false → (list_any test xs ≡ false) × (list_any test ys ≡ false)
-none_of test xs ys none = or_parts (list_any test xs) (list_any test ys) (sym (list_any-append test xs ys) ∙ none)
 
 good_shape : (needs : Bool) (size absent : Bool) (rest : List RegionFinding)
     → list_any (is_bad_region needs) (refused_or shape_findings (cond size (Some faults.RegionShape) (cond absent (Some faults.NotCbfs) None)) rest) ≡ false

@@ -1,9 +1,9 @@
 -- Images without bad findings.
-use Rattle.std.proofs.Common.{◌≡◌, ◌∙◌, ℕ, ◌+◌, ◌≤◌, Bool, true, false, not, ◌||◌, cond, All, Contains, List, [], ◌∷◌, ◌++◌, ◌*◌, drop, length, nat_eq, nat_le, Option, Some, None, Ok, refl, sym, ap, subst}
+use Rattle.std.proofs.Common.{◌≡◌, ◌∙◌, ℕ, ◌+◌, ◌≤◌, Bool, true, false, not, ◌||◌, cond, All, Contains, List, [], ◌∷◌, ◌*◌, drop, length, nat_eq, nat_le, Option, Some, None, Ok, refl, sym, ap, subst}
 use Rattle.std.specs.Prelude.{filter, map}
 use Rattle.std.specs.List.{find, flat_map, list_any}
-use Rattle.std.specs.Option.{option_map}
-use Rattle.std.proofs.lemmas.Bool.{and_parts, false≢true, le-ltb, leb-true, or_parts}
+use Rattle.std.specs.Option.{option_map, option_map_or, option_to_list}
+use Rattle.std.proofs.lemmas.Bool.{and_parts, le-ltb, leb-true, or_parts}
 use Rattle.std.proofs.lemmas.List.Elements.{All-nil, All-cons, All-head, All-tail, All-filter, All-weaker, All-contains_itself, filter_passes}
 use Rattle.flash_format.specs.declared.flashmap.Area.{Area}
 use Rattle.flash_format.specs.Flashmap.{areas_at, fmap_head_of, is_area, map_of, text_of}
@@ -11,10 +11,10 @@ use Rattle.flash_device.specs.declared.fmap.FoundMap.{FoundMap}
 use Rattle.flash_device.specs.Fmap.{found_from, found_in}
 use Rattle.flash_device.specs.Regions.{region_of, region_under}
 use Rattle.check_findings.specs.declared.map.finding.MapFinding.{MapFinding}
-use Rattle.check_findings.specs.declared.map.finding.MapFinding.TheVariants.{OtherMap, OtherSize, SameName}
+use Rattle.check_findings.specs.declared.map.finding.MapFinding.TheVariants.{NoMap, OtherMap, OtherSize}
 use Rattle.check_findings.specs.declared.map.finding.NumberedArea.{NumberedArea}
-use Rattle.check_findings.specs.Map.MapFindings.{area_end, area_findings, areas_under, finding_if, finding_of, findings_of, findings_under, has_name, image_areas, map_areas, map_findings, name_findings, numbered_from}
-use Rattle.check_findings.proofs.MapLemmas.Sound.{named}
+use Rattle.check_findings.specs.Map.MapFindings.{area_end, area_findings, finding_if, findings_of, has_name, image_areas, map_areas, map_findings, name_findings, numbered_from}
+use Rattle.check_findings.proofs.MapLemmas.Sound.{named, none_of}
 use Rattle.check_findings.specs.declared.image.finding.ImageFinding.{ImageFinding}
 use Rattle.check_findings.specs.declared.image.finding.ImageFinding.TheVariants.{Map, NotChecked}
 use Rattle.check_findings.specs.Region.RegionFindings.{region_findings}
@@ -22,28 +22,17 @@ use Rattle.check_findings.specs.Image.ImageFindings.{areas_findings, bytes_of, e
 use Rattle.check_findings.specs.Image.Laws.{FitImagesAreWhole, FitRegionsLoseNothing, IsFit}
 use Rattle.check_findings.specs.Image.RegionAreas.{region_areas}
 use Rattle.check_findings.specs.Image.Verdicts.{is_bad, is_bad_map, is_bad_region}
-use Rattle.check_findings.proofs.ImageLemmas.Fit.{fit_region, none_of}
+use Rattle.check_findings.proofs.ImageLemmas.Fit.{fit_region}
 use Rattle.check_findings.proofs.ImageLemmas.Regions.{regions_of}
 
 -- ---- names of areas are different
 
-no_name : (a : NumberedArea) (first : Option NumberedArea) → list_any is_bad_map (finding_of (SameName a) first) ≡ false → finding_of (SameName a) first ≡ []
-no_name a None fit = refl
-no_name a (Some first) fit = absurd (false≢true (sym fit))
-
-no_names : (before areas : List NumberedArea) → list_any is_bad_map (name_findings before areas) ≡ false → name_findings before areas ≡ []
-no_names before [] fit = refl
-no_names before (a ∷ areas) fit =
-    let first = find (has_name (text_of a.area.name)) before in
-    let parts = none_of is_bad_map (finding_of (SameName a) first) _ fit in
-    rw (no_name a first parts.0) (no_names (before ++ a ∷ []) areas parts.1)
-
-fit_names : (n : ℕ) (map : FoundMap) (next : Option FoundMap) (areas : List NumberedArea) → list_any is_bad_map (findings_of n map next areas) ≡ false → name_findings [] areas ≡ []
+fit_names : (n : ℕ) (map : FoundMap) (next : Option FoundMap) (areas : List NumberedArea) → list_any is_bad_map (findings_of n map next areas) ≡ false → list_any is_bad_map (flat_map (name_findings areas) areas) ≡ false
 fit_names n map next areas fit =
-    let other = none_of is_bad_map (finding_of OtherMap next) _ fit in
+    let other = none_of is_bad_map (option_to_list (option_map OtherMap next)) _ fit in
     let size = none_of is_bad_map (finding_if (not (nat_eq map.head.size n)) OtherSize) _ other.1 in
     let each = none_of is_bad_map (flat_map (area_findings n) areas) _ size.1 in
-    no_names [] areas (none_of is_bad_map (name_findings [] areas) _ each.1).0
+    (none_of is_bad_map (flat_map (name_findings areas) areas) _ each.1).0
 
 -- ---- a name finds its first area
 
@@ -71,13 +60,14 @@ reached image name map a found is fits = go (map_of image) found
 IsReached : List ℕ → NumberedArea → Type 0
 IsReached image a = area_end a.area ≤ length image → region_of image (text_of a.area.name) ≡ Ok (range_of a)
 
-fit_areas : (image : List ℕ) (o : Option FoundMap) → found_in image ≡ o → list_any is_bad_map (findings_under image o) ≡ false → All (IsReached image) (areas_under image o)
+fit_areas : (image : List ℕ) (o : Option FoundMap) → found_in image ≡ o
+    → list_any is_bad_map (option_map_or (λ (map : FoundMap). findings_of (length image) map (found_from (map.at + 1) image) (map_areas image map)) o (NoMap ∷ [])) ≡ false → All (IsReached image) (option_map_or (map_areas image) o [])
 unfolding IsReached
 fit_areas image None found fit = All-nil (IsReached image)
 fit_areas image (Some map) found fit =
     let areas = map_areas image map in
     All-weaker (Contains areas) (IsReached image)
-    (λ a there fits. reached image (text_of a.area.name) map a found (named [] areas (fit_names (length image) map (found_from (map.at + 1) image) areas fit) a there) fits)
+    (λ a there fits. reached image (text_of a.area.name) map a found (named is_bad_map _ a (λ first. refl) (fit_names (length image) map (found_from (map.at + 1) image) areas fit) there) fits)
     areas (All-contains_itself areas)
 
 -- ---- checked areas

@@ -1,12 +1,12 @@
 -- A map without other findings is sound.
-use Rattle.std.proofs.Common.{◌≡◌, ◌⊎◌, inl, inr, ⊎_elim, ℕ, zero, suc, ◌+◌, ◌<◌, ◌≤◌, Bool, true, false, not, ◌&&◌, cond, nat_lt, nat_eq, All, List, [], ◌∷◌, ◌++◌, length, Option, Some, None, refl, sym, ap, subst, ◌∙◌, arith, append_assoc}
+use Rattle.std.proofs.Common.{◌≡◌, ◌⊎◌, inl, inr, ⊎_elim, ℕ, zero, suc, ◌+◌, ◌<◌, ◌≤◌, Bool, true, false, not, ◌&&◌, cond, nat_lt, nat_eq, All, List, [], ◌∷◌, ◌++◌, length, Option, Some, None, refl, sym, ap, subst, ◌∙◌, arith}
 use Rattle.std.specs.Prelude.{Contains, IsSomeAnd}
-use Rattle.std.specs.List.{find, flat_map}
-use Rattle.std.specs.Option.{option_or}
+use Rattle.std.specs.List.{find, flat_map, list_any}
+use Rattle.std.specs.Option.{option_map, option_map_or, option_to_list}
 use Rattle.std.specs.Str.{is_utf8}
-use Rattle.std.proofs.lemmas.Bool.{and_parts, or_parts, cases_lt, ltb-false, leb-true, eqb-true}
+use Rattle.std.proofs.lemmas.Bool.{and_parts, or_parts, cases_lt, ltb-false, leb-true, eqb-true, false≢true}
 use Rattle.std.proofs.lemmas.List.Elements.{All-nil, All-cons, All-contains}
-use Rattle.std.proofs.lemmas.List.Folds.{find-append}
+use Rattle.std.proofs.lemmas.List.Folds.{list_any-append}
 use Rattle.std.proofs.lemmas.Slice.Eq.{bytes_eq-Decides}
 use lib.Chars.{codes}
 use Rattle.flash_format.specs.declared.flashmap.Area.{Area}
@@ -16,30 +16,37 @@ use Rattle.flash_device.specs.Fmap.{found_from, found_in}
 use Rattle.check_findings.specs.declared.map.finding.NumberedArea.{NumberedArea}
 use Rattle.check_findings.specs.declared.map.finding.MapFinding.{MapFinding}
 use Rattle.check_findings.specs.declared.map.finding.MapFinding.TheVariants as findings
-use Rattle.check_findings.specs.Map.MapFindings.{area_end, area_findings, ends_inside, finding_if, finding_of, findings_of, findings_under, has_name, holds_map, map_area_findings, map_areas, map_findings, name_findings, overlap, overlap_findings, overlaps_among}
+use Rattle.check_findings.specs.Map.MapFindings.{area_end, area_findings, ends_inside, finding_if, findings_of, has_name, holds_map, map_area_findings, map_areas, map_findings, name_findings, numbered_from, overlap, overlap_findings, overlap_with}
 use Rattle.check_findings.specs.Map.Laws.{HoldsMap, IsInside, IsSound, Nest, CleanMapsAreSound}
 
 -- ---- no findings
 
-both-none : (xs ys : List MapFinding) → xs ++ ys ≡ [] → (xs ≡ []) × (ys ≡ [])
-both-none [] ys e = (refl, e)
-both-none (x ∷ xs) ys e = absurd cc
+every : MapFinding → Bool
+every finding = true
 
-untold : (b : Bool) (finding : MapFinding) → finding_if b finding ≡ [] → b ≡ false
-untold false finding e = refl
-untold true finding e = absurd cc
+-- if no element of both lists passes a test, no element of either list does
+pub none_of : {X : Type 0} (test : X → Bool) (xs ys : List X) → list_any test (xs ++ ys) ≡ false → (list_any test xs ≡ false) × (list_any test ys ≡ false)
+none_of test xs ys none = or_parts (list_any test xs) (list_any test ys) (sym (list_any-append test xs ys) ∙ none)
 
-uncaused : {X : Type 0} (f : X → MapFinding) (cause : Option X) → finding_of f cause ≡ [] → cause ≡ None
-uncaused f None e = refl
-uncaused f (Some x) e = absurd cc
+-- no finding passes a test that these findings pass
+module _ (test : MapFinding → Bool) where
+  none_each : (f : NumberedArea → List MapFinding) (areas : List NumberedArea) → list_any test (flat_map f areas) ≡ false → All (λ (a : NumberedArea). list_any test (f a) ≡ false) areas
+  none_each f [] none = All-nil (λ (a : NumberedArea). list_any test (f a) ≡ false)
+  none_each f (a ∷ areas) none =
+      let parts = none_of test (f a) (flat_map f areas) none in All-cons (λ (b : NumberedArea). list_any test (f b) ≡ false) a areas parts.0 (none_each f areas parts.1)
+
+  untold : (b : Bool) (finding : MapFinding) → test finding ≡ true → list_any test (finding_if b finding) ≡ false → b ≡ false
+  untold false finding passes none = refl
+  untold true finding passes none = absurd (false≢true (sym (rw passes at none)))
+
+uncaused : {X : Type 0} (f : X → MapFinding) (cause : Option X) → list_any every (option_to_list (option_map f cause)) ≡ false → cause ≡ None
+unfolding every
+uncaused f None none = refl
+uncaused f (Some x) none = absurd cc
 
 not-false : (b : Bool) → not b ≡ false → b ≡ true
 not-false true e = refl
 not-false false e = absurd cc
-
-flat-none : (f : NumberedArea → List MapFinding) (areas : List NumberedArea) → flat_map f areas ≡ [] → All (λ (a : NumberedArea). f a ≡ []) areas
-flat-none f [] e = All-nil (λ (a : NumberedArea). f a ≡ [])
-flat-none f (a ∷ areas) e = let parts = both-none (f a) (flat_map f areas) e in All-cons (λ (b : NumberedArea). f b ≡ []) a areas parts.0 (flat-none f areas parts.1)
 
 find-none : (test : NumberedArea → Bool) (areas : List NumberedArea) → find test areas ≡ None → All (λ (a : NumberedArea). test a ≡ false) areas
 find-none test [] e = All-nil (λ (a : NumberedArea). test a ≡ false)
@@ -56,34 +63,58 @@ positive : (n : ℕ) → nat_eq n 0 ≡ false → 0 < n
 positive zero e = absurd cc
 positive (suc n) e = omega arith
 
-inside : (n : ℕ) (a : NumberedArea) → area_findings n a ≡ [] → IsInside n a.area
-inside n a e =
-    let parts = both-none (finding_if (nat_lt n (area_end a.area)) (findings.AreaOutside a)) _ e in
-    let more = both-none (finding_if (nat_eq a.area.size 0) (findings.AreaEmpty a)) _ parts.1 in
-    record { some = positive a.area.size (untold (nat_eq a.area.size 0) (findings.AreaEmpty a) more.0); inside = ltb-false n (area_end a.area) (untold (nat_lt n (area_end a.area)) (findings.AreaOutside a) parts.0) }
+inside : (n : ℕ) (a : NumberedArea) → list_any every (area_findings n a) ≡ false → IsInside n a.area
+unfolding every
+inside n a none =
+    let parts = none_of every (finding_if (nat_lt n (area_end a.area)) (findings.AreaOutside a)) _ none in
+    let more = none_of every (finding_if (nat_eq a.area.size 0) (findings.AreaEmpty a)) _ parts.1 in
+    record { some = positive a.area.size (untold every _ (findings.AreaEmpty a) refl more.0); inside = ltb-false n (area_end a.area) (untold every _ (findings.AreaOutside a) refl parts.0) }
 
-text : (n : ℕ) (a : NumberedArea) → area_findings n a ≡ [] → is_utf8 (text_of a.area.name) ≡ true
-text n a e =
-    let more = both-none (finding_if (nat_lt n (area_end a.area)) (findings.AreaOutside a)) _ e in
-    let last = both-none (finding_if (nat_eq a.area.size 0) (findings.AreaEmpty a)) _ more.1 in
-    not-false _ (untold (not (is_utf8 (text_of a.area.name))) (findings.AreaNameNotText a) last.1)
+text : (n : ℕ) (a : NumberedArea) → list_any every (area_findings n a) ≡ false → is_utf8 (text_of a.area.name) ≡ true
+unfolding every
+text n a none =
+    let more = none_of every (finding_if (nat_lt n (area_end a.area)) (findings.AreaOutside a)) _ none in
+    not-false _ (untold every _ (findings.AreaNameNotText a) refl (none_of every (finding_if (nat_eq a.area.size 0) (findings.AreaEmpty a)) _ more.1).1)
 
 -- ---- names
 
--- a name without a later area finds its area
-pub named : (before areas : List NumberedArea) → name_findings before areas ≡ [] → (a : NumberedArea) → Contains areas a → find (has_name (text_of a.area.name)) (before ++ areas) ≡ Some a
-named before [] e a (k, lt, is) = absurd (omega (arith, lt))
-named before (x ∷ areas) e a (zero, lt, is) =
-    let parts = both-none (finding_of (findings.SameName x) (find (has_name (text_of x.area.name)) before)) (name_findings (before ++ x ∷ []) areas) e in
-    let text = text_of x.area.name in
-    let first : find (has_name text) (before ++ x ∷ areas) ≡ Some x =
-    find-append (has_name text) before (x ∷ areas)
-    ∙ ap (λ (o : Option NumberedArea). option_or o (find (has_name text) (x ∷ areas))) (uncaused (findings.SameName x) (find (has_name text) before) parts.0)
-    ∙ ap (λ b. cond b (Some x) (find (has_name text) areas)) ((bytes_eq-Decides text text).1 refl) in
-    subst (λ (b : NumberedArea). find (has_name (text_of b.area.name)) (before ++ x ∷ areas) ≡ Some b) is first
-named before (x ∷ areas) e a (suc k, lt, is) =
-    let parts = both-none (finding_of (findings.SameName x) (find (has_name (text_of x.area.name)) before)) (name_findings (before ++ x ∷ []) areas) e in
-    ap (λ (l : List NumberedArea). find (has_name (text_of a.area.name)) l) (sym (append_assoc before (x ∷ []) areas)) ∙ named (before ++ x ∷ []) areas parts.1 a (k, omega (arith, lt), is)
+index-from : (k : ℕ) (areas : List Area) (a : NumberedArea) → Contains (numbered_from k areas) a → k ≤ a.number
+index-from k [] a (i, lt, is) = absurd (omega (arith, lt))
+index-from k (x ∷ areas) a (zero, lt, is) = omega (arith, ap (λ (b : NumberedArea). b.number) is)
+index-from k (x ∷ areas) a (suc i, lt, is) = let le = index-from (k + 1) areas a (i, omega (arith, lt), is) in omega (arith, le)
+
+-- a name finds its area, if it finds none with a lower index
+first_named : (k : ℕ) (areas : List Area) (a : NumberedArea) → Contains (numbered_from k areas) a
+    → option_map_or (λ (first : NumberedArea). nat_lt first.number a.number) (find (has_name (text_of a.area.name)) (numbered_from k areas)) false ≡ false → find (has_name (text_of a.area.name)) (numbered_from k areas) ≡ Some a
+first_named k [] a (i, lt, is) none = absurd (omega (arith, lt))
+first_named k (x ∷ areas) a (zero, lt, is) none = rw ((bytes_eq-Decides (text_of a.area.name) (text_of x.name)).1 (ap (λ (b : NumberedArea). text_of b.area.name) (sym is))) (ap Some is)
+first_named k (x ∷ areas) a (suc i, lt, is) none = go (has_name (text_of a.area.name) here) none (first_named (k + 1) areas a there)
+  where
+    here : NumberedArea
+    here = record { number = k; area = x }
+
+    there : Contains (numbered_from (k + 1) areas) a
+    there = (i, omega (arith, lt), is)
+
+    later : Option NumberedArea
+    later = find (has_name (text_of a.area.name)) (numbered_from (k + 1) areas)
+
+    go : (b : Bool) → option_map_or (λ (first : NumberedArea). nat_lt first.number a.number) (cond b (Some here) later) false ≡ false → (option_map_or (λ (first : NumberedArea). nat_lt first.number a.number) later false ≡ false → later ≡ Some a) → cond b (Some here) later ≡ Some a
+    go true e rest = absurd (omega (arith, ltb-false k a.number e, index-from (k + 1) areas a there))
+    go false e rest = rest e
+
+pub named : (test : MapFinding → Bool) (areas : List Area) (a : NumberedArea) → ((first : NumberedArea) → test (findings.SameName a first) ≡ true)
+    → list_any test (flat_map (name_findings (numbered_from 0 areas)) (numbered_from 0 areas)) ≡ false → Contains (numbered_from 0 areas) a → find (has_name (text_of a.area.name)) (numbered_from 0 areas) ≡ Some a
+named test areas a passes none there =
+    first_named 0 areas a there (go (find (has_name (text_of a.area.name)) all) (All-contains (λ (b : NumberedArea). list_any test (name_findings all b) ≡ false) all a (none_each test (name_findings all) all none) there))
+  where
+    all : List NumberedArea
+    all = numbered_from 0 areas
+
+    go : (o : Option NumberedArea) → list_any test (option_map_or (λ (first : NumberedArea). finding_if (nat_lt first.number a.number) (findings.SameName a first)) o []) ≡ false
+        → option_map_or (λ (first : NumberedArea). nat_lt first.number a.number) o false ≡ false
+    go None e = refl
+    go (Some first) e = untold test _ _ (passes first) e
 
 -- ---- overlaps
 
@@ -110,48 +141,50 @@ nest a b one other = ⊎_elim
     ])
     (cases_lt a.offset b.offset)
 
-compared : (areas : List NumberedArea) (many : Bool) → cond many (findings.TooManyAreas ∷ []) (overlaps_among areas areas) ≡ [] → overlaps_among areas areas ≡ []
+compared : (areas : List NumberedArea) (many : Bool) → list_any every (cond many (findings.TooManyAreas ∷ []) (flat_map (overlap_with areas) areas)) ≡ false → list_any every (flat_map (overlap_with areas) areas) ≡ false
+unfolding every
 compared areas false e = e
 compared areas true e = absurd cc
 
-nested : (areas : List NumberedArea) → overlap_findings areas ≡ [] → (a b : NumberedArea) → Contains areas a → Contains areas b → Nest a.area b.area
-nested areas e a b there here =
-    let each = flat-none (λ (c : NumberedArea). finding_of (findings.Overlap c) (find (overlap c) areas)) areas (compared areas (nat_lt 4096 (length areas)) e) in
-    let none = uncaused (findings.Overlap a) (find (overlap a) areas) (All-contains (λ (c : NumberedArea). finding_of (findings.Overlap c) (find (overlap c) areas) ≡ []) areas a each there) in
-    let parts = or_parts (ends_inside a.area b.area) (ends_inside b.area a.area) (All-contains (λ (c : NumberedArea). overlap a c ≡ false) areas b (find-none (overlap a) areas none) here) in
+nested : (areas : List NumberedArea) → list_any every (overlap_findings areas) ≡ false → (a b : NumberedArea) → Contains areas a → Contains areas b → Nest a.area b.area
+nested areas none a b there here =
+    let each = none_each every (overlap_with areas) areas (compared areas (nat_lt 4096 (length areas)) none) in
+    let alone = uncaused (findings.Overlap a) (find (overlap a) areas) (All-contains (λ (c : NumberedArea). list_any every (overlap_with areas c) ≡ false) areas a each there) in
+    let parts = or_parts (ends_inside a.area b.area) (ends_inside b.area a.area) (All-contains (λ (c : NumberedArea). overlap a c ≡ false) areas b (find-none (overlap a) areas alone) here) in
     nest a.area b.area parts.0 parts.1
 
 -- ---- the whole map
 
-held : (map : FoundMap) (o : Option NumberedArea) → map_area_findings map o ≡ [] → IsSomeAnd o (λ a. HoldsMap map a.area)
+held : (map : FoundMap) (o : Option NumberedArea) → list_any every (map_area_findings map o) ≡ false → IsSomeAnd o (λ a. HoldsMap map a.area)
+unfolding every
 held map None e = absurd cc
 held map (Some a) e =
-    let holds = not-false (holds_map map a.area) (untold (not (holds_map map a.area)) (findings.MapAreaMisses a) e) in
-    let parts = and_parts _ _ holds in
+    let parts = and_parts _ _ (not-false (holds_map map a.area) (untold every _ (findings.MapAreaMisses a) refl e)) in
     record { start = leb-true _ _ parts.0; end = leb-true _ _ parts.1 }
 
 sound_of : (image : List ℕ) (map : FoundMap) → found_in image ≡ Some map → findings_of (length image) map (found_from (map.at + 1) image) (map_areas image map) ≡ findings.Map map ∷ [] → IsSound image map
+unfolding every
 sound_of image map found e =
     let n = length image in
     let areas = map_areas image map in
     let next = found_from (map.at + 1) image in
-    let own = map_area_findings map (find (has_name (codes "FMAP")) areas) in
     let size = finding_if (not (nat_eq map.head.size n)) findings.OtherSize in
-    let each = flat_map (area_findings n) areas in
-    let rest : finding_of findings.OtherMap next ++ (size ++ (each ++ (name_findings [] areas ++ (overlap_findings areas ++ own)))) ≡ [] = cc in
-    let a = both-none (finding_of findings.OtherMap next) (size ++ (each ++ (name_findings [] areas ++ (overlap_findings areas ++ own)))) rest in
-    let b = both-none size (each ++ (name_findings [] areas ++ (overlap_findings areas ++ own))) a.1 in
-    let c = both-none each (name_findings [] areas ++ (overlap_findings areas ++ own)) b.1 in
-    let d = both-none (name_findings [] areas) (overlap_findings areas ++ own) c.1 in
-    let f = both-none (overlap_findings areas) own d.1 in
-    let untold_areas = flat-none (area_findings n) areas c.0 in
+    let later = size ++ (flat_map (area_findings n) areas ++ (flat_map (name_findings areas) areas ++ (overlap_findings areas ++ map_area_findings map (find (has_name (codes "FMAP")) areas)))) in
+    let rest : option_to_list (option_map findings.OtherMap next) ++ later ≡ [] = cc in
+    let a = none_of every (option_to_list (option_map findings.OtherMap next)) later (ap (list_any every) rest) in
+    let b = none_of every size _ a.1 in
+    let c = none_of every (flat_map (area_findings n) areas) _ b.1 in
+    let d = none_of every (flat_map (name_findings areas) areas) _ c.1 in
+    let f = none_of every (overlap_findings areas) _ d.1 in
+    let each = none_each every (area_findings n) areas c.0 in
+    let Is : NumberedArea → Type 0 = λ x. list_any every (area_findings n x) ≡ false in
     record {
       found = found;
-      size = eqb-true map.head.size n (not-false (nat_eq map.head.size n) (untold (not (nat_eq map.head.size n)) findings.OtherSize b.0));
+      size = eqb-true map.head.size n (not-false (nat_eq map.head.size n) (untold every _ findings.OtherSize refl b.0));
       only = uncaused findings.OtherMap next a.0;
-      inside = λ x there. inside n x (All-contains (λ (y : NumberedArea). area_findings n y ≡ []) areas x untold_areas there);
-      text = λ x there. text n x (All-contains (λ (y : NumberedArea). area_findings n y ≡ []) areas x untold_areas there);
-      named = named [] areas d.0;
+      inside = λ x there. inside n x (All-contains Is areas x each there);
+      text = λ x there. text n x (All-contains Is areas x each there);
+      named = λ x. named every _ x (λ first. refl) d.0;
       nested = nested areas f.0;
       held = held map (find (has_name (codes "FMAP")) areas) f.1;
     }
@@ -160,7 +193,7 @@ pub sound : CleanMapsAreSound
 unfolding map_findings
 sound image map e = go (found_in image) refl e
   where
-    go : (o : Option FoundMap) → found_in image ≡ o → findings_under image o ≡ findings.Map map ∷ [] → IsSound image map
+    go : (o : Option FoundMap) → found_in image ≡ o → option_map_or (λ (m : FoundMap). findings_of (length image) m (found_from (m.at + 1) image) (map_areas image m)) o (findings.NoMap ∷ []) ≡ findings.Map map ∷ [] → IsSound image map
     go None found e = absurd cc
     go (Some m) found e =
         let same : m ≡ map = cc in

@@ -3,7 +3,7 @@ use Rattle.std.specs.Prelude.{ℕ, ◌+◌, Bool, not, ◌&&◌, ◌||◌, List,
 use Rattle.std.specs.Prelude.{nat_lt, nat_le, Option, Some, None, ◌==◌, if◌then◌else◌}
 use Rattle.std.specs.Prelude.{option_map}
 use Rattle.std.specs.List.{find, flat_map}
-use Rattle.std.specs.Option.{option_to_list}
+use Rattle.std.specs.Option.{option_map_or, option_to_list}
 use Rattle.std.specs.Str.{is_utf8}
 use lib.Chars.{codes}
 use Rattle.flash_format.specs.declared.flashmap.Area.{Area}
@@ -30,10 +30,6 @@ area_end area = area.offset + area.size
 abbrev pub finding_if : Bool → MapFinding → List MapFinding
 finding_if found finding = if found then finding ∷ [] else []
 
--- the finding of a value, if any
-abbrev pub finding_of : {X : Type 0} → (X → MapFinding) → Option X → List MapFinding
-finding_of f cause = option_to_list (option_map f cause)
-
 -- of a single area, in an image of n bytes
 abbrev pub area_findings : ℕ → NumberedArea → List MapFinding
 area_findings n a =
@@ -44,12 +40,12 @@ area_findings n a =
 abbrev pub has_name : List ℕ → NumberedArea → Bool
 has_name name a = is_area name a.area
 
--- of areas with an earlier area's name, also of areas `before`
-abbrev pub name_findings : List NumberedArea → List NumberedArea → List MapFinding
-name_findings before [] = []
-name_findings before (a ∷ areas) =
-    finding_of (findings.SameName a) (find (has_name (text_of a.area.name)) before)
-    ++ name_findings (before ++ a ∷ []) areas
+-- of an area in `all`, if it isn't the first area of its name
+abbrev pub name_findings : List NumberedArea → NumberedArea → List MapFinding
+name_findings all a =
+    option_map_or (λ (first : NumberedArea).
+    finding_if (nat_lt first.number a.number) (findings.SameName a first))
+    (find (has_name (text_of a.area.name)) all) []
 
 -- area `a` begins before area `b` and ends inside it
 abbrev pub ends_inside : Area → Area → Bool
@@ -60,10 +56,9 @@ ends_inside a b =
 abbrev pub overlap : NumberedArea → NumberedArea → Bool
 overlap a b = ends_inside a.area b.area || ends_inside b.area a.area
 
--- of each area in `areas` that overlaps an area in `all`
-abbrev pub overlaps_among : List NumberedArea → List NumberedArea → List MapFinding
-overlaps_among all areas =
-    flat_map (λ (a : NumberedArea). finding_of (findings.Overlap a) (find (overlap a) all)) areas
+-- of an area that overlaps an area in `all`
+abbrev pub overlap_with : List NumberedArea → NumberedArea → List MapFinding
+overlap_with all a = option_to_list (option_map (findings.Overlap a) (find (overlap a) all))
 
 abbrev pub most_compared : ℕ
 most_compared = 4096
@@ -71,7 +66,7 @@ most_compared = 4096
 abbrev pub overlap_findings : List NumberedArea → List MapFinding
 overlap_findings areas =
     if nat_lt most_compared (length areas) then findings.TooManyAreas ∷ []
-    else overlaps_among areas areas
+    else flat_map (overlap_with areas) areas
 
 abbrev pub holds_map : FoundMap → Area → Bool
 holds_map map area = nat_le area.offset map.at && nat_le (map.at + map_len map.head) (area_end area)
@@ -85,25 +80,19 @@ map_area_findings map (Some a) = finding_if (not (holds_map map a.area)) (findin
 abbrev pub findings_of : ℕ → FoundMap → Option FoundMap → List NumberedArea → List MapFinding
 findings_of n map next areas =
     findings.Map map
-    ∷ (finding_of findings.OtherMap next
+    ∷ (option_to_list (option_map findings.OtherMap next)
     ++ (finding_if (not (map.head.size == n)) findings.OtherSize
     ++ (flat_map (area_findings n) areas
-    ++ (name_findings [] areas
+    ++ (flat_map (name_findings areas) areas
     ++ (overlap_findings areas
     ++ map_area_findings map (find (has_name (codes "FMAP")) areas))))))
 
-abbrev pub findings_under : List ℕ → Option FoundMap → List MapFinding
-findings_under image None = findings.NoMap ∷ []
-findings_under image (Some map) =
-    findings_of (length image) map (found_from (map.at + 1) image) (map_areas image map)
-
 -- the areas of the map, if any
-abbrev pub areas_under : List ℕ → Option FoundMap → List NumberedArea
-areas_under image None = []
-areas_under image (Some map) = map_areas image map
-
 unfoldable pub image_areas : List ℕ → List NumberedArea
-image_areas image = areas_under image (found_in image)
+image_areas image = option_map_or (map_areas image) (found_in image) []
 
 unfoldable pub map_findings : List ℕ → List MapFinding
-map_findings image = findings_under image (found_in image)
+map_findings image =
+    option_map_or (λ (map : FoundMap).
+    findings_of (length image) map (found_from (map.at + 1) image) (map_areas image map))
+    (found_in image) (findings.NoMap ∷ [])

@@ -1,6 +1,6 @@
 //! The check of a flash map.
 
-ghost use Rattle.std.specs.Prelude.{◌≡◌, ◌+◌, ◌*◌, ◌/◌, ◌≤◌, [], ◌∷◌, length, IfOk};
+ghost use Rattle.std.specs.Prelude.{◌≡◌, ◌+◌, ◌*◌, ◌/◌, ◌≤◌, length, IfOk};
 ghost use Rattle.flash_format.specs.Flashmap.{area_len};
 ghost use Rattle.flash_device.specs.Device.{fault_count};
 ghost use Rattle.flash_device.specs.Fmap.{found_in};
@@ -13,7 +13,7 @@ use crate::map::areas::{ImageMap, image_map};
 use crate::map::finding::{MapFinding, NumberedArea};
 use crate::map::findings::{findings_of, push_if};
 use flash_device::{Flash, FoundMap, Paged, find_fmap_from};
-use std::alloc::{AllocError, Global};
+use std::alloc::Global;
 
 /// A map's findings, with the map and its areas.
 #[derive(Drop)]
@@ -41,24 +41,20 @@ pub fn check_map<F: Flash>(alloc: Global, paged: &mut Paged<F>) -> Result<Checke
 {
     let len = paged.len();
     let ImageMap { found, areas } = image_map(alloc, paged)?;
-    let findings = match &found {
-        Some(map) => {
-            let next = find_fmap_from(paged, map.at + 1)?;
-            findings_of(alloc, len, map, next, &areas)?
-        }
-        None => no_map(alloc)?,
+    let Some(map) = found else {
+        let mut findings = Vec::new(alloc);
+        push_if(&mut findings, true, MapFinding::NoMap)?;
+        return Ok(CheckedMap {
+            findings,
+            found,
+            areas,
+        });
     };
+    let next = find_fmap_from(paged, map.at + 1)?;
+    let findings = findings_of(alloc, len, &map, next, &areas)?;
     Ok(CheckedMap {
         findings,
         found,
         areas,
     })
-}
-
-fn no_map(alloc: Global) -> Result<Vec<MapFinding>, AllocError>
-    ensures { IfOk result (λ findings. findings.items ≡ MapFinding.NoMap ∷ []) }
-{
-    let mut findings = Vec::new(alloc);
-    push_if(&mut findings, true, MapFinding::NoMap)?;
-    Ok(findings)
 }

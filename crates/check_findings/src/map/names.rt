@@ -1,13 +1,13 @@
 //! Areas with the name of an earlier area.
 
 ghost use Rattle.std.specs.Prelude.{◌≡◌, [], ◌∷◌, ◌++◌, List, IfOk, OnOk};
-ghost use Rattle.flash_format.specs.Flashmap.{text_of};
+ghost use Rattle.std.specs.List.{flat_map};
 ghost use Rattle.check_findings.specs.declared.map.finding.NumberedArea.{NumberedArea};
 ghost use Rattle.check_findings.specs.Map.MapFindings.{name_findings};
 
 use crate::fault::Pushed;
 use crate::map::finding::{MapFinding, MapFindings, NumberedArea};
-use crate::map::findings::push_some;
+use crate::map::findings::push_if;
 use std::alloc::{AllocError, Global};
 use std::collections::BTreeMap;
 
@@ -20,22 +20,15 @@ pub struct AreaNames<'a> {
 impl<'a> AreaNames<'a> {
     ghost use Rattle.check_findings.specs.Map.Names.{area_for, Notes};
 
-    /// Returns an empty table.
-    pub fn new(alloc: Global) -> AreaNames<'a>
-        ensures { Notes result [] }
-    {
-        AreaNames {
-            first: BTreeMap::new(alloc),
-        }
-    }
-
     /// Returns the names of these areas.
     pub fn of(alloc: Global, areas: &'a [NumberedArea]) -> Result<AreaNames<'a>, AllocError>
         ensures { IfOk result (λ names. Notes names areas.now) }
     {
-        let mut names = AreaNames::new(alloc);
+        let mut names = AreaNames {
+            first: BTreeMap::new(alloc),
+        };
         for area in areas {
-            names.note(area)?;
+            names.add(area)?;
         }
         Ok(names)
     }
@@ -47,19 +40,15 @@ impl<'a> AreaNames<'a> {
         self.first.get(&name).copied()
     }
 
-    /// Returns the first area with this area's name, or adds the area.
-    fn note(&mut self, area: &'a NumberedArea) -> Result<Option<NumberedArea>, AllocError>
-        ensures first { IfOk result (λ first.
-            first ≡ area_for self.old (text_of area.now.area.name)) }
-        ensures more { (before : List NumberedArea) → Notes self.old before →
+    fn add(&mut self, area: &'a NumberedArea) -> Result<(), AllocError>
+        ensures { (before : List NumberedArea) → Notes self.old before →
             OnOk result (Notes self.new (before ++ area.now ∷ [])) }
     {
         let name = area.area.text();
-        if let Some(first) = self.first.get(&name) {
-            return Ok(Some(*first));
+        if self.get(name).is_none() {
+            self.first.insert(name, *area)?;
         }
-        self.first.insert(name, *area)?;
-        Ok(None)
+        Ok(())
     }
 }
 
@@ -68,13 +57,15 @@ pub fn push_name_findings(
     findings: &mut MapFindings,
     areas: &[NumberedArea],
 ) -> Pushed
-    ensures { OnOk result (findings.new.items ≡ findings.old.items ++ name_findings [] areas.now) }
+    ensures { OnOk result (findings.new.items
+        ≡ findings.old.items ++ flat_map (name_findings areas.now) areas.now) }
 {
-    let mut names = AreaNames::new(alloc);
+    let names = AreaNames::of(alloc, areas)?;
     for a in areas {
-        let first = names.note(a)?;
-        let finding = first.map(|first| MapFinding::SameName { area: *a, first });
-        push_some(findings, finding)?;
+        if let Some(first) = names.get(a.area.text()) {
+            let is_later = first.number < a.number;
+            push_if(findings, is_later, MapFinding::SameName { area: *a, first })?;
+        }
     }
     Ok(())
 }

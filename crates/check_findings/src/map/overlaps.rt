@@ -1,9 +1,9 @@
 //! Areas that overlap without nesting.
 
 ghost use Rattle.std.specs.Prelude.{◌≡◌, ◌++◌, OnOk};
-ghost use Rattle.std.specs.List.{find};
+ghost use Rattle.std.specs.List.{find, flat_map};
 ghost use Rattle.check_findings.specs.Map.MapFindings.{ends_inside, overlap};
-ghost use Rattle.check_findings.specs.Map.MapFindings.{overlaps_among, overlap_findings};
+ghost use Rattle.check_findings.specs.Map.MapFindings.{overlap_with, overlap_findings};
 
 use crate::fault::Pushed;
 use crate::map::finding::{MapFinding, MapFindings, NumberedArea};
@@ -25,7 +25,7 @@ pub fn push_overlap_findings(findings: &mut MapFindings, areas: &[NumberedArea])
 
 fn push_overlaps(findings: &mut MapFindings, areas: &[NumberedArea]) -> Pushed
     ensures { OnOk result (findings.new.items
-        ≡ findings.old.items ++ overlaps_among areas.now areas.now) }
+        ≡ findings.old.items ++ flat_map (overlap_with areas.now) areas.now) }
 {
     for a in areas {
         let other = first_overlap(areas, a);

@@ -1,23 +1,23 @@
-use Rattle.std.proofs.Common.{refl, sym, ap, ◌∙◌}
+use Rattle.std.proofs.Common.{◌≡◌, ◌∙◌, ℕ, ◌+◌, List, length, Option, Some, refl, rules, sym}
+use Rattle.flash_device.specs.declared.fmap.FoundMap.{FoundMap}
+use Rattle.flash_device.specs.Fmap.{found_from, found_in}
 use Rattle.flash_device.proofs.DeviceLemmas.{honest_still}
-use Rattle.check_findings.proofs.MapLemmas.Whole.{no_map-findings, map-findings, map-areas}
+use Rattle.check_findings.specs.declared.map.finding.NumberedArea.{NumberedArea}
+use Rattle.check_findings.specs.declared.map.finding.MapFinding.{MapFinding}
+use Rattle.check_findings.specs.Map.MapFindings.{findings_of, image_areas, map_findings}
 use Rattle.check_findings.proofs.map.check.check_map.Goals as goal
-use Rattle.check_findings.proofs.map.check.check_map.Goals.{in-Some+in_ok-next-in-Some+in_ok-findings-in-Some, in-None+in_ok-findings-in-None}
+
+pub returns-in_default-clause-answer : goal.returns-in_default-clause-answer
+unfolding map_findings
+returns-in_default-clause-answer g c = λ h. rw (sym (c.in_ok-found.ensures.found h), c.in_default.is) (search rules)
+
+of_map : (image : List ℕ) (all : List MapFinding) (map : FoundMap) (next : Option FoundMap) (n : ℕ) (areas : List NumberedArea) → Some map ≡ found_in image → next ≡ found_from (map.at + 1) image → n ≡ length image
+    → areas ≡ image_areas image → all ≡ findings_of n map next areas → all ≡ map_findings image
+unfolding map_findings image_areas
+of_map image all map next n areas found above long listed same = let here = rw (sym found) at listed in rw (sym found, same, above, long, here) refl
 
 pub returns-clause-answer : goal.returns-clause-answer
 returns-clause-answer g c = λ h.
-    let image = (g.F.Flash.facts c.args.paged.now.device).content in
-    let searched = honest_still c.image_map.ensures.after.device.calls.same_honesty h in
-    let same = c.image_map.ensures.after.device.unchanged h in
-    elim c.match-found.branch [
-      | in-Some+in_ok-next-in-Some+in_ok-findings-in-Some w ↦
-          let map = w.in-Some.map in
-          let found = sym w.in-Some.is ∙ c.in_ok-found.ensures.found h in
-          let listed = map-areas image _ map found refl in
-          ap (λ v. v.items) w.findings-is
-          ∙ map-findings image _ map _ _ _ found (rw same at (w.in_ok-next-in-Some.ensures.found searched)) c.len-len.ensures.length
-          (w.deref.ensures.value ∙ c.in_ok-found.ensures.areas h ∙ sym listed) w.in_ok-findings-in-Some.ensures
-      | in-None+in_ok-findings-in-None w ↦
-          ap (λ v. v.items) w.findings-is
-          ∙ no_map-findings image _ _ (sym w.in-None.is) (c.in_ok-found.ensures.found h) w.in_ok-findings-in-None.ensures
-    ]
+    let map = c.image_map.ensures.after.device in
+    of_map _ _ c.in-Some.map _ _ _ (sym c.in-Some.is ∙ c.in_ok-found.ensures.found h) (rw (map.unchanged h) at (c.in_ok-next.ensures.found (honest_still map.calls.same_honesty h))) c.len-len.ensures.length
+    (c.deref.ensures.value ∙ c.in_ok-found.ensures.areas h) c.in_ok-findings.ensures

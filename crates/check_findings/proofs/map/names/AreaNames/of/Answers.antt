@@ -3,4 +3,4 @@ use Rattle.check_findings.proofs.MapLemmas.NameLemmas.{one_taken}
 use Rattle.check_findings.proofs.map.names.AreaNames.of.Goals as goal
 
 pub loop-area-preserved : goal.loop-area-preserved
-loop-area-preserved c = one_taken (Notes c.loop-area.names) (Notes c.note.new.self) c.args.areas.now c.loop-area.area-index _ c.loop-area-test.true (c.in_ok-note.ensures.more _) c.loop-area.invariant
+loop-area-preserved c = one_taken (Notes c.loop-area.names) (Notes c.add.new.self) c.args.areas.now c.loop-area.area-index _ c.loop-area-test.true (c.in_ok-add.ensures _) c.loop-area.invariant
