@@ -1,22 +1,27 @@
 -- The checked areas in order, and all findings.
-use Rattle.std.proofs.Common.{◌≡◌, ◌∙◌, ℕ, ◌+◌, ◌-◌, ◌*◌, ◌<◌, ◌≤◌, Bool, true, false, cond, List, [], ◌∷◌, ◌++◌, length, get_or, drop, nat_le, refl, sym, ap, arith, add-one, append_assoc, append-nil, drop-cons, length-append}
+use Rattle.std.proofs.Common.{◌≡◌, ◌∙◌, ℕ, ◌+◌, ◌-◌, ◌*◌, ◌<◌, ◌≤◌, Bool, true, false, cond, All, IsTrue, List, [], ◌∷◌, ◌++◌, length, get_or, drop, nat_le, refl, sym, ap, arith, add-one, append_assoc, append-nil, drop-cons, length-append}
 use Rattle.std.specs.Prelude.{filter, map, is_some}
 use Rattle.std.specs.List.{find}
 use Rattle.std.proofs.Math.Seq.{drop-length}
 use Rattle.std.proofs.lemmas.Bool.{leb-true}
 use Rattle.std.proofs.lemmas.Grind.{flat_map-append}
-use Rattle.std.proofs.lemmas.List.Elements.{All-append, All-cons, All-nil, filter-append}
+use Rattle.std.proofs.lemmas.List.Elements.{All-append, All-cons, All-nil, All-push, filter-append}
 use Rattle.std.proofs.lemmas.List.Sums.{sum_by_push}
 use Rattle.check_findings.specs.declared.map.finding.MapFinding.{MapFinding}
 use Rattle.check_findings.specs.declared.map.finding.NumberedArea.{NumberedArea}
 use Rattle.check_findings.specs.Map.MapFindings.{area_end, has_name, image_areas, map_findings}
 use Rattle.check_findings.specs.declared.image.finding.ImageFinding.{ImageFinding}
 use Rattle.check_findings.specs.declared.image.finding.ImageFinding.TheVariants.{Map, NoArea}
-use Rattle.check_findings.specs.Image.ImageFindings.{area_finding, areas_findings, expected_names, image_findings, left_after, name_findings, names_findings, wanted_areas}
+use Rattle.check_findings.specs.Image.ImageFindings.{area_finding, areas_findings, expected_names, image_findings, left_after, names_findings, wanted_areas}
 use Rattle.check_findings.specs.Image.RegionAreas.{AreChecked, region_area, region_areas}
 
 pub filter_more : (p : NumberedArea → Bool) (xs before after : List NumberedArea) (d : NumberedArea) → after ≡ before ++ filter p (d ∷ []) → before ≡ filter p xs → after ≡ filter p (xs ++ d ∷ [])
 filter_more p xs before after d is so_far = is ∙ ap (λ (l : List NumberedArea). l ++ filter p (d ∷ [])) so_far ∙ sym (filter-append p xs (d ∷ []))
+
+-- another area is wanted, or not
+pub wanted_more : (P : NumberedArea → Type 0) (wanted : Bool) (a : NumberedArea) (before after : List NumberedArea) → after ≡ before ++ cond wanted (a ∷ []) [] → All P before → (IsTrue wanted → P a) → All P after × (length after ≤ length before + 1)
+wanted_more P true a before after is each inside = rw is (All-push P before a each (inside refl), omega (arith, length-append before (a ∷ [])))
+wanted_more P false a before after is each inside = rw (is, append-nil before) (each, omega arith)
 
 -- another area is checked, or not
 pub checked_more : (n i left : ℕ) (a : NumberedArea) (f : ImageFinding) (findings : List ImageFinding) → area_end a.area ≤ n → region_area f ≡ cond (nat_le a.area.size left) (a ∷ []) [] → AreChecked n i left (region_areas findings)
@@ -64,7 +69,7 @@ no_name_area number false = refl
 pub no_name_areas : (areas : List NumberedArea) (number : ℕ) (names : List (List ℕ)) → region_areas (names_findings areas number names) ≡ []
 no_name_areas areas number [] = refl
 no_name_areas areas number (name ∷ names) =
-    flat_map-append region_area (name_findings areas number name) (names_findings areas (number + 1) names)
+    flat_map-append region_area (cond (is_some (find (has_name name) areas)) [] (NoArea number ∷ [])) (names_findings areas (number + 1) names)
     ∙ ap (λ (l : List NumberedArea). l ++ region_areas (names_findings areas (number + 1) names)) (no_name_area number (is_some (find (has_name name) areas)))
     ∙ no_name_areas areas (number + 1) names
 

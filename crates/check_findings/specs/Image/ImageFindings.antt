@@ -48,8 +48,7 @@ wanted_areas image names areas = filter (is_wanted image names areas) areas
 
 -- the areas to check without expected names
 abbrev pub cbfs_areas : List ℕ → List NumberedArea → List NumberedArea
-cbfs_areas image areas =
-    filter (λ a. nat_le (area_end a.area) (length image) && is_cbfs image areas a) areas
+cbfs_areas image areas = wanted_areas image [] areas
 
 -- of a checked area
 abbrev pub region_finding : List ℕ → NumberedArea → ImageFinding
@@ -72,16 +71,12 @@ areas_findings image names left (a ∷ areas) =
     area_finding image names left a
     ∷ areas_findings image names (left_after left a) areas
 
--- of the name with index `number`, if no area has the name
-abbrev pub name_findings : List NumberedArea → ℕ → List ℕ → List ImageFinding
-name_findings areas number name =
-    if is_some (find (has_name name) areas) then [] else NoArea number ∷ []
-
--- of names with indices from `number`
+-- of names without an area, with indices from `number`
 abbrev pub names_findings : List NumberedArea → ℕ → List (List ℕ) → List ImageFinding
 names_findings areas number [] = []
 names_findings areas number (name ∷ names) =
-    name_findings areas number name ++ names_findings areas (number + 1) names
+    (if is_some (find (has_name name) areas) then [] else NoArea number ∷ [])
+    ++ names_findings areas (number + 1) names
 
 -- of the areas to check
 abbrev pub regions_findings : List ℕ → List (List ℕ) → List ImageFinding

@@ -86,14 +86,22 @@ fn areas_findings<F: Flash>(
     let mut findings = Vec::new(alloc);
     for area in areas {
         let finding = area_finding(alloc, keys, paged, expected, area, &mut left)?;
-        push(&mut findings, finding)?;
+        push_if(&mut findings, true, finding)?;
     }
     Ok(findings)
 }
 
-pub fn push(findings: &mut Vec<ImageFinding>, finding: ImageFinding) -> Result<(), AllocError>
-    ensures { OnOk result (findings.new.items ≡ findings.old.items ++ finding ∷ []) }
+pub fn push_if(
+    findings: &mut Vec<ImageFinding>,
+    found: bool,
+    finding: ImageFinding,
+) -> Result<(), AllocError>
+    ensures { OnOk result (findings.new.items
+        ≡ findings.old.items ++ (if found then finding ∷ [] else [])) }
 {
+    if !found {
+        return Ok(());
+    }
     match findings.push(finding) {
         Ok(()) => Ok(()),
         Err(_) => Err(AllocError),
@@ -105,7 +113,7 @@ fn map_part(alloc: Global, found: &[MapFinding]) -> Result<Vec<ImageFinding>, Al
 {
     let mut findings = Vec::new(alloc);
     for finding in found {
-        push(&mut findings, ImageFinding::Map(*finding))?;
+        push_if(&mut findings, true, ImageFinding::Map(*finding))?;
     }
     Ok(findings)
 }

@@ -1,12 +1,11 @@
 //! Expected names of areas.
 ghost use Rattle.std.specs.Prelude.{◌≡◌, ◌∷◌, [], ◌++◌, List, ℕ, map, IfOk, OnOk};
-ghost use Rattle.check_findings.specs.Map.Names.{Notes};
 ghost use Rattle.check_findings.specs.Image.ImageFindings.{expected_names, has_one_of};
-ghost use Rattle.check_findings.specs.Image.ImageFindings.{name_findings, names_findings};
+ghost use Rattle.check_findings.specs.Image.ImageFindings.{names_findings};
 ghost use Rattle.check_findings.specs.Image.Lookups.{HasNames};
 
 use crate::image::finding::ImageFinding;
-use crate::image::image::push;
+use crate::image::image::push_if;
 use crate::map::{AreaNames, NumberedArea};
 use std::alloc::{AllocError, Global};
 use std::collections::BTreeMap;
@@ -36,17 +35,9 @@ impl<'a> NameSet<'a> {
     {
         let mut set = NameSet::new(alloc);
         set.add_all(names)?;
-        set.add(b"COREBOOT")?;
+        set.add_all(&[b"COREBOOT"])?;
         set.add_all(expected)?;
         Ok(set)
-    }
-
-    fn add(&mut self, name: &'a [u8]) -> Result<(), AllocError>
-        ensures { (before : List (List ℕ)) → HasNames self.old before →
-            OnOk result (HasNames self.new (before ++ name.now ∷ [])) }
-    {
-        self.names.insert(name, ())?;
-        Ok(())
     }
 
     fn add_all(&mut self, names: &[&'a [u8]]) -> Result<(), AllocError>
@@ -54,7 +45,7 @@ impl<'a> NameSet<'a> {
             OnOk result (HasNames self.new (before ++ map (λ n. n.now) names.now)) }
     {
         for name in names {
-            self.add(*name)?;
+            self.names.insert(*name, ())?;
         }
         Ok(())
     }
@@ -65,22 +56,6 @@ impl<'a> NameSet<'a> {
     {
         self.names.contains_key(area.area.text())
     }
-}
-
-/// Adds a finding if no area has this name. `number` is its index.
-fn push_if_missing<'a>(
-    findings: &mut Vec<ImageFinding>,
-    areas: &AreaNames<'a>,
-    number: usize,
-    name: &'a [u8],
-) -> Result<(), AllocError>
-    ensures { (all : List NumberedArea) → Notes areas.now all →
-        OnOk result (findings.new.items ≡ findings.old.items ++ name_findings all number name.now) }
-{
-    if areas.get(name).is_none() {
-        push(findings, ImageFinding::NoArea(number))?;
-    }
-    Ok(())
 }
 
 /// Adds a finding for each name without an area.
@@ -95,7 +70,8 @@ pub fn push_missing<'a>(
 {
     let areas = AreaNames::of(alloc, areas)?;
     for number in 0..names.len() {
-        push_if_missing(findings, &areas, number, names[number])?;
+        let is_missing = areas.get(names[number]).is_none();
+        push_if(findings, is_missing, ImageFinding::NoArea(number))?;
     }
     Ok(())
 }

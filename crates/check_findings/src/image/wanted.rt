@@ -1,6 +1,5 @@
 //! The choice of areas to check.
-ghost use Rattle.std.specs.Prelude.{ℕ, ◌≡◌, ◌≤◌, ◌+◌, ◌∷◌, [], ◌++◌, List, All, IsTrue, filter};
-ghost use Rattle.std.specs.Prelude.{length, IfOk, OnOk};
+ghost use Rattle.std.specs.Prelude.{ℕ, ◌≡◌, ◌≤◌, List, All, IsTrue, length, IfOk};
 ghost use Rattle.flash_device.specs.Device.{fault_count};
 ghost use Rattle.flash_device.specs.Pages.{HasRead, HasAnswered, OnHonest};
 ghost use Rattle.check_findings.specs.declared.map.finding.NumberedArea.{NumberedArea};
@@ -12,8 +11,8 @@ ghost use Rattle.check_findings.specs.Image.Lookups.{HasNames, HasStarts};
 use crate::fault::CheckFault;
 use crate::image::names::NameSet;
 use crate::image::starts::Starts;
-use crate::map::{NumberedArea, push_area};
-use crate::region::starts_with_entry;
+use crate::map::{NumberedArea, push_area_if};
+use crate::region::has_entry_at;
 use flash_device::{Flash, FlashFault, Paged, Region};
 use std::alloc::Global;
 
@@ -52,33 +51,10 @@ pub fn wanted_areas<F: Flash>(
     let starts = Starts::of(alloc, areas)?;
     let mut wanted = Vec::new(alloc);
     for area in areas {
-        push_if_wanted(paged, expected, &starts, area, &mut wanted)?;
+        let is_wanted = is_wanted(paged, expected, &starts, area)?;
+        push_area_if(&mut wanted, is_wanted, *area)?;
     }
     Ok(wanted)
-}
-
-fn push_if_wanted<F: Flash>(
-    paged: &mut Paged<F>,
-    expected: &NameSet,
-    starts: &Starts,
-    area: &NumberedArea,
-    wanted: &mut Vec<NumberedArea>,
-) -> Result<(), CheckFault>
-    ensures after { HasRead F.facts 1 (fault_count by_device result) paged.old paged.new }
-    ensures inside { All (λ a. area_end a.area ≤ length (F.facts paged.old.device).content)
-        wanted.old.items → OnOk result
-        (All (λ a. area_end a.area ≤ length (F.facts paged.old.device).content) wanted.new.items) }
-    ensures count { OnOk result (length wanted.new.items ≤ length wanted.old.items + 1) }
-    ensures area { OnHonest F.facts paged.old.device (λ image.
-        (names : List (List ℕ)) (areas : List NumberedArea) →
-        HasNames expected.now names → HasStarts starts.now areas →
-        OnOk result (wanted.new.items
-        ≡ wanted.old.items ++ filter (is_wanted image names areas) (area.now ∷ []))) }
-{
-    if is_wanted(paged, expected, starts, area)? {
-        push_area(wanted, *area)?;
-    }
-    Ok(())
 }
 
 fn is_wanted<F: Flash>(
@@ -106,5 +82,5 @@ fn is_wanted<F: Flash>(
     if starts.has_smaller(area) {
         return Ok(false);
     }
-    starts_with_entry(paged, region)
+    has_entry_at(paged, region, 0)
 }

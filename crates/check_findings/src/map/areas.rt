@@ -1,6 +1,7 @@
 //! The areas of a flash map.
 
 ghost use Rattle.std.specs.Prelude.{◌≡◌, ◌+◌, ◌*◌, ◌/◌, ◌≤◌, [], ◌∷◌, ◌++◌, length, IfOk, IfSome, OnOk};
+ghost use Rattle.std.specs.Prelude.{if◌then◌else◌};
 ghost use Rattle.flash_format.specs.Flashmap.{area_len, map_len};
 ghost use Rattle.flash_device.specs.Device.{fault_count};
 ghost use Rattle.flash_device.specs.Fmap.{found_in};
@@ -8,10 +9,10 @@ ghost use Rattle.flash_device.specs.Pages.{HasRead, OnHonest};
 ghost use Rattle.check_findings.specs.Faults.{by_device};
 ghost use Rattle.check_findings.specs.Map.MapFindings.{image_areas, map_areas};
 
-use crate::fault::CheckFault;
+use crate::fault::{CheckFault, Pushed};
 use crate::map::finding::NumberedArea;
 use flash_device::{Flash, FoundMap, Paged, area, find_fmap};
-use std::alloc::{AllocError, Global};
+use std::alloc::Global;
 
 /// The flash map of an image.
 #[derive(Drop)]
@@ -59,14 +60,17 @@ fn map_areas<F: Flash>(
     let mut areas = Vec::new(alloc);
     for number in 0..map.head.nareas {
         let area = area(paged, map, number)?;
-        push_area(&mut areas, NumberedArea { number, area })?;
+        push_area_if(&mut areas, true, NumberedArea { number, area })?;
     }
     Ok(areas)
 }
 
-pub fn push_area(areas: &mut Vec<NumberedArea>, area: NumberedArea) -> Result<(), AllocError>
-    ensures { OnOk result (areas.new.items ≡ areas.old.items ++ area ∷ []) }
+pub fn push_area_if(areas: &mut Vec<NumberedArea>, is_wanted: bool, area: NumberedArea) -> Pushed
+    ensures { OnOk result (areas.new.items
+        ≡ areas.old.items ++ (if is_wanted then area ∷ [] else [])) }
 {
-    areas.push(area)?;
+    if is_wanted {
+        areas.push(area)?;
+    }
     Ok(())
 }

@@ -12,4 +12,4 @@ mod tail;
 pub use check::check_region;
 pub use finding::{Content, HashFinding, Name, RegionFinding};
 pub use laws::{blank_tails_are_known, unshadowed_components_are_found};
-pub use start::starts_with_entry;
+pub use start::has_entry_at;

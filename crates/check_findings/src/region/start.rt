@@ -31,17 +31,3 @@ pub fn has_entry_at<F: Flash>(
     let head = Head::read(&bytes);
     Ok(head.is_some())
 }
-
-/// Returns whether a region of any size begins with an entry, damaged or not.
-pub fn starts_with_entry<F: Flash>(paged: &mut Paged<F>, region: Region) -> Result<bool, FlashFault>
-    requires { LiesOn region (F.facts paged.old.device) }
-
-    // On any device.
-    ensures after { HasAnswered F.facts 1 paged.old paged.new result }
-
-    // On an honest device.
-    ensures starts { OnHonestIn F.facts paged.old.device region (λ x.
-        IfOk result (λ starts. starts ≡ begins_with_entry x)) }
-{
-    has_entry_at(paged, region, 0)
-}

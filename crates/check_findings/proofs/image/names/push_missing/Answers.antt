@@ -1,9 +1,10 @@
-use Rattle.std.proofs.Common.{arith}
-use Rattle.check_findings.proofs.ImageLemmas.NameLemmas.{missing_more, missing_all}
+use Rattle.std.proofs.Common.{◌∙◌, Option, ap, sym}
+use Rattle.std.specs.Prelude.{is_some}
+use Rattle.check_findings.specs.declared.map.finding.NumberedArea.{NumberedArea}
+use Rattle.check_findings.proofs.ImageLemmas.NameLemmas.{missing_more}
 use Rattle.check_findings.proofs.image.names.push_missing.Goals as goal
 
 pub loop-number-preserved : goal.loop-number-preserved
-loop-number-preserved c = missing_more c.args.areas.now c.args.names.now c.loop-number.number _ _ _ _ c.loop-number-test.true (c.in_ok-push_if_missing.ensures c.args.areas.now c.in_ok-areas.ensures) c.loop-number.invariant
-
-pub returns : goal.returns
-returns c = missing_all c.args.areas.now c.args.names.now c.loop-number.number _ _ (omega arith) c.loop-number.invariant
+loop-number-preserved c =
+    missing_more c.args.areas.now c.args.names.now c.loop-number.number _ c.is_none-is_missing.result _ _ _ c.loop-number-test.true
+    (ap (λ (o : Option NumberedArea). is_some o) (sym (c.get.ensures ∙ c.in_ok-areas.ensures _)) ∙ c.is_none-is_missing.ensures) c.in_ok-push_if.ensures c.loop-number.invariant
