@@ -1,5 +1,5 @@
 -- Images without bad findings.
-use Rattle.std.proofs.Common.{◌≡◌, ◌∙◌, ℕ, ◌+◌, ◌≤◌, Bool, true, false, not, ◌||◌, cond, All, Contains, List, [], ◌∷◌, ◌*◌, drop, length, nat_eq, nat_le, Option, Some, None, Ok, refl, sym, ap, subst}
+use Rattle.std.proofs.Common.{◌≡◌, ◌∙◌, ℕ, ◌+◌, ◌≤◌, Bool, true, false, not, ◌||◌, cond, All, Contains, List, [], ◌∷◌, ◌++◌, ◌*◌, drop, length, nat_eq, nat_le, Option, Some, None, Ok, refl, sym, ap, subst}
 use Rattle.std.specs.Prelude.{filter, map}
 use Rattle.std.specs.List.{find, flat_map, list_any}
 use Rattle.std.specs.Option.{option_map, option_map_or, option_to_list}
@@ -106,9 +106,9 @@ fit_image lossless needs image names expected fit =
     let areas = image_areas image in
     let wanted = is_wanted image all areas in
     let regions = regions_findings image all in
-    let map_part = none_of (is_bad needs) (map Map (map_findings image)) _ fit in
-    let region_part = none_of (is_bad needs) regions _ map_part.1 in
-    let each = All-filter wanted (IsReached image) areas (fit_areas image (found_in image) refl (sym (of_map needs (map_findings image)) ∙ map_part.0)) in
+    let parts = none_of (is_bad needs) (map Map (map_findings image) ++ regions) _ fit in
+    let both = none_of (is_bad needs) (map Map (map_findings image)) regions parts.0 in
+    let each = All-filter wanted (IsReached image) areas (fit_areas image (found_in image) refl (sym (of_map needs (map_findings image)) ∙ both.0)) in
     let reach : All (λ (a : NumberedArea). region_of image (text_of a.area.name) ≡ Ok (range_of a)) (filter wanted areas) = λ k d lt. each k d lt (leb-true _ (length image) (and_parts _ _ (filter_passes wanted areas k d lt)).0) in
-    subst (All (IsFit image)) (sym (regions_of (map_findings image) regions areas names))
-    (fit_areas_of lossless needs image all (2 * length image) (filter wanted areas) reach region_part.0)
+    subst (All (IsFit image)) (sym (regions_of (map_findings image) areas names _ regions _ _ refl refl refl))
+    (fit_areas_of lossless needs image all (2 * length image) (filter wanted areas) reach both.1)

@@ -1,5 +1,5 @@
 -- The first content of a name in the findings belongs to the component that a search finds.
-use Rattle.std.proofs.Common.{◌≡◌, ℕ, ◌+◌, Bool, true, false, cond, List, [], ◌∷◌, ◌++◌, length, Option, Some, None, ◌==◌, refl, sym, ap, subst, ◌∙◌}
+use Rattle.std.proofs.Common.{◌≡◌, ℕ, ◌+◌, Bool, true, false, cond, List, [], ◌∷◌, ◌++◌, length, Option, Some, None, ◌==◌, refl, sym, ap, subst, ◌∙◌, append_assoc}
 use Rattle.std.specs.Prelude.{is_some, map, ◌*◌, nat_le, All}
 use Rattle.std.proofs.lemmas.List.Elements.{All-head, All-tail, Contains-append_left, Contains-append_right, Contains-push}
 use Rattle.std.specs.List.{find}
@@ -188,5 +188,8 @@ needs_met image names expected wish none =
     let all = expected_names names expected in
     let areas = image_areas image in
     let last = names_findings areas 0 names in
-    subst (λ l. IsMet image l wish) (sym (regions_of (map_findings image) (regions_findings image all) areas names))
-    (met_in image wish all last (no_area areas 0 names wish) (2 * length image) (wanted_areas image all areas) (sym (skipped (map_findings image) (regions_findings image all ++ last) wish) ∙ none))
+    let regions = regions_findings image all in
+    let found = map Map (map_findings image) in
+    subst (λ l. IsMet image l wish) (sym (regions_of (map_findings image) areas names _ regions _ _ refl refl refl))
+    (met_in image wish all last (no_area areas 0 names wish) (2 * length image) (wanted_areas image all areas)
+    (sym (ap (λ l. unmet l wish) (append_assoc found regions last) ∙ skipped (map_findings image) (regions ++ last) wish) ∙ none))

@@ -74,23 +74,11 @@ no_name_areas areas number (name ∷ names) =
     ∙ no_name_areas areas (number + 1) names
 
 -- the areas of all findings are the areas of the regions
-pub regions_of : (found : List MapFinding) (regions : List ImageFinding) (areas : List NumberedArea) (names : List (List ℕ)) → region_areas (map Map found ++ (regions ++ names_findings areas 0 names)) ≡ region_areas regions
-regions_of found regions areas names =
-    flat_map-append region_area (map Map found) (regions ++ names_findings areas 0 names)
-    ∙ rw (no_map_areas found) (flat_map-append region_area regions (names_findings areas 0 names) ∙ rw (no_name_areas areas 0 names) (append-nil (region_areas regions)))
+pub regions_of : (found : List MapFinding) (areas : List NumberedArea) (names : List (List ℕ)) (first regions second all : List ImageFinding) → first ≡ map Map found → second ≡ first ++ regions → all ≡ second ++ names_findings areas 0 names → region_areas all ≡ region_areas regions
+regions_of found areas names first regions second all is pushed last =
+    rw (last, flat_map-append region_area second (names_findings areas 0 names), no_name_areas areas 0 names, append-nil (region_areas second), pushed, flat_map-append region_area first regions, is, no_map_areas found) refl
 
-pub listed : (found : List MapFinding) (areas : List NumberedArea) (names : List (List ℕ)) (first regions second all : List ImageFinding) → first ≡ map Map found → second ≡ first ++ regions → all ≡ second ++ names_findings areas 0 names
-    → all ≡ map Map found ++ (regions ++ names_findings areas 0 names)
-listed found areas names first regions second all is pushed last =
-    last
-    ∙ ap (λ (l : List ImageFinding). l ++ names_findings areas 0 names) (pushed ∙ ap (λ (l : List ImageFinding). l ++ regions) is)
-    ∙ append_assoc (map Map found) regions (names_findings areas 0 names)
-
-pub region_areas-listed : (found : List MapFinding) (areas : List NumberedArea) (names : List (List ℕ)) (first regions second all : List ImageFinding) → first ≡ map Map found → second ≡ first ++ regions → all ≡ second ++ names_findings areas 0 names
-    → region_areas all ≡ region_areas regions
-region_areas-listed found areas names first regions second all is pushed last = ap region_areas (listed found areas names first regions second all is pushed last) ∙ regions_of found regions areas names
-
-pub found_image : (image : List ℕ) (names expected : List (List ℕ)) (found : List MapFinding) (areas : List NumberedArea) (regions all : List ImageFinding) → all ≡ map Map found ++ (regions ++ names_findings areas 0 names) → found ≡ map_findings image → areas ≡ image_areas image
-    → regions ≡ areas_findings image (expected_names names expected) (2 * length image) (wanted_areas image (expected_names names expected) areas) → all ≡ image_findings image names expected
+pub found_image : (image : List ℕ) (names expected : List (List ℕ)) (found : List MapFinding) (areas : List NumberedArea) (first regions second all : List ImageFinding) → first ≡ map Map found → second ≡ first ++ regions → all ≡ second ++ names_findings areas 0 names
+    → found ≡ map_findings image → areas ≡ image_areas image → regions ≡ areas_findings image (expected_names names expected) (2 * length image) (wanted_areas image (expected_names names expected) areas) → all ≡ image_findings image names expected
 unfolding image_findings
-found_image image names expected found areas regions all is from_map from_areas from_wanted = rw (is, from_wanted, from_map, from_areas) refl
+found_image image names expected found areas first regions second all is pushed last from_map from_areas from_wanted = rw (last, pushed, is, from_wanted, from_map, from_areas) refl

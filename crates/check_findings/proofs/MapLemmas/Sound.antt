@@ -1,10 +1,10 @@
 -- A map without other findings is sound.
-use Rattle.std.proofs.Common.{◌≡◌, ◌⊎◌, inl, inr, ⊎_elim, ℕ, zero, suc, ◌+◌, ◌<◌, ◌≤◌, Bool, true, false, not, ◌&&◌, cond, nat_lt, nat_eq, All, List, [], ◌∷◌, ◌++◌, length, Option, Some, None, refl, sym, ap, subst, ◌∙◌, arith}
+use Rattle.std.proofs.Common.{◌≡◌, ◌⊎◌, inl, inr, ⊎_elim, ℕ, zero, suc, ◌+◌, ◌<◌, ◌≤◌, Bool, true, false, not, cond, nat_lt, nat_eq, All, List, [], ◌∷◌, ◌++◌, length, Option, Some, None, refl, sym, ap, subst, ◌∙◌, arith}
 use Rattle.std.specs.Prelude.{Contains, IsSomeAnd}
 use Rattle.std.specs.List.{find, flat_map, list_any}
 use Rattle.std.specs.Option.{option_map, option_map_or, option_to_list}
 use Rattle.std.specs.Str.{is_utf8}
-use Rattle.std.proofs.lemmas.Bool.{and_parts, or_parts, cases_lt, ltb-false, leb-true, eqb-true, false≢true}
+use Rattle.std.proofs.lemmas.Bool.{and_cases, and_parts, not-false, or_parts, cases_lt, ltb-false, leb-true, eqb-true, false≢true}
 use Rattle.std.proofs.lemmas.List.Elements.{All-nil, All-cons, All-contains}
 use Rattle.std.proofs.lemmas.List.Folds.{list_any-append}
 use Rattle.std.proofs.lemmas.Slice.Eq.{bytes_eq-Decides}
@@ -43,10 +43,6 @@ uncaused : {X : Type 0} (f : X → MapFinding) (cause : Option X) → list_any e
 unfolding every
 uncaused f None none = refl
 uncaused f (Some x) none = absurd cc
-
-not-false : (b : Bool) → not b ≡ false → b ≡ true
-not-false true e = refl
-not-false false e = absurd cc
 
 find-none : (test : NumberedArea → Bool) (areas : List NumberedArea) → find test areas ≡ None → All (λ (a : NumberedArea). test a ≡ false) areas
 find-none test [] e = All-nil (λ (a : NumberedArea). test a ≡ false)
@@ -119,13 +115,7 @@ named test areas a passes none there =
 -- ---- overlaps
 
 not_inside : (a b : Area) → ends_inside a b ≡ false → (b.offset ≤ a.offset) ⊎ ((area_end a ≤ b.offset) ⊎ (area_end b ≤ area_end a))
-not_inside a b e = go (nat_lt a.offset b.offset) (nat_lt b.offset (area_end a)) (nat_lt (area_end a) (area_end b)) refl refl refl e
-  where
-    go : (x y z : Bool) → nat_lt a.offset b.offset ≡ x → nat_lt b.offset (area_end a) ≡ y → nat_lt (area_end a) (area_end b) ≡ z → (x && (y && z)) ≡ false → (b.offset ≤ a.offset) ⊎ ((area_end a ≤ b.offset) ⊎ (area_end b ≤ area_end a))
-    go false y z p q r e = inl (ltb-false a.offset b.offset p)
-    go true false z p q r e = inr (inl (ltb-false b.offset (area_end a) q))
-    go true true false p q r e = inr (inr (ltb-false (area_end a) (area_end b) r))
-    go true true true p q r e = absurd cc
+not_inside a b e = ⊎_elim (λ p. inl (ltb-false a.offset b.offset p)) (λ later. inr (⊎_elim (λ p. inl (ltb-false b.offset (area_end a) p)) (λ p. inr (ltb-false (area_end a) (area_end b) p)) (and_cases _ _ later))) (and_cases _ _ e)
 
 nest : (a b : Area) → ends_inside a b ≡ false → ends_inside b a ≡ false → Nest a b
 nest a b one other = ⊎_elim

@@ -2,6 +2,7 @@
 use Rattle.std.proofs.Common.{◌≡◌, ℕ, ◌+◌, ◌-◌, ◌/◌, ◌==◌, Bool, true, false, cond, zero, suc, List, [], ◌∷◌, length, drop, Option, Some, None, All, refl}
 use Rattle.std.specs.Prelude.{nat_le}
 use Rattle.std.specs.List.{position_from}
+use Rattle.std.proofs.lemmas.Bool.{cond_both}
 use Rattle.std.proofs.lemmas.List.Elements.{All-nil, All-cons, All-append}
 use Rattle.flash_format.specs.Cut.{End, complete, tail, damage}
 use Rattle.flash_format.specs.Head.{head_of, is_free}
@@ -73,13 +74,6 @@ of_end x at (damage kind) = All-cons (IsIn end_part) (Damaged at kind) [] refl (
 
 pub of_counts : (components free room : ℕ) → All (IsIn count_part) (count_findings components free room)
 of_counts components free room =
-    All-cons (IsIn count_part) _ (FreeBytes free ∷ room_finding room ∷ []) (first (components == 0))
-    (All-cons (IsIn count_part) (FreeBytes free) (room_finding room ∷ []) refl (All-cons (IsIn count_part) _ [] (last (nat_le metadata room)) (All-nil (IsIn count_part))))
-  where
-    first : (b : Bool) → IsIn count_part (cond b NoComponents (Components components))
-    first true = refl
-    first false = refl
-
-    last : (b : Bool) → IsIn count_part (cond b (LargestContent (room - metadata)) NoRoom)
-    last true = refl
-    last false = refl
+    let first = cond_both (components == 0) NoComponents (Components components) (IsIn count_part) (λ e. refl) (λ e. refl) in
+    let last = cond_both (nat_le metadata room) (LargestContent (room - metadata)) NoRoom (IsIn count_part) (λ e. refl) (λ e. refl) in
+    All-cons (IsIn count_part) _ (FreeBytes free ∷ room_finding room ∷ []) first (All-cons (IsIn count_part) (FreeBytes free) (room_finding room ∷ []) refl (All-cons (IsIn count_part) _ [] last (All-nil (IsIn count_part))))

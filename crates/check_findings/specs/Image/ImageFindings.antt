@@ -87,6 +87,6 @@ regions_findings image names =
 -- of the map, regions, and names without an area
 unfoldable pub image_findings : List ℕ → List (List ℕ) → List (List ℕ) → List ImageFinding
 image_findings image names expected =
-    map Map (map_findings image)
-    ++ (regions_findings image (expected_names names expected)
-    ++ names_findings (image_areas image) 0 names)
+    (map Map (map_findings image)
+    ++ regions_findings image (expected_names names expected))
+    ++ names_findings (image_areas image) 0 names

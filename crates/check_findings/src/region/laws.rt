@@ -1,14 +1,10 @@
 //! Laws about a region's findings, as contracts of functions without effect.
 ghost use Rattle.check_findings.specs.Region.Laws.{BlankTailsAreKnown, UnshadowedAreFound};
 
-use cbfs_walk::listed_components_are_found;
-
 /// In a region of a good size with a first entry, a search finds each unshadowed component by name.
 pub fn unshadowed_components_are_found()
     ensures { UnshadowedAreFound }
-{
-    listed_components_are_found();
-}
+{}
 
 /// The tail has no finding but its offset exactly if its bytes, except the region's last four, are
 /// 0xff or 0x00.
