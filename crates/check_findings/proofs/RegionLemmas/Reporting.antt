@@ -1,15 +1,14 @@
 -- The report of another entry.
-use Rattle.std.proofs.Common.{◌≡◌, ℕ, true, false, List, [], ◌∷◌, ◌++◌, Result, Ok, Err, sym, ap, ◌∙◌, append_assoc, append-nil}
+use Rattle.std.proofs.Common.{◌≡◌, ℕ, true, false, List, [], ◌++◌, Result, Ok, Err, sym, ap, ◌∙◌, append_assoc, append-nil}
 use Rattle.flash_format.specs.declared.head.Head.{Head}
 use Rattle.flash_format.specs.Head.{head_of, is_free}
 use Rattle.flash_format.specs.Components.{cell_name, cell_attributes, cell_content, packing}
 use Rattle.cbfs_walk.specs.Hashes.{hash_state}
 use Rattle.cbfs_walk.specs.declared.hashes.HashState.{HashState}
 use Rattle.std.specs.declared.alloc.AllocError.{AllocError}
-use Rattle.check_findings.specs.Region.RegionFindings.{content_of}
+use Rattle.check_findings.specs.Region.RegionFindings.{content_of, free_findings}
 use Rattle.check_findings.specs.Region.Reports.{HasReported, Reported, Reports, with_cell, with_component, with_findings}
 use Rattle.check_findings.specs.declared.region.finding.RegionFinding.{RegionFinding}
-use Rattle.check_findings.specs.declared.region.finding.RegionFinding.TheVariants.{Deleted}
 use Rattle.check_findings.specs.declared.region.report.Report.{Report}
 
 -- a component has the name, type and content of its cell
@@ -19,9 +18,8 @@ pub cell_reported : (new : Report) (at : ℕ) (x name : List ℕ) (head : Head) 
 cell_reported new at x name head compression state t used is_name is_head is_packed is_state has =
     rw (ap is_free is_head ∙ used) (rw (is_name, sym is_head, is_packed, is_state) at has)
 
-pub deleted_reported : (new : Report) (at : ℕ) (x : List ℕ) (head : Head) (t : Reported) → is_free head ≡ true → head.kind ≡ 0 → head_of x ≡ head
-    → HasReported new (with_findings t (Deleted at ∷ [])) → HasReported new (with_cell t at x)
-deleted_reported new at x head t free deleted is_head has = rw (is_head, free, deleted) has
+pub free_reported : (new : Report) (at : ℕ) (x : List ℕ) (head : Head) (t : Reported) → is_free head ≡ true → head_of x ≡ head → HasReported new (with_findings t (free_findings at head)) → HasReported new (with_cell t at x)
+free_reported new at x head t free is_head has = rw (is_head, free) has
 
 pub reports_none : (E : Type 0) (report : Report) → Reports {E = E} (Ok tt) report report (λ t. with_findings t [])
 reports_none E report t has = (has.0 ∙ sym (append-nil t.findings), has.1)

@@ -1,6 +1,6 @@
 -- The bytes after the entries.
 use Rattle.std.proofs.Common.{◌≡◌, ℕ, ◌+◌, ◌-◌, ◌*◌, ◌<◌, ◌≤◌, IsTrue, Bool, true, false, cond, zero, suc, All, List, [], ◌∷◌, ◌++◌, length, Option, Some, None, min, refl, sym, ap, ◌∙◌, arith, append_assoc, append-nil, take, drop, length-take, ⊎_elim}
-use Rattle.std.specs.Prelude.{is_some, slice_range}
+use Rattle.std.specs.Prelude.{slice_range}
 use Rattle.std.specs.List.{position_from}
 use Rattle.std.specs.Option.{option_or}
 use Rattle.std.proofs.lemmas.Bool.{cases_lt}
@@ -48,33 +48,23 @@ piece_is x at k end n inside is =
     last : end - (at + k) < 4096 → take 4096 (take (end - (at + k)) l) ≡ take n l
     last le = take_all 4096 (take (end - (at + k)) l) (omega (arith, le, length-take (end - (at + k)) l)) ∙ ap (λ m. take m l) {x = end - (at + k)} {y = n} (omega (arith, is, le))
 
--- of a piece, or else of the later bytes
-pub filled_next : (x : List ℕ) (at k : ℕ) (bytes : List ℕ) → bytes ≡ take 4096 (drop k (tail_bytes at x))
-    → position_from is_filled (at + k) (drop k (tail_bytes at x)) ≡ option_or (position_from is_filled (at + k) bytes) (position_from is_filled (at + (k + 4096)) (drop (k + 4096) (tail_bytes at x)))
-filled_next x at k bytes is =
-    let l = drop k (tail_bytes at x) in
-    filled_parts (at + k) 4096 l
-    ∙ ap (λ b. option_or (position_from is_filled (at + k) b) (position_from is_filled (at + k + 4096) (drop 4096 l))) (sym is)
-    ∙ ap (λ b. option_or (position_from is_filled (at + k) bytes) (position_from is_filled (at + k + 4096) b)) (drop-drop 4096 k (tail_bytes at x))
-    ∙ ap (λ p. option_or (position_from is_filled (at + k) bytes) (position_from is_filled p (drop (k + 4096) (tail_bytes at x)))) {x = at + k + 4096} {y = at + (k + 4096)} (omega arith)
-
-pub some_or : (a b : Option ℕ) → is_some a ≡ true → option_or a b ≡ a
-some_or None b e = absurd cc
-some_or (Some k) b e = refl
-
-pub none_or : (a b : Option ℕ) → is_some a ≡ false → option_or a b ≡ b
-none_or None b e = refl
-none_or (Some k) b e = absurd cc
-
-pub piece_read : {F : Type 0} (facts : F → Device) (r : Range) (at k n m : ℕ) (old now : Pages F) (bytes : List ℕ) → LiesOn r (facts old.device) → HasRead facts m 0 old now
-    → at + k < r.size - 4 → n ≡ min (r.size - at - 4 - k) 4096 → (IsTrue (facts now.device).honest → bytes ≡ slice_range (facts now.device).content (r.start + (at + k)) (r.start + (at + k) + n))
-    → IsTrue (facts old.device).honest → bytes ≡ take 4096 (drop k (tail_bytes at (bytes_in r (facts old.device).content)))
-piece_read facts r at k n m old now bytes lies read inside is shown h =
+-- of a piece that was read, or else of the later bytes
+pub filled_next : {F : Type 0} (facts : F → Device) (r : Range) (at k n m : ℕ) (old now : Pages F) (bytes : List ℕ) → LiesOn r (facts old.device) → HasRead facts m 0 old now
+    → at + k < r.size - 4 → n ≡ min (r.size - at - 4 - k) 4096 → (IsTrue (facts now.device).honest → bytes ≡ slice_range (facts now.device).content (r.start + (at + k)) (r.start + (at + k) + n)) → IsTrue (facts old.device).honest
+    → (let l = tail_bytes at (bytes_in r (facts old.device).content) in position_from is_filled (at + k) (drop k l) ≡ option_or (position_from is_filled (at + k) bytes) (position_from is_filled (at + (k + 4096)) (drop (k + 4096) l)))
+filled_next facts r at k n m old now bytes lies read inside is shown h =
     let image = (facts old.device).content in
     let x = bytes_in r image in
+    let l = drop k (tail_bytes at x) in
     let len : length x ≡ r.size = length-bytes_in r image lies.inside in
-    shown (honest_still read.device.calls.same_honesty h) ∙ ap (λ l. slice_range l (r.start + (at + k)) (r.start + (at + k) + n)) (read.device.unchanged h)
+    let piece : take 4096 l ≡ bytes = sym (
+    shown (honest_still read.device.calls.same_honesty h) ∙ ap (λ i. slice_range i (r.start + (at + k)) (r.start + (at + k) + n)) (read.device.unchanged h)
     ∙ part-in image r (at + k) n (omega (arith, is, inside)) ∙ piece_is x at k (length x - 4) n (omega (arith, inside, len)) (omega (arith, is, len))
+    ) in
+    filled_parts (at + k) 4096 l
+    ∙ ap (λ b. option_or (position_from is_filled (at + k) b) (position_from is_filled (at + k + 4096) (drop 4096 l))) piece
+    ∙ ap (λ b. option_or (position_from is_filled (at + k) bytes) (position_from is_filled (at + k + 4096) b)) (drop-drop 4096 k (tail_bytes at x))
+    ∙ ap (λ p. option_or (position_from is_filled (at + k) bytes) (position_from is_filled p (drop (k + 4096) (tail_bytes at x)))) {x = at + k + 4096} {y = at + (k + 4096)} (omega arith)
 
 -- no byte follows the last piece
 pub none_left : (x : List ℕ) (at k : ℕ) → length x - at - 4 ≤ k → position_from is_filled (at + k) (drop k (tail_bytes at x)) ≡ None

@@ -39,9 +39,8 @@ fn push_cell<F: Flash>(
 {
     cells_stand_in_their_image();
     if cell.head.is_free() {
-        if cell.head.kind == 0 {
-            report.push(RegionFinding::Deleted { at: cell.at })?;
-        }
+        let is_deleted = cell.head.kind == 0;
+        report.push_if(is_deleted, RegionFinding::Deleted { at: cell.at })?;
         return Ok(());
     }
     let mut field = [0; 256];

@@ -1,5 +1,5 @@
 //! The region report.
-ghost use Rattle.std.specs.Prelude.{◌≡◌, [], ◌∷◌, ◌++◌, IfOk};
+ghost use Rattle.std.specs.Prelude.{◌≡◌, [], ◌∷◌, ◌++◌, IfOk, if◌then◌else◌};
 
 use crate::fault::Pushed;
 use crate::region::count::Count;
@@ -39,6 +39,16 @@ impl Report {
         ensures { Reports result self.old self.new (λ t. with_findings t (finding ∷ [])) }
     {
         self.findings.push(finding)?;
+        Ok(())
+    }
+
+    pub fn push_if(&mut self, found: bool, finding: RegionFinding) -> Pushed
+        ensures { Reports result self.old self.new
+            (λ t. with_findings t (if found then finding ∷ [] else [])) }
+    {
+        if found {
+            self.findings.push(finding)?;
+        }
         Ok(())
     }
 

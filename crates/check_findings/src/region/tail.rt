@@ -6,7 +6,7 @@ ghost use Rattle.flash_device.specs.Pages.{HasAnswered, HasRead, OnHonestIn};
 ghost use Rattle.flash_device.specs.Regions.{LiesOn};
 ghost use Rattle.check_findings.specs.Faults.{by_device};
 ghost use Rattle.check_findings.specs.Region.RegionFindings.{is_filled, tail_bytes};
-ghost use Rattle.check_findings.specs.Region.RegionFindings.{entries_findings, entry_findings};
+ghost use Rattle.check_findings.specs.Region.RegionFindings.{entries_findings};
 ghost use Rattle.check_findings.specs.Region.RegionFindings.{tail_findings};
 ghost use Rattle.check_findings.specs.Region.Reports.{Reports, with_findings};
 
@@ -50,31 +50,11 @@ fn find_filled<F: Flash>(
         let place = at + 4096 * i;
         let n = (len - 4096 * i).min(PIECE as u64);
         let bytes = paged.piece(region.start() + place, n as usize)?;
-        let filled = first_filled(bytes, place);
-        if filled.is_some() {
-            return Ok(filled);
+        if let Some(filled) = first_filled(bytes, place) {
+            return Ok(Some(filled));
         }
     }
     Ok(None)
-}
-
-fn push_entry<F: Flash>(
-    paged: &mut Paged<F>,
-    region: Region,
-    at: u64,
-    report: &mut Report,
-) -> Result<(), CheckFault>
-    requires region { LiesOn region (F.facts paged.old.device) }
-    requires inside { at ≤ region.size }
-
-    ensures after { HasRead F.facts 1 (fault_count by_device result) paged.old paged.new }
-    ensures found { OnHonestIn F.facts paged.old.device region (λ x.
-        Reports result report.old report.new (λ t. with_findings t (entry_findings at x))) }
-{
-    if has_entry_at(paged, region, at)? {
-        report.push(RegionFinding::TailEntry { at })?;
-    }
-    Ok(())
 }
 
 /// Searches at `at`, and at each multiple of 64 bytes later.
@@ -95,7 +75,9 @@ fn push_entries<F: Flash>(
 {
     let lines = (region.size() - at) / 64;
     for i in 0..lines {
-        push_entry(paged, region, at + 64 * i, report)?;
+        let at = at + 64 * i;
+        let has_entry = has_entry_at(paged, region, at)?;
+        report.push_if(has_entry, RegionFinding::TailEntry { at })?;
     }
     Ok(())
 }

@@ -5,7 +5,7 @@ use Rattle.flash_device.proofs.DeviceLemmas.{honest_still}
 use Rattle.cbfs_walk.specs.Cells.{cell_in}
 use Rattle.cbfs_walk.specs.Hashes.{hash_state}
 use Rattle.cbfs_walk.specs.Walks.{StandsIn}
-use Rattle.check_findings.proofs.RegionLemmas.Reporting.{cell_reported, deleted_reported}
+use Rattle.check_findings.proofs.RegionLemmas.Reporting.{cell_reported, free_reported}
 use Rattle.check_findings.proofs.region.check.push_cell.Goals as goal
 
 pub returns-in_err-state-clause-after : goal.returns-in_err-state-clause-after
@@ -17,13 +17,13 @@ returns-in_err-push_component-clause-after g c = search rules
 pub returns-clause-after : goal.returns-clause-after
 returns-clause-after g c = search rules
 
-pub returns-in_ok-push-clause-found : goal.returns-in_ok-push-clause-found
-returns-in_ok-push-clause-found g c = λ h stands. λ t has.
+pub returns-then-is_free-clause-found : goal.returns-then-is_free-clause-found
+returns-then-is_free-clause-found g c = λ h stands. λ t has.
     let r = c.args.region in
     let cell = c.args.cell.now in
     let image = (g.F.Flash.facts c.args.paged.now.device).content in
     let known = c.cells_stand_in_their_image.ensures r image cell c.requires.region.inside c.requires.cell stands in
-    deleted_reported c.push.new.self cell.at (cell_in (bytes_in r image) cell) cell.head t (sym c.is_free.ensures ∙ c.if-is_free.true) c.if-cell-eq0.true known.head (c.in_ok-push.ensures t has)
+    free_reported c.push_if.new.self cell.at (cell_in (bytes_in r image) cell) cell.head t (sym c.is_free.ensures ∙ c.if-is_free.true) known.head (c.in_ok-push_if.ensures t has)
 
 pub returns-clause-found : goal.returns-clause-found
 returns-clause-found g c = λ h stands. λ t has.

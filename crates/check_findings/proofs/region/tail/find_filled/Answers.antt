@@ -1,45 +1,34 @@
-use Rattle.std.proofs.Common.{◌+◌, ◌*◌, ◌∙◌, ℕ, Option, ap, drop, sym, arith}
-use Rattle.std.specs.Prelude.{is_some}
+use Rattle.std.proofs.Common.{◌+◌, ◌*◌, ◌∙◌, ap, drop, sym, arith}
 use Rattle.std.specs.List.{position_from}
 use Rattle.flash_device.specs.Regions.{bytes_in}
 use Rattle.flash_device.proofs.DeviceLemmas.{length-bytes_in}
 use Rattle.flash_device.proofs.WindowLemmas.{HasRead-then}
 use Rattle.check_findings.specs.Region.RegionFindings.{is_filled, tail_bytes}
-use Rattle.check_findings.proofs.RegionLemmas.Tails.{filled_next, none_left, none_or, piece_read, some_or}
+use Rattle.check_findings.proofs.RegionLemmas.Tails.{filled_next, none_left}
 use Rattle.check_findings.proofs.region.tail.find_filled.Goals as goal
 
 pub loop-i-preserved : goal.loop-i-preserved
 loop-i-preserved g c =
     let had = c.loop-i.invariant in
     let piece = rw c.in_ok-bytes.was at c.piece.follows.holds-at-none in
-    let r = c.args.region in
     let at = c.args.at in
     let k = 4096 * c.loop-i.i in
-    let x = bytes_in r (g.F.Flash.facts c.args.paged.now.device).content in
+    let x = bytes_in c.args.region (g.F.Flash.facts c.args.paged.now.device).content in
     record {
       read = HasRead-then _ _ 1 0 _ _ _ had.read piece.read;
       blank = λ h.
-          had.blank h
-          ∙ filled_next x at k c.in_ok-bytes.bytes.now
-          (piece_read g.F.Flash.facts r at k c.min-n.result _ _ _ _ c.requires.region had.read (omega (arith, c.loop-i-test.true, c.saturating_sub-len.ensures, c.size.ensures))
+          had.blank h ∙ rw (sym c.first_filled.ensures ∙ c.in_default.is) at (filled_next g.F.Flash.facts c.args.region at k c.min-n.result _ _ _ c.in_ok-bytes.bytes.now c.requires.region had.read (omega (arith, c.loop-i-test.true, c.saturating_sub-len.ensures, c.size.ensures))
           (omega (arith, c.min-n.ensures, c.saturating_sub-len.ensures, c.size.ensures)) (rw c.start.ensures at c.in_ok-bytes.ensures.read) h)
-          ∙ none_or (position_from is_filled (at + k) c.in_ok-bytes.bytes.now) _ (ap (λ (o : Option ℕ). is_some o) (sym c.first_filled-filled.ensures) ∙ sym c.is_some.ensures ∙ c.if-is_some.false)
           ∙ ap (λ m. position_from is_filled (at + m) (drop m (tail_bytes at x))) {x = k + 4096} {y = 4096 * (c.loop-i.i + 1)} (omega arith);
     }
 
-pub returns-then-is_some-clause-found : goal.returns-then-is_some-clause-found
-returns-then-is_some-clause-found g c = λ h.
+pub returns-in-Some-clause-found : goal.returns-in-Some-clause-found
+returns-in-Some-clause-found g c = λ h.
     let had = c.loop-i.invariant in
-    let r = c.args.region in
     let at = c.args.at in
     let k = 4096 * c.loop-i.i in
-    let x = bytes_in r (g.F.Flash.facts c.args.paged.now.device).content in
-    c.first_filled-filled.ensures
-    ∙ sym (had.blank h
-    ∙ filled_next x at k c.in_ok-bytes.bytes.now
-    (piece_read g.F.Flash.facts r at k c.min-n.result _ _ _ _ c.requires.region had.read (omega (arith, c.loop-i-test.true, c.saturating_sub-len.ensures, c.size.ensures))
-    (omega (arith, c.min-n.ensures, c.saturating_sub-len.ensures, c.size.ensures)) (rw c.start.ensures at c.in_ok-bytes.ensures.read) h)
-    ∙ some_or (position_from is_filled (at + k) c.in_ok-bytes.bytes.now) _ (ap (λ (o : Option ℕ). is_some o) (sym c.first_filled-filled.ensures) ∙ sym c.is_some.ensures ∙ c.if-is_some.true))
+    sym (had.blank h ∙ rw (sym c.first_filled.ensures ∙ c.in-Some.is) at (filled_next g.F.Flash.facts c.args.region at k c.min-n.result _ _ _ c.in_ok-bytes.bytes.now c.requires.region had.read (omega (arith, c.loop-i-test.true, c.saturating_sub-len.ensures, c.size.ensures))
+    (omega (arith, c.min-n.ensures, c.saturating_sub-len.ensures, c.size.ensures)) (rw c.start.ensures at c.in_ok-bytes.ensures.read) h))
 
 pub returns-clause-found : goal.returns-clause-found
 returns-clause-found g c = λ h.

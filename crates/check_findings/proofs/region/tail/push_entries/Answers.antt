@@ -16,15 +16,17 @@ loop-i-init g c = record { read = HasRead-none _ _; found = λ h. reports_none C
 pub loop-i-preserved : goal.loop-i-preserved
 loop-i-preserved g c =
     let had = c.loop-i.invariant in
-    let add = c.in_ok-push_entry.ensures in
+    let device = had.read.device in
+    let entry = c.in_ok-has_entry.ensures in
     let i = c.loop-i.i in
     let at = c.args.at in
     let x = bytes_in c.args.region (g.F.Flash.facts c.args.paged.now.device).content in
     record {
-      read = HasRead-then _ _ 1 0 _ _ _ had.read add.after;
-      found = λ h. rw (add-one i, entries_last i at x)
-          (reports_both {E = CheckFault} (Ok tt) c.args.report.now c.loop-i.report c.push_entry.new.report (entries_findings i at x) (entry_findings (at + 64 * i) x)
-          (had.found h) (rw (had.read.device.unchanged h) at (add.found (honest_still had.read.device.calls.same_honesty h))));
+      read = HasRead-then _ _ 1 0 _ _ _ had.read entry.after.read;
+      found = λ h.
+          let has = rw (device.unchanged h) at (entry.has (honest_still device.calls.same_honesty h)) in
+          rw (add-one i, entries_last i at x)
+          (reports_both {E = CheckFault} (Ok tt) c.args.report.now c.loop-i.report c.push_if.new.self (entries_findings i at x) (entry_findings (at + 64 * i) x) (had.found h) (rw has at c.in_ok-push_if.ensures));
     }
 
 pub returns-clause-found : goal.returns-clause-found
