@@ -1,5 +1,5 @@
 -- The first content of a name in the findings belongs to the component that a search finds.
-use Rattle.std.proofs.Common.{◌≡◌, ℕ, ◌+◌, Bool, true, false, cond, List, [], ◌∷◌, ◌++◌, length, Option, Some, None, ◌==◌, refl, sym, ap, subst, ◌∙◌, append_assoc, append-nil, Contains, arith}
+use Rattle.std.proofs.Common.{◌≡◌, ℕ, ◌+◌, Bool, true, false, cond, List, [], ◌∷◌, ◌++◌, length, Option, Some, None, Ok, ◌==◌, refl, sym, ap, subst, ◌∙◌, append_assoc, append-nil, Contains, arith}
 use Rattle.std.specs.Prelude.{map, ◌*◌, nat_le, All}
 use Rattle.std.proofs.lemmas.List.Elements.{All-append, All-head, All-tail, All-weaker, Contains-append_right}
 use Rattle.std.specs.Option.{option_map, option_or}
@@ -16,7 +16,7 @@ use Rattle.check_findings.specs.Region.Counts.{free_bytes, largest_room}
 use Rattle.check_findings.specs.Region.Names.{is_among}
 use Rattle.check_findings.specs.Region.RegionFindings.{cells_findings, component_content, component_finding, counts_of, end_findings, region_findings, shape_findings}
 use Rattle.flash_format.specs.Flashmap.{is_area}
-use Rattle.check_findings.specs.Image.Needs.{HasContent, Wish, content_named, first_content, is_met, unmet, unmet_by}
+use Rattle.check_findings.specs.Image.Needs.{Wish, content_named, first_content, is_met, unmet, unmet_by}
 use Rattle.check_findings.specs.Image.Laws.{IsMet, NeedsAreThere}
 use Rattle.check_findings.specs.Image.ImageFindings.{areas_findings, bytes_of, expected_names, has_one_of, image_findings, left_after, names_findings, region_finding, regions_findings, wanted_areas}
 use Rattle.check_findings.specs.Image.RegionAreas.{region_areas}
@@ -71,8 +71,12 @@ of_shape : (name : List ℕ) (fault : WalkFault) → first_content name (shape_f
 of_shape name walk.RegionShape = refl
 of_shape name other = refl
 
+-- a search finds the name with this content
+abbrev HasContent : List ℕ → List ℕ → Content → Type 0
+HasContent x name content = (c : Component) × (component_in x name ≡ Ok (Some c)) × (component_content c ≡ content)
+
 -- a content of the name belongs to the component that a search finds
-pub has_content : (x name : List ℕ) (content : Content) → first_content name (region_findings x) ≡ Some content → HasContent x name content
+has_content : (x name : List ℕ) (content : Content) → first_content name (region_findings x) ≡ Some content → HasContent x name content
 unfolding region_findings component_in
 has_content x name content is = go (shape_fault x) refl is
   where
@@ -93,7 +97,7 @@ has_content x name content is = go (shape_fault x) refl is
 
     listed : (o : Option Component) → option_map component_content o ≡ Some content → first_named name (components x) ≡ o → shape_fault x ≡ None → HasContent x name content
     listed None e here good = absurd cc
-    listed (Some c) e here good = record { component = c; found = rw (good, here) refl; is = cc }
+    listed (Some c) e here good = (c, rw (good, here) refl, cc)
 
     go : (o : Option WalkFault) → shape_fault x ≡ o → first_content name (refused_or shape_findings o (cells_findings [] 0 cells ++ (ended ++ counts_of (length x) cells))) ≡ Some content → HasContent x name content
     go (Some fault) bad e = absurd (let none = of_shape name fault in cc)
@@ -109,14 +113,9 @@ module _ (image : List ℕ) (wish : Wish) where
     where
       go : (b : Bool) → is_met wish.place content a.area.size ≡ b → cond b None (Some (Elsewhere content.start)) ≡ None → IsMet image all wish
       go false placed e = absurd cc
-      go true placed e = record {
-        area = a;
-        checked = checked;
-        named = named;
-        content = content;
-        has = has_content (bytes_of image a) wish.name content first;
-        placed = placed;
-      }
+      go true placed e =
+          let has = has_content (bytes_of image a) wish.name content first in
+          record { area = a; checked = checked; named = named; component = has.0; found = has.1; placed = rw has.2 placed }
 
   -- the first area with the name meets the need
   met_in : (all : List NumberedArea) (names : List (List ℕ)) (last : List ImageFinding) → unmet last wish ≡ Some Missing → (left : ℕ) (areas : List NumberedArea)

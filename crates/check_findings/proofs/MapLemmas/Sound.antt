@@ -64,7 +64,7 @@ unfolding every
 inside n a none =
     let parts = none_of every (finding_if (nat_lt n (area_end a.area)) (findings.AreaOutside a)) _ none in
     let more = none_of every (finding_if (nat_eq a.area.size 0) (findings.AreaEmpty a)) _ parts.1 in
-    record { some = positive a.area.size (untold every _ (findings.AreaEmpty a) refl more.0); inside = ltb-false n (area_end a.area) (untold every _ (findings.AreaOutside a) refl parts.0) }
+    (positive a.area.size (untold every _ (findings.AreaEmpty a) refl more.0), ltb-false n (area_end a.area) (untold every _ (findings.AreaOutside a) refl parts.0))
 
 text : (n : ℕ) (a : NumberedArea) → list_any every (area_findings n a) ≡ false → is_utf8 (text_of a.area.name) ≡ true
 unfolding every
@@ -122,12 +122,12 @@ nest a b one other = ⊎_elim
     (λ before. elim (not_inside a b one) [
       | inl not_before ↦ absurd (omega (arith, before, not_before))
       | inr (inl apart) ↦ inl (inl apart)
-      | inr (inr holds) ↦ inr (inl (record { start = omega (arith, before); end = holds }))
+      | inr (inr holds) ↦ inr (inl ((omega (arith, before), holds)))
     ])
     (λ behind. elim (not_inside b a other) [
-      | inl same ↦ ⊎_elim (λ longer. inr (inr (record { start = behind; end = omega (arith, longer) }))) (λ shorter. inr (inl (record { start = same; end = shorter }))) (cases_lt (area_end a) (area_end b))
+      | inl same ↦ ⊎_elim (λ longer. inr (inr ((behind, omega (arith, longer))))) (λ shorter. inr (inl ((same, shorter)))) (cases_lt (area_end a) (area_end b))
       | inr (inl apart) ↦ inl (inr apart)
-      | inr (inr holds) ↦ inr (inr (record { start = behind; end = holds }))
+      | inr (inr holds) ↦ inr (inr ((behind, holds)))
     ])
     (cases_lt a.offset b.offset)
 
@@ -150,7 +150,7 @@ unfolding every
 held map None e = absurd cc
 held map (Some a) e =
     let parts = and_parts _ _ (not-false (holds_map map a.area) (untold every _ (findings.MapAreaMisses a) refl e)) in
-    record { start = leb-true _ _ parts.0; end = leb-true _ _ parts.1 }
+    (leb-true _ _ parts.0, leb-true _ _ parts.1)
 
 sound_of : (image : List ℕ) (map : FoundMap) → found_in image ≡ Some map → findings_of (length image) map (found_from (map.at + 1) image) (map_areas image map) ≡ findings.Map map ∷ [] → IsSound image map
 unfolding every

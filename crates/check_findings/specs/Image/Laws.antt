@@ -14,11 +14,10 @@ use Rattle.cbfs_walk.specs.Shapes.{shape_fault}
 use Rattle.cbfs_walk.specs.declared.hashes.HashState.TheVariants.{Invalid}
 use Rattle.cbfs_walk.specs.Shaped.{place_after}
 use Rattle.check_findings.specs.Region.Laws.{IsBlankTail}
-use Rattle.check_findings.specs.Region.RegionFindings.{region_findings}
+use Rattle.check_findings.specs.Region.RegionFindings.{component_content, region_findings}
 use Rattle.check_findings.specs.Image.ImageFindings.{bytes_of, image_findings, range_of}
-use Rattle.check_findings.specs.Image.Needs.{HasContent, Wish, is_met, unmet}
+use Rattle.check_findings.specs.Image.Needs.{Wish, is_met, unmet}
 use Rattle.check_findings.specs.Image.RegionAreas.{region_areas}
-use Rattle.check_findings.specs.declared.region.finding.Content.{Content}
 use Rattle.check_findings.specs.Image.Verdicts.{is_bad, is_bad_region}
 
 abbrev pub FitRegionsLoseNothing : Type 0
@@ -59,9 +58,9 @@ pub record IsMet (image : List ℕ) (areas : List NumberedArea) (wish : Wish) : 
   pub area : NumberedArea
   pub checked : Contains areas area
   pub named : is_area wish.area area.area ≡ true
-  pub content : Content
-  pub has : HasContent (bytes_of image area) wish.name content
-  pub placed : is_met wish.place content area.area.size ≡ true
+  pub component : Component
+  pub found : component_in (bytes_of image area) wish.name ≡ Ok (Some component)
+  pub placed : is_met wish.place (component_content component) area.area.size ≡ true
 
 abbrev pub NeedsAreThere : Type 0
 NeedsAreThere =

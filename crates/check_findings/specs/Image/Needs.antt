@@ -1,12 +1,9 @@
 -- Required components.
-use Rattle.std.specs.Prelude.{◌≡◌, ℕ, ◌+◌, ◌==◌, Bool, true, List, [], ◌∷◌, Option, Some, None, Ok}
+use Rattle.std.specs.Prelude.{ℕ, ◌+◌, ◌==◌, Bool, true, List, [], ◌∷◌, Option, Some, None}
 use Rattle.std.specs.Prelude.{if◌then◌else◌}
 use Rattle.std.specs.Option.{option_or}
 use Rattle.std.specs.Str.{bytes_eq}
 use Rattle.flash_format.specs.Flashmap.{is_area}
-use Rattle.flash_format.specs.Components.{Component}
-use Rattle.cbfs_walk.specs.Finding.{component_in}
-use Rattle.check_findings.specs.Region.RegionFindings.{component_content}
 use Rattle.check_findings.specs.declared.map.finding.NumberedArea.{NumberedArea}
 use Rattle.check_findings.specs.declared.region.finding.Content.{Content}
 use Rattle.check_findings.specs.declared.region.finding.RegionFinding.{RegionFinding}
@@ -51,18 +48,10 @@ unmet_by a wish None = Some Missing
 unmet_by a wish (Some content) =
     if is_met wish.place content a.area.size then None else Some (Elsewhere content.start)
 
-abbrev pub unmet_in : NumberedArea → List RegionFinding → Wish → Option NeedFinding
-unmet_in a findings wish = unmet_by a wish (first_content wish.name findings)
-
 -- the reason if the findings don't meet the need, by the first area of this name
 abbrev pub unmet : List ImageFinding → Wish → Option NeedFinding
 unmet [] wish = Some Missing
 unmet (Region a of_region ∷ findings) wish =
-    if is_area wish.area a.area then unmet_in a of_region wish else unmet findings wish
+    if is_area wish.area a.area then unmet_by a wish (first_content wish.name of_region)
+    else unmet findings wish
 unmet (_ ∷ findings) wish = unmet findings wish
-
--- a search finds the name with this content
-pub record HasContent (x name : List ℕ) (content : Content) : Type 0 where
-  pub component : Component
-  pub found : component_in x name ≡ Ok (Some component)
-  pub is : component_content component ≡ content

@@ -13,21 +13,18 @@ use Rattle.check_findings.specs.declared.map.finding.MapFinding.TheVariants as f
 use Rattle.check_findings.specs.Map.MapFindings.{area_end, has_name, map_areas, map_findings}
 
 -- the area has bytes, and lies inside an image of n bytes
-pub record IsInside (n : ℕ) (area : Area) : Type 0 where
-  pub some : 0 < area.size
-  pub inside : area_end area ≤ n
+abbrev pub IsInside : ℕ → Area → Type 0
+IsInside n area = (0 < area.size) × (area_end area ≤ n)
 
-pub record Holds (a b : Area) : Type 0 where
-  pub start : a.offset ≤ b.offset
-  pub end : area_end b ≤ area_end a
+abbrev pub Holds : Area → Area → Type 0
+Holds a b = (a.offset ≤ b.offset) × (area_end b ≤ area_end a)
 
 -- the areas are disjoint, or one contains the other
 abbrev pub Nest : Area → Area → Type 0
 Nest a b = ((area_end a ≤ b.offset) ⊎ (area_end b ≤ a.offset)) ⊎ (Holds a b ⊎ Holds b a)
 
-pub record HoldsMap (map : FoundMap) (area : Area) : Type 0 where
-  pub start : area.offset ≤ map.at
-  pub end : map.at + map_len map.head ≤ area_end area
+abbrev pub HoldsMap : FoundMap → Area → Type 0
+HoldsMap map area = (area.offset ≤ map.at) × (map.at + map_len map.head ≤ area_end area)
 
 -- The map has the image's size, and no later map exists. Each area lies inside the image, has a
 -- text name that finds the area, and nests with each area. The first area `FMAP` contains the map.

@@ -3,7 +3,6 @@ ghost use Rattle.std.specs.Prelude.{◌≡◌};
 ghost use Rattle.check_findings.specs.Image.Needs as needs;
 
 use crate::image::finding::ImageFinding;
-use crate::map::NumberedArea;
 use crate::region::{Content, RegionFinding};
 
 /// The required position of a content in its area.
@@ -47,38 +46,22 @@ pub enum NeedFinding {
     Elsewhere(u64),
 }
 
-fn content_named(finding: &RegionFinding, name: &[u8]) -> Option<Content>
-    ensures { result ≡ needs.content_named name.now finding.now }
-{
-    match finding {
-        RegionFinding::Component {
-            name: other,
-            content,
-            ..
-        } if other.as_slice() == name => { Some(*content) }
-        _ => None,
-    }
-}
-
 fn first_content(findings: &[RegionFinding], name: &[u8]) -> Option<Content>
     ensures { result ≡ needs.first_content name.now findings.now }
 {
     for finding in findings {
-        if let Some(content) = content_named(finding, name) {
-            return Some(content);
+        if let RegionFinding::Component {
+            name: other,
+            content,
+            ..
+        } = finding
+        {
+            if other.as_slice() == name {
+                return Some(*content);
+            }
         }
     }
     None
-}
-
-fn unmet_in(area: NumberedArea, findings: &[RegionFinding], need: Need<'_>) -> Option<NeedFinding>
-    ensures { result ≡ needs.unmet_in area findings.now (needs.wish_of need.entry) }
-{
-    match first_content(findings, need.name) {
-        None => Some(NeedFinding::Missing),
-        Some(content) if need.place.is_met(content, area.area.size) => None,
-        Some(content) => Some(NeedFinding::Elsewhere(content.start)),
-    }
 }
 
 /// Returns the reason if the findings don't meet the need. The first component with its name, in
@@ -89,7 +72,11 @@ pub fn unmet(findings: &[ImageFinding], need: Need<'_>) -> Option<NeedFinding>
     for finding in findings {
         if let ImageFinding::Region { area, findings } = finding {
             if area.area.name_is(need.area) {
-                return unmet_in(*area, findings.as_slice(), need);
+                return match first_content(findings.as_slice(), need.name) {
+                    None => Some(NeedFinding::Missing),
+                    Some(content) if need.place.is_met(content, area.area.size) => None,
+                    Some(content) => Some(NeedFinding::Elsewhere(content.start)),
+                };
             }
         }
     }

@@ -1,9 +1,8 @@
 //! Areas that overlap without nesting.
 
 ghost use Rattle.std.specs.Prelude.{◌≡◌, ◌++◌, OnOk};
-ghost use Rattle.std.specs.List.{find, flat_map};
-ghost use Rattle.check_findings.specs.Map.MapFindings.{ends_inside, overlap};
-ghost use Rattle.check_findings.specs.Map.MapFindings.{overlap_with, overlap_findings};
+ghost use Rattle.std.specs.List.{find};
+ghost use Rattle.check_findings.specs.Map.MapFindings.{ends_inside, overlap, overlap_findings};
 
 use crate::fault::Pushed;
 use crate::map::finding::{MapFinding, MapFindings, NumberedArea};
@@ -17,16 +16,8 @@ pub fn push_overlap_findings(findings: &mut MapFindings, areas: &[NumberedArea])
     ensures { OnOk result (findings.new.items ≡ findings.old.items ++ overlap_findings areas.now) }
 {
     if areas.len() > MOST_COMPARED {
-        push_if(findings, true, MapFinding::TooManyAreas)
-    } else {
-        push_overlaps(findings, areas)
+        return push_if(findings, true, MapFinding::TooManyAreas);
     }
-}
-
-fn push_overlaps(findings: &mut MapFindings, areas: &[NumberedArea]) -> Pushed
-    ensures { OnOk result (findings.new.items
-        ≡ findings.old.items ++ flat_map (overlap_with areas.now) areas.now) }
-{
     for a in areas {
         let other = first_overlap(areas, a);
         let finding = other.map(|other| MapFinding::Overlap { area: *a, other });

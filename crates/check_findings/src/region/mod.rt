@@ -4,7 +4,6 @@ mod check;
 mod count;
 mod finding;
 mod laws;
-mod names;
 mod report;
 mod start;
 mod tail;

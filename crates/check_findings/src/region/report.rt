@@ -4,13 +4,16 @@ ghost use Rattle.std.specs.Prelude.{◌≡◌, [], ◌∷◌, ◌++◌, IfOk, if
 use crate::fault::Pushed;
 use crate::region::count::Count;
 use crate::region::finding::{Content, Name, RegionFinding};
-use crate::region::names::{Names, add_name};
+use smallvec::SmallVec;
 use std::alloc::{AllocError, Global};
 use std::collections::HashSet;
 use std::hash::RandomState;
 
 /// The bytes of a header and a name of at most 3 bytes with its NUL.
 const METADATA: u64 = 28;
+
+/// Names, hashed with random keys, since an image's author chooses names.
+type Names = HashSet<SmallVec<u8, 16>, RandomState>;
 
 /// The findings and names of the entries so far.
 #[derive(Drop)]
@@ -55,12 +58,13 @@ impl Report {
     pub fn push_component(&mut self, at: u64, name: &[u8], content: Content) -> Pushed
         ensures { Reports result self.old self.new (λ t. with_component t at name.now content) }
     {
-        let is_shadowed = add_name(self.alloc, &mut self.names, name)?;
+        let key = SmallVec::from_slice(self.alloc, name)?;
+        let is_new = self.names.insert(key)?;
         let name = Name::copied(self.alloc, name)?;
         self.findings.push(RegionFinding::Component {
             at,
             name,
-            is_shadowed,
+            is_shadowed: !is_new,
             content,
         })?;
         Ok(())
