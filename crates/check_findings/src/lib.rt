@@ -3,6 +3,7 @@
 
 mod fault;
 mod image;
+mod lists;
 mod map;
 mod region;
 mod text;

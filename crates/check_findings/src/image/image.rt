@@ -19,6 +19,7 @@ use crate::fault::CheckFault;
 use crate::image::finding::{ImageFinding, RegionFindings};
 use crate::image::names::{NameSet, push_missing};
 use crate::image::wanted::wanted_areas;
+use crate::lists::push_if;
 use crate::map::{MapFinding, NumberedArea, check_map};
 use crate::region::check_region;
 use flash_device::{Flash, FoundMap, Paged, Region};
@@ -89,23 +90,6 @@ fn areas_findings<F: Flash>(
         push_if(&mut findings, true, finding)?;
     }
     Ok(findings)
-}
-
-pub fn push_if(
-    findings: &mut Vec<ImageFinding>,
-    found: bool,
-    finding: ImageFinding,
-) -> Result<(), AllocError>
-    ensures { OnOk result (findings.new.items
-        ≡ findings.old.items ++ (if found then finding ∷ [] else [])) }
-{
-    if !found {
-        return Ok(());
-    }
-    match findings.push(finding) {
-        Ok(()) => Ok(()),
-        Err(_) => Err(AllocError),
-    }
 }
 
 fn map_part(alloc: Global, found: &[MapFinding]) -> Result<Vec<ImageFinding>, AllocError>

@@ -5,7 +5,7 @@ ghost use Rattle.check_findings.specs.Image.ImageFindings.{names_findings};
 ghost use Rattle.check_findings.specs.Image.Lookups.{HasNames};
 
 use crate::image::finding::ImageFinding;
-use crate::image::image::push_if;
+use crate::lists::push_if;
 use crate::map::{AreaNames, NumberedArea};
 use std::alloc::{AllocError, Global};
 use std::collections::BTreeMap;

@@ -11,7 +11,8 @@ ghost use Rattle.check_findings.specs.Image.Lookups.{HasNames, HasStarts};
 use crate::fault::CheckFault;
 use crate::image::names::NameSet;
 use crate::image::starts::Starts;
-use crate::map::{NumberedArea, push_area_if};
+use crate::lists::push_if;
+use crate::map::NumberedArea;
 use crate::region::has_entry_at;
 use flash_device::{Flash, FlashFault, Paged, Region};
 use std::alloc::Global;
@@ -52,7 +53,7 @@ pub fn wanted_areas<F: Flash>(
     let mut wanted = Vec::new(alloc);
     for area in areas {
         let is_wanted = is_wanted(paged, expected, &starts, area)?;
-        push_area_if(&mut wanted, is_wanted, *area)?;
+        push_if(&mut wanted, is_wanted, *area)?;
     }
     Ok(wanted)
 }

@@ -9,7 +9,8 @@ ghost use Rattle.flash_device.specs.Pages.{HasRead, OnHonest};
 ghost use Rattle.check_findings.specs.Faults.{by_device};
 ghost use Rattle.check_findings.specs.Map.MapFindings.{image_areas, map_areas};
 
-use crate::fault::{CheckFault, Pushed};
+use crate::fault::CheckFault;
+use crate::lists::push_if;
 use crate::map::finding::NumberedArea;
 use flash_device::{Flash, FoundMap, Paged, area, find_fmap};
 use std::alloc::Global;
@@ -60,17 +61,7 @@ fn map_areas<F: Flash>(
     let mut areas = Vec::new(alloc);
     for number in 0..map.head.nareas {
         let area = area(paged, map, number)?;
-        push_area_if(&mut areas, true, NumberedArea { number, area })?;
+        push_if(&mut areas, true, NumberedArea { number, area })?;
     }
     Ok(areas)
-}
-
-pub fn push_area_if(areas: &mut Vec<NumberedArea>, is_wanted: bool, area: NumberedArea) -> Pushed
-    ensures { OnOk result (areas.new.items
-        ≡ areas.old.items ++ (if is_wanted then area ∷ [] else [])) }
-{
-    if is_wanted {
-        areas.push(area)?;
-    }
-    Ok(())
 }

@@ -9,9 +9,10 @@ ghost use Rattle.check_findings.specs.Faults.{by_device};
 ghost use Rattle.check_findings.specs.Map.MapFindings.{image_areas, map_findings};
 
 use crate::fault::CheckFault;
+use crate::lists::push_if;
 use crate::map::areas::{ImageMap, image_map};
 use crate::map::finding::{MapFinding, NumberedArea};
-use crate::map::findings::{findings_of, push_if};
+use crate::map::findings::findings_of;
 use flash_device::{Flash, FoundMap, Paged, find_fmap_from};
 use std::alloc::Global;
 

@@ -9,6 +9,7 @@ ghost use Rattle.check_findings.specs.Map.MapFindings.{area_findings, finding_if
 ghost use Rattle.check_findings.specs.Map.MapFindings.{has_name, holds_map, map_area_findings};
 
 use crate::fault::Pushed;
+use crate::lists::push_if;
 use crate::map::finding::{MapFinding, MapFindings, NumberedArea};
 use crate::map::names::push_name_findings;
 use crate::map::overlaps::push_overlap_findings;
@@ -38,12 +39,6 @@ pub fn findings_of(
     push_overlap_findings(&mut findings, areas)?;
     push_map_area_findings(&mut findings, map, areas)?;
     Ok(findings)
-}
-
-pub fn push_if(findings: &mut MapFindings, found: bool, finding: MapFinding) -> Pushed
-    ensures { OnOk result (findings.new.items ≡ findings.old.items ++ finding_if found finding) }
-{
-    push_some(findings, if found { Some(finding) } else { None })
 }
 
 pub fn push_some(findings: &mut MapFindings, finding: Option<MapFinding>) -> Pushed

@@ -8,7 +8,7 @@ mod laws;
 mod names;
 mod overlaps;
 
-pub use areas::{ImageMap, image_map, push_area_if};
+pub use areas::{ImageMap, image_map};
 pub use check::{CheckedMap, check_map};
 pub use finding::{MapFinding, NumberedArea};
 pub use laws::clean_maps_are_sound;

@@ -6,8 +6,8 @@ ghost use Rattle.check_findings.specs.declared.map.finding.NumberedArea.{Numbere
 ghost use Rattle.check_findings.specs.Map.MapFindings.{name_findings};
 
 use crate::fault::Pushed;
+use crate::lists::push_if;
 use crate::map::finding::{MapFinding, MapFindings, NumberedArea};
-use crate::map::findings::push_if;
 use std::alloc::{AllocError, Global};
 use std::collections::BTreeMap;
 

@@ -5,8 +5,9 @@ ghost use Rattle.std.specs.List.{find};
 ghost use Rattle.check_findings.specs.Map.MapFindings.{ends_inside, overlap, overlap_findings};
 
 use crate::fault::Pushed;
+use crate::lists::push_if;
 use crate::map::finding::{MapFinding, MapFindings, NumberedArea};
-use crate::map::findings::{push_if, push_some};
+use crate::map::findings::push_some;
 use flash_format::Area;
 
 /// The limit of pairwise comparisons. All 65535 areas of a map would take seconds.

@@ -2,6 +2,7 @@
 ghost use Rattle.std.specs.Prelude.{◌≡◌, [], ◌∷◌, ◌++◌, IfOk, if◌then◌else◌};
 
 use crate::fault::Pushed;
+use crate::lists::push_if;
 use crate::region::count::Count;
 use crate::region::finding::{Content, Name, RegionFinding};
 use smallvec::SmallVec;
@@ -49,10 +50,7 @@ impl Report {
         ensures { Reports result self.old self.new
             (λ t. with_findings t (if found then finding ∷ [] else [])) }
     {
-        if found {
-            self.findings.push(finding)?;
-        }
-        Ok(())
+        push_if(&mut self.findings, found, finding)
     }
 
     pub fn push_component(&mut self, at: u64, name: &[u8], content: Content) -> Pushed

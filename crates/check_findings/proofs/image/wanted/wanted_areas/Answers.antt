@@ -14,7 +14,7 @@ loop-area-preserved g c =
     let add = c.in_ok-is_wanted.ensures in
     let device = had.read.device in
     let content = (g.F.Flash.facts c.args.paged.now.device).content in
-    let more = wanted_more (λ a. area_end a.area ≤ length content) _ _ _ _ c.in_ok-push_area_if.ensures had.inside (rw device.calls.same_length at add.inside) in
+    let more = wanted_more (λ a. area_end a.area ≤ length content) _ _ _ _ c.in_ok-push_if.ensures had.inside (rw device.calls.same_length at add.inside) in
     record {
       read = HasRead-then _ _ 1 0 _ _ _ had.read add.after.read;
       inside = more.0;
@@ -22,6 +22,6 @@ loop-area-preserved g c =
       areas = λ h names has.
           let p = is_wanted content names c.args.areas.now in
           let is = rw (device.unchanged h) at (add.wanted (honest_still device.calls.same_honesty h) names c.args.areas.now has c.in_ok-starts.ensures) in
-          one_taken (λ l. c.loop-area.wanted.items ≡ filter p l) (λ l. c.push_area_if.new.areas.items ≡ filter p l) c.args.areas.now c.loop-area.area-index _ c.loop-area-test.true
-          (λ so_far. filter_more p _ _ _ _ (rw is at c.in_ok-push_area_if.ensures) so_far) (had.areas h names has);
+          one_taken (λ l. c.loop-area.wanted.items ≡ filter p l) (λ l. c.push_if.new.list.items ≡ filter p l) c.args.areas.now c.loop-area.area-index _ c.loop-area-test.true
+          (λ so_far. filter_more p _ _ _ _ (rw is at c.in_ok-push_if.ensures) so_far) (had.areas h names has);
     }

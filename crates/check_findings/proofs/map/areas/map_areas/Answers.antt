@@ -11,10 +11,10 @@ loop-number-preserved g c =
     let image = (g.F.Flash.facts c.args.paged.now.device).content in
     record {
       read = HasRead-then _ _ 1 0 _ _ _ had.read c.in_ok-area.ensures.after.read;
-      count = omega (arith, ap length c.in_ok-push_area_if.ensures, length-append c.loop-number.areas.items (record { number = c.loop-number.number; area = c.in_ok-area.area } ∷ []), had.count);
+      count = omega (arith, ap length c.in_ok-push_if.ensures, length-append c.loop-number.areas.items (record { number = c.loop-number.number; area = c.in_ok-area.area } ∷ []), had.count);
       areas = λ h.
           let is = rw (had.read.device.unchanged h) at (c.in_ok-area.ensures.area (honest_still had.read.device.calls.same_honesty h)) in
-          areas-more image map.head.nareas (map.at + 56) c.loop-number.number _ _ _ c.in_ok-area.area c.loop-number-test.true is c.in_ok-push_area_if.ensures (had.areas h);
+          areas-more image map.head.nareas (map.at + 56) c.loop-number.number _ _ _ c.in_ok-area.area c.loop-number-test.true is c.in_ok-push_if.ensures (had.areas h);
     }
 
 pub returns-clause-areas : goal.returns-clause-areas
