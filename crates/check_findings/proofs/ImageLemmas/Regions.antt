@@ -1,11 +1,11 @@
 -- The checked areas in order, and all findings.
-use Rattle.std.proofs.Common.{◌≡◌, ◌∙◌, ℕ, ◌+◌, ◌-◌, ◌*◌, ◌<◌, ◌≤◌, Bool, true, false, cond, All, IsTrue, List, [], ◌∷◌, ◌++◌, length, get_or, drop, nat_le, refl, sym, ap, arith, add-one, append_assoc, append-nil, drop-cons, length-append}
+use Rattle.std.proofs.Common.{◌≡◌, ◌∙◌, ℕ, ◌+◌, ◌-◌, ◌*◌, ◌<◌, ◌≤◌, Bool, true, false, cond, All, IsTrue, List, [], ◌∷◌, ◌++◌, length, get_or, drop, take, nat_le, refl, sym, ap, arith, add-one, append_assoc, append-nil, drop-cons, length-append}
 use Rattle.std.specs.Prelude.{filter, map, is_some}
 use Rattle.std.specs.List.{find}
 use Rattle.std.proofs.Math.Seq.{drop-length}
 use Rattle.std.proofs.lemmas.Bool.{leb-true}
 use Rattle.std.proofs.lemmas.Grind.{flat_map-append}
-use Rattle.std.proofs.lemmas.List.Elements.{All-append, All-cons, All-nil, All-push, filter-append}
+use Rattle.std.proofs.lemmas.List.Elements.{All-append, All-cons, All-nil, All-push, filter_more}
 use Rattle.std.proofs.lemmas.List.Sums.{sum_by_push}
 use Rattle.check_findings.specs.declared.map.finding.MapFinding.{MapFinding}
 use Rattle.check_findings.specs.declared.map.finding.NumberedArea.{NumberedArea}
@@ -15,8 +15,8 @@ use Rattle.check_findings.specs.declared.image.finding.ImageFinding.TheVariants.
 use Rattle.check_findings.specs.Image.ImageFindings.{area_finding, areas_findings, expected_names, image_findings, left_after, names_findings, wanted_areas}
 use Rattle.check_findings.specs.Image.RegionAreas.{AreChecked, region_area, region_areas}
 
-pub filter_more : (p : NumberedArea → Bool) (xs before after : List NumberedArea) (d : NumberedArea) → after ≡ before ++ filter p (d ∷ []) → before ≡ filter p xs → after ≡ filter p (xs ++ d ∷ [])
-filter_more p xs before after d is so_far = is ∙ ap (λ (l : List NumberedArea). l ++ filter p (d ∷ [])) so_far ∙ sym (filter-append p xs (d ∷ []))
+pub filtered : (p : NumberedArea → Bool) (xs : List NumberedArea) (i : ℕ) (d : NumberedArea) (before after : List NumberedArea) → i < length xs → before ≡ filter p (take i xs) → after ≡ before ++ cond (p (get_or xs i d)) (get_or xs i d ∷ []) [] → after ≡ filter p (take (i + 1) xs)
+filtered p xs i d before after lt so_far is = rw (filter_more p xs i d lt, sym so_far) is
 
 -- another area is wanted, or not
 pub wanted_more : (P : NumberedArea → Type 0) (wanted : Bool) (a : NumberedArea) (before after : List NumberedArea) → after ≡ before ++ cond wanted (a ∷ []) [] → All P before → (IsTrue wanted → P a) → All P after × (length after ≤ length before + 1)

@@ -1,41 +1,27 @@
 -- The areas of a map, in order.
-use Rattle.std.proofs.Common.{◌≡◌, ℕ, suc, ◌+◌, ◌-◌, ◌*◌, ◌<◌, ◌≤◌, List, [], ◌∷◌, ◌++◌, drop, sym, ap, ◌∙◌, arith, append_assoc, append-nil}
+use Rattle.std.proofs.Common.{◌≡◌, ℕ, zero, suc, ◌+◌, ◌*◌, List, [], ◌∷◌, ◌++◌, drop, sym, ap, ◌∙◌, add-one, arith}
 use Rattle.std.proofs.lemmas.List.{drop-drop}
 use Rattle.flash_format.specs.declared.flashmap.Area.{Area}
 use Rattle.flash_format.specs.Flashmap.{area_of, areas_from}
 use Rattle.check_findings.specs.declared.map.finding.NumberedArea.{NumberedArea}
 use Rattle.check_findings.specs.Map.MapFindings.{numbered_from}
 
--- the areas from index i on, of n areas at an offset
-abbrev pub areas_left : List ℕ → ℕ → ℕ → ℕ → List NumberedArea
-areas_left image n at i = numbered_from i (areas_from (n - i) (drop (at + 42 * i) image))
+abbrev area_at : List ℕ → ℕ → ℕ → NumberedArea
+area_at x number at = record { number = number; area = area_of (drop at x) }
 
-pub areas_left-more : (image : List ℕ) (n at i : ℕ) → i < n → areas_left image n at i ≡ record { number = i; area = area_of (drop (at + 42 * i) image) } ∷ areas_left image n at (i + 1)
+areas-last : (x : List ℕ) (k n : ℕ) → numbered_from k (areas_from (suc n) x) ≡ numbered_from k (areas_from n x) ++ area_at x (k + n) (42 * n) ∷ []
 unfolding areas_from
-areas_left-more image n at i lt =
-    let left : n - i ≡ suc (n - (i + 1)) = omega arith in
-    let next : at + 42 * i + 42 ≡ at + 42 * (i + 1) = omega arith in
-    let here : NumberedArea = record { number = i; area = area_of (drop (at + 42 * i) image) } in
-    ap (λ k. numbered_from i (areas_from k (drop (at + 42 * i) image))) left
-    ∙ ap (λ (l : List ℕ). here ∷ numbered_from (i + 1) (areas_from (n - (i + 1)) l)) (drop-drop 42 (at + 42 * i) image)
-    ∙ ap (λ k. here ∷ numbered_from (i + 1) (areas_from (n - (i + 1)) (drop k image))) next
-
-pub areas_left-none : (image : List ℕ) (n at i : ℕ) → n ≤ i → areas_left image n at i ≡ []
-unfolding areas_from
-areas_left-none image n at i le = let none : n - i ≡ 0 = omega arith in ap (λ k. numbered_from i (areas_from k (drop (at + 42 * i) image))) none
+areas-last x k zero = ap (λ m. area_at x m 0 ∷ []) {x = k} {y = k + 0} (omega arith) ∙ ap (λ m. area_at x (k + 0) m ∷ []) {x = 0} {y = 42 * 0} (omega arith)
+areas-last x k (suc n) =
+    let later = numbered_from (k + 1) (areas_from n (drop 42 x)) in
+    ap (λ (l : List NumberedArea). area_at x k 0 ∷ l) (
+    areas-last (drop 42 x) (k + 1) n
+    ∙ ap (λ m. later ++ area_at (drop 42 x) m (42 * n) ∷ []) {x = k + 1 + n} {y = k + suc n} (omega arith)
+    ∙ ap (λ (y : List ℕ). later ++ record { number = k + suc n; area = area_of y } ∷ []) (drop-drop (42 * n) 42 x ∙ ap (λ m. drop m x) {x = 42 + 42 * n} {y = 42 * suc n} (omega arith))
+    )
 
 -- another area is read
-pub areas-more : (image : List ℕ) (n at i : ℕ) (before after all : List NumberedArea) (area : Area) → i < n → area ≡ area_of (drop (at + 42 * i) image) → after ≡ before ++ record { number = i; area = area } ∷ []
-    → before ++ areas_left image n at i ≡ all → after ++ areas_left image n at (i + 1) ≡ all
-areas-more image n at i before after all area lt is pushed so_far =
-    let rest = areas_left image n at (i + 1) in
-    let here : NumberedArea = record { number = i; area = area } in
-    ap (λ (l : List NumberedArea). l ++ rest) pushed
-    ∙ append_assoc before (here ∷ []) rest
-    ∙ ap (λ (a : Area). before ++ record { number = i; area = a } ∷ rest) is
-    ∙ ap (λ (l : List NumberedArea). before ++ l) (sym (areas_left-more image n at i lt))
-    ∙ so_far
-
--- no area remains
-pub areas-all : (image : List ℕ) (n at i : ℕ) (before all : List NumberedArea) → n ≤ i → before ++ areas_left image n at i ≡ all → before ≡ all
-areas-all image n at i before all le so_far = sym (append-nil before) ∙ ap (λ (l : List NumberedArea). before ++ l) (sym (areas_left-none image n at i le)) ∙ so_far
+pub areas-more : (image : List ℕ) (at i : ℕ) (before after : List NumberedArea) (area : Area) → area ≡ area_of (drop (at + 42 * i) image) → after ≡ before ++ record { number = i; area = area } ∷ []
+    → before ≡ numbered_from 0 (areas_from i (drop at image)) → after ≡ numbered_from 0 (areas_from (i + 1) (drop at image))
+areas-more image at i before after area is pushed so_far =
+    rw (add-one i, areas-last (drop at image) 0 i, drop-drop (42 * i) at image, sym so_far, pushed, is) (ap (λ n. before ++ area_at image n (at + 42 * i) ∷ []) {x = i} {y = 0 + i} (omega arith))

@@ -45,6 +45,7 @@ pub fn image_map<F: Flash>(alloc: Global, paged: &mut Paged<F>) -> Result<ImageM
     Ok(ImageMap { found, areas })
 }
 
+#[tactic(auto, unfolding(flash_format::specs::Flashmap::areas_from))]
 fn map_areas<F: Flash>(
     alloc: Global,
     paged: &mut Paged<F>,

@@ -1,11 +1,9 @@
-use Rattle.std.proofs.Common.{◌≡◌, ◌≤◌, length, arith}
-use Rattle.std.specs.Prelude.{filter}
+use Rattle.std.proofs.Common.{◌≤◌, length, arith}
 use Rattle.flash_device.proofs.DeviceLemmas.{honest_still}
 use Rattle.flash_device.proofs.WindowLemmas.{HasRead-then}
 use Rattle.check_findings.specs.Map.MapFindings.{area_end}
 use Rattle.check_findings.specs.Image.ImageFindings.{is_wanted}
-use Rattle.check_findings.proofs.ImageLemmas.Regions.{filter_more, wanted_more}
-use Rattle.check_findings.proofs.MapLemmas.NameLemmas.{one_taken}
+use Rattle.check_findings.proofs.ImageLemmas.Regions.{filtered, wanted_more}
 use Rattle.check_findings.proofs.image.wanted.wanted_areas.Goals as goal
 
 pub loop-area-preserved : goal.loop-area-preserved
@@ -22,6 +20,5 @@ loop-area-preserved g c =
       areas = λ h names has.
           let p = is_wanted content names c.args.areas.now in
           let is = rw (device.unchanged h) at (add.wanted (honest_still device.calls.same_honesty h) names c.args.areas.now has c.in_ok-starts.ensures) in
-          one_taken (λ l. c.loop-area.wanted.items ≡ filter p l) (λ l. c.push_if.new.list.items ≡ filter p l) c.args.areas.now c.loop-area.area-index _ c.loop-area-test.true
-          (λ so_far. filter_more p _ _ _ _ (rw is at c.in_ok-push_if.ensures) so_far) (had.areas h names has);
+          filtered p c.args.areas.now c.loop-area.area-index _ _ _ c.loop-area-test.true (had.areas h names has) (rw is at c.in_ok-push_if.ensures);
     }
