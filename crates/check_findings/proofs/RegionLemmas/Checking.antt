@@ -133,7 +133,7 @@ checking_start facts r report old lies none unnamed = record {
   inside = omega arith;
   aligned = refl;
   read = HasRead-within facts 0 (0 / 16) 0 old old (omega arith) (HasRead-none facts old);
-  before = record { components = omega arith; free = omega arith };
+  before = (omega arith, omega arith);
   so_far = λ h. (nothing_reported, (none, rw unnamed (λ q. refl)), whole_findings (bytes_in r (facts old.device).content) ∙ ap (λ n. findings_from (bytes_in r (facts old.device).content) nothing_reported (nothing n) 0) (length-bytes_in r (facts old.device).content lies.inside));
 }
 

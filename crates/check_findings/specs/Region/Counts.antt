@@ -36,6 +36,5 @@ count_after n free at len =
     else record n { components = n.components + 1; room = room_to n at; start = at + len }
 
 -- the counts are at most the offset
-pub record IsCountBefore (at : ℕ) (n : Count) : Type 0 where
-  pub components : n.components ≤ at
-  pub free : n.free ≤ at
+abbrev pub IsCountBefore : ℕ → Count → Type 0
+IsCountBefore at n = (n.components ≤ at) × (n.free ≤ at)

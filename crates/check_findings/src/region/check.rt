@@ -67,10 +67,10 @@ fn refused(report: Report, count: Count, fault: WalkFault) -> Result<Vec<RegionF
     let mut report = report;
     match fault {
         WalkFault::Device => return Err(CheckFault::Device),
-        WalkFault::RegionShape => report.push(RegionFinding::BadSize)?,
-        WalkFault::NotCbfs => report.push(RegionFinding::NotCbfs)?,
+        WalkFault::RegionShape => report.push_if(true, RegionFinding::BadSize)?,
+        WalkFault::NotCbfs => report.push_if(true, RegionFinding::NotCbfs)?,
         WalkFault::Damaged { at, kind } => {
-            report.push(RegionFinding::Damaged { at, kind })?;
+            report.push_if(true, RegionFinding::Damaged { at, kind })?;
             return Ok(report.counted(count, at)?);
         }
     }
@@ -112,7 +112,7 @@ pub fn check_region<F: Flash>(
                 return Ok(report.counted(count, at)?);
             }
             Ok(Step::End) => {
-                report.push(RegionFinding::Complete)?;
+                report.push_if(true, RegionFinding::Complete)?;
                 return Ok(report.counted(count, size)?);
             }
             Err(fault) => return refused(report, count, fault),

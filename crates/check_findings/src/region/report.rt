@@ -39,13 +39,6 @@ impl Report {
         }
     }
 
-    pub fn push(&mut self, finding: RegionFinding) -> Pushed
-        ensures { Reports result self.old self.new (λ t. with_findings t (finding ∷ [])) }
-    {
-        self.findings.push(finding)?;
-        Ok(())
-    }
-
     pub fn push_if(&mut self, found: bool, finding: RegionFinding) -> Pushed
         ensures { Reports result self.old self.new
             (λ t. with_findings t (if found then finding ∷ [] else [])) }

@@ -97,10 +97,10 @@ pub fn push_tail<F: Flash>(
     ensures found { OnHonestIn F.facts paged.old.device region (λ x.
         Reports result report.old report.new (λ t. with_findings t (tail_findings at x))) }
 {
-    report.push(RegionFinding::Tail { at })?;
+    report.push_if(true, RegionFinding::Tail { at })?;
     let Some(filled) = find_filled(paged, region, at)? else {
         return Ok(());
     };
-    report.push(RegionFinding::TailFilled { at: filled })?;
+    report.push_if(true, RegionFinding::TailFilled { at: filled })?;
     push_entries(paged, region, at, report)
 }

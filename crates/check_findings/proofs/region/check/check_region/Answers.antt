@@ -29,8 +29,8 @@ returns-in-Ok-Tail-clause-findings g c =
 
 pub returns-in-Ok-End-clause-findings : goal.returns-in-Ok-End-clause-findings
 returns-in-Ok-End-clause-findings g c =
-    checking_end g.F.Flash.facts c.args.region c.loop-cell.walk c.loop-cell.report c.loop-cell.count _ _ c.requires c.loop-cell.invariant.0 c.push.new.self c.size-size.result _ (rw c.in-Ok-End.field-0-is at c.in-Ok-End.ensures.answer) c.size-size.ensures
-    c.in_ok-push-in-Ok-End.ensures c.in_ok-counted-in-Ok-End.ensures
+    checking_end g.F.Flash.facts c.args.region c.loop-cell.walk c.loop-cell.report c.loop-cell.count _ _ c.requires c.loop-cell.invariant.0 c.push_if.new.self c.size-size.result _ (rw c.in-Ok-End.field-0-is at c.in-Ok-End.ensures.answer) c.size-size.ensures
+    c.in_ok-push_if-in-Ok-End.ensures c.in_ok-counted-in-Ok-End.ensures
 
 pub returns-in-Err-clause-findings : goal.returns-in-Err-clause-findings
 returns-in-Err-clause-findings g c = λ h.

@@ -8,7 +8,7 @@ use Rattle.check_findings.proofs.region.tail.push_tail.Goals as goal
 
 pub returns-in_default-clause-found : goal.returns-in_default-clause-found
 unfolding tail_findings
-returns-in_default-clause-found g c = λ h. rw (sym (c.in_ok-filled.ensures.found h), c.in_default.is) c.in_ok-push.ensures
+returns-in_default-clause-found g c = λ h. rw (sym (c.in_ok-filled.ensures.found h), c.in_default.is) c.in_ok-push_if.ensures
 
 pub returns-clause-found : goal.returns-clause-found
 unfolding tail_findings
@@ -19,6 +19,6 @@ returns-clause-found g c = λ h.
     let entries = entries_findings ((length x - at) / 64) at x in
     let filled = TailFilled c.in-Some.filled ∷ [] in
     rw (sym (c.in_ok-filled.ensures.found h), c.in-Some.is)
-    (reports_both c.push_entries.result c.args.report.now c.push.new.self c.push_entries.new.report (Tail at ∷ []) (TailFilled c.in-Some.filled ∷ entries) c.in_ok-push.ensures
-    (reports_both c.push_entries.result c.push.new.self c.push-2.new.self c.push_entries.new.report filled entries c.in_ok-push-2.ensures
+    (reports_both c.push_entries.result c.args.report.now c.push_if.new.self c.push_entries.new.report (Tail at ∷ []) (TailFilled c.in-Some.filled ∷ entries) c.in_ok-push_if.ensures
+    (reports_both c.push_entries.result c.push_if.new.self c.push_if-2.new.self c.push_entries.new.report filled entries c.in_ok-push_if-2.ensures
     (rw (read.unchanged h) at (c.push_entries.ensures.found (honest_still read.calls.same_honesty h)))))
