@@ -7,6 +7,9 @@ use Rattle.check_findings.specs.declared.map.finding.MapFinding.{MapFinding}
 use Rattle.check_findings.specs.Map.MapFindings.{findings_of, image_areas, map_findings}
 use Rattle.check_findings.proofs.map.check.check_map.Goals as goal
 
+pub returns-in_default-clause-after : goal.returns-in_default-clause-after
+returns-in_default-clause-after g c = search rules
+
 pub returns-in_default-clause-answer : goal.returns-in_default-clause-answer
 unfolding map_findings
 returns-in_default-clause-answer g c = λ h. rw (sym (c.in_ok-found.ensures.found h), c.in_default.is) (search rules)
