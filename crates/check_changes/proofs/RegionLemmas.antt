@@ -1,2 +1,86 @@
-pub mod PairLemmas
-pub mod Changing
+-- The changes of regions, in the order of their findings.
+use Rattle.std.proofs.Common.{◌≡◌, ◌∙◌, ℕ, ◌+◌, ◌-◌, ◌*◌, ◌/◌, ◌<◌, ◌≤◌, List, [], ◌++◌, length, get_or, drop, refl, sym, ap, add-one, arith, length-append}
+use Rattle.std.proofs.Math.Seq.{drop-cons}
+use Rattle.std.proofs.lemmas.List.{append-nil, drop_all}
+use Rattle.std.proofs.lemmas.List.Sums.{sum_by-append}
+use Rattle.flash_device.specs.Device.{Device}
+use Rattle.check_findings.specs.declared.map.finding.NumberedArea.{NumberedArea}
+use Rattle.check_findings.specs.declared.image.finding.ImageFinding.{ImageFinding}
+use Rattle.check_findings.specs.Image.RegionAreas.{region_area, region_areas, sum_sizes}
+use Rattle.check_changes.specs.declared.images.Images.{Images}
+use Rattle.check_changes.specs.declared.regions.change.RegionChange.{RegionChange}
+use Rattle.check_changes.specs.Images.{HasReadBoth, OnBoth, lengths}
+use Rattle.check_changes.specs.Regions.RegionChanges.{changes_in, region_changes}
+use Rattle.check_changes.proofs.ImageLemmas.{both-none, both-then, both-within, OnBoth-before}
+
+module _ {F G : Type 0} (f : F → Device) (g : G → Device) (olds : List NumberedArea) (findings : List ImageFinding) where
+  -- the changes of the first i findings are listed, with `left` bytes of the old image for comparisons
+  pub record Changing (i left : ℕ) (changes : List RegionChange) (old new : Images F G) : Type 0 where
+    pub sizes : ℕ
+    pub count : ℕ
+    pub all_sizes : sizes + sum_sizes (region_areas (drop i findings)) ≡ sum_sizes (region_areas findings)
+    pub all : count + length (region_areas (drop i findings)) ≡ length (region_areas findings)
+    pub within : left ≤ (lengths f g old).old
+    pub read : HasReadBoth f g (((lengths f g old).old - left + sizes) / 24 + 2 * count) (sizes / 12 + 2 * count) 0 0 old new
+    pub listed : OnBoth f g old (λ x y. changes ++ changes_in left x y olds (region_areas (drop i findings)) ≡ changes_in (length x) x y olds (region_areas findings))
+
+  pub changing_start : (left : ℕ) (changes : List RegionChange) (images : Images F G) → left ≡ (lengths f g images).old → changes ≡ [] → Changing 0 left changes images images
+  changing_start left changes images is none = record {
+    sizes = 0;
+    count = 0;
+    all_sizes = omega arith;
+    all = omega arith;
+    within = omega arith;
+    read = both-none f g _ _ images;
+    listed = λ h k. rw (none, is) refl;
+  }
+
+  module _ {i left rest a b : ℕ} (d : ImageFinding) {changes : List RegionChange} {old mid new : Images F G} (had : Changing i left changes old mid) (lt : i < length findings) (fewer : rest ≤ left)
+      (read : HasReadBoth f g ((left - rest + sum_sizes (region_area (get_or findings i d))) / 24 + 2 * length (region_area (get_or findings i d)))
+      (sum_sizes (region_area (get_or findings i d)) / 12 + 2 * length (region_area (get_or findings i d))) a b mid new) where
+    abbrev here : List NumberedArea
+    here = region_area (get_or findings i d)
+
+    split : region_areas (drop i findings) ≡ here ++ region_areas (drop (i + 1) findings)
+    split = rw (add-one, drop-cons findings i d lt) refl
+
+    sizes_more : sum_sizes (region_areas (drop i findings)) ≡ sum_sizes here + sum_sizes (region_areas (drop (i + 1) findings))
+    sizes_more = ap sum_sizes split ∙ sum_by-append (λ (a : NumberedArea). a.area.size) here (region_areas (drop (i + 1) findings))
+
+    count_more : length (region_areas (drop i findings)) ≡ length here + length (region_areas (drop (i + 1) findings))
+    count_more = ap length split ∙ length-append here (region_areas (drop (i + 1) findings))
+
+    -- the reads of another finding
+    reads_more : HasReadBoth f g (((lengths f g old).old - rest + (had.sizes + sum_sizes here)) / 24 + 2 * (had.count + length here)) ((had.sizes + sum_sizes here) / 12 + 2 * (had.count + length here)) a b old new
+    reads_more = both-within f g _ _ (omega (arith, had.within)) (omega arith) (both-then f g had.read read)
+
+  -- another finding
+  pub changing_more : {i left rest : ℕ} (d : ImageFinding) {changes next : List RegionChange} {old mid new : Images F G} (had : Changing i left changes old mid) (lt : i < length findings) (fewer : rest ≤ left)
+      (read : HasReadBoth f g ((left - rest + sum_sizes (region_area (get_or findings i d))) / 24 + 2 * length (region_area (get_or findings i d)))
+      (sum_sizes (region_area (get_or findings i d)) / 12 + 2 * length (region_area (get_or findings i d))) 0 0 mid new)
+      → OnBoth f g mid (λ x y. (later : List NumberedArea) → next ++ changes_in rest x y olds later ≡ changes ++ changes_in left x y olds (region_area (get_or findings i d) ++ later))
+      → Changing (i + 1) rest next old new
+  changing_more {i} {left} {rest} d {changes} {next} {old} had lt fewer read more = record {
+    sizes = had.sizes + sum_sizes (region_area (get_or findings i d));
+    count = had.count + length (region_area (get_or findings i d));
+    all_sizes = omega (arith, had.all_sizes, sizes_more d had lt fewer read);
+    all = omega (arith, had.all, count_more d had lt fewer read);
+    within = omega (arith, had.within, fewer);
+    read = reads_more d had lt fewer read;
+    listed = λ h k.
+        OnBoth-before f g (λ x y. (later : List NumberedArea) → next ++ changes_in rest x y olds later ≡ changes ++ changes_in left x y olds (region_area (get_or findings i d) ++ later)) had.read more h k (region_areas (drop (i + 1) findings))
+        ∙ ap (λ (l : List NumberedArea). changes ++ changes_in left (f old.old_image.device).content (g old.new_image.device).content olds l) (sym (split d had lt fewer read))
+        ∙ had.listed h k;
+  }
+
+  -- all findings
+  pub changing_all : {i left : ℕ} {changes : List RegionChange} {old new : Images F G} → Changing i left changes old new → length findings ≤ i
+      → (all : List NumberedArea) → olds ≡ all → OnBoth f g old (λ x y. changes ≡ region_changes x all y findings)
+  unfolding region_changes
+  changing_all {i} {left} {changes} {old} had end all are = λ h k.
+      let x = (f old.old_image.device).content in
+      let y = (g old.new_image.device).content in
+      sym (append-nil changes)
+      ∙ ap (λ (l : List ImageFinding). changes ++ changes_in left x y olds (region_areas l)) (sym (drop_all i findings end))
+      ∙ had.listed h k
+      ∙ ap (λ (l : List NumberedArea). changes_in (length x) x y l (region_areas findings)) are

@@ -1,5 +1,6 @@
 //! The two images.
-ghost use Rattle.std.specs.Prelude.{◌≡◌, ◌*◌, ◌^◌, ◌<◌, ◌≤◌, IfOk, IfSome};
+ghost use Rattle.std.specs.Prelude.{◌≡◌, ◌+◌, ◌*◌, ◌^◌, ◌<◌, ◌≤◌, Some, IfOk, IfSome};
+ghost use Rattle.check_changes.specs.Areas.AreaChanges.{compared, left_after};
 ghost use Rattle.check_changes.specs.Areas.Blocks.{differs};
 ghost use Rattle.check_changes.specs.Images.{HasCompared, LieOn, LieWithin, OnBothIn, lengths, regions_within};
 
@@ -47,6 +48,22 @@ impl Lengths {
         };
         RegionPair { old, new }
     }
+}
+
+/// Returns the regions, if the old one has at most `left` bytes, and subtracts its size.
+pub fn taken(left: &mut u64, regions: Option<RegionPair>) -> Option<RegionPair>
+    ensures regions { result ≡ compared left.old regions }
+    ensures left { left.new ≡ left_after left.old regions }
+    ensures fewer { left.new ≤ left.old }
+    ensures given { IfSome result (λ r.
+        (regions ≡ Some r) × (left.new + r.old.size ≡ left.old)) }
+{
+    let regions = regions?;
+    if regions.old.size() > *left {
+        return None;
+    }
+    *left -= regions.old.size();
+    Some(regions)
 }
 
 /// Two images, each on its device.

@@ -16,16 +16,6 @@ flat_map-more f xs i d before after all lt pushed so_far =
     let left : flat_map f (drop i xs) ≡ f here ++ rest = rw (add-one, drop-cons xs i d lt) refl in
     ap (λ l. l ++ rest) pushed ∙ append_assoc before (f here) rest ∙ ap (λ l. before ++ l) (sym left) ∙ so_far
 
--- at most one more element
-pub length-only_if : {X : Type 0} (before after : List X) (condition : Bool) (x : X) → after ≡ before ++ only_if condition x → length after ≤ length before + 1
-length-only_if before after true x is = omega (arith, ap length is, length-append before (x ∷ []))
-length-only_if before after false x is = omega (arith, ap length is, length-append before [])
-
--- a pair is pushed if its area is the first of its name
-pub pair-pushed : (olds news : List NumberedArea) (a : NumberedArea) (old : Option NumberedArea) (reached : Bool) (before after : List AreaPair) → reached ≡ is_reached news a → old ≡ namesake a olds
-    → after ≡ before ++ only_if reached (record { old = old; new = a }) → after ≡ before ++ pair_of olds news a
-pair-pushed olds news a old reached before after first found is = rw (first, found) at is
-
 -- the changes of the new map, then of the old map
 pub area_changes-parts : (x y : List ℕ) (olds news : List NumberedArea) (found read : List AreaPair) (first second all : List AreaChange) → first ≡ [] → read ≡ found → found ≡ pairs olds news
     → second ≡ first ++ changes_in (8 * length y) x y read read → all ≡ second ++ flat_map (gone_of olds news) olds → all ≡ area_changes x olds y news

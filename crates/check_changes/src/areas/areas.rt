@@ -1,36 +1,24 @@
 //! The changes between areas.
-ghost use Rattle.std.specs.Prelude.{◌≡◌, ◌+◌, ◌-◌, ◌*◌, ◌/◌, ◌≤◌, ◌++◌, length, IfSome, IfOk, OnOk};
-ghost use Rattle.check_changes.specs.Areas.AreaChanges.{changes_in, compared, content_changes};
+ghost use Rattle.std.specs.Prelude.{◌≡◌, ◌+◌, ◌-◌, ◌*◌, ◌/◌, ◌≤◌, ◌++◌, length, IfOk, OnOk};
+ghost use Rattle.check_changes.specs.Areas.AreaChanges.{changes_in, content_changes};
 ghost use Rattle.check_changes.specs.Areas.AreaChanges.{entry_changes, left_after, regions_of};
 ghost use Rattle.check_changes.specs.Areas.AreaChanges as spec;
 ghost use Rattle.check_changes.specs.Areas.Blocks.{blocks_of, different_blocks};
-ghost use Rattle.check_changes.specs.Images.{HasCompared, LieWithin, OnBoth, lengths};
+ghost use Rattle.check_changes.specs.Images.{HasCompared, OnBoth, lengths};
 
 use crate::areas::blocks::{Differing, blocks_of, different_in};
 use crate::areas::change::AreaChange;
+use crate::areas::names::NamedAreas;
 use crate::areas::pairs::{AreaPair, pairs, push_gone};
 use crate::fault::ChangeFault;
-use crate::images::{Images, Lengths, RegionPair};
+use crate::images::{Images, taken};
 use crate::lists::push_if;
-use check_findings::{AreaNames, NumberedArea};
+use check_findings::NumberedArea;
 use flash_device::Flash;
 use std::alloc::{AllocError, Global};
 
 /// The limit of compared bytes, in lengths of the new image: 65535 areas may each have its length.
 const MOST_TIMES: u64 = 8;
-
-/// Returns the regions of a pair, if at most `left` bytes long.
-fn compared_regions(left: u64, lens: Lengths, pair: &AreaPair) -> Option<RegionPair>
-    ensures regions { result ≡ compared left (regions_of lens pair.now) }
-    ensures inside { IfSome result (LieWithin lens) }
-    ensures same_size { IfSome result (λ r. r.old.size ≡ r.new.size) }
-{
-    let regions = pair.regions(lens)?;
-    if regions.old.size() > left {
-        return None;
-    }
-    Some(regions)
-}
 
 fn push_entry_changes(changes: &mut Vec<AreaChange>, pair: AreaPair) -> Result<(), AllocError>
     ensures { OnOk result (changes.new.items ≡ changes.old.items
@@ -65,11 +53,10 @@ fn push_content_changes<F: Flash, G: Flash>(
         ≡ changes.old.items ++ content_changes left.old x y pairs.now pair.now)) }
 {
     let area = pair.new;
-    let Some(regions) = compared_regions(*left, images.lengths(), pair) else {
+    let Some(regions) = taken(left, pair.regions(images.lengths())) else {
         push_if(changes, pair.is_same_size(), AreaChange::NotCompared(area))?;
         return Ok(());
     };
-    *left -= regions.old.size();
     let len = blocks_of(regions.old.size());
     let Differing { blocks, own } = different_in(images, &regions, pairs, len)?;
     let change = AreaChange::Differs { area, blocks, own };
@@ -107,12 +94,12 @@ fn area_changes<'a, F: Flash, G: Flash>(
     ensures changes { OnBoth F.facts G.facts images.old (λ x y. IfOk result (λ changes.
         changes.items ≡ spec.area_changes x areas.entry.old.now y areas.entry.new.now)) }
 {
-    let old_names = AreaNames::of(alloc, areas.old)?;
-    let new_names = AreaNames::of(alloc, areas.new)?;
-    let pairs = pairs(alloc, &old_names, &new_names, areas.new)?;
+    let old = NamedAreas::of(alloc, areas.old)?;
+    let new = NamedAreas::of(alloc, areas.new)?;
+    let pairs = pairs(alloc, &old, &new)?;
     let mut changes = Vec::new(alloc);
     push_changes(&mut changes, images, &pairs)?;
-    push_gone(&mut changes, &old_names, &new_names, areas.old)?;
+    push_gone(&mut changes, &old, &new)?;
     Ok(changes)
 }
 

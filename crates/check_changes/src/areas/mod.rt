@@ -4,9 +4,11 @@ mod areas;
 mod blocks;
 mod change;
 mod map;
+mod names;
 mod pairs;
 
 pub use areas::{Areas, ImageChanges, image_changes};
 pub use blocks::blocks_of;
 pub use change::{AreaChange, MapChange};
 pub use map::map_changes;
+pub use names::NamedAreas;

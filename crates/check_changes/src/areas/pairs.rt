@@ -1,15 +1,14 @@
 //! Pairs of areas.
-ghost use Rattle.std.specs.Prelude.{◌≡◌, ◌+◌, ◌*◌, ◌<◌, ◌≤◌, ◌++◌, ◌^◌, List, length, IfSome, IfOk, OnOk};
+ghost use Rattle.std.specs.Prelude.{◌≡◌, ◌+◌, ◌*◌, ◌<◌, ◌≤◌, ◌++◌, ◌^◌, length, IfSome, IfOk, OnOk};
 ghost use Rattle.std.specs.List.{flat_map};
-ghost use Rattle.check_findings.specs.declared.map.finding.NumberedArea.{NumberedArea};
-ghost use Rattle.check_findings.specs.Map.Names.{Notes};
-ghost use Rattle.check_changes.specs.Areas.AreaChanges.{is_reached, pairs, gone_of, regions_of, is_same_size, holds, is_held};
+ghost use Rattle.check_changes.specs.Areas.AreaChanges.{pairs, gone_of, regions_of, is_same_size, holds, is_held};
 ghost use Rattle.check_changes.specs.Images.{LieWithin};
 
 use crate::areas::change::AreaChange;
+use crate::areas::names::NamedAreas;
 use crate::images::{Lengths, RegionPair};
 use crate::lists::push_if;
-use check_findings::{AreaNames, NumberedArea};
+use check_findings::NumberedArea;
 use flash_device::PIECE;
 use std::alloc::{AllocError, Global};
 
@@ -70,66 +69,38 @@ pub fn is_held(pairs: &[AreaPair], lens: Lengths, outer: RegionPair, number: u64
     pairs.iter().any(|pair| pair.holds(lens, outer, number))
 }
 
-/// Returns whether the area is the first of its name.
-fn is_reached<'a>(names: &AreaNames<'a>, area: &'a NumberedArea) -> bool
-    ensures { (areas : List NumberedArea) → Notes names.now areas → result
-        ≡ is_reached areas area.now }
-{
-    match names.get(area.area.text()) {
-        Some(first) => first.number == area.number,
-        None => false,
-    }
-}
-
 /// Returns the first new area of each name, in order, with its first old namesake.
 pub fn pairs<'a>(
     alloc: Global,
-    old_names: &AreaNames<'a>,
-    new_names: &AreaNames<'a>,
-    new_areas: &'a [NumberedArea],
+    old: &NamedAreas<'a>,
+    new: &NamedAreas<'a>,
 ) -> Result<Vec<AreaPair>, AllocError>
-    ensures found { (olds : List NumberedArea)
-        → Notes old_names.now olds → Notes new_names.now new_areas.now →
-        IfOk result (λ found. found.items ≡ pairs olds new_areas.now) }
-    ensures count { IfOk result (λ found. length found.items ≤ length new_areas.now) }
+    ensures found { IfOk result (λ found. found.items ≡ pairs old.now.all.now new.now.all.now) }
+    ensures count { IfOk result (λ found. length found.items ≤ length new.now.all.now) }
 {
     let mut pairs = Vec::new(alloc);
-    for area in new_areas {
-        let old = old_names.get(area.area.text());
-        let pair = AreaPair { old, new: *area };
-        push_if(&mut pairs, is_reached(new_names, area), pair)?;
+    for area in new.all {
+        let pair = AreaPair {
+            old: old.namesake(area),
+            new: *area,
+        };
+        push_if(&mut pairs, new.is_first(area), pair)?;
     }
     Ok(pairs)
 }
 
-/// Pushes an old area, the first of its name, if the new map lacks the name.
-fn push_if_gone<'a>(
-    changes: &mut Vec<AreaChange>,
-    old_names: &AreaNames<'a>,
-    new_names: &AreaNames<'a>,
-    area: &'a NumberedArea,
-) -> Result<(), AllocError>
-    ensures { (olds news : List NumberedArea)
-        → Notes old_names.now olds → Notes new_names.now news →
-        OnOk result (changes.new.items ≡ changes.old.items ++ gone_of olds news area.now) }
-{
-    let is_gone = is_reached(old_names, area) && new_names.get(area.area.text()).is_none();
-    push_if(changes, is_gone, AreaChange::Gone(*area))
-}
-
+/// Pushes the old areas without a new namesake, the first of each name.
 pub fn push_gone<'a>(
     changes: &mut Vec<AreaChange>,
-    old_names: &AreaNames<'a>,
-    new_names: &AreaNames<'a>,
-    old_areas: &'a [NumberedArea],
+    old: &NamedAreas<'a>,
+    new: &NamedAreas<'a>,
 ) -> Result<(), AllocError>
-    ensures { (news : List NumberedArea)
-        → Notes old_names.now old_areas.now → Notes new_names.now news →
-        OnOk result (changes.new.items ≡ changes.old.items
-        ++ flat_map (gone_of old_areas.now news) old_areas.now) }
+    ensures { OnOk result (changes.new.items ≡ changes.old.items
+        ++ flat_map (gone_of old.now.all.now new.now.all.now) old.now.all.now) }
 {
-    for area in old_areas {
-        push_if_gone(changes, old_names, new_names, area)?;
+    for area in old.all {
+        let is_gone = old.is_first(area) && new.namesake(area).is_none();
+        push_if(changes, is_gone, AreaChange::Gone(*area))?;
     }
     Ok(())
 }

@@ -1,7 +1,6 @@
 //! Compares the components of two images.
 
 mod change;
-mod pairs;
 mod regions;
 
 pub use change::{ComponentChanges, RegionChange};

@@ -1,82 +1,60 @@
 //! The changes of each region's components.
-ghost use Rattle.std.specs.Prelude.{◌≡◌, ◌+◌, ◌-◌, ◌*◌, ◌/◌, ◌≤◌, length, IfOk, IfSome};
-ghost use Rattle.check_findings.specs.Image.RegionAreas.{region_areas, sum_sizes};
-ghost use Rattle.check_changes.specs.Areas.AreaChanges.{compared, left_after};
-ghost use Rattle.check_changes.specs.Images.{HasReadFor, LieWithin, OnBoth, lengths};
-ghost use Rattle.check_changes.specs.Regions.RegionChanges.{change_of, changes_in, new_sizes};
-ghost use Rattle.check_changes.specs.Regions.RegionChanges.{region_changes, regions_of};
+ghost use Rattle.std.specs.Prelude.{◌≡◌, ◌+◌, ◌-◌, ◌*◌, ◌/◌, ◌≤◌, ◌++◌, List, length, IfOk, OnOk};
+ghost use Rattle.check_findings.specs.Image.RegionAreas.{region_area, region_areas, sum_sizes};
+ghost use Rattle.check_findings.specs.declared.map.finding.NumberedArea.{NumberedArea};
+ghost use Rattle.check_changes.specs.Images.{HasReadFor, OnBoth, lengths};
+ghost use Rattle.check_changes.specs.Regions.RegionChanges.{changes_in, region_changes};
 
+use crate::areas::NamedAreas;
 use crate::components::component_changes;
 use crate::fault::ChangeFault;
-use crate::images::{Images, Lengths, RegionPair};
+use crate::images::{Images, taken};
 use crate::lists::push;
 use crate::regions::change::{ComponentChanges, RegionChange};
-use crate::regions::pairs::{Pair, pairs};
-use check_findings::{AreaNames, ImageFinding, NumberedArea};
+use check_findings::{ImageFinding, NumberedArea};
 use flash_device::Flash;
 use std::alloc::Global;
 use std::hash::RandomState;
 
-/// Returns the areas as regions, if they lie in their images and the old area has at most `left`
-/// bytes.
-fn compared_regions(left: u64, lens: Lengths, pair: Pair) -> Option<RegionPair>
-    ensures regions { result ≡ compared left (regions_of lens pair) }
-    ensures inside { IfSome result (LieWithin lens) }
-    ensures new { IfSome result (λ r. r.new.size ≡ pair.new.area.size) }
-{
-    let regions = lens.regions(pair.old, pair.new)?;
-    if regions.old.size() > left {
-        return None;
-    }
-    Some(regions)
-}
-
-/// Returns the changes of a pair. A comparison subtracts the old area's size from `left`.
-fn region_change<F: Flash, G: Flash>(
+/// Pushes the changes of a region's components from the first old area of its name, if any. A
+/// comparison subtracts the old area's size from `left`.
+fn push_changes<'a, F: Flash, G: Flash>(
     alloc: Global,
     keys: RandomState,
+    changes: &mut Vec<RegionChange>,
     images: &mut Images<F, G>,
-    pair: Pair,
     left: &mut u64,
-) -> Result<RegionChange, ChangeFault>
-    ensures after { HasReadFor F.facts G.facts
-        ((left.old - left.new + pair.new.area.size) / 24 + 2) (pair.new.area.size / 12 + 2)
-        images.old images.new result }
-    ensures left { left.new ≡ left_after left.old
-        (regions_of (lengths F.facts G.facts images.old) pair) }
+    olds: &NamedAreas<'a>,
+    finding: &'a ImageFinding,
+) -> Result<(), ChangeFault>
     ensures fewer { left.new ≤ left.old }
-    ensures change { OnBoth F.facts G.facts images.old (λ x y.
-        IfOk result (λ change. change ≡ change_of left.old x y pair)) }
-{
-    let area = pair.new;
-    let Some(regions) = compared_regions(*left, images.lengths(), pair) else {
-        return Ok(RegionChange::NotCompared(area));
-    };
-    *left -= regions.old.size();
-    let changes = ComponentChanges::new(component_changes(alloc, keys, images, regions)?);
-    Ok(RegionChange::Compared { area, changes })
-}
-
-fn pair_changes<F: Flash, G: Flash>(
-    alloc: Global,
-    keys: RandomState,
-    images: &mut Images<F, G>,
-    pairs: &[Pair],
-) -> Result<Vec<RegionChange>, ChangeFault>
     ensures after { HasReadFor F.facts G.facts
-        (((lengths F.facts G.facts images.old).old + new_sizes pairs.now) / 24
-        + 2 * length pairs.now) (new_sizes pairs.now / 12 + 2 * length pairs.now)
-        images.old images.new result }
-    ensures changes { OnBoth F.facts G.facts images.old (λ x y.
-        IfOk result (λ changes. changes.items ≡ changes_in (length x) x y pairs.now)) }
+        ((left.old - left.new + sum_sizes (region_area finding.now)) / 24
+        + 2 * length (region_area finding.now)) (sum_sizes (region_area finding.now) / 12
+        + 2 * length (region_area finding.now)) images.old images.new result }
+    ensures changes { OnBoth F.facts G.facts images.old (λ x y. OnOk result
+        ((rest : List NumberedArea)
+        → changes.new.items ++ changes_in left.new x y olds.now.all.now rest
+        ≡ changes.old.items ++ changes_in left.old x y olds.now.all.now
+        (region_area finding.now ++ rest))) }
 {
-    let mut left = images.lengths().old;
-    let mut changes = Vec::new(alloc);
-    for pair in pairs {
-        let change = region_change(alloc, keys, images, *pair, &mut left)?;
-        push(&mut changes, change)?;
-    }
-    Ok(changes)
+    let ImageFinding::Region { area, .. } = finding else {
+        return Ok(());
+    };
+    let Some(old) = olds.namesake(area) else {
+        return Ok(());
+    };
+    let Some(regions) = taken(left, images.lengths().regions(old, *area)) else {
+        push(changes, RegionChange::NotCompared(*area))?;
+        return Ok(());
+    };
+    let found = component_changes(alloc, keys, images, regions)?;
+    let change = RegionChange::Compared {
+        area: *area,
+        changes: ComponentChanges::new(found),
+    };
+    push(changes, change)?;
+    Ok(())
 }
 
 /// Returns the changes of components for each region in these findings, in order, from the first
@@ -105,7 +83,11 @@ pub fn region_changes<'a, F: Flash, G: Flash>(
     ensures changes { OnBoth F.facts G.facts images.old (λ x y.
         IfOk result (λ changes. changes.items ≡ region_changes x old_areas.now y findings.now)) }
 {
-    let names = AreaNames::of(alloc, old_areas)?;
-    let pairs = pairs(alloc, &names, findings)?;
-    pair_changes(alloc, keys, images, &pairs)
+    let olds = NamedAreas::of(alloc, old_areas)?;
+    let mut left = images.lengths().old;
+    let mut changes = Vec::new(alloc);
+    for finding in findings {
+        push_changes(alloc, keys, &mut changes, images, &mut left, &olds, finding)?;
+    }
+    Ok(changes)
 }
