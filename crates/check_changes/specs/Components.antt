@@ -1,4 +1,4 @@
 pub mod ComponentChanges
 pub mod Listings
 pub mod Firsts
-pub mod ListedChanges
+pub mod Pairs

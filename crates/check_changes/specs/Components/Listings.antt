@@ -1,18 +1,16 @@
 -- Components from a walk.
-use Rattle.std.specs.Prelude.{◌≡◌, ◌⊎◌, ℕ, ◌+◌, ◌≤◌, false, List, [], ◌∷◌, ◌++◌, Vec, All, map, slice_range, Option, if◌then◌else◌}
+use Rattle.std.specs.Prelude.{◌≡◌, ◌⊎◌, ℕ, ◌≤◌, false, List, [], ◌∷◌, ◌++◌, Vec, All, map, slice_range, if◌then◌else◌}
 use Rattle.std.specs.List.{sum_by}
 use Rattle.std.specs.declared.alloc.Global.{Global}
 use Rattle.flash_format.specs.Head.{is_free}
-use Rattle.flash_format.specs.Entry.{name_end}
 use Rattle.flash_format.specs.Components.{component_at}
 use Rattle.flash_device.specs.Device.{Device}
 use Rattle.flash_device.specs.Pages.{Pages, OnHonestIn}
 use Rattle.flash_device.specs.Regions.{Range}
-use Rattle.cbfs_walk.specs.Cells.{IsCellIn, cell_in}
+use Rattle.cbfs_walk.specs.Cells.{IsCellIn, attributes_start, cell_in, content_start}
 use Rattle.cbfs_walk.specs.Hashes.{content_at}
 use Rattle.cbfs_walk.specs.declared.cell.Cell.{Cell}
-use Rattle.check_changes.specs.Components.ComponentChanges.{ComponentState, state_of, states, difference}
-use Rattle.check_changes.specs.declared.components.change.Difference.{Difference}
+use Rattle.check_changes.specs.Components.ComponentChanges.{ComponentState, state_of, states}
 use Rattle.check_changes.specs.declared.components.listing.Listed.{Listed}
 
 -- the cell of a component in a region of this size
@@ -34,7 +32,7 @@ state_at x name c = record {
   name = name;
   kind = c.head.kind;
   content = content_at x c;
-  attributes = slice_range x (c.at + name_end c.head) (c.at + c.head.offset);
+  attributes = slice_range x (attributes_start c) (content_start c);
 }
 
 abbrev pub state_in : List ℕ → Listed → ComponentState
@@ -42,10 +40,6 @@ state_in x l = state_at x l.name l.cell
 
 abbrev pub states_in : List ℕ → List Listed → List ComponentState
 states_in x all = map (state_in x) all
-
--- the first difference between two cells, under any names
-abbrev pub cell_difference : List ℕ → Cell → List ℕ → Cell → Option Difference
-cell_difference x old y new = difference (state_at x [] old) (state_at y [] new)
 
 -- the component of a cell; none for an empty entry
 abbrev pub cell_states : List ℕ → Cell → List ComponentState

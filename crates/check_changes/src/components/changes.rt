@@ -1,9 +1,10 @@
 //! The changes between two regions.
-ghost use Rattle.std.specs.Prelude.{◌≡◌, ◌++◌, ◌+◌, ◌/◌, All, IfOk, OnOk};
-ghost use Rattle.std.specs.List.{flat_map};
-ghost use Rattle.check_changes.specs.Components.ComponentChanges.{changes_between, component_changes, pair_change};
-ghost use Rattle.check_changes.specs.Components.ListedChanges.{listed_change, listed_removal, regions_of};
-ghost use Rattle.check_changes.specs.Components.Listings.{IsListedIn, spans, states_in};
+ghost use Rattle.std.specs.Prelude.{◌≡◌, ℕ, ◌++◌, ◌+◌, ◌/◌, All, List, IfOk, OnOk};
+ghost use Rattle.check_changes.specs.Components.ComponentChanges.{change_of, changes_between};
+ghost use Rattle.check_changes.specs.Components.ComponentChanges.{component_changes, pair_change};
+ghost use Rattle.check_changes.specs.Components.ComponentChanges.{removal_of};
+ghost use Rattle.check_changes.specs.Components.Listings.{IsListedIn, spans, state_in, states_in};
+ghost use Rattle.check_changes.specs.Components.Pairs.{regions_of};
 ghost use Rattle.check_changes.specs.Images.{HasCompared, HasReadFor, LieOn, OnBothIn};
 
 use crate::components::change::{ComponentChange, Difference};
@@ -62,7 +63,8 @@ fn push_pair(
     Ok(())
 }
 
-fn push_component<'a, F: Flash, G: Flash>(
+/// Pushes the changes of a new component, if it is the first of its name.
+fn push_changes<'a, F: Flash, G: Flash>(
     alloc: Global,
     changes: &mut Vec<ComponentChange>,
     images: &mut Images<F, G>,
@@ -75,70 +77,36 @@ fn push_component<'a, F: Flash, G: Flash>(
     ensures after { HasCompared F.facts G.facts (2 + listed.now.cell.span / 4096)
         images.old images.new result }
     ensures changes { OnBothIn F.facts G.facts images.old (regions_of lists.now) (λ x y. OnOk result
-        (changes.new.items ≡ changes.old.items ++ listed_change x y lists.now listed.now)) }
+        (changes.new.items ≡ changes.old.items ++ change_of (states_in x lists.now.old.all.now)
+        (states_in y lists.now.new.all.now) (state_in y listed.now))) }
 {
     if !lists.new.is_first(listed) {
         return Ok(());
     }
-    let Some(cell) = lists.old.first(listed.name.as_slice()) else {
+    let Some(old) = lists.old.namesake(listed) else {
         let (at, name) = (listed.cell.at, listed.copied_name(alloc)?);
         push(changes, ComponentChange::Added { at, name })?;
         return Ok(());
     };
-    let what = difference(images, lists.regions(), &cell, &listed.cell)?;
-    push_pair(alloc, changes, cell.at, listed, what)?;
+    let what = difference(images, lists.regions(), &old.cell, &listed.cell)?;
+    push_pair(alloc, changes, old.cell.at, listed, what)?;
     Ok(())
 }
 
-fn push_changes<'a, F: Flash, G: Flash>(
-    alloc: Global,
-    changes: &mut Vec<ComponentChange>,
-    images: &mut Images<F, G>,
-    lists: &Listings<'a>,
-) -> Result<(), ChangeFault>
-    requires { LieOn F.facts G.facts images.old (regions_of lists.now) }
-
-    ensures after { HasCompared F.facts G.facts (spans lists.now.new.all.now / 24)
-        images.old images.new result }
-    ensures changes { OnBothIn F.facts G.facts images.old (regions_of lists.now) (λ x y. OnOk result
-        (changes.new.items
-        ≡ changes.old.items ++ flat_map (listed_change x y lists.now) lists.now.new.all.now)) }
-{
-    for listed in lists.new.all {
-        push_component(alloc, changes, images, lists, listed)?;
-    }
-    Ok(())
-}
-
-/// Pushes an old component, if the new region lacks its name.
+/// Pushes an old component, the first of its name, if the new region lacks the name.
 fn push_if_removed<'a>(
     alloc: Global,
     changes: &mut Vec<ComponentChange>,
     lists: &Listings<'a>,
     listed: &'a Listed,
 ) -> Result<(), AllocError>
-    ensures { OnOk result
-        (changes.new.items ≡ changes.old.items ++ listed_removal lists.now listed.now) }
+    ensures { (x y : List ℕ) → OnOk result (changes.new.items ≡ changes.old.items
+        ++ removal_of (states_in x lists.now.old.all.now) (states_in y lists.now.new.all.now)
+        (state_in x listed.now)) }
 {
-    let is_removed = lists.old.is_first(listed)
-        && lists.new.first(listed.name.as_slice()).is_none();
-    if is_removed {
+    if lists.old.is_first(listed) && lists.new.namesake(listed).is_none() {
         let (at, name) = (listed.cell.at, listed.copied_name(alloc)?);
         changes.push(ComponentChange::Removed { at, name })?;
-    }
-    Ok(())
-}
-
-fn push_removals<'a>(
-    alloc: Global,
-    changes: &mut Vec<ComponentChange>,
-    lists: &Listings<'a>,
-) -> Result<(), AllocError>
-    ensures { OnOk result (changes.new.items
-        ≡ changes.old.items ++ flat_map (listed_removal lists.now) lists.now.old.all.now) }
-{
-    for listed in lists.old.all {
-        push_if_removed(alloc, changes, lists, listed)?;
     }
     Ok(())
 }
@@ -164,8 +132,12 @@ fn list_changes<'a, F: Flash, G: Flash>(
         new: with_firsts(alloc, keys, regions.new, new)?,
     };
     let mut changes = Vec::new(alloc);
-    push_changes(alloc, &mut changes, images, &lists)?;
-    push_removals(alloc, &mut changes, &lists)?;
+    for added in lists.new.all {
+        push_changes(alloc, &mut changes, images, &lists, added)?;
+    }
+    for removed in lists.old.all {
+        push_if_removed(alloc, &mut changes, &lists, removed)?;
+    }
     Ok(changes)
 }
 

@@ -1,7 +1,8 @@
 //! The comparison of components.
-ghost use Rattle.std.specs.Prelude.{◌≡◌, ◌+◌, ◌-◌, ◌/◌, ◌≤◌, slice_range, IfOk};
+ghost use Rattle.std.specs.Prelude.{◌≡◌, ◌+◌, ◌-◌, ◌/◌, ◌≤◌, [], slice_range, IfOk};
 ghost use Rattle.std.specs.Str.{bytes_eq};
-ghost use Rattle.check_changes.specs.Components.Listings.{IsUsedIn, cell_difference};
+ghost use Rattle.check_changes.specs.Components.ComponentChanges.{difference};
+ghost use Rattle.check_changes.specs.Components.Listings.{IsUsedIn, state_at};
 ghost use Rattle.check_changes.specs.Images.{HasCompared, LieOn, OnBothIn};
 
 use crate::areas::blocks_of;
@@ -26,7 +27,8 @@ pub fn difference<F: Flash, G: Flash>(
     ensures after { HasCompared F.facts G.facts (2 + new.now.span / 4096)
         images.old images.new result }
     ensures difference { OnBothIn F.facts G.facts images.old regions (λ x y.
-        IfOk result (λ what. what ≡ cell_difference x old.now y new.now)) }
+        IfOk result (λ what.
+        what ≡ difference (state_at x [] old.now) (state_at y [] new.now))) }
 {
     if old.head.kind != new.head.kind {
         return Ok(Some(Difference::Type));

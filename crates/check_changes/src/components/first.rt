@@ -1,43 +1,46 @@
 //! The first component of each name.
-ghost use Rattle.std.specs.Prelude.{◌≡◌, ◌∷◌, List, All, IfOk, OnOk};
+ghost use Rattle.std.specs.Prelude.{◌≡◌, ℕ, ◌∷◌, List, All, IfOk, IfSome, OnOk, option_map};
 ghost use Rattle.std.proofs.Props.{props};
-ghost use Rattle.check_changes.specs.Components.Firsts.{Notes, first_cell, is_first};
-ghost use Rattle.check_changes.specs.Components.Listings.{IsListedIn};
+ghost use Rattle.check_changes.specs.Components.ComponentChanges.{first_of, is_first_of};
+ghost use Rattle.check_changes.specs.Components.Firsts.{Notes};
+ghost use Rattle.check_changes.specs.Components.Listings.{IsListedIn, state_in, states_in};
 ghost use Rattle.check_changes.specs.declared.components.listing.Listed.{Listed};
 
 use crate::components::listing::Listed;
-use cbfs_walk::Cell;
 use flash_device::Region;
 use std::alloc::{AllocError, Global};
 use std::collections::HashMap;
 use std::hash::RandomState;
 
-/// Cells by name, hashed with random keys, since an image's author chooses names.
-pub type Firsts<'a> = HashMap<&'a [u8], Cell, RandomState>;
+/// Components by name, hashed with random keys, since an image's author chooses names.
+pub type Firsts<'a> = HashMap<&'a [u8], &'a Listed, RandomState>;
 
-/// The components of a region, and the first cell of each name.
+/// The components of a region, and the first of each name.
 #[derive(Drop)]
 pub struct Listing<'a> {
     pub region: Region,
     pub all: &'a [Listed],
-    pub first: Firsts<'a>,
-    ghost notes: { Notes first all.now } by { Prim.hlevel props },
+    first: Firsts<'a>,
+    ghost notes: { Notes region.size first all.now } by { Prim.hlevel props },
     ghost cells: { All (IsListedIn region.size) all.now } by { Prim.hlevel props },
 }
 
 impl<'a> Listing<'a> {
-    /// Returns the first cell of a name.
-    pub fn first(&self, name: &'a [u8]) -> Option<Cell>
-        ensures { result ≡ first_cell name.now self.now.all.now }
+    /// Returns the first component with this component's name.
+    pub fn namesake(&self, listed: &'a Listed) -> Option<&'a Listed>
+        ensures first { (x : List ℕ) → option_map (λ l. state_in x l.now) result
+            ≡ first_of listed.now.name (states_in x self.now.all.now) }
+        ensures listed { IfSome result (λ l. IsListedIn self.now.region.size l.now) }
     {
-        self.first.get(name).copied()
+        self.first.get(listed.name.as_slice()).copied()
     }
 
     pub fn is_first(&self, listed: &'a Listed) -> bool
-        ensures { result ≡ is_first self.now.all.now listed.now }
+        ensures { (x : List ℕ) → result
+            ≡ is_first_of (states_in x self.now.all.now) (state_in x listed.now) }
     {
-        match self.first(listed.name.as_slice()) {
-            Some(cell) => cell.at == listed.cell.at,
+        match self.namesake(listed) {
+            Some(first) => first.cell.at == listed.cell.at,
             None => false,
         }
     }
@@ -66,9 +69,9 @@ pub fn with_firsts<'a>(
 }
 
 fn note<'a>(first: &mut Firsts<'a>, listed: &'a Listed) -> Result<(), AllocError>
-    ensures { (behind : List Listed) → Notes first.old behind →
-        OnOk result (Notes first.new (listed.now ∷ behind)) }
+    ensures { (size : ℕ) (behind : List Listed) → IsListedIn size listed.now
+        → Notes size first.old behind → OnOk result (Notes size first.new (listed.now ∷ behind)) }
 {
-    first.insert(listed.name.as_slice(), listed.cell)?;
+    first.insert(listed.name.as_slice(), listed)?;
     Ok(())
 }
