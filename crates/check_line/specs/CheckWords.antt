@@ -8,11 +8,13 @@ use Rattle.std.specs.List.{list_any, slice_split}
 use Rattle.std.specs.Option.{option_or}
 use Rattle.std.specs.Str.{bytes_eq}
 use lib.Chars.{codes}
-use Rattle.clap.specs.Words.{App, IsAmong, Row, Rule, fault_of, first_of, matches_of, new_rule}
+use Rattle.clap.specs.Words.{App, IsAmong, Row, Rule, fault_of, first_of, found_of}
+use Rattle.clap.specs.Words.{matches_of, new_rule, rows_of}
 use Rattle.clap.specs.Simple.{new_shape}
 use Rattle.clap.specs.declared.builder.action.ArgAction.TheVariants.{SetTrue}
 use Rattle.clap.specs.declared.error.kind.ErrorKind.{ErrorKind}
 use Rattle.clap.specs.declared.error.kind.ErrorKind.TheVariants as reason
+use Rattle.clap.specs.declared.parser.matches.ArgMatches.{ArgMatches}
 use Rattle.check_findings.specs.Image.Needs.{wish_of}
 use Rattle.check_line.specs.Needs.{is_no_need, need_in}
 use Rattle.check_line.specs.declared.fault.LineFault.{LineFault}
@@ -130,10 +132,11 @@ abbrev pub Spares : ErrorKind → List (Bor (List ℕ)) → Type 0
 Spares kind words = IsAccepted words
     ⊎ ((other : ErrorKind) × (other ≢ kind) × Refuses other words)
 
--- clap's error for the arguments, or an allocation failure
-abbrev pub IsKindOf : Option ErrorKind → List (Bor (List ℕ)) → Type 0
-IsKindOf None words = IsAccepted words
-IsKindOf (Some kind) words = (kind ≡ reason.OutOfMemory) ⊎ Refuses kind words
+-- clap's matches, or the kind of its error
+abbrev pub Parses : List (Bor (List ℕ)) → Result ArgMatches ErrorKind → Type 0
+Parses words (Ok matches) = IsAccepted words
+    × (rows_of (found_of matches) ≡ matches_of check_words (texts words))
+Parses words (Err kind) = (kind ≡ reason.OutOfMemory) ⊎ Refuses kind words
 
 -- Earlier arguments alone aren't refused for this reason. With this argument, and any number of
 -- later ones, they are.
@@ -170,9 +173,6 @@ abbrev pub request_in : List (Bor (List ℕ)) → Option (List ℕ)
 request_in words = option_map (λ (word : Bor (List ℕ)). word.now)
     (find is_request (take_while is_before_end words))
 
-abbrev pub requested : List ℕ → Invocation
-requested word = if bytes_eq word (codes "--version") then Version else Help
-
 -- by clap's matches
 abbrev pub IsInvocation : List Row → Invocation → Type 0
 IsInvocation rows (Check line) = IsLineOf rows line
@@ -195,4 +195,4 @@ IsRead words result = (IsAccepted words
 -- for the arguments after the program's name
 abbrev pub Answers : List (Bor (List ℕ)) → Result Invocation LineFault → Type 0
 Answers words result = MatchOption (request_in words) (IsRead words result)
-    (λ word. result ≡ Ok (requested word))
+    (λ word. result ≡ Ok (if bytes_eq word (codes "--version") then Version else Help))

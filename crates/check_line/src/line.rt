@@ -124,10 +124,7 @@ fn text<'a>(matches: &ArgMatches<'a>, id: &str) -> Option<&'a str>
 fn is_set(matches: &ArgMatches<'_>, id: &str) -> bool
     ensures { result ≡ is_set (first_of id.now (rows_of (found_of matches.now))) }
 {
-    match text(matches, id) {
-        Some(text) => text == "true",
-        None => false,
-    }
+    text(matches, id).is_some_and(|text| text == "true")
 }
 
 /// Returns the request of clap's matches. Refuses missing images and bad lists.

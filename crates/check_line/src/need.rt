@@ -15,10 +15,7 @@ fn place_of(offset: &str) -> Option<NeededPlace>
     if offset == "end" {
         return Some(NeededPlace::End);
     }
-    match read_number(offset) {
-        Some(number) => Some(NeededPlace::At(u64::from(number))),
-        None => None,
-    }
+    read_number(offset).map(|number| NeededPlace::At(u64::from(number)))
 }
 
 /// Splits at the last `@`.

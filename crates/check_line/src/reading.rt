@@ -1,13 +1,13 @@
 //! Parses the arguments, and finds the wrong argument.
 
-ghost use Rattle.std.specs.Prelude.{◌≡◌, IfOk, MatchBool, Some, option_map};
-ghost use Rattle.check_line.specs.CheckWords.{Answers, IsKindOf, IsRead, IsRefusal, IsWrong};
-ghost use Rattle.check_line.specs.CheckWords.{Refuses, Spares, request_in};
-ghost use Rattle.check_line.specs.CheckWords.{requested, word_fault};
+ghost use Rattle.std.specs.Prelude.{◌≡◌, IfOk, MatchBool, option_map};
+ghost use Rattle.check_line.specs.CheckWords.{Answers, IsWrong, Parses, Refuses, Spares};
+ghost use Rattle.check_line.specs.CheckWords.{request_in, word_fault};
 
 use crate::fault::{LineFault, WordFault};
 use crate::line::{Invocation, line_of};
 use crate::words::whole_command;
+use clap::ArgMatches;
 use clap::error::ErrorKind;
 use std::alloc::{AllocError, Global};
 
@@ -22,23 +22,16 @@ fn request_in<'a>(words: &'a [&'a str]) -> Option<&'a str>
         .find(|word| matches!(*word, "-h" | "--help" | "--version"))
 }
 
-fn requested<'a>(word: &str) -> Invocation<'a>
-    ensures { result ≡ requested word.now }
+/// Returns clap's matches, or the kind of its error.
+fn parse<'a>(alloc: Global, words: &'a [&'a str]) -> Result<ArgMatches<'a>, ErrorKind>
+    ensures { Parses words.entry.now result }
 {
-    if word == "--version" {
-        Invocation::Version
-    } else {
-        Invocation::Help
-    }
-}
-
-/// Returns the kind of clap's error, if any.
-fn refused_kind<'a>(alloc: Global, words: &'a [&'a str]) -> Result<Option<ErrorKind>, AllocError>
-    ensures { IfOk result (λ kind. IsKindOf kind words.entry.now) }
-{
-    match whole_command(alloc)?.try_get_matches_from(words) {
-        Ok(_matches) => Ok(None),
-        Err(error) => Ok(Some(error.kind())),
+    let Ok(command) = whole_command(alloc) else {
+        return Err(ErrorKind::OutOfMemory);
+    };
+    match command.try_get_matches_from(words) {
+        Ok(matches) => Ok(matches),
+        Err(error) => Err(error.kind()),
     }
 }
 
@@ -47,10 +40,10 @@ fn refuses<'a>(alloc: Global, words: &'a [&'a str], kind: ErrorKind) -> Result<b
     ensures { IfOk result (λ answer. MatchBool answer (Refuses kind words.entry.now)
         (Spares kind words.entry.now)) }
 {
-    match refused_kind(alloc, words)? {
-        None => Ok(false),
-        Some(ErrorKind::OutOfMemory) => Err(AllocError),
-        Some(other) => Ok(other == kind),
+    match parse(alloc, words) {
+        Ok(_matches) => Ok(false),
+        Err(ErrorKind::OutOfMemory) => Err(AllocError),
+        Err(other) => Ok(other == kind),
     }
 }
 
@@ -82,42 +75,24 @@ fn word_fault(kind: ErrorKind, word: &str) -> WordFault
     }
 }
 
-/// Converts clap's error or help.
-fn refusal_of<'a>(
-    alloc: Global,
-    words: &'a [&'a str],
-    kind: ErrorKind,
-) -> Result<Invocation<'a>, LineFault<'a>>
-    requires { IsKindOf (Some kind) words.now }
-    ensures { IsRefusal words.entry.now result }
-{
-    match kind {
-        ErrorKind::OutOfMemory => Err(LineFault::Memory),
-        ErrorKind::DisplayHelp => Ok(Invocation::Help),
-        _ => {
-            let word = wrong_word(alloc, words, kind)?;
-            let fault = word_fault(kind, word);
-            Err(LineFault::Word { fault, word })
-        }
-    }
-}
-
-fn read_options<'a>(alloc: Global, words: &'a [&'a str]) -> Result<Invocation<'a>, LineFault<'a>>
-    ensures { IsRead words.entry.now result }
-{
-    match whole_command(alloc)?.try_get_matches_from(words) {
-        Ok(matches) => line_of(alloc, &matches),
-        Err(error) => refusal_of(alloc, words, error.kind()),
-    }
-}
-
 /// Parses the arguments after the program's name: IMAGE, or OLD and NEW, and options, in any order.
 /// The first `-h`, `--help` or `--version` before `--` decides.
 pub fn read_check<'a>(alloc: Global, words: &'a [&'a str]) -> Result<Invocation<'a>, LineFault<'a>>
     ensures { Answers words.entry.now result }
 {
     match request_in(words) {
-        Some(word) => Ok(requested(word)),
-        None => read_options(alloc, words),
+        Some(word) if word == "--version" => return Ok(Invocation::Version),
+        Some(_) => return Ok(Invocation::Help),
+        None => {}
+    }
+    match parse(alloc, words) {
+        Ok(matches) => line_of(alloc, &matches),
+        Err(ErrorKind::OutOfMemory) => Err(LineFault::Memory),
+        Err(ErrorKind::DisplayHelp) => Ok(Invocation::Help),
+        Err(kind) => {
+            let word = wrong_word(alloc, words, kind)?;
+            let fault = word_fault(kind, word);
+            Err(LineFault::Word { fault, word })
+        }
     }
 }
