@@ -84,17 +84,17 @@ told-reports : (at : ℕ) (change : AreaChange) (told : Bool) → told ≡ true 
 told-reports at change told is has = rw is (or_left (reports at change) false has)
 
 -- a further test admits fewer blocks
-one-fewer : (a b : Bool) → (if a && b then 1 else 0) ≤ (if b then 1 else 0)
+one-fewer : (a b : Bool) → (if a && b then 1 else 0) ≤ (if a then 1 else 0)
 one-fewer true true = omega arith
 one-fewer true false = omega arith
 one-fewer false true = omega arith
 one-fewer false false = omega arith
 
-count_below-fewer : (test first : ℕ → Bool) (n : ℕ) → count_below (λ k. first k && test k) n ≤ count_below test n
-count_below-fewer test first zero = omega arith
-count_below-fewer test first (suc n) =
-    let fewer = count_below-fewer test first n in
-    omega (arith, fewer, one-fewer (first n) (test n))
+count_below-fewer : (test second : ℕ → Bool) (n : ℕ) → count_below (λ k. test k && second k) n ≤ count_below test n
+count_below-fewer test second zero = omega arith
+count_below-fewer test second (suc n) =
+    let fewer = count_below-fewer test second n in
+    omega (arith, fewer, one-fewer (test n) (second n))
 
 own-all : (x y : List ℕ) (all : List AreaPair) (r : RegionPair) → own_blocks x y all r ≤ all_blocks x y r
 own-all x y all r = count_below-fewer (is_difference x y r) (λ k. not (is_held (lengths_of x y) all r k)) (blocks_of r.old.size)
@@ -184,7 +184,7 @@ module _ (x y : List ℕ) (all : List AreaPair) where
       let parts = regions_of-parts (lengths_of x y) p.new p.old r are in
       let byte = λ (z : List ℕ) (s : Range) (in' : i < s.size). index-slice_range z s.start s.size i in' in
       let differ = differs-byte (bytes_in r.old x) (bytes_in r.new y) i (λ same. other (sym (byte x r.old (omega (arith, parts.size, inside))) ∙ same ∙ byte y r.new inside)) in
-      let own : is_own_difference x y all r (i / 4096) ≡ true = and_from _ _ (ap not free) differ in
+      let own : is_own_difference x y all r (i / 4096) ≡ true = and_from _ _ differ (ap not free) in
       let some = count_below-positive (is_own_difference x y all r) (blocks_of r.old.size) (i / 4096) (omega (arith, parts.size, inside)) own in
       let at = r.new.start + i in
       let by_regions = λ (left : ℕ). change_in-reports x y all p r at left parts.same_size (has_byte-inside p.new r i parts.is_new inside) some (nat_le r.old.size left) refl in

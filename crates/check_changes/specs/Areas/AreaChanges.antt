@@ -63,7 +63,7 @@ is_difference x y r number = differs (bytes_in r.old x) (bytes_in r.new y) numbe
 -- the blocks differ, and no smaller pair holds them
 abbrev pub is_own_difference : List ℕ → List ℕ → List AreaPair → RegionPair → ℕ → Bool
 is_own_difference x y pairs r number =
-    not (is_held (lengths_of x y) pairs r number) && is_difference x y r number
+    is_difference x y r number && not (is_held (lengths_of x y) pairs r number)
 
 -- the numbers of different blocks, with and without blocks of smaller pairs
 abbrev pub all_blocks : List ℕ → List ℕ → RegionPair → ℕ

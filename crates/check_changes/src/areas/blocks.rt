@@ -1,5 +1,5 @@
 //! Counts of different blocks.
-ghost use Rattle.std.specs.Prelude.{◌≡◌, ◌*◌, ◌^◌, ◌≤◌, IfOk};
+ghost use Rattle.std.specs.Prelude.{◌≡◌, ◌^◌, ◌≤◌, IfOk};
 ghost use Rattle.check_changes.specs.Areas.AreaChanges.{is_difference, is_own_difference};
 ghost use Rattle.check_changes.specs.Areas.Blocks.{blocks_of, count_below};
 ghost use Rattle.check_changes.specs.Images.{HasCompared, LieOn, OnBoth};
@@ -15,30 +15,6 @@ pub fn blocks_of(len: u64) -> u64
     ensures { result ≡ blocks_of len }
 {
     len.div_ceil(PIECE as u64)
-}
-
-/// Returns whether the blocks differ, and whether they do outside all pairs.
-fn difference_at<F: Flash, G: Flash>(
-    images: &mut Images<F, G>,
-    regions: &RegionPair,
-    pairs: &[AreaPair],
-    number: u64,
-) -> Result<(bool, bool), ChangeFault>
-    requires regions { LieOn F.facts G.facts images.old regions.now }
-    requires old_begins { 4096 * number ≤ regions.now.old.size }
-    requires new_begins { 4096 * number ≤ regions.now.new.size }
-
-    ensures after { HasCompared F.facts G.facts 1 images.old images.new result }
-    ensures different { OnBoth F.facts G.facts images.old (λ x y.
-        IfOk result (λ found. found.0 ≡ is_difference x y regions.now number)) }
-    ensures own { OnBoth F.facts G.facts images.old (λ x y.
-        IfOk result (λ found. found.1 ≡ is_own_difference x y pairs.now regions.now number)) }
-{
-    let lens = images.lengths();
-    if !images.is_different(*regions, number)? {
-        return Ok((false, false));
-    }
-    Ok((true, !is_held(pairs, lens, *regions, number)))
 }
 
 /// Numbers of different blocks.
@@ -67,12 +43,14 @@ pub fn different_in<F: Flash, G: Flash>(
     ensures own { OnBoth F.facts G.facts images.old (λ x y.
         IfOk result (λ n. n.own ≡ count_below (is_own_difference x y pairs.now regions.now) len)) }
 {
+    let lens = images.lengths();
     let mut blocks: u32 = 0;
     let mut own: u32 = 0;
     for number in 0..len {
-        let found = difference_at(images, regions, pairs, number)?;
-        blocks += u32::from(found.0);
-        own += u32::from(found.1);
+        let is_different = images.is_different(*regions, number)?;
+        let is_own = is_different && !is_held(pairs, lens, *regions, number);
+        blocks += u32::from(is_different);
+        own += u32::from(is_own);
     }
     Ok(Differing { blocks, own })
 }
