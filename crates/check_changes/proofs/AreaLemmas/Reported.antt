@@ -3,7 +3,7 @@ use Rattle.std.proofs.Common.{◌≡◌, ◌∙◌, ℕ, zero, suc, ◌+◌, ◌
 use Rattle.std.specs.Prelude.{not, ◌&&◌, Contains, ◌==◌, nat_le, nat_lt, if◌then◌else◌}
 use Rattle.std.specs.Str.{bytes_eq}
 use Rattle.std.specs.List.{list_any, flat_map}
-use Rattle.std.specs.Option.{option_map_or, option_and_then}
+use Rattle.std.specs.Option.{option_map_or}
 use Rattle.std.proofs.lemmas.Bool.{cases_lt, cases_Bool, false_from_ne_true, and_parts, and_from, or_left, or_right, eqb-true, eq-eqb, leb-true, le-leb, ltb-true, lt-ltb}
 use Rattle.std.proofs.lemmas.List.{get_or-take, get_or-drop}
 use Rattle.std.proofs.lemmas.List.Folds.{list_any-append, Any-from_list_any}
@@ -20,7 +20,7 @@ use Rattle.check_changes.specs.declared.areas.pairs.AreaPair.{AreaPair}
 use Rattle.check_changes.specs.declared.images.Lengths.{Lengths}
 use Rattle.check_changes.specs.declared.images.RegionPair.{RegionPair}
 use Rattle.check_changes.specs.Areas.Blocks.{blocks_of, block, differs, count_below}
-use Rattle.check_changes.specs.Areas.AreaChanges.{pairs, regions_between, regions_of, has_block, holds, is_held, is_difference, is_own_difference, all_blocks, own_blocks, is_same_size, compared, change_in, content_changes, left_after, entry_changes, changes_in, gone_of, area_changes}
+use Rattle.check_changes.specs.Areas.AreaChanges.{pairs, regions_of, has_block, holds, is_held, is_difference, is_own_difference, all_blocks, own_blocks, is_same_size, compared, change_in, content_changes, left_after, entry_changes, changes_in, gone_of, area_changes}
 use Rattle.check_changes.specs.Areas.Laws.{has_byte, reports, DifferencesAreReported}
 
 -- ---- one block
@@ -68,7 +68,7 @@ regions_between-parts a b r true true same is =
 regions_between-parts a b r true false same is = absurd cc
 regions_between-parts a b r false inside same is = absurd cc
 
-regions_of-parts : (lens : Lengths) (b : NumberedArea) (old : Option NumberedArea) (r : RegionPair) → option_and_then (regions_between lens b) old ≡ Some r → AreRegionsOf old b r
+regions_of-parts : (lens : Lengths) (b : NumberedArea) (old : Option NumberedArea) (r : RegionPair) → regions_of lens (record { old = old; new = b }) ≡ Some r → AreRegionsOf old b r
 regions_of-parts lens b None r is = absurd cc
 regions_of-parts lens b (Some a) r is = regions_between-parts a b r (a.area.size == b.area.size) (nat_le (area_end a.area) lens.old && nat_le (area_end b.area) lens.new) refl is
 
@@ -200,7 +200,7 @@ module _ (x y : List ℕ) (all : List AreaPair) where
       (λ (free : is_held (lengths_of x y) all r (i / 4096) ≡ false). by_itself p r i one are free inside other)
       (cases_Bool (is_held (lengths_of x y) all r (i / 4096)))
 
-regions_of-same : (lens : Lengths) (a b : NumberedArea) → a.area.size ≡ b.area.size → area_end a.area ≤ lens.old → area_end b.area ≤ lens.new → regions_between lens b a ≡ Some (record { old = range_of a; new = range_of b })
+regions_of-same : (lens : Lengths) (a b : NumberedArea) → a.area.size ≡ b.area.size → area_end a.area ≤ lens.old → area_end b.area ≤ lens.new → regions_of lens (record { old = Some a; new = b }) ≡ Some (record { old = range_of a; new = range_of b })
 regions_of-same lens a b same old new =
     let inside = and_from _ _ (le-leb (area_end a.area) lens.old old) (le-leb (area_end b.area) lens.new new) in
     rw (eq-eqb a.area.size b.area.size same, inside) refl

@@ -3,8 +3,7 @@ use Rattle.std.proofs.Common.{◌≡◌, ℕ, ◌+◌, ◌/◌, ◌%◌, ◌≤�
 use Rattle.std.specs.Prelude.{All, IsErrOf, Vec, slice_range}
 use Rattle.std.specs.declared.alloc.Global.{Global}
 use Rattle.std.proofs.lemmas.List.{map-append, append-nil}
-use Rattle.std.proofs.lemmas.List.Elements.{All-nil, All-push}
-use Rattle.std.proofs.lemmas.List.Sums.{sum_by-append}
+use Rattle.std.proofs.lemmas.List.Elements.{All-nil}
 use Rattle.flash_format.specs.declared.head.Head.{Head}
 use Rattle.flash_format.specs.Head.{head_of, is_free}
 use Rattle.flash_format.specs.Entry.{name_end}
@@ -21,12 +20,11 @@ use Rattle.cbfs_walk.specs.Walks.{reads_over, Answer, Walking, walk_of, answer_a
 use Rattle.cbfs_walk.specs.Shaped.{reading_of, ReadsCells, by_answer}
 use Rattle.cbfs_walk.specs.declared.cell.Cell.{Cell}
 use Rattle.cbfs_walk.specs.declared.walk.Step.TheVariants as steps
-use Rattle.cbfs_walk.specs.declared.walk.WalkFault.{WalkFault}
 use Rattle.cbfs_walk.specs.declared.walk.WalkFault.TheVariants as walk
 use Rattle.cbfs_walk.proofs.Parts.{range-inner}
 use Rattle.cbfs_walk.proofs.Shapes.{shaped_step}
 use Rattle.check_changes.specs.Components.ComponentChanges.{ComponentState, state_of, states}
-use Rattle.check_changes.specs.Components.Listings.{IsListedIn, AddsAtMost, Lists, cell_states, spans, state_at, state_in}
+use Rattle.check_changes.specs.Components.Listings.{IsListedIn, Lists, cell_states, spans, state_at, state_in}
 use Rattle.check_changes.specs.declared.components.listing.Listed.{Listed}
 
 -- ---- one cell
@@ -97,10 +95,6 @@ states_end x (Err walk.RegionShape) none = refl
 states_end x (Err walk.NotCbfs) none = refl
 states_end x (Err (walk.Damaged at kind)) none = refl
 
--- the error of a result
-pub error_of : (fault : WalkFault) → (let a : Answer = Err fault in IsErrOf a walk.Device) → fault ≡ walk.Device
-error_of fault e = cc
-
 -- ---- the loop
 
 -- the listing has reached the walk's offset
@@ -126,15 +120,6 @@ listing_start facts r all old none = rw none (record {
   so_far = λ h. sym (states_whole (bytes_in r (facts old.device).content));
 })
 
--- the cells after another cell
-cells_more : (size : ℕ) (c : Cell) (old new : List Listed) → IsCellIn size c → AddsAtMost c old new → All (IsListedIn size) old → All (IsListedIn size) new
-cells_more size c old new cell (inl same) all = rw same all
-cells_more size c old new cell (inr more) all = rw more.added (All-push (IsListedIn size) old (record { name = more.name; cell = c }) all (record { cell = cell; used = more.used }))
-
-room_more : (c : Cell) (old new : List Listed) (n : ℕ) → AddsAtMost c old new → spans old ≤ n → spans new ≤ n + c.span
-room_more c old new n (inl same) room = rw same (omega (arith, room))
-room_more c old new n (inr more) room = rw more.added (omega (arith, room, sum_by-append (λ (l : Listed). l.cell.span) old (record { name = more.name; cell = c } ∷ [])))
-
 module _ {F : Type 0} (facts : F → Device) (r : Range) (w : Walking) (all : List Listed) (old now : Pages F) (lies : LiesOn r (facts old.device)) (i : ListedSoFar facts r w all old now) where
   abbrev x : List ℕ
   x = bytes_in r (facts old.device).content
@@ -159,18 +144,18 @@ module _ {F : Type 0} (facts : F → Device) (r : Range) (w : Walking) (all : Li
       → HasRead facts n 0 now mid → n ≡ reads_over c.span → HasRead facts 1 0 mid new
       → Answers (Ok (steps.Cell c))
       → v ≡ record w { at = w.at + c.span; steps = w.steps + 1 }
-      → AddsAtMost c all next
+      → (All (IsListedIn r.size) all → All (IsListedIn r.size) next) → spans next ≤ spans all + c.span
       → (IsTrue (facts mid.device).honest → StandsIn (bytes_in r (facts mid.device).content) c → map (state_in (bytes_in r (facts mid.device).content)) next ≡ map (state_in (bytes_in r (facts mid.device).content)) all ++ cell_states (bytes_in r (facts mid.device).content) c)
       → ListedSoFar facts r v next old new
   unfolding states_by states_from rest_cell
-  listing_more c v next mid new n given reads few more answer moved adds listed = rw moved (record {
+  listing_more c v next mid new n given reads few more answer moved cells room listed = rw moved (record {
     region = i.region;
     going = i.going;
     inside = omega (arith, cell_of_region.inside, given.1);
     aligned = omega (arith, i.aligned, given.0.whole);
     read = HasRead-within facts (w.at / 24 + (n + 1)) ((w.at + c.span) / 24) 0 old new (omega (arith, few, given.0.positive, given.0.whole, i.aligned)) (HasRead-then facts (w.at / 24) (n + 1) 0 old now new i.read (HasRead-then facts n 1 0 now mid new reads more));
-    cells = cells_more r.size c all next cell_of_region adds i.cells;
-    room = room_more c all next w.at adds i.room;
+    cells = cells i.cells;
+    room = omega (arith, room, i.room);
     so_far = λ h.
         let k = honest_still i.read.device.calls.same_honesty h in
         let same : (facts mid.device).content ≡ (facts old.device).content = reads.device.unchanged k ∙ i.read.device.unchanged h in

@@ -32,13 +32,10 @@ pair_of olds news a = only_if (is_reached news a) (record { old = namesake a old
 abbrev pub pairs : List NumberedArea → List NumberedArea → List AreaPair
 pairs olds news = flat_map (pair_of olds news) news
 
--- two areas as regions, if their sizes are equal and both lie in their images
-abbrev pub regions_between : Lengths → NumberedArea → NumberedArea → Option RegionPair
-regions_between lens new old =
-    if old.area.size == new.area.size then regions_within lens old new else None
-
+-- both areas as regions, if their sizes are equal and both lie in their images
 abbrev pub regions_of : Lengths → AreaPair → Option RegionPair
-regions_of lens p = option_and_then (regions_between lens p.new) p.old
+regions_of lens p = option_and_then (λ (old : NumberedArea).
+    if old.area.size == p.new.area.size then regions_within lens old p.new else None) p.old
 
 -- Inner regions hold a block of outer regions: the shift is equal, and the inner regions contain
 -- the whole block.

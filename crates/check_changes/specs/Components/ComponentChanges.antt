@@ -34,11 +34,8 @@ state_of c = let h = head_of c.bytes in record {
 unfoldable pub states : List ℕ → List ComponentState
 states x = refused_or (λ fault. []) (shape_fault x) (map state_of (components x))
 
-abbrev pub has_name : List ℕ → ComponentState → Bool
-has_name name c = bytes_eq name c.name
-
 abbrev pub first_of : List ℕ → List ComponentState → Option ComponentState
-first_of name all = find (has_name name) all
+first_of name all = find (λ (c : ComponentState). bytes_eq name c.name) all
 
 -- the component is the first of its name
 abbrev pub is_first_of : List ComponentState → ComponentState → Bool
@@ -54,13 +51,10 @@ difference old new =
     else None)))
 
 -- the difference and the move, by both offsets
-abbrev pub content_change : Option Difference → ℕ → ℕ → List ℕ → List ComponentChange
-content_change None old new name = []
-content_change (Some what) old new name = Changed old new name what ∷ []
-
 abbrev pub pair_change : Option Difference → ℕ → ℕ → List ℕ → List ComponentChange
 pair_change what old new name =
-    content_change what old new name ++ (if old == new then [] else Moved old new name ∷ [])
+    option_map_or (λ (what : Difference). Changed old new name what ∷ []) what []
+    ++ (if old == new then [] else Moved old new name ∷ [])
 
 -- the changes of a new component, by the first old namesake
 abbrev pub change_by : Option ComponentState → ComponentState → List ComponentChange

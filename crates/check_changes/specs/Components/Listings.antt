@@ -1,5 +1,5 @@
 -- Components from a walk.
-use Rattle.std.specs.Prelude.{◌≡◌, ◌⊎◌, ℕ, ◌≤◌, false, List, [], ◌∷◌, ◌++◌, Vec, All, map, slice_range, if◌then◌else◌}
+use Rattle.std.specs.Prelude.{◌≡◌, ℕ, ◌≤◌, false, List, [], ◌∷◌, Vec, All, map, slice_range, if◌then◌else◌}
 use Rattle.std.specs.List.{sum_by}
 use Rattle.std.specs.declared.alloc.Global.{Global}
 use Rattle.flash_format.specs.Head.{is_free}
@@ -44,15 +44,6 @@ states_in x all = map (state_in x) all
 -- the component of a cell; none for an empty entry
 abbrev pub cell_states : List ℕ → Cell → List ComponentState
 cell_states x c = if is_free c.head then [] else state_of (component_at c.at (cell_in x c)) ∷ []
-
--- a list with this cell, unless the entry is empty
-pub record AddsCell (c : Cell) (old new : List Listed) : Type 0 where
-  pub name : List ℕ
-  pub used : is_free c.head ≡ false
-  pub added : new ≡ old ++ record { name = name; cell = c } ∷ []
-
-abbrev pub AddsAtMost : Cell → List Listed → List Listed → Type 0
-AddsAtMost c old new = (new ≡ old) ⊎ AddsCell c old new
 
 -- The components lie in the region, their sizes add up to at most the region's size, and on an
 -- honest device they equal the definition.

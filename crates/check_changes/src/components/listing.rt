@@ -1,11 +1,12 @@
 //! The components of a region.
-ghost use Rattle.std.specs.Prelude.{◌≡◌, ◌≢◌, ◌+◌, ◌/◌, ◌++◌, IfOk, IfErr, OnOk, OnErr};
+ghost use Rattle.std.specs.Prelude.{◌≡◌, ◌+◌, ◌/◌, ◌≤◌, ◌++◌, All, IfOk, OnOk};
 ghost use Rattle.flash_device.specs.Device.{fault_count};
 ghost use Rattle.flash_device.specs.Pages.{HasRead, OnHonestIn};
 ghost use Rattle.flash_device.specs.Regions.{LiesOn};
 ghost use Rattle.cbfs_walk.specs.Cells.{IsCellIn};
 ghost use Rattle.cbfs_walk.specs.Walks.{StandsIn};
-ghost use Rattle.check_changes.specs.Components.Listings.{AddsAtMost, Lists, cell_states, states_in};
+ghost use Rattle.check_changes.specs.Components.Listings.{IsListedIn, Lists, cell_states};
+ghost use Rattle.check_changes.specs.Components.Listings.{spans, states_in};
 ghost use Rattle.check_findings.specs.Faults.{by_device};
 
 use crate::lists::push;
@@ -41,7 +42,9 @@ fn list_cell<F: Flash>(
     requires cell { IsCellIn region.size cell.now }
 
     ensures after { HasRead F.facts 1 (fault_count by_device result) paged.old paged.new }
-    ensures adds { OnOk result (AddsAtMost cell.now all.old.items all.new.items) }
+    ensures cells { OnOk result (All (IsListedIn region.size) all.old.items
+        → All (IsListedIn region.size) all.new.items) }
+    ensures room { OnOk result (spans all.new.items ≤ spans all.old.items + cell.now.span) }
     ensures listed { OnHonestIn F.facts paged.old.device region (λ x. StandsIn x cell.now →
         OnOk result (states_in x all.new.items ≡ states_in x all.old.items
         ++ cell_states x cell.now)) }
@@ -76,22 +79,10 @@ pub fn components<F: Flash>(
             Ok(Step::Cell(cell)) => list_cell(alloc, paged, region, &cell, &mut all)?,
             Ok(Step::Tail(_)) => return Ok(all),
             Ok(Step::End) => return Ok(all),
-            Err(fault) => {
-                ended(fault)?;
-                return Ok(all);
-            }
+            Err(fault) => match fault {
+                WalkFault::Device => return Err(CheckFault::Device),
+                _ => return Ok(all),
+            },
         }
-    }
-}
-
-/// Returns the device fault of a walk. Other faults only end the list.
-fn ended(fault: WalkFault) -> Result<(), CheckFault>
-    ensures ended { OnOk result (fault ≢ WalkFault.Device) }
-    ensures device { OnErr result (fault ≡ WalkFault.Device) }
-    ensures error { IfErr result (λ fault. fault ≡ CheckFault.Device) }
-{
-    match fault {
-        WalkFault::Device => Err(CheckFault::Device),
-        _ => Ok(()),
     }
 }

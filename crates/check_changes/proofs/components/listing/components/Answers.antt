@@ -1,5 +1,5 @@
 use Rattle.std.proofs.Common.{refl}
-use Rattle.check_changes.proofs.ComponentLemmas.ListingLemmas.{listing_start, listing_more, listing_lists, error_of}
+use Rattle.check_changes.proofs.ComponentLemmas.ListingLemmas.{listing_start, listing_more, listing_lists}
 use Rattle.check_changes.proofs.components.listing.components.Goals as goal
 
 pub loop-cell-init : goal.loop-cell-init
@@ -13,7 +13,7 @@ loop-cell-preserved g c =
     let answer = rw is at c.in-Ok-Cell.ensures.answer in
     let moved = rw is at c.in-Ok-Cell.ensures.moved in
     listing_more g.F.Flash.facts c.args.region c.loop-cell.walk c.loop-cell.all.items _ _ c.requires c.loop-cell.invariant c.in-Ok-Cell.cell _ _ _ _ _
-    given reads refl c.in_ok-list_cell-in-Ok-Cell.ensures.after answer moved c.in_ok-list_cell-in-Ok-Cell.ensures.adds c.in_ok-list_cell-in-Ok-Cell.ensures.listed
+    given reads refl c.in_ok-list_cell-in-Ok-Cell.ensures.after answer moved c.in_ok-list_cell-in-Ok-Cell.ensures.cells c.in_ok-list_cell-in-Ok-Cell.ensures.room c.in_ok-list_cell-in-Ok-Cell.ensures.listed
 
 pub returns-in-Ok-Tail-clause-lists : goal.returns-in-Ok-Tail-clause-lists
 returns-in-Ok-Tail-clause-lists g c =
@@ -25,7 +25,7 @@ returns-in-Ok-End-clause-lists g c =
     let answer = rw c.in-Ok-End.field-0-is at c.in-Ok-End.ensures.answer in
     listing_lists g.F.Flash.facts c.args.region c.loop-cell.walk c.loop-cell.all _ _ c.requires c.loop-cell.invariant _ (λ c e. absurd cc) (λ e. absurd cc) answer
 
-pub returns-in-Err-clause-lists : goal.returns-in-Err-clause-lists
-returns-in-Err-clause-lists g c =
-    let other = c.in_ok-ended-in-Err.ensures.ended in
-    listing_lists g.F.Flash.facts c.args.region c.loop-cell.walk c.loop-cell.all _ _ c.requires c.loop-cell.invariant _ (λ c e. absurd cc) (λ e. other (error_of _ e)) c.in-Err.ensures.answer
+pub returns-in_default-clause-lists : goal.returns-in_default-clause-lists
+returns-in_default-clause-lists g c =
+    let device = c.in_default.not-Device in
+    listing_lists g.F.Flash.facts c.args.region c.loop-cell.walk c.loop-cell.all _ _ c.requires c.loop-cell.invariant _ (λ c e. absurd cc) (λ e. absurd (device cc)) c.in-Err.ensures.answer
