@@ -40,13 +40,12 @@ impl Lengths {
           new = record { start = 0; size = self.new };
         } }
     {
-        let Some(old) = Region::within(0, self.old, self.old) else {
-            unreachable!()
-        };
-        let Some(new) = Region::within(0, self.new, self.new) else {
-            unreachable!()
-        };
-        RegionPair { old, new }
+        let old = Region::within(0, self.old, self.old);
+        let new = Region::within(0, self.new, self.new);
+        match (old, new) {
+            (Some(old), Some(new)) => RegionPair { old, new },
+            _ => unreachable!(),
+        }
     }
 }
 

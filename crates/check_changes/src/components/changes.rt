@@ -24,17 +24,6 @@ pub struct Listings<'a> {
     pub new: Listing<'a>,
 }
 
-impl<'a> Listings<'a> {
-    pub fn regions(&self) -> RegionPair
-        ensures { result ≡ regions_of self.now }
-    {
-        RegionPair {
-            old: self.old.region,
-            new: self.new.region,
-        }
-    }
-}
-
 /// Pushes the difference and the move from offset `old`.
 fn push_pair(
     alloc: Global,
@@ -88,7 +77,11 @@ fn push_changes<'a, F: Flash, G: Flash>(
         push(changes, ComponentChange::Added { at, name })?;
         return Ok(());
     };
-    let what = difference(images, lists.regions(), &old.cell, &listed.cell)?;
+    let regions = RegionPair {
+        old: lists.old.region,
+        new: lists.new.region,
+    };
+    let what = difference(images, regions, &old.cell, &listed.cell)?;
     push_pair(alloc, changes, old.cell.at, listed, what)?;
     Ok(())
 }

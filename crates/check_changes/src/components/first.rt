@@ -39,10 +39,8 @@ impl<'a> Listing<'a> {
         ensures { (x : List ℕ) → result
             ≡ is_first_of (states_in x self.now.all.now) (state_in x listed.now) }
     {
-        match self.namesake(listed) {
-            Some(first) => first.cell.at == listed.cell.at,
-            None => false,
-        }
+        self.namesake(listed)
+            .is_some_and(|first| first.cell.at == listed.cell.at)
     }
 }
 
