@@ -1,19 +1,21 @@
 //! The comparison of components.
-ghost use Rattle.std.specs.Prelude.{◌≡◌, ◌+◌, ◌-◌, ◌/◌, ◌≤◌, [], slice_range, IfOk};
+ghost use Rattle.std.specs.Prelude.{◌≡◌, ◌+◌, ◌-◌, ◌/◌, ◌≤◌, ◌<◌, ◌^◌, [], slice_range, IfOk};
 ghost use Rattle.std.specs.Str.{bytes_eq};
+ghost use Rattle.flash_format.specs.Entry.{name_end};
 ghost use Rattle.check_changes.specs.Components.ComponentChanges.{difference};
 ghost use Rattle.check_changes.specs.Components.Listings.{IsUsedIn, state_at};
 ghost use Rattle.check_changes.specs.Images.{HasCompared, LieOn, OnBothIn};
 
 use crate::areas::blocks_of;
 use crate::components::change::Difference;
-use crate::components::stretch::Stretch;
 use crate::fault::ChangeFault;
 use crate::images::{Images, RegionPair};
 use cbfs_walk::Cell;
 use flash_device::{Flash, Region};
+use std::ops::Range;
 
 /// Returns the first difference between two components.
+#[tactic(auto, using(crate::proofs::ComponentLemmas::ChangeLemmas::name_first))]
 pub fn difference<F: Flash, G: Flash>(
     images: &mut Images<F, G>,
     regions: RegionPair,
@@ -36,44 +38,69 @@ pub fn difference<F: Flash, G: Flash>(
     if old.head.len != new.head.len {
         return Ok(Some(Difference::Length));
     }
-    let (a, b) = (Stretch::content(old), Stretch::content(new));
-    if !same_stretch(images, regions, a, b)? {
+    let (a, b) = (content(old), content(new));
+    if !same_range(images, regions, a, b)? {
         return Ok(Some(Difference::Content));
     }
-    let (a, b) = (Stretch::attributes(old), Stretch::attributes(new));
-    if !same_stretch(images, regions, a, b)? {
+    let (a, b) = (attributes(old), attributes(new));
+    if !same_range(images, regions, a, b)? {
         return Ok(Some(Difference::Attributes));
     }
     Ok(None)
 }
 
-fn same_stretch<F: Flash, G: Flash>(
+/// Returns the range of the stored content.
+fn content(cell: &Cell) -> Range<u64>
+    requires { cell.now.at + (cell.now.head.offset + cell.now.head.len) < 2 ^ 32 }
+    ensures start { result.start ≡ cell.now.at + cell.now.head.offset }
+    ensures end { result.end ≡ cell.now.at + (cell.now.head.offset + cell.now.head.len) }
+{
+    let start = cell.at + u64::from(cell.head.offset);
+    start..start + u64::from(cell.head.len)
+}
+
+/// Returns the range between name and content.
+fn attributes(cell: &Cell) -> Range<u64>
+    requires inside { cell.now.at + cell.now.head.offset < 2 ^ 32 }
+    requires order { name_end cell.now.head ≤ cell.now.head.offset }
+    ensures start { result.start ≡ cell.now.at + name_end cell.now.head }
+    ensures end { result.end ≡ cell.now.at + cell.now.head.offset }
+{
+    let start = match cell.head.attributes_offset {
+        0 => cell.head.offset,
+        start => start,
+    };
+    cell.at + u64::from(start)..cell.at + u64::from(cell.head.offset)
+}
+
+/// Returns whether these ranges of the regions have equal bytes.
+fn same_range<F: Flash, G: Flash>(
     images: &mut Images<F, G>,
     regions: RegionPair,
-    old: Stretch,
-    new: Stretch,
+    old: Range<u64>,
+    new: Range<u64>,
 ) -> Result<bool, ChangeFault>
     requires regions { LieOn F.facts G.facts images.old regions }
     requires old { old.end ≤ regions.old.size }
     requires new { new.end ≤ regions.new.size }
-    requires old_order { old.from ≤ old.end }
-    requires new_order { new.from ≤ new.end }
+    requires old_order { old.start ≤ old.end }
+    requires new_order { new.start ≤ new.end }
 
-    ensures after { HasCompared F.facts G.facts (1 + (new.end - new.from) / 4096)
+    ensures after { HasCompared F.facts G.facts (1 + (new.end - new.start) / 4096)
         images.old images.new result }
     ensures same { OnBothIn F.facts G.facts images.old regions (λ x y.
-        IfOk result (λ same. same ≡ bytes_eq (slice_range x old.from old.end)
-        (slice_range y new.from new.end))) }
+        IfOk result (λ same. same ≡ bytes_eq (slice_range x old.start old.end)
+        (slice_range y new.start new.end))) }
 {
     let lens = images.lengths();
-    let n = old.end - old.from;
-    if n != new.end - new.from {
+    let n = old.end - old.start;
+    if n != new.end - new.start {
         return Ok(false);
     }
-    let Some(old) = Region::within(regions.old.start() + old.from, n, lens.old) else {
+    let Some(old) = Region::within(regions.old.start() + old.start, n, lens.old) else {
         unreachable!()
     };
-    let Some(new) = Region::within(regions.new.start() + new.from, n, lens.new) else {
+    let Some(new) = Region::within(regions.new.start() + new.start, n, lens.new) else {
         unreachable!()
     };
     same_bytes(images, RegionPair { old, new })

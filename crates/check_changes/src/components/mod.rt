@@ -5,7 +5,6 @@ mod changes;
 mod compare;
 mod first;
 mod listing;
-mod stretch;
 
 pub use change::{ComponentChange, Difference};
 pub use changes::component_changes;
