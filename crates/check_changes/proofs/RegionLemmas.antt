@@ -35,43 +35,31 @@ module _ {F G : Type 0} (f : F → Device) (g : G → Device) (olds : List Numbe
     listed = λ h k. rw (none, is) refl;
   }
 
-  module _ {i left rest a b : ℕ} (d : ImageFinding) {changes : List RegionChange} {old mid new : Images F G} (had : Changing i left changes old mid) (lt : i < length findings) (fewer : rest ≤ left)
-      (read : HasReadBoth f g ((left - rest + sum_sizes (region_area (get_or findings i d))) / 24 + 2 * length (region_area (get_or findings i d)))
-      (sum_sizes (region_area (get_or findings i d)) / 12 + 2 * length (region_area (get_or findings i d))) a b mid new) where
-    abbrev here : List NumberedArea
-    here = region_area (get_or findings i d)
-
-    split : region_areas (drop i findings) ≡ here ++ region_areas (drop (i + 1) findings)
-    split = rw (add-one, drop-cons findings i d lt) refl
-
-    sizes_more : sum_sizes (region_areas (drop i findings)) ≡ sum_sizes here + sum_sizes (region_areas (drop (i + 1) findings))
-    sizes_more = ap sum_sizes split ∙ sum_by-append (λ (a : NumberedArea). a.area.size) here (region_areas (drop (i + 1) findings))
-
-    count_more : length (region_areas (drop i findings)) ≡ length here + length (region_areas (drop (i + 1) findings))
-    count_more = ap length split ∙ length-append here (region_areas (drop (i + 1) findings))
-
-    -- the reads of another finding
-    reads_more : HasReadBoth f g (((lengths f g old).old - rest + (had.sizes + sum_sizes here)) / 24 + 2 * (had.count + length here)) ((had.sizes + sum_sizes here) / 12 + 2 * (had.count + length here)) a b old new
-    reads_more = both-within f g _ _ (omega (arith, had.within)) (omega arith) (both-then f g had.read read)
+  -- the area of finding i, if it is of a region
+  abbrev areas_at : ℕ → ImageFinding → List NumberedArea
+  areas_at i d = region_area (get_or findings i d)
 
   -- another finding
-  pub changing_more : {i left rest : ℕ} (d : ImageFinding) {changes next : List RegionChange} {old mid new : Images F G} (had : Changing i left changes old mid) (lt : i < length findings) (fewer : rest ≤ left)
-      (read : HasReadBoth f g ((left - rest + sum_sizes (region_area (get_or findings i d))) / 24 + 2 * length (region_area (get_or findings i d)))
-      (sum_sizes (region_area (get_or findings i d)) / 12 + 2 * length (region_area (get_or findings i d))) 0 0 mid new)
-      → OnBoth f g mid (λ x y. (later : List NumberedArea) → next ++ changes_in rest x y olds later ≡ changes ++ changes_in left x y olds (region_area (get_or findings i d) ++ later))
+  pub changing_more : {i left rest : ℕ} (d : ImageFinding) {changes next : List RegionChange} {old mid new : Images F G} → Changing i left changes old mid → i < length findings → rest ≤ left
+      → HasReadBoth f g ((left - rest + sum_sizes (areas_at i d)) / 24 + 2 * length (areas_at i d)) (sum_sizes (areas_at i d) / 12 + 2 * length (areas_at i d)) 0 0 mid new
+      → OnBoth f g mid (λ x y. (later : List NumberedArea) → next ++ changes_in rest x y olds later ≡ changes ++ changes_in left x y olds (areas_at i d ++ later))
       → Changing (i + 1) rest next old new
-  changing_more {i} {left} {rest} d {changes} {next} {old} had lt fewer read more = record {
-    sizes = had.sizes + sum_sizes (region_area (get_or findings i d));
-    count = had.count + length (region_area (get_or findings i d));
-    all_sizes = omega (arith, had.all_sizes, sizes_more d had lt fewer read);
-    all = omega (arith, had.all, count_more d had lt fewer read);
-    within = omega (arith, had.within, fewer);
-    read = reads_more d had lt fewer read;
-    listed = λ h k.
-        OnBoth-before f g (λ x y. (later : List NumberedArea) → next ++ changes_in rest x y olds later ≡ changes ++ changes_in left x y olds (region_area (get_or findings i d) ++ later)) had.read more h k (region_areas (drop (i + 1) findings))
-        ∙ ap (λ (l : List NumberedArea). changes ++ changes_in left (f old.old_image.device).content (g old.new_image.device).content olds l) (sym (split d had lt fewer read))
-        ∙ had.listed h k;
-  }
+  changing_more {i} {left} {rest} d {changes} {next} {old} had lt fewer read more =
+      let here = areas_at i d in
+      let later = region_areas (drop (i + 1) findings) in
+      let split : region_areas (drop i findings) ≡ here ++ later = rw (add-one, drop-cons findings i d lt) refl in
+      record {
+        sizes = had.sizes + sum_sizes here;
+        count = had.count + length here;
+        all_sizes = omega (arith, had.all_sizes, ap sum_sizes split, sum_by-append (λ (a : NumberedArea). a.area.size) here later);
+        all = omega (arith, had.all, ap length split, length-append here later);
+        within = omega (arith, had.within, fewer);
+        read = both-within f g _ _ (omega (arith, had.within)) (omega arith) (both-then f g had.read read);
+        listed = λ h k.
+            OnBoth-before f g (λ x y. (later : List NumberedArea) → next ++ changes_in rest x y olds later ≡ changes ++ changes_in left x y olds (here ++ later)) had.read more h k later
+            ∙ ap (λ (l : List NumberedArea). changes ++ changes_in left (f old.old_image.device).content (g old.new_image.device).content olds l) (sym split)
+            ∙ had.listed h k;
+      }
 
   -- all findings
   pub changing_all : {i left : ℕ} {changes : List RegionChange} {old new : Images F G} → Changing i left changes old new → length findings ≤ i

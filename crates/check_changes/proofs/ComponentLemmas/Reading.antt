@@ -10,7 +10,7 @@ use Rattle.flash_device.specs.Regions.{Range, bytes_in}
 use Rattle.cbfs_walk.proofs.Parts.{part-in}
 use Rattle.check_changes.specs.Areas.Blocks.{block, differs}
 
--- a stretch of a region as a region of the image
+-- a range of a region as a region of the image
 pub bytes_in-part : (image : List ℕ) (r part : Range) (start at n end : ℕ)
     → part ≡ record { start = start + at; size = n } → start ≡ r.start → at + n ≡ end → end ≤ r.size
     → bytes_in part image ≡ slice_range (bytes_in r image) at end
