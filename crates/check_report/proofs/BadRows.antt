@@ -3,14 +3,12 @@ use Rattle.std.proofs.Common.{◌≡◌, ◌∙◌, ℕ, List, [], ◌∷◌, �
 use Rattle.std.specs.Prelude.{Bool, true, false, is_none, not}
 use Rattle.std.specs.List.{flat_map, list_any}
 use Rattle.std.specs.Str.{is_utf8}
-use lib.Chars.{codes}
 use Rattle.flash_format.specs.TypeNames.{name_of_type}
 use Rattle.std.proofs.lemmas.List.Concat.{flat_map-cons}
 use Rattle.std.proofs.lemmas.List.Folds.{list_any-append}
 use Rattle.check_findings.specs.declared.region.finding.Content.{Content}
 use Rattle.check_findings.specs.declared.map.finding.NumberedArea.{NumberedArea}
 use Rattle.check_report.specs.declared.request.Asked.{Asked}
-use Rattle.check_report.specs.declared.rows.row.Detail.TheVariants as details
 use Rattle.check_findings.specs.declared.region.finding.HashFinding.{HashFinding}
 use Rattle.check_findings.specs.declared.region.finding.HashFinding.TheVariants as hashes
 use Rattle.check_findings.specs.declared.region.finding.RegionFinding.{RegionFinding}
@@ -20,9 +18,8 @@ use Rattle.check_findings.specs.declared.map.finding.MapFinding.TheVariants as o
 use Rattle.check_findings.specs.declared.image.finding.ImageFinding.{ImageFinding}
 use Rattle.check_findings.specs.declared.image.finding.ImageFinding.TheVariants.{Map, Region, NotChecked, NoArea}
 use Rattle.check_findings.specs.Image.Verdicts.{is_bad, is_bad_hash, is_bad_map, is_bad_region}
-use Rattle.check_report.specs.declared.rows.row.Verdict.TheVariants.{Remark}
-use Rattle.check_report.specs.Rows.Rows.{SeenRow, component_row, map_area_row, row_if}
-use Rattle.check_report.specs.FindingRows.{component_rows, finding_rows, has_hash_row, hash_row, map_row, region_rows, rows_of, verdict_of}
+use Rattle.check_report.specs.Rows.Rows.{SeenRow, row_if}
+use Rattle.check_report.specs.FindingRows.{component_row_if, component_rows, finding_rows, has_hash_row, hash_row, map_row, not_checked_row, region_rows, rows_of}
 use Rattle.check_report.specs.Rows.Rows.{area_name, is_bad_row}
 
 -- the same for all findings
@@ -45,8 +42,8 @@ bad_map of_map.NoMapArea = refl
 bad_map (of_map.MapAreaMisses a) = refl
 
 bad_hash : (asked : Asked) (region : List ℕ) (at : ℕ) (name : List ℕ) (hash : HashFinding) (verbose needs : Bool)
-    → list_any is_bad_row (row_if (has_hash_row (record asked { is_verbose = verbose; needs_hashes = needs }) hash) (hash_row (record asked { is_verbose = verbose; needs_hashes = needs }) region at name hash))
-    ≡ is_bad_hash needs hash
+    → let a : Asked = record asked { is_verbose = verbose; needs_hashes = needs } in
+    list_any is_bad_row (component_row_if region at name (has_hash_row a hash) (hash_row a hash)) ≡ is_bad_hash needs hash
 bad_hash asked region at name hashes.Missing true true = refl
 bad_hash asked region at name hashes.Missing true false = refl
 bad_hash asked region at name hashes.Missing false true = refl
@@ -62,11 +59,11 @@ no_bad true row rest is = rw is refl
 no_bad false row rest is = refl
 
 bad_component : (asked : Asked) (region : List ℕ) (at : ℕ) (name : List ℕ) (shadowed : Bool) (content : Content)
-    → list_any is_bad_row (component_rows asked region at name shadowed content) ≡ is_bad_region asked.needs_hashes (of_region.Component at name shadowed content)
+    → list_any is_bad_row (component_rows asked region (of_region.Component at name shadowed content)) ≡ is_bad_region asked.needs_hashes (of_region.Component at name shadowed content)
 bad_component asked region at name true content = refl
 bad_component asked region at name false content =
-    no_bad (not (is_utf8 name)) (component_row Remark region at name (codes "component-name") (codes "name isn't UTF-8") details.None) _ refl
-    ∙ no_bad (is_none (name_of_type content.kind)) (component_row Remark region at name (codes "component-type") (codes "type without a name") (details.Number content.kind)) _ refl
+    no_bad (not (is_utf8 name)) _ _ refl
+    ∙ no_bad (is_none (name_of_type content.kind)) _ _ refl
     ∙ bad_hash asked region at name content.hash asked.is_verbose asked.needs_hashes
 
 bad_region : (asked : Asked) (region : List ℕ) (f : RegionFinding) → list_any is_bad_row (region_rows asked region f) ≡ is_bad_region asked.needs_hashes f
@@ -85,15 +82,14 @@ bad_region asked region (of_region.FreeBytes n) = refl
 bad_region asked region (of_region.LargestContent n) = refl
 bad_region asked region of_region.NoRoom = refl
 
-bad_named : (b : Bool) (a : NumberedArea) (code what : List ℕ) → list_any is_bad_row (map_area_row (verdict_of b) a code what details.None ∷ []) ≡ b
-bad_named true a code what = refl
-bad_named false a code what = refl
+bad_named : (named : Bool) (a : NumberedArea) → list_any is_bad_row (not_checked_row a named ∷ []) ≡ named
+bad_named true a = refl
+bad_named false a = refl
 
 bad_finding : (asked : Asked) (names : List (List ℕ)) (f : ImageFinding) → list_any is_bad_row (rows_of asked names f) ≡ is_bad asked.needs_hashes f
 bad_finding asked names (Map f) = bad_map f
 bad_finding asked names (Region a findings) = bad_rows (region_rows asked (area_name a)) (is_bad_region asked.needs_hashes) (bad_region asked (area_name a)) findings
-bad_finding asked names (NotChecked a named) =
-    bad_named named a (codes "area-not-checked") (codes "isn't checked: checked areas would exceed twice the image")
+bad_finding asked names (NotChecked a named) = bad_named named a
 bad_finding asked names (NoArea number) = refl
 
 pub bad_findings : (asked : Asked) (names : List (List ℕ)) (findings : List ImageFinding) → list_any is_bad_row (finding_rows asked names findings) ≡ list_any (is_bad asked.needs_hashes) findings

@@ -1,8 +1,8 @@
 -- Rows of changes. This project defines their codes and texts.
 use Rattle.std.specs.Prelude.{ℕ, Bool, true, not, ◌||◌, ◌%◌, nat_le, List, [], ◌∷◌, ◌++◌, map, nat_lt}
-use Rattle.std.specs.Prelude.{None, ◌==◌, if◌then◌else◌}
+use Rattle.std.specs.Prelude.{◌==◌, if◌then◌else◌}
 use Rattle.std.specs.List.{flat_map, list_any}
-use lib.Chars.{codes}
+use Prim.Native.String.{String}
 use Rattle.check_changes.specs.declared.regions.change.RegionChange.{RegionChange}
 use Rattle.check_changes.specs.declared.regions.change.RegionChange.TheVariants.{Compared}
 use Rattle.check_changes.specs.declared.regions.change.RegionChange.TheVariants.{NotCompared}
@@ -21,10 +21,8 @@ use Rattle.check_changes.specs.declared.components.change.ComponentChange.TheVar
 use Rattle.check_findings.specs.Image.ImageFindings.{has_one_of}
 use Rattle.check_report.specs.declared.rows.row.Verdict.{Verdict}
 use Rattle.check_report.specs.declared.rows.row.Verdict.TheVariants as verdicts
-use Rattle.check_report.specs.declared.rows.row.Detail.{Detail}
-use Rattle.check_report.specs.declared.rows.row.Detail.TheVariants as details
-use Rattle.check_report.specs.Rows.Rows.{SeenRow, row_if, image_row, area_name, area_row}
-use Rattle.check_report.specs.Rows.Rows.{map_area_row, component_row}
+use Rattle.check_report.specs.Rows.Rows.{SeenRow, area_name, in_area, of_area, of_component, row}
+use Rattle.check_report.specs.Rows.Rows.{row_at, row_if, with_count, with_number}
 
 -- a difference is bad in a kept area
 abbrev pub verdict_of : List (List ℕ) → NumberedArea → Verdict
@@ -32,8 +30,12 @@ verdict_of kept a = if has_one_of kept a then verdicts.Bad else verdicts.Change
 
 -- ---- areas
 
-abbrev pub changed_row : List (List ℕ) → NumberedArea → List ℕ → List ℕ → Detail → SeenRow
-changed_row kept a code what detail = map_area_row (verdict_of kept a) a code what detail
+-- the row of a difference of an area
+abbrev pub changed : List (List ℕ) → NumberedArea → SeenRow → SeenRow
+changed kept a row = of_area a (record row { verdict = verdict_of kept a })
+
+abbrev pub change_row : String → String → SeenRow
+change_row code what = row verdicts.Change code what
 
 -- all blocks of a kept area, otherwise the blocks outside smaller areas
 abbrev pub reported_blocks : List (List ℕ) → NumberedArea → ℕ → ℕ → ℕ
@@ -41,23 +43,19 @@ reported_blocks kept a blocks own = if has_one_of kept a then blocks else own
 
 -- the row of a change; the removal of a vital area is bad
 abbrev pub area_change_row : List (List ℕ) → List (List ℕ) → AreaChange → SeenRow
-area_change_row kept vital (areas.Added a) =
-    changed_row kept a (codes "area-added") (codes "area added") details.None
-area_change_row kept vital (areas.Gone a) =
-    changed_row vital a (codes "area-gone") (codes "area gone") details.None
+area_change_row kept vital (areas.Added a) = changed kept a (change_row "area-added" "area added")
+area_change_row kept vital (areas.Gone a) = changed vital a (change_row "area-gone" "area gone")
 area_change_row kept vital (areas.Moved old new) =
-    changed_row kept new (codes "area-moved") (codes "area moved from")
-    (details.Number old.area.offset)
+    changed kept new (with_number old.area.offset (change_row "area-moved" "area moved from"))
 area_change_row kept vital (areas.Resized old new) =
-    changed_row kept new (codes "area-resized") (codes "area resized from")
-    (details.Number old.area.size)
+    changed kept new (with_number old.area.size (change_row "area-resized" "area resized from"))
 area_change_row kept vital (areas.FlagsChanged old new) =
-    changed_row kept new (codes "area-flags") (codes "flags changed from")
-    (details.Number old.area.flags)
-area_change_row kept vital (areas.Differs a blocks own) = changed_row kept a (codes "area-changed")
-    (codes "erase blocks differ") (details.Count (reported_blocks kept a blocks own))
+    changed kept new (with_number old.area.flags (change_row "area-flags" "flags changed from"))
+area_change_row kept vital (areas.Differs a blocks own) =
+    changed kept a (with_count (reported_blocks kept a blocks own)
+    (change_row "area-changed" "erase blocks differ"))
 area_change_row kept vital (areas.NotCompared a) =
-    changed_row kept a (codes "area-not-compared") (codes "not compared") details.None
+    changed kept a (change_row "area-not-compared" "not compared")
 
 -- different blocks need a positive number
 abbrev pub has_change_row : List (List ℕ) → AreaChange → Bool
@@ -73,29 +71,22 @@ area_rows kept vital changes = flat_map (area_change_rows kept vital) changes
 
 -- ---- components of an area of the new image
 
-abbrev pub difference_code : Difference → List ℕ
-difference_code «Type» = codes "component-type-changed"
-difference_code Length = codes "component-length-changed"
-difference_code Content = codes "component-content-changed"
-difference_code Attributes = codes "component-attributes-changed"
-
-abbrev pub difference_text : Difference → List ℕ
-difference_text «Type» = codes "type changed"
-difference_text Length = codes "length changed"
-difference_text Content = codes "content changed"
-difference_text Attributes = codes "attributes changed"
+abbrev pub difference_row : Verdict → Difference → SeenRow
+difference_row v «Type» = row v "component-type-changed" "type changed"
+difference_row v Length = row v "component-length-changed" "length changed"
+difference_row v Content = row v "component-content-changed" "content changed"
+difference_row v Attributes = row v "component-attributes-changed" "attributes changed"
 
 abbrev pub component_change_row : Verdict → List ℕ → ComponentChange → SeenRow
 component_change_row v area (components.Added at name) =
-    component_row v area at name (codes "component-added") (codes "component added") details.None
+    row_at at (of_component area name (row v "component-added" "component added"))
 component_change_row v area (components.Removed at name) =
-    component_row v area at name (codes "component-removed")
-    (codes "component removed") details.None
+    row_at at (of_component area name (row v "component-removed" "component removed"))
 component_change_row v area (components.Changed old new name what) =
-    component_row v area new name (difference_code what) (difference_text what) details.None
+    row_at new (of_component area name (difference_row v what))
 component_change_row v area (components.Moved old new name) =
-    component_row v area new name (codes "component-moved") (codes "component moved from")
-    (details.Number old)
+    row_at new (of_component area name
+    (with_number old (row v "component-moved" "component moved from")))
 
 abbrev pub component_rows : List (List ℕ) → NumberedArea → List ComponentChange → List SeenRow
 component_rows kept a changes = map (component_change_row (verdict_of kept a) (area_name a)) changes
@@ -103,8 +94,7 @@ component_rows kept a changes = map (component_change_row (verdict_of kept a) (a
 -- the row of an area without a comparison of components
 abbrev pub not_compared_row : List (List ℕ) → NumberedArea → SeenRow
 not_compared_row kept a =
-    changed_row kept a (codes "components-not-compared")
-    (codes "components not compared") details.None
+    changed kept a (change_row "components-not-compared" "components not compared")
 
 abbrev pub region_rows : List (List ℕ) → RegionChange → List SeenRow
 region_rows kept (Compared a changes) = component_rows kept a changes
@@ -115,35 +105,21 @@ regions_rows kept changes = flat_map (region_rows kept) changes
 
 -- ---- whole images
 
-abbrev pub size_row : ℕ → SeenRow
-size_row old =
-    image_row verdicts.Change None (codes "image-size") (codes "image size changed from")
-    (details.Number old)
-
-abbrev pub blocks_row : ℕ → SeenRow
-blocks_row n =
-    image_row verdicts.Change None (codes "blocks") (codes "erase blocks differ") (details.Count n)
-
 -- rows of the lengths, and of the number of different blocks
 abbrev pub image_rows : ℕ → ℕ → ℕ → List SeenRow
 image_rows old new blocks =
-    row_if (not (old == new)) (size_row old) ++ row_if (nat_lt 0 blocks) (blocks_row blocks)
+    row_if (not (old == new))
+    (with_number old (change_row "image-size" "image size changed from"))
+    ++ row_if (nat_lt 0 blocks) (with_count blocks (change_row "blocks" "erase blocks differ"))
 
 -- ---- the flash map
 
 abbrev pub map_change_row : MapChange → SeenRow
-map_change_row maps.NoOldMap =
-    image_row verdicts.Change None (codes "no-old-map")
-    (codes "the old image has no flashmap") details.None
-map_change_row (maps.MovedFrom at) =
-    image_row verdicts.Change None (codes "map-moved") (codes "flashmap moved from")
-    (details.Number at)
+map_change_row maps.NoOldMap = change_row "no-old-map" "the old image has no flashmap"
+map_change_row (maps.MovedFrom at) = with_number at (change_row "map-moved" "flashmap moved from")
 map_change_row (maps.BaseChanged old new) =
-    image_row verdicts.Change None (codes "map-base") (codes "base address changed from")
-    (details.Number old)
-map_change_row maps.NameChanged =
-    image_row verdicts.Change None (codes "map-name")
-    (codes "name of the flashmap changed") details.None
+    with_number old (change_row "map-base" "base address changed from")
+map_change_row maps.NameChanged = change_row "map-name" "name of the flashmap changed"
 
 abbrev pub map_rows : List MapChange → List SeenRow
 map_rows changes = map map_change_row changes
@@ -170,8 +146,7 @@ abbrev pub is_there : List NumberedArea → List ℕ → Bool
 is_there all name = list_any (has_name name) all
 
 abbrev pub missing_row : List ℕ → SeenRow
-missing_row name =
-    area_row verdicts.Bad name None (codes "no-area") (codes "no such area") details.None
+missing_row name = in_area name (row verdicts.Bad "no-area" "no such area")
 
 abbrev pub missing_if : List NumberedArea → List NumberedArea → List ℕ → List SeenRow
 missing_if olds news name =

@@ -10,7 +10,7 @@ use Rattle.check_findings.specs.declared.image.finding.ImageFinding.TheVariants.
 use Rattle.check_report.specs.Rows.Fields.{Line, count_value, name_value, offset_value}
 use Rattle.check_report.specs.Rows.Fields.{printed_compression, printed_type, text_value}
 use Rattle.check_report.specs.Rows.Rows.{area_name}
-use Rattle.check_report.specs.FindingRows.{hash_text}
+use Rattle.check_report.specs.FindingRows.{hash_words}
 
 abbrev pub component_line : List ℕ → ℕ → List ℕ → Content → Line
 component_line area at name content = record {
@@ -21,7 +21,7 @@ component_line area at name content = record {
       ∷ (codes "type", text_value (printed_type content.kind))
       ∷ (codes "length", count_value content.len)
       ∷ (codes "compression", text_value (printed_compression content.compression))
-      ∷ (codes "hash", text_value (hash_text content.hash))
+      ∷ (codes "hash", text_value (hash_words content.hash).1)
       ∷ [];
 }
 

@@ -1,26 +1,21 @@
 //! Rows of changed areas.
-ghost use Rattle.std.specs.Prelude.{◌≡◌, map};
+ghost use Rattle.std.specs.Prelude.{◌≡◌};
+ghost use Rattle.check_report.specs.Names.{names_in};
 ghost use Rattle.check_report.specs.Rows.Rows.{seen_row};
 ghost use Rattle.check_report.specs.ChangeRows as of;
 
 use crate::kept::{is_kept, verdict_of};
-use crate::rows::{Detail, Row, Verdict, image_row, map_area_row};
+use crate::rows::{Row, Verdict};
 use check_changes::{AreaChange, MapChange};
 use check_findings::NumberedArea;
 
-fn changed_row<'a>(
-    kept: &[&[u8]],
-    area: &'a NumberedArea,
-    code: &'static str,
-    what: &'static str,
-    detail: Detail,
-) -> Row<'a>
-    ensures { seen_row result
-        ≡ of.changed_row (map (λ n. n.now) kept.now) area.now code.now what.now detail }
+/// Returns the row of a difference of an area.
+fn changed<'a>(kept: &[&[u8]], area: &'a NumberedArea, row: Row<'a>) -> Row<'a>
+    ensures { seen_row result ≡ of.changed (names_in kept.now) area.now (seen_row row.entry) }
 {
     Row {
-        detail,
-        ..map_area_row(verdict_of(kept, *area), area, code, what)
+        verdict: verdict_of(kept, *area),
+        ..row.of(area)
     }
 }
 
@@ -28,29 +23,27 @@ fn changed_row<'a>(
 pub fn map_change_row<'a>(change: &MapChange) -> Row<'a>
     ensures { seen_row result ≡ of.map_change_row change.now }
 {
-    let base = "base address changed from";
-    let (code, what, detail) = match change {
-        MapChange::NoOldMap => ("no-old-map", "the old image has no flashmap", Detail::None),
-        MapChange::MovedFrom(at) => ("map-moved", "flashmap moved from", Detail::Number(*at)),
-        MapChange::BaseChanged { old, .. } => ("map-base", base, Detail::Number(*old)),
-        MapChange::NameChanged => ("map-name", "name of the flashmap changed", Detail::None),
-    };
-    Row {
-        detail,
-        ..image_row(Verdict::Change, None, code, what)
+    let v = Verdict::Change;
+    match change {
+        MapChange::NoOldMap => v.row("no-old-map", "the old image has no flashmap"),
+        MapChange::MovedFrom(at) => v.row("map-moved", "flashmap moved from").number(*at),
+        MapChange::BaseChanged { old, .. } => {
+            v.row("map-base", "base address changed from").number(*old)
+        }
+        MapChange::NameChanged => v.row("map-name", "name of the flashmap changed"),
     }
 }
 
 /// Counts all blocks of a kept area, otherwise the blocks outside smaller areas.
 fn reported_blocks(kept: &[&[u8]], area: NumberedArea, blocks: u32, own: u32) -> u32
-    ensures { result ≡ of.reported_blocks (map (λ n. n.now) kept.now) area blocks own }
+    ensures { result ≡ of.reported_blocks (names_in kept.now) area blocks own }
 {
     if is_kept(kept, area) { blocks } else { own }
 }
 
 /// Returns whether a change has a row. Different blocks need a positive number.
 pub fn has_change_row(kept: &[&[u8]], change: &AreaChange) -> bool
-    ensures { result ≡ of.has_change_row (map (λ n. n.now) kept.now) change.now }
+    ensures { result ≡ of.has_change_row (names_in kept.now) change.now }
 {
     match change {
         AreaChange::Differs { area, blocks, own } => {
@@ -63,39 +56,39 @@ pub fn has_change_row(kept: &[&[u8]], change: &AreaChange) -> bool
 /// Returns the row of a change. Changes of kept areas are bad, and removals of vital areas.
 pub fn area_change_row<'a>(kept: &[&[u8]], vital: &[&[u8]], change: &'a AreaChange) -> Row<'a>
     ensures { seen_row result ≡ of.area_change_row
-        (map (λ n. n.now) kept.now) (map (λ n. n.now) vital.now) change.now }
+        (names_in kept.now) (names_in vital.now) change.now }
 {
-    let none = Detail::None;
+    let v = Verdict::Change;
     match change {
-        AreaChange::Added(area) => changed_row(kept, area, "area-added", "area added", none),
-        AreaChange::Gone(area) => changed_row(vital, area, "area-gone", "area gone", none),
+        AreaChange::Added(area) => changed(kept, area, v.row("area-added", "area added")),
+        AreaChange::Gone(area) => changed(vital, area, v.row("area-gone", "area gone")),
         AreaChange::Moved { old, new } => {
-            let offset = Detail::Number(u64::from(old.area.offset));
-            changed_row(kept, new, "area-moved", "area moved from", offset)
+            let moved = v.row("area-moved", "area moved from");
+            changed(kept, new, moved.number(u64::from(old.area.offset)))
         }
         AreaChange::Resized { old, new } => {
-            let size = Detail::Number(u64::from(old.area.size));
-            changed_row(kept, new, "area-resized", "area resized from", size)
+            let resized = v.row("area-resized", "area resized from");
+            changed(kept, new, resized.number(u64::from(old.area.size)))
         }
         AreaChange::FlagsChanged { old, new } => {
-            let flags = Detail::Number(u64::from(old.area.flags));
-            changed_row(kept, new, "area-flags", "flags changed from", flags)
+            let flags = v.row("area-flags", "flags changed from");
+            changed(kept, new, flags.number(u64::from(old.area.flags)))
         }
         AreaChange::Differs { area, blocks, own } => {
-            let blocks = reported_blocks(kept, *area, *blocks, *own);
-            let blocks = Detail::Count(u64::from(blocks));
-            changed_row(kept, area, "area-changed", "erase blocks differ", blocks)
+            let blocks = u64::from(reported_blocks(kept, *area, *blocks, *own));
+            let differs = v.row("area-changed", "erase blocks differ").count(blocks);
+            changed(kept, area, differs)
         }
         AreaChange::NotCompared(area) => {
-            changed_row(kept, area, "area-not-compared", "not compared", none)
+            changed(kept, area, v.row("area-not-compared", "not compared"))
         }
     }
 }
 
 /// Returns the row of an area without a comparison of components.
 pub fn not_compared_row<'a>(kept: &[&[u8]], area: &'a NumberedArea) -> Row<'a>
-    ensures { seen_row result ≡ of.not_compared_row (map (λ n. n.now) kept.now) area.now }
+    ensures { seen_row result ≡ of.not_compared_row (names_in kept.now) area.now }
 {
-    let what = "components not compared";
-    changed_row(kept, area, "components-not-compared", what, Detail::None)
+    let row = Verdict::Change.row("components-not-compared", "components not compared");
+    changed(kept, area, row)
 }

@@ -3,18 +3,17 @@ ghost use Rattle.std.specs.Prelude.{◌≡◌};
 ghost use Rattle.check_report.specs.Rows.Rows.{seen_row};
 ghost use Rattle.check_report.specs.ChangeRows as of;
 
-use crate::rows::{Detail, Row, Verdict, component_row};
+use crate::rows::{Row, Verdict};
 use check_changes::{ComponentChange, Difference};
 
-fn difference_texts(what: Difference) -> (&'static str, &'static str)
-    ensures code { result.0.now ≡ of.difference_code what }
-    ensures text { result.1.now ≡ of.difference_text what }
+fn difference_row<'a>(v: Verdict, what: Difference) -> Row<'a>
+    ensures { seen_row result ≡ of.difference_row v what }
 {
     match what {
-        Difference::Type => ("component-type-changed", "type changed"),
-        Difference::Length => ("component-length-changed", "length changed"),
-        Difference::Content => ("component-content-changed", "content changed"),
-        Difference::Attributes => ("component-attributes-changed", "attributes changed"),
+        Difference::Type => v.row("component-type-changed", "type changed"),
+        Difference::Length => v.row("component-length-changed", "length changed"),
+        Difference::Content => v.row("component-content-changed", "content changed"),
+        Difference::Attributes => v.row("component-attributes-changed", "attributes changed"),
     }
 }
 
@@ -24,12 +23,12 @@ pub fn component_change_row<'a>(v: Verdict, area: &'a [u8], change: &'a Componen
 {
     match change {
         ComponentChange::Added { at, name } => {
-            let what = "component added";
-            component_row(v, area, *at, name.as_slice(), "component-added", what)
+            let added = v.row("component-added", "component added");
+            added.of_component(area, name.as_slice()).at(*at)
         }
         ComponentChange::Removed { at, name } => {
-            let what = "component removed";
-            component_row(v, area, *at, name.as_slice(), "component-removed", what)
+            let removed = v.row("component-removed", "component removed");
+            removed.of_component(area, name.as_slice()).at(*at)
         }
         ComponentChange::Changed {
             new,
@@ -37,15 +36,13 @@ pub fn component_change_row<'a>(v: Verdict, area: &'a [u8], change: &'a Componen
             what,
             ..
         } => {
-            let (code, text) = difference_texts(*what);
-            component_row(v, area, *new, name.as_slice(), code, text)
+            let changed = difference_row(v, *what);
+            changed.of_component(area, name.as_slice()).at(*new)
         }
         ComponentChange::Moved { old, new, name } => {
-            let what = "component moved from";
-            Row {
-                detail: Detail::Number(*old),
-                ..component_row(v, area, *new, name.as_slice(), "component-moved", what)
-            }
+            let moved = v.row("component-moved", "component moved from");
+            let moved = moved.number(*old);
+            moved.of_component(area, name.as_slice()).at(*new)
         }
     }
 }

@@ -1,5 +1,6 @@
 //! Rows of an image's findings.
-ghost use Rattle.std.specs.Prelude.{◌≡◌, map};
+ghost use Rattle.std.specs.Prelude.{◌≡◌};
+ghost use Rattle.check_report.specs.Names.{names_in};
 ghost use Rattle.check_report.specs.Rows.Rows.{seen_row};
 ghost use Rattle.check_report.specs.Rows.Writing.{Adds};
 ghost use Rattle.check_report.specs.FindingRows as of;
@@ -8,16 +9,16 @@ use crate::fault::WriteFault;
 use crate::map::{map_row, verdict_of};
 use crate::region::add_region;
 use crate::request::Asked;
-use crate::rows::{Row, RowWriter, Verdict, image_row, map_area_row};
+use crate::rows::{Row, RowWriter, Verdict};
 use check_findings::{ImageFinding, NumberedArea};
 use flash_device::Sink;
 
 fn missing_row<'a>(names: &[&'a [u8]], number: usize) -> Row<'a>
-    ensures { seen_row result ≡ of.missing_row (map (λ n. n.now) names.now) number }
+    ensures { seen_row result ≡ of.missing_row (names_in names.now) number }
 {
     Row {
         area: names.get(number).copied(),
-        ..image_row(Verdict::Bad, None, "no-area", "no such area")
+        ..Verdict::Bad.row("no-area", "no such area")
     }
 }
 
@@ -25,7 +26,8 @@ fn not_checked_row<'a>(area: &'a NumberedArea, is_named: bool) -> Row<'a>
     ensures { seen_row result ≡ of.not_checked_row area.now is_named }
 {
     let what = "isn't checked: checked areas would exceed twice the image";
-    map_area_row(verdict_of(is_named), area, "area-not-checked", what)
+    let row = verdict_of(is_named).row("area-not-checked", what);
+    row.of(area)
 }
 
 fn add_finding<'a, W: Sink + Drop>(
@@ -34,8 +36,8 @@ fn add_finding<'a, W: Sink + Drop>(
     finding: &'a ImageFinding,
     names: &[&'a [u8]],
 ) -> Result<(), WriteFault>
-    ensures { Adds W.contents W.faults result rows.old rows.new (of.rows_of asked (map
-        (λ n. n.now) names.now) finding.now) }
+    ensures { Adds W.contents W.faults result rows.old rows.new (of.rows_of asked
+        (names_in names.now) finding.now) }
 {
     match finding {
         ImageFinding::Map(of_map) => rows.add(map_row(of_map)),
@@ -55,7 +57,7 @@ pub fn add_findings<'a, W: Sink + Drop>(
     names: &[&'a [u8]],
 ) -> Result<(), WriteFault>
     ensures { Adds W.contents W.faults result rows.old rows.new
-        (of.finding_rows asked (map (λ n. n.now) names.now) findings.now) }
+        (of.finding_rows asked (names_in names.now) findings.now) }
 {
     for finding in findings {
         add_finding(rows, asked, finding, names)?;

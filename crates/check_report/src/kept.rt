@@ -5,7 +5,7 @@ ghost use Rattle.check_report.specs.Rows.Writing.{Adds};
 ghost use Rattle.check_report.specs.ChangeRows as of;
 
 use crate::fault::WriteFault;
-use crate::rows::{RowWriter, Verdict, area_row};
+use crate::rows::{RowWriter, Verdict};
 use check_findings::NumberedArea;
 use flash_device::Sink;
 
@@ -47,8 +47,8 @@ fn add_if_missing<'a, W: Sink + Drop>(
         (of.missing_if old_areas.now new_areas.now name.now) }
 {
     let is_missing = !(is_there(old_areas, name) || is_there(new_areas, name));
-    let row = area_row(Verdict::Bad, name, None, "no-area", "no such area");
-    rows.add_if(is_missing, row)
+    let missing = Verdict::Bad.row("no-area", "no such area");
+    rows.add_if(is_missing, missing.in_area(name))
 }
 
 /// Adds a row for each kept name that neither image has.

@@ -7,7 +7,7 @@ ghost use Rattle.check_report.specs.Rows.Fields.{seen_field};
 ghost use Rattle.check_report.specs.Rows.Writing.{PrintsLines};
 
 use crate::fault::WriteFault;
-use crate::region::hash_text;
+use crate::region::hash_words;
 use crate::rows::{Field, Printer, Value};
 use check_findings::{Content, ImageFinding, RegionFinding};
 use flash_device::Sink;
@@ -22,7 +22,7 @@ fn component_fields<'a>(area: &'a [u8], at: u64, name: &'a [u8], content: Conten
         Field::new("type", Value::of_type(content.kind)),
         Field::new("length", Value::Count(u64::from(content.len))),
         Field::new("compression", Value::of_compression(content.compression)),
-        Field::new("hash", Value::Text(hash_text(content.hash))),
+        Field::new("hash", Value::Text(hash_words(content.hash).1)),
     ]
 }
 

@@ -7,24 +7,21 @@ ghost use Rattle.check_report.specs.Rows.Writing.{Adds};
 ghost use Rattle.check_report.specs.FindingRows as of;
 
 use crate::fault::WriteFault;
-use crate::rows::{Detail, Row, RowWriter, Verdict, area_row};
+use crate::rows::{Row, RowWriter, Verdict};
 use check_findings::{ImageFinding, Need, NeedFinding, unmet};
 use flash_device::Sink;
 
 fn need_row<'a>(need: &Need<'a>, finding: NeedFinding) -> Row<'a>
     ensures { seen_row result ≡ of.need_row (wish_of need.now) finding }
 {
-    let (position, code, what) = match finding {
-        NeedFinding::Missing => (None, "need-missing", "needed component isn't there"),
+    let row = match finding {
+        NeedFinding::Missing => Verdict::Bad.row("need-missing", "needed component isn't there"),
         NeedFinding::Elsewhere(at) => {
-            (Some(at), "need-elsewhere", "needed component is elsewhere")
+            let row = Verdict::Bad.row("need-elsewhere", "needed component is elsewhere");
+            row.at(at)
         }
     };
-    Row {
-        component: Some(need.name),
-        detail: Detail::None,
-        ..area_row(Verdict::Bad, need.area, position, code, what)
-    }
+    row.of_component(need.area, need.name)
 }
 
 fn add_need<'a, W: Sink + Drop>(

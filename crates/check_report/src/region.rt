@@ -1,5 +1,5 @@
 //! Rows of a region's findings.
-ghost use Rattle.std.specs.Prelude.{◌≡◌};
+ghost use Rattle.std.specs.Prelude.{◌≡◌, option_map};
 ghost use Rattle.std.specs.List.{flat_map};
 ghost use Rattle.check_report.specs.Rows.Rows.{seen_row};
 ghost use Rattle.check_report.specs.Rows.Writing.{Adds};
@@ -8,32 +8,23 @@ ghost use Rattle.check_report.specs.FindingRows as of;
 use crate::fault::WriteFault;
 use crate::map::verdict_of;
 use crate::request::Asked;
-use crate::rows::{Detail, Row, RowWriter, Verdict, area_row, component_row};
-use check_findings::{Content, HashFinding, RegionFinding, is_bad_hash, is_text};
+use crate::rows::{Row, RowWriter, Verdict};
+use check_findings::{HashFinding, RegionFinding, is_bad_hash, is_text};
 use flash_device::Sink;
 use flash_format::{Algorithm, DamageKind, type_name};
 
-fn hash_code(hash: HashFinding) -> &'static str
-    ensures { result.now ≡ of.hash_code hash }
+/// Returns the code and the text of a digest.
+pub fn hash_words(hash: HashFinding) -> (&'static str, &'static str)
+    ensures code { result.0.now ≡ (of.hash_words hash).0 }
+    ensures text { result.1.now ≡ (of.hash_words hash).1 }
 {
     match hash {
-        HashFinding::Missing => "hash-missing",
-        HashFinding::Valid(_) => "hash-valid",
-        HashFinding::Invalid(_) => "hash-invalid",
-        HashFinding::Unsupported => "hash-unsupported",
-    }
-}
-
-pub fn hash_text(hash: HashFinding) -> &'static str
-    ensures { result.now ≡ of.hash_text hash }
-{
-    match hash {
-        HashFinding::Missing => "no hash",
-        HashFinding::Valid(Algorithm::Sha256) => "sha256 valid",
-        HashFinding::Valid(Algorithm::Sha512) => "sha512 valid",
-        HashFinding::Invalid(Algorithm::Sha256) => "sha256 invalid",
-        HashFinding::Invalid(Algorithm::Sha512) => "sha512 invalid",
-        HashFinding::Unsupported => "hash unsupported",
+        HashFinding::Missing => ("hash-missing", "no hash"),
+        HashFinding::Valid(Algorithm::Sha256) => ("hash-valid", "sha256 valid"),
+        HashFinding::Valid(Algorithm::Sha512) => ("hash-valid", "sha512 valid"),
+        HashFinding::Invalid(Algorithm::Sha256) => ("hash-invalid", "sha256 invalid"),
+        HashFinding::Invalid(Algorithm::Sha512) => ("hash-invalid", "sha512 invalid"),
+        HashFinding::Unsupported => ("hash-unsupported", "hash unsupported"),
     }
 }
 
@@ -49,34 +40,38 @@ impl Asked {
     }
 }
 
-/// Adds up to three remarks on the name and type, and the state of the digest.
+/// Adds up to three rows of a component's name and type, and the state of its digest.
 fn add_component<'a, W: Sink + Drop>(
     rows: &mut RowWriter<'a, W>,
     asked: Asked,
     region: &'a [u8],
-    at: u64,
-    name: &'a [u8],
-    is_shadowed: bool,
-    content: Content,
+    finding: &'a RegionFinding,
 ) -> Result<(), WriteFault>
     ensures { Adds W.contents W.faults result rows.old rows.new
-        (of.component_rows asked region.now at name.now is_shadowed content) }
+        (of.component_rows asked region.now finding.now) }
 {
-    let what = "has the name of an earlier component";
-    let shadowed = component_row(Verdict::Bad, region, at, name, "component-shadowed", what);
-    rows.add_if(is_shadowed, shadowed)?;
-    let what = "name isn't UTF-8";
-    let unnamed = component_row(Verdict::Remark, region, at, name, "component-name", what);
-    rows.add_if(!is_text(name), unnamed)?;
-    let what = "type without a name";
-    let untyped = Row {
-        detail: Detail::Number(u64::from(content.kind)),
-        ..component_row(Verdict::Remark, region, at, name, "component-type", what)
+    let RegionFinding::Component {
+        at,
+        name,
+        is_shadowed,
+        content,
+    } = finding
+    else {
+        return Ok(());
     };
+    let (at, name) = (*at, name.as_slice());
+    let (bad, remark) = (Verdict::Bad, Verdict::Remark);
+    let shadowed = bad.row("component-shadowed", "has the name of an earlier component");
+    rows.add_if(*is_shadowed, shadowed.of_component(region, name).at(at))?;
+    let unnamed = remark.row("component-name", "name isn't UTF-8");
+    rows.add_if(!is_text(name), unnamed.of_component(region, name).at(at))?;
+    let untyped = remark.row("component-type", "type without a name");
+    let untyped = untyped.number(u64::from(content.kind));
+    let untyped = untyped.of_component(region, name).at(at);
     rows.add_if(type_name(content.kind).is_none(), untyped)?;
+    let (code, what) = hash_words(content.hash);
     let verdict = verdict_of(is_bad_hash(content.hash, asked.needs_hashes));
-    let (code, what) = (hash_code(content.hash), hash_text(content.hash));
-    let hashed = component_row(verdict, region, at, name, code, what);
+    let hashed = verdict.row(code, what).of_component(region, name).at(at);
     rows.add_if(asked.has_hash_row(content.hash), hashed)
 }
 
@@ -92,12 +87,38 @@ fn damage_text(kind: DamageKind) -> &'static str
     }
 }
 
-fn count_row<'a>(region: &'a [u8], code: &'static str, what: &'static str, count: u64) -> Row<'a>
-    ensures { seen_row result ≡ of.count_row region.now code.now what.now count }
+/// Returns the row of a finding that isn't a component.
+fn plain_row<'a>(finding: &RegionFinding) -> Option<Row<'a>>
+    ensures { option_map seen_row result ≡ of.plain_row finding.now }
 {
-    Row {
-        detail: Detail::Count(count),
-        ..area_row(Verdict::Remark, region, None, code, what)
+    let (bad, remark) = (Verdict::Bad, Verdict::Remark);
+    match finding {
+        RegionFinding::Component { .. } => None,
+        RegionFinding::BadSize => Some(bad.row("region-size", "size is 0 or no multiple of 64")),
+        RegionFinding::NotCbfs => Some(bad.row("no-cbfs", "no CBFS")),
+        RegionFinding::Deleted { at } => {
+            Some(remark.row("component-deleted", "deleted component").at(*at))
+        }
+        RegionFinding::Complete => Some(remark.row("complete", "complete")),
+        RegionFinding::Tail { at } => Some(remark.row("tail", "unused tail").at(*at)),
+        RegionFinding::TailFilled { at } => {
+            let what = "unused tail has other bytes than 0xff and 0x00";
+            Some(bad.row("tail-bytes", what).at(*at))
+        }
+        RegionFinding::TailEntry { at } => {
+            Some(bad.row("tail-entry", "entry in the unused tail").at(*at))
+        }
+        RegionFinding::Damaged { at, kind } => {
+            Some(bad.row("entry-damaged", damage_text(*kind)).at(*at))
+        }
+        RegionFinding::NoComponents => Some(remark.row("no-components", "no components")),
+        RegionFinding::Components(n) => Some(remark.row("components", "components").count(*n)),
+        RegionFinding::FreeBytes(n) => Some(remark.row("free-bytes", "free bytes").count(*n)),
+        RegionFinding::LargestContent(n) => {
+            let what = "largest content that add takes";
+            Some(remark.row("largest-content", what).count(*n))
+        }
+        RegionFinding::NoRoom => Some(remark.row("no-room", "no room for a component")),
     }
 }
 
@@ -110,54 +131,9 @@ fn add_finding<'a, W: Sink + Drop>(
     ensures { Adds W.contents W.faults result rows.old rows.new
         (of.region_rows asked region.now finding.now) }
 {
-    let (bad, remark) = (Verdict::Bad, Verdict::Remark);
-    match finding {
-        RegionFinding::Component {
-            at,
-            name,
-            is_shadowed,
-            content,
-        } => {
-            let name = name.as_slice();
-            add_component(rows, asked, region, *at, name, *is_shadowed, *content)
-        }
-        RegionFinding::BadSize => {
-            let what = "size is 0 or no multiple of 64";
-            rows.add(area_row(bad, region, None, "region-size", what))
-        }
-        RegionFinding::NotCbfs => rows.add(area_row(bad, region, None, "no-cbfs", "no CBFS")),
-        RegionFinding::Deleted { at } => {
-            let what = "deleted component";
-            rows.add(area_row(remark, region, Some(*at), "component-deleted", what))
-        }
-        RegionFinding::Complete => rows.add(area_row(remark, region, None, "complete", "complete")),
-        RegionFinding::Tail { at } => {
-            let what = "unused tail";
-            rows.add(area_row(remark, region, Some(*at), "tail", what))
-        }
-        RegionFinding::TailFilled { at } => {
-            let what = "unused tail has other bytes than 0xff and 0x00";
-            rows.add(area_row(bad, region, Some(*at), "tail-bytes", what))
-        }
-        RegionFinding::TailEntry { at } => {
-            let what = "entry in the unused tail";
-            rows.add(area_row(bad, region, Some(*at), "tail-entry", what))
-        }
-        RegionFinding::Damaged { at, kind } => {
-            rows.add(area_row(bad, region, Some(*at), "entry-damaged", damage_text(*kind)))
-        }
-        RegionFinding::NoComponents => {
-            rows.add(area_row(remark, region, None, "no-components", "no components"))
-        }
-        RegionFinding::Components(n) => rows.add(count_row(region, "components", "components", *n)),
-        RegionFinding::FreeBytes(n) => rows.add(count_row(region, "free-bytes", "free bytes", *n)),
-        RegionFinding::LargestContent(n) => {
-            let what = "largest content that add takes";
-            rows.add(count_row(region, "largest-content", what, *n))
-        }
-        RegionFinding::NoRoom => {
-            rows.add(area_row(remark, region, None, "no-room", "no room for a component"))
-        }
+    match plain_row(finding) {
+        Some(row) => rows.add(row.in_area(region)),
+        None => add_component(rows, asked, region, finding),
     }
 }
 

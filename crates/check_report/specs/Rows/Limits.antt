@@ -1,12 +1,11 @@
 -- At most 16 rows of a kind, which is a verdict and a code.
-use Rattle.std.specs.Prelude.{ℕ, ◌-◌, nat_lt, Bool, ◌&&◌, List, [], ◌∷◌, ◌++◌, None, count_by, map}
+use Rattle.std.specs.Prelude.{ℕ, ◌-◌, nat_lt, Bool, ◌&&◌, List, [], ◌∷◌, ◌++◌, count_by, map}
 use Rattle.std.specs.List.{flat_map}
 use Rattle.std.specs.Str.{bytes_eq}
 use lib.Chars.{codes}
 use Rattle.check_report.specs.declared.rows.kinds.Kind.{Kind}
 use Rattle.check_report.specs.declared.rows.row.Verdict.{Verdict}
-use Rattle.check_report.specs.declared.rows.row.Detail.TheVariants.{Count}
-use Rattle.check_report.specs.Rows.Rows.{SeenRow, row_if, image_row, is_verdict}
+use Rattle.check_report.specs.Rows.Rows.{SeenRow, row_if, row_of, with_count, is_verdict}
 
 -- the rows have the same kind
 abbrev pub is_like : SeenRow → SeenRow → Bool
@@ -48,7 +47,7 @@ kinds_of rows = map (kind_in rows) (first_rows 1 [] rows)
 -- the row for the hidden rows of a kind
 abbrev pub more_row : SeenKind → SeenRow
 more_row kind =
-    image_row kind.verdict None kind.code (codes "more of these") (Count (kind.count - 16))
+    with_count (kind.count - 16) (row_of kind.verdict kind.code (codes "more of these"))
 
 abbrev pub more_of : SeenKind → List SeenRow
 more_of kind = row_if (nat_lt 16 kind.count) (more_row kind)

@@ -5,6 +5,7 @@ use Rattle.flash_format.specs.Flashmap.{text_of}
 use Rattle.check_findings.specs.declared.map.finding.NumberedArea.{NumberedArea}
 use Rattle.std.specs.Fmt.{decimal}
 use Rattle.std.specs.Option.{option_copied, option_map_or}
+use Prim.Native.String.{String}
 use lib.Chars.{codes}
 use Rattle.check_report.specs.declared.rows.row.Verdict.{Verdict}
 use Rattle.check_report.specs.declared.rows.row.Verdict.TheVariants as verdicts
@@ -41,39 +42,46 @@ seen_row row = record {
 abbrev pub row_if : Bool → SeenRow → List SeenRow
 row_if is_there row = if is_there then row ∷ [] else []
 
--- a row without a second area
-abbrev pub row : Option (List ℕ) → Option (List ℕ) → Verdict → Option ℕ → List ℕ → List ℕ
-    → Detail → SeenRow
-row area component verdict position code what detail = record {
+-- a row of the whole image
+abbrev pub row_of : Verdict → List ℕ → List ℕ → SeenRow
+row_of verdict code what = record {
   verdict = verdict;
-  area = area;
-  component = component;
-  position = position;
+  area = None;
+  component = None;
+  position = None;
   code = code;
   what = what;
-  detail = detail;
+  detail = details.None;
   other = None;
 }
 
-abbrev pub image_row : Verdict → Option ℕ → List ℕ → List ℕ → Detail → SeenRow
-image_row verdict position code what detail = row None None verdict position code what detail
+abbrev pub row : Verdict → String → String → SeenRow
+row verdict code what = row_of verdict (codes code) (codes what)
 
-abbrev pub area_row : Verdict → List ℕ → Option ℕ → List ℕ → List ℕ → Detail → SeenRow
-area_row verdict name position code what detail =
-    row (Some name) None verdict position code what detail
+abbrev pub row_at : ℕ → SeenRow → SeenRow
+row_at position row = record row { position = Some position }
+
+abbrev pub in_area : List ℕ → SeenRow → SeenRow
+in_area name row = record row { area = Some name }
 
 abbrev pub area_name : NumberedArea → List ℕ
 area_name a = text_of a.area.name
 
 -- a row of an area, at its start
-abbrev pub map_area_row : Verdict → NumberedArea → List ℕ → List ℕ → Detail → SeenRow
-map_area_row verdict a code what detail =
-    area_row verdict (area_name a) (Some a.area.offset) code what detail
+abbrev pub of_area : NumberedArea → SeenRow → SeenRow
+of_area a row = row_at a.area.offset (in_area (area_name a) row)
 
--- a row of a component, at its offset in an area
-abbrev pub component_row : Verdict → List ℕ → ℕ → List ℕ → List ℕ → List ℕ → Detail → SeenRow
-component_row verdict area at name code what detail =
-    row (Some area) (Some name) verdict (Some at) code what detail
+abbrev pub of_component : List ℕ → List ℕ → SeenRow → SeenRow
+of_component area name row = record row { area = Some area; component = Some name }
+
+abbrev pub with_count : ℕ → SeenRow → SeenRow
+with_count n row = record row { detail = details.Count n }
+
+abbrev pub with_number : ℕ → SeenRow → SeenRow
+with_number n row = record row { detail = details.Number n }
+
+abbrev pub with_other : NumberedArea → SeenRow → SeenRow
+with_other a row = record row { other = Some (area_name a) }
 
 abbrev pub verdict_word : Verdict → List ℕ
 verdict_word verdicts.Bad = codes "bad"

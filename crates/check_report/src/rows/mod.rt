@@ -12,5 +12,5 @@ mod writer;
 pub use field::{Field, Value};
 pub use form::Form;
 pub use printer::Printer;
-pub use row::{Detail, Row, Verdict, area_row, component_row, image_row, map_area_row};
+pub use row::{Row, Verdict};
 pub use writer::RowWriter;

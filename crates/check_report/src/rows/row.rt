@@ -1,7 +1,6 @@
 //! Rows.
 
 ghost use Rattle.std.specs.Prelude.{◌≡◌, map};
-ghost use Rattle.check_report.specs.declared.rows.row.Detail.TheVariants as details;
 ghost use Rattle.check_report.specs.Rows.Rows as rows;
 ghost use Rattle.check_report.specs.Rows.Rows.{detail_value, is_verdict, row_line, seen_row};
 ghost use Rattle.check_report.specs.Rows.Rows.{verdict_word};
@@ -34,6 +33,22 @@ impl Verdict {
         ensures { result ≡ is_verdict wanted self }
     {
         self == wanted
+    }
+
+    /// Returns a row of the whole image.
+    pub fn row<'a>(self, code: &'static str, what: &'static str) -> Row<'a>
+        ensures { seen_row result ≡ rows.row_of self code.now what.now }
+    {
+        Row {
+            verdict: self,
+            area: None,
+            component: None,
+            position: None,
+            code,
+            what,
+            detail: Detail::None,
+            other: None,
+        }
     }
 }
 
@@ -92,78 +107,55 @@ impl<'a> Row<'a> {
             Field::new("other", Value::name_or(self.other, Value::Absent)),
         ]
     }
-}
 
-/// Returns a row of a whole image.
-pub fn image_row<'a>(
-    verdict: Verdict,
-    position: Option<u64>,
-    code: &'static str,
-    what: &'static str,
-) -> Row<'a>
-    ensures { seen_row result ≡ rows.image_row verdict position code.now what.now details.None }
-{
-    Row {
-        verdict,
-        area: None,
-        component: None,
-        position,
-        code,
-        what,
-        detail: Detail::None,
-        other: None,
+    /// Sets the position, in bytes.
+    pub fn at(mut self, position: u64) -> Row<'a>
+        ensures { seen_row result ≡ rows.row_at position (seen_row self.entry) }
+    {
+        self.position = Some(position);
+        self
     }
-}
 
-/// Returns a row of this area.
-pub fn area_row<'a>(
-    verdict: Verdict,
-    name: &'a [u8],
-    position: Option<u64>,
-    code: &'static str,
-    what: &'static str,
-) -> Row<'a>
-    ensures { seen_row result
-        ≡ rows.area_row verdict name.now position code.now what.now details.None }
-{
-    Row {
-        area: Some(name),
-        ..image_row(verdict, position, code, what)
+    pub fn in_area(mut self, name: &'a [u8]) -> Row<'a>
+        ensures { seen_row result ≡ rows.in_area name.now (seen_row self.entry) }
+    {
+        self.area = Some(name);
+        self
     }
-}
 
-/// Returns a row of an area, at its start.
-pub fn map_area_row<'a>(
-    verdict: Verdict,
-    area: &'a NumberedArea,
-    code: &'static str,
-    what: &'static str,
-) -> Row<'a>
-    ensures { seen_row result ≡ rows.map_area_row verdict area.now code.now what.now details.None }
-{
-    area_row(
-        verdict,
-        area.area.text(),
-        Some(u64::from(area.area.offset)),
-        code,
-        what,
-    )
-}
+    /// Sets the area, and its start as the position.
+    pub fn of(self, area: &'a NumberedArea) -> Row<'a>
+        ensures { seen_row result ≡ rows.of_area area.now (seen_row self.entry) }
+    {
+        self.in_area(area.area.text())
+            .at(u64::from(area.area.offset))
+    }
 
-/// Returns a row of a component, at its offset in this area.
-pub fn component_row<'a>(
-    verdict: Verdict,
-    area: &'a [u8],
-    at: u64,
-    name: &'a [u8],
-    code: &'static str,
-    what: &'static str,
-) -> Row<'a>
-    ensures { seen_row result
-        ≡ rows.component_row verdict area.now at name.now code.now what.now details.None }
-{
-    Row {
-        component: Some(name),
-        ..area_row(verdict, area, Some(at), code, what)
+    pub fn of_component(mut self, area: &'a [u8], name: &'a [u8]) -> Row<'a>
+        ensures { seen_row result ≡ rows.of_component area.now name.now (seen_row self.entry) }
+    {
+        self.component = Some(name);
+        self.in_area(area)
+    }
+
+    pub fn count(mut self, count: u64) -> Row<'a>
+        ensures { seen_row result ≡ rows.with_count count (seen_row self.entry) }
+    {
+        self.detail = Detail::Count(count);
+        self
+    }
+
+    pub fn number(mut self, number: u64) -> Row<'a>
+        ensures { seen_row result ≡ rows.with_number number (seen_row self.entry) }
+    {
+        self.detail = Detail::Number(number);
+        self
+    }
+
+    pub fn other(mut self, area: &'a NumberedArea) -> Row<'a>
+        ensures { seen_row result ≡ rows.with_other area.now (seen_row self.entry) }
+    {
+        self.other = Some(area.area.text());
+        self
     }
 }

@@ -12,7 +12,7 @@ ghost use Rattle.check_report.specs.Rows.Writing.{rows_in, rows_then};
 use crate::fault::WriteFault;
 use crate::rows::kinds::{Counts, Kind, count_row};
 use crate::rows::printer::Printer;
-use crate::rows::row::{Detail, Row, image_row};
+use crate::rows::row::Row;
 use flash_device::Sink;
 use std::mem;
 use std::snapshot::Snapshot;
@@ -42,10 +42,8 @@ pub struct RowWriter<'a, W: Sink + Drop> {
 fn more_row<'a>(kind: &Kind) -> Row<'a>
     ensures { seen_row result ≡ more_row (seen_kind kind.now) }
 {
-    Row {
-        detail: Detail::Count(kind.count.saturating_sub(MOST)),
-        ..image_row(kind.verdict, None, kind.code, "more of these")
-    }
+    let hidden = kind.count.saturating_sub(MOST);
+    kind.verdict.row(kind.code, "more of these").count(hidden)
 }
 
 fn limited(is_verbose: bool, kinds: &[Kind]) -> &[Kind]
