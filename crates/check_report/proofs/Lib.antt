@@ -1,5 +1,4 @@
 pub mod RowLemmas
-mod Gathered
 mod TellingChanges
 mod Counting
 mod ReportParts

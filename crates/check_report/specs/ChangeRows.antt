@@ -1,5 +1,6 @@
 -- Rows of changes. This project defines their codes and texts.
-use Rattle.std.specs.Prelude.{ℕ, Bool, true, not, ◌||◌, ◌%◌, nat_le, List, [], ◌∷◌, ◌++◌, map, nat_lt}
+use Rattle.std.specs.Prelude.{ℕ, Bool, true, not, ◌&&◌, ◌||◌, ◌%◌, nat_le, List, [], ◌∷◌, ◌++◌}
+use Rattle.std.specs.Prelude.{filter, map, nat_lt}
 use Rattle.std.specs.Prelude.{◌==◌, if◌then◌else◌}
 use Rattle.std.specs.List.{flat_map, list_any}
 use Prim.Native.String.{String}
@@ -130,16 +131,10 @@ map_rows changes = map map_change_row changes
 abbrev pub is_preserved : NumberedArea → Bool
 is_preserved a = nat_le 8 (a.area.flags % 16)
 
-abbrev pub name_if : Bool → List ℕ → List (List ℕ)
-name_if is_there name = if is_there then name ∷ [] else []
-
-abbrev pub preserved_names : List NumberedArea → List (List ℕ)
-preserved_names areas = flat_map (λ a. name_if (is_preserved a) (area_name a)) areas
-
 -- the given names and, on request, names of areas with the flag in either map
 abbrev pub kept_by : List (List ℕ) → Bool → List NumberedArea → List NumberedArea → List (List ℕ)
 kept_by kept keeps olds news =
-    if keeps then (kept ++ preserved_names olds) ++ preserved_names news else kept
+    kept ++ map area_name (filter (λ a. keeps && is_preserved a) (olds ++ news))
 
 -- an area has the name
 abbrev pub is_there : List NumberedArea → List ℕ → Bool

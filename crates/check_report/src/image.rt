@@ -2,13 +2,14 @@
 ghost use Rattle.std.specs.Prelude.{◌≡◌, ◌+◌, ◌*◌, length, None, IfOk};
 ghost use Rattle.flash_device.specs.Device.{fault_count};
 ghost use Rattle.flash_device.specs.Pages.{HasRead, OnHonest};
-ghost use Rattle.check_report.specs.Faults.{by_new, by_old};
-ghost use Rattle.check_report.specs.Reports.{inspected_image, seen_inspection, wish_of};
+ghost use Rattle.check_changes.specs.Faults.{by_new, by_old};
+ghost use Rattle.check_report.specs.Changes.{IsInspected};
+ghost use Rattle.check_report.specs.Reports.{wish_of};
 
-use crate::fault::ReportFault;
 use crate::inspection::Inspection;
 use crate::names::need_areas;
 use crate::request::Request;
+use check_changes::ChangeFault;
 use check_findings::check_image;
 use flash_device::{Flash, Paged};
 use std::alloc::Global;
@@ -21,7 +22,7 @@ pub fn inspect_image<F: Flash>(
     keys: RandomState,
     paged: &mut Paged<F>,
     request: Request<'_>,
-) -> Result<Inspection, ReportFault>
+) -> Result<Inspection, ChangeFault>
     // On any device.
     ensures after { HasRead F.facts (2 * length (F.facts paged.old.device).content + 64)
         (fault_count by_new result) paged.old paged.new }
@@ -29,10 +30,13 @@ pub fn inspect_image<F: Flash>(
 
     // On an honest device.
     ensures inspection { OnHonest F.facts paged.old.device (λ image. IfOk result (λ inspection.
-        seen_inspection inspection ≡ inspected_image (wish_of request.entry) image)) }
+        IsInspected (wish_of request.entry) image inspection)) }
 {
     let expected = need_areas(alloc, request.needs)?;
-    let checked = check_image(alloc, keys, paged, request.areas, &expected)?;
+    let checked = match check_image(alloc, keys, paged, request.areas, &expected) {
+        Ok(checked) => checked,
+        Err(fault) => return Err(ChangeFault::of_new(fault)),
+    };
     Ok(Inspection {
         findings: checked.findings,
         changes: None,

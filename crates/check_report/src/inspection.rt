@@ -4,8 +4,7 @@ ghost use Rattle.std.specs.List.{list_any};
 ghost use Rattle.std.specs.Io.KnownBytes.{Appends};
 ghost use Rattle.flash_device.specs.Device.{fault_count};
 ghost use Rattle.check_report.specs.Faults.{by_sink};
-ghost use Rattle.check_report.specs.Reports.{change_rows, compared, found_rows};
-ghost use Rattle.check_report.specs.Reports.{inspection_rows, seen_changes, seen_inspection};
+ghost use Rattle.check_report.specs.Reports.{change_rows, found_rows, inspection_rows, old_areas};
 ghost use Rattle.check_report.specs.Reports.{wish_of};
 ghost use Rattle.check_report.specs.Lists.{list_if};
 ghost use Rattle.check_report.specs.Rows.Reports.{heading, report, seen_files};
@@ -22,8 +21,8 @@ use crate::needs::add_needs;
 use crate::request::Request;
 use crate::rows::{Printer, RowWriter};
 use check_changes::{AreaChange, MapChange, RegionChange};
-use check_findings::{ImageFinding, NumberedArea};
-use flash_device::{FoundMap, Sink};
+use check_findings::{ImageFinding, ImageMap, NumberedArea};
+use flash_device::Sink;
 use std::alloc::Global;
 
 /// The differences between two images.
@@ -38,14 +37,31 @@ pub struct Comparison {
     pub regions: Vec<RegionChange>,
 }
 
-/// The changes from an old image, and the areas of both images.
+/// The flash map and the CBFS areas of an old image.
+#[derive(Drop)]
+pub struct OldImage {
+    pub map: ImageMap,
+    pub regions: Vec<NumberedArea>,
+}
+
+impl OldImage {
+    /// Returns the areas for a comparison: the new areas if the old image has no map.
+    pub fn areas_or<'a>(&'a self, new_areas: &'a [NumberedArea]) -> &'a [NumberedArea]
+        ensures { result.now ≡ old_areas self.now new_areas.now }
+    {
+        if self.map.found.is_none() {
+            new_areas
+        } else {
+            &self.map.areas
+        }
+    }
+}
+
+/// The changes from an old image, and the areas of the new image.
 #[derive(Drop)]
 pub struct Changes {
     pub comparison: Comparison,
-    pub old_map: Option<FoundMap>,
-    pub old_areas: Vec<NumberedArea>,
-    /// The old image's CBFS areas.
-    pub old_regions: Vec<NumberedArea>,
+    pub old: OldImage,
     pub new_areas: Vec<NumberedArea>,
 }
 
@@ -54,21 +70,6 @@ pub struct Changes {
 pub struct Inspection {
     pub findings: Vec<ImageFinding>,
     pub changes: Option<Changes>,
-}
-
-/// Returns the old areas for a comparison: the new areas if the old image has no map.
-pub fn compared_areas<'a>(
-    old_map: Option<FoundMap>,
-    old_areas: &'a [NumberedArea],
-    new_areas: &'a [NumberedArea],
-) -> &'a [NumberedArea]
-    ensures { result.now ≡ compared old_map old_areas.now new_areas.now }
-{
-    if old_map.is_none() {
-        new_areas
-    } else {
-        old_areas
-    }
 }
 
 fn add_found<'a, W: Sink + Drop>(
@@ -90,13 +91,13 @@ fn add_changes<'a, W: Sink + Drop>(
     changes: &'a Changes,
 ) -> Result<(), WriteFault>
     ensures { Adds W.contents W.faults result rows.old rows.new
-        (change_rows (wish_of request.entry) (seen_changes changes.now)) }
+        (change_rows (wish_of request.entry) changes.now) }
 {
     let new_areas = changes.new_areas.as_slice();
-    let old_areas = compared_areas(changes.old_map, &changes.old_areas, new_areas);
+    let old_areas = changes.old.areas_or(new_areas);
     let keeps = request.keeps_preserved;
     let kept = kept_names(alloc, request.kept, keeps, old_areas, new_areas)?;
-    let vital = with_areas(alloc, &kept, &changes.old_regions)?;
+    let vital = with_areas(alloc, &kept, &changes.old.regions)?;
     let found = &changes.comparison;
     add_image_changes(rows, found.old_len, found.new_len, found.blocks)?;
     add_map_changes(rows, &found.map)?;
@@ -121,7 +122,7 @@ impl Inspection {
         rows: &mut RowWriter<'a, W>,
     ) -> Result<(), WriteFault>
         ensures { Adds W.contents W.faults result rows.old rows.new
-            (inspection_rows (wish_of request.entry) (seen_inspection self.now)) }
+            (inspection_rows (wish_of request.entry) self.now) }
     {
         add_found(rows, request, &self.findings)?;
         match &self.changes {
@@ -156,9 +157,9 @@ impl Inspection {
     ) -> Result<bool, WriteFault>
         ensures bad { IsSound W.contents rows.old → IfOk result (λ is_bad. is_bad ≡ list_any
             is_bad_row (rows_in rows.old
-            ++ inspection_rows (wish_of request.entry) (seen_inspection self.now))) }
+            ++ inspection_rows (wish_of request.entry) self.now)) }
         ensures text { IsSound W.contents rows.old → OnOk result (Ends W.contents rows.old
-            (inspection_rows (wish_of request.entry) (seen_inspection self.now))
+            (inspection_rows (wish_of request.entry) self.now)
             rows.new.printer) }
         ensures cause { W.faults rows.old.printer.out + fault_count by_sink result
             ≤ W.faults rows.new.printer.out }
@@ -172,12 +173,12 @@ impl Inspection {
     /// allocation failed.
     pub fn write<W: Sink + Drop>(&self, alloc: Global, request: Request<'_>, out: W) -> Written<W>
         ensures bad { IfOk result.is_bad (λ is_bad. is_bad ≡ list_any is_bad_row
-            (inspection_rows (wish_of request.entry) (seen_inspection self.now))) }
+            (inspection_rows (wish_of request.entry) self.now)) }
         ensures text { OnOk result.is_bad (Appends (W.contents out) (W.contents result.out)
             (report request.entry.form request.entry.asked.is_verbose
             (seen_files request.entry.files)
             (list_if request.entry.asked.lists self.now.findings.items)
-            (inspection_rows (wish_of request.entry) (seen_inspection self.now)))) }
+            (inspection_rows (wish_of request.entry) self.now))) }
         ensures cause { W.faults out + fault_count by_sink result.is_bad ≤ W.faults result.out }
     {
         let mut printer = Printer::new(alloc, request.form, out);

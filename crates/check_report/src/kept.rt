@@ -13,12 +13,7 @@ use flash_device::Sink;
 pub fn is_kept(kept: &[&[u8]], area: NumberedArea) -> bool
     ensures { result ≡ has_one_of (map (λ n. n.now) kept.now) area }
 {
-    for name in kept {
-        if area.area.name_is(name) {
-            return true;
-        }
-    }
-    false
+    kept.iter().any(|name| area.area.name_is(name))
 }
 
 pub fn verdict_of(kept: &[&[u8]], area: NumberedArea) -> Verdict

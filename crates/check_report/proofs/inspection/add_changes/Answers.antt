@@ -4,11 +4,11 @@ use Rattle.check_report.proofs.inspection.add_changes.Goals as goal
 pub returns : goal.returns
 returns g c =
     let news = c.as_slice-new_areas.ensures.value in
-    let olds = rw (c.deref.ensures.value, news) at c.compared_areas-old_areas.ensures in
+    let olds = rw news at c.areas_or-old_areas.ensures in
     let kept = rw (olds, news) at c.in_ok-kept.ensures in
-    let vital = rw (c.deref-2.ensures.value, c.deref-3.ensures.value, kept) at c.in_ok-vital.ensures in
-    let map = rw c.deref-4.ensures.value at c.in_ok-add_map_changes.ensures in
-    let areas = rw (c.deref-5.ensures.value, c.deref-6.ensures.value, c.deref-7.ensures.value, kept, vital) at c.in_ok-add_area_changes.ensures in
-    let regions = rw (c.deref-8.ensures.value, c.deref-9.ensures.value, kept) at c.in_ok-add_region_changes.ensures in
+    let vital = rw (c.deref.ensures.value, c.deref-2.ensures.value, kept) at c.in_ok-vital.ensures in
+    let map = rw c.deref-3.ensures.value at c.in_ok-add_map_changes.ensures in
+    let areas = rw (c.deref-4.ensures.value, c.deref-5.ensures.value, c.deref-6.ensures.value, kept, vital) at c.in_ok-add_area_changes.ensures in
+    let regions = rw (c.deref-7.ensures.value, c.deref-8.ensures.value, kept) at c.in_ok-add_region_changes.ensures in
     adds_after g.W.Sink.contents g.W.Sink.faults c.add_missing.result _ _ _ _ _ (adds_both (adds_both (adds_both c.in_ok-add_image_changes.ensures map) areas) regions)
     (rw (olds, news) at c.add_missing.ensures)
