@@ -74,22 +74,6 @@ fn add_component_changes<'a, W: Sink + Drop>(
     Ok(())
 }
 
-fn add_region_change<'a, W: Sink + Drop>(
-    rows: &mut RowWriter<'a, W>,
-    kept: &[&[u8]],
-    change: &'a RegionChange,
-) -> Result<(), WriteFault>
-    ensures { Adds W.contents W.faults result rows.old rows.new (of.region_rows
-        (names_in kept.now) change.now) }
-{
-    match change {
-        RegionChange::Compared { area, changes } => {
-            add_component_changes(rows, kept, area, changes.as_slice())
-        }
-        RegionChange::NotCompared(area) => rows.add(not_compared_row(kept, area)),
-    }
-}
-
 pub fn add_region_changes<'a, W: Sink + Drop>(
     rows: &mut RowWriter<'a, W>,
     kept: &[&[u8]],
@@ -99,7 +83,12 @@ pub fn add_region_changes<'a, W: Sink + Drop>(
         (names_in kept.now) changes.now) }
 {
     for change in changes {
-        add_region_change(rows, kept, change)?;
+        match change {
+            RegionChange::Compared { area, changes } => {
+                add_component_changes(rows, kept, area, changes.as_slice())?;
+            }
+            RegionChange::NotCompared(area) => rows.add(not_compared_row(kept, area))?,
+        }
     }
     Ok(())
 }

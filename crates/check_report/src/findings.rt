@@ -30,25 +30,6 @@ fn not_checked_row<'a>(area: &'a NumberedArea, is_named: bool) -> Row<'a>
     row.of(area)
 }
 
-fn add_finding<'a, W: Sink + Drop>(
-    rows: &mut RowWriter<'a, W>,
-    asked: Asked,
-    finding: &'a ImageFinding,
-    names: &[&'a [u8]],
-) -> Result<(), WriteFault>
-    ensures { Adds W.contents W.faults result rows.old rows.new (of.rows_of asked
-        (names_in names.now) finding.now) }
-{
-    match finding {
-        ImageFinding::Map(of_map) => rows.add(map_row(of_map)),
-        ImageFinding::Region { area, findings } => {
-            add_region(rows, asked, area.area.text(), findings.as_slice())
-        }
-        ImageFinding::NotChecked { area, is_named } => rows.add(not_checked_row(area, *is_named)),
-        ImageFinding::NoArea(number) => rows.add(missing_row(names, *number)),
-    }
-}
-
 /// Adds the rows of findings in order. `names` are the given area names.
 pub fn add_findings<'a, W: Sink + Drop>(
     rows: &mut RowWriter<'a, W>,
@@ -60,7 +41,16 @@ pub fn add_findings<'a, W: Sink + Drop>(
         (of.finding_rows asked (names_in names.now) findings.now) }
 {
     for finding in findings {
-        add_finding(rows, asked, finding, names)?;
+        match finding {
+            ImageFinding::Map(of_map) => rows.add(map_row(of_map))?,
+            ImageFinding::Region { area, findings } => {
+                add_region(rows, asked, area.area.text(), findings.as_slice())?;
+            }
+            ImageFinding::NotChecked { area, is_named } => {
+                rows.add(not_checked_row(area, *is_named))?;
+            }
+            ImageFinding::NoArea(number) => rows.add(missing_row(names, *number))?,
+        }
     }
     Ok(())
 }

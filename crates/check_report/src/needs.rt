@@ -24,20 +24,6 @@ fn need_row<'a>(need: &Need<'a>, finding: NeedFinding) -> Row<'a>
     row.of_component(need.area, need.name)
 }
 
-fn add_need<'a, W: Sink + Drop>(
-    rows: &mut RowWriter<'a, W>,
-    findings: &[ImageFinding],
-    need: &Need<'a>,
-) -> Result<(), WriteFault>
-    ensures { Adds W.contents W.faults result rows.old rows.new (of.need_rows findings.now
-        (wish_of need.now)) }
-{
-    match unmet(findings, *need) {
-        Some(finding) => rows.add(need_row(need, finding)),
-        None => Ok(()),
-    }
-}
-
 /// Adds a row for each unmet need.
 pub fn add_needs<'a, W: Sink + Drop>(
     rows: &mut RowWriter<'a, W>,
@@ -48,7 +34,9 @@ pub fn add_needs<'a, W: Sink + Drop>(
         (flat_map (of.need_rows findings.now) (map wish_of needs.now)) }
 {
     for need in needs {
-        add_need(rows, findings, need)?;
+        if let Some(finding) = unmet(findings, *need) {
+            rows.add(need_row(need, finding))?;
+        }
     }
     Ok(())
 }

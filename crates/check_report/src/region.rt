@@ -122,21 +122,6 @@ fn plain_row<'a>(finding: &RegionFinding) -> Option<Row<'a>>
     }
 }
 
-fn add_finding<'a, W: Sink + Drop>(
-    rows: &mut RowWriter<'a, W>,
-    asked: Asked,
-    region: &'a [u8],
-    finding: &'a RegionFinding,
-) -> Result<(), WriteFault>
-    ensures { Adds W.contents W.faults result rows.old rows.new
-        (of.region_rows asked region.now finding.now) }
-{
-    match plain_row(finding) {
-        Some(row) => rows.add(row.in_area(region)),
-        None => add_component(rows, asked, region, finding),
-    }
-}
-
 pub fn add_region<'a, W: Sink + Drop>(
     rows: &mut RowWriter<'a, W>,
     asked: Asked,
@@ -147,7 +132,10 @@ pub fn add_region<'a, W: Sink + Drop>(
         (flat_map (of.region_rows asked region.now) findings.now) }
 {
     for finding in findings {
-        add_finding(rows, asked, region, finding)?;
+        match plain_row(finding) {
+            Some(row) => rows.add(row.in_area(region))?,
+            None => add_component(rows, asked, region, finding)?,
+        }
     }
     Ok(())
 }

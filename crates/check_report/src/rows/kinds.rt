@@ -110,22 +110,14 @@ impl Counts {
     }
 
     /// Counts a row.
-    pub fn with(self, verdict: Verdict) -> Result<Counts, AllocError>
+    pub fn with(mut self, verdict: Verdict) -> Result<Counts, AllocError>
         ensures { IfOk result (λ counts. counts ≡ tallied self verdict) }
     {
-        Ok(match verdict {
-            Verdict::Bad => Counts {
-                bad: next(self.bad)?,
-                ..self
-            },
-            Verdict::Remark => Counts {
-                remarks: next(self.remarks)?,
-                ..self
-            },
-            Verdict::Change => Counts {
-                changes: next(self.changes)?,
-                ..self
-            },
-        })
+        match verdict {
+            Verdict::Bad => self.bad = next(self.bad)?,
+            Verdict::Remark => self.remarks = next(self.remarks)?,
+            Verdict::Change => self.changes = next(self.changes)?,
+        }
+        Ok(self)
     }
 }

@@ -125,12 +125,7 @@ impl<W: Sink + Drop> Printer<W> {
     pub fn into_inner(self) -> W
         ensures { result ≡ self.out }
     {
-        let Printer {
-            alloc: _,
-            form: _,
-            out,
-            follows: _,
-        } = self;
+        let Printer { out, .. } = self;
         out
     }
 }
